@@ -1,0 +1,26 @@
+-- Commands of clients.
+use Rattle.std.specs.Prelude.{ℕ, ◌≤◌, length, ⊤}
+use Rattle.kv_store.specs.declared.TheConstants.{LAST_CLIENT, LAST_NUMBER, CAS_TEXT_BYTES}
+use Rattle.kv_store.specs.declared.command.Op.{Op}
+use Rattle.kv_store.specs.declared.command.Op.TheVariants.{Put, Get, Del, Swap, Cas}
+
+-- what a client asks for: the client, the number of the command among those of the client, and the operation
+pub record Request : Type 0 where
+  pub client : ℕ
+  pub number : ℕ
+  pub op : Op
+
+-- both texts of a cas are short, so that they stand side by side where one text does
+abbrev pub HasShortTexts : Op → Type 0
+HasShortTexts (Put key text) = ⊤
+HasShortTexts (Get key) = ⊤
+HasShortTexts (Del key) = ⊤
+HasShortTexts (Swap key text) = ⊤
+HasShortTexts (Cas key old new) = (length old ≤ CAS_TEXT_BYTES) × (length new ≤ CAS_TEXT_BYTES)
+
+-- what a command may be
+pub record IsAllowed (client number : ℕ) (op : Op) : Type 0 where
+  pub client_known : client ≤ LAST_CLIENT
+  pub numbered : 1 ≤ number
+  pub number_fits : number ≤ LAST_NUMBER
+  pub short_texts : HasShortTexts op

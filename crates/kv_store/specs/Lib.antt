@@ -1,0 +1,6 @@
+pub mod Words
+pub mod Padding
+pub mod Commands
+pub mod Tables
+pub mod Texts
+pub mod Sessions

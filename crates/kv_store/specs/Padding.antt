@@ -1,0 +1,8 @@
+-- How a word stands in an array: from its start on, with zeros behind.
+use Rattle.std.specs.Prelude.{ℕ, ◌≡◌, ◌-◌, List, ◌++◌, length, take, replicate}
+use Rattle.kv_store.specs.Words.{IsWord}
+
+pub record IsPadded (most len : ℕ) (bytes : List ℕ) : Type 0 where
+  pub word : IsWord most (take len bytes)
+  pub long : length (take len bytes) ≡ len
+  pub padded : bytes ≡ take len bytes ++ replicate (most - len) 0

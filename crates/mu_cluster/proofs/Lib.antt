@@ -1,0 +1,10 @@
+pub mod Upto
+pub mod Pairs
+pub mod Leading
+pub mod Following
+pub mod Turning
+pub mod Rounding
+pub mod Pacing
+pub mod LogCommands
+pub mod Finishing
+pub mod Ended

@@ -1,0 +1,5 @@
+pub mod Entries
+pub mod FirstSteps
+pub mod Outcomes
+pub mod Rooms
+pub mod Turns

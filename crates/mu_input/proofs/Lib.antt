@@ -1,0 +1,6 @@
+pub mod Cutting
+pub mod Digits
+pub mod FirstJobs
+pub mod Keys
+pub mod Readings
+pub mod Stages

@@ -1,0 +1,31 @@
+//! What a run is given.
+use kv_store::Command;
+use mu_model::{Config, Script, Sequence};
+
+/// The commands of a job, in the order of the file.
+pub type Commands = Sequence<Command>;
+
+/// What a run is given.
+#[derive(Drop)]
+pub struct Job {
+    /// What all replicas know; its rows are the encodings of the commands.
+    pub config: Config,
+    /// The commands, in the order of the file: 0 to 1,500.
+    pub commands: Commands,
+    /// What befalls the replicas.
+    pub script: Script,
+}
+
+/// Why no job was read.
+#[derive(Clone, Copy, Debug, PartialEq, Eq)]
+pub enum InputEnd {
+    /// The bytes aren't in the grammar.
+    Refused {
+        /// The first line that leaves it, counted from 1; a missing line is the one after the last.
+        line: u32,
+        /// What is wrong there.
+        cause: u8,
+    },
+    /// Want of memory.
+    NoMemory,
+}

@@ -1,0 +1,210 @@
+//! The readers and writers of `std` as a source and a sink: the edge of what is proved.
+ghost use Rattle.std.specs.Prelude.{◌≡◌, ◌<◌, ◌≤◌, length, IfOk, OnOk, OnErr};
+ghost use Rattle.mu_io.specs.Faults.{Rose, one_more};
+
+use crate::streams::fault;
+use crate::{Failed, Sink, Source};
+use std::io::{Read, Write};
+use std::marker::Model;
+
+/// A reader of `std` as a source, as `StdSource::new(rt.stdin())`. It tells nothing of the bytes.
+/// A contract sees it as the number of its faults.
+#[derive(Drop)]
+pub struct StdSource<I> {
+    input: I,
+    faults: u64,
+}
+
+impl<I> Model for StdSource<I> {
+    ghost use Rattle.std.specs.Prelude.{ℕ};
+
+    ghost Value = { ℕ };
+
+    ghost view = { λ s. s.faults };
+}
+
+impl<I: Read> StdSource<I> {
+    /// A source of what `input` reads, with no fault so far.
+    pub fn new(input: I) -> StdSource<I>
+        ensures { result ≡ 0 }
+    {
+        StdSource { input, faults: 0 }
+    }
+}
+
+impl<I: Read> Source for StdSource<I> {
+    ghost use Rattle.std.specs.Prelude.{None};
+
+    ghost left = { λ _. None };
+
+    ghost faults = { λ s. s };
+
+    /// One read of the reader. Each error of it is a fault: an interrupted read too, and an end
+    /// that comes as an error.
+    fn read(&mut self, into: &mut [u8]) -> Result<usize, Failed>
+        ensures at_most { IfOk result (λ k. k ≤ length into.new) }
+        ensures same_faults { OnOk result (self.new ≡ self.old) }
+        ensures counted { OnErr result (self.new ≡ one_more self.old) }
+        ensures failed { OnErr result (Rose self.old self.new) }
+        ensures never_falls { self.old ≤ self.new }
+    {
+        match self.input.read(into) {
+            Ok(count) => Ok(count),
+            Err(_) => Err(fault(&mut self.faults)),
+        }
+    }
+}
+
+/// A writer of `std` as a sink, as `StdSink::new(rt.stdout())`. It tells nothing of the bytes, and
+/// flushes nothing: give it a writer that does not buffer. A contract sees it as the number of its
+/// faults.
+#[derive(Drop)]
+pub struct StdSink<O> {
+    output: O,
+    faults: u64,
+}
+
+impl<O> Model for StdSink<O> {
+    ghost use Rattle.std.specs.Prelude.{ℕ};
+
+    ghost Value = { ℕ };
+
+    ghost view = { λ s. s.faults };
+}
+
+impl<O: Write> StdSink<O> {
+    /// A sink that writes to `output`, with no fault so far.
+    pub fn new(output: O) -> StdSink<O>
+        ensures { result ≡ 0 }
+    {
+        StdSink { output, faults: 0 }
+    }
+}
+
+impl<O: Write> Sink for StdSink<O> {
+    ghost use Rattle.std.specs.Prelude.{None};
+
+    ghost written = { λ _. None };
+
+    ghost faults = { λ s. s };
+
+    /// One write of the writer. Each error of it is a fault, and so is a write that takes nothing
+    /// of a piece that has bytes.
+    fn write(&mut self, from: &[u8]) -> Result<usize, Failed>
+        ensures at_most { IfOk result (λ k. k ≤ length from.now) }
+        ensures some { IfOk result (λ k. 0 < length from.now → 0 < k) }
+        ensures same_faults { OnOk result (self.new ≡ self.old) }
+        ensures counted { OnErr result (self.new ≡ one_more self.old) }
+        ensures failed { OnErr result (Rose self.old self.new) }
+        ensures never_falls { self.old ≤ self.new }
+    {
+        match self.output.write(from) {
+            Ok(count) if count > 0 || from.is_empty() => Ok(count),
+            _ => Err(fault(&mut self.faults)),
+        }
+    }
+}
+
+#[cfg(test)]
+mod tests {
+    use super::*;
+    use crate::{WriteFault, read_all, write_all};
+    use std::io::{Cursor, Error, ErrorKind, Result as IoResult};
+    use std::test::Fail;
+
+    /// A reader and a writer that gives and takes one byte in a call, until its error comes.
+    #[derive(Drop)]
+    struct Breaking {
+        bytes: u8,
+        kind: ErrorKind,
+    }
+
+    impl Breaking {
+        fn step(&mut self, room: usize) -> IoResult<usize>
+            ensures { IfOk result (λ k. k ≤ room) }
+        {
+            if self.bytes == 0 {
+                return Err(Error::from(self.kind));
+            }
+            self.bytes -= 1;
+            Ok(room.min(1))
+        }
+    }
+
+    impl Read for Breaking {
+        fn read(&mut self, buf: &mut [u8]) -> IoResult<usize> {
+            self.step(buf.len())
+        }
+    }
+
+    impl Write for Breaking {
+        fn write(&mut self, buf: &[u8]) -> IoResult<usize> {
+            self.step(buf.len())
+        }
+
+        fn flush(&mut self) -> IoResult<()> {
+            Ok(())
+        }
+    }
+
+    #[test]
+    fn passes_bytes_on(rt: HostRuntime) -> Result<(), Fail> {
+        let mut source = StdSource::new(b"carried".as_slice());
+        let bytes = read_all(rt.alloc(), &mut source, 7)?;
+        let StdSource { input, faults } = source;
+        assert_eq!(rt; bytes.as_slice(), b"carried".as_slice());
+        assert_eq!(rt; input.len(), 0);
+        assert_eq!(rt; faults, 0);
+
+        let mut sink = StdSink::new(Vec::new(rt.alloc()));
+        assert_eq!(rt; write_all(&mut sink, bytes.as_slice()), Ok(()));
+        assert_eq!(rt; sink.output.as_slice(), b"carried".as_slice());
+        assert_eq!(rt; sink.faults, 0);
+        Ok(())
+    }
+
+    #[test]
+    fn takes_the_standard_streams(rt: HostRuntime) -> Result<(), Fail> {
+        assert_eq!(rt; StdSource::new(rt.stdin()).read(&mut []), Ok(0));
+        assert_eq!(rt; StdSource::new(rt.reader()).read(&mut []), Ok(0));
+        assert_eq!(rt; StdSink::new(rt.stdout()).write(&[]), Ok(0));
+        Ok(())
+    }
+
+    #[test]
+    fn counts_errors(rt: HostRuntime) -> Result<(), Fail> {
+        for kind in [
+            ErrorKind::Interrupted,
+            ErrorKind::UnexpectedEof,
+            ErrorKind::BrokenPipe,
+        ] {
+            let mut source = StdSource::new(Breaking { bytes: 2, kind });
+            let answers = [(Ok(1), 0), (Ok(1), 0), (Err(Failed), 1), (Err(Failed), 2)];
+            for (answer, faults) in answers {
+                assert_eq!(rt; source.read(&mut [0; 4]), answer);
+                assert_eq!(rt; source.faults, faults);
+            }
+
+            let mut sink = StdSink::new(Breaking { bytes: 2, kind });
+            assert_eq!(rt;
+                write_all(&mut sink, b"carried"),
+                Err(WriteFault { taken: 2 })
+            );
+            assert_eq!(rt; sink.faults, 1);
+        }
+        Ok(())
+    }
+
+    #[test]
+    fn counts_a_write_of_nothing(rt: HostRuntime) -> Result<(), Fail> {
+        let mut room = [0; 3];
+        let mut sink = StdSink::new(Cursor::new(room.as_mut_slice()));
+        assert_eq!(rt; sink.write(b""), Ok(0));
+        assert_eq!(rt;
+            write_all(&mut sink, b"carried"),
+            Err(WriteFault { taken: 3 })
+        );
+        assert_eq!(rt; sink.faults, 1);
+        Ok(())
+    }
+}

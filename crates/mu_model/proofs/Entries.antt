@@ -1,0 +1,50 @@
+-- What stands in a list after a push or a change.
+use Rattle.std.proofs.Common.{◌≡◌, ◌≢◌, ℕ, zero, suc, ◌<◌, ◌≤◌, Bool, true, false, List, [], ◌∷◌, ◌++◌, refl, sym, ◌∙◌, ap, arith, Some, length, set, ◌&&◌, ◌==◌, eqb-true}
+use Rattle.std.specs.Prelude.{if◌then◌else◌, nat_le}
+use Rattle.std.proofs.lemmas.Bool.{eqb-false, leb-true, leb-false}
+use Rattle.std.specs.List.{slice_get}
+
+pub get_push_here : {A : Type 0} (xs : List A) (i : ℕ) (z : A) → i ≡ length xs → slice_get (xs ++ z ∷ []) i ≡ Some z
+get_push_here [] zero z e = refl
+get_push_here [] (suc i) z e = absurd (omega arith)
+get_push_here (x ∷ xs) zero z e = absurd (omega arith)
+get_push_here (x ∷ xs) (suc i) z e = get_push_here xs i z (omega arith)
+
+pub get_push_other : {A : Type 0} (xs : List A) (i : ℕ) (z : A) → i ≢ length xs → slice_get (xs ++ z ∷ []) i ≡ slice_get xs i
+get_push_other [] zero z d = absurd (d refl)
+get_push_other [] (suc i) z d = refl
+get_push_other (x ∷ xs) zero z d = refl
+get_push_other (x ∷ xs) (suc i) z d = get_push_other xs i z (λ e. d (ap suc e))
+
+pub get_set_here : (xs : List (ℕ × ℕ)) (i : ℕ) (z : ℕ × ℕ) → i < length xs → slice_get (set xs i z) i ≡ Some z
+get_set_here [] i z l = absurd (omega arith)
+get_set_here (x ∷ xs) zero z l = refl
+get_set_here (x ∷ xs) (suc i) z l = get_set_here xs i z (omega arith)
+
+pub get_set_other : (xs : List (ℕ × ℕ)) (i j : ℕ) (z : ℕ × ℕ) → i ≢ j → slice_get (set xs j z) i ≡ slice_get xs i
+get_set_other [] i j z d = refl
+get_set_other (x ∷ xs) zero zero z d = absurd (d refl)
+get_set_other (x ∷ xs) zero (suc j) z d = refl
+get_set_other (x ∷ xs) (suc i) zero z d = refl
+get_set_other (x ∷ xs) (suc i) (suc j) z d = get_set_other xs i j z (λ e. d (ap suc e))
+
+pub set_past : (xs : List (ℕ × ℕ)) (j : ℕ) (z : ℕ × ℕ) → length xs ≤ j → set xs j z ≡ xs
+set_past [] j z l = refl
+set_past (x ∷ xs) zero z l = absurd (omega arith)
+set_past (x ∷ xs) (suc j) z l = ap (λ y. x ∷ y) (set_past xs j z (omega arith))
+
+-- the entry at i after a put at j
+pub get_after : (xs : List (ℕ × ℕ)) (i j : ℕ) (z : ℕ × ℕ) → slice_get (if j == length xs then xs ++ z ∷ [] else set xs j z) i ≡ (if (j == i) && nat_le j (length xs) then Some z else slice_get xs i)
+get_after xs i j z = go (j == length xs) refl (j == i) refl (nat_le j (length xs)) refl
+  where
+    go : (t : Bool) → (j == length xs) ≡ t → (u : Bool) → (j == i) ≡ u → (w : Bool) → nat_le j (length xs) ≡ w
+        → slice_get (if t then xs ++ z ∷ [] else set xs j z) i ≡ (if u && w then Some z else slice_get xs i)
+    go true ht true hu true hw = get_push_here xs i z (let a = eqb-true j (length xs) ht in let b = eqb-true j i hu in omega arith)
+    go true ht true hu false hw = absurd (let a = eqb-true j (length xs) ht in let b = leb-false j (length xs) hw in omega arith)
+    go true ht false hu w hw = get_push_other xs i z (λ e. eqb-false j i hu (let a = eqb-true j (length xs) ht in omega arith))
+    go false ht true hu true hw =
+        let a : j ≡ i = eqb-true j i hu in
+        let l : j < length xs = (let b = leb-true j (length xs) hw in let d = eqb-false j (length xs) ht in omega arith) in
+        ap (slice_get (set xs j z)) (sym a) ∙ get_set_here xs j z l
+    go false ht true hu false hw = ap (λ ys. slice_get ys i) (set_past xs j z (let b = leb-false j (length xs) hw in omega arith))
+    go false ht false hu w hw = get_set_other xs i j z (λ e. eqb-false j i hu (sym e))

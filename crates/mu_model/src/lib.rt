@@ -1,0 +1,25 @@
+//! The model: what replicas do, what each step answers, and which lists of events are legal.
+//!
+//! An event is one step on one word of shared memory, made by one replica. Contracts speak of lists
+//! of events in true order; the definitions in `specs/` are recursions on the history of such a
+//! list, which has the newest event first.
+#![tactic(auto)]
+
+mod answering;
+mod config;
+mod event;
+
+mod journal;
+mod script;
+mod sequence;
+
+pub use answering::answers;
+pub use config::{Config, Row, Rows};
+pub use event::{Answer, Event, Fence, Target, Verb};
+
+pub use journal::Journal;
+pub use script::{End, Pause, Pauses, Script, Stop, Stops};
+pub use sequence::Sequence;
+
+/// Want of memory.
+pub use std::alloc::AllocError as NoMemory;

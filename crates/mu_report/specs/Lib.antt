@@ -1,0 +1,4 @@
+pub mod Printing
+pub mod Report
+pub mod Said
+pub mod Words

@@ -1,0 +1,121 @@
+//! What the program says.
+ghost use Rattle.std.specs.Prelude.{◌≡◌, ◌<◌, ◌≤◌, [], ◌∷◌, ◌++◌, length, take, codes, IfErr, IfOk, OnErr, OnOk};
+ghost use Rattle.std.specs.Io.KnownBytes.{Appends};
+ghost use Rattle.std.specs.Fmt.{decimal};
+ghost use Rattle.mu_io.specs.Faults.{Rose};
+ghost use Rattle.mu_report.specs.declared.line.TheConstants.{LINE_BYTES};
+ghost use Rattle.mu_report.specs.Printing.{PrintsAll, PrintsPart};
+ghost use Rattle.mu_report.specs.Said.{text, lines_of, IsShort};
+
+use crate::line::{Line, print_line};
+use crate::report::print_report;
+use mu_cluster::Outcome;
+use mu_io::{Sink, WriteFault};
+
+/// What the program says at its end.
+#[derive(Drop)]
+pub enum Said {
+    /// How it is called.
+    Usage,
+    /// The input isn't in the grammar.
+    Refused {
+        /// The first line that leaves it, counted from 1.
+        line: u32,
+        /// What is wrong there.
+        cause: u8,
+    },
+    /// What a run left.
+    Ran(Outcome),
+    /// The input couldn't be read.
+    ReadFault,
+    /// Want of memory.
+    NoMemory,
+    /// The input has too many bytes.
+    TooLong,
+}
+
+/// Writes the text of what is said, each line in one call where the sink takes it whole. Takes no memory.
+///
+/// # Errors
+///
+/// `WriteFault` where the sink counted a fault, with the number of bytes of the text that it had taken.
+pub fn print<K: Sink>(sink: &mut K, said: &Said) -> Result<(), WriteFault>
+    requires { IsShort said.now }
+    ensures whole { OnOk result (Appends (K.written sink.old) (K.written sink.new) (text said.now)) }
+    ensures same_faults { OnOk result (K.faults sink.new ≡ K.faults sink.old) }
+    ensures part { IfErr result (λ fault.
+        Appends (K.written sink.old) (K.written sink.new) (take fault.taken (text said.now))) }
+    ensures short { IfErr result (λ fault. fault.taken < length (text said.now)) }
+    ensures fault { OnErr result (Rose (K.faults sink.old) (K.faults sink.new)) }
+    ensures never_falls { K.faults sink.old ≤ K.faults sink.new }
+{
+    printed(sink, said)?;
+    Ok(())
+}
+
+/// [`print`], with the number of bytes that were written.
+///
+/// # Errors
+///
+/// Those of [`print`].
+pub fn printed<K: Sink>(sink: &mut K, said: &Said) -> Result<usize, WriteFault>
+    requires { IsShort said.now }
+    ensures whole { OnOk result (Appends (K.written sink.old) (K.written sink.new) (text said.now)) }
+    ensures count { IfOk result (λ count. count ≡ length (text said.now)) }
+    ensures same_faults { OnOk result (K.faults sink.new ≡ K.faults sink.old) }
+    ensures part { IfErr result (λ fault.
+        Appends (K.written sink.old) (K.written sink.new) (take fault.taken (text said.now))) }
+    ensures short { IfErr result (λ fault. fault.taken < length (text said.now)) }
+    ensures fault { OnErr result (Rose (K.faults sink.old) (K.faults sink.new)) }
+    ensures never_falls { K.faults sink.old ≤ K.faults sink.new }
+{
+    print_said(sink, said)
+}
+
+fn print_said<K: Sink>(sink: &mut K, said: &Said) -> Result<usize, WriteFault>
+    requires { IsShort said.now }
+    ensures all { IfOk result (PrintsAll (K.written sink.old) (K.written sink.new)
+        (K.faults sink.old) (K.faults sink.new) 0 (lines_of said.now)) }
+    ensures part { IfErr result (λ fault. PrintsPart (K.written sink.old) (K.written sink.new)
+        (K.faults sink.old) (K.faults sink.new) 0 (lines_of said.now) fault.taken) }
+{
+    match said {
+        Said::Usage => {
+            print_words(
+                sink,
+                b"usage: mu replay, mu run, mu check, mu trace, mu bulk N",
+            )
+        }
+        Said::Refused { line, cause } => print_line(sink, 0, refusal(*line, *cause)),
+        Said::Ran(outcome) => print_report(sink, outcome),
+        Said::ReadFault => print_words(sink, b"read fault"),
+        Said::NoMemory => print_words(sink, b"no memory"),
+        Said::TooLong => print_words(sink, b"too long"),
+    }
+}
+
+/// Writes a line of these words.
+fn print_words<K: Sink>(sink: &mut K, words: &[u8]) -> Result<usize, WriteFault>
+    requires { length words.now < LINE_BYTES }
+    ensures all { IfOk result (PrintsAll (K.written sink.old) (K.written sink.new)
+        (K.faults sink.old) (K.faults sink.new) 0 (words.now ∷ [])) }
+    ensures part { IfErr result (λ fault. PrintsPart (K.written sink.old) (K.written sink.new)
+        (K.faults sink.old) (K.faults sink.new) 0 (words.now ∷ []) fault.taken) }
+{
+    let mut line = Line::new();
+    line.push(words);
+    print_line(sink, 0, line)
+}
+
+/// The line for an input that isn't in the grammar.
+fn refusal(number: u32, cause: u8) -> Line
+    ensures bytes { result ≡ codes "refused line " ++ decimal number ++ codes " cause " ++ decimal cause }
+    ensures room { length result < LINE_BYTES }
+{
+    let mut line = Line::new();
+    line.push(b"refused line ");
+    line.push_number(u64::from(number));
+    line.push(b" cause ");
+    line.push_number(u64::from(cause));
+    line
+}

@@ -1,0 +1,253 @@
+//! Texts of whole answers, as they come out of a sink in memory.
+ghost use Rattle.std.specs.Prelude.{◌<◌, ◌↔◌, IsTrue};
+ghost use Rattle.mu_report.specs.Report.{HasShortLists};
+ghost use Rattle.mu_report.specs.Said.{IsShort};
+
+use crate::{Said, print, status};
+use kv_store::{Command, Key, Op, Reply, Text};
+use mu_cluster::{Commit, Commits, Log, Outcome};
+use mu_input::Job;
+use mu_io::{MemSink, WriteFault};
+use mu_model::{Config, End, Row, Script, Sequence};
+use std::alloc::{AllocError, Global};
+use std::test::Fail;
+
+const FINISHED: End = End::Finished { heads: [0; 7] };
+
+fn key(name: &str) -> Result<Key, Fail> {
+    Ok(Key::new(name.as_bytes()).ok_or("no key")?)
+}
+
+fn text(held: &str) -> Result<Text, Fail> {
+    Ok(Text::new(held.as_bytes()).ok_or("no text")?)
+}
+
+fn command(client: u8, number: u16, op: Op) -> Result<Command, Fail> {
+    Ok(Command::new(client, number, op).ok_or("no command")?)
+}
+
+/// A job with a row for each head word.
+fn job(
+    alloc: Global,
+    version: u8,
+    replicas: u8,
+    heads: &[u64],
+    commands: &[Command],
+) -> Result<Job, AllocError> {
+    let mut rows = Vec::new(alloc);
+    for head in heads {
+        rows.push(Row {
+            words: [*head, 0, 0, 0, 0, 0, 0, 0, 0, 0, 0, 0],
+        })?;
+    }
+    Ok(Job {
+        config: Config {
+            version,
+            width: 4,
+            replicas,
+            ring: 8,
+            budget: 1000,
+            rows: Sequence::from_vec(rows),
+        },
+        commands: Sequence::from_vec(commands.to_vec(alloc)?),
+        script: Script {
+            stops: Sequence::from_vec(Vec::new(alloc)),
+            pauses: Sequence::from_vec(Vec::new(alloc)),
+        },
+    })
+}
+
+fn log(alloc: Global, values: &[u16]) -> Result<Log, AllocError> {
+    Ok(Sequence::from_vec(values.to_vec(alloc)?))
+}
+
+/// Commits of these values, at the first positions.
+fn commits(alloc: Global, values: &[u16]) -> Result<Commits, AllocError> {
+    let mut commits = Vec::new(alloc);
+    for (position, &value) in (0u16..).zip(values.iter()) {
+        commits.push(Commit { position, value })?;
+    }
+    Ok(Sequence::from_vec(commits))
+}
+
+fn outcome(
+    alloc: Global,
+    job: Job,
+    logs: Vec<Log>,
+    commits: Vec<Commits>,
+    replies: &[Reply],
+    ends: &[End],
+) -> Result<Outcome, AllocError> {
+    Ok(Outcome {
+        job,
+        journals: Sequence::from_vec(Vec::new(alloc)),
+        logs: Sequence::from_vec(logs),
+        commits: Sequence::from_vec(commits),
+        replies: Sequence::from_vec(replies.to_vec(alloc)?),
+        ends: Sequence::from_vec(ends.to_vec(alloc)?),
+        order: None,
+    })
+}
+
+/// Three replicas apply the two commands of a client, each in an entry of its own.
+fn plain_run(alloc: Global) -> Result<Outcome, Fail> {
+    let asked = [
+        command(0, 1, Op::Put(key("a")?, text("5")?))?,
+        command(0, 2, Op::Get(key("a")?))?,
+    ];
+    let job = job(alloc, 1, 3, &[0, 0], &asked)?;
+    let entries = [0, 1];
+    let logs = vec![in alloc;
+        log(alloc, &entries)?,
+        log(alloc, &entries)?,
+        log(alloc, &entries)?,
+    ]?;
+    let committed = vec![in alloc;
+        commits(alloc, &entries)?,
+        commits(alloc, &[])?,
+        commits(alloc, &[])?,
+    ]?;
+    let replies = [Reply::Done, Reply::Value(text("5")?)];
+    Ok(outcome(alloc, job, logs, committed, &replies, &[FINISHED; 3])?)
+}
+
+/// Two replicas with batches and a mark; the second log is the longest, and lacks a command.
+fn batched_run(alloc: Global) -> Result<Outcome, Fail> {
+    let asked = [
+        command(7, 1, Op::Put(key("a")?, text("5")?))?,
+        command(7, 2, Op::Swap(key("b")?, text("6")?))?,
+        command(15, 1, Op::Cas(key("a")?, text("5")?, text("7")?))?,
+        command(15, 2, Op::Cas(key("b")?, text("5")?, text("8")?))?,
+        command(15, 3, Op::Del(key("a")?))?,
+        command(7, 3, Op::Get(key("c")?))?,
+    ];
+    let heads = [1 << 56, 0, 2 << 56, 1 << 56, 0, 0];
+    let job = job(alloc, 2, 2, &heads, &asked)?;
+    let logs = vec![in alloc; log(alloc, &[0])?, log(alloc, &[2, 9000, 4096])?]?;
+    let committed = vec![in alloc; commits(alloc, &[])?, commits(alloc, &[2])?]?;
+    let replies = [
+        Reply::None,
+        Reply::Kept(text("4")?),
+        Reply::Done,
+        Reply::Done,
+        Reply::Value(text("3")?),
+    ];
+    let ends = [End::Stopped, End::Budget];
+    Ok(outcome(alloc, job, logs, committed, &replies, &ends)?)
+}
+
+const PLAIN_TEXT: &str = "report 1
+log 0 entries 2 commits 2 finished
+0 0.1 put a 5
+1 0.2 get a
+log 1 entries 2 commits 0 finished
+0 0.1 put a 5
+1 0.2 get a
+log 2 entries 2 commits 0 finished
+0 0.1 put a 5
+1 0.2 get a
+replies 2
+0.1 done
+0.2 value 5
+status 0
+";
+
+const BATCHED_TEXT: &str = "report 2
+log 0 entries 1 commits 0 stopped
+0 7.1 put a 5
+0 7.2 swap b 6
+log 1 entries 3 commits 1 budget
+0 15.1 cas a 5 7
+0 15.2 cas b 5 8
+0 15.3 del a
+2 7.1 put a 5
+2 7.2 swap b 6
+replies 5
+15.1 none
+15.2 kept 4
+15.3 done
+7.1 done
+7.2 value 3
+status 3
+";
+
+fn is_short(outcome: &Outcome) -> bool
+    ensures { IsTrue result ↔ HasShortLists outcome.now }
+{
+    outcome.job.commands.len() < 65_536
+        && outcome
+            .logs
+            .as_slice()
+            .iter()
+            .all(|log| log.len() < 4_294_967_296)
+}
+
+/// A sink whose writes take at most `piece` bytes, and which fails at a write.
+fn sink(alloc: Global, piece: usize, fails: u32) -> Result<MemSink, AllocError>
+    requires { 0 < piece }
+{
+    let room = vec![in alloc; 0; 1000]?;
+    let fails = vec![in alloc; fails]?;
+    Ok(MemSink::new(room, piece, fails))
+}
+
+/// What is printed where no write fails.
+fn printed(alloc: Global, said: &Said) -> Result<Vec<u8>, Fail>
+    requires { IsShort said.now }
+{
+    let mut sink = sink(alloc, 7, 0)?;
+    print(&mut sink, said).ok().ok_or("a fault")?;
+    Ok(sink.written().to_vec(alloc)?)
+}
+
+#[test]
+fn says_short_answers(rt: HostRuntime) -> Result<(), Fail> {
+    let said = printed(rt.alloc(), &Said::Usage)?;
+    assert_eq!(rt;
+        said.as_slice(),
+        b"usage: mu replay, mu run, mu check, mu trace, mu bulk N\n".as_slice()
+    );
+    let said = printed(rt.alloc(), &Said::Refused { line: 5, cause: 11 })?;
+    assert_eq!(rt; said.as_slice(), b"refused line 5 cause 11\n".as_slice());
+    let said = printed(rt.alloc(), &Said::ReadFault)?;
+    assert_eq!(rt; said.as_slice(), b"read fault\n".as_slice());
+    let said = printed(rt.alloc(), &Said::NoMemory)?;
+    assert_eq!(rt; said.as_slice(), b"no memory\n".as_slice());
+    let said = printed(rt.alloc(), &Said::TooLong)?;
+    assert_eq!(rt; said.as_slice(), b"too long\n".as_slice());
+    Ok(())
+}
+
+#[test]
+fn reports_runs(rt: HostRuntime) -> Result<(), Fail> {
+    let table = [
+        (plain_run(rt.alloc())?, PLAIN_TEXT, 0),
+        (batched_run(rt.alloc())?, BATCHED_TEXT, 3),
+    ];
+    for (outcome, text, wanted) in table {
+        assert_eq!(rt; status(&outcome), wanted);
+        assert!(rt; is_short(&outcome));
+        let said = printed(rt.alloc(), &Said::Ran(outcome))?;
+        assert_eq!(rt; said.as_slice(), text.as_bytes());
+    }
+    Ok(())
+}
+
+#[test]
+fn counts_what_was_taken(rt: HostRuntime) -> Result<(), Fail> {
+    // How many bytes are taken where the third write fails, for the most that a write takes.
+    for (piece, taken) in [(100, 44), (7, 9), (1, 2)] {
+        assert!(rt; piece > 0);
+        let outcome = plain_run(rt.alloc())?;
+        assert!(rt; is_short(&outcome));
+        let mut sink = sink(rt.alloc(), piece, 3)?;
+        let result = print(&mut sink, &Said::Ran(outcome));
+        assert_eq!(rt; result, Err(WriteFault { taken }), "piece {piece}");
+        assert_eq!(rt;
+            Some(sink.written()),
+            PLAIN_TEXT.as_bytes().get(..taken),
+            "piece {piece}"
+        );
+    }
+    Ok(())
+}

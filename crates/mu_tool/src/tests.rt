@@ -1,0 +1,174 @@
+//! Worked rows through the top call, over sources and sinks in memory.
+use crate::top::{Answered, INPUT_LIMIT, mu};
+use mu_cluster::OpenGate;
+use mu_io::{MemSink, MemSource};
+use mu_report::Said;
+use std::alloc::{AllocError, Global};
+use std::sync::Wait;
+use std::test::Fail;
+use std::thread::Threads;
+
+/// The job of a put and a get.
+const PUT_AND_GET: &str = "mu 1\nreplicas 3\nring 8\nbudget 1000\nclient 0\nput a 5\nget a\nend\n";
+
+/// What is said of it: 15 lines.
+const PUT_AND_GET_SAID: &str = "report 1
+log 0 entries 2 commits 2 finished
+0 0.1 put a 5
+1 0.2 get a
+log 1 entries 2 commits 0 finished
+0 0.1 put a 5
+1 0.2 get a
+log 2 entries 2 commits 0 finished
+0 0.1 put a 5
+1 0.2 get a
+replies 2
+0.1 done
+0.2 value 5
+status 0
+";
+
+/// What the top call answered and wrote.
+#[derive(Drop)]
+struct Call {
+    answered: Answered,
+    sink: MemSink,
+}
+
+/// Calls the top call with one word, over a source in pieces that fails at one read, and over a sink
+/// in pieces that fails at one write (0 for none).
+fn told<R: Threads + Wait + Sync>(
+    rt: &R,
+    alloc: Global,
+    word: &str,
+    input: &str,
+    failing_read: u32,
+    failing_write: u32,
+) -> Result<Call, AllocError> {
+    let mut words = Vec::new(alloc);
+    words.push(String::from_str(alloc, word)?)?;
+    let mut source = MemSource::new(
+        Vec::from_slice(alloc, input.as_bytes())?,
+        16,
+        vec![in alloc; failing_read]?,
+    );
+    let mut sink = MemSink::new(
+        vec![in alloc; 0; 4096]?,
+        4096,
+        vec![in alloc; failing_write]?,
+    );
+    let answered = mu(
+        rt,
+        alloc,
+        words.as_slice(),
+        &mut source,
+        &mut sink,
+        &OpenGate,
+    );
+    Ok(Call { answered, sink })
+}
+
+#[test]
+fn answers_jobs_and_refusals(rt: HostRuntime) -> Result<(), Fail> {
+    let rows = [
+        ("replay", PUT_AND_GET, 0, PUT_AND_GET_SAID),
+        (
+            "replay",
+            "mu 1\nreplicas 3\nring 8\nbudget 1000\nend\n",
+            0,
+            "report 1\nlog 0 entries 0 commits 0 finished\nlog 1 entries 0 commits 0 finished\nlog 2 entries 0 commits 0 finished\nreplies 0\nstatus 0\n",
+        ),
+        (
+            "replay",
+            "mu 1\nreplicas 2\nring 8\nbudget 1000\nend\n",
+            2,
+            "refused line 2 cause 14\n",
+        ),
+        ("replay", "", 2, "refused line 1 cause 14\n"),
+        (
+            "replay",
+            "mu 1\nreplicas 3\nring 8\nbudget 1000\n",
+            2,
+            "refused line 5 cause 14\n",
+        ),
+        (
+            "replay",
+            "mu 1\nreplicas 3\nring 8\nbudget 1000\nend\nx\n",
+            2,
+            "refused line 6 cause 14\n",
+        ),
+        (
+            "replays",
+            PUT_AND_GET,
+            1,
+            "usage: mu replay, mu run, mu check, mu trace, mu bulk N\n",
+        ),
+    ];
+    for (word, input, status, text) in rows {
+        let told = told(&rt, rt.alloc(), word, input, 0, 0)?;
+        assert_eq!(rt; told.answered.status, status, "{text}");
+        assert_eq!(rt; told.sink.written(), text.as_bytes(), "{text}");
+        assert_eq!(rt; told.answered.taken, text.len(), "{text}");
+    }
+    Ok(())
+}
+
+#[test]
+fn tells_each_failing_read(rt: HostRuntime) -> Result<(), Fail> {
+    for failing in 1..=6 {
+        let told = told(&rt, rt.alloc(), "replay", PUT_AND_GET, failing, 0)?;
+        if failing < 6 {
+            assert_eq!(rt; told.answered.status, 4, "at read {failing}");
+            assert_eq!(rt;
+                told.sink.written(),
+                b"read fault\n".as_slice(),
+                "at read {failing}"
+            );
+        } else {
+            assert_eq!(rt; told.answered.status, 0);
+        }
+    }
+    Ok(())
+}
+
+#[test]
+fn tells_each_failing_write(rt: HostRuntime) -> Result<(), Fail> {
+    let mut taken = 0;
+    let mut failing: u32 = 1;
+    for line in PUT_AND_GET_SAID.lines() {
+        let told = told(&rt, rt.alloc(), "replay", PUT_AND_GET, 0, failing)?;
+        assert_eq!(rt; told.answered.status, 5, "at write {failing}");
+        assert_eq!(rt; told.answered.taken, taken, "at write {failing}");
+        assert_eq!(rt; told.sink.written().len(), taken, "at write {failing}");
+        taken = taken.saturating_add(line.len()).saturating_add(1);
+        failing = failing.saturating_add(1);
+    }
+    let told = told(&rt, rt.alloc(), "replay", PUT_AND_GET, 0, failing)?;
+    assert_eq!(rt; told.answered.status, 0);
+    Ok(())
+}
+
+#[test]
+fn refuses_more_bytes_than_the_limit(rt: HostRuntime) -> Result<(), Fail> {
+    let alloc = rt.alloc();
+    let mut words = Vec::new(alloc);
+    words.push(String::from_str(alloc, "replay")?)?;
+    let mut source = MemSource::new(
+        vec![in alloc; b'\n'; INPUT_LIMIT + 1]?,
+        usize::MAX,
+        Vec::new(alloc),
+    );
+    let mut sink = MemSink::new(vec![in alloc; 0; 100]?, 100, Vec::new(alloc));
+    let answered = mu(
+        &rt,
+        alloc,
+        words.as_slice(),
+        &mut source,
+        &mut sink,
+        &OpenGate,
+    );
+    assert_eq!(rt; answered.status, 8);
+    assert!(rt; matches!(answered.said, Said::TooLong));
+    assert_eq!(rt; sink.written(), b"too long\n".as_slice());
+    Ok(())
+}
