@@ -1,8 +1,7 @@
 -- What a run of the first path leaves is a run of its job, and its replicas agree.
-use Rattle.std.proofs.Common.{◌≡◌, ◌≢◌, ℕ, zero, suc, ◌+◌, ◌-◌, ◌*◌, ◌<◌, ◌≤◌, ◌⊎◌, min, Bool, true, false, ◌==◌, List, [], ◌∷◌, ◌++◌, length, map, Some, None, refl, sym, ap, ◌∙◌, inl, inr, arith, subst, append-nil}
+use Rattle.std.proofs.Common.{◌≡◌, ℕ, zero, suc, ◌<◌, ◌≤◌, Bool, true, false, List, [], ◌∷◌, length, map, Some, refl, sym, ap, ◌∙◌, inl, arith, subst, append-nil}
 use Rattle.std.specs.Prelude.{if◌then◌else◌, ◌||◌, nat_lt, not, slice_index, slice_index_or, replicate}
 use Rattle.std.specs.List.{slice_get}
-use Rattle.std.specs.declared.option.Option.{Option}
 use Rattle.std.proofs.lemmas.List.{length-reverse}
 use Rattle.std.proofs.lemmas.Option.{slice_get_within}
 use Rattle.std.proofs.lemmas.Bool.{lt-ltb, le-ltb, eq-eqb, ltb-false}
@@ -23,13 +22,13 @@ use Rattle.mu_cluster.specs.declared.outcome.Outcome.{Outcome}
 use Rattle.mu_cluster.specs.declared.outcome.Commit.{Commit}
 use Rattle.mu_cluster.specs.declared.leader.Leader.{Leader}
 use Rattle.mu_cluster.specs.declared.follower.Follower.{Follower}
-use Rattle.mu_cluster.specs.Entries.{commands_in, longest, StandsForSomething}
+use Rattle.mu_cluster.specs.Entries.{commands_in, longest}
 use Rattle.mu_cluster.specs.declared.room.AccountRoom.{AccountRoom}
 use Rattle.mu_cluster.specs.declared.room.AnswerRoom.{AnswerRoom}
 use Rattle.mu_cluster.specs.Rooms.{IsAccountRoom, IsAnswerRoom}
 use Rattle.mu_cluster.specs.Turns.{pace, ids_after, IsTurns}
-use Rattle.mu_cluster.specs.Outcomes.{or_empty, events_of, journal_of, log_of, pair_of, commits_of, IsPrefixOf, Agrees, IsFirstRun, IsWithinJob, status_of}
-use Rattle.mu_cluster.specs.FirstSteps.{upto_by, StandAfter, any_going, is_going, lengths_of, id_of}
+use Rattle.mu_cluster.specs.Outcomes.{or_empty, events_of, journal_of, log_of, pair_of, commits_of, Agrees, IsFirstRun, IsWithinJob, status_of}
+use Rattle.mu_cluster.specs.FirstSteps.{upto_by, StandAfter, any_going, is_going, lengths_of}
 use Rattle.mu_cluster.proofs.Upto.{length-upto_by, slice_get-upto_by}
 use Rattle.mu_cluster.proofs.Pacing.{paced}
 use Rattle.mu_cluster.proofs.LogCommands.{is_batch-plain, commands_in-all}

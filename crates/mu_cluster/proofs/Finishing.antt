@@ -1,17 +1,17 @@
 -- Where the replicas of the first path are when no row is left.
-use Rattle.std.proofs.Common.{◌≡◌, ◌≢◌, ℕ, zero, suc, ◌+◌, ◌-◌, ◌*◌, ◌/◌, ◌%◌, ◌<◌, ◌≤◌, ◌⊎◌, Bool, true, false, ◌&&◌, ◌==◌, List, [], ◌∷◌, ◌++◌, length, Some, None, refl, sym, ap, ◌∙◌, inl, inr, arith, subst}
-use Rattle.std.specs.Prelude.{if◌then◌else◌, ◌||◌, nat_lt, not}
+use Rattle.std.proofs.Common.{◌≡◌, ℕ, zero, suc, ◌+◌, ◌<◌, ◌≤◌, true, false, ◌==◌, List, length, refl, ap, ◌∙◌, arith}
+use Rattle.std.specs.Prelude.{◌||◌}
 use Rattle.std.proofs.Math.Nat.{mod-eq_of_lt, div-eq_of_lt}
-use Rattle.std.proofs.lemmas.Bool.{cases_eq, cases_lt, lt-ltb, le-ltb, eq-eqb, ne_eqb, ltb-false}
+use Rattle.std.proofs.lemmas.Bool.{eq-eqb, ne_eqb, ltb-false}
 use Rattle.mu_model.specs.declared.config.Config.{Config}
 use Rattle.mu_model.specs.declared.event.Event.{Event}
 use Rattle.mu_model.specs.Histories.{all_below}
 use Rattle.mu_model.specs.Contents.{row_count}
 use Rattle.mu_model.specs.Knowledge.{wrote, has_word, has_row, front}
-use Rattle.mu_model.specs.First.{first_known, first_commits, first_applied, raised, is_first_finished, was_going, IsFirstEnded}
+use Rattle.mu_model.specs.First.{first_commits, first_applied, raised, is_first_finished, IsFirstEnded}
 use Rattle.mu_cluster.specs.declared.leader.Stage.{Stage}
 use Rattle.mu_cluster.specs.declared.follower.Pursuit.{Pursuit}
-use Rattle.mu_cluster.specs.FirstSteps.{upto_by, comes_before, words_written, regions_told, rows_committed, Leads, Follows, is_going}
+use Rattle.mu_cluster.specs.FirstSteps.{upto_by, words_written, regions_told, rows_committed, Leads, Follows, is_going}
 use Rattle.mu_cluster.proofs.Upto.{length-upto_by, front-upto, all_below-true}
 use Rattle.mu_cluster.proofs.Pairs.{earlier}
 use Rattle.mu_cluster.proofs.Following.{follower_applied}

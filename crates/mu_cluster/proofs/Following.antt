@@ -1,13 +1,13 @@
 -- A follower of the first path: each of its steps is allowed, its place goes on standing for its part, and with news it gets on.
-use Rattle.std.proofs.Common.{◌≡◌, ◌≢◌, ℕ, zero, suc, ◌+◌, ◌-◌, ◌*◌, ◌/◌, ◌%◌, ◌<◌, ◌≤◌, ◌⊎◌, Bool, true, false, ◌&&◌, ◌==◌, List, [], ◌∷◌, ◌++◌, length, Some, None, refl, sym, ap, ◌∙◌, inl, inr, arith, subst}
+use Rattle.std.proofs.Common.{◌≡◌, ℕ, zero, suc, ◌+◌, ◌/◌, ◌%◌, ◌<◌, ◌≤◌, Bool, true, false, ◌&&◌, ◌==◌, List, [], ◌∷◌, ◌++◌, length, Some, refl, sym, ap, ◌∙◌, arith, subst}
 use Rattle.std.specs.Prelude.{if◌then◌else◌, ◌||◌, nat_lt, not}
 use Rattle.std.specs.List.{slice_get}
-use Rattle.std.proofs.lemmas.Bool.{cases_eq, cases_lt, lt-ltb, le-ltb, eq-eqb, ne_eqb, ltb-true, ltb-false, and_left}
+use Rattle.std.proofs.lemmas.Bool.{lt-ltb, le-ltb, eq-eqb, ne_eqb, ltb-true, ltb-false, and_left}
 use Rattle.mu_model.specs.declared.config.Config.{Config}
 use Rattle.mu_model.specs.declared.event.Event.{Event}
 use Rattle.mu_model.specs.declared.event.Verb.{Verb}
 use Rattle.mu_model.specs.declared.event.Answer.{Answer}
-use Rattle.mu_model.specs.Histories.{all_below, has}
+use Rattle.mu_model.specs.Histories.{has}
 use Rattle.mu_model.specs.Regions.{region_log, region_fuo}
 use Rattle.mu_model.specs.Answers.{answer_of, shown}
 use Rattle.mu_model.specs.Contents.{row_count}
@@ -15,9 +15,9 @@ use Rattle.mu_model.specs.Knowledge.{greatest_fuo_read, has_word, has_row, wrote
 use Rattle.mu_model.specs.First.{first_known, first_applied, is_first_finished, was_going, FirstAllowed}
 use Rattle.mu_cluster.specs.declared.follower.Pursuit.{Pursuit}
 use Rattle.mu_cluster.specs.declared.follower.Follower.{Follower}
-use Rattle.mu_cluster.specs.FirstSteps.{upto_by, comes_before, PassBefore, words_read, entries_open, IsPursuit, follower_verb, follower_after, follower_left, Follows, HoldRows}
+use Rattle.mu_cluster.specs.FirstSteps.{upto_by, comes_before, PassBefore, words_read, entries_open, follower_verb, follower_after, Follows, HoldRows}
 use Rattle.mu_cluster.proofs.Upto.{length-upto_by, slice_get-upto_by, upto_by-more, front-upto, front-upto_failing, all_below-true, all_below-false}
-use Rattle.mu_cluster.proofs.Pairs.{earlier, later, here_below, here_above, one_more, next_row}
+use Rattle.mu_cluster.proofs.Pairs.{earlier, later, here_above, one_more, next_row}
 
 -- the event of a follower's next step
 abbrev pub followed : Config → ℕ → ℕ → Pursuit → List Event → Event

@@ -1,19 +1,18 @@
 -- The leader of the first path: each of its steps is allowed, and its place goes on standing for its part.
-use Rattle.std.proofs.Common.{◌≡◌, ◌≢◌, ℕ, zero, suc, ◌+◌, ◌-◌, ◌*◌, ◌<◌, ◌≤◌, ◌⊎◌, Bool, true, false, ◌&&◌, ◌==◌, List, [], ◌∷◌, ◌++◌, length, Some, None, refl, sym, ap, ◌∙◌, inl, inr, arith, subst}
-use Rattle.std.specs.Prelude.{if◌then◌else◌, ◌||◌, nat_lt, not, slice_set, max}
+use Rattle.std.proofs.Common.{◌≡◌, ℕ, zero, suc, ◌+◌, ◌-◌, ◌<◌, ◌≤◌, ◌⊎◌, Bool, true, false, ◌&&◌, ◌==◌, List, [], ◌∷◌, ◌++◌, length, Some, None, refl, sym, ap, ◌∙◌, inl, inr, arith, subst}
+use Rattle.std.specs.Prelude.{if◌then◌else◌, ◌||◌, nat_lt, not, slice_set}
 use Rattle.std.proofs.lemmas.Bool.{cases_eq, cases_lt, lt-ltb, le-ltb, eq-eqb, ne_eqb, ltb-true, ltb-false}
 use Rattle.mu_model.specs.declared.config.Config.{Config}
 use Rattle.mu_model.specs.declared.event.Event.{Event}
 use Rattle.mu_model.specs.declared.event.Verb.{Verb}
 use Rattle.mu_model.specs.declared.event.Answer.{Answer}
-use Rattle.mu_model.specs.Histories.{all_below}
 use Rattle.mu_model.specs.Regions.{region_log, region_fuo}
-use Rattle.mu_model.specs.Contents.{config_word, row_count}
-use Rattle.mu_model.specs.Knowledge.{put_done, wrote, grown}
-use Rattle.mu_model.specs.First.{first_known, first_commits, first_applied, raised, is_put_everywhere, is_first_finished, was_going, FirstAllowed, FirstNeeds, MayWriteRow, MayPutSlot, value_taught, first_committed}
+use Rattle.mu_model.specs.Contents.{row_count}
+use Rattle.mu_model.specs.Knowledge.{put_done, wrote}
+use Rattle.mu_model.specs.First.{first_known, first_commits, raised, is_put_everywhere, is_first_finished, was_going, FirstAllowed, FirstNeeds, first_committed}
 use Rattle.mu_cluster.specs.declared.leader.Stage.{Stage}
 use Rattle.mu_cluster.specs.declared.leader.Leader.{Leader}
-use Rattle.mu_cluster.specs.FirstSteps.{upto_by, comes_before, PassBefore, words_written, regions_put, regions_told, steps_made, rows_committed, IsStage, leader_verb, leader_after, Leads}
+use Rattle.mu_cluster.specs.FirstSteps.{upto_by, comes_before, PassBefore, regions_told, steps_made, rows_committed, IsStage, leader_verb, leader_after, Leads}
 use Rattle.mu_cluster.proofs.Upto.{length-upto_by, upto_by-more, all_below-true, all_below-false}
 use Rattle.mu_cluster.proofs.Pairs.{earlier, later, here_below, here_above, one_more, next_row}
 
@@ -97,8 +96,9 @@ same_hit i j q p = go (i == j) (q == p)
 
 other_region : (p q : ℕ) → (q ≡ p → ⊥) → nat_lt p q ≡ nat_lt p (q + 1)
 other_region p q other = elim (cases_lt p q) [
-    inl below ↦ lt-ltb p q below ∙ sym (lt-ltb p (q + 1) (omega arith))
-  | inr above ↦ le-ltb p q above ∙ sym (le-ltb p (q + 1) (omega (arith, other))) ]
+  | inl below ↦ lt-ltb p q below ∙ sym (lt-ltb p (q + 1) (omega arith))
+  | inr above ↦ le-ltb p q above ∙ sym (le-ltb p (q + 1) (omega (arith, other)))
+]
 
 -- the puts after one more
 puts_more : (c : Config) (i q : ℕ) (mine past : List Event) → Leads c i (Stage.Put q) mine past → PassBefore (λ j p. put_done 0 p j 8 j (led c i (Stage.Put q) ∷ mine)) 3 i (q + 1)
@@ -210,8 +210,9 @@ tells_more c i q mine past l j p low =
   where
     same : (i + 1 == suc j) ≡ (i == j)
     same = elim (cases_eq i j) [
-        inl e ↦ eq-eqb (i + 1) (suc j) (omega arith) ∙ sym (eq-eqb i j e)
-      | inr e ↦ ne_eqb (i + 1) (suc j) (λ k. e (omega arith)) ∙ sym (ne_eqb i j e) ]
+      | inl e ↦ eq-eqb (i + 1) (suc j) (omega arith) ∙ sym (eq-eqb i j e)
+      | inr e ↦ ne_eqb (i + 1) (suc j) (λ k. e (omega arith)) ∙ sym (ne_eqb i j e)
+    ]
 
     swapped : (a b d : Bool) → b ≡ d → (a && b) ≡ (d && a)
     swapped a b d e = ap (λ t. a && t) e ∙ go a d
@@ -300,21 +301,27 @@ leader_allowed c i stage mine past l low few budget = record {
     few_made (Stage.Raise q) h = omega arith
 
     needs : (stage : Stage) → Leads c i stage mine past → FirstNeeds c 0 mine (leader_verb c i stage)
-    needs (Stage.Write word) l = (refl, record {
-      row = low;
-      word = l.stage_in;
-      value = refl;
-      anew = l.words i word l.stage_in ∙ here_above i word word (omega arith);
-    })
-    needs (Stage.Put q) l = (refl, record {
-      region = l.stage_in;
-      position = low;
-      number = refl;
-      payload = refl;
-      written = all_below-true 12 (λ k. wrote 0 i k mine) (λ k word. l.words i k word ∙ here_below i 12 k word);
-      below = λ j under. all_below-true 3 (λ p. put_done 0 p j 8 j mine) (λ p region. l.puts j p region ∙ earlier i q j p under);
-      anew = l.puts i q l.stage_in ∙ here_above i q q (omega arith);
-    })
+    needs (Stage.Write word) l = (
+      refl,
+      record {
+        row = low;
+        word = l.stage_in;
+        value = refl;
+        anew = l.words i word l.stage_in ∙ here_above i word word (omega arith);
+      },
+    )
+    needs (Stage.Put q) l = (
+      refl,
+      record {
+        region = l.stage_in;
+        position = low;
+        number = refl;
+        payload = refl;
+        written = all_below-true 12 (λ k. wrote 0 i k mine) (λ k word. l.words i k word ∙ here_below i 12 k word);
+        below = λ j under. all_below-true 3 (λ p. put_done 0 p j 8 j mine) (λ p region. l.puts j p region ∙ earlier i q j p under);
+        anew = l.puts i q l.stage_in ∙ here_above i q q (omega arith);
+      },
+    )
     needs (Stage.Raise q) l = (refl, l.stage_in, (let k = known_count c i (Stage.Raise q) mine past l in omega arith))
 
 -- at the start the leader stands for nothing

@@ -1,7 +1,7 @@
 -- The order of turns without pauses.
-use Rattle.std.proofs.Common.{◌≡◌, ◌≢◌, ℕ, zero, suc, ◌+◌, ◌<◌, ◌≤◌, ◌⊎◌, min, Bool, true, false, ◌&&◌, ◌==◌, List, [], ◌∷◌, ◌++◌, length, map, refl, sym, ap, ◌∙◌, inl, inr, arith, subst, append_assoc, append-nil}
-use Rattle.std.specs.Prelude.{if◌then◌else◌, nat_lt, not, slice_index}
-use Rattle.std.proofs.lemmas.Bool.{eq-eqb, lt-ltb, le-ltb, cases_lt, ltb-true, ltb-false}
+use Rattle.std.proofs.Common.{◌≡◌, ℕ, zero, suc, ◌+◌, ◌<◌, ◌≤◌, ◌⊎◌, min, Bool, true, false, ◌&&◌, List, [], ◌∷◌, ◌++◌, length, map, refl, sym, ap, ◌∙◌, inl, inr, arith, subst, append_assoc, append-nil}
+use Rattle.std.specs.Prelude.{if◌then◌else◌, nat_lt}
+use Rattle.std.proofs.lemmas.Bool.{lt-ltb, le-ltb, cases_lt, ltb-true}
 use Rattle.std.proofs.lemmas.List.{map-append}
 use Rattle.mu_model.specs.declared.config.Config.{Config}
 use Rattle.mu_model.specs.declared.event.Event.{Event}
@@ -10,7 +10,7 @@ use Rattle.mu_model.specs.Contents.{row_count}
 use Rattle.mu_cluster.specs.declared.leader.Leader.{Leader}
 use Rattle.mu_cluster.specs.declared.follower.Follower.{Follower}
 use Rattle.mu_cluster.specs.Turns.{is_due, pace, ids_in_round, ids_after}
-use Rattle.mu_cluster.specs.FirstSteps.{StepsOnce, ReadsOnce, IsRound, AllStand, StandAfter, all_left, is_going, one_if, lengths_of, id_of, KeepsPace, Paced}
+use Rattle.mu_cluster.specs.FirstSteps.{StepsOnce, IsRound, AllStand, StandAfter, all_left, is_going, one_if, lengths_of, id_of, KeepsPace, Paced}
 use Rattle.mu_cluster.proofs.Rounding.{reads_step, part_kept, part_grown}
 
 -- without pauses a replica is due while steps are left

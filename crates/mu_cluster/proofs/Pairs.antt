@@ -1,6 +1,6 @@
 -- Pairs that come before others.
-use Rattle.std.proofs.Common.{◌≡◌, ◌≢◌, ℕ, zero, suc, ◌+◌, ◌<◌, ◌≤◌, ◌⊎◌, Bool, true, false, ◌&&◌, ◌==◌, refl, sym, ap, ◌∙◌, inl, inr, arith}
-use Rattle.std.specs.Prelude.{if◌then◌else◌, ◌||◌, nat_lt}
+use Rattle.std.proofs.Common.{◌≡◌, ℕ, ◌+◌, ◌<◌, ◌≤◌, ◌⊎◌, Bool, true, false, ◌&&◌, ◌==◌, refl, sym, ap, ◌∙◌, inl, inr, arith}
+use Rattle.std.specs.Prelude.{if◌then◌else◌}
 use Rattle.std.proofs.lemmas.Bool.{cases_eq, cases_lt, lt-ltb, le-ltb, eq-eqb, ne_eqb}
 use Rattle.mu_cluster.specs.FirstSteps.{comes_before, PassBefore}
 
@@ -21,8 +21,9 @@ here_above i w k high = rw (le-ltb i i (omega arith), eq-eqb i i refl, le-ltb k 
 pub one_more : (test : ℕ → ℕ → Bool) (m i w : ℕ) → PassBefore test m i w → (j k : ℕ) → k < m
     → (if (i == j) && (w == k) then true else test j k) ≡ comes_before i (w + 1) j k
 one_more test m i w passes j k low = elim (cases_eq i j) [
-    inl row ↦ at_row row (cases_eq w k)
-  | inr other ↦ off_row other (cases_lt j i) ]
+  | inl row ↦ at_row row (cases_eq w k)
+  | inr other ↦ off_row other (cases_lt j i)
+]
   where
     at_row : i ≡ j → (w ≡ k) ⊎ (w ≡ k → ⊥) → (if (i == j) && (w == k) then true else test j k) ≡ comes_before i (w + 1) j k
     at_row row (inl same) =

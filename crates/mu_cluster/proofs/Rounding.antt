@@ -1,20 +1,18 @@
 -- A round of the first path: a turn leaves the other replicas' places standing, and some step is made.
-use Rattle.std.proofs.Common.{◌≡◌, ◌≢◌, ℕ, zero, suc, ◌+◌, ◌-◌, ◌*◌, ◌<◌, ◌≤◌, ◌⊎◌, Bool, true, false, ◌==◌, List, [], ◌∷◌, ◌++◌, length, Some, None, refl, sym, ap, ◌∙◌, inl, inr, arith, subst}
-use Rattle.std.specs.Prelude.{if◌then◌else◌, nat_lt, max, Option}
-use Rattle.std.proofs.lemmas.Bool.{eq-eqb, ne_eqb, ltb-true, ltb-false, lt-ltb, le-ltb, cases_lt}
+use Rattle.std.proofs.Common.{◌≡◌, ℕ, ◌+◌, ◌<◌, ◌≤◌, Bool, true, false, List, ◌∷◌, length, Some, None, refl, sym, ap, ◌∙◌, inl, inr, arith, subst}
+use Rattle.std.specs.Prelude.{if◌then◌else◌, nat_lt, Option}
+use Rattle.std.proofs.lemmas.Bool.{ne_eqb, ltb-false, lt-ltb, le-ltb, cases_lt}
 use Rattle.mu_model.specs.declared.config.Config.{Config}
 use Rattle.mu_model.specs.declared.event.Event.{Event}
 use Rattle.mu_model.specs.declared.event.Verb.{Verb}
 use Rattle.mu_model.specs.declared.event.Answer.{Answer}
 use Rattle.mu_model.specs.Histories.{history, part, max_with}
-use Rattle.mu_model.specs.Regions.{region_log, region_fuo, fuo_raised, log_with}
+use Rattle.mu_model.specs.Regions.{region_log, region_fuo, fuo_raised}
 use Rattle.mu_model.specs.Contents.{row_count}
 use Rattle.mu_model.specs.Knowledge.{greatest_fuo_read}
 use Rattle.mu_cluster.specs.declared.leader.Stage.{Stage}
-use Rattle.mu_cluster.specs.declared.leader.Leader.{Leader}
 use Rattle.mu_cluster.specs.declared.follower.Pursuit.{Pursuit}
-use Rattle.mu_cluster.specs.declared.follower.Follower.{Follower}
-use Rattle.mu_cluster.specs.FirstSteps.{upto_by, regions_put, regions_told, IsStage, Leads, Follows, OnLook, HoldsRows, HoldRows, StepsOnce, ReadsOnce, IsReading, is_going, one_if, leader_left, follower_left}
+use Rattle.mu_cluster.specs.FirstSteps.{regions_put, regions_told, Leads, Follows, OnLook, HoldRows, StepsOnce, ReadsOnce, IsReading, is_going, one_if}
 use Rattle.mu_cluster.proofs.Turning.{history-push, part-own}
 
 pub reads_step : (r : ℕ) (going : Bool) (old new : List Event) → ReadsOnce r going old new → StepsOnce r going old new

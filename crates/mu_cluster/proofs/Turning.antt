@@ -1,21 +1,21 @@
 -- A turn of the first path, as the fabric keeps it.
-use Rattle.std.proofs.Common.{◌≡◌, ℕ, zero, suc, ◌+◌, ◌-◌, ◌*◌, ◌<◌, ◌≤◌, ◌⊎◌, Bool, true, false, ◌==◌, List, [], ◌∷◌, ◌++◌, length, refl, sym, ap, ◌∙◌, inl, inr, arith, subst}
+use Rattle.std.proofs.Common.{◌≡◌, ℕ, ◌+◌, ◌<◌, ◌≤◌, Bool, true, false, List, [], ◌∷◌, ◌++◌, refl, sym, ap, ◌∙◌, arith, subst}
 use Rattle.std.specs.Prelude.{if◌then◌else◌, nat_lt}
-use Rattle.std.proofs.lemmas.Bool.{eq-eqb, ltb-true, ltb-false, lt-ltb, cases_lt}
+use Rattle.std.proofs.lemmas.Bool.{eq-eqb, ltb-false, lt-ltb}
 use Rattle.std.proofs.lemmas.List.{reverse-append}
 use Rattle.mu_model.specs.declared.config.Config.{Config}
 use Rattle.mu_model.specs.declared.event.Event.{Event}
 use Rattle.mu_model.specs.declared.event.Verb.{Verb}
 use Rattle.mu_model.specs.declared.event.Answer.{Answer}
 use Rattle.mu_model.specs.Histories.{history, part}
-use Rattle.mu_model.specs.Regions.{region_log, region_fuo}
+use Rattle.mu_model.specs.Regions.{region_fuo}
 use Rattle.mu_model.specs.Answers.{answer_of}
 use Rattle.mu_model.specs.Contents.{row_count}
 use Rattle.mu_cluster.specs.declared.leader.Stage.{Stage}
 use Rattle.mu_cluster.specs.declared.leader.Leader.{Leader}
 use Rattle.mu_cluster.specs.declared.follower.Pursuit.{Pursuit}
 use Rattle.mu_cluster.specs.declared.follower.Follower.{Follower}
-use Rattle.mu_cluster.specs.FirstSteps.{leader_verb, leader_after, Leads, follower_verb, follower_after, follower_left, steps_followed, IsPursuit, Follows, HoldRows, IsFirstSize}
+use Rattle.mu_cluster.specs.FirstSteps.{leader_verb, leader_after, Leads, follower_verb, follower_after, follower_left, IsPursuit, Follows, HoldRows, IsFirstSize}
 use Rattle.mu_cluster.proofs.Leading.{led, leads_next}
 use Rattle.mu_cluster.proofs.Following.{followed, follows_next}
 

@@ -1,5 +1,5 @@
 -- Lists that count up.
-use Rattle.std.proofs.Common.{◌≡◌, ◌≢◌, ◌&&◌, ℕ, zero, suc, ◌+◌, ◌<◌, ◌≤◌, Bool, true, false, List, [], ◌∷◌, ◌++◌, length, Some, refl, sym, ap, ◌∙◌, inl, inr, arith, append-nil}
+use Rattle.std.proofs.Common.{◌≡◌, ◌&&◌, ℕ, zero, suc, ◌+◌, ◌<◌, Bool, true, false, List, [], ◌∷◌, ◌++◌, length, Some, refl, sym, ap, ◌∙◌, inl, inr, arith, append-nil}
 use Rattle.std.proofs.lemmas.List.{length-append}
 use Rattle.std.proofs.lemmas.Bool.{cases_eq}
 use Rattle.std.specs.List.{slice_get}
@@ -15,8 +15,9 @@ length-upto_by f (suc n) = length-append (upto_by f n) (f n ∷ []) ∙ (let bef
 pub slice_get-upto_by : {A : Type 0} (f : ℕ → A) (n k : ℕ) → k < n → slice_get (upto_by f n) k ≡ Some (f k)
 slice_get-upto_by f zero k low = absurd (omega arith)
 slice_get-upto_by f (suc n) k low = elim (cases_eq k n) [
-    inl same ↦ get_push_here (upto_by f n) k (f n) (same ∙ sym (length-upto_by f n)) ∙ ap (λ j. Some (f j)) (sym same)
-  | inr other ↦ get_push_other (upto_by f n) k (f n) (λ e. other (e ∙ length-upto_by f n)) ∙ slice_get-upto_by f n k (omega arith) ]
+  | inl same ↦ get_push_here (upto_by f n) k (f n) (same ∙ sym (length-upto_by f n)) ∙ ap (λ j. Some (f j)) (sym same)
+  | inr other ↦ get_push_other (upto_by f n) k (f n) (λ e. other (e ∙ length-upto_by f n)) ∙ slice_get-upto_by f n k (omega arith)
+]
 
 -- one more is at the end
 pub upto_by-more : {A : Type 0} (f : ℕ → A) (n : ℕ) → upto_by f n ++ f n ∷ [] ≡ upto_by f (n + 1)
@@ -68,8 +69,9 @@ all_below-true (suc n) test h = rw (h n (omega arith)) (all_below-true n test (�
 pub all_below-false : (n : ℕ) (test : ℕ → Bool) (k : ℕ) → k < n → test k ≡ false → all_below n test ≡ false
 all_below-false zero test k low fails = absurd (omega arith)
 all_below-false (suc n) test k low fails = elim (cases_eq k n) [
-    inl same ↦ (let here : test n ≡ false = ap test (sym same) ∙ fails in rw here refl)
-  | inr other ↦ at_all (test n) (all_below-false n test k (omega arith) fails) ]
+  | inl same ↦ (let here : test n ≡ false = ap test (sym same) ∙ fails in rw here refl)
+  | inr other ↦ at_all (test n) (all_below-false n test k (omega arith) fails)
+]
   where
     at_all : (t : Bool) → all_below n test ≡ false → (t && all_below n test) ≡ false
     at_all true h = h

@@ -1,5 +1,5 @@
 -- What an outcome says.
-use Rattle.std.specs.Prelude.{ℕ, ◌≡◌, ◌<◌, ◌≤◌, ◌⊎◌, ◌==◌, if◌then◌else◌, List, [], ◌∷◌, ◌++◌, length, slice_get, map, Some, None, replicate, All}
+use Rattle.std.specs.Prelude.{ℕ, ◌≡◌, ◌<◌, ◌≤◌, ◌⊎◌, ◌==◌, if◌then◌else◌, List, [], ◌++◌, length, slice_get, map, Some, None, replicate, All}
 use Rattle.std.specs.declared.option.Option.{Option}
 use Rattle.kv_store.specs.Tables.{replies}
 use Rattle.kv_store.specs.Sessions.{IsInSession}

@@ -14,6 +14,7 @@ const LEADER: u8 = 0;
 
 /// The replicas that follow.
 const FIRST_FOLLOWER: u8 = 1;
+
 const SECOND_FOLLOWER: u8 = 2;
 
 /// The leader's turn: a step, where a row is left.

@@ -98,9 +98,19 @@ impl OutcomeRoom {
         let replies = answers.answered(&job, &account_0.log);
         Outcome {
             job,
-            journals: three(journals, account_0.journal, account_1.journal, account_2.journal),
+            journals: three(
+                journals,
+                account_0.journal,
+                account_1.journal,
+                account_2.journal,
+            ),
             logs: three(logs, account_0.log, account_1.log, account_2.log),
-            commits: three(commits, account_0.commits, account_1.commits, account_2.commits),
+            commits: three(
+                commits,
+                account_0.commits,
+                account_1.commits,
+                account_2.commits,
+            ),
             replies,
             ends: three(ends, FINISHED, FINISHED, FINISHED),
             order: Some(order),

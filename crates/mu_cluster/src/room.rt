@@ -91,13 +91,7 @@ fn committed(count: u16, mut commits: Vec<Commit>) -> Commits
 impl AccountRoom {
     /// What the replica leaves: its events among all `events`, and the rows 0, 1 and so on that it
     /// applied and committed. Takes no memory.
-    pub(crate) fn filled(
-        self,
-        id: u8,
-        events: &[Event],
-        applied: u16,
-        commits: u16,
-    ) -> Account
+    pub(crate) fn filled(self, id: u8, events: &[Event], applied: u16, commits: u16) -> Account
         requires { IsAccountRoom (length (part id events.now)) applied commits self }
         ensures journal { result.journal.events ≡ part id events.now }
         ensures log { result.log ≡ upto_by (λ j. j) applied }

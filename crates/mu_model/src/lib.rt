@@ -8,7 +8,6 @@
 mod answering;
 mod config;
 mod event;
-
 mod journal;
 mod script;
 mod sequence;
@@ -16,7 +15,6 @@ mod sequence;
 pub use answering::answers;
 pub use config::{Config, Row, Rows};
 pub use event::{Answer, Event, Fence, Target, Verb};
-
 pub use journal::Journal;
 pub use script::{End, Pause, Pauses, Script, Stop, Stops};
 pub use sequence::Sequence;

@@ -52,6 +52,6 @@ abbrev pub report_lines : Outcome → List (List ℕ)
 report_lines o = (codes "report " ++ decimal o.job.config.version)
     ∷ (logs_lines o 0 o.job.config.replicas ++ (replies_lines o ++ (codes "status " ++ decimal (status_of o)) ∷ []))
 
--- the lists of a run are in the reach of 16 and of 32 bits: those of its commands, and of the entries of each log
+-- the job has fewer than 2^16 commands, and each log fewer than 2^32 entries: the bytes of the report can be counted in 64 bits
 abbrev pub HasShortLists : Outcome → Type 0
 HasShortLists o = (length o.job.commands < 2 ^ 16) × All (λ log. length log < 2 ^ 32) o.logs

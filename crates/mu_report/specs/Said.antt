@@ -19,7 +19,7 @@ lines_of TooLong = codes "too long" ∷ []
 abbrev pub text : Said → List ℕ
 text said = ended (lines_of said)
 
--- if a run is told, then its lists are in the reach of 16 and of 32 bits
+-- a run that is told has short lists
 abbrev pub IsShort : Said → Type 0
 IsShort Usage = ⊤
 IsShort (Refused line cause) = ⊤

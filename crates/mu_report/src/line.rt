@@ -85,7 +85,7 @@ impl Line {
 /// # Errors
 ///
 /// `WriteFault` where the sink counted a fault, with the number of all bytes that were taken.
-pub fn print_line<K: Sink>(sink: &mut K, taken: usize, line: Line) -> Result<usize, WriteFault>
+pub fn print_line<K: Sink>(sink: &mut K, taken: usize, mut line: Line) -> Result<usize, WriteFault>
     requires room { length line < LINE_BYTES }
     requires fits { taken + LINE_BYTES < 2 ^ 64 }
     ensures all { IfOk result (PrintsAll (K.written sink.old) (K.written sink.new)
@@ -93,7 +93,6 @@ pub fn print_line<K: Sink>(sink: &mut K, taken: usize, line: Line) -> Result<usi
     ensures part { IfErr result (λ fault. PrintsPart (K.written sink.old) (K.written sink.new)
         (K.faults sink.old) (K.faults sink.new) taken (line ∷ []) fault.taken) }
 {
-    let mut line = line;
     line.push(b"\n");
     let bytes = line.as_slice();
     match write_all(sink, bytes) {

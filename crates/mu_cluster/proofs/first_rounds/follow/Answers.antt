@@ -1,4 +1,4 @@
-use Rattle.std.proofs.Common.{◌≡◌, ◌<◌, sym, subst, ap, ◌∙◌, arith}
+use Rattle.std.proofs.Common.{◌<◌, sym, subst, ap, ◌∙◌, arith}
 use Rattle.mu_model.specs.Histories.{history, part}
 use Rattle.mu_model.specs.Answers.{answer_of}
 use Rattle.mu_model.specs.Contents.{row_count}
@@ -22,5 +22,5 @@ returns-then-from-len-clause-news c = λ low covered.
     let told = c.step-answer.ensures.answer ∙ ap (λ v. answer_of fabric.config c.args.id (history fabric.events) v) c.verb.ensures in
     gets_on fabric.config c.args.id follower.applied follower.pursuit c.take.new.self (history fabric.events) c.step-answer.result c.take.ensures told c.requires.stands.pursuit_in low covered
     (λ is.
-        let looking = subst (λ (p : Pursuit). Follows fabric.config c.args.id follower.applied p (part c.args.id (history fabric.events)) (history fabric.events)) (sym is) c.requires.stands in
-        told ∙ ap (λ p. answer_of fabric.config c.args.id (history fabric.events) (follower_verb c.args.id follower.applied p)) (sym is) ∙ finds fabric.config c.args.id follower.applied (history fabric.events) c.requires.holds c.requires.replica looking.asked.1 c.requires.size.few c.requires.size.ring)
+    let looking = subst (λ (p : Pursuit). Follows fabric.config c.args.id follower.applied p (part c.args.id (history fabric.events)) (history fabric.events)) (sym is) c.requires.stands in
+    told ∙ ap (λ p. answer_of fabric.config c.args.id (history fabric.events) (follower_verb c.args.id follower.applied p)) (sym is) ∙ finds fabric.config c.args.id follower.applied (history fabric.events) c.requires.holds c.requires.replica looking.asked.1 c.requires.size.few c.requires.size.ring)

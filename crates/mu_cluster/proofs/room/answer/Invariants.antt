@@ -1,4 +1,4 @@
-use Rattle.std.proofs.Common.{◌≡◌, ◌+◌, ◌≤◌, ◌++◌, length, drop, vec_len}
+use Rattle.std.proofs.Common.{◌≡◌, ◌+◌, ◌≤◌, ◌++◌, drop, vec_len}
 use Rattle.std.specs.Vec.{vec_capacity}
 use Rattle.kv_store.specs.Tables.{replies_from, store_from}
 use Rattle.mu_cluster.proofs.room.answer.Given as goal

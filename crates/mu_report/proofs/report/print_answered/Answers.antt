@@ -1,4 +1,4 @@
-use Rattle.std.proofs.Common.{◌≤◌, ◌<◌, length, min, arith}
+use Rattle.std.proofs.Common.{arith}
 use Rattle.std.proofs.lemmas.Result.{err_from_is_err_and}
 use Rattle.mu_report.proofs.Lists.{answer_lines-next, answer_lines-past}
 use Rattle.mu_report.proofs.Prints.{print_fault, print_step, print_whole}

@@ -1,9 +1,7 @@
-use Rattle.std.proofs.Common.{◌≡◌, List, ◌∷◌, [], ◌++◌, ℕ, refl, ap, ◌∙◌, arith, ◌<◌, ◌^◌}
-use Rattle.std.specs.Prelude.{codes}
-use Rattle.std.specs.Fmt.{decimal}
+use Rattle.std.proofs.Common.{◌∷◌, [], refl, ◌∙◌, arith}
 use Rattle.std.proofs.lemmas.Result.{err_from_is_err_and}
 use Rattle.mu_cluster.specs.Outcomes.{status_of}
-use Rattle.mu_report.specs.Report.{logs_lines, replies_lines, report_lines}
+use Rattle.mu_report.specs.Report.{replies_lines}
 use Rattle.mu_report.proofs.Lists.{report_lines-parts}
 use Rattle.mu_report.proofs.Prints.{print_fault, print_fits, print_last, print_last_fault, print_start, print_step}
 use Rattle.mu_report.proofs.Sizes.{report_fits}

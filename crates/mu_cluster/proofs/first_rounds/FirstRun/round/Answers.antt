@@ -1,4 +1,4 @@
-use Rattle.std.proofs.Common.{sym, ◌∙◌}
+use Rattle.std.proofs.Common.{◌∙◌}
 use Rattle.mu_model.specs.Histories.{history, part}
 use Rattle.mu_cluster.specs.FirstSteps.{is_going}
 use Rattle.mu_cluster.proofs.Rounding.{second_stands, lead_stands_on, first_stands_on, not_leader, leads_hold}

@@ -1,4 +1,4 @@
-use Rattle.std.proofs.Common.{◌≤◌, length, refl, ap, ◌∙◌, arith, Some}
+use Rattle.std.proofs.Common.{length, refl, ap, ◌∙◌, arith, Some}
 use Rattle.mu_model.specs.Histories.{part}
 use Rattle.mu_model.specs.Contents.{row_count}
 use Rattle.mu_cluster.specs.declared.outcome.Outcome.{Outcome}

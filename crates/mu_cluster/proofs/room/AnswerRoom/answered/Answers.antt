@@ -1,6 +1,6 @@
-use Rattle.std.proofs.Common.{◌≡◌, ◌+◌, ◌++◌, length, drop, get_or, sym, ap, ◌∙◌, arith}
+use Rattle.std.proofs.Common.{◌≡◌, ◌+◌, ◌++◌, length, drop, sym, ap, ◌∙◌, arith}
 use Rattle.std.proofs.lemmas.List.{length-append}
-use Rattle.mu_cluster.specs.Entries.{commands_of, commands_in}
+use Rattle.mu_cluster.specs.Entries.{commands_in}
 use Rattle.mu_cluster.proofs.LogCommands.{commands_in-drop, told_more}
 use Rattle.mu_cluster.proofs.room.AnswerRoom.answered.Goals as goal
 

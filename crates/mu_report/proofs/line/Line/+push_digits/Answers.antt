@@ -1,4 +1,4 @@
-use Rattle.std.proofs.Common.{◌≡◌, ℕ, ◌+◌, ◌/◌, ◌^◌, ◌<◌, ◌≤◌, ◌⊎◌, inl, inr, ◌++◌, ◌∙◌, arith}
+use Rattle.std.proofs.Common.{◌≡◌, ◌/◌, ◌^◌, ◌<◌, ◌≤◌, ◌⊎◌, inl, inr, ◌++◌, ◌∙◌, arith}
 use Rattle.std.specs.Fmt.{decimal}
 use Rattle.mu_report.proofs.Digits.{decimal_behind, length-behind, length-decimal_step}
 use Rattle.mu_report.proofs.line.Line.+push_digits.Goals as goal
