@@ -75,6 +75,7 @@ log_read p by (Verb.ReadRow v k) a past h = refl
 log_read p by (Verb.PutSlot q i b v) a past h = absurd h
 log_read p by (Verb.RaiseFuo q u) a past h = absurd h
 log_read p by (Verb.WriteRow j k x) a past h = absurd h
+log_read p by v a past h = absurd h
 
 fuo_read_only : (p : ℕ) (by : ℕ) (v : Verb) (a : Answer) (past : List Event) → IsReading v → region_fuo p ((record { by = by; verb = v; answer = a }) ∷ past) ≡ region_fuo p past
 fuo_read_only p by (Verb.Look q i) a past h = refl
@@ -83,6 +84,7 @@ fuo_read_only p by (Verb.ReadRow v k) a past h = refl
 fuo_read_only p by (Verb.PutSlot q i b v) a past h = absurd h
 fuo_read_only p by (Verb.RaiseFuo q u) a past h = absurd h
 fuo_read_only p by (Verb.WriteRow j k x) a past h = absurd h
+fuo_read_only p by v a past h = absurd h
 
 pub log_kept : (q p : ℕ) (going : Bool) (old new : List Event) → ReadsOnce q going old new → region_log p (history new) ≡ region_log p (history old)
 log_kept q p true old new s =

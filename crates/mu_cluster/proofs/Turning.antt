@@ -9,7 +9,9 @@ use Rattle.mu_model.specs.declared.event.Verb.{Verb}
 use Rattle.mu_model.specs.declared.event.Answer.{Answer}
 use Rattle.mu_model.specs.Histories.{history, part}
 use Rattle.mu_model.specs.Regions.{region_fuo}
-use Rattle.mu_model.specs.Answers.{answer_of}
+use Rattle.mu_model.specs.Answers.{answer_of, put_answer}
+use Rattle.mu_model.specs.First.{IsFirstLegal, IsFirstLegalHistory}
+use Rattle.mu_model.proofs.First.{never_drained}
 use Rattle.mu_model.specs.Contents.{row_count}
 use Rattle.mu_cluster.specs.declared.leader.Stage.{Stage}
 use Rattle.mu_cluster.specs.declared.leader.Leader.{Leader}
@@ -27,19 +29,20 @@ history-push events e = reverse-append events (e ∷ [])
 pub part-own : (r : ℕ) (e : Event) (past : List Event) → e.by ≡ r → part r (e ∷ past) ≡ e ∷ part r past
 part-own r e past is = rw (eq-eqb e.by r is) refl
 
-done : (c : Config) (i : ℕ) (stage : Stage) (past : List Event) → answer_of c 0 past (leader_verb c i stage) ≡ Answer.Done
-done c i (Stage.Write word) past = refl
-done c i (Stage.Put region) past = refl
-done c i (Stage.Raise region) past = refl
+done : (c : Config) (i : ℕ) (stage : Stage) (past : List Event) → IsFirstLegalHistory c past → answer_of c 0 past (leader_verb c i stage) ≡ Answer.Done
+done c i (Stage.Write word) past h = refl
+done c i (Stage.Put region) past h = ap put_answer (never_drained c 0 region past h)
+done c i (Stage.Raise region) past h = refl
 
 pub lead_stands : (c c' : Config) (i : ℕ) (stage : Stage) (after : Leader) (old new : List Event) (verb : Verb) (answer : Answer)
     → Leads c i stage (part 0 (history old)) (history old) → i < row_count c → verb ≡ leader_verb c i stage → answer ≡ answer_of c 0 (history old) verb
-    → new ≡ old ++ (record { by = 0; verb = verb; answer = answer }) ∷ [] → after ≡ leader_after i stage → c' ≡ c
+    → new ≡ old ++ (record { by = 0; verb = verb; answer = answer }) ∷ [] → after ≡ leader_after i stage → c' ≡ c → IsFirstLegal c' new
     → Leads c' after.position after.stage (part 0 (history new)) (history new)
-lead_stands c c' i stage after old new verb answer l low is_verb is_answer is_new is_after same =
+lead_stands c c' i stage after old new verb answer l low is_verb is_answer is_new is_after same legal =
+    let longer : IsFirstLegalHistory c (event verb answer ∷ history old) = subst (λ (h : List Event). IsFirstLegalHistory c h) (ap history is_new ∙ history-push old (event verb answer)) (subst (λ (k : Config). IsFirstLegal k new) same legal) in
     let made : history new ≡ led c i stage ∷ history old =
     ap history is_new ∙ history-push old (record { by = 0; verb = verb; answer = answer })
-    ∙ ap (λ (a : Answer). event verb a ∷ history old) (is_answer ∙ ap (λ v. answer_of c 0 (history old) v) is_verb ∙ done c i stage (history old))
+    ∙ ap (λ (a : Answer). event verb a ∷ history old) (is_answer ∙ ap (λ v. answer_of c 0 (history old) v) is_verb ∙ done c i stage (history old) longer.0)
     ∙ ap (λ v. event v Answer.Done ∷ history old) is_verb in
     let next = leads_next c i stage (part 0 (history old)) (history old) l low in
     let onto : Leads c (leader_after i stage).position (leader_after i stage).stage (part 0 (history new)) (history new) = subst (λ (h : List Event). Leads c (leader_after i stage).position (leader_after i stage).stage (part 0 h) h) (sym made) next in

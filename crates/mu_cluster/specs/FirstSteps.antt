@@ -167,6 +167,7 @@ IsReading (Verb.Fuo p) = ⊤
 IsReading (Verb.RaiseFuo p u) = ⊥
 IsReading (Verb.WriteRow j k x) = ⊥
 IsReading (Verb.ReadRow v k) = ⊤
+IsReading _ = ⊥
 
 abbrev pub ReadsOnce : ℕ → Bool → List Event → List Event → Type 0
 ReadsOnce r true old new = (e : Event) × (e.by ≡ r) × IsReading e.verb × (new ≡ old ++ e ∷ [])

@@ -70,6 +70,7 @@ FirstNeeds c r mine (Verb.RaiseFuo p u) = (r ≡ 0) × (p < 3) × (u ≤ length 
 FirstNeeds c r mine (Verb.Fuo p) = p ≡ r
 FirstNeeds c r mine (Verb.Look p i) = (p ≡ r) × (i < row_count c)
 FirstNeeds c r mine (Verb.ReadRow v k) = (v < row_count c) × (k < 12)
+FirstNeeds c r mine _ = ⊥
 
 -- r, with this part so far, may make the verb
 pub record FirstAllowed (c : Config) (r : ℕ) (mine : List Event) (verb : Verb) : Type 0 where

@@ -1,13 +1,67 @@
 //! What a step answers, computed from the list of events so far.
-ghost use Rattle.std.specs.Prelude.{◌≡◌, ℕ, ◌+◌, ◌++◌, [], ◌∷◌, ◌==◌, List, length, slice_get, slice_set, if◌then◌else◌};
+ghost use Rattle.std.specs.List.{slice_get};
+ghost use Rattle.std.specs.Prelude.{List, [], if◌then◌else◌, length, set, ℕ, ◌++◌, ◌<◌, ◌==◌, ◌^◌, ◌∷◌, ◌≡◌};
+ghost use Rattle.mu_model.specs.Answers.{answer_of, drained};
 ghost use Rattle.mu_model.specs.Histories.{history};
-ghost use Rattle.mu_model.specs.Regions.{region_log, region_fuo, row_word};
-ghost use Rattle.mu_model.specs.Answers.{answer_of};
+ghost use Rattle.mu_model.specs.Regions.{asks, beats, fence, fence_grant, region_fuo, region_head, region_log, region_min, row_word};
 
 use crate::config::Config;
-use crate::event::{Answer, Event, Verb};
+use crate::event::{Answer, Event, Fence, Target, Verb};
+use crate::leadership::grant_noted;
 
-/// The FUO of the region `p`.
+/// The fence of `p`.
+fn fence_of(p: u8, events: &[Event]) -> Fence
+    requires { fence_grant p (history events.now) < 2 ^ 32 }
+    ensures { result ≡ fence p (history events.now) }
+{
+    let mut fence = Fence {
+        owner: None,
+        grant: 0,
+        closing: false,
+        target: Target::None,
+    };
+    for e in events {
+        match (e.verb, e.answer) {
+            (Verb::Grant(w), _) => {
+                if e.by == p {
+                    fence.owner = Some(w);
+                    fence.grant = fence.grant.saturating_add(1);
+                    fence.closing = false;
+                    fence.target = Target::None;
+                }
+            }
+            (Verb::Close, _) => {
+                if e.by == p {
+                    fence.closing = true;
+                }
+            }
+            (Verb::Enter(q, t), Answer::Entered) => {
+                if q == p {
+                    fence.target = t;
+                }
+            }
+            _ => {}
+        }
+    }
+    fence
+}
+
+/// The minimum of `p`.
+fn minimum_of(p: u8, events: &[Event]) -> u32
+    ensures { result ≡ region_min p (history events.now) }
+{
+    let mut minimum = 0;
+    for e in events {
+        if let (Verb::PutMin(q, b), Answer::Done) = (e.verb, e.answer) {
+            if q == p {
+                minimum = b;
+            }
+        }
+    }
+    minimum
+}
+
+/// The FUO of `p`.
 fn fuo_of(p: u8, events: &[Event]) -> u16
     ensures { result ≡ region_fuo p (history events.now) }
 {
@@ -20,6 +74,51 @@ fn fuo_of(p: u8, events: &[Event]) -> u16
         }
     }
     fuo
+}
+
+/// The head of `p`.
+fn head_of(p: u8, events: &[Event]) -> u16
+    ensures { result ≡ region_head p (history events.now) }
+{
+    let mut head: u16 = 0;
+    for e in events {
+        if let Verb::RaiseHead(h) = e.verb {
+            if e.by == p {
+                head = head.max(h);
+            }
+        }
+    }
+    head
+}
+
+/// How many beats `q` made.
+fn beats_of(q: u8, events: &[Event]) -> u64
+    ensures { result ≡ beats q (history events.now) }
+{
+    let mut count: u64 = 0;
+    for e in events {
+        if let Verb::Beat = e.verb {
+            if e.by == q {
+                count += 1;
+            }
+        }
+    }
+    count
+}
+
+/// How often `w` asked `p`.
+fn asks_of(w: u8, p: u8, events: &[Event]) -> u64
+    ensures { result ≡ asks w p (history events.now) }
+{
+    let mut count: u64 = 0;
+    for e in events {
+        if let Verb::Ask(q) = e.verb {
+            if e.by == w && q == p {
+                count += 1;
+            }
+        }
+    }
+    count
 }
 
 /// Word `k` of the row of the payload number `v`.
@@ -37,7 +136,7 @@ fn word_of(v: u16, k: u8, events: &[Event]) -> u64
     word
 }
 
-/// How long the log of the region `p` is.
+/// How long the log of `p` is.
 fn log_length(p: u8, events: &[Event]) -> u64
     ensures { result ≡ length (region_log p (history events.now)) }
 {
@@ -61,8 +160,7 @@ fn entry_after(
     j: u16,
     put: (u32, u16),
 ) -> Option<(u32, u16)>
-    ensures { (log : List (ℕ × ℕ)) → length log ≡ count → slice_get log i ≡ entry
-        → result ≡ slice_get (if j == length log then log ++ put ∷ [] else slice_set log j put) i }
+    ensures { (log : List (ℕ × ℕ)) → length log ≡ count → slice_get log i ≡ entry → result ≡ slice_get (if j == length log then log ++ put ∷ [] else set log j put) i }
 {
     if j == i && u64::from(j) <= count {
         Some(put)
@@ -71,7 +169,7 @@ fn entry_after(
     }
 }
 
-/// What stands in the log of the region `p` at `i`.
+/// What stands in the log of `p` at `i`.
 fn entry_at(p: u8, i: u16, events: &[Event]) -> Option<(u32, u16)>
     ensures { result ≡ slice_get (region_log p (history events.now)) i }
 {
@@ -90,12 +188,52 @@ fn entry_at(p: u8, i: u16, events: &[Event]) -> Option<(u32, u16)>
     entry
 }
 
-/// What the replica `by` is answered to `verb` after `events`. Takes no memory, and the time of a
-/// walk over the events.
+/// Whether `p` was drained since the last `Enter` of `r` there.
+fn is_drained(r: u8, p: u8, events: &[Event]) -> bool
+    ensures { result ≡ drained r p (history events.now) }
+{
+    let mut drained = false;
+    for e in events {
+        match e.verb {
+            Verb::Enter(q, _) => {
+                if e.by == r && q == p {
+                    drained = false;
+                }
+            }
+            Verb::Drain => {
+                if e.by == p {
+                    drained = true;
+                }
+            }
+            _ => {}
+        }
+    }
+    drained
+}
+
+/// What the replica `by` is answered to `verb` after `events`, on condition that each region was granted
+/// fewer than 2^32 times. Takes no memory, and the time of a walk over the events.
 pub fn answers(config: &Config, events: &[Event], by: u8, verb: &Verb) -> Answer
+    requires few { (p : ℕ) → fence_grant p (history events.now) < 2 ^ 32 }
     ensures { result ≡ answer_of config.now by (history events.now) verb.now }
 {
     match *verb {
+        Verb::Fence(p) => Answer::Seen(fence_of(p, events)),
+        Verb::Min(p) => Answer::Number(u64::from(minimum_of(p, events))),
+        Verb::Enter(p, _) => {
+            let fence = fence_of(p, events);
+            match grant_noted(by, p, events) {
+                Some(g) if !fence.closing && fence.grant == g => Answer::Entered,
+                _ => Answer::Lost(fence),
+            }
+        }
+        Verb::PutMin(p, _) | Verb::PutSlot(p, _, _, _) => {
+            if is_drained(by, p, events) {
+                Answer::Missed
+            } else {
+                Answer::Done
+            }
+        }
         Verb::Look(p, i) => {
             if u64::from(i) + u64::from(config.ring) < log_length(p, events) {
                 Answer::Past
@@ -107,7 +245,18 @@ pub fn answers(config: &Config, events: &[Event], by: u8, verb: &Verb) -> Answer
             }
         }
         Verb::Fuo(p) => Answer::Number(u64::from(fuo_of(p, events))),
+        Verb::Head(q) => Answer::Number(u64::from(head_of(q, events))),
+        Verb::ReadBeat(q) => Answer::Number(beats_of(q, events)),
         Verb::ReadRow(v, k) => Answer::Number(word_of(v, k, events)),
-        Verb::PutSlot(_, _, _, _) | Verb::RaiseFuo(_, _) | Verb::WriteRow(_, _, _) => Answer::Done,
+        Verb::ReadAsk(w) => Answer::Number(asks_of(w, by, events)),
+        Verb::Close => Answer::Seen(fence_of(by, events)),
+        Verb::Ask(_)
+        | Verb::RaiseFuo(_, _)
+        | Verb::WriteRow(_, _, _)
+        | Verb::RaiseHead(_)
+        | Verb::Beat
+        | Verb::LookTarget
+        | Verb::Drain
+        | Verb::Grant(_) => Answer::Done,
     }
 }

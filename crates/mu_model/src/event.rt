@@ -24,10 +24,20 @@ pub struct Fence {
     pub target: Target,
 }
 
-/// One step on one word. Positions of the log count from 0; a payload number is 4,096 times a
-/// replica and the row that it wrote.
+/// One step on one word. Regions and replicas are ids from 0. Positions of the log count from 0; a
+/// payload number is 4,096 times a replica and the row that it wrote.
 #[derive(Clone, Copy, Debug, PartialEq, Eq)]
 pub enum Verb {
+    /// Asks a region for permission to write.
+    Ask(u8),
+    /// Reads the fence of a region.
+    Fence(u8),
+    /// Reads the minimum of a region.
+    Min(u8),
+    /// Names at the fence of a region what the replica is about to write.
+    Enter(u8, Target),
+    /// Puts into the minimum of a region a proposal number.
+    PutMin(u8, u32),
     /// Looks at a position of the log of a region.
     Look(u8, u16),
     /// Puts into the log of a region, at a position, under a proposal number, a payload number.
@@ -36,10 +46,28 @@ pub enum Verb {
     Fuo(u8),
     /// Raises the FUO of a region.
     RaiseFuo(u8, u16),
+    /// Reads the head of a replica.
+    Head(u8),
+    /// Reads how often a replica has beaten.
+    ReadBeat(u8),
     /// Writes into one of the own rows, at a word, a value.
     WriteRow(u16, u8, u64),
     /// Reads of the row of a payload number a word.
     ReadRow(u16, u8),
+    /// Raises the own head.
+    RaiseHead(u16),
+    /// Beats.
+    Beat,
+    /// Reads how often a replica asked the own region.
+    ReadAsk(u8),
+    /// Closes the own fence, so that nobody enters any more.
+    Close,
+    /// Loads the word that the closed fence names.
+    LookTarget,
+    /// Puts the word just loaded again under the next stamp, so that a late put misses.
+    Drain,
+    /// Grants the own region to a replica.
+    Grant(u8),
 }
 
 /// What a step finds.

@@ -43,6 +43,13 @@ pub enum End {
     Stopped,
     /// Its budget of steps was spent.
     Budget,
+    /// It looked at a position that it still had to read, and the place holds a later one already.
+    Outrun {
+        /// The region that it looked at.
+        replica: u8,
+        /// The position that it looked at.
+        position: u16,
+    },
     /// It applied all there is to apply.
     Finished {
         /// The heads of the replicas as it last read them, 0 where it read none.

@@ -8,7 +8,7 @@ use Rattle.kv_store.specs.declared.command.Op.TheVariants.{Put, Get, Del, Swap, 
 use Rattle.kv_store.specs.declared.store.Reply.{Reply}
 use Rattle.kv_store.specs.declared.store.Reply.TheVariants as reply
 use Rattle.mu_model.specs.declared.script.End.{End}
-use Rattle.mu_model.specs.declared.script.End.TheVariants.{Stopped, Budget, Finished}
+use Rattle.mu_model.specs.declared.script.End.TheVariants.{Stopped, Budget, Outrun, Finished}
 
 -- the client and the number of a command
 abbrev pub name_of : Request → List ℕ
@@ -34,4 +34,5 @@ abbrev pub end_words : Option End → List ℕ
 end_words None = []
 end_words (Some Stopped) = codes "stopped"
 end_words (Some Budget) = codes "budget"
+end_words (Some (Outrun region position)) = codes "outrun " ++ decimal region ++ codes " " ++ decimal position
 end_words (Some (Finished heads)) = codes "finished"

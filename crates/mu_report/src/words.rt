@@ -76,16 +76,22 @@ pub fn push_reply(line: &mut Line, reply: &Reply)
     }
 }
 
-/// Adds how a replica ended, and nothing where that is not told: at most 8 bytes.
+/// Adds how a replica ended, and nothing where that is not told: at most 16 bytes.
 pub fn push_end(line: &mut Line, end: Option<End>)
-    requires { length line.old + 8 ≤ LINE_BYTES }
+    requires { length line.old + 31 ≤ LINE_BYTES }
     ensures bytes { line.new ≡ line.old ++ end_words end }
-    ensures room { length line.new ≤ length line.old + 8 }
+    ensures room { length line.new ≤ length line.old + 16 }
 {
     match end {
         None => {}
         Some(End::Stopped) => line.push(b"stopped"),
         Some(End::Budget) => line.push(b"budget"),
+        Some(End::Outrun { replica, position }) => {
+            line.push(b"outrun ");
+            line.push_number(u64::from(replica));
+            line.push(b" ");
+            line.push_number(u64::from(position));
+        }
         Some(End::Finished { heads: _ }) => line.push(b"finished"),
     }
 }

@@ -23,4 +23,4 @@ returns-then-from-len-clause-stands c =
     let leader = c.args.leader.now in
     let low : leader.position < row_count fabric.config = omega (arith, ap row_count c.config.ensures) in
     let is_verb = c.verb-verb.ensures ∙ ap (λ k. leader_verb k leader.position leader.stage) c.config-then-from-len.ensures in
-    lead_stands fabric.config c.step.new.self.config leader.position leader.stage c.advance.new.self fabric.events c.step.new.self.events c.verb-verb.result c.step.result c.requires.stands low is_verb c.step.ensures.answer c.step.ensures.events c.advance.ensures c.step.ensures.config
+    lead_stands fabric.config c.step.new.self.config leader.position leader.stage c.advance.new.self fabric.events c.step.new.self.events c.verb-verb.result c.step.result c.requires.stands low is_verb c.step.ensures.answer c.step.ensures.events c.advance.ensures c.step.ensures.config c.step.ensures.legal

@@ -1,8 +1,20 @@
-use Rattle.std.proofs.Common.{◌<◌, length, sym, subst, arith}
+use Rattle.std.proofs.Common.{ℕ, ◌≡◌, ◌<◌, length, sym, ap, subst, arith}
 use Rattle.list_fabric.specs.Kept.{Kept}
 use Rattle.mu_model.specs.Histories.{history, part}
+use Rattle.mu_model.specs.Regions.{fence_grant}
+use Rattle.mu_model.proofs.First.{never_granted}
 use Rattle.list_fabric.proofs.Room.{room_for}
 use Rattle.list_fabric.proofs.first_fabric.FirstFabric.step.Goals as goal
+
+pub answers-answer-requires : goal.answers-answer-requires
+answers-answer-requires c = record { few = few }
+  where
+    few : (p : ℕ) → fence_grant p (history c.as_slice.result.now) < 4294967296
+    few p =
+        let fabric = c.self.inside in
+        let none : fence_grant p (history fabric.kept.events) ≡ 0 = never_granted fabric.config p (history fabric.kept.events) c.self.invariant.legal in
+        let same : fence_grant p (history c.as_slice.result.now) ≡ fence_grant p (history fabric.kept.events) = ap (λ l. fence_grant p (history l)) c.as_slice.ensures in
+        omega (arith, none, same)
 
 pub push-requires : goal.push-requires
 push-requires c =

@@ -1,0 +1,5 @@
+pub mod Agreement
+pub mod Laws
+pub mod Paces
+pub mod Possible
+pub mod Sessions

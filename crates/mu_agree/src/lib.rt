@@ -1,0 +1,152 @@
+//! The laws of agreement: what holds of every legal list of events, and of every possible part.
+#![tactic(auto)]
+
+ghost use Rattle.mu_agree.specs.Agreement.{AtMostOneChosen, FuoIsChosen, FuoIsKept, HeadWithinFuo, KnownAgree, KnownIsChosen, LogWithinFuo, LogWithinReach, LooksAreKept, PlacesAreKept};
+ghost use Rattle.mu_agree.specs.Laws.{MinimumRises, NumbersDiffer, OnlyOwnersPut, SlotNumbersRise};
+ghost use Rattle.mu_agree.specs.Possible.{PartsFind, PartsFit, PartsInSession, PartsKeep, PartsMarkOnce, PartsMove, PartsReadRight, PartsShorten, PartsStand};
+ghost use Rattle.mu_agree.specs.Sessions.{KnownInSession, KnownMarkedOnce, KnownStands, MarkedOnce, RowsComeFirst, RowsReadRight};
+
+/// No two leaderships have the same number.
+pub fn numbers_differ()
+    ensures { NumbersDiffer }
+{}
+
+/// A put lands at a region only while its writer owns it, and before it is drained.
+pub fn only_owners_put()
+    ensures { OnlyOwnersPut }
+{}
+
+/// The minimum of a region never goes down.
+pub fn minimum_rises()
+    ensures { MinimumRises }
+{}
+
+/// The numbers that stand in one slot never go down.
+pub fn slot_numbers_rise()
+    ensures { SlotNumbersRise }
+{}
+
+/// At most one value is chosen per position.
+pub fn at_most_one_chosen()
+    ensures { AtMostOneChosen }
+{}
+
+/// Each known entry is chosen.
+pub fn known_is_chosen()
+    ensures { KnownIsChosen }
+{}
+
+/// Below the FUO of a region its log has chosen values.
+pub fn fuo_is_chosen()
+    ensures { FuoIsChosen }
+{}
+
+/// Of any two known lists one is a prefix of the other.
+pub fn known_agree()
+    ensures { KnownAgree }
+{}
+
+/// Below the FUO of a region its log holds the chosen value for good.
+pub fn fuo_is_kept()
+    ensures { FuoIsKept }
+{}
+
+/// The head of a replica is at most the FUO of its region.
+pub fn head_within_fuo()
+    ensures { HeadWithinFuo }
+{}
+
+/// A look at what a replica still has to read is past only where it is marked.
+pub fn looks_are_kept()
+    ensures { LooksAreKept }
+{}
+
+/// No place that a replica still has to read is used again, unless it is marked.
+pub fn places_are_kept()
+    ensures { PlacesAreKept }
+{}
+
+/// Each known entry stands for a batch or a mark.
+pub fn known_stands()
+    ensures { KnownStands }
+{}
+
+/// All rows of a batch are written before it is put.
+pub fn rows_come_first()
+    ensures { RowsComeFirst }
+{}
+
+/// The rows of a known entry read as the configuration has them.
+pub fn rows_read_right()
+    ensures { RowsReadRight }
+{}
+
+/// Every known list is in session.
+pub fn known_in_session()
+    ensures { KnownInSession }
+{}
+
+/// At most one mark of each replica is chosen.
+pub fn marked_once()
+    ensures { MarkedOnce }
+{}
+
+/// Every known list has at most one mark of each replica.
+pub fn known_marked_once()
+    ensures { KnownMarkedOnce }
+{}
+
+/// What came before the last event of a possible part is possible.
+pub fn parts_shorten()
+    ensures { PartsShorten }
+{}
+
+/// What a possible part knows is in session.
+pub fn parts_in_session()
+    ensures { PartsInSession }
+{}
+
+/// What a possible part knows stands for batches and marks.
+pub fn parts_stand()
+    ensures { PartsStand }
+{}
+
+/// A possible part knows at most one mark of each replica.
+pub fn parts_mark_once()
+    ensures { PartsMarkOnce }
+{}
+
+/// A possible part reads the rows of what it knows right.
+pub fn parts_read_right()
+    ensures { PartsReadRight }
+{}
+
+/// A possible part finds entries below the FUOs that it read.
+pub fn parts_find()
+    ensures { PartsFind }
+{}
+
+/// A possible part of version 1 finds no place used again that it still has to read.
+pub fn parts_keep()
+    ensures { PartsKeep }
+{}
+
+/// A log is never longer than the FUO of its region and the ring.
+pub fn log_within_fuo()
+    ensures { LogWithinFuo }
+{}
+
+/// While a replica owns a region, its log reaches no further than the ring beyond the FUO that it read, or its own puts.
+pub fn log_within_reach()
+    ensures { LogWithinReach }
+{}
+
+/// A fence read after a past look at what a leader still has to bring shows another grant.
+pub fn parts_move()
+    ensures { PartsMove }
+{}
+
+/// While a possible part doesn't know some command, there is a position for it.
+pub fn parts_fit()
+    ensures { PartsFit }
+{}

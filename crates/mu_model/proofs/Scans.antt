@@ -1,0 +1,136 @@
+-- Steps of a loop over a list of events.
+use Rattle.std.proofs.Common.{◌⊎◌, inl, inr, ◌≡◌, ℕ, zero, suc, ◌+◌, ◌-◌, ◌%◌, ◌<◌, ◌≤◌, Bool, true, false, List, [], ◌∷◌, ◌++◌, refl, sym, ◌∙◌, ap, arith, None, length, take, get_or, ◌&&◌, ◌==◌, eqb-true}
+use Rattle.std.specs.Prelude.{if◌then◌else◌, ◌||◌}
+use Rattle.mu_model.specs.declared.config.Config.{Config}
+use Rattle.mu_model.specs.Contents.{client_of, command_count, is_mark, marked, number_of, numbers_in, rows_from, rows_of, session}
+use Rattle.mu_model.specs.Histories.{all_below, history, newer_or, newest, since}
+use Rattle.mu_model.specs.Knowledge.{fetched_prefix, has_entry}
+use Rattle.std.proofs.lemmas.Bool.{and_parts, cases_eq, eqb-false, and_from, cases_lt}
+use Rattle.std.specs.declared.option.Option.{Option}
+use Rattle.std.proofs.lemmas.List.{reverse-append, take_more, append-nil, append_assoc, length-append}
+use mathlib.Core.List.{reverse}
+use Rattle.mu_model.specs.declared.event.Event.{Event}
+
+-- one more event is the newest
+pub history_more : (xs : List Event) (i : ℕ) (e : Event) → i < length xs → e ≡ get_or xs i e → history (take (i + 1) xs) ≡ e ∷ history (take i xs)
+history_more xs i e h is = ap reverse (take_more xs i e h) ∙ reverse-append (take i xs) (get_or xs i e ∷ []) ∙ ap (λ x. x ∷ history (take i xs)) (sym is)
+
+pub newest_begun : {A : Type 0} (tells : Event → Option A) (test : Event → Bool) (e : Event) (past : List Event) → test e ≡ true → newest tells (since test (e ∷ past)) ≡ None
+newest_begun tells test e past h = rw h refl
+
+pub newest_told : {A : Type 0} (tells : Event → Option A) (test : Event → Bool) (e : Event) (past : List Event) → test e ≡ false → newest tells (since test (e ∷ past)) ≡ newer_or (tells e) (newest tells (since test past))
+newest_told tells test e past h = rw h refl
+
+-- whether a mark is among the values after one more
+pub marked_after : (c : Config) (q v : ℕ) (xs : List ℕ) → marked c q (xs ++ v ∷ []) ≡ (marked c q xs || is_mark c q v)
+marked_after c q v [] = go (is_mark c q v)
+  where
+    go : (t : Bool) → (t || false) ≡ (false || t)
+    go true = refl
+    go false = refl
+marked_after c q v (x ∷ xs) = ap (λ t. is_mark c q x || t) (marked_after c q v xs) ∙ go (is_mark c q x) (marked c q xs) (is_mark c q v)
+  where
+    go : (t u w : Bool) → (t || (u || w)) ≡ ((t || u) || w)
+    go true u w = refl
+    go false u w = refl
+
+-- how many of the first values are there, after one more
+front_length : (c : Config) (r : ℕ) (past : List Event) (xs : List ℕ) → length (fetched_prefix c r past xs) ≤ length xs
+front_length c r past [] = omega arith
+front_length c r past (x ∷ xs) = go (has_entry c r x past) (front_length c r past xs)
+  where
+    go : (t : Bool) → length (fetched_prefix c r past xs) ≤ length xs → length (if t then (x ∷ fetched_prefix c r past xs) else []) ≤ suc (length xs)
+    go true l = omega arith
+    go false l = omega arith
+
+front_whole : (c : Config) (r v : ℕ) (past : List Event) (xs : List ℕ) → length (fetched_prefix c r past xs) ≡ length xs → has_entry c r v past ≡ true → length (fetched_prefix c r past (xs ++ v ∷ [])) ≡ length xs + 1
+front_whole c r v past [] e h = rw h refl
+front_whole c r v past (x ∷ xs) e h = go (has_entry c r x past) e (front_whole c r v past xs)
+  where
+    go : (t : Bool) → length (if t then (x ∷ fetched_prefix c r past xs) else []) ≡ suc (length xs) → (length (fetched_prefix c r past xs) ≡ length xs → has_entry c r v past ≡ true → length (fetched_prefix c r past (xs ++ v ∷ [])) ≡ length xs + 1)
+        → length (if t then (x ∷ fetched_prefix c r past (xs ++ v ∷ [])) else []) ≡ suc (length xs) + 1
+    go true e ih = let k = ih (omega arith) h in omega arith
+    go false e ih = absurd (omega arith)
+
+front_stays : (c : Config) (r v : ℕ) (past : List Event) (xs : List ℕ) → ((length (fetched_prefix c r past xs) ≡ length xs) → ⊥) ⊎ (has_entry c r v past ≡ false) → length (fetched_prefix c r past (xs ++ v ∷ [])) ≡ length (fetched_prefix c r past xs)
+front_stays c r v past [] (inl d) = absurd (d refl)
+front_stays c r v past [] (inr h) = rw h refl
+front_stays c r v past (x ∷ xs) o = go (has_entry c r x past) o (front_stays c r v past xs)
+  where
+    go : (t : Bool) → ((length (if t then (x ∷ fetched_prefix c r past xs) else []) ≡ suc (length xs)) → ⊥) ⊎ (has_entry c r v past ≡ false)
+        → (((length (fetched_prefix c r past xs) ≡ length xs) → ⊥) ⊎ (has_entry c r v past ≡ false) → length (fetched_prefix c r past (xs ++ v ∷ [])) ≡ length (fetched_prefix c r past xs))
+        → length (if t then (x ∷ fetched_prefix c r past (xs ++ v ∷ [])) else []) ≡ length (if t then (x ∷ fetched_prefix c r past xs) else [])
+    go true (inl d) ih = ap suc (ih (inl (λ e. d (ap suc e))))
+    go true (inr h) ih = ap suc (ih (inr h))
+    go false o ih = refl
+
+pub front_after : (c : Config) (r v : ℕ) (past : List Event) (xs : List ℕ) → length (fetched_prefix c r past (xs ++ v ∷ [])) ≡ (if (length (fetched_prefix c r past xs) == length xs) && has_entry c r v past then length (fetched_prefix c r past xs) + 1 else length (fetched_prefix c r past xs))
+front_after c r v past xs = go (length (fetched_prefix c r past xs) == length xs) refl (has_entry c r v past) refl
+  where
+    go : (t : Bool) → (length (fetched_prefix c r past xs) == length xs) ≡ t → (u : Bool) → has_entry c r v past ≡ u → length (fetched_prefix c r past (xs ++ v ∷ [])) ≡ (if t && u then length (fetched_prefix c r past xs) + 1 else length (fetched_prefix c r past xs))
+    go true ht true hu = let e = eqb-true (length (fetched_prefix c r past xs)) (length xs) ht in let k = front_whole c r v past xs e hu in omega arith
+    go true ht false hu = front_stays c r v past xs (inr hu)
+    go false ht u hu = front_stays c r v past xs (inl (eqb-false (length (fetched_prefix c r past xs)) (length xs) ht))
+
+-- each number below n passes where all do
+pub all_at : (n : ℕ) (f : ℕ → Bool) → all_below n f ≡ true → (p : ℕ) → p < n → f p ≡ true
+all_at zero f h p k = absurd (omega arith)
+all_at (suc n) f h p k = elim (cases_eq p n) [ inl e ↦ rw e (and_parts (f n) (all_below n f) h).0 | inr e ↦ all_at n f (and_parts (f n) (all_below n f) h).1 p (omega arith) ]
+
+pub session_append : (c : Config) (client : ℕ) (xs ys : List ℕ) → session c client (xs ++ ys) ≡ session c client xs ++ session c client ys
+session_append c client [] ys = refl
+session_append c client (v ∷ xs) ys =
+    ap (λ z. numbers_in c client (rows_of c v) ++ z) (session_append c client xs ys)
+    ∙ sym (append_assoc (numbers_in c client (rows_of c v)) (session c client xs) (session c client ys))
+
+-- how many commands of a client are there, after one entry more
+pub taken_after : (c : Config) (client v : ℕ) (xs : List ℕ) → command_count c client (xs ++ v ∷ []) ≡ command_count c client xs + length (numbers_in c client (rows_of c v))
+taken_after c client v xs =
+    ap (λ z. length z) (session_append c client xs (v ∷ []) ∙ ap (λ z. session c client xs ++ z) (append-nil (numbers_in c client (rows_of c v))))
+    ∙ length-append (session c client xs) (numbers_in c client (rows_of c v))
+
+row_more : (c : Config) (client n j : ℕ) → length (numbers_in c client (rows_from (suc n) j)) ≡ length (numbers_in c client (rows_from n j)) + (if client_of c (j + n) == client then 1 else 0)
+row_more c client zero j = let none : j ≡ j + 0 = omega arith in ap (λ z. length (if client_of c z == client then (number_of c z ∷ []) else [])) none ∙ go (client_of c (j + 0) == client)
+  where
+    go : (t : Bool) → length (if t then (number_of c (j + 0) ∷ []) else []) ≡ 0 + (if t then 1 else 0)
+    go true = refl
+    go false = refl
+row_more c client (suc n) j =
+    let next : j + 1 + n ≡ j + suc n = omega arith in
+    go (client_of c j == client) (row_more c client n (j + 1) ∙ ap (λ z. length (numbers_in c client (rows_from n (j + 1))) + (if client_of c z == client then 1 else 0)) next)
+  where
+    go : (t : Bool) → length (numbers_in c client (rows_from (suc n) (j + 1))) ≡ length (numbers_in c client (rows_from n (j + 1))) + (if client_of c (j + suc n) == client then 1 else 0)
+        → length (if t then (number_of c j ∷ numbers_in c client (rows_from (suc n) (j + 1))) else numbers_in c client (rows_from (suc n) (j + 1)))
+        ≡ length (if t then (number_of c j ∷ numbers_in c client (rows_from n (j + 1))) else numbers_in c client (rows_from n (j + 1))) + (if client_of c (j + suc n) == client then 1 else 0)
+    go true e = let x = e in omega arith
+    go false e = e
+
+-- one row more
+pub rows_after : (c : Config) (client n j : ℕ) → length (numbers_in c client (rows_from (n + 1) j)) ≡ length (numbers_in c client (rows_from n j)) + (if client_of c (j + n) == client then 1 else 0)
+rows_after c client n j = let one : n + 1 ≡ suc n = omega arith in ap (λ z. length (numbers_in c client (rows_from z j))) one ∙ row_more c client n j
+
+pub all_more : (f : ℕ → Bool) (n : ℕ) → all_below (n + 1) f ≡ (f n && all_below n f)
+all_more f n = let one : n + 1 ≡ suc n = omega arith in ap (λ z. all_below z f) one
+
+pub all_each : (n : ℕ) (f : ℕ → Bool) → all_below n f ≡ true → (j : ℕ) → j < n → f j ≡ true
+all_each n f h j l = all_at n f h j l
+
+pub each_all : (n : ℕ) (f : ℕ → Bool) → ((j : ℕ) → j < n → f j ≡ true) → all_below n f ≡ true
+each_all zero f h = refl
+each_all (suc n) f h = and_from (f n) (all_below n f) (h n (omega arith)) (each_all n f (λ j l. h j (omega arith)))
+
+-- the number just below is too small, or none is
+pub least_number : (b r x y : ℕ) → b % 8 ≡ r → (b < 16) ⊎ ((b ≤ x + 8) ⊎ (b ≤ y + 8)) → (n : ℕ) → n % 8 ≡ r → 8 ≤ n → x < n → y < n → b ≤ n
+least_number b r x y e o n f l m k = omega arith
+
+pub number_least : (b r x y : ℕ) → b % 8 ≡ r → 16 ≤ b → ((n : ℕ) → n % 8 ≡ r → 8 ≤ n → x < n → y < n → b ≤ n) → (b ≤ x + 8) ⊎ (b ≤ y + 8)
+number_least b r x y e l h = elim (cases_lt (x + 8) b) [
+  | inr m ↦ inl m
+  | inl m ↦ elim (cases_lt (y + 8) b) [
+    | inr k ↦ inr k
+    | inl k ↦ absurd (let z = h (b - 8) (omega arith) (omega arith) (omega arith) (omega arith) in omega arith)
+  ]
+]
+
+pub next_is : (b r x y : ℕ) → b % 8 ≡ r → ((n : ℕ) → n % 8 ≡ r → 8 ≤ n → x < n → y < n → b ≤ n) → (b < 16) ⊎ ((b ≤ x + 8) ⊎ (b ≤ y + 8))
+next_is b r x y e h = elim (cases_lt b 16) [ inl l ↦ inl l | inr l ↦ inr (number_least b r x y e l h) ]
