@@ -1,7 +1,6 @@
 -- Two majorities share a member.
-use Rattle.std.proofs.Common.{◌≡◌, ℕ, zero, suc, ◌+◌, ◌<◌, ◌≤◌, Bool, true, false, cond, ◌&&◌, refl, sym, arith, inl, inr, true≢false}
-use Rattle.std.proofs.lemmas.Bool.{and_parts, cases_eq}
-use Rattle.mu_model.specs.Histories.{all_below, count_below}
+use Rattle.std.proofs.Common.{◌≡◌, ℕ, zero, suc, ◌+◌, ◌<◌, ◌≤◌, Bool, true, false, cond, ◌&&◌, refl, sym, arith, true≢false}
+use Rattle.mu_model.specs.Histories.{count_below}
 use Rattle.mu_model.specs.Leaderships.{majority_of}
 
 step_both : (x y : Bool) (a b n m : ℕ) → a + b ≤ n + m → cond x (a + 1) a + cond y (b + 1) b ≤ suc n + cond (x && y) (m + 1) m

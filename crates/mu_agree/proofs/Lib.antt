@@ -30,4 +30,4 @@ pub mod Possible
 pub mod Reach
 pub mod Fitting
 pub mod Windows
-pub mod Witness
+pub mod Journals

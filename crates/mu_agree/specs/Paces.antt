@@ -3,9 +3,8 @@ use Rattle.std.specs.Prelude.{Bool, List, [], if◌then◌else◌, length, not, 
 use Rattle.mu_model.specs.declared.config.Config.{Config}
 use Rattle.mu_model.specs.declared.event.Event.{Event}
 use Rattle.mu_model.specs.Bounds.{cycle}
-use Rattle.mu_model.specs.Diligence.{has_to_ask}
+use Rattle.mu_model.specs.Diligence.{AsksInTime, ReadsInTime, has_to_ask}
 use Rattle.mu_model.specs.Histories.{has, since}
-use Rattle.mu_model.specs.Regions.{asks, beats}
 use Rattle.mu_model.specs.Steps.{is_ask_read, is_asking, is_beat, is_beat_read, is_fencing}
 use Rattle.mu_model.specs.Stretches.{is_replication}
 
@@ -43,3 +42,12 @@ asks_or_rests c r test past e = is_replication past e && (test e || not (has_to_
 pub record AsksRecently (c : Config) (r : ℕ) (past : List Event) : Type 0 where
   pub asks : (p : ℕ) → p < c.replicas → IsRecentStep (asks_or_rests c r (is_asking p)) (17 * c.replicas + 1) past
   pub fences : (p : ℕ) → p < c.replicas → IsRecentStep (asks_or_rests c r (is_fencing p)) (17 * c.replicas + 1) past
+
+-- who reads recently at each moment, and no beat twice in a round, reads in time in each stretch
+abbrev pub RecentReadsAreInTime : Type 0
+RecentReadsAreInTime =
+    (c : Config) (r : ℕ) (past : List Event) → ReadsRecently c r past → ((q : ℕ) → IsSpaced (is_beat_read q) (4 * c.replicas + 43) past) → ReadsInTime c r past
+
+-- who asks recently at each moment asks in time in each stretch
+abbrev pub RecentAsksAreInTime : Type 0
+RecentAsksAreInTime = (c : Config) (r : ℕ) (past : List Event) → AsksRecently c r past → AsksInTime c r past

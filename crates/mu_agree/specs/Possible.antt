@@ -9,7 +9,6 @@ use Rattle.mu_model.specs.declared.event.Verb.{Verb}
 use Rattle.mu_agree.specs.Agreement.{fuo_under, put_end}
 use Rattle.mu_model.specs.Allowed.{Allowed}
 use Rattle.mu_model.specs.Contents.{IsConfig, IsInSession, StandsForEntry, config_word, holds_all, is_batch, is_mark, rest_of, row_count}
-use Rattle.mu_model.specs.Histories.{before}
 use Rattle.mu_model.specs.Knowledge.{greatest_fuo_read, known}
 use Rattle.mu_model.specs.Leaderships.{leadership, noted_grant}
 use Rattle.mu_model.specs.Parts.{IsPossible}

@@ -2,7 +2,9 @@
 #![tactic(auto)]
 
 ghost use Rattle.mu_agree.specs.Agreement.{AtMostOneChosen, FuoIsChosen, FuoIsKept, HeadWithinFuo, KnownAgree, KnownIsChosen, LogWithinFuo, LogWithinReach, LooksAreKept, PlacesAreKept};
+ghost use Rattle.mu_agree.specs.Journals.{BeginningsAreDiligent, ObeysOnce};
 ghost use Rattle.mu_agree.specs.Laws.{MinimumRises, NumbersDiffer, OnlyOwnersPut, SlotNumbersRise};
+ghost use Rattle.mu_agree.specs.Paces.{RecentAsksAreInTime, RecentReadsAreInTime};
 ghost use Rattle.mu_agree.specs.Possible.{PartsFind, PartsFit, PartsInSession, PartsKeep, PartsMarkOnce, PartsMove, PartsReadRight, PartsShorten, PartsStand};
 ghost use Rattle.mu_agree.specs.Sessions.{KnownInSession, KnownMarkedOnce, KnownStands, MarkedOnce, RowsComeFirst, RowsReadRight};
 
@@ -149,4 +151,24 @@ pub fn parts_move()
 /// While a possible part doesn't know some command, there is a position for it.
 pub fn parts_fit()
     ensures { PartsFit }
+{}
+
+/// Each beginning of a diligent journal is diligent.
+pub fn beginnings_are_diligent()
+    ensures { BeginningsAreDiligent }
+{}
+
+/// A journal that obeys its script has no shorter beginning that does.
+pub fn obeys_once()
+    ensures { ObeysOnce }
+{}
+
+/// Who reads recently at each moment reads in time in each stretch.
+pub fn recent_reads_are_in_time()
+    ensures { RecentReadsAreInTime }
+{}
+
+/// Who asks recently at each moment asks in time in each stretch.
+pub fn recent_asks_are_in_time()
+    ensures { RecentAsksAreInTime }
 {}
