@@ -77,9 +77,9 @@ batch_once c i j v w past g h a b bv bw same l = go (chosen_sound c i v past h a
         let is : at.0 ≡ v = one_chosen c i ch.0 at.0 a.0 v past h ch.1 a.1 in
         let s = split sw.values i v (at.1 ∙ ap Some is) in
         let fronts : s.front ≡ sv.values = same_list s.front sv.values (s.count ∙ sym sv.count) (λ k p q d e.
-            let u = sw.chosen k p (subst (λ t. slice_get t k ≡ Some p) (sym s.is) (front_get s.front (v ∷ s.back) k p d)) in
-            let o = sv.chosen k q e in
-            one_chosen c k u.0 p o.0 q past h u.1 o.1) in
+        let u = sw.chosen k p (subst (λ t. slice_get t k ≡ Some p) (sym s.is) (front_get s.front (v ∷ s.back) k p d)) in
+        let o = sv.chosen k q e in
+        one_chosen c k u.0 p o.0 q past h u.1 o.1) in
         let client : ℕ = client_of c (v % 4096) in
         let own = batch_numbers c g client (rest_of c (v % 4096)) (v % 4096) (row_within c v bv) refl in
         let yes : length (numbers_in c client (rows_of c v)) ≡ suc (rest_of c (v % 4096)) = batch_length c v g bv in

@@ -147,9 +147,9 @@ chosen_in_session c past g h done [] s k = subst (IsInSession c) (sym (append-ni
 chosen_in_session c past g h done (v ∷ rest) s k =
     let x = chosen_sound c (length done) v past h (k (length done) v (get_middle done rest v)) in
     let same : x.values ≡ done = same_list x.values done x.count (λ i a b p q.
-        let u = x.chosen i a p in
-        let w = k i b (get_front done (v ∷ rest) i b q) in
-        one_chosen c i u.0 a w.0 b past h u.1 w.1) in
+    let u = x.chosen i a p in
+    let w = k i b (get_front done (v ∷ rest) i b q) in
+    one_chosen c i u.0 a w.0 b past h u.1 w.1) in
     let next : IsInSession c (done ++ v ∷ []) = entry_in_session c v done past g (subst (λ z. Fits c v z past) same x.fits) s in
     let whole : (done ++ v ∷ []) ++ rest ≡ done ++ v ∷ rest = append_assoc done (v ∷ []) rest in
     subst (IsInSession c) whole (chosen_in_session c past g h (done ++ v ∷ []) rest next (subst (λ z. AreChosen c z past) (sym whole) k))

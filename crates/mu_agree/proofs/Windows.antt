@@ -55,8 +55,8 @@ pub spaced_apart : (test : Event → Bool) (k : ℕ) (past : List Event) (later 
     → test later ≡ true → test earlier ≡ true → k ≤ length between
 spaced_apart test k past later earlier between older h s a b =
     let here : IsSpaced test k (later ∷ (between ++ earlier ∷ older)) =
-        spaced_older test k s.newer (later ∷ (between ++ earlier ∷ older))
-        (subst (λ x. IsSpaced test k (s.newer ++ later ∷ x)) (append_assoc between (earlier ∷ []) older) (subst (IsSpaced test k) s.is h)) in
+    spaced_older test k s.newer (later ∷ (between ++ earlier ∷ older))
+    (subst (λ x. IsSpaced test k (s.newer ++ later ∷ x)) (append_assoc between (earlier ∷ []) older) (subst (IsSpaced test k) s.is h)) in
     let r = since_reach test between older earlier b in
     let l = here.1 a r.0 in
     let m = r.1 in omega arith
