@@ -1,6 +1,11 @@
-//! Memory as plain lists: a fabric keeps the list of all events, and answers each step by it.
+//! Memory as plain lists: a fabric keeps the list of all events, and answers each step by it or by
+//! what the regions hold after it.
 #![tactic(auto)]
 
+mod fabric;
 mod first_fabric;
+#[cfg(test)]
+mod tests;
 
+pub use fabric::ListFabric;
 pub use first_fabric::FirstFabric;

@@ -3,7 +3,7 @@ use Rattle.list_fabric.specs.Kept.{Kept}
 use Rattle.mu_model.specs.Histories.{history, part}
 use Rattle.mu_model.specs.Regions.{fence_grant}
 use Rattle.mu_model.proofs.First.{never_granted}
-use Rattle.list_fabric.proofs.Room.{room_for}
+use Rattle.list_fabric.proofs.Room.{first_keeps, room_for}
 use Rattle.list_fabric.proofs.first_fabric.FirstFabric.step.Goals as goal
 
 pub answers-answer-requires : goal.answers-answer-requires
@@ -20,5 +20,5 @@ pub push-requires : goal.push-requires
 push-requires c =
     let fabric = c.self.inside in
     let left = subst (λ (k : Kept). length (part c.args.by (history k.events)) < k.config.budget) (sym c.self.view_is) c.requires.budget in
-    let few = room_for fabric.config fabric.kept.events c.args.by c.self.invariant.legal c.requires.replica left in
+    let few = room_for 3 fabric.config.budget fabric.kept.events c.args.by (first_keeps fabric.config (history fabric.kept.events) c.self.invariant.legal) c.requires.replica left in
     omega (arith, few, c.self.invariant.room_left)

@@ -1,0 +1,59 @@
+-- What stands at an index of a list, and in the histories of its first items.
+use Rattle.std.proofs.Common.{List, [], ◌∷◌, ◌++◌, Some, ℕ, zero, suc, ◌+◌, ◌<◌, ◌≤◌, ◌≡◌, refl, sym, ap, ◌∙◌, arith, length, take, drop, append_assoc}
+use Rattle.std.specs.List.{slice_get}
+use Rattle.std.proofs.lemmas.List.{reverse-append}
+use Rattle.mu_model.specs.declared.event.Event.{Event}
+use Rattle.mu_model.specs.Histories.{history, part}
+use Rattle.std.proofs.lemmas.Option.{slice_get_within, get_or_from_slice_get}
+use Rattle.mu_model.proofs.Scans.{history_more}
+use Rattle.std.specs.Prelude.{◌==◌, Bool, true, false, if◌then◌else◌}
+
+-- a list around the item at i
+pub split_at : {X : Type 0} (xs : List X) (i : ℕ) (x : X) → slice_get xs i ≡ Some x → xs ≡ take i xs ++ (x ∷ drop (suc i) xs)
+split_at [] i x is = cc
+split_at (y ∷ xs) zero x is = let same : y ≡ x = cc in ap (λ z. z ∷ xs) same
+split_at (y ∷ xs) (suc i) x is = ap (λ l. y ∷ l) (split_at xs i x is)
+
+-- an item stands at each index of a list
+pub item_at : {X : Type 0} (xs : List X) (i : ℕ) → i < length xs → (x : X) × (slice_get xs i ≡ Some x)
+item_at [] i l = absurd (omega arith)
+item_at (x ∷ xs) zero l = (x, refl)
+item_at (x ∷ xs) (suc i) l = item_at xs i (omega arith)
+
+pub slice_get-take : {X : Type 0} (xs : List X) (n i : ℕ) → i < n → slice_get (take n xs) i ≡ slice_get xs i
+slice_get-take [] zero i l = refl
+slice_get-take [] (suc n) i l = refl
+slice_get-take (x ∷ xs) zero i l = absurd (omega arith)
+slice_get-take (x ∷ xs) (suc n) zero l = refl
+slice_get-take (x ∷ xs) (suc n) (suc i) l = slice_get-take xs n i (omega arith)
+
+pub take-take : {X : Type 0} (xs : List X) (n i : ℕ) → i ≤ n → take i (take n xs) ≡ take i xs
+take-take [] zero zero l = refl
+take-take [] zero (suc i) l = refl
+take-take [] (suc n) zero l = refl
+take-take [] (suc n) (suc i) l = refl
+take-take (x ∷ xs) zero zero l = refl
+take-take (x ∷ xs) zero (suc i) l = absurd (omega arith)
+take-take (x ∷ xs) (suc n) zero l = refl
+take-take (x ∷ xs) (suc n) (suc i) l = ap (λ t. x ∷ t) (take-take xs n i (omega arith))
+
+-- a history around the event at i
+pub history_at : (events : List Event) (i : ℕ) (e : Event) → slice_get events i ≡ Some e → history events ≡ history (drop (suc i) events) ++ (e ∷ history (take i events))
+history_at events i e is =
+    ap history (split_at events i e is)
+    ∙ reverse-append (take i events) (e ∷ drop (suc i) events)
+    ∙ ap (λ l. l ++ history (take i events)) (reverse-append (e ∷ []) (drop (suc i) events))
+    ∙ append_assoc (history (drop (suc i) events)) (e ∷ []) (history (take i events))
+
+-- the history of one event more
+pub history_next : (events : List Event) (i : ℕ) (e : Event) → slice_get events i ≡ Some e → history (take (i + 1) events) ≡ e ∷ history (take i events)
+history_next events i e is = history_more events i e (slice_get_within events i e is) (sym (get_or_from_slice_get events i e e is))
+
+-- a part is no longer than the list
+pub few_in_part : (r : ℕ) (events : List Event) → length (part r events) ≤ length events
+few_in_part r [] = omega arith
+few_in_part r (e ∷ events) = go (e.by == r) (few_in_part r events)
+  where
+    go : (t : Bool) → length (part r events) ≤ length events → length (if t then (e ∷ part r events) else part r events) ≤ suc (length events)
+    go true l = omega arith
+    go false l = omega arith

@@ -1,0 +1,76 @@
+-- What the laws of agreement say of one list.
+use Rattle.std.proofs.Common.{◌≡◌, ℕ, List, ◌++◌, sym, ◌∙◌, ap, Some, subst}
+use Rattle.std.specs.List.{slice_get}
+use Rattle.std.specs.Prelude.{◌↔◌}
+use Rattle.std.proofs.lemmas.List.{reverse-append}
+use Rattle.mu_model.specs.declared.config.Config.{Config}
+use Rattle.mu_model.specs.declared.event.Event.{Event}
+use Rattle.mu_model.specs.Contents.{IsConfig, IsInSession}
+use Rattle.mu_model.specs.Histories.{history, part}
+use Rattle.mu_model.specs.Knowledge.{known}
+use Rattle.mu_model.specs.Legal.{IsLegal, IsLegalHistory}
+use Rattle.mu_model.specs.Regions.{region_log}
+use Rattle.mu_agree.proofs.Access.{only_owners_put_law}
+use Rattle.mu_agree.proofs.Legal.{legal_older}
+use Rattle.mu_agree.proofs.Minimum.{minimum_rises_law}
+use Rattle.mu_agree.proofs.Numbers.{numbers_differ_law}
+use Rattle.mu_agree.proofs.Phases.{at_most_one_chosen_law, known_is_chosen_law}
+use Rattle.mu_agree.proofs.Prefixes.{fuo_is_kept_law, known_agree, known_agree_law}
+use Rattle.mu_agree.proofs.Sessions.{known_in_session_law, known_marked_once_law, known_stands_law}
+use Rattle.mu_agree.proofs.Slots.{slot_numbers_rise_law}
+use Rattle.mu_law.specs.Laws.{AreChosen, AreMarkedOnce, BothKnow, ChosenOnce, FuosHold, KnownListsAgree, MinimumsRise, NumbersAreOwn, OwnersPut, SlotsRise, StandForEntries}
+
+-- what a legal list begins with is legal
+legal_front : (c : Config) (earlier later : List Event) → IsLegal c (earlier ++ later) → IsLegal c earlier
+legal_front c earlier later h =
+    legal_older c (history later) (history earlier) (subst (IsLegalHistory c) (reverse-append earlier later) h)
+
+legal_between : (c : Config) (events earlier between later : List Event) → IsLegal c events → events ≡ earlier ++ between ++ later → IsLegal c (earlier ++ between)
+legal_between c events earlier between later h e =
+    legal_front c (earlier ++ between) later (subst (IsLegal c) e h)
+
+pub chosen_once : (c : Config) (events : List Event) → IsLegal c events → ChosenOnce c events
+chosen_once c events h i v w = at_most_one_chosen_law c events i v w h
+
+pub fuos_hold : (c : Config) (events : List Event) → IsLegal c events → FuosHold c events
+fuos_hold c events h earlier later p i e l =
+    let k = fuo_is_kept_law c earlier later p i (subst (IsLegal c) e h) l in
+    (k.0, (k.1.0, (ap (λ all. slice_get (region_log p (history all)) i) e ∙ k.1.1.0, k.1.1.1)))
+
+pub owners_put : (c : Config) (events : List Event) → IsLegal c events → OwnersPut events
+owners_put c events h earlier later e p is = only_owners_put_law c earlier later e p (subst (IsLegal c) is h)
+
+pub minimums_rise : (c : Config) (events : List Event) → IsLegal c events → MinimumsRise events
+minimums_rise c events h earlier between later p is = minimum_rises_law c earlier between p (legal_between c events earlier between later h is)
+
+pub slots_rise : (c : Config) (events : List Event) → IsLegal c events → SlotsRise events
+slots_rise c events h earlier between later p i x y is = slot_numbers_rise_law c earlier between p i x y (legal_between c events earlier between later h is)
+
+pub numbers_are_own : (c : Config) (events : List Event) → IsLegal c events → NumbersAreOwn events
+numbers_are_own c events h earlier between later r s b is = numbers_differ_law c earlier between r s b (legal_between c events earlier between later h is)
+
+pub known_lists_agree : (c : Config) (events : List Event) → IsLegal c events → KnownListsAgree c events
+known_lists_agree c events h r s = known_agree_law c events r s h
+
+pub both_known : (c : Config) (events : List Event) (r s i v w : ℕ) (xs ys : List ℕ) → xs ≡ known c r (part r (history events)) → ys ≡ known c s (part s (history events))
+    → ((slice_get xs i ≡ Some v) × (slice_get ys i ≡ Some w)) ↔ BothKnow c events r s i v w
+both_known c events r s i v w xs ys e f = (
+  (λ k. record { first = ap (λ l. slice_get l i) (sym e) ∙ k.0; second = ap (λ l. slice_get l i) (sym f) ∙ k.1 }),
+  (λ k. (ap (λ l. slice_get l i) e ∙ k.first, ap (λ l. slice_get l i) f ∙ k.second)),
+)
+
+pub same_known : (c : Config) (events : List Event) (r s i v w : ℕ) → IsLegal c events → BothKnow c events r s i v w → v ≡ w
+same_known c events r s i v w h b = known_agree c r s (history events) h i v w b.first b.second
+
+pub list_chosen : (c : Config) (events : List Event) (r : ℕ) (values : List ℕ) → IsLegal c events → values ≡ known c r (part r (history events)) → AreChosen c events values
+list_chosen c events r values h e i v k = known_is_chosen_law c events r i v h (ap (λ l. slice_get l i) (sym e) ∙ k)
+
+pub list_stands : (c : Config) (events : List Event) (r : ℕ) (values : List ℕ) → IsLegal c events → values ≡ known c r (part r (history events)) → StandForEntries c values
+list_stands c events r values h e i v k = known_stands_law c events r i v h (ap (λ l. slice_get l i) (sym e) ∙ k)
+
+pub list_in_session : (c : Config) (events : List Event) (r : ℕ) (values : List ℕ) → IsLegal c events → values ≡ known c r (part r (history events)) → IsConfig c → IsInSession c values
+list_in_session c events r values h e is = subst (IsInSession c) (sym e) (known_in_session_law c events r is h)
+
+pub list_marked_once : (c : Config) (events : List Event) (r : ℕ) (values : List ℕ) → IsLegal c events → values ≡ known c r (part r (history events)) → IsConfig c → AreMarkedOnce c values
+list_marked_once c events r values h e is q i j v w a b =
+    known_marked_once_law c events r q i j v w is h (ap (λ l. slice_get l i) (sym e) ∙ a) (ap (λ l. slice_get l j) (sym e) ∙ b)
