@@ -102,7 +102,7 @@ more : (t b : Bool) → b ≡ true → cond t true b ≡ true
 more true b h = refl
 more false b h = h
 
-read_under_seen : (r p g : ℕ) (past : List Event) → min_read_under r p g past ≡ true → has (λ e. grant_seen r p g e.by e.verb e.answer) past ≡ true
+pub read_under_seen : (r p g : ℕ) (past : List Event) → min_read_under r p g past ≡ true → has (λ e. grant_seen r p g e.by e.verb e.answer) past ≡ true
 read_under_seen r p g [] e = cc
 read_under_seen r p g (e ∷ past) h =
     elim (or_cases (is_some (min_read r p e.by e.verb e.answer) && has (λ f. grant_seen r p g f.by f.verb f.answer) past) (min_read_under r p g past) h) [

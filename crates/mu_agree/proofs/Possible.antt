@@ -64,7 +64,7 @@ stands c r (f ∷ past) mine e h k = go (f.by == r) refl k (stands c r past mine
         let s = ih k in
         record { newer = f ∷ s.newer; older = s.older; is = ap (λ z. f ∷ z) s.is; part_is = s.part_is; own = s.own; legal = s.legal; follows = s.follows }
 
-at_event : (c : Config) (r : ℕ) (mine : List Event) (e : Event) (p : IsPossible c r (e ∷ mine)) → Stands c r p.past mine e
+pub at_event : (c : Config) (r : ℕ) (mine : List Event) (e : Event) (p : IsPossible c r (e ∷ mine)) → Stands c r p.past mine e
 at_event c r mine e p = stands c r p.past mine e p.legal p.is
 
 pub parts_shorten_law : PartsShorten

@@ -1,4 +1,3 @@
 pub mod Deciding
-pub mod Filling
 pub mod Places
 pub mod Ranges

@@ -1,12 +1,11 @@
 -- What stands at an index of a list, and in the histories of its first items.
-use Rattle.std.proofs.Common.{List, [], ◌∷◌, ◌++◌, Some, ℕ, zero, suc, ◌+◌, ◌<◌, ◌≤◌, ◌≡◌, refl, sym, ap, ◌∙◌, arith, length, take, drop, append_assoc}
+use Rattle.std.proofs.Common.{List, [], ◌∷◌, ◌++◌, Some, ℕ, zero, suc, ◌+◌, ◌<◌, ◌≤◌, ◌≡◌, refl, sym, ap, ◌∙◌, arith, length, take, drop, append_assoc, get_or}
 use Rattle.std.specs.List.{slice_get}
 use Rattle.std.proofs.lemmas.List.{reverse-append}
 use Rattle.mu_model.specs.declared.event.Event.{Event}
-use Rattle.mu_model.specs.Histories.{history, part}
-use Rattle.std.proofs.lemmas.Option.{slice_get_within, get_or_from_slice_get}
+use Rattle.mu_model.specs.Histories.{history}
+use Rattle.std.proofs.lemmas.Option.{slice_get-get_or, slice_get_within, get_or_from_slice_get}
 use Rattle.mu_model.proofs.Scans.{history_more}
-use Rattle.std.specs.Prelude.{◌==◌, Bool, true, false, if◌then◌else◌}
 
 -- a list around the item at i
 pub split_at : {X : Type 0} (xs : List X) (i : ℕ) (x : X) → slice_get xs i ≡ Some x → xs ≡ take i xs ++ (x ∷ drop (suc i) xs)
@@ -49,11 +48,10 @@ history_at events i e is =
 pub history_next : (events : List Event) (i : ℕ) (e : Event) → slice_get events i ≡ Some e → history (take (i + 1) events) ≡ e ∷ history (take i events)
 history_next events i e is = history_more events i e (slice_get_within events i e is) (sym (get_or_from_slice_get events i e e is))
 
--- a part is no longer than the list
-pub few_in_part : (r : ℕ) (events : List Event) → length (part r events) ≤ length events
-few_in_part r [] = omega arith
-few_in_part r (e ∷ events) = go (e.by == r) (few_in_part r events)
-  where
-    go : (t : Bool) → length (part r events) ≤ length events → length (if t then (e ∷ part r events) else part r events) ≤ suc (length events)
-    go true l = omega arith
-    go false l = omega arith
+-- what is read at an index stands there
+pub read_there : (events : List Event) (i : ℕ) (d : Event) → i < length events → slice_get events i ≡ Some (get_or events i d)
+read_there events i d l = slice_get-get_or events i d l
+
+-- the history of one event more, which is read at the index
+pub history_at_next : (events : List Event) (i : ℕ) (d : Event) → i < length events → history (take (i + 1) events) ≡ get_or events i d ∷ history (take i events)
+history_at_next events i d l = history_next events i (get_or events i d) (read_there events i d l)

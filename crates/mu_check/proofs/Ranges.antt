@@ -1,20 +1,22 @@
 -- What is allowed is in range, and a legal list is short.
-use Rattle.std.proofs.Common.{List, [], ◌∷◌, Bool, true, false, ℕ, zero, suc, ◌+◌, ◌*◌, ◌<◌, ◌≤◌, ◌^◌, ◌≡◌, ◌≢◌, inl, inr, ◌==◌, refl, sym, ap, subst, ◌∙◌, arith, length, eqb-true, Some, take}
+use Rattle.std.proofs.Common.{List, [], ◌∷◌, Bool, true, false, ℕ, zero, suc, ◌+◌, ◌*◌, ◌<◌, ◌≤◌, ◌^◌, ◌≡◌, ◌≢◌, inl, inr, ◌==◌, refl, sym, ap, subst, ◌∙◌, arith, length, eqb-true}
 use Rattle.std.specs.Prelude.{if◌then◌else◌}
 use Rattle.std.proofs.lemmas.Bool.{cases_eq}
+use Rattle.std.proofs.lemmas.Bool.Decides.{eqb_tells}
 use Rattle.mu_model.specs.declared.config.Config.{Config}
 use Rattle.mu_model.specs.declared.event.Event.{Event}
 use Rattle.mu_model.specs.declared.event.Verb.{Verb}
 use Rattle.mu_model.specs.Allowed.{Allowed}
 use Rattle.mu_model.specs.Contents.{IsConfig}
-use Rattle.mu_model.specs.Histories.{history, part}
+use Rattle.mu_model.specs.Histories.{part}
 use Rattle.mu_model.specs.Legal.{IsLegalHistory}
-use Rattle.std.specs.List.{slice_get}
-use Rattle.mu_regions.specs.declared.regions.Regions.{Regions}
-use Rattle.mu_regions.specs.Range.{InRange, IsNear}
-use Rattle.mu_regions.specs.Stands.{Stands}
-use Rattle.mu_check.proofs.Places.{history_next}
-use Rattle.mu_check.proofs.Filling.{other_id, same_id}
+use Rattle.mu_regions.specs.Range.{InRange}
+
+same_id : (r : ℕ) → r == r ≡ true
+same_id r = elim (eqb_tells r r) [ inl same ↦ same.0 | inr off ↦ absurd (off.1 refl) ]
+
+other_id : (r q : ℕ) → r ≢ q → q == r ≡ false
+other_id r q differ = elim (eqb_tells q r) [ inl same ↦ absurd (differ (sym same.1)) | inr off ↦ off.0 ]
 
 -- what is allowed names regions, positions, rows and words that are there
 pub in_range : (c : Config) (r : ℕ) (mine : List Event) (verb : Verb) → Allowed c r mine verb → InRange c r verb
@@ -103,12 +105,3 @@ few_legal c past config legal =
     let all = counted_all c past legal in
     let replicas = config.replicas.1 in
     omega arith
-
--- what the regions stand for after the event at i
-pub stands_next : (c : Config) (events : List Event) (i : ℕ) (x e : Event) (state : Regions) → slice_get events i ≡ Some e → x ≡ e → Stands c (x ∷ history (take i events)) state → Stands c (history (take (i + 1) events)) state
-stands_next c events i x e state is same stands =
-    subst (λ l. Stands c l state) (sym (history_next events i e is)) (subst (λ y. Stands c (y ∷ history (take i events)) state) same stands)
-
--- the event at i is near where its verb is allowed
-pub near_at : (c : Config) (mine : List Event) (x e : Event) → x ≡ e → Allowed c e.by mine e.verb → IsNear c x.verb
-near_at c mine x e same allowed = subst (λ y. IsNear c y.verb) (sym same) (in_range c e.by mine e.verb allowed).near

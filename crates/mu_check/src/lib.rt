@@ -2,7 +2,6 @@
 #![tactic(auto)]
 
 mod judging;
-mod parts;
 mod verdict;
 
 pub use judging::check;

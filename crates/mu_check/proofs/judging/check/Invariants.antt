@@ -1,13 +1,13 @@
 use Rattle.std.proofs.Common.{take}
 use Rattle.mu_model.specs.Histories.{history}
 use Rattle.mu_model.specs.Legal.{IsLegal}
+use Rattle.mu_parts.specs.Parts.{HoldsParts}
 use Rattle.mu_regions.specs.Stands.{Stands}
-use Rattle.mu_check.specs.Journals.{HoldParts}
 use Rattle.mu_check.proofs.judging.check.Given as goal
 
 abbrev pub invariant-loop-index : goal.invariant-loop-index
 invariant-loop-index l = record {
-  parts : HoldParts l.config.replicas l.events l.index l.journals.items;
+  parts : HoldsParts l.config (history (take l.index l.events)) l.movers;
   stands : Stands l.config (history (take l.index l.events)) l.regions;
   legal : IsLegal l.config (take l.index l.events);
 }

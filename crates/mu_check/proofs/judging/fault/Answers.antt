@@ -1,25 +1,19 @@
-use Rattle.std.proofs.Common.{List, sym, ◌∙◌, subst}
+use Rattle.std.proofs.Common.{sym, ◌∙◌}
 use Rattle.std.proofs.lemmas.Bool.{false≢true}
-use Rattle.mu_model.specs.declared.event.Event.{Event}
-use Rattle.mu_model.specs.Allowed.{Allowed}
 use Rattle.mu_check.proofs.Ranges.{in_range}
 use Rattle.mu_check.proofs.judging.fault.Goals as goal
 
 pub returns-then-not-allows : goal.returns-then-not-allows
-returns-then-not-allows c = λ past own stands allowed.
-    let P : List Event → Type 0 = λ l. Allowed c.args.config.now c.args.event.now.by l c.args.event.now.verb in
-    false≢true (sym c.if-not-allows.true ∙ c.allows.ensures.1 (subst P (sym own) allowed))
+returns-then-not-allows c = λ past legal stands held allowed. false≢true (sym c.if-not-allows.true ∙ (c.allows.ensures past legal held).1 allowed)
 
 pub returns-then-is_same : goal.returns-then-is_same
-returns-then-is_same c = λ past own stands.
-    let P : List Event → Type 0 = λ l. Allowed c.args.config.now c.args.event.now.by l c.args.event.now.verb in
-    let allowed = subst P own (c.allows.ensures.0 c.if-not-allows.false) in
+returns-then-is_same c = λ past legal stands held.
+    let allowed = (c.allows.ensures past legal held).0 c.if-not-allows.false in
     let near = in_range c.args.config.now c.args.event.now.by _ c.args.event.now.verb allowed in
     record { allowed = allowed; answer = c.is_same.ensures.0 c.if-is_same.true ∙ c.answer-expected.ensures c.args.config.now past near stands }
 
 pub returns-else-is_same : goal.returns-else-is_same
-returns-else-is_same c = λ past own stands.
-    let P : List Event → Type 0 = λ l. Allowed c.args.config.now c.args.event.now.by l c.args.event.now.verb in
-    let allowed = subst P own (c.allows.ensures.0 c.if-not-allows.false) in
+returns-else-is_same c = λ past legal stands held.
+    let allowed = (c.allows.ensures past legal held).0 c.if-not-allows.false in
     let near = in_range c.args.config.now c.args.event.now.by _ c.args.event.now.verb allowed in
     (allowed, c.answer-expected.ensures c.args.config.now past near stands, λ same. false≢true (sym c.if-is_same.false ∙ c.is_same.ensures.1 same))

@@ -1,0 +1,15 @@
+use Rattle.std.proofs.Common.{rules, ◌≡◌, false, replicate, refl, arith}
+use Rattle.mu_parts.proofs.Filled.{none_filled, none_set}
+use Rattle.mu_parts.proofs.covering.Coverage.empty.Goals as goal
+
+pub returns : goal.returns
+returns c r =
+    let clear : c.in_ok-vec.field-0.items ≡ replicate c.positions_in.result false = search (rules, c.in_ok-vec.ensures.items_if_clones_equal) in
+    record {
+      id = refl;
+      room = search (rules, c.in_ok-vec.ensures.len, c.positions_in.ensures.count);
+      filled = λ j. rw clear (none_filled c.positions_in.result j);
+      filled_next = rw clear (none_set c.positions_in.result 0);
+      caught = λ j low. absurd (omega arith);
+      caught_next = refl;
+    }

@@ -1,0 +1,9 @@
+pub mod Covering
+pub mod Fetching
+pub mod Heads
+pub mod Hosting
+pub mod Knowing
+pub mod Landings
+pub mod Leading
+pub mod Parts
+pub mod Placing

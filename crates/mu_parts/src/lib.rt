@@ -1,0 +1,22 @@
+//! What the events of each replica so far let it do next, kept up to date event by event.
+//!
+//! `mu_model` says what a replica may do by recursions on its events so far. Here the same answers
+//! come from a running state, so that they cost about the same however many events there were.
+#![tactic(auto)]
+
+mod contents;
+mod covering;
+mod dealing;
+mod fetching;
+mod heads;
+mod hosting;
+mod knowing;
+mod landings;
+mod leading;
+mod looking;
+mod mover;
+mod movers;
+mod placing;
+mod putting;
+
+pub use movers::Movers;

@@ -1,0 +1,174 @@
+//! One replica: what its events so far let it do next.
+ghost use Rattle.std.specs.Prelude.{IfOk, IsTrue, List, [], length, take, ℕ, ◌+◌, ◌<◌, ◌∷◌, ◌≡◌, ◌≤◌, ◌^◌, ◌↔◌};
+ghost use Rattle.mu_model.specs.declared.config.Config.{Config};
+ghost use Rattle.mu_model.specs.declared.event.Event.{Event};
+ghost use Rattle.mu_model.specs.Allowed.{Allowed, Needs};
+ghost use Rattle.mu_model.specs.Contents.{IsConfig, row_count};
+ghost use Rattle.mu_model.specs.Parts.{IsPossible};
+ghost use Rattle.mu_model.specs.Room.{reserve};
+ghost use Rattle.mu_model.specs.Knowledge.{known};
+ghost use Rattle.mu_parts.specs.Knowing.{TellsAccepted};
+ghost use Rattle.mu_parts.specs.Landings.{HoldsLandings};
+ghost use Rattle.mu_parts.specs.Leading.{HoldsLeading};
+ghost use Rattle.mu_parts.specs.Parts.{HoldsPart};
+
+use crate::contents::{reserve_of, row_word};
+use crate::covering::Covering;
+use crate::fetching::Fetching;
+use crate::heads::Heads;
+use crate::hosting::Hosting;
+use crate::knowing::Knowing;
+use crate::landings::Landings;
+use crate::leading::Leading;
+use crate::placing::Placing;
+use mu_model::{Config, Event, NoMemory, Verb};
+use std::alloc::Global;
+
+/// What the events of one replica so far let it do next.
+#[derive(Drop)]
+pub struct Mover {
+    /// Its id.
+    pub replica: u8,
+    /// How many events it made.
+    pub steps: u32,
+    /// What its leaderships have come to.
+    pub leading: Leading,
+    /// What it has done as the host of its region.
+    pub hosting: Hosting,
+    /// The heads that it read, and the scores of the others.
+    pub heads: Heads,
+    /// What it knows.
+    pub knowing: Knowing,
+    /// Which rows it has.
+    pub fetching: Fetching,
+    /// What landed of its puts in the leadership.
+    pub landings: Landings,
+    /// Where it knows that logs are filled and caught up.
+    pub covering: Covering,
+    /// What it has looked at and put.
+    pub placing: Placing,
+}
+
+/// Whether `i` is a position of the log.
+fn is_position(config: &Config, i: u16) -> bool
+    requires { IsConfig config.now }
+    ensures { IsTrue result ↔ (i ≤ row_count config.now + reserve config.now) }
+{
+    usize::from(i) <= config.rows.len() + usize::from(reserve_of(config))
+}
+
+/// How many steps there were, after one more.
+fn steps_after(steps: u32) -> u32
+    ensures { steps < 131072 → result ≡ steps + 1 }
+{
+    steps.saturating_add(1)
+}
+
+/// Whether every member of the leadership has taken what the event puts, if it is a put.
+fn is_accepted(landings: &Landings, leading: &Leading, n: u8, event: &Event) -> bool
+    requires { n ≤ 7 }
+    ensures { (c : Config) → (mine : List Event) → n ≡ c.replicas → IsConfig c → IsPossible c event.now.by (event.now ∷ mine) → HoldsLeading event.now.by (event.now ∷ mine) leading.now → HoldsLandings c event.now.by (event.now ∷ mine) landings.now → TellsAccepted c event.now.by (event.now ∷ mine) (length (known c event.now.by mine)) event.now.verb result }
+{
+    match event.verb {
+        Verb::PutSlot(_, i, b, v) => landings.has_accepted(n, leading, i, b, v),
+        _ => false,
+    }
+}
+
+/// The first `n` of some values, or all where there are fewer.
+fn first_values(values: &[u16], n: usize) -> &[u16]
+    ensures { n ≤ length values.now → result.now ≡ take n values.now }
+{
+    &values[..n.min(values.len())]
+}
+
+impl Mover {
+    /// The state before any event. Takes all memory that it ever needs.
+    pub fn start(alloc: Global, config: &Config, replica: u8) -> Result<Mover, NoMemory>
+        requires config { IsConfig config.now }
+        ensures { IfOk result (λ state. HoldsPart config.now replica [] state) }
+    {
+        Ok(Mover {
+            replica,
+            steps: 0,
+            leading: Leading::none(replica),
+            hosting: Hosting::none(),
+            heads: Heads::none(),
+            knowing: Knowing::start(alloc, config)?,
+            fetching: Fetching::start(alloc, config)?,
+            landings: Landings::start(alloc, config)?,
+            covering: Covering::start(alloc, config)?,
+            placing: Placing::start(alloc, replica, config)?,
+        })
+    }
+
+    /// Takes the next event of the replica, which it was allowed. Takes no memory.
+    pub fn take(&mut self, config: &Config, event: &Event)
+        requires config { IsConfig config.now }
+        ensures { (mine : List Event) → IsPossible config.now event.now.by (event.now ∷ mine) → HoldsPart config.now event.now.by mine self.old → HoldsPart config.now event.now.by (event.now ∷ mine) self.new }
+    {
+        let r = event.by;
+        self.steps = steps_after(self.steps);
+        self.placing.take(&self.leading, event);
+        self.leading.take(r, event);
+        self.hosting.take(r, event);
+        self.heads.take(r, event);
+        self.landings.take(r, event);
+        let accepted = is_accepted(&self.landings, &self.leading, config.replicas, event);
+        let before = self.knowing.known().len();
+        self.knowing.take(config, r, accepted, event);
+        let known = self.knowing.known();
+        self.fetching.take(config, r, known, event);
+        self.covering.take(r, first_values(known, before), known, &self.landings, event);
+    }
+
+    /// Whether the verb's own needs are met.
+    fn meets_needs(&self, config: &Config, verb: &Verb) -> bool
+        requires config { IsConfig config.now }
+        ensures { (r : ℕ) → (mine : List Event) → r < 7 → IsPossible config.now r mine → HoldsPart config.now r mine self.now → (IsTrue result ↔ Needs config.now r mine verb.now) }
+    {
+        let n = config.replicas;
+        match *verb {
+            Verb::Ask(p) => self.leading.may_ask(n, p),
+            Verb::Fence(p) => self.leading.may_read_fence(n, p),
+            Verb::Min(p) => self.leading.may_read_minimum(n, p),
+            Verb::Enter(p, target) => self.leading.may_enter(n, config.ring, p, target),
+            Verb::PutMin(p, number) => self.leading.may_put_minimum(n, p, number),
+            Verb::Look(p, i) => self.leading.may_look(n, p) && is_position(config, i),
+            Verb::PutSlot(p, i, b, v) => p < n
+                && is_position(config, i)
+                && self.may_put_slot(config, p, i, b, v),
+            Verb::Fuo(p) => p < n,
+            Verb::RaiseFuo(p, u) => p < n
+                && usize::from(u) <= self.knowing.known().len()
+                && self.covering.are_filled(p, u),
+            Verb::Head(q) => q < n,
+            Verb::ReadBeat(q) => q < n && q != self.replica,
+            Verb::WriteRow(j, k, x) => usize::from(j) < config.rows.len()
+                && k < 12
+                && x == row_word(config, j, k)
+                && !self.fetching.has_written(j, k),
+            Verb::ReadRow(v, k) => v / 4096 < u16::from(n)
+                && usize::from(v % 4096) < config.rows.len()
+                && k < 12,
+            Verb::RaiseHead(h) => usize::from(h) <= self.fetching.applied_length()
+                && self.placing.reaches_head(h),
+            Verb::Beat => true,
+            Verb::ReadAsk(w) => w < n,
+            Verb::Close => self.hosting.may_close(n),
+            Verb::LookTarget => self.hosting.may_look_target(),
+            Verb::Drain => self.hosting.may_drain(),
+            Verb::Grant(w) => self.hosting.may_grant(n, w),
+        }
+    }
+
+    /// Whether the replica may make the verb next. Takes no memory.
+    pub fn allows(&self, config: &Config, verb: &Verb) -> bool
+        requires config { IsConfig config.now }
+        ensures { (r : ℕ) → (mine : List Event) → IsPossible config.now r mine → HoldsPart config.now r mine self.now → (IsTrue result ↔ Allowed config.now r mine verb.now) }
+    {
+        self.steps < config.budget
+            && self.replica < config.replicas
+            && self.meets_needs(config, verb)
+    }
+}
