@@ -1,0 +1,300 @@
+#!/usr/bin/env python3
+"""Writes one long legal trace in the form of crates/mu_judge, to measure how fast it is judged.
+
+    tools/long_trace.py [TURNS [COMMANDS]] > LONG
+
+Seven replicas make TURNS steps each, one after the other: 120,887 steps unless told, so 846,209
+events in all. Replica 0 asks for all regions, becomes their owner, and puts COMMANDS commands into
+their logs, 1,500 unless told; the others learn them, read their rows and apply them. Even turns are
+each replica's round of a host and a follower, odd turns are the leader's steps. Where a turn has
+nothing to do, the replica beats. The wanted output is `legal` and the number of the events.
+"""
+
+import sys
+
+from judged_table import VERBS, row_words
+
+REPLICAS, RING, BUDGET, CLIENTS = 7, 64, 131071, 4
+CODE = {verb: code for code, verb in enumerate(VERBS)}
+DONE, ENTERED, EMPTY, MIN, PLACE = (0,), (2,), (6,), (1,), (2,)
+
+
+def command(index):
+    """The words of a command: all five operations in turn, over three keys."""
+    key, value = f"k{index % 3}", f"v{index}"
+    old = f"v{index - 3}" if index % 2 else "x"
+    return (("put", key, value), ("get", key), ("swap", key, value), ("cas", key, old, value),
+            ("del", key))[index % 5]
+
+
+class Region:
+    """What one region holds."""
+
+    def __init__(self):
+        self.owner, self.grant, self.closing, self.target = None, 0, False, (0,)
+        self.minimum = self.fuo = self.head = self.beats = 0
+        self.asks = [0] * REPLICAS
+        self.log, self.rows = [], {}
+
+    def fence(self):
+        """The fence as numbers."""
+        owner = (0,) if self.owner is None else (1, self.owner)
+        return owner + (self.grant, int(self.closing)) + self.target
+
+    def look(self, position):
+        """What a look at a position finds."""
+        if len(self.log) > position + RING:
+            return (8,)
+        return (7,) + self.log[position] if position < len(self.log) else EMPTY
+
+
+class World:
+    """All regions, and the events so far."""
+
+    def __init__(self):
+        self.regions = [Region() for _ in range(REPLICAS)]
+        self.events = []
+
+    def step(self, by, verb, *numbers):
+        """Makes a step and answers what it finds, as numbers."""
+        answer = self.made(by, verb, numbers)
+        self.events.append(" ".join(map(str, (by, CODE[verb]) + numbers + answer)))
+        return answer
+
+    def made(self, by, verb, numbers):
+        """What the step finds, after it is made."""
+        own = self.regions[by]
+        if verb in ("beat", "raisehead", "writerow", "readask", "close", "grant"):
+            return self.made_at_home(own, verb, numbers)
+        if verb == "readrow":
+            value, word = numbers
+            return 5, self.regions[value // 4096].rows.get((value % 4096, word), 0)
+        region = self.regions[numbers[0]]
+        if verb == "ask":
+            region.asks[by] += 1
+        elif verb == "enter":
+            # Nobody else is ever granted, so the noted grant stands.
+            region.target = numbers[1:]
+            return ENTERED
+        elif verb == "putmin":
+            region.minimum = numbers[1]
+        elif verb == "putslot":
+            region.log.append(numbers[2:])
+        elif verb == "raisefuo":
+            region.fuo = max(region.fuo, numbers[1])
+        elif verb == "fence":
+            return (4,) + region.fence()
+        elif verb == "look":
+            return region.look(numbers[1])
+        else:
+            return 5, {"min": region.minimum, "fuo": region.fuo, "head": region.head,
+                       "readbeat": region.beats}[verb]
+        return DONE
+
+    def made_at_home(self, own, verb, numbers):
+        """The same for a step in the own region."""
+        if verb == "readask":
+            return 5, own.asks[numbers[0]]
+        if verb == "close":
+            before = own.fence()
+            own.closing = True
+            return (4,) + before
+        if verb == "grant":
+            own.owner, own.closing, own.target = numbers[0], False, (0,)
+            own.grant += 1
+        elif verb == "writerow":
+            own.rows[numbers[:2]] = numbers[2]
+        elif verb == "beat":
+            own.beats += 1
+        else:
+            own.head = max(own.head, numbers[0])
+        return DONE
+
+
+class Replica:
+    """One replica: what it knows and has applied, and its round."""
+
+    def __init__(self, world, me, total):
+        self.world, self.me, self.total = world, me, total
+        self.known, self.rows = [], set()
+        self.applied = self.fuo = self.head = 0
+        self.asked, self.served = [0] * REPLICAS, [0] * REPLICAS
+        self.heads = [0] * REPLICAS
+        self.round = self.rounds()
+        self.others = [q for q in range(REPLICAS) if q != me]
+
+    def step(self, verb, *numbers):
+        """Makes a step, and answers what it finds."""
+        return self.world.step(self.me, verb, *numbers)
+
+    def read(self, verb, *numbers):
+        """Makes a step that finds a number."""
+        return self.step(verb, *numbers)[1]
+
+    def rounds(self):
+        """The even turns: each `yield` ends one."""
+        turn = 0
+        while True:
+            self.step("beat")
+            yield
+            for q in self.others:
+                self.step("readbeat", q)
+                yield
+            yield from self.host()
+            yield from self.follow()
+            yield from self.apply()
+            other = self.others[turn % len(self.others)]
+            self.heads[other] = self.read("head", other)
+            yield
+            turn += 1
+
+    def host(self):
+        """Reads asks, and grants the own region on: no fence is closed after its first grant."""
+        for w in range(REPLICAS):
+            self.asked[w] = self.read("readask", w)
+            yield
+        waiting = [w for w in range(REPLICAS) if self.asked[w] > self.served[w]]
+        self.step(*(("close",) if waiting else ("beat",)))
+        yield
+        for _ in range(2):
+            self.step("beat")
+            yield
+        if waiting:
+            self.step("grant", waiting[0])
+            self.served[waiting[0]] = self.asked[waiting[0]]
+        else:
+            self.step("beat")
+        yield
+
+    def follow(self):
+        """Reads the own FUO and looks at the next two positions of the own log."""
+        next_position = len(self.known)
+        if self.me == 0 or next_position >= self.total:
+            for _ in range(3):
+                self.step("beat")
+                yield
+            return
+        self.fuo = max(self.fuo, self.read("fuo", self.me))
+        yield
+        filled = False
+        if next_position + 1 < self.total:
+            filled = self.step("look", self.me, next_position + 1)[0] == 7
+        else:
+            self.step("beat")
+        yield
+        if filled or self.fuo > next_position:
+            answer = self.step("look", self.me, next_position)
+            self.known.append(answer[2])
+        else:
+            self.step("beat")
+        yield
+
+    def apply(self):
+        """Reads the row of the next entry, and raises the own FUO and the own head."""
+        due = self.applied < len(self.known)
+        value = self.known[self.applied] if due else 0
+        for k in range(12):
+            if due and value not in self.rows:
+                self.step("readrow", value, k)
+            else:
+                self.step("beat")
+            yield
+        if due:
+            self.rows.add(value)
+            self.applied += 1
+        if self.me != 0 and len(self.known) > self.fuo:
+            self.fuo = len(self.known)
+            self.step("raisefuo", self.me, self.fuo)
+        else:
+            self.step("beat")
+        yield
+        if min(self.applied, self.fuo) > self.head:
+            self.head = min(self.applied, self.fuo)
+            self.step("raisehead", self.head)
+        else:
+            self.step("beat")
+        yield
+
+
+def lead(replica, rows):
+    """The odd turns of replica 0: each `yield` ends one."""
+    regions = range(REPLICAS)
+    for p in regions:
+        replica.step("ask", p)
+        yield
+    granted = 0
+    while granted < REPLICAS:
+        granted = 0
+        for p in regions:
+            granted += replica.step("fence", p) == (4, 1, 0, 1, 0, 0)
+            yield
+    for p in regions:
+        replica.step("min", p)
+        yield
+    for p in regions:
+        yield from entered(replica, p, MIN, ("putmin", p, 8))
+    for p in regions:
+        replica.step("fuo", p)
+        yield
+    for position, words in enumerate(rows):
+        yield from committed(replica, position, words)
+
+
+def entered(replica, region, target, put):
+    """Enters a region and puts a word there."""
+    replica.step("enter", region, *target)
+    yield
+    replica.step(*put)
+    yield
+
+
+def committed(replica, position, words):
+    """Puts one command at a position of all regions, once the heads leave room."""
+    regions = range(REPLICAS)
+    for q in regions:
+        while replica.heads[q] + RING <= position:
+            replica.heads[q] = replica.read("head", q)
+            yield
+    for p in regions:
+        replica.step("look", p, position)
+        yield
+    for k, word in enumerate(words):
+        replica.step("writerow", position, k, word)
+        yield
+    replica.rows.add(position)
+    for p in regions:
+        put = ("putslot", p, position, 8, position)
+        yield from entered(replica, p, PLACE + (position % RING,), put)
+    replica.known.append(position)
+    for p in regions:
+        replica.step("raisefuo", p, position + 1)
+        if p == replica.me:
+            replica.fuo = position + 1
+        yield
+
+
+def main():
+    turns, total = ([int(word) for word in sys.argv[1:]] + [120887, 1500][len(sys.argv) - 1:])[:2]
+    rows = [row_words(j % CLIENTS, j // CLIENTS + 1, command(j), 0) for j in range(total)]
+    world = World()
+    replicas = [Replica(world, r, total) for r in range(REPLICAS)]
+    leader = lead(replicas[0], rows)
+    finished = object()
+    for turn in range(turns):
+        for replica in replicas:
+            if turn % 2 == 0:
+                next(replica.round)
+            elif replica.me != 0 or next(leader, finished) is finished:
+                replica.step("beat")
+    told = f"{len(replicas[0].known)} put, {min(r.applied for r in replicas)} applied by all"
+    print(told, file=sys.stderr)
+    out = sys.stdout
+    out.write(f"1\n1 1 {REPLICAS} {RING} {BUDGET} {len(rows)}\n")
+    for words in rows:
+        out.write(" ".join(map(str, words)) + "\n")
+    out.write(f"{len(world.events)}\n")
+    out.write("\n".join(world.events) + "\n")
+
+
+if __name__ == "__main__":
+    main()
