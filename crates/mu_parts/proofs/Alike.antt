@@ -10,7 +10,7 @@ use Rattle.mu_model.specs.declared.event.Answer.{Answer}
 use Rattle.mu_model.specs.declared.event.Event.{Event}
 use Rattle.mu_model.specs.declared.event.Verb.{Verb}
 use Rattle.mu_model.specs.Allowed.{Needs}
-use Rattle.mu_model.specs.Contents.{IsConfig, row_count}
+use Rattle.mu_model.specs.Contents.{row_count}
 use Rattle.mu_model.specs.Histories.{earlier_or, has, how_many, newer_or, newest}
 use Rattle.mu_model.specs.Knowledge.{is_put_done, known, lands_entry}
 use Rattle.mu_model.specs.Leaderships.{begins_leadership, is_first_ask, leadership, leaderships, number_put, proposal_number}
@@ -20,12 +20,9 @@ use Rattle.mu_model.specs.Placing.{IsNew}
 use Rattle.mu_model.specs.Room.{reserve}
 use Rattle.mu_agree.proofs.Landings.{has_cases, has_since}
 use Rattle.mu_agree.proofs.Possible.{parts_shorten_law}
-use Rattle.mu_agree.proofs.Tame.{known_longer}
+use Rattle.mu_agree.proofs.Tame.{known_longer, none_some}
 use Rattle.mu_parts.specs.Landings.{entry_put, is_entry, last_landed}
 use Rattle.mu_parts.proofs.Basics.{same_number, same_some}
-
-not_some : {A : Type 0} (x : A) → None ≡ Some x → ⊥
-not_some x e = cc
 
 -- no count of events is above their number
 at_most_all : (test : Event → Bool) (mine : List Event) → how_many test mine ≤ length mine
@@ -36,15 +33,9 @@ at_most_all test (e ∷ mine) = by_test (test e) (at_most_all test mine)
     by_test true before = omega arith
     by_test false before = omega arith
 
+-- there are no more leaderships than events
 pub few_leaderships : (r : ℕ) (mine : List Event) → leaderships r mine ≤ length mine
 few_leaderships r mine = at_most_all (begins_leadership r) mine
-
--- a possible part is short
-pub part_is_short : (c : Config) (r : ℕ) (e : Event) (mine : List Event) → IsConfig c → IsPossible c r (e ∷ mine) → length mine < 131071
-part_is_short c r e mine config possible =
-    let low = (parts_shorten_law c r mine e possible).allowed.budget in
-    let bound = config.budget.1 in
-    omega arith
 
 -- what a put that landed says
 pub record IsPut (r p i b v by q j n w : ℕ) : Type 0 where
@@ -54,6 +45,7 @@ pub record IsPut (r p i b v by q j n w : ℕ) : Type 0 where
   pub number : n ≡ b
   pub value : w ≡ v
 
+-- a put that passes the five tests is this one
 pub is_put : (r p i b v by q j n w : ℕ) → ((by == r) && ((q == p) && ((j == i) && ((n == b) && (w == v))))) ≡ true → IsPut r p i b v by q j n w
 is_put r p i b v by q j n w m =
     let x = and_parts (by == r) ((q == p) && ((j == i) && ((n == b) && (w == v)))) m in
@@ -74,6 +66,7 @@ range_by c r by (Verb.PutSlot q j n w) Answer.Done mine needs before = λ p i b 
     ]
 range_by c r by verb answer mine needs before = before
 
+-- a possible part puts at positions in range only
 pub in_range : (c : Config) (r : ℕ) (mine : List Event) → IsPossible c r mine → InRange c r mine
 in_range c r [] possible = λ p i b v m. absurd (true≢false (sym m))
 in_range c r (e ∷ mine) possible =
@@ -125,6 +118,7 @@ alike_by c r i by (Verb.PutSlot q j n w) answer mine needs unknown before = λ p
     let old = before p b v m in (old.0, first_stays (value_put r i by (Verb.PutSlot q j n w)) v (first_value r i mine) old.1)
 alike_by c r i by verb answer mine needs unknown before = before
 
+-- in a possible part all puts at a position that is unknown are alike
 pub are_alike : (c : Config) (r i : ℕ) (mine : List Event) → IsPossible c r mine → length (known c r mine) ≤ i → AreAlike r i mine
 are_alike c r i [] possible unknown = λ p b v m. absurd (true≢false (sym m))
 are_alike c r i (e ∷ mine) possible unknown =
@@ -184,7 +178,7 @@ last_tells r p i b v mine alike None none = sym (go (has (lands_entry r p i b v)
   where
     go : (t : Bool) → has (lands_entry r p i b v) (leadership r mine) ≡ t → t ≡ false
     go false m = refl
-    go true m = let y = put_has_last r p i b v (leadership r mine) m in absurd (not_some y.0 (sym none ∙ y.1))
+    go true m = let y = put_has_last r p i b v (leadership r mine) m in absurd (none_some y.0 (sym none ∙ y.1))
 last_tells r p i b v mine alike (Some y) some = go (y.0 == b) refl (y.1 == v) refl (has (lands_entry r p i b v) (leadership r mine)) refl
   where
     was : has (lands_entry r p i y.0 y.1) (leadership r mine) ≡ true
@@ -202,6 +196,7 @@ last_tells r p i b v mine alike (Some y) some = go (y.0 == b) refl (y.1 == v) re
     go true number false value false m = refl
     go false number u value false m = refl
 
+-- the last put at a position that was unknown tells whether an entry landed there
 pub last_tells_all : (c : Config) (r p i b v : ℕ) (e : Event) (mine : List Event) → IsPossible c r (e ∷ mine) → length (known c r mine) ≤ i → is_entry (last_landed r p i (e ∷ mine)) b v ≡ has (lands_entry r p i b v) (leadership r (e ∷ mine))
 last_tells_all c r p i b v e mine possible unknown = last_tells r p i b v (e ∷ mine) (still_alike c r i e mine possible unknown) (last_landed r p i (e ∷ mine)) refl
 

@@ -1,31 +1,28 @@
 -- The last put at a known position tells whether the known value was put there, and how far a region has what is known.
-use Rattle.std.proofs.Common.{◌≡◌, ℕ, zero, suc, ◌+◌, ◌<◌, ◌≤◌, ◌⊎◌, inl, inr, Bool, true, false, cond, ◌==◌, ◌&&◌, ◌||◌, List, [], ◌∷◌, length, refl, sym, ◌∙◌, ap, arith, Some, None, subst, true≢false, eqb-true}
+use Rattle.std.proofs.Common.{◌≡◌, ℕ, zero, suc, ◌<◌, ◌≤◌, ◌⊎◌, inl, inr, Bool, true, false, cond, ◌==◌, ◌&&◌, ◌||◌, List, [], ◌∷◌, length, refl, sym, ◌∙◌, ap, arith, Some, None, subst, true≢false, eqb-true}
 use Rattle.std.specs.Prelude.{if◌then◌else◌, nat_lt}
 use Rattle.std.specs.declared.option.Option.{Option}
 use Rattle.std.specs.List.{slice_get}
-use Rattle.std.proofs.lemmas.Bool.{and_parts, ltb-true, ltb-false, or_cases}
-use Rattle.std.proofs.lemmas.List.{length_push}
+use Rattle.std.proofs.lemmas.Bool.{and_parts, le-ltb, ltb-false, ltb-true, or_cases}
 use Rattle.std.proofs.lemmas.Option.{slice_get_past, slice_get_within}
 use Rattle.mu_model.specs.declared.config.Config.{Config}
 use Rattle.mu_model.specs.declared.event.Answer.{Answer}
 use Rattle.mu_model.specs.declared.event.Event.{Event}
 use Rattle.mu_model.specs.declared.event.Verb.{Verb}
 use Rattle.mu_model.specs.Allowed.{Needs}
-use Rattle.mu_model.specs.Contents.{IsConfig, row_count}
 use Rattle.mu_model.specs.Histories.{has, max_with, newer_or}
-use Rattle.mu_model.specs.Knowledge.{fuo_read, greatest_fuo_read, grown, is_accepted_by_all, is_known_decided, is_put_done, is_value, known, lands_entry, learnt_by}
+use Rattle.mu_model.specs.Knowledge.{fuo_read, greatest_fuo_read, grown, is_put_done, is_value, known, lands_entry, learnt_by}
 use Rattle.mu_model.specs.Leaderships.{begins_leadership, is_first_ask, leadership}
 use Rattle.mu_model.specs.Parts.{IsPossible}
 use Rattle.mu_model.specs.Placing.{IsNew, is_caught_up_at, is_known_put}
-use Rattle.mu_model.specs.Room.{reserve}
 use Rattle.mu_model.proofs.Entries.{get_push_other}
 use Rattle.mu_agree.proofs.Landings.{has_cases, has_implied, has_more}
 use Rattle.mu_agree.proofs.Possible.{parts_shorten_law}
 use Rattle.mu_parts.specs.Covering.{IsFirstBehind, has_known, is_below}
 use Rattle.mu_parts.specs.Landings.{last_landed}
 use Rattle.mu_parts.proofs.Alike.{AreAlike, is_put, last_was_put, put_has_last, still_alike}
-use Rattle.mu_parts.proofs.Filled.{below_max, lt_none}
-use Rattle.mu_parts.proofs.Basics.{same_number, same_some}
+use Rattle.mu_parts.proofs.Filled.{below_max}
+use Rattle.mu_parts.proofs.Basics.{none_of_or, or_true, same_number, same_some, true_or}
 
 -- what is known at a position stays
 pub known_at_stays : (c : Config) (r j v : ℕ) (e : Event) (mine : List Event) → slice_get (known c r mine) j ≡ Some v → slice_get (known c r (e ∷ mine)) j ≡ Some v
@@ -92,6 +89,7 @@ abbrev pub is_last_known : Option ℕ → Option (ℕ × ℕ) → Bool
 is_last_known value None = false
 is_last_known value (Some entry) = is_value value entry.1
 
+-- where the known value of position j was put, the last put there was of it
 abbrev pub LastIsKnown : Config → ℕ → ℕ → ℕ → List Event → Type 0
 LastIsKnown c r p j mine = has_known c r p mine j ≡ true → is_last_known (slice_get (known c r mine) j) (last_landed r p j mine) ≡ true
 
@@ -170,28 +168,6 @@ last_tells_known c r p j mine possible = go (last_landed r p j mine) refl (has_k
         back true value = sym (entry_known (known c r mine) r p j y.0 y.1 (leadership r mine) value (last_was_put r p j y (leadership r mine) at)) ∙ is
         back false value = refl
 
--- known positions are in range
-within_by : (c : Config) (r by : ℕ) (verb : Verb) (answer : Answer) (mine : List Event) → Needs c r mine verb → length (known c r mine) ≤ row_count c + reserve c + 1 → length (known c r (record { by = by; verb = verb; answer = answer } ∷ mine)) ≤ row_count c + reserve c + 1
-within_by c r by (Verb.PutSlot q i b v) Answer.Done mine needs before = go (by == r) (i == length (known c r mine)) refl (is_accepted_by_all c r (record { by = by; verb = Verb.PutSlot q i b v; answer = Answer.Done } ∷ mine) i b v)
-  where
-    go : (t x : Bool) → (i == length (known c r mine)) ≡ x → (y : Bool) → length (grown (known c r mine) (cond (t && (x && y)) (Some v) None)) ≤ row_count c + reserve c + 1
-    go true true at true = let here = eqb-true i (length (known c r mine)) at in let more = length_push (known c r mine) v in let low = needs.1 in omega (arith, here, more, low)
-    go true true at false = before
-    go true false at y = before
-    go false x at y = before
-within_by c r by (Verb.Look q i) (Answer.Entry b v) mine needs before = go (by == r) (i == length (known c r mine)) refl (is_known_decided r mine q i)
-  where
-    go : (t x : Bool) → (i == length (known c r mine)) ≡ x → (y : Bool) → length (grown (known c r mine) (cond (t && (x && y)) (Some v) None)) ≤ row_count c + reserve c + 1
-    go true true at true = let here = eqb-true i (length (known c r mine)) at in let more = length_push (known c r mine) v in let low = needs.1 in omega (arith, here, more, low)
-    go true true at false = before
-    go true false at y = before
-    go false x at y = before
-within_by c r by verb answer mine needs before = before
-
-pub known_within : (c : Config) (r : ℕ) (mine : List Event) → IsPossible c r mine → length (known c r mine) ≤ row_count c + reserve c + 1
-known_within c r [] possible = omega arith
-known_within c r (e ∷ mine) possible = let s = parts_shorten_law c r mine e possible in within_by c r e.by e.verb e.answer mine s.allowed.may (known_within c r mine s.before)
-
 -- beyond the known positions nothing known was put
 pub none_known_beyond : (c : Config) (r p j : ℕ) (mine : List Event) → IsPossible c r mine → length (known c r mine) ≤ j → has_known c r p mine j ≡ false
 none_known_beyond c r p j mine possible beyond = sym (last_tells_known c r p j mine possible) ∙ ap (λ o. is_last_known o (last_landed r p j mine)) (slice_get_past (known c r mine) j beyond) ∙ nothing (last_landed r p j mine)
@@ -228,18 +204,6 @@ if_more : (t : Bool) (x y : ℕ) → x ≤ y → (if t then 0 else x) ≤ (if t 
 if_more true x y low = omega arith
 if_more false x y low = low
 
-none_of_or : (a b : Bool) → (a || b) ≡ false → a ≡ false
-none_of_or true b is = absurd (true≢false is)
-none_of_or false b is = refl
-
-true_or : (a b : Bool) → a ≡ true → a || b ≡ true
-true_or true b is = refl
-true_or false b is = absurd (true≢false (sym is))
-
-or_true : (a b : Bool) → b ≡ true → a || b ≡ true
-or_true true b is = refl
-or_true false b is = is
-
 -- how far region p has what is known after the event: from the greater of what it read and what it had, up to the first position that it lacks
 pub caught_step : (c : Config) (r p held to : ℕ) (e : Event) (mine : List Event) → ((j : ℕ) → j < held → is_caught_up_at c r p mine j ≡ true) → is_caught_up_at c r p mine held ≡ false
     → IsFirstBehind c r p (e ∷ mine) (max_with (fuo_read r p e.by e.verb e.answer) (if begins_leadership r e then 0 else held)) to
@@ -269,7 +233,7 @@ caught_step c r p held to e mine below next moved = (caught, ahead)
         omega (arith, is_now, more, start)
 
     ahead : is_caught_up_at c r p (e ∷ mine) to ≡ false
-    ahead = ap (λ x. x || has_known c r p (e ∷ mine) to) (lt_none to now low) ∙ moved.lacks
+    ahead = ap (λ x. x || has_known c r p (e ∷ mine) to) (le-ltb to now low) ∙ moved.lacks
 
     by_read : (j : ℕ) → is_below read j ≡ true → nat_lt j now ≡ true
     by_read j is = ap (λ x. nat_lt j x) is_now ∙ below_max read (if begins_leadership r e then 0 else seen) j ∙ true_or (is_below read j) (nat_lt j (if begins_leadership r e then 0 else seen)) is
@@ -290,16 +254,3 @@ caught_step c r p held to e mine below next moved = (caught, ahead)
           | inl k ↦ true_or (nat_lt j now) (has_known c r p (e ∷ mine) j) (by_read j k)
           | inr k ↦ still j (begins_leadership r e) refl k
         ]
-
--- a possible part knows few positions
-reserve_few : (t : Bool) (n : ℕ) → (if t then n else 0) ≤ n
-reserve_few true n = omega arith
-reserve_few false n = omega arith
-
-pub known_few : (c : Config) (r : ℕ) (mine : List Event) → IsConfig c → IsPossible c r mine → length (known c r mine) < 65536
-known_few c r mine config possible =
-    let most = known_within c r mine possible in
-    let rows = config.few in
-    let spare : reserve c ≤ c.replicas = reserve_few (c.version == 2) c.replicas in
-    let few = config.replicas.1 in
-    omega (arith, most, rows, spare, few)

@@ -10,7 +10,8 @@ use Rattle.mu_model.specs.Histories.{max_with}
 use Rattle.mu_model.specs.Knowledge.{fuo_read}
 use Rattle.mu_model.specs.Leaderships.{begins_leadership}
 use Rattle.mu_model.specs.Parts.{IsPossible}
-use Rattle.mu_parts.specs.Covering.{HoldsCoverage, IsFirstBehind, filled_spot, is_at, is_set}
+use Rattle.mu_parts.specs.Covering.{HoldsCoverage, IsFirstBehind, filled_spot, is_at}
+use Rattle.mu_parts.specs.Knowing.{is_set}
 use Rattle.mu_parts.specs.declared.covering.Coverage.{Coverage}
 use Rattle.mu_parts.proofs.Caught.{caught_step}
 use Rattle.mu_parts.proofs.Filled.{filled_step}

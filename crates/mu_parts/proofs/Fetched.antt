@@ -7,46 +7,14 @@ use Rattle.std.proofs.lemmas.Bool.Decides.{eqb_tells}
 use Rattle.mu_model.specs.declared.config.Config.{Config}
 use Rattle.mu_model.specs.declared.event.Event.{Event}
 use Rattle.mu_model.specs.declared.event.Verb.{Verb}
-use Rattle.mu_model.specs.Allowed.{Needs}
 use Rattle.mu_model.specs.Contents.{IsConfig, begins_batch, is_batch, rest_of, row_count}
 use Rattle.mu_model.specs.Histories.{all_below, has}
 use Rattle.mu_model.specs.Knowledge.{applied, fetched_prefix, front, has_entry, has_row, has_word, is_read, is_written, known, wrote}
-use Rattle.mu_model.specs.Parts.{IsPossible}
-use Rattle.mu_model.proofs.Scans.{all_at, each_all}
 use Rattle.mu_agree.proofs.Knowing.{known_stays}
-use Rattle.mu_agree.proofs.Possible.{parts_shorten_law}
+use Rattle.mu_agree.proofs.Landings.{has_more}
 use Rattle.mu_agree.proofs.Sessions.{batch_within, row_within}
-use Rattle.mu_parts.specs.Fetching.{IsOfRows}
-
-of_rows : (c : Config) (r : ℕ) (mine : List Event) (verb : Verb) → c.replicas ≤ 7 → Needs c r mine verb → IsOfRows c verb
-of_rows c r mine (Verb.WriteRow j k x) few needs = (needs.0, needs.1)
-of_rows c r mine (Verb.ReadRow v k) few needs = (let low = needs.0 in omega arith, (needs.1, needs.2))
-of_rows c r mine (Verb.Ask p) few needs = tt
-of_rows c r mine (Verb.Fence p) few needs = tt
-of_rows c r mine (Verb.Min p) few needs = tt
-of_rows c r mine (Verb.Enter p t) few needs = tt
-of_rows c r mine (Verb.PutMin p b) few needs = tt
-of_rows c r mine (Verb.Look p i) few needs = tt
-of_rows c r mine (Verb.PutSlot p i b v) few needs = tt
-of_rows c r mine (Verb.Fuo p) few needs = tt
-of_rows c r mine (Verb.RaiseFuo p u) few needs = tt
-of_rows c r mine (Verb.Head q) few needs = tt
-of_rows c r mine (Verb.ReadBeat q) few needs = tt
-of_rows c r mine (Verb.RaiseHead h) few needs = tt
-of_rows c r mine Verb.Beat few needs = tt
-of_rows c r mine (Verb.ReadAsk w) few needs = tt
-of_rows c r mine Verb.Close few needs = tt
-of_rows c r mine Verb.LookTarget few needs = tt
-of_rows c r mine Verb.Drain few needs = tt
-of_rows c r mine (Verb.Grant w) few needs = tt
-
--- the row and the word that the last event of a possible part names are there
-pub event_of_rows : (c : Config) (r : ℕ) (mine : List Event) (e : Event) → IsConfig c → IsPossible c r (e ∷ mine) → IsOfRows c e.verb
-event_of_rows c r mine e good possible = of_rows c r mine e.verb good.replicas.1 (parts_shorten_law c r mine e possible).allowed.may
-
--- the replica of a possible part is one of seven
-pub replica_is_low : (c : Config) (r : ℕ) (mine : List Event) (e : Event) → IsConfig c → IsPossible c r (e ∷ mine) → r < 7
-replica_is_low c r mine e good possible = let few = good.replicas.1 in let low = (parts_shorten_law c r mine e possible).allowed.replica in omega arith
+use Rattle.mu_agree.proofs.Sound.{all_implied}
+use Rattle.mu_parts.proofs.Basics.{same_some}
 
 -- all rows of a batch are there
 pub batch_there : (c : Config) (v : ℕ) → IsConfig c → is_batch c v ≡ true → (v / 4096 < 7) × (v % 4096 + (rest_of c (v % 4096) + 1) ≤ row_count c)
@@ -93,27 +61,16 @@ read_word r v k w word e mine verb own =
     go true false h = refl
     go false o h = refl
 
--- what was there is there after one more event
-has_stays : (test : Event → Bool) (e : Event) (mine : List Event) → has test mine ≡ true → has test (e ∷ mine) ≡ true
-has_stays test e mine is = go (test e)
-  where
-    go : (t : Bool) → cond t true (has test mine) ≡ true
-    go true = refl
-    go false = is
-
 word_stays : (r v k : ℕ) (e : Event) (mine : List Event) → has_word r v k mine ≡ true → has_word r v k (e ∷ mine) ≡ true
 word_stays r v k e mine is =
     go (v / 4096 == r) (wrote r (v % 4096) k mine) (has (λ f. is_read r v k f.by f.verb) mine) (wrote r (v % 4096) k (e ∷ mine)) (has (λ f. is_read r v k f.by f.verb) (e ∷ mine)) is
-    (has_stays (λ f. is_written r (v % 4096) k f.by f.verb) e mine) (has_stays (λ f. is_read r v k f.by f.verb) e mine)
+    (has_more (λ f. is_written r (v % 4096) k f.by f.verb) e mine) (has_more (λ f. is_read r v k f.by f.verb) e mine)
   where
     go : (a w h w' h' : Bool) → ((a && w) || h) ≡ true → (w ≡ true → w' ≡ true) → (h ≡ true → h' ≡ true) → ((a && w') || h') ≡ true
     go true true h w' h' is wrote_on read_on = rw (wrote_on refl) refl
     go true false h true h' is wrote_on read_on = refl
     go true false h false h' is wrote_on read_on = read_on is
     go false w h w' h' is wrote_on read_on = read_on is
-
-all_stays : (n : ℕ) (f g : ℕ → Bool) → ((k : ℕ) → f k ≡ true → g k ≡ true) → all_below n f ≡ true → all_below n g ≡ true
-all_stays n f g on all = each_all n g (λ k low. on k (all_at n f all k low))
 
 entry_stays : (c : Config) (r v : ℕ) (e : Event) (mine : List Event) → has_entry c r v mine ≡ true → has_entry c r v (e ∷ mine) ≡ true
 entry_stays c r v e mine is = go (is_batch c v) is
@@ -123,8 +80,8 @@ entry_stays c r v e mine is = go (is_batch c v) is
 
     go : (t : Bool) → (not t || all_below n (λ t. has_row r (v + t) mine)) ≡ true → (not t || all_below n (λ t. has_row r (v + t) (e ∷ mine))) ≡ true
     go true all =
-        all_stays n (λ t. has_row r (v + t) mine) (λ t. has_row r (v + t) (e ∷ mine))
-        (λ t row. all_stays 12 (λ k. has_word r (v + t) k mine) (λ k. has_word r (v + t) k (e ∷ mine)) (λ k word. word_stays r (v + t) k e mine word) row) all
+        all_implied n (λ t. has_row r (v + t) mine) (λ t. has_row r (v + t) (e ∷ mine))
+        (λ t row. all_implied 12 (λ k. has_word r (v + t) k mine) (λ k. has_word r (v + t) k (e ∷ mine)) (λ k word. word_stays r (v + t) k e mine word) row) all
     go false all = refl
 
 -- more pass of a longer list by a weaker test
@@ -143,13 +100,10 @@ applied_grows c r mine e =
     let more = front_grows (λ v. has_entry c r v mine) (λ v. has_entry c r v (e ∷ mine)) (λ v is. entry_stays c r v e mine is) (known c r mine) begins.rest in
     subst (λ values. length (applied c r mine) ≤ length (fetched_prefix c r (e ∷ mine) values)) begins.is more
 
-some_is : (x y : ℕ) → Some x ≡ Some y → x ≡ y
-some_is x y e = cc
-
 -- one more of the values before the first that fails
 pub front_more : (test : ℕ → Bool) (xs : List ℕ) (n v : ℕ) → n ≤ length (front test xs) → slice_get xs n ≡ Some v → test v ≡ true → n + 1 ≤ length (front test xs)
 front_more test [] n v low at is = cc
-front_more test (x ∷ xs) zero v low at is = let same = some_is x v at in rw (same, is) (omega arith)
+front_more test (x ∷ xs) zero v low at is = let same = same_some x v at in rw (same, is) (omega arith)
 front_more test (x ∷ xs) (suc n) v low at is = go (test x) low (front_more test xs n v)
   where
     go : (t : Bool) → suc n ≤ length (if t then (x ∷ front test xs) else []) → (n ≤ length (front test xs) → slice_get xs n ≡ Some v → test v ≡ true → n + 1 ≤ length (front test xs)) → suc n + 1 ≤ length (if t then (x ∷ front test xs) else [])
@@ -159,7 +113,7 @@ front_more test (x ∷ xs) (suc n) v low at is = go (test x) low (front_more tes
 -- the first that fails
 pub front_ends : (test : ℕ → Bool) (xs : List ℕ) (n v : ℕ) → n ≤ length (front test xs) → slice_get xs n ≡ Some v → test v ≡ false → n ≡ length (front test xs)
 front_ends test [] n v low at is = cc
-front_ends test (x ∷ xs) zero v low at is = let same = some_is x v at in rw (same, is) refl
+front_ends test (x ∷ xs) zero v low at is = let same = same_some x v at in rw (same, is) refl
 front_ends test (x ∷ xs) (suc n) v low at is = go (test x) low (front_ends test xs n v)
   where
     go : (t : Bool) → suc n ≤ length (if t then (x ∷ front test xs) else []) → (n ≤ length (front test xs) → slice_get xs n ≡ Some v → test v ≡ false → n ≡ length (front test xs)) → suc n ≡ length (if t then (x ∷ front test xs) else [])

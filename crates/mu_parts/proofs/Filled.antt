@@ -1,9 +1,11 @@
 -- Which positions one event shows to be filled.
-use Rattle.std.proofs.Common.{◌≡◌, ℕ, zero, suc, ◌+◌, ◌<◌, ◌≤◌, Bool, true, false, cond, ◌==◌, ◌&&◌, ◌||◌, List, ◌∷◌, length, refl, sym, ◌∙◌, ap, arith, Some, None, subst, eqb-true, max, true≢false, replicate}
+use Rattle.std.proofs.Common.{◌≡◌, ℕ, ◌+◌, ◌<◌, ◌≤◌, Bool, true, false, cond, ◌==◌, ◌&&◌, ◌||◌, List, ◌∷◌, length, refl, sym, ◌∙◌, ap, arith, Some, None, subst, eqb-true, max, true≢false, replicate}
+use Rattle.mu_parts.proofs.Lists.{copies_fail}
+use Rattle.std.proofs.Math.Bool.{and-false}
 use Rattle.std.specs.Prelude.{nat_le, nat_lt}
 use Rattle.std.specs.declared.option.Option.{Option}
 use Rattle.std.specs.List.{slice_get}
-use Rattle.std.proofs.lemmas.Bool.{eqb-false, leb-true, leb-false, ltb-true, ltb-false}
+use Rattle.std.proofs.lemmas.Bool.{eqb-false, le-ltb, leb-false, leb-true, lt-ltb, ltb-false, ltb-true, ne_eqb}
 use Rattle.std.proofs.lemmas.Option.{slice_get_past}
 use Rattle.mu_model.specs.declared.config.Config.{Config}
 use Rattle.mu_model.specs.declared.event.Answer.{Answer}
@@ -16,10 +18,11 @@ use Rattle.mu_model.specs.Knowledge.{fills, fuo_read, grown, is_accepted_by_all,
 use Rattle.mu_model.specs.Leaderships.{leadership}
 use Rattle.mu_model.specs.Parts.{IsPossible}
 use Rattle.mu_model.specs.Room.{reserve}
-use Rattle.mu_model.proofs.Scans.{all_at}
+use Rattle.mu_model.proofs.Scans.{all_at, each_all}
 use Rattle.mu_agree.proofs.Possible.{parts_shorten_law}
-use Rattle.mu_parts.specs.Covering.{filled_spot, is_at, is_below, is_set}
-use Rattle.mu_parts.proofs.Basics.{differs, same_number}
+use Rattle.mu_parts.specs.Covering.{filled_spot, is_at, is_below}
+use Rattle.mu_parts.specs.Knowing.{is_set}
+use Rattle.mu_parts.proofs.Basics.{same_number}
 
 -- a step at another position than the next teaches nothing
 not_grown : (c : Config) (r j : ℕ) (mine now : List Event) (o : Option ℕ) → o ≡ None → known c r now ≡ grown (known c r mine) o → (length (known c r mine) == j) && (length (known c r now) == j + 1) ≡ false
@@ -29,12 +32,8 @@ not_grown c r j mine now o nothing is = go (length (known c r mine) == j) refl
     same = ap length is ∙ ap (λ x. length (grown (known c r mine) x)) nothing
 
     go : (t : Bool) → (length (known c r mine) == j) ≡ t → (t && (length (known c r now) == j + 1)) ≡ false
-    go true at = let here = eqb-true (length (known c r mine)) j at in differs (length (known c r now)) (j + 1) (λ e. omega (arith, same, here, e))
+    go true at = let here = eqb-true (length (known c r mine)) j at in ne_eqb (length (known c r now)) (j + 1) (λ e. omega (arith, same, here, e))
     go false at = refl
-
-and_false : (t : Bool) → t && false ≡ false
-and_false true = refl
-and_false false = refl
 
 no_second : (a b d : Bool) → a && b ≡ false → a && (b && d) ≡ false
 no_second true b d none = rw none refl
@@ -64,13 +63,13 @@ put_fills c r p j by q i b v mine = go (by == r) refl (i == j) refl
         → (t && (((q == p) && (u && is_value (slice_get (known c r mine) j) v)) || ((length (known c r mine) == j) && ((length (known c r now) == j + 1) && has (lands_entry r p j b v) (leadership r now)))))
         ≡ is_at (cond (t && spot) (Some i) None) j
     go true own true here = subst (λ k. (((q == p) && is_value (slice_get (known c r mine) k) v) || ((length (known c r mine) == k) && ((length (known c r now) == k + 1) && has (lands_entry r p k b v) (leadership r now)))) ≡ is_at (cond spot (Some i) None) k) (eqb-true i j here) (spot_here i spot)
-    go true own false other = rw (and_false (q == p), no_second (length (known c r mine) == j) (length (known c r now) == j + 1) (has (lands_entry r p j b v) (leadership r now)) (still (length (known c r mine) == j) refl)) (spot_other i j spot other)
+    go true own false other = rw (and-false (q == p), no_second (length (known c r mine) == j) (length (known c r now) == j + 1) (has (lands_entry r p j b v) (leadership r now)) (still (length (known c r mine) == j) refl)) (spot_other i j spot other)
       where
         still : (t : Bool) → (length (known c r mine) == j) ≡ t → t && (length (known c r now) == j + 1) ≡ false
         still false at = refl
         still true at =
             let there = eqb-true (length (known c r mine)) j at in
-            let unmoved : (i == length (known c r mine)) ≡ false = differs i (length (known c r mine)) (λ e. eqb-false i j other (omega (arith, e, there))) in
+            let unmoved : (i == length (known c r mine)) ≡ false = ne_eqb i (length (known c r mine)) (λ e. eqb-false i j other (omega (arith, e, there))) in
             let none : cond ((by == r) && ((i == length (known c r mine)) && is_accepted_by_all c r now i b v)) (Some v) None ≡ None = rw (own, unmoved) refl in
             sym (ap (λ x. x && (length (known c r now) == j + 1)) at) ∙ not_grown c r j mine now _ none refl
     go false own u here = refl
@@ -106,6 +105,7 @@ fuo_fills r p j by q x = go (by == r) (q == p)
     go true false = refl
     go false u = refl
 
+-- what one event fills: what is below a FUO that it reads, and the position that it shows or puts
 pub fills_by : (c : Config) (r p j by : ℕ) (verb : Verb) (answer : Answer) (mine : List Event) → fills c r p j mine by verb answer (record { by = by; verb = verb; answer = answer } ∷ mine)
     ≡ (is_below (fuo_read r p by verb answer) j || is_at (filled_spot c r p mine by verb answer (record { by = by; verb = verb; answer = answer } ∷ mine)) j)
 fills_by c r p j by (Verb.Fuo q) (Answer.Number x) mine = fuo_fills r p j by q x
@@ -127,22 +127,9 @@ spot_by c r p j by (Verb.Look q i) (Answer.Entry b v) mine now needs at = go _ a
     go false at = cc
 spot_by c r p j by verb answer mine now needs at = cc
 
+-- the position that the last event of a possible part fills is in range
 pub spot_in_range : (c : Config) (r p j : ℕ) (e : Event) (mine : List Event) → IsPossible c r (e ∷ mine) → is_at (filled_spot c r p mine e.by e.verb e.answer (e ∷ mine)) j ≡ true → j ≤ row_count c + reserve c
 spot_in_range c r p j e mine possible at = spot_by c r p j e.by e.verb e.answer mine (e ∷ mine) (parts_shorten_law c r mine e possible).allowed.may at
-
-pub lt_none : (j x : ℕ) → x ≤ j → nat_lt j x ≡ false
-lt_none j x high = go (nat_lt j x) refl
-  where
-    go : (t : Bool) → nat_lt j x ≡ t → t ≡ false
-    go true is = let low = ltb-true j x is in absurd (omega arith)
-    go false is = refl
-
-pub lt_some : (j x : ℕ) → j < x → nat_lt j x ≡ true
-lt_some j x low = go (nat_lt j x) refl
-  where
-    go : (t : Bool) → nat_lt j x ≡ t → t ≡ true
-    go true is = refl
-    go false is = let high = ltb-false j x is in absurd (omega arith)
 
 -- a position is below the greater of two numbers where it is below one of them
 pub below_max : (o : Option ℕ) (x j : ℕ) → nat_lt j (max_with o x) ≡ (is_below o j || nat_lt j x)
@@ -150,9 +137,9 @@ below_max None x j = refl
 below_max (Some y) x j = go (nat_lt j y) refl (nat_lt j x) refl
   where
     go : (t : Bool) → nat_lt j y ≡ t → (u : Bool) → nat_lt j x ≡ u → nat_lt j (max y x) ≡ (t || u)
-    go true a u b = let low = ltb-true j y a in lt_some j (max y x) (omega arith)
-    go false a true b = let low = ltb-true j x b in lt_some j (max y x) (omega arith)
-    go false a false b = let first = ltb-false j y a in let second = ltb-false j x b in lt_none j (max y x) (omega arith)
+    go true a u b = let low = ltb-true j y a in lt-ltb j (max y x) (omega arith)
+    go false a true b = let low = ltb-true j x b in lt-ltb j (max y x) (omega arith)
+    go false a false b = let first = ltb-false j y a in let second = ltb-false j x b in le-ltb j (max y x) (omega arith)
 
 regroup : (a b x y : Bool) → ((a || b) || (x || y)) ≡ ((a || x) || (b || y))
 regroup true b x y = refl
@@ -188,34 +175,19 @@ filled_step c r p from to e mine old new possible room long before marked moved 
         let high : length old ≤ j = ltb-false j (length old) is in
         rw (slice_get_past old j high, slice_get_past new j (omega arith), beyond (is_at spot j) high refl) refl
 
--- a test that all numbers below n pass
-all_pass : (n : ℕ) (test : ℕ → Bool) → ((j : ℕ) → j < n → test j ≡ true) → all_below n test ≡ true
-all_pass zero test passes = refl
-all_pass (suc n) test passes = rw (passes n (omega arith), all_pass n test (λ j low. passes j (omega arith))) refl
-
 -- all positions below n are filled where n is no greater than the first that isn't
 pub filled_upto : (test : ℕ → Bool) (first n : ℕ) → ((j : ℕ) → j < first → test j ≡ true) → test first ≡ false → nat_le n first ≡ all_below n test
 filled_upto test first n below next = go (nat_le n first) refl (all_below n test) refl
   where
     go : (t : Bool) → nat_le n first ≡ t → (u : Bool) → all_below n test ≡ u → t ≡ u
     go true low true all = refl
-    go true low false all = let near = leb-true n first low in sym (all_pass n test (λ j small. below j (omega arith))) ∙ all
+    go true low false all = let near = leb-true n first low in sym (each_all n test (λ j small. below j (omega arith))) ∙ all
     go false high true all = let far = leb-false n first high in sym (sym (all_at n test all first (omega arith)) ∙ next)
     go false high false all = refl
 
--- the position that the pointer names isn't filled, and all below it are
-pub filled_below : (t u : Bool) → t ≡ true → t || u ≡ true
-filled_below true u is = refl
-filled_below false u is = absurd (true≢false (sym is))
-
--- before any event no mark is set
-pub none_set : (n j : ℕ) → is_set (slice_get (replicate n false) j) ≡ false
-none_set zero j = refl
-none_set (suc n) zero = refl
-none_set (suc n) (suc j) = none_set n j
-
+-- before any event no position is filled
 pub none_filled : (n j : ℕ) → false ≡ (nat_lt j 0 || is_set (slice_get (replicate n false) j))
-none_filled n j = sym (ap (λ x. x || is_set (slice_get (replicate n false) j)) (lt_none j 0 (omega arith)) ∙ none_set n j)
+none_filled n j = sym (ap (λ x. x || is_set (slice_get (replicate n false) j)) (le-ltb j 0 (omega arith)) ∙ copies_fail is_set n j false refl refl)
 
 -- of three tests the first two were made at once
 pub third_added : (a b x t l : Bool) → t ≡ (a && b) → t ≡ true → l ≡ x → l ≡ (a && (b && x))
@@ -223,6 +195,7 @@ third_added true true x t l is on last = last
 third_added true false x t l is on last = absurd (true≢false (sym on ∙ is))
 third_added false b x t l is on last = absurd (true≢false (sym on ∙ is))
 
+-- of three tests the first two were not made at once
 pub third_left : (a b x t : Bool) → t ≡ (a && b) → t ≡ false → false ≡ (a && (b && x))
 third_left true true x t is off = absurd (true≢false (sym is ∙ off))
 third_left true false x t is off = refl

@@ -1,7 +1,6 @@
 -- The grants of a region that a replica sees never go down.
-use Rattle.std.proofs.Common.{◌≡◌, ◌≢◌, ℕ, ◌≤◌, Bool, true, false, cond, ◌==◌, ◌&&◌, List, [], ◌∷◌, refl, sym, ◌∙◌, ap, arith, Some, None, inl, inr, eqb-true}
+use Rattle.std.proofs.Common.{◌≡◌, ◌≢◌, ℕ, ◌≤◌, Bool, true, false, cond, ◌==◌, ◌&&◌, List, [], ◌∷◌, refl, sym, ◌∙◌, ap, arith, Some, None, eqb-true}
 use Rattle.std.proofs.lemmas.Bool.{eq-eqb}
-use Rattle.std.proofs.lemmas.Bool.Decides.{eqb_tells}
 use Rattle.std.specs.Prelude.{is_some, not}
 use Rattle.std.specs.declared.option.Option.{Option}
 use Rattle.mu_model.specs.declared.config.Config.{Config}
@@ -19,6 +18,7 @@ use Rattle.mu_agree.proofs.Minimum.{grant_seen-own, read_under_seen, seen_law}
 use Rattle.mu_agree.proofs.Parts.{has-part}
 use Rattle.mu_agree.proofs.Possible.{at_event, parts_shorten_law}
 use Rattle.mu_parts.specs.Leading.{grant_of, last_grant}
+use Rattle.mu_parts.proofs.Basics.{same_number, same_some}
 
 -- r saw the grant g of p
 abbrev pub saw : ℕ → ℕ → ℕ → List Event → Bool
@@ -42,9 +42,6 @@ shows_no_lower c r p g mine e f possible verb answer seen =
     let whole : saw r p g s.older ≡ true = sym (has-part (λ x. grant_seen r p g x.by x.verb x.answer) r (grant_seen-own r p g) s.older) ∙ ap (λ l. saw r p g l) s.part_is ∙ seen in
     let low : g ≤ fence_grant p s.older = seen_law c r p s.older s.legal g whole in
     omega arith
-
-same_number : (g : ℕ) → g == g ≡ true
-same_number g = elim (eqb_tells g g) [ inl same ↦ same.0 | inr off ↦ absurd (off.1 refl) ]
 
 -- the greatest after a fence answer of p
 greatest_now : (r p : ℕ) (f : Fence) (mine : List Event) → ((g : ℕ) → saw r p g mine ≡ true → g ≤ f.grant) → (g : ℕ) → cond (f.grant == g) true (saw r p g mine) ≡ true
@@ -91,9 +88,6 @@ fence_read c r p mine e q f result possible verb answer own here told =
     let there : e.verb ≡ Verb.Fence p = verb ∙ ap (λ x. Verb.Fence x) (eqb-true q p here) in
     told (no_read_before c r p mine e f possible there answer) ∙ rw (verb, answer, own, here) refl
 
-some_is : (x y : ℕ) → Some x ≡ Some y → x ≡ y
-some_is x y e = cc
-
 -- the grant that r saw last was seen
 last_was_seen : (r p g : ℕ) (mine : List Event) → last_grant r p mine ≡ Some g → saw r p g mine ≡ true
 last_was_seen r p g [] is = cc
@@ -105,7 +99,7 @@ last_was_seen r p g (e ∷ mine) is = by_event e.by e.verb e.answer is (last_was
       where
         go : (t : Bool) → (by == r) ≡ t → (u : Bool) → (q == p) ≡ u → grant_of (newer_or (cond (t && u) (Some f) None) (newest (λ x. fence_seen r p x.by x.verb x.answer) mine)) ≡ Some g
             → cond (t && (u && (f.grant == g))) true (saw r p g mine) ≡ true
-        go true h true k is = let same : f.grant ≡ g = some_is f.grant g is in rw (eq-eqb f.grant g same) refl
+        go true h true k is = let same : f.grant ≡ g = same_some f.grant g is in rw (eq-eqb f.grant g same) refl
         go true h false k is = before is
         go false h u k is = before is
     by_event by verb answer is before = before is

@@ -1,48 +1,18 @@
 -- What a replica learns, and how many commands it may know.
-use Rattle.std.proofs.Common.{◌≡◌, ℕ, zero, suc, ◌+◌, ◌*◌, ◌%◌, ◌≤◌, ◌==◌, Bool, true, false, List, [], ◌∷◌, ◌++◌, refl, ◌∙◌, ap, arith, Some, length, replicate}
+use Rattle.std.proofs.Common.{◌≡◌, ℕ, zero, suc, ◌+◌, ◌*◌, ◌%◌, ◌≤◌, ◌==◌, Bool, true, false, List, [], ◌∷◌, ◌++◌, refl, ◌∙◌, ap, arith, Some, length}
 use Rattle.std.specs.Prelude.{if◌then◌else◌}
 use Rattle.std.proofs.lemmas.List.{length-append}
 use Rattle.mu_model.specs.declared.config.Config.{Config}
 use Rattle.mu_model.specs.declared.event.Answer.{Answer}
 use Rattle.mu_model.specs.declared.event.Event.{Event}
 use Rattle.mu_model.specs.declared.event.Verb.{Verb}
-use Rattle.mu_model.specs.Allowed.{Needs}
 use Rattle.mu_model.specs.Contents.{IsConfig, client_of, command_count, is_batch, number_of, numbers_in, rest_of, row_count, rows_from, rows_of, session}
 use Rattle.mu_model.specs.Knowledge.{learnt_by}
-use Rattle.mu_model.specs.Parts.{IsPossible}
 use Rattle.mu_model.specs.Room.{reserve}
 use Rattle.mu_agree.proofs.Knowing.{Teaches, by_look, by_put, teaches}
-use Rattle.mu_agree.proofs.Possible.{parts_shorten_law}
 use Rattle.mu_agree.proofs.Sessions.{row_within}
 use Rattle.mu_model.proofs.Scans.{taken_after}
-use Rattle.std.specs.List.{slice_get}
-use Rattle.mu_parts.specs.Knowing.{IsPlaced, is_set}
-
-within : (c : Config) (r : ℕ) (mine : List Event) (verb : Verb) → c.replicas ≤ 7 → Needs c r mine verb → IsPlaced c verb
-within c r mine (Verb.Look p i) few needs = (let low = needs.0 in omega arith, needs.1)
-within c r mine (Verb.PutSlot p i b v) few needs = needs.1
-within c r mine (Verb.Ask p) few needs = tt
-within c r mine (Verb.Fence p) few needs = tt
-within c r mine (Verb.Min p) few needs = tt
-within c r mine (Verb.Enter p t) few needs = tt
-within c r mine (Verb.PutMin p b) few needs = tt
-within c r mine (Verb.Fuo p) few needs = tt
-within c r mine (Verb.RaiseFuo p u) few needs = tt
-within c r mine (Verb.Head q) few needs = tt
-within c r mine (Verb.ReadBeat q) few needs = tt
-within c r mine (Verb.WriteRow j k x) few needs = tt
-within c r mine (Verb.ReadRow v k) few needs = tt
-within c r mine (Verb.RaiseHead h) few needs = tt
-within c r mine Verb.Beat few needs = tt
-within c r mine (Verb.ReadAsk w) few needs = tt
-within c r mine Verb.Close few needs = tt
-within c r mine Verb.LookTarget few needs = tt
-within c r mine Verb.Drain few needs = tt
-within c r mine (Verb.Grant w) few needs = tt
-
--- what the last event of a possible part names is there
-pub event_within : (c : Config) (r : ℕ) (mine : List Event) (e : Event) → IsConfig c → IsPossible c r (e ∷ mine) → IsPlaced c e.verb
-event_within c r mine e good possible = within c r mine e.verb good.replicas.1 (parts_shorten_law c r mine e possible).allowed.may
+use Rattle.mu_parts.specs.Knowing.{IsPlaced}
 
 within_taught : (c : Config) (r n v by : ℕ) (verb : Verb) (answer : Answer) (mine now : List Event) → Teaches c r mine now n v by verb answer → IsPlaced c verb → n ≤ row_count c + reserve c
 within_taught c r n v by verb answer mine now (by_put own all) near = near
@@ -89,16 +59,11 @@ few_commands c client (v ∷ values) good =
     let both = length-append (numbers_in c client (rows_of c v)) (session c client values) in
     omega arith
 
--- how many commands there are with a batch more, and with a mark more
+-- a batch adds as many commands as it has rows of the client
 pub batch_counted : (c : Config) (client v n : ℕ) (values : List ℕ) → is_batch c v ≡ true → n ≡ rest_of c (v % 4096) + 1
     → command_count c client (values ++ v ∷ []) ≡ command_count c client values + length (numbers_in c client (rows_from n (v % 4096)))
 batch_counted c client v n values is all = taken_after c client v values ∙ rw (is, all) refl
 
+-- a mark adds no command
 pub mark_counted : (c : Config) (client v : ℕ) (values : List ℕ) → is_batch c v ≡ false → command_count c client (values ++ v ∷ []) ≡ command_count c client values
 mark_counted c client v values is = taken_after c client v values ∙ rw is (omega arith)
-
--- no flag is set at the start
-pub none_set : (n i : ℕ) → is_set (slice_get (replicate n false) i) ≡ false
-none_set zero i = refl
-none_set (suc n) zero = refl
-none_set (suc n) (suc i) = none_set n i

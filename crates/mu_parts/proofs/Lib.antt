@@ -1,11 +1,8 @@
 pub mod Alike
 pub mod Basics
 pub mod Beyond
-pub mod Bounds
 pub mod Caught
-pub mod Changes
 pub mod Cover
-pub mod Each
 pub mod Fetched
 pub mod Filled
 pub mod Grants
@@ -15,6 +12,5 @@ pub mod Looks
 pub mod Noted
 pub mod Tables
 pub mod Times
-pub mod Walk
 pub mod Whole
 pub mod Within

@@ -1,8 +1,7 @@
 -- What the looks at one position came to, after one more event.
-use Rattle.std.proofs.Common.{◌≡◌, ℕ, ◌+◌, ◌≤◌, ◌==◌, ◌&&◌, Bool, true, false, cond, List, ◌∷◌, length, refl, sym, ap, ◌∙◌, subst, arith, Some, None, inl, inr}
+use Rattle.std.proofs.Common.{◌≡◌, ℕ, ◌+◌, ◌≤◌, ◌==◌, ◌&&◌, Bool, true, false, cond, List, ◌∷◌, length, refl, sym, ap, ◌∙◌, subst, arith, Some, None}
 use Rattle.std.specs.Prelude.{is_some, nat_lt, ◌%◌, ◌||◌}
-use Rattle.std.proofs.Math.Bool.{and-false}
-use Rattle.std.proofs.lemmas.Bool.Decides.{eqb_tells}
+use Rattle.std.proofs.Math.Bool.{and-false, and-true}
 use Rattle.std.specs.declared.option.Option.{Option}
 use Rattle.mu_model.specs.declared.config.Config.{Config}
 use Rattle.mu_model.specs.declared.event.Answer.{Answer}
@@ -16,6 +15,7 @@ use Rattle.mu_model.specs.Picks.{is_past, is_past_look, last_look, look_answer}
 use Rattle.mu_model.specs.Placing.{looked_before_entering}
 use Rattle.mu_parts.specs.declared.looking.Look.{Look}
 use Rattle.mu_parts.specs.Placing.{HoldsLook, begun_time, enter_time, has_looked_since, is_good_since, joining_time, member_time, put_time}
+use Rattle.mu_parts.proofs.Basics.{same_number}
 use Rattle.mu_parts.proofs.Times.{AtMost, is_early, joining_in_time, last_in_time, member_in_time, member_told, not_late}
 
 -- one event more
@@ -120,10 +120,6 @@ good_inside c r p i by m verb answer mine at in_it since none low held = rw in_i
 not_open : (s : ℕ) → Some Target.None ≡ Some (Target.Place s) → ⊥
 not_open s same = cc
 
-and_early : (b : Bool) → b ≡ (b && true)
-and_early true = refl
-and_early false = refl
-
 before_inside : (c : Config) (r p i by : ℕ) (verb : Verb) (answer : Answer) (mine : List Event) (at : ℕ) → is_member r p mine ≡ true → look_answer r p i by verb answer ≡ None → at ≤ length mine
     → SawBefore c r p i mine at → SawBefore c r p i (made by verb answer mine) at
 before_inside c r p i by (Verb.Ask q) answer mine at in_it none low held = by_test (by == r) refl (q == 0) refl
@@ -135,13 +131,13 @@ before_inside c r p i by (Verb.Ask q) answer mine at in_it none low held = by_te
 before_inside c r p i by (Verb.Enter q t) Answer.Entered mine at in_it none low held = by_test (by == r) refl (q == p) refl
   where
     by_test : (t' : Bool) → (by == r) ≡ t' → (u : Bool) → (q == p) ≡ u → SawBefore c r p i (made by (Verb.Enter q t) Answer.Entered mine) at
-    by_test true own true here = rw (in_it, own, here, is_early (length mine) at low) (λ s opened. and_early (has_looked_since c r p i mine))
+    by_test true own true here = rw (in_it, own, here, is_early (length mine) at low) (λ s opened. sym (and-true (has_looked_since c r p i mine)))
     by_test true own false here = rw (in_it, own, here) held
     by_test false own u here = rw (in_it, own) held
 before_inside c r p i by (Verb.Enter q t) answer mine at in_it none low held = by_test (by == r) refl (q == p) refl
   where
     by_test : (t' : Bool) → (by == r) ≡ t' → (u : Bool) → (q == p) ≡ u → SawBefore c r p i (made by (Verb.Enter q t) answer mine) at
-    by_test true own true here = rw (in_it, own, here, is_early (length mine) at low) (λ s opened. and_early (has_looked_since c r p i mine))
+    by_test true own true here = rw (in_it, own, here, is_early (length mine) at low) (λ s opened. sym (and-true (has_looked_since c r p i mine)))
     by_test true own false here = rw (in_it, own, here) held
     by_test false own u here = rw (in_it, own) held
 before_inside c r p i by (Verb.PutMin q b) answer mine at in_it none low held = by_test (by == r) refl (q == p) refl
@@ -263,9 +259,6 @@ look_taken c r p i by q j answer mine look now is_good own here there is told he
     by_entered : (o : Option ℕ) → member_time r p mine ≡ o → SawBefore c r p i (made by (Verb.Look q j) answer mine) good_at
     by_entered None never = before_outside c r p i by (Verb.Look q j) answer mine good_at (out never)
     by_entered (Some m) since = before_if m since (is_past answer) refl is_good refl
-
-pub same_number : (n : ℕ) → n == n ≡ true
-same_number n = elim (eqb_tells n n) [ inl same ↦ same.0 | inr off ↦ absurd (off.1 refl) ]
 
 -- the same of the event itself
 pub look_made : (c : Config) (p i : ℕ) (mine : List Event) (e : Event) (look new : Look) (now : ℕ) (is_good : Bool) → new ≡ looked now is_good e.answer look → e.verb ≡ Verb.Look p i → now ≡ length mine + 1 → is_good ≡ has_looked_since c e.by p i mine

@@ -1,8 +1,8 @@
 -- What one event changes of the notes of what was put.
-use Rattle.std.proofs.Common.{◌≡◌, ℕ, zero, suc, replicate, ◌+◌, ◌*◌, ◌<◌, Bool, true, false, cond, ◌==◌, ◌&&◌, List, [], ◌∷◌, length, set, refl, sym, ◌∙◌, ap, arith, Some, None, subst, eqb-true}
+use Rattle.std.proofs.Common.{Bool, List, None, Some, [], ap, arith, cond, eqb-true, false, inl, inr, length, refl, replicate, set, subst, true, ℕ, ◌&&◌, ◌*◌, ◌+◌, ◌<◌, ◌==◌, ◌∷◌, ◌≡◌, ◌≢◌, ◌⊎◌}
 use Rattle.std.specs.declared.option.Option.{Option}
 use Rattle.std.specs.List.{slice_get}
-use Rattle.std.proofs.lemmas.Bool.{eqb-false}
+use Rattle.std.proofs.lemmas.Bool.{ne_eqb}
 use Rattle.std.proofs.lemmas.Option.{slice_get_within}
 use Rattle.mu_model.specs.declared.event.Answer.{Answer}
 use Rattle.mu_model.specs.declared.event.Event.{Event}
@@ -10,8 +10,8 @@ use Rattle.mu_model.specs.declared.event.Verb.{Verb}
 use Rattle.mu_model.specs.Leaderships.{begins_leadership, leaderships}
 use Rattle.mu_parts.specs.Landings.{IsWithin, Notes, NotesEach, entry_put, landed_put, noted_in}
 use Rattle.mu_parts.specs.declared.landings.Landing.{Landing}
-use Rattle.mu_parts.proofs.Lists.{get_set_here, get_set_other}
-use Rattle.mu_parts.proofs.Basics.{differs, same_number, same_some}
+use Rattle.mu_parts.proofs.Lists.{all_copies, set_get}
+use Rattle.mu_parts.proofs.Basics.{same_number, same_some}
 
 none_of : {A : Type 0} (t : Bool) (x : A) → cond (t && false) (Some x) None ≡ None
 none_of true x = refl
@@ -20,7 +20,7 @@ none_of false x = refl
 -- what was noted in a leadership is of none in the next one
 none_next : (n : ℕ) (noted : Option Landing) → IsWithin n noted → (noted_in (n + 1) noted ≡ None) × IsWithin (n + 1) noted
 none_next n None within = (refl, tt)
-none_next n (Some landing) within = (rw (differs landing.leadership (n + 1) (λ e. omega (arith, e, within))) refl, omega (arith, within))
+none_next n (Some landing) within = (rw (ne_eqb landing.leadership (n + 1) (λ e. omega (arith, e, within))) refl, omega (arith, within))
 
 -- what is noted of a position where the event puts nothing
 pub note_kept : (r p i : ℕ) (e : Event) (mine : List Event) (noted : Option Landing) → entry_put r p i e.by e.verb e.answer ≡ None → Notes r p i mine noted → Notes r p i (e ∷ mine) noted
@@ -58,6 +58,7 @@ pub record IsPutOf (r : ℕ) (e : Event) (q j n v : ℕ) : Type 0 where
   pub verb : e.verb ≡ Verb.PutSlot q j n v
   pub answer : e.answer ≡ Answer.Done
 
+-- where a put landed, the event is this put
 pub is_put_of : (r : ℕ) (e : Event) (q j n v : ℕ) → landed_put r e.by e.verb e.answer ≡ Some (q, j, n, v) → IsPutOf r e q j n v
 is_put_of r e q j n v is = let found = go e.by e.verb e.answer is in record { own = found.0; verb = found.1; answer = found.2 }
   where
@@ -106,29 +107,25 @@ put_kept r e mine notes q j n v is out held = notes_kept r e mine notes none hel
 -- the event is a put that is noted
 pub put_noted : (r : ℕ) (e : Event) (mine : List Event) (notes : List (Option Landing)) (q j n v at : ℕ) (landing : Landing) → landed_put r e.by e.verb e.answer ≡ Some (q, j, n, v) → q < 7 → at ≡ j * 7 + q → at < length notes
     → landing.leadership ≡ leaderships r (e ∷ mine) → landing.number ≡ n → landing.value ≡ v → NotesEach r mine notes → NotesEach r (e ∷ mine) (set notes at (Some landing))
-put_noted r e mine notes q j n v at landing is region place low now number value held p i noted small there = go (i * 7 + p == at) refl
+put_noted r e mine notes q j n v at landing is region place low now number value held p i noted small there = by_place (set_get notes at (Some landing) (i * 7 + p) noted there)
   where
     put : IsPutOf r e q j n v
     put = is_put_of r e q j n v is
 
-    go : (t : Bool) → (i * 7 + p == at) ≡ t → Notes r p i (e ∷ mine) noted
-    go true is =
-        let same : i * 7 + p ≡ at = eqb-true (i * 7 + p) at is in
+    by_place : ((i * 7 + p ≡ at) × (Some landing ≡ noted)) ⊎ ((i * 7 + p ≢ at) × (slice_get notes (i * 7 + p) ≡ Some noted)) → Notes r p i (e ∷ mine) noted
+    by_place (inl here) =
+        let same : i * 7 + p ≡ at = here.0 in
         let position : j ≡ i = omega arith in
         let home : q ≡ p = omega arith in
-        let fresh : slice_get (set notes at (Some landing)) at ≡ Some noted = subst (λ k. slice_get (set notes at (Some landing)) k ≡ Some noted) same there in
-        let new : Some landing ≡ noted = same_some (Some landing) noted (sym (get_set_here notes at (Some landing) low) ∙ fresh) in
-        subst (λ o. Notes r p i (e ∷ mine) o) new (noted_here position home)
+        subst (λ o. Notes r p i (e ∷ mine) o) here.1 (noted_here position home)
       where
         noted_here : j ≡ i → q ≡ p → Notes r p i (e ∷ mine) (Some landing)
         noted_here position home = record {
           entry = rw (now, same_number (leaderships r (e ∷ mine)), number, value, put.verb, put.answer, put.own, position, home, same_number r, same_number p, same_number i) refl;
           within = omega (arith, now);
         }
-    go false is =
-        let other = eqb-false (i * 7 + p) at is in
-        let old : slice_get notes (i * 7 + p) ≡ Some noted = sym (get_set_other notes (i * 7 + p) at (Some landing) other) ∙ there in
-        note_kept r p i e mine noted (rw (put.verb, put.answer) (none (q == p) refl (j == i) refl)) (held p i noted small old)
+    by_place (inr other) =
+        note_kept r p i e mine noted (rw (put.verb, put.answer) (none (q == p) refl (j == i) refl)) (held p i noted small other.1)
       where
         entry : ℕ × ℕ
         entry = (n, v)
@@ -137,15 +134,10 @@ put_noted r e mine notes q j n v at landing is region place low now number value
         none true home true position =
             let there : q ≡ p = eqb-true q p home in
             let here : j ≡ i = eqb-true j i position in
-            absurd (eqb-false (i * 7 + p) at is (omega arith))
+            absurd (other.0 (omega arith))
         none true home false position = none_of (e.by == r) entry
         none false home x position = none_of (e.by == r) entry
 
 -- before any event nothing is noted
 pub none_noted : (r n : ℕ) → NotesEach r [] (replicate n None)
-none_noted r n p i noted small at = rw (sym (all_none n (i * 7 + p) noted at)) (record { entry = refl; within = tt })
-  where
-    all_none : (m k : ℕ) (x : Option Landing) → slice_get (replicate m None) k ≡ Some x → None ≡ x
-    all_none zero k x at = cc
-    all_none (suc m) zero x at = same_some None x at
-    all_none (suc m) (suc k) x at = all_none m k x at
+none_noted r n p i noted small at = all_copies (λ k note. (Notes r p i [] note)) n None (λ k. record { entry = refl; within = tt }) (i * 7 + p) noted at

@@ -1,9 +1,7 @@
 -- Tables of looks, puts and first puts after one more event.
-use Rattle.std.proofs.Common.{◌≡◌, ◌≢◌, ℕ, zero, suc, ◌+◌, ◌<◌, ◌≤◌, ◌==◌, ◌&&◌, Bool, true, false, cond, List, [], ◌∷◌, length, refl, sym, ap, ◌∙◌, subst, arith, Some, None, set, inl, inr, eqb-true, take, ◌++◌, replicate, get_or}
+use Rattle.std.proofs.Common.{◌≡◌, ◌≢◌, ℕ, ◌+◌, ◌<◌, ◌≤◌, ◌==◌, ◌&&◌, Bool, true, false, cond, List, ◌∷◌, length, refl, sym, ap, ◌∙◌, subst, arith, Some, None, set, inl, inr, eqb-true, get_or}
 use Rattle.std.specs.Prelude.{is_some, nat_lt}
-use Rattle.std.proofs.lemmas.Bool.{eqb-false}
 use Rattle.std.proofs.lemmas.Option.{slice_get_within}
-use Rattle.std.proofs.Math.Seq.{take-append_seam}
 use Rattle.std.specs.declared.option.Option.{Option}
 use Rattle.std.specs.List.{slice_get}
 use Rattle.mu_model.specs.declared.config.Config.{Config}
@@ -13,13 +11,13 @@ use Rattle.mu_model.specs.declared.event.Verb.{Verb}
 use Rattle.mu_model.specs.Histories.{earlier_or}
 use Rattle.mu_model.specs.Leaderships.{is_member}
 use Rattle.mu_model.specs.Picks.{first_value, joined_since_first_put, look_answer, value_put}
-use Rattle.mu_model.proofs.Entries.{get_push_here, get_push_other}
 use Rattle.mu_parts.specs.declared.looking.Look.{Look}
 use Rattle.mu_parts.specs.declared.looking.Looks.{Looks}
 use Rattle.mu_parts.specs.declared.placing.First.{First}
 use Rattle.mu_parts.specs.Placing.{HoldsEachLook, HoldsEachRegion, HoldsFirst, HoldsFirsts, HoldsLook, HoldsLooks, begun_time, joining_time}
-use Rattle.mu_parts.proofs.Each.{item_read, set_get}
-use Rattle.mu_parts.proofs.Looks.{look_stays, made, same_number}
+use Rattle.mu_parts.proofs.Basics.{same_number}
+use Rattle.mu_parts.proofs.Lists.{item_read, set_get}
+use Rattle.mu_parts.proofs.Looks.{look_stays, made}
 use Rattle.mu_parts.proofs.Times.{is_early, joining_in_time, last_in_time, not_late}
 
 -- a look at another position, or of another replica
@@ -38,6 +36,7 @@ pub looks_stay : (c : Config) (r p : ℕ) (mine : List Event) (e : Event) (looks
 looks_stay c r p mine e looks outside held i look there =
     look_stays c r p i e.by e.verb e.answer mine look (no_look r p i e.by e.verb e.answer (λ q j is own here same. let far = outside q j is own here in let near = slice_get_within looks i look there in absurd (omega (arith, far, near, same)))) (held i look there)
 
+-- two looks that are the same name the same region and position
 pub look_is : (p q i j : ℕ) → Verb.Look p i ≡ Verb.Look q j → (p ≡ q) × (i ≡ j)
 look_is p q i j same = (cc, cc)
 
@@ -149,6 +148,7 @@ pub firsts_stay : (r : ℕ) (mine : List Event) (e : Event) (firsts : List First
 firsts_stay r mine e firsts outside held i first there =
     first_stays r i e.by e.verb e.answer mine first (no_put r i e.by e.verb (λ q j b v is own same. let far = outside q j b v is own in let near = slice_get_within firsts i first there in absurd (omega (arith, far, near, same)))) (held i first there)
 
+-- two puts that are the same name the same position
 pub put_is : (q j b v p k d w : ℕ) → Verb.PutSlot q j b v ≡ Verb.PutSlot p k d w → j ≡ k
 put_is q j b v p k d w same = cc
 
@@ -159,32 +159,6 @@ firsts_put r q j b v mine e firsts was new is found step held i first there = el
   | inl here ↦ subst (λ k. HoldsFirst r k (e ∷ mine) first) (sym here.0) (subst (λ l. HoldsFirst r j (e ∷ mine) l) here.1 (step (held j was found)))
   | inr other ↦ first_stays r i e.by e.verb e.answer mine first (no_put r i e.by e.verb (λ p k d w at own same. other.0 (sym (put_is q j b v p k d w (sym is ∙ at) ∙ same)))) (held i first other.1)
 ]
-
--- a list written back over one of the same length
-pub written_back : {A : Type 0} (n : ℕ) (new rest : List A) → length new ≡ n → take n (new ++ rest) ≡ new
-written_back n new rest same = subst (λ m. take m (new ++ rest) ≡ new) same (take-append_seam new rest)
-
-same_thing : {A : Type 0} (x y : A) → Some x ≡ Some y → x ≡ y
-same_thing x y same = cc
-
--- one more item at the end
-pub all_pushed : {A : Type 0} (P : ℕ → A → Type 0) (xs : List A) (z : A) → ((i : ℕ) (x : A) → slice_get xs i ≡ Some x → P i x) → P (length xs) z → (i : ℕ) (x : A) → slice_get (xs ++ z ∷ []) i ≡ Some x → P i x
-all_pushed P xs z held last i x there = by_test (i == length xs) refl
-  where
-    by_test : (t : Bool) → (i == length xs) ≡ t → P i x
-    by_test true is =
-        let here = eqb-true i (length xs) is in
-        subst (λ k. P k x) (sym here) (subst (λ y. P (length xs) y) (same_thing z x (sym (get_push_here xs i z here) ∙ there)) last)
-    by_test false is = held i x (sym (get_push_other xs i z (eqb-false i (length xs) is)) ∙ there)
-
--- what holds of an item at each place holds in a list of copies of it
-pub all_copies : {A : Type 0} (P : ℕ → A → Type 0) (n : ℕ) (z : A) → ((i : ℕ) → P i z) → (i : ℕ) (x : A) → slice_get (replicate n z) i ≡ Some x → P i x
-all_copies P n z holds i x there = subst (λ y. P i y) (copy n i there) (holds i)
-  where
-    copy : (n i : ℕ) → slice_get (replicate n z) i ≡ Some x → z ≡ x
-    copy zero i there = cc
-    copy (suc n) zero there = same_thing z x there
-    copy (suc n) (suc i) there = copy n i there
 
 -- the region that was found at place p
 pub region_found : (c : Config) (r p : ℕ) (mine : List Event) (regions items : List Looks) (k : ℕ) (looks : Looks) → items ≡ regions → k ≡ p → looks ≡ get_or items k looks → k < length items → HoldsEachRegion c r mine regions → HoldsLooks c r p mine looks

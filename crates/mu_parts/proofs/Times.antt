@@ -17,6 +17,7 @@ not_late n x low = le-ltb (n + 1) x (omega arith)
 pub is_early : (n x : ℕ) → x ≤ n → nat_lt x (n + 1) ≡ true
 is_early n x low = lt-ltb x (n + 1) (omega arith)
 
+-- the last time at which a test passed is at most the length of the history
 pub last_in_time : (test : Event → Bool) (mine : List Event) → last_time test mine ≤ length mine
 last_in_time test [] = omega arith
 last_in_time test (e ∷ mine) = by_test (test e) refl (last_in_time test mine)
@@ -25,6 +26,7 @@ last_in_time test (e ∷ mine) = by_test (test e) refl (last_in_time test mine)
     by_test true is before = rw is (omega arith)
     by_test false is before = rw is (omega (arith, before))
 
+-- the same of the last joining
 pub joining_in_time : (r : ℕ) (mine : List Event) → joining_time r mine ≤ length mine
 joining_in_time r [] = omega arith
 joining_in_time r (e ∷ mine) = by_test (is_joining r mine e.by e.verb e.answer) refl (begins_leadership r e) refl (joining_in_time r mine)
@@ -39,6 +41,7 @@ abbrev pub AtMost : ℕ → Option ℕ → Type 0
 AtMost n None = Unit {0}
 AtMost n (Some x) = x ≤ n
 
+-- the same of the joining of a region
 pub member_in_time : (r p : ℕ) (mine : List Event) → AtMost (length mine) (member_time r p mine)
 member_in_time r p [] = tt
 member_in_time r p (e ∷ mine) = by_test (begins_leadership r e) refl (lands_min r p e.by e.verb e.answer) refl (member_time r p mine) refl (member_in_time r p mine)

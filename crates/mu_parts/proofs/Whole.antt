@@ -1,41 +1,27 @@
 -- The states of all replicas and the parts of a history.
-use Rattle.std.proofs.Common.{ℕ, Bool, true, false, List, [], ◌∷◌, ◌++◌, Some, ◌≡◌, ◌≢◌, ◌==◌, inl, inr, refl, sym, ◌∙◌, set, length, subst, eqb-true}
+use Rattle.std.proofs.Common.{ℕ, List, ◌∷◌, Some, ◌≡◌, ◌≢◌, inl, inr, refl, sym, ◌∙◌, set, subst}
+use Rattle.mu_parts.proofs.Basics.{same_number}
 use Rattle.std.specs.List.{slice_get}
-use Rattle.std.proofs.lemmas.Bool.{eqb-false}
 use Rattle.std.proofs.lemmas.Bool.Decides.{eqb_tells}
 use Rattle.mu_model.specs.declared.config.Config.{Config}
 use Rattle.mu_model.specs.declared.event.Event.{Event}
 use Rattle.mu_model.specs.Histories.{part}
 use Rattle.mu_model.specs.Legal.{IsLegalHistory}
 use Rattle.mu_model.specs.Parts.{IsPossible}
-use Rattle.mu_model.proofs.Entries.{get_push_here, get_push_other}
 use Rattle.mu_parts.specs.declared.mover.Mover.{Mover}
 use Rattle.mu_parts.specs.Parts.{HoldsPart}
-use Rattle.mu_parts.proofs.Each.{set_get}
+use Rattle.mu_parts.proofs.Lists.{set_get}
 
 -- each state of the list, counted from 0, stands for the part of its replica
 abbrev pub HoldsEach : Config → List Event → List Mover → Type 0
 HoldsEach c past movers = (r : ℕ) (state : Mover) → slice_get movers r ≡ Some state → HoldsPart c r (part r past) state
-
-same_some : {A : Type 0} (x y : A) → Some x ≡ Some y → x ≡ y
-same_some x y same = cc
-
-pub each_pushed : (c : Config) (past : List Event) (movers : List Mover) (last : Mover) → HoldsEach c past movers → HoldsPart c (length movers) (part (length movers) past) last → HoldsEach c past (movers ++ last ∷ [])
-each_pushed c past movers last held new r state at = by_test (r == length movers) refl
-  where
-    by_test : (t : Bool) → (r == length movers) ≡ t → HoldsPart c r (part r past) state
-    by_test true is =
-        let here = eqb-true r (length movers) is in
-        let same : last ≡ state = same_some last state (sym (get_push_here movers r last here) ∙ at) in
-        subst (λ q. HoldsPart c q (part q past) state) (sym here) (subst (λ s. HoldsPart c (length movers) (part (length movers) past) s) same new)
-    by_test false is = held r state (sym (get_push_other movers r last (eqb-false r (length movers) is)) ∙ at)
 
 -- the part of a replica is a possible one
 pub is_possible : (c : Config) (r : ℕ) (past : List Event) → IsLegalHistory c past → IsPossible c r (part r past)
 is_possible c r past legal = record { past = past; legal = legal; is = refl }
 
 own_part : (e : Event) (past : List Event) → part e.by (e ∷ past) ≡ e ∷ part e.by past
-own_part e past = elim (eqb_tells e.by e.by) [ inl same ↦ rw same.0 refl | inr off ↦ absurd (off.1 refl) ]
+own_part e past = rw (same_number e.by) refl
 
 other_part : (r : ℕ) (e : Event) (past : List Event) → r ≢ e.by → part r (e ∷ past) ≡ part r past
 other_part r e past differ = elim (eqb_tells e.by r) [ inl same ↦ absurd (differ (sym same.1)) | inr off ↦ rw off.0 refl ]

@@ -12,13 +12,9 @@ use Rattle.mu_model.specs.Knowledge.{is_filled, is_value, known, lands_entry}
 use Rattle.mu_model.specs.Leaderships.{leadership}
 use Rattle.mu_model.specs.Placing.{is_caught_up_at, is_known_put}
 use Rattle.mu_model.specs.Room.{reserve}
+use Rattle.mu_parts.specs.Knowing.{is_set}
 use Rattle.mu_parts.specs.declared.covering.Coverage.{Coverage}
 use Rattle.mu_parts.specs.declared.covering.Covering.{Covering}
-
--- there is a mark, and it is set
-abbrev pub is_set : Option Bool → Bool
-is_set None = false
-is_set (Some mark) = mark
 
 -- j is below the number, where there is one
 abbrev pub is_below : Option ℕ → ℕ → Bool

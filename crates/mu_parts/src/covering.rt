@@ -9,7 +9,8 @@ ghost use Rattle.mu_model.specs.Knowledge.{fuo_read, is_filled, is_value, known,
 ghost use Rattle.mu_model.specs.Leaderships.{begins_leadership, leadership};
 ghost use Rattle.mu_model.specs.Parts.{IsPossible};
 ghost use Rattle.mu_model.specs.Placing.{is_caught_up_at};
-ghost use Rattle.mu_parts.specs.Covering.{HoldsCoverage, HoldsCoverages, HoldsCovering, IsFirstBehind, filled_spot, has_known, is_at, is_set};
+ghost use Rattle.mu_parts.specs.Covering.{HoldsCoverage, HoldsCoverages, HoldsCovering, IsFirstBehind, filled_spot, has_known, is_at};
+ghost use Rattle.mu_parts.specs.Knowing.{is_set};
 ghost use Rattle.mu_parts.specs.Landings.{HoldsLandings};
 
 use crate::contents::positions_in;

@@ -1,6 +1,6 @@
 use Rattle.std.proofs.Common.{ℕ, ◌<◌, ◌≡◌, ◌≤◌, true}
 use Rattle.std.specs.List.{slice_get}
-use Rattle.mu_parts.specs.Covering.{is_set}
+use Rattle.mu_parts.specs.Knowing.{is_set}
 use Rattle.mu_parts.proofs.covering.first_unmarked.Given as goal
 
 abbrev pub invariant-loop-at : goal.invariant-loop-at

@@ -3,7 +3,8 @@ use Rattle.std.specs.List.{slice_get}
 use Rattle.std.proofs.lemmas.Bool.{cases_lt}
 use Rattle.mu_model.specs.Knowledge.{is_value, known}
 use Rattle.mu_parts.specs.Covering.{has_known}
-use Rattle.mu_parts.proofs.Caught.{is_last_known, known_few, last_tells_known, none_known_beyond}
+use Rattle.mu_parts.proofs.Caught.{is_last_known, last_tells_known, none_known_beyond}
+use Rattle.mu_parts.proofs.Within.{known_few}
 use Rattle.mu_parts.proofs.covering.has_put_known.Goals as goal
 
 pub returns-in-Err : goal.returns-in-Err

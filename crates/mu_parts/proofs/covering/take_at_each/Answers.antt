@@ -1,6 +1,6 @@
 use Rattle.std.proofs.Common.{◌∷◌, arith, refl}
 use Rattle.mu_parts.specs.Covering.{HoldsCoverage}
-use Rattle.mu_parts.proofs.Each.{upto_all, upto_next}
+use Rattle.mu_parts.proofs.Lists.{upto_all, upto_next}
 use Rattle.mu_parts.proofs.covering.take_at_each.Goals as goal
 
 pub loop-region-init : goal.loop-region-init

@@ -6,7 +6,7 @@ use Rattle.mu_model.specs.Knowledge.{known}
 use Rattle.mu_model.specs.Parts.{IsPossible}
 use Rattle.mu_parts.specs.Covering.{HoldsCoverage, HoldsCoverages}
 use Rattle.mu_parts.specs.Landings.{HoldsLandings}
-use Rattle.mu_parts.proofs.Each.{HoldsUpto}
+use Rattle.mu_parts.proofs.Lists.{HoldsUpto}
 use Rattle.mu_parts.proofs.covering.take_at_each.Given as goal
 
 abbrev pub invariant-loop-region : goal.invariant-loop-region

@@ -1,8 +1,12 @@
-use Rattle.std.proofs.Common.{ℕ, List, [], ◌∷◌, ◌++◌}
+use Rattle.std.proofs.Common.{ℕ, List, [], ◌∷◌, ◌++◌, ◌≡◌, length}
 use Rattle.mu_model.specs.Contents.{marked}
 use Rattle.mu_parts.specs.Knowing.{MarksReplicas}
-use Rattle.mu_parts.proofs.Changes.{Changed}
+use Rattle.mu_parts.proofs.Lists.{HoldsUpto}
 use Rattle.mu_parts.proofs.knowing.note_mark.Given as goal
 
 abbrev pub invariant-loop-q : goal.invariant-loop-q
-invariant-loop-q l = (values : List ℕ) → MarksReplicas l.config values l.fn.marks → Changed 7 (λ p. marked l.config p values) (λ p. marked l.config p (values ++ l.v ∷ [])) l.q l.marks
+invariant-loop-q l = record {
+  count : length l.marks ≡ 7;
+  upto : (values : List ℕ) → MarksReplicas l.config values l.fn.marks
+      → HoldsUpto (λ q mark. mark ≡ marked l.config q values) (λ q mark. mark ≡ marked l.config q (values ++ l.v ∷ [])) l.q l.marks;
+}

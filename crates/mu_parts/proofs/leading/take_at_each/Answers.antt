@@ -1,6 +1,6 @@
 use Rattle.std.proofs.Common.{arith, ◌∷◌, ◌≡◌, length, length-set, ◌∙◌}
 use Rattle.mu_parts.specs.Leading.{HoldsDealing}
-use Rattle.mu_parts.proofs.Each.{upto_next, upto_all}
+use Rattle.mu_parts.proofs.Lists.{upto_next, upto_all}
 use Rattle.mu_parts.proofs.leading.take_at_each.Goals as goal
 
 pub loop-p-preserved : goal.loop-p-preserved

@@ -3,7 +3,7 @@ use Rattle.mu_model.specs.declared.config.Config.{Config}
 use Rattle.mu_model.specs.declared.event.Event.{Event}
 use Rattle.mu_model.specs.Parts.{IsPossible}
 use Rattle.mu_parts.specs.Leading.{HoldsDealing, HoldsDealings}
-use Rattle.mu_parts.proofs.Each.{HoldsUpto}
+use Rattle.mu_parts.proofs.Lists.{HoldsUpto}
 use Rattle.mu_parts.proofs.leading.take_at_each.Given as goal
 
 abbrev pub invariant-loop-p : goal.invariant-loop-p

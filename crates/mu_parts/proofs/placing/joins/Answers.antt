@@ -1,7 +1,7 @@
 use Rattle.std.proofs.Common.{◌≡◌, rules, refl, true, ◌==◌}
 use Rattle.mu_model.specs.declared.event.Answer.{Answer}
 use Rattle.mu_model.specs.declared.event.Verb.{Verb}
-use Rattle.mu_parts.proofs.Bounds.{puts_within}
+use Rattle.mu_parts.proofs.Within.{puts_within}
 use Rattle.mu_parts.proofs.placing.joins.Goals as goal
 
 pub returns-then-event-r : goal.returns-then-event-r

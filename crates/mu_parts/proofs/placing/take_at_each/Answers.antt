@@ -1,6 +1,6 @@
 use Rattle.std.proofs.Common.{◌∷◌, arith, refl}
 use Rattle.mu_parts.specs.Placing.{HoldsLooks}
-use Rattle.mu_parts.proofs.Each.{upto_all, upto_next}
+use Rattle.mu_parts.proofs.Lists.{upto_all, upto_next}
 use Rattle.mu_parts.proofs.placing.take_at_each.Goals as goal
 
 pub loop-looks-preserved : goal.loop-looks-preserved

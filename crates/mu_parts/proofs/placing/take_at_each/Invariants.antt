@@ -2,7 +2,7 @@ use Rattle.std.proofs.Common.{◌≡◌, ◌+◌, ◌<◌, List, ◌∷◌, leng
 use Rattle.mu_model.specs.declared.config.Config.{Config}
 use Rattle.mu_model.specs.declared.event.Event.{Event}
 use Rattle.mu_parts.specs.Placing.{HoldsEachRegion, HoldsLooks}
-use Rattle.mu_parts.proofs.Each.{HoldsUpto}
+use Rattle.mu_parts.proofs.Lists.{HoldsUpto}
 use Rattle.mu_parts.proofs.placing.take_at_each.Given as goal
 
 abbrev pub invariant-loop-looks : goal.invariant-loop-looks

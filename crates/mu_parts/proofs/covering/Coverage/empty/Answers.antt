@@ -1,5 +1,7 @@
 use Rattle.std.proofs.Common.{rules, ◌≡◌, false, replicate, refl, arith}
-use Rattle.mu_parts.proofs.Filled.{none_filled, none_set}
+use Rattle.mu_parts.specs.Knowing.{is_set}
+use Rattle.mu_parts.proofs.Filled.{none_filled}
+use Rattle.mu_parts.proofs.Lists.{copies_fail}
 use Rattle.mu_parts.proofs.covering.Coverage.empty.Goals as goal
 
 pub returns : goal.returns
@@ -9,7 +11,7 @@ returns c r =
       id = refl;
       room = search (rules, c.in_ok-vec.ensures.len, c.positions_in.ensures.count);
       filled = λ j. rw clear (none_filled c.positions_in.result j);
-      filled_next = rw clear (none_set c.positions_in.result 0);
+      filled_next = rw clear (copies_fail is_set c.positions_in.result 0 false refl refl);
       caught = λ j low. absurd (omega arith);
       caught_next = refl;
     }

@@ -1,10 +1,11 @@
 use Rattle.std.proofs.Common.{List, Bool, false, ℕ, ◌∷◌, ◌∙◌, ◌≡◌, ◌<◌, ◌||◌, length, drop, refl, ap, subst}
 use Rattle.std.specs.Prelude.{nat_lt}
+use Rattle.std.proofs.lemmas.List.{take_at}
 use Rattle.std.specs.List.{slice_get}
 use Rattle.mu_model.specs.Histories.{max_with}
-use Rattle.mu_parts.specs.Covering.{IsFirstBehind, is_at, is_set}
+use Rattle.mu_parts.specs.Covering.{IsFirstBehind, is_at}
+use Rattle.mu_parts.specs.Knowing.{is_set}
 use Rattle.mu_parts.proofs.Cover.{coverage_step}
-use Rattle.mu_parts.proofs.Lists.{written_back}
 use Rattle.mu_parts.proofs.covering.Coverage.take.Goals as goal
 
 pub returns : goal.returns
@@ -15,7 +16,7 @@ returns c c' p mine config possible before after landings held =
     let same = c.deref_mut.ensures.value in
     let long = c.mark.auto.marks in
     let marks = c.mark.new.marks in
-    let back = written_back c.args.self.now.filled.len marks (drop (length marks) c.args.self.now.filled.items) (long ∙ c.deref_mut.ensures.len) in
+    let back = take_at marks (drop (length marks) c.args.self.now.filled.items) c.args.self.now.filled.len (long ∙ c.deref_mut.ensures.len) in
     let marked = subst (λ (l : List Bool). (j : ℕ) → j < length l → is_set (slice_get marks j) ≡ (is_at c.spot_filled-spot.result j || is_set (slice_get l j))) same c.mark.ensures in
     let view = c.deref.ensures.value ∙ back in
     let to = c.first_unmarked-self.result in

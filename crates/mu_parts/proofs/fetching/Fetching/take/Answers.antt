@@ -1,8 +1,9 @@
 use Rattle.std.proofs.Common.{Bool, List, ◌≡◌, ◌≤◌, ◌∷◌, ◌∙◌, drop, length, subst, sym}
 use Rattle.mu_model.specs.Knowledge.{applied, fetched_prefix}
+use Rattle.std.proofs.lemmas.List.{take_at}
 use Rattle.mu_parts.specs.Fetching.{HasWords, WroteWords}
-use Rattle.mu_parts.proofs.Changes.{written_back}
-use Rattle.mu_parts.proofs.Fetched.{applied_grows, event_of_rows, replica_is_low}
+use Rattle.mu_parts.proofs.Within.{event_of_rows, replica_is_low}
+use Rattle.mu_parts.proofs.Fetched.{applied_grows}
 use Rattle.mu_parts.proofs.fetching.Fetching.take.Goals as goal
 
 pub returns : goal.returns
@@ -15,8 +16,8 @@ returns c mine good possible are held =
     let low = replica_is_low k r mine e good possible in
     let wrote_before = subst (λ (words : List Bool). WroteWords k r mine words) (sym c.deref_mut.ensures.value) held.written in
     let got_before = subst (λ (words : List Bool). HasWords k r mine words) (sym c.deref_mut-2.ensures.value) held.got in
-    let wrote_back = written_back self.written.len c.note_written.new.written (drop (length c.note_written.new.written) self.written.items) (c.note_written.auto.written ∙ c.deref_mut.ensures.len) in
-    let got_back = written_back self.got.len c.note_got.new.got (drop (length c.note_got.new.got) self.got.items) (c.note_got.auto.got ∙ c.deref_mut-2.ensures.len) in
+    let wrote_back = take_at c.note_written.new.written (drop (length c.note_written.new.written) self.written.items) self.written.len (c.note_written.auto.written ∙ c.deref_mut.ensures.len) in
+    let got_back = take_at c.note_got.new.got (drop (length c.note_got.new.got) self.got.items) self.got.len (c.note_got.auto.got ∙ c.deref_mut-2.ensures.len) in
     let written = subst (λ (words : List Bool). WroteWords k r (e ∷ mine) words) (sym wrote_back) (c.note_written.ensures k mine near wrote_before) in
     let got = subst (λ (words : List Bool). HasWords k r (e ∷ mine) words) (sym got_back) (c.note_got.ensures k mine good low near got_before) in
     let grows : self.applied ≤ length (fetched_prefix k r (e ∷ mine) c.args.known_after.now) =

@@ -1,7 +1,7 @@
-use Rattle.std.proofs.Common.{rules, ◌≡◌, false, replicate, ◌∙◌}
+use Rattle.std.proofs.Common.{rules, ◌≡◌, false, replicate, ◌∙◌, refl}
 use Rattle.std.proofs.lemmas.List.{length-replicate}
-use Rattle.mu_parts.proofs.Changes.{get_replicate}
-use Rattle.mu_parts.proofs.Learning.{none_set}
+use Rattle.mu_parts.proofs.Lists.{copies_fail, get_replicate}
+use Rattle.mu_parts.specs.Knowing.{is_set}
 use Rattle.mu_parts.proofs.knowing.Knowing.start.Goals as goal
 
 pub returns : goal.returns
@@ -17,5 +17,5 @@ returns c r =
       };
       fuos = λ p small. get_replicate 7 p 0 small;
       positions = rw unset (length-replicate c.positions_in-positions.result false ∙ c.positions_in-positions.ensures.count);
-      seen = λ i. rw unset (none_set c.positions_in-positions.result i);
+      seen = λ i. rw unset (copies_fail is_set c.positions_in-positions.result i false refl refl);
     }

@@ -1,8 +1,9 @@
 use Rattle.std.proofs.Common.{Bool, List, ◌≡◌, ◌∷◌, ◌∙◌, ap, drop, length, subst, sym}
 use Rattle.mu_model.specs.Knowledge.{grown, known}
+use Rattle.std.proofs.lemmas.List.{take_at}
 use Rattle.mu_parts.specs.Knowing.{HoldsValues, ReadsFuos, SeesEntries}
-use Rattle.mu_parts.proofs.Learning.{event_within, learns_within}
-use Rattle.mu_parts.proofs.Changes.{written_back}
+use Rattle.mu_parts.proofs.Learning.{learns_within}
+use Rattle.mu_parts.proofs.Within.{event_within}
 use Rattle.mu_parts.proofs.knowing.Knowing.take.Goals as goal
 
 pub returns : goal.returns
@@ -16,7 +17,7 @@ returns c mine good possible accepted held =
     let values = subst (λ x. HoldsValues k (grown (known k r mine) x) c.learn.new.self) is some in
     let same : c.deref_mut.result.now ≡ c.args.self.now.seen.items = c.deref_mut.ensures.value ∙ ap (λ x. x.items) c.learn.ensures.seen in
     let long : length c.note_seen.new.seen ≡ length c.args.self.now.seen.items = c.note_seen.auto.seen ∙ ap length same in
-    let back = written_back c.learn.new.self.seen.len c.note_seen.new.seen (drop (length c.note_seen.new.seen) c.learn.new.self.seen.items) (c.note_seen.auto.seen ∙ c.deref_mut.ensures.len) in
+    let back = take_at c.note_seen.new.seen (drop (length c.note_seen.new.seen) c.learn.new.self.seen.items) c.learn.new.self.seen.len (c.note_seen.auto.seen ∙ c.deref_mut.ensures.len) in
     let before = subst (λ (seen : List Bool). SeesEntries r mine seen) (sym same) held.seen in
     record {
       values = record { are = values.are; room = values.room; marks = values.marks; counts = values.counts };

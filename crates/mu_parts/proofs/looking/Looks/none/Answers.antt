@@ -1,7 +1,7 @@
 use Rattle.std.proofs.Common.{◌≡◌, List, ℕ, refl, rules, replicate, subst, sym, []}
 use Rattle.mu_parts.specs.declared.looking.Look.{Look}
 use Rattle.mu_parts.specs.Placing.{HoldsEachLook, HoldsLook, HoldsPuts}
-use Rattle.mu_parts.proofs.Tables.{all_copies}
+use Rattle.mu_parts.proofs.Lists.{all_copies}
 use Rattle.mu_parts.proofs.looking.Looks.none.Goals as goal
 
 pub returns : goal.returns

@@ -1,7 +1,7 @@
 use Rattle.std.proofs.Common.{◌≡◌, ℕ, List, ◌∷◌, drop, length, sym, ap, subst, ◌∙◌, arith}
 use Rattle.mu_parts.specs.declared.looking.Look.{Look}
+use Rattle.std.proofs.lemmas.List.{take_at}
 use Rattle.mu_parts.specs.Placing.{HoldsEachLook, HoldsLooks, HoldsPuts, HoldsReach, enter_time, member_time}
-use Rattle.mu_parts.proofs.Tables.{written_back}
 use Rattle.mu_parts.proofs.looking.Looks.take.Goals as goal
 
 pub returns : goal.returns
@@ -10,8 +10,8 @@ returns c k p mine ring at held =
     let here : c.args.self.now.region ≡ p = held.region in
     let own : HoldsLooks k r c.args.self.now.region mine c.args.self.now = subst (λ q. HoldsLooks k r q mine c.args.self.now) (sym here) held in
     let long = held.positions in
-    let looks = written_back c.args.self.now.looks.len c.note_look.new.looks (drop (length c.note_look.new.looks) c.args.self.now.looks.items) (c.note_look.auto.looks ∙ c.deref_mut.ensures.len) in
-    let puts = written_back c.args.self.now.puts.len c.note_put.new.puts (drop (length c.note_put.new.puts) c.args.self.now.puts.items) (c.note_put.auto.puts ∙ c.deref_mut-2.ensures.len) in
+    let looks = take_at c.note_look.new.looks (drop (length c.note_look.new.looks) c.args.self.now.looks.items) c.args.self.now.looks.len (c.note_look.auto.looks ∙ c.deref_mut.ensures.len) in
+    let puts = take_at c.note_put.new.puts (drop (length c.note_put.new.puts) c.args.self.now.puts.items) c.args.self.now.puts.len (c.note_put.auto.puts ∙ c.deref_mut-2.ensures.len) in
     let same_looks = c.deref_mut.ensures.value in
     let same_puts = c.deref_mut-2.ensures.value in
     let ring_long : length c.deref_mut-2.result.now ≡ k.ring = ap length same_puts ∙ held.places in

@@ -1,5 +1,5 @@
 use Rattle.std.proofs.Common.{◌∷◌, arith, ap, ◌<◌, ◌∙◌, length, refl}
-use Rattle.mu_parts.proofs.Within.{few_steps, known_before, known_grows}
+use Rattle.mu_parts.proofs.Within.{is_short, known_before, known_grows}
 use Rattle.mu_parts.proofs.mover.Mover.take.Goals as goal
 
 pub returns : goal.returns
@@ -7,7 +7,7 @@ returns c mine possible held =
     let k = c.args.config.now in
     let r = c.args.event.now.by in
     let e = c.args.event.now in
-    let few : length mine < 131072 = few_steps k r mine e c.requires.config possible in
+    let few : length mine < 131071 = is_short k r mine e c.requires.config possible in
     let leading = c.take-2.ensures k mine c.requires.config.replicas.1 possible held.leading in
     let landings = c.take-5.ensures k mine c.requires.config possible held.landings in
     let accepted = c.is_accepted-accepted.ensures k mine refl c.requires.config possible leading landings in

@@ -1,7 +1,7 @@
 use Rattle.std.proofs.Common.{◌≡◌, List, rules, sym, subst, [], refl, replicate}
 use Rattle.mu_parts.specs.declared.placing.First.{First}
 use Rattle.mu_parts.specs.Placing.{HoldsFirst, HoldsFirsts, HoldsLooks}
-use Rattle.mu_parts.proofs.Tables.{all_copies, all_pushed}
+use Rattle.mu_parts.proofs.Lists.{all_copies, each_pushed}
 use Rattle.mu_parts.proofs.placing.Placing.start.Goals as goal
 
 pub loop-p-preserved : goal.loop-p-preserved
@@ -10,7 +10,7 @@ loop-p-preserved c = record {
   room = search rules;
   each =
       let last = subst (λ p. HoldsLooks c.args.config.now c.args.r p [] c.in_ok-none.field-0) (sym c.loop-p.invariant.count) (c.in_ok-none.ensures c.args.r) in
-      rw c.push_reserved.ensures.items (all_pushed (λ p looks. HoldsLooks c.args.config.now c.args.r p [] looks) c.loop-p.regions.items c.in_ok-none.field-0 c.loop-p.invariant.each last);
+      rw c.push_reserved.ensures.items (each_pushed (λ p looks. HoldsLooks c.args.config.now c.args.r p [] looks) c.loop-p.regions.items c.in_ok-none.field-0 c.loop-p.invariant.each last);
 }
 
 pub returns : goal.returns

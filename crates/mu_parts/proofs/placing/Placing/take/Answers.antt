@@ -1,11 +1,11 @@
 use Rattle.std.proofs.Common.{◌≡◌, List, ◌∷◌, ◌<◌, drop, length, sym, ap, subst, ◌∙◌, arith}
 use Rattle.mu_model.specs.Parts.{IsPossible}
+use Rattle.std.proofs.lemmas.List.{take_at}
 use Rattle.mu_parts.specs.declared.looking.Looks.{Looks}
 use Rattle.mu_parts.specs.declared.placing.First.{First}
 use Rattle.mu_parts.specs.Leading.{HoldsLeading}
 use Rattle.mu_parts.specs.Placing.{HoldsEachRegion, HoldsFirsts, HoldsOwnReach, HoldsPlacing, begun_time, joining_time}
-use Rattle.mu_parts.proofs.Bounds.{is_short}
-use Rattle.mu_parts.proofs.Tables.{written_back}
+use Rattle.mu_parts.proofs.Within.{is_short}
 use Rattle.mu_parts.proofs.placing.Placing.take.Goals as goal
 
 pub returns : goal.returns
@@ -18,8 +18,8 @@ returns c k r mine config possible leading held =
     let short = is_short k r mine c.args.event.now config possible in
     let ring : 0 < k.ring = let low = config.ring.0 in omega (arith, low) in
     let joining = c.joins-joining.ensures k mine config.replicas.1 can leads in
-    let firsts = written_back c.args.self.now.firsts.len c.note_first.new.firsts (drop (length c.note_first.new.firsts) c.args.self.now.firsts.items) (c.note_first.auto.firsts ∙ c.deref_mut.ensures.len) in
-    let regions = written_back c.args.self.now.regions.len c.take_at_each.new.regions (drop (length c.take_at_each.new.regions) c.args.self.now.regions.items) (c.take_at_each.auto.regions ∙ c.deref_mut-2.ensures.len) in
+    let firsts = take_at c.note_first.new.firsts (drop (length c.note_first.new.firsts) c.args.self.now.firsts.items) c.args.self.now.firsts.len (c.note_first.auto.firsts ∙ c.deref_mut.ensures.len) in
+    let regions = take_at c.take_at_each.new.regions (drop (length c.take_at_each.new.regions) c.args.self.now.regions.items) c.args.self.now.regions.len (c.take_at_each.auto.regions ∙ c.deref_mut-2.ensures.len) in
     let same_firsts = c.deref_mut.ensures.value in
     let same_regions = c.deref_mut-2.ensures.value in
     let firsts_before : HoldsFirsts c.args.self.now.replica mine c.deref_mut.result.now = subst (λ (xs : List First). HoldsFirsts c.args.self.now.replica mine xs) (sym same_firsts) own.firsts in
