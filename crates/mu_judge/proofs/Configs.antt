@@ -29,3 +29,7 @@ config_stands c limits good = record {
   numbers = λ j below. (good j below).number;
   batches = λ j k below is. (good j below).continued k is;
 }
+
+-- each row of a configuration is good
+pub rows_good : (c : Config) → IsConfig c → (j : ℕ) → j < row_count c → IsGoodRow c j
+rows_good c config j below = record { rest = config.rests j below; number = config.numbers j below; continued = λ k is. config.batches j k below is }
