@@ -1,16 +1,1 @@
-pub mod Alike
-pub mod Basics
-pub mod Beyond
-pub mod Caught
-pub mod Cover
-pub mod Fetched
-pub mod Filled
-pub mod Grants
-pub mod Learning
-pub mod Lists
-pub mod Looks
-pub mod Noted
-pub mod Tables
-pub mod Times
 pub mod Whole
-pub mod Within

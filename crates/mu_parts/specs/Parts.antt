@@ -6,14 +6,14 @@ use Rattle.mu_model.specs.declared.event.Event.{Event}
 use Rattle.mu_model.specs.Histories.{part}
 use Rattle.mu_parts.specs.declared.mover.Mover.{Mover}
 use Rattle.mu_parts.specs.declared.movers.Movers.{Movers}
-use Rattle.mu_parts.specs.Covering.{HoldsCovering}
-use Rattle.mu_parts.specs.Fetching.{HoldsFetching}
-use Rattle.mu_parts.specs.Heads.{HoldsHeads}
-use Rattle.mu_parts.specs.Hosting.{HoldsHosting}
-use Rattle.mu_parts.specs.Knowing.{HoldsKnowing}
-use Rattle.mu_parts.specs.Landings.{HoldsLandings}
-use Rattle.mu_parts.specs.Leading.{HoldsLeading}
-use Rattle.mu_parts.specs.Placing.{HoldsPlacing}
+use Rattle.mu_learns.specs.Covering.{HoldsCovering}
+use Rattle.mu_learns.specs.Fetching.{HoldsFetching}
+use Rattle.mu_leads.specs.Heads.{HoldsHeads}
+use Rattle.mu_leads.specs.Hosting.{HoldsHosting}
+use Rattle.mu_learns.specs.Knowing.{HoldsKnowing}
+use Rattle.mu_learns.specs.Landings.{HoldsLandings}
+use Rattle.mu_leads.specs.Leading.{HoldsLeading}
+use Rattle.mu_looks.specs.Placing.{HoldsPlacing}
 
 -- the state of replica r stands for its events
 pub record HoldsPart (c : Config) (r : ℕ) (mine : List Event) (state : Mover) : Type 0 where

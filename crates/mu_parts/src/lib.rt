@@ -4,19 +4,8 @@
 //! come from a running state, so that they cost about the same however many events there were.
 #![tactic(auto)]
 
-mod contents;
-mod covering;
-mod dealing;
-mod fetching;
-mod heads;
-mod hosting;
-mod knowing;
-mod landings;
-mod leading;
-mod looking;
 mod mover;
 mod movers;
-mod placing;
 mod putting;
 
 pub use movers::Movers;

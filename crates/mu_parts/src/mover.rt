@@ -7,20 +7,14 @@ ghost use Rattle.mu_model.specs.Contents.{IsConfig, row_count};
 ghost use Rattle.mu_model.specs.Parts.{IsPossible};
 ghost use Rattle.mu_model.specs.Room.{reserve};
 ghost use Rattle.mu_model.specs.Knowledge.{known};
-ghost use Rattle.mu_parts.specs.Knowing.{TellsAccepted};
-ghost use Rattle.mu_parts.specs.Landings.{HoldsLandings};
-ghost use Rattle.mu_parts.specs.Leading.{HoldsLeading};
+ghost use Rattle.mu_learns.specs.Knowing.{TellsAccepted};
+ghost use Rattle.mu_learns.specs.Landings.{HoldsLandings};
+ghost use Rattle.mu_leads.specs.Leading.{HoldsLeading};
 ghost use Rattle.mu_parts.specs.Parts.{HoldsPart};
 
-use crate::contents::{reserve_of, row_word};
-use crate::covering::Covering;
-use crate::fetching::Fetching;
-use crate::heads::Heads;
-use crate::hosting::Hosting;
-use crate::knowing::Knowing;
-use crate::landings::Landings;
-use crate::leading::Leading;
-use crate::placing::Placing;
+use mu_leads::{Heads, Hosting, Leading, reserve_of, row_word};
+use mu_learns::{Covering, Fetching, Knowing, Landings};
+use mu_looks::Placing;
 use mu_model::{Config, Event, NoMemory, Verb};
 use std::alloc::Global;
 

@@ -15,8 +15,8 @@ ghost use Rattle.mu_model.specs.Placing.{IsNew, MayPutSlot, fuo_read_or_raised, 
 ghost use Rattle.mu_model.specs.Room.{has_room, is_mark_candidate, last_head, reserve};
 ghost use Rattle.mu_parts.specs.Parts.{HoldsPart};
 
-use crate::contents::{reserve_of, row_client, row_number, stands_for_batch};
 use crate::mover::Mover;
+use mu_leads::{reserve_of, row_client, row_number, stands_for_batch};
 use mu_model::{Config, Target, stands_for_mark};
 
 /// Whether all points hold.

@@ -1,5 +1,5 @@
 use Rattle.std.proofs.Common.{arith, refl, sym, ◌∙◌}
-use Rattle.mu_parts.proofs.Within.{needs_of}
+use Rattle.mu_leads.proofs.Within.{needs_of}
 use Rattle.mu_parts.proofs.mover.Mover.meets_needs.Goals as goal
 
 pub returns-in-Ask : goal.returns-in-Ask

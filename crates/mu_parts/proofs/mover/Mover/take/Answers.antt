@@ -1,5 +1,5 @@
 use Rattle.std.proofs.Common.{◌∷◌, arith, ap, ◌<◌, ◌∙◌, length, refl}
-use Rattle.mu_parts.proofs.Within.{is_short, known_before, known_grows}
+use Rattle.mu_leads.proofs.Within.{is_short, known_before, known_grows}
 use Rattle.mu_parts.proofs.mover.Mover.take.Goals as goal
 
 pub returns : goal.returns

@@ -1,0 +1,4 @@
+pub mod Basics
+pub mod Grants
+pub mod Lists
+pub mod Within

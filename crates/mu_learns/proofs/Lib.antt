@@ -1,0 +1,9 @@
+pub mod Alike
+pub mod Beyond
+pub mod Caught
+pub mod Cover
+pub mod Fetched
+pub mod Filled
+pub mod Learning
+pub mod Noted
+pub mod Placed

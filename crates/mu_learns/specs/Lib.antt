@@ -1,0 +1,4 @@
+pub mod Covering
+pub mod Fetching
+pub mod Knowing
+pub mod Landings

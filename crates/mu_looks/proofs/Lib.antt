@@ -1,0 +1,3 @@
+pub mod Looks
+pub mod Tables
+pub mod Times
