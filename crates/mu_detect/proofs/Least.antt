@@ -1,0 +1,33 @@
+-- The least number that passes.
+use Rattle.std.proofs.Common.{Bool, arith, false, true, suc, zero, ℕ, ◌+◌, ◌<◌, ◌==◌, ◌≡◌, ◌≢◌, inl, inr, eqb-true, eq-eqb, refl, sym, subst}
+use Rattle.std.proofs.lemmas.Bool.{cases_lt}
+use Rattle.mu_model.specs.Scores.{least_below}
+
+-- a number equals itself
+pub same_number : (n : ℕ) → n == n ≡ true
+same_number n = eq-eqb n n refl
+
+-- the test whether two numbers that differ are equal
+pub different : (a b : ℕ) → a ≢ b → a == b ≡ false
+different a b other = by_test (a == b) refl
+  where
+    by_test : (t : Bool) → (a == b) ≡ t → a == b ≡ false
+    by_test true is = absurd (other (eqb-true a b is))
+    by_test false is = is
+
+-- none below q passes, nor q itself
+pub least_next : (test : ℕ → Bool) (q : ℕ) → least_below q test ≡ q → test q ≡ false → least_below (q + 1) test ≡ q + 1
+least_next test q none fails =
+    let more : suc q ≡ q + 1 = omega arith in
+    subst (λ m. least_below m test ≡ m) more (rw none (rw (same_number q) (rw fails (sym more))))
+
+-- the first one that passes is the least below each number above it
+pub least_found : (test : ℕ → Bool) (n q : ℕ) → least_below q test ≡ q → test q ≡ true → q < n → least_below n test ≡ q
+least_found test zero q none passes low = absurd (omega arith)
+least_found test (suc n) q none passes low = elim (cases_lt q n) [
+  | inl below ↦ rw (least_found test n q none passes below) (rw (different q n (λ same. absurd (omega arith))) refl)
+  | inr above ↦ here (omega arith)
+]
+  where
+    here : q ≡ n → least_below (suc n) test ≡ q
+    here e = subst (λ m. least_below (suc m) test ≡ q) e (rw none (rw (same_number q) (rw passes refl)))

@@ -1,0 +1,3 @@
+pub mod Leaders
+pub mod Least
+pub mod Peers

@@ -1,0 +1,63 @@
+-- What is held of the replicas, after one more event.
+use Rattle.std.proofs.Common.{Bool, List, None, Some, [], arith, false, true, suc, zero, ℕ, ◌<◌, ◌==◌, ◌≡◌, ◌≢◌, ◌⊎◌, inl, inr, ◌∷◌, refl, sym, subst, ap, ◌∙◌, set, get_or, length}
+use Rattle.std.specs.List.{slice_get}
+use Rattle.std.proofs.lemmas.Option.{slice_get-get_or}
+use Rattle.mu_model.specs.declared.event.Answer.{Answer}
+use Rattle.mu_model.specs.declared.event.Event.{Event}
+use Rattle.mu_model.specs.declared.event.Verb.{Verb}
+use Rattle.mu_detect.specs.Stands.{HoldsPeer, HoldsPeers, OthersKeep, reads_count}
+use Rattle.mu_detect.specs.declared.scores.Peer.{Peer}
+use Rattle.mu_model.specs.Scores.{beat_read}
+use Rattle.mu_detect.proofs.Least.{different}
+
+-- two things that are there and equal as such are the same thing
+pub same_some : {A : Type 0} (x y : A) → Some x ≡ Some y → x ≡ y
+same_some x y same = cc
+
+-- an item of a list in which one was set is this one or an old one
+pub set_get : {A : Type 0} (xs : List A) (i : ℕ) (y : A) (k : ℕ) (z : A) → slice_get (set xs i y) k ≡ Some z → ((k ≡ i) × (y ≡ z)) ⊎ ((k ≢ i) × (slice_get xs k ≡ Some z))
+set_get [] zero y k z is = cc
+set_get [] (suc i) y k z is = cc
+set_get (x ∷ xs) zero y zero z is = inl (refl, same_some y z is)
+set_get (x ∷ xs) zero y (suc k) z is = inr ((λ e. absurd (omega arith)), is)
+set_get (x ∷ xs) (suc i) y zero z is = inr ((λ e. absurd (omega arith)), is)
+set_get (x ∷ xs) (suc i) y (suc k) z is = elim (set_get xs i y k z is) [ inl here ↦ inl (ap suc here.0, here.1) | inr other ↦ inr ((λ e. other.0 (omega arith)), other.1) ]
+
+-- what is held of a replica stays, where the event reads nothing of it
+pub peer_kept : (r q : ℕ) (mine : List Event) (e : Event) (peer : Peer) → beat_read r q e.by e.verb e.answer ≡ None → HoldsPeer r q mine peer → HoldsPeer r q (e ∷ mine) peer
+peer_kept r q mine e peer none held = record { count = rw none held.count; points = rw none held.points; alive = rw none held.alive }
+
+-- an event that reads no count of beats reads none of q
+pub reads_none : (r q by : ℕ) (verb : Verb) (answer : Answer) → reads_count verb answer ≡ false → beat_read r q by verb answer ≡ None
+reads_none r q by (Verb.ReadBeat p) (Answer.Number x) none = cc
+reads_none r q by _ _ none = refl
+
+-- an event that reads no count of beats changes nothing of what the scores stand for
+pub others_kept : OthersKeep
+others_kept n r mine state event none held = record {
+  few = held.few;
+  inside = held.inside;
+  replicas = held.replicas;
+  id = held.id;
+  peers = λ q peer low there. peer_kept r q mine event peer (reads_none r q event.by event.verb event.answer none) (held.peers q peer low there);
+}
+
+-- a read of p tells nothing of q
+pub reads_other : (r q p x by : ℕ) (verb : Verb) (answer : Answer) → verb ≡ Verb.ReadBeat p → answer ≡ Answer.Number x → (p == q) ≡ false → beat_read r q by verb answer ≡ None
+reads_other r q p x by verb answer is says other = rw is (rw says (go (by == r) refl))
+  where
+    go : (t : Bool) → (by == r) ≡ t → beat_read r q by (Verb.ReadBeat p) (Answer.Number x) ≡ None
+    go true is = rw is (rw other refl)
+    go false is = rw is refl
+
+-- one replica was read
+pub peers_after : (n r p x k : ℕ) (mine : List Event) (e : Event) (peers : List Peer) (new : Peer) → k ≡ p → e.verb ≡ Verb.ReadBeat p → e.answer ≡ Answer.Number x → HoldsPeers n r mine peers → (p < n → HoldsPeer r p (e ∷ mine) new) → HoldsPeers n r (e ∷ mine) (set peers k new)
+peers_after n r p x k mine e peers new at is says held step q peer low there = elim (set_get peers k new q peer there) [
+  | inl here ↦ let same = here.0 ∙ at in
+      subst (λ m. HoldsPeer r m (e ∷ mine) peer) (sym same) (subst (λ y. HoldsPeer r p (e ∷ mine) y) here.1 (step (subst (λ m. m < n) same low)))
+  | inr other ↦ peer_kept r q mine e peer (reads_other r q p x e.by e.verb e.answer is says (different p q (λ same. other.0 (sym same ∙ sym at)))) (held q peer low other.1)
+]
+
+-- what is held of a replica that is read from the list
+pub peer_read : (n r p k : ℕ) (mine : List Event) (peers : List Peer) (d : Peer) → k ≡ p → k < length peers → p < n → HoldsPeers n r mine peers → HoldsPeer r p mine (get_or peers k d)
+peer_read n r p k mine peers d at there low held = held p (get_or peers k d) low (subst (λ q. slice_get peers q ≡ Some (get_or peers k d)) at (slice_get-get_or peers k d there))
