@@ -1,0 +1,86 @@
+-- When the state of a host stands for its events, and what it gives and takes.
+use Rattle.std.specs.Prelude.{Bool, List, None, Some, false, true, ℕ, ◌<◌, ◌==◌, ◌∷◌, ◌≡◌, ◌≤◌}
+use Rattle.std.specs.declared.option.Option.{Option}
+use Rattle.std.specs.List.{slice_get}
+use Rattle.mu_model.specs.declared.config.Config.{Config}
+use Rattle.mu_model.specs.declared.event.Answer.{Answer}
+use Rattle.mu_model.specs.declared.event.Event.{Event}
+use Rattle.mu_model.specs.declared.event.Verb.{Verb}
+use Rattle.mu_model.specs.Allowed.{Allowed}
+use Rattle.mu_model.specs.Histories.{newest, or_zero}
+use Rattle.mu_model.specs.Regions.{fence_closing, fence_owner}
+use Rattle.mu_model.specs.Serving.{close_seen, drained_since_close, looked_since_close, names_target, seen_asks, served_as_owner, served_by_grant}
+use Rattle.mu_grant.specs.declared.grants.Grants.{Grants}
+use Rattle.mu_grant.specs.declared.grants.Guest.{Guest}
+
+-- the last fence that a `Close` of r found names a word
+abbrev pub close_named : ℕ → List Event → Bool
+close_named r mine = names_target (newest (λ e. close_seen r e.by e.verb e.answer) mine)
+
+-- what r has read of the asks of w, and served of them
+pub record HoldsGuest (r w : ℕ) (mine : List Event) (guest : Guest) : Type 0 where
+  pub seen : guest.seen ≡ seen_asks r w mine
+  pub at_grant : guest.at_grant ≡ served_by_grant r w mine
+  pub as_owner : guest.as_owner ≡ or_zero (served_as_owner r w mine)
+
+-- the same of every replica
+abbrev pub HoldsGuests : ℕ → List Event → List Guest → Type 0
+HoldsGuests r mine guests = (w : ℕ) (guest : Guest) → slice_get guests w ≡ Some guest → HoldsGuest r w mine guest
+
+-- no word was drained since the last `Close` before it was loaded
+abbrev pub LookedFirst : ℕ → List Event → Type 0
+LookedFirst r mine = drained_since_close r mine ≡ true → looked_since_close r mine ≡ true
+
+-- the state stands for the events of r, one of n replicas
+pub record StandsFor (n r : ℕ) (mine : List Event) (state : Grants) : Type 0 where
+  pub few : n ≤ 7
+  pub inside : r < n
+  pub replicas : state.replicas ≡ n
+  pub id : state.id ≡ r
+  pub owner : state.owner ≡ fence_owner r mine
+  pub closing : state.closing ≡ fence_closing r mine
+  pub named : state.named ≡ close_named r mine
+  pub looked : state.looked ≡ looked_since_close r mine
+  pub drained : state.drained ≡ drained_since_close r mine
+  pub looked_first : LookedFirst r mine
+  pub guests : HoldsGuests r mine state.guests
+
+-- the verb is that of this place of the round
+abbrev pub is_of_place : ℕ → Verb → Bool
+is_of_place place Verb.Close = place == 0
+is_of_place place Verb.LookTarget = place == 1
+is_of_place place Verb.Drain = place == 2
+is_of_place place (Verb.Grant w) = place == 3
+is_of_place place _ = false
+
+-- at a place a verb of it is given that is allowed, and none exactly where none is allowed
+pub record Gives (c : Config) (r : ℕ) (mine : List Event) (place : ℕ) (due : Option Verb) : Type 0 where
+  pub given : (verb : Verb) → due ≡ Some verb → (is_of_place place verb ≡ true) × Allowed c r mine verb
+  pub none : due ≡ None → (verb : Verb) → is_of_place place verb ≡ true → Allowed c r mine verb → ⊥
+
+-- the answer is one of a verb of the host: a `Close` sees a fence, and the others are done
+abbrev pub answers_host : Verb → Answer → Bool
+answers_host Verb.Close (Answer.Seen fence) = true
+answers_host Verb.LookTarget Answer.Done = true
+answers_host Verb.Drain Answer.Done = true
+answers_host (Verb.Grant w) Answer.Done = true
+answers_host _ _ = false
+
+-- the event is a verb of the host that r was allowed after its part mine, with an answer to it
+pub record IsDue (c : Config) (r : ℕ) (mine : List Event) (event : Event) : Type 0 where
+  pub by_own : event.by ≡ r
+  pub allowed : Allowed c r mine event.verb
+  pub answered : answers_host event.verb event.answer ≡ true
+
+-- the event reads asks, or is a verb of the host
+abbrev pub is_noted : Verb → Answer → Bool
+is_noted (Verb.ReadAsk w) (Answer.Number count) = true
+is_noted Verb.Close _ = true
+is_noted Verb.LookTarget _ = true
+is_noted Verb.Drain _ = true
+is_noted (Verb.Grant w) _ = true
+is_noted _ _ = false
+
+-- an event that is none of these changes nothing of what the state stands for
+abbrev pub OthersKeep : Type 0
+OthersKeep = (n r : ℕ) (mine : List Event) (state : Grants) (event : Event) → is_noted event.verb event.answer ≡ false → StandsFor n r mine state → StandsFor n r (event ∷ mine) state
