@@ -6,7 +6,7 @@ ghost use Rattle.mu_model.specs.Histories.{history, newest};
 ghost use Rattle.mu_model.specs.Room.{reserve};
 
 use crate::config::Config;
-use crate::contents::{count_of_rows, row_word_of};
+use crate::contents::{count_of_rows, reserve_of, row_word};
 use crate::entering::{may_enter, may_put_min};
 use crate::event::{Event, Fence, Verb};
 use crate::fetching::{applied_length, has_written};
@@ -16,7 +16,6 @@ use crate::hosting::{
 use crate::knowledge::{are_filled, known_length};
 use crate::leadership::{grant_noted, has_asked, has_ended};
 use crate::placing::{has_reached, may_put_slot};
-use crate::room::reserve_of;
 
 /// The region that was asked last.
 fn asked_last(r: u8, part: &[Event]) -> Option<u8>
@@ -69,7 +68,7 @@ fn meets_needs(config: &Config, r: u8, part: &[Event], verb: &Verb) -> bool
         Verb::ReadBeat(q) => q < n && q != r,
         Verb::WriteRow(j, k, x) => usize::from(j) < count_of_rows(config)
             && k < 12
-            && x == row_word_of(config, j, k)
+            && x == row_word(config, j, k)
             && !has_written(r, u64::from(j), k, part),
         Verb::ReadRow(v, k) => v / 4096 < u16::from(n)
             && usize::from(v % 4096) < count_of_rows(config)

@@ -1,6 +1,7 @@
-//! The rows of a configuration, and what payload numbers stand for.
-ghost use Rattle.std.specs.Prelude.{◌<◌, ◌≡◌};
+//! The rows of a configuration, its positions, and what payload numbers stand for.
+ghost use Rattle.std.specs.Prelude.{◌+◌, ◌<◌, ◌≡◌, ◌≤◌};
 ghost use Rattle.mu_model.specs.Contents.{begins_batch, client_of, config_word, is_batch, is_mark, number_of, rest_of, row_count};
+ghost use Rattle.mu_model.specs.Room.{reserve};
 
 use crate::config::Config;
 
@@ -11,8 +12,29 @@ pub fn count_of_rows(config: &Config) -> usize
     config.rows.len()
 }
 
+/// How many places are left free for marks: none in version 1, and one for each replica in version
+/// 2.
+pub fn reserve_of(config: &Config) -> u8
+    ensures { result ≡ reserve config.now }
+{
+    if config.version == 2 {
+        config.replicas
+    } else {
+        0
+    }
+}
+
+/// How many positions there are: as many as rows and places for marks, and one more.
+pub fn positions_in(config: &Config) -> usize
+    requires { row_count config.now ≤ 1500 }
+    ensures count { result ≡ row_count config.now + reserve config.now + 1 }
+    ensures few { result < 2048 }
+{
+    count_of_rows(config) + usize::from(reserve_of(config)) + 1
+}
+
 /// Word `k` of row `j`, or 0 where there is none.
-pub fn row_word_of(config: &Config, j: u16, k: u8) -> u64
+pub fn row_word(config: &Config, j: u16, k: u8) -> u64
     requires { k < 12 }
     ensures { result ≡ config_word config.now j k }
 {
@@ -22,37 +44,41 @@ pub fn row_word_of(config: &Config, j: u16, k: u8) -> u64
     }
 }
 
-/// How many rows of the same batch follow row `j`.
-pub fn row_rest(config: &Config, j: u16) -> u64
-    ensures is { result ≡ rest_of config.now j }
-    ensures few { result < 256 }
+/// How many rows of the same batch follow row `j`, or 0 where there is none.
+pub fn row_rest(config: &Config, j: u16) -> u8
+    ensures { result ≡ rest_of config.now j }
 {
-    row_word_of(config, j, 0) / 0x100_0000_0000_0000
+    match config.rows.as_slice().get(usize::from(j)) {
+        None => 0,
+        Some(row) => row.rest(),
+    }
 }
 
-/// The client of row `j`.
-pub fn row_client(config: &Config, j: u16) -> u64
+/// The client of row `j`, or 0 where there is none.
+pub fn row_client(config: &Config, j: u16) -> u8
     ensures { result ≡ client_of config.now j }
 {
-    row_word_of(config, j, 0) / 0x100 % 0x100
+    match config.rows.as_slice().get(usize::from(j)) {
+        None => 0,
+        Some(row) => row.client(),
+    }
 }
 
-/// The number of row `j`.
-pub fn row_number(config: &Config, j: u16) -> u64
+/// Which command of its client row `j` is, counted from 1, or 0 where there is none.
+pub fn row_number(config: &Config, j: u16) -> u16
     ensures { result ≡ number_of config.now j }
 {
-    row_word_of(config, j, 0) / 0x1_0000 % 0x1_0000
+    match config.rows.as_slice().get(usize::from(j)) {
+        None => 0,
+        Some(row) => row.number(),
+    }
 }
 
 /// Whether row `j` begins a batch.
 fn is_batch_start(config: &Config, j: u16) -> bool
     ensures { result ≡ begins_batch config.now j }
 {
-    if j == 0 {
-        true
-    } else {
-        row_rest(config, j - 1) == 0
-    }
+    j == 0 || row_rest(config, j - 1) == 0
 }
 
 /// Whether `v` stands for a batch.

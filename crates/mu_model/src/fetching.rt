@@ -87,7 +87,7 @@ fn has_rows(n: u64, r: u8, v: u16, part: &[Event]) -> bool
 fn has_whole_entry(config: &Config, r: u8, v: u16, part: &[Event]) -> bool
     ensures { result ≡ has_entry config.now r v (history part.now) }
 {
-    !stands_for_batch(config, v) || has_rows(row_rest(config, v % 4096) + 1, r, v, part)
+    !stands_for_batch(config, v) || has_rows(u64::from(row_rest(config, v % 4096)) + 1, r, v, part)
 }
 
 /// Whether `r` wrote so many of its rows from row `j` on.
@@ -106,7 +106,7 @@ fn wrote_rows(n: u64, r: u8, j: u16, part: &[Event]) -> bool
 pub fn has_written_batch(config: &Config, r: u8, j: u16, part: &[Event]) -> bool
     ensures { result ≡ wrote_batch config.now r j (history part.now) }
 {
-    wrote_rows(row_rest(config, j) + 1, r, j, part)
+    wrote_rows(u64::from(row_rest(config, j)) + 1, r, j, part)
 }
 
 /// How many of the first values `r` has after `v` was added.

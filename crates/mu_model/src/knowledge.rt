@@ -247,7 +247,7 @@ fn rows_of_client(config: &Config, client: u64, n: u64, j: u16) -> u64
 {
     let mut count: u64 = 0;
     for t in 0..n {
-        if row_client(config, j + t as u16) == client {
+        if u64::from(row_client(config, j + t as u16)) == client {
             count += 1;
         }
     }
@@ -260,7 +260,8 @@ pub fn commands_of(config: &Config, client: u64, v: u16) -> u64
     ensures few { result ≤ 256 }
 {
     if stands_for_batch(config, v) {
-        rows_of_client(config, client, row_rest(config, v % 4096) + 1, v % 4096)
+        let rows = u64::from(row_rest(config, v % 4096)) + 1;
+        rows_of_client(config, client, rows, v % 4096)
     } else {
         0
     }

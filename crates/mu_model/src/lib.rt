@@ -29,7 +29,10 @@ mod tests;
 pub use allowing::allows;
 pub use answering::answers;
 pub use config::{Config, Row, Rows};
-pub use contents::stands_for_mark;
+pub use contents::{
+    count_of_rows, positions_in, reserve_of, row_client, row_number, row_rest, row_word,
+    stands_for_batch, stands_for_mark,
+};
 pub use event::{Answer, Event, Fence, Target, Verb};
 pub use journal::Journal;
 pub use knowledge::{commands_of, learnt};

@@ -6,12 +6,12 @@ ghost use Rattle.mu_model.specs.Picks.{entry_of, first_value, highest_accepted, 
 ghost use Rattle.mu_model.specs.Placing.{IsNew};
 
 use crate::config::Config;
-use crate::contents::{row_client, row_number, stands_for_batch};
+use crate::contents::{reserve_of, row_client, row_number, stands_for_batch};
 use crate::event::{Answer, Event, Verb};
 use crate::fetching::has_written_batch;
 use crate::knowledge::{commands_known, known_length};
 use crate::leadership::{is_in, starts_leadership};
-use crate::room::{is_offer_of_mark, leaves_room, reserve_of};
+use crate::room::{is_offer_of_mark, leaves_room};
 
 /// Whether a region became a member by the event.
 fn joins(r: u8, part: &[Event], e: &Event) -> bool
@@ -105,8 +105,8 @@ fn is_own_offer(config: &Config, r: u8, part: &[Event], v: u16) -> bool
     stands_for_batch(config, v)
         && v / 4096 == u16::from(r)
         && has_written_batch(config, r, v % 4096, part)
-        && row_number(config, v % 4096)
-            == commands_known(config, row_client(config, v % 4096), r, part) + 1
+        && u64::from(row_number(config, v % 4096))
+            == commands_known(config, u64::from(row_client(config, v % 4096)), r, part) + 1
 }
 
 /// Whether `pick` allows `v` at `i`.

@@ -4,10 +4,10 @@ ghost use Rattle.mu_model.specs.Contents.{is_mark, marked};
 ghost use Rattle.mu_model.specs.Histories.{all_below, history};
 ghost use Rattle.mu_model.specs.Knowledge.{known};
 ghost use Rattle.mu_model.specs.Picks.{is_mark_offer};
-ghost use Rattle.mu_model.specs.Room.{has_room, head_read, is_mark_candidate, lacks_room, last_head, reserve};
+ghost use Rattle.mu_model.specs.Room.{has_room, head_read, is_mark_candidate, lacks_room, last_head};
 
 use crate::config::Config;
-use crate::contents::stands_for_mark;
+use crate::contents::{reserve_of, stands_for_mark};
 use crate::event::{Answer, Event, Verb};
 use crate::knowledge::{known_length, knows_mark};
 use crate::leadership::starts_leadership;
@@ -26,17 +26,6 @@ fn last_head_of(r: u8, q: u8, part: &[Event]) -> u64
         }
     }
     head
-}
-
-/// How many places are left free for marks.
-pub fn reserve_of(config: &Config) -> u8
-    ensures { result ≡ reserve config.now }
-{
-    if config.version == 2 {
-        config.replicas
-    } else {
-        0
-    }
 }
 
 /// Whether the event is a `Head(q)` answer that leaves no room.
