@@ -32,6 +32,13 @@ impl Journal {
         Ok(Journal { events })
     }
 
+    /// The journal of these events, in true order. Takes no memory.
+    pub fn from_vec(events: Vec<Event>) -> Journal
+        ensures { result.events ≡ events.items }
+    {
+        Journal { events }
+    }
+
     /// Adds an event at the end. Takes no memory.
     pub fn push(&mut self, event: Event)
         requires { 0 < self.old.room }
