@@ -4,3 +4,4 @@ pub mod FirstJobs
 pub mod Keys
 pub mod Readings
 pub mod Stages
+pub mod FirstWords

@@ -11,7 +11,8 @@ use Rattle.kv_store.specs.declared.command.Op.{Op}
 use Rattle.kv_store.proofs.InSession.{IsInSession-push}
 use Rattle.mu_input.specs.Lines.{words}
 use Rattle.mu_input.specs.Numbers.{number_of, within}
-use Rattle.mu_input.specs.FirstForm.{setting, operation, next_command, after}
+use Rattle.mu_input.specs.Numbers.{setting}
+use Rattle.mu_input.specs.FirstForm.{operation, next_command, after}
 use Rattle.mu_input.specs.declared.first_form.Expected.{Expected}
 use Rattle.mu_input.specs.declared.first_form.Expected.TheVariants.{Version, Replicas, Ring, Budget, Clients, Commands, Nothing}
 

@@ -11,19 +11,14 @@ use Rattle.kv_store.specs.declared.command.Op.TheVariants.{Put, Get}
 use Rattle.mu_model.specs.declared.config.Row.{Row}
 use Rattle.mu_rows.specs.Rows.{spelled}
 use Rattle.mu_input.specs.Lines.{lines, words}
-use Rattle.mu_input.specs.Numbers.{number_of, within}
+use Rattle.mu_input.specs.Numbers.{setting}
 use Rattle.mu_input.specs.Fields.{is_key, is_text}
 use Rattle.mu_input.specs.declared.job.Job.{Job}
 use Rattle.mu_input.specs.declared.job.InputEnd.{InputEnd}
 use Rattle.mu_input.specs.declared.job.InputEnd.TheVariants.{Refused, NoMemory}
 use Rattle.mu_input.specs.declared.first_form.Expected.{Expected}
 use Rattle.mu_input.specs.declared.first_form.Expected.TheVariants.{Version, Replicas, Ring, Budget, Clients, Commands, Nothing}
-use Rattle.mu_input.specs.declared.TheConstants.{MOST_COMMANDS}
-
--- the number of a line of a name and a number from `low` to `high`
-abbrev pub setting : List ℕ → ℕ → ℕ → List (List ℕ) → Option ℕ
-setting name low high (word ∷ value ∷ []) = if bytes_eq word name then within low high (number_of value) else None
-setting name low high _ = None
+use Rattle.mu_input.specs.declared.TheConstants.{FIRST_COMMANDS}
 
 -- what a command asks for: `put`, a key and a text, or `get` and a key
 abbrev pub operation : List (List ℕ) → Option Op
@@ -34,7 +29,7 @@ operation _ = None
 -- the command that asks for this after the ones before: the client is 0, and there are eight commands at most
 abbrev pub next_command : List Request → Option Op → Option Request
 next_command commands None = None
-next_command commands (Some op) = if nat_lt (length commands) MOST_COMMANDS then Some (record { client = 0; number = length commands + 1; op = op }) else None
+next_command commands (Some op) = if nat_lt (length commands) FIRST_COMMANDS then Some (record { client = 0; number = length commands + 1; op = op }) else None
 
 -- what is expected after a line, and the commands so far; `None` where the line leaves the form
 abbrev pub after : Expected → List Request → List ℕ → Option (Expected × List Request)

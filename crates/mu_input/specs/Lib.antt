@@ -1,5 +1,14 @@
 pub mod Lines
 pub mod Numbers
+pub mod Readings
 pub mod Fields
+pub mod Settings
+pub mod Operations
+pub mod Bodies
+pub mod Scripts
+pub mod Batches
+pub mod Grammar
+pub mod Events
+pub mod Traces
 pub mod Jobs
 pub mod FirstForm

@@ -4,14 +4,15 @@ ghost use Rattle.std.specs.Option.{option_map};
 ghost use Rattle.std.specs.Str.{bytes_eq};
 ghost use Rattle.mu_input.specs.Lines.{words};
 ghost use Rattle.mu_input.specs.Fields.{is_key, is_text};
-ghost use Rattle.mu_input.specs.FirstForm.{setting, operation, next_command, after, row_of, ended, first_form, Reads};
+ghost use Rattle.mu_input.specs.Numbers.{setting};
+ghost use Rattle.mu_input.specs.FirstForm.{operation, next_command, after, row_of, ended, first_form, Reads};
 ghost use Rattle.mu_input.specs.Jobs.{IsFirstJob};
 ghost use Rattle.mu_model.specs.Contents.{rest_of};
 
 use crate::job::{InputEnd, Job};
 use crate::lines::{next_line, three_words, two_words};
 use crate::numbers::limited;
-use crate::{FORM, MOST_COMMANDS};
+use crate::{FIRST_COMMANDS, FORM};
 use kv_store::{Command, Key, Op, Text};
 use mu_model::{Config, Row, Rows, Script, Sequence};
 use mu_rows::encode;
@@ -28,7 +29,7 @@ pub fn read_first(alloc: Global, bytes: &[u8]) -> Result<Job, InputEnd>
     ensures reading { Reads result (first_form bytes.now) }
     ensures job { IfOk result IsFirstJob }
 {
-    let Ok(mut commands) = Vec::with_capacity(alloc, MOST_COMMANDS) else {
+    let Ok(mut commands) = Vec::with_capacity(alloc, FIRST_COMMANDS) else {
         return Err(InputEnd::NoMemory);
     };
     let mut expected = Expected::Version;
@@ -139,7 +140,7 @@ pub enum Expected {
 impl Expected {
     /// What is expected after this line, which may add a command. `None` where the line leaves the form.
     pub fn after(self, commands: &mut Vec<Command>, line: &[u8]) -> Option<Expected>
-        requires { MOST_COMMANDS ≤ vec_capacity commands.old }
+        requires { FIRST_COMMANDS ≤ vec_capacity commands.old }
         ensures next { MatchOption result
             (after self commands.old.items line.now ≡ None)
             (λ next. after self commands.old.items line.now ≡ Some (next, commands.new.items)) }
@@ -194,9 +195,9 @@ fn client_line(ring: u16, budget: u32, line: &[u8]) -> Option<Expected>
 /// The command that a line adds to the ones before, if there is room for it.
 fn next_command(commands: &[Command], line: &[u8]) -> Option<Command>
     ensures exact { result ≡ next_command commands.now (operation (words line.now)) }
-    ensures room { OnSome result (length commands.now < MOST_COMMANDS) }
+    ensures room { OnSome result (length commands.now < FIRST_COMMANDS) }
 {
-    if commands.len() >= MOST_COMMANDS {
+    if commands.len() >= FIRST_COMMANDS {
         return None;
     }
     let op = operation(line)?;

@@ -1,13 +1,21 @@
-//! Jobs, and the reading of them.
+//! Jobs and event lists, and the reading of them.
 #![tactic(auto)]
 
+mod bodies;
+mod cause;
 mod first_form;
+mod heading;
 mod job;
+mod line_reader;
 mod lines;
 mod numbers;
+mod reading;
+mod scripts;
+mod words;
 
 pub use first_form::read_first;
 pub use job::{Commands, InputEnd, Job};
+pub use reading::{read, read_trace};
 
 /// The byte that ends a line.
 pub const LINE_FEED: u8 = b'\n';
@@ -15,17 +23,53 @@ pub const LINE_FEED: u8 = b'\n';
 /// The byte between two words of a line.
 pub const SPACE: u8 = b' ';
 
+/// The most bytes of a trace.
+pub const TRACE_LIMIT: usize = 67_108_864;
+
 /// The least decimal digit.
 pub const ZERO: u8 = b'0';
 
 /// The greatest decimal digit.
 pub const NINE: u8 = b'9';
 
-/// The most digits of a number.
+/// The most digits of a number of a job.
 pub const MOST_DIGITS: usize = 7;
 
+/// The most digits of a number of an event.
+pub const MOST_WIDE_DIGITS: usize = 20;
+
+/// One more than the most words of a line of a job or of an event list.
+pub const MANY_WORDS: usize = 14;
+
+/// The most replicas.
+pub const MOST_REPLICAS: u8 = 7;
+
+/// The fewest places of a ring.
+pub const LEAST_RING: u16 = 8;
+
+/// The most places of a ring.
+pub const MOST_RING: u16 = 1_024;
+
+/// The most steps of a replica, in all and before a stop or a pause.
+pub const MOST_STEPS: u32 = 131_071;
+
+/// The most commands of a batch.
+pub const MOST_WIDTH: u8 = 4;
+
+/// The most clients.
+pub const MOST_CLIENTS: u8 = 16;
+
+/// The most commands.
+pub const MOST_COMMANDS: usize = 1_500;
+
+/// The most lines of a script.
+pub const MOST_SCRIPT_LINES: usize = 100;
+
+/// The most rounds of a pause.
+pub const MOST_ROUNDS: u32 = 10_000;
+
 /// The most commands of a job of the first form.
-pub const MOST_COMMANDS: usize = 8;
+pub const FIRST_COMMANDS: usize = 8;
 
 /// The cause of a refusal: bytes that leave the first form.
 pub const FORM: u8 = 14;

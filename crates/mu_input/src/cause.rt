@@ -1,0 +1,43 @@
+//! Why a line leaves the grammar.
+
+/// The first line names no version.
+pub const HEAD: u8 = 1;
+
+/// The number of replicas.
+pub const REPLICAS: u8 = 2;
+
+/// The places of a ring.
+pub const RING: u8 = 3;
+
+/// The steps of a replica.
+pub const BUDGET: u8 = 4;
+
+/// A client that isn't the next one, or a command before any client.
+pub const CLIENT: u8 = 5;
+
+/// A line that is no command.
+pub const OPERATION: u8 = 6;
+
+/// The key of a command.
+pub const KEY: u8 = 7;
+
+/// A text of a command.
+pub const VALUE: u8 = 8;
+
+/// One client, command or line of the script too many.
+pub const TOO_MANY: u8 = 9;
+
+/// A line of the script.
+pub const SCRIPT: u8 = 10;
+
+/// The input ends before its `end`.
+pub const NO_END: u8 = 11;
+
+/// The input goes on after its `end`.
+pub const AFTER_END: u8 = 12;
+
+/// A line that is no event.
+pub const EVENT: u8 = 13;
+
+/// The commands of a batch.
+pub const BATCH: u8 = 15;
