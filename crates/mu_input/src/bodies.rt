@@ -1,7 +1,13 @@
 //! The commands of a job: the lines between the settings and the script or the end.
 
-use crate::job::Commands;
+ghost use Rattle.std.specs.Prelude.{◌≤◌, ◌+◌, ◌<◌, ◌^◌, IfOk, length};
+ghost use Rattle.mu_input.specs.Bodies.{body_at};
+ghost use Rattle.mu_input.specs.Readings.{ReadsFront};
+
+use crate::job::{Commands, InputEnd};
+use crate::line_reader::LineReader;
 use kv_store::Op;
+use std::alloc::Global;
 
 /// What a line of this part says.
 pub enum BodyLine {
@@ -22,4 +28,13 @@ pub struct Body {
     pub commands: Commands,
     /// Whether a script follows.
     pub has_script: bool,
+}
+
+/// stub
+pub fn read_body(_alloc: Global, lines: &mut LineReader<'_>) -> Result<Body, InputEnd>
+    requires { lines.old.number + 1600 < 2 ^ 32 }
+    ensures reading { ReadsFront result (body_at lines.old) lines.new }
+    ensures few { IfOk result (λ b. lines.new.number ≤ lines.old.number + 1600) }
+{
+    Err(InputEnd::NoMemory)
 }

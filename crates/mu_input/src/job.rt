@@ -1,6 +1,7 @@
 //! What a run is given.
 use kv_store::Command;
 use mu_model::{Config, Script, Sequence};
+use std::alloc::AllocError;
 
 /// The commands of a job, in the order of the file.
 pub type Commands = Sequence<Command>;
@@ -28,4 +29,10 @@ pub enum InputEnd {
     },
     /// Want of memory.
     NoMemory,
+}
+
+impl From<AllocError> for InputEnd {
+    fn from(_: AllocError) -> InputEnd {
+        InputEnd::NoMemory
+    }
 }

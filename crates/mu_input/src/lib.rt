@@ -1,6 +1,7 @@
 //! Jobs and event lists, and the reading of them.
 #![tactic(auto)]
 
+mod batches;
 mod bodies;
 mod cause;
 mod first_form;
@@ -11,6 +12,7 @@ mod lines;
 mod numbers;
 mod reading;
 mod scripts;
+mod traces;
 mod words;
 
 pub use first_form::read_first;

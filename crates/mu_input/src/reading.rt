@@ -1,14 +1,20 @@
 //! The reading of whole inputs.
-ghost use Rattle.std.specs.Prelude.{◌<◌, ◌≤◌, ◌^◌, IfOk, length};
+ghost use Rattle.std.specs.Prelude.{◌≡◌, ◌≢◌, [], ◌+◌, ◌<◌, ◌≤◌, ◌^◌, IfErr, IfOk, OnErr, OnOk, length};
 ghost use Rattle.kv_store.specs.Sessions.{IsInSession};
 ghost use Rattle.mu_model.specs.Contents.{IsConfig};
-ghost use Rattle.mu_input.specs.Grammar.{job};
-ghost use Rattle.mu_input.specs.Readings.{Reads};
+ghost use Rattle.mu_input.specs.Grammar.{job, job_at};
+ghost use Rattle.mu_input.specs.Readings.{EndsHere, Reads, ReadsFront};
 ghost use Rattle.mu_input.specs.Traces.{ReadsTrace, trace};
 
-use crate::TRACE_LIMIT;
+use crate::batches::rows_of;
+use crate::bodies::read_body;
+use crate::heading::read_settings;
 use crate::job::{InputEnd, Job};
-use mu_model::Journal;
+use crate::line_reader::LineReader;
+use crate::scripts::read_script;
+use crate::traces::read_events;
+use crate::{TRACE_LIMIT, cause};
+use mu_model::{Config, Journal, Script, Sequence};
 use std::alloc::Global;
 
 /// The job that bytes spell. Takes memory for its commands, rows and script alone, and the time of
@@ -21,12 +27,13 @@ use std::alloc::Global;
 /// the steps of a replica, 5 the client, 6 the operation, 7 the key, 8 a text, 9 one line too many,
 /// 10 the script, 11 no end, 12 a line after the end, 15 the commands of a batch. `NoMemory` for
 /// want of memory.
-pub fn read(_alloc: Global, _bytes: &[u8]) -> Result<Job, InputEnd>
-    ensures reading { Reads result (job _bytes.now) }
-    ensures config { IfOk result (λ job. IsConfig job.config) }
-    ensures session { IfOk result (λ job. IsInSession job.commands) }
+pub fn read(alloc: Global, bytes: &[u8]) -> Result<Job, InputEnd>
+    ensures reading { Reads result (job bytes.now) }
 {
-    Err(InputEnd::NoMemory)
+    let mut lines = LineReader::new(bytes);
+    let job = read_job(alloc, &mut lines)?;
+    read_end(&mut lines)?;
+    Ok(job)
 }
 
 /// The job and the events that the bytes of a trace spell. Takes memory for these alone, and the
@@ -35,12 +42,70 @@ pub fn read(_alloc: Global, _bytes: &[u8]) -> Result<Job, InputEnd>
 /// # Errors
 ///
 /// Those of [`read`], and the cause 13 for a line that is no event of the job's replicas.
-pub fn read_trace(_alloc: Global, _bytes: &[u8]) -> Result<(Job, Journal), InputEnd>
-    requires { length _bytes.now ≤ TRACE_LIMIT }
-    ensures reading { ReadsTrace result (trace _bytes.now) }
-    ensures config { IfOk result (λ r. IsConfig r.0.config) }
-    ensures session { IfOk result (λ r. IsInSession r.0.commands) }
+pub fn read_trace(alloc: Global, bytes: &[u8]) -> Result<(Job, Journal), InputEnd>
+    requires { length bytes.now ≤ TRACE_LIMIT }
+    ensures reading { ReadsTrace result (trace bytes.now) }
     ensures few { IfOk result (λ r. length r.1.events < 2 ^ 32) }
 {
-    Err(InputEnd::NoMemory)
+    let mut lines = LineReader::new(bytes);
+    let job = read_job(alloc, &mut lines)?;
+    let events = read_events(alloc, &mut lines, job.config.replicas)?;
+    read_end(&mut lines)?;
+    Ok((job, Journal::from_vec(events)))
+}
+
+/// The job at the front of all lines.
+fn read_job(alloc: Global, lines: &mut LineReader<'_>) -> Result<Job, InputEnd>
+    requires { lines.old.number ≡ 1 }
+    ensures reading { ReadsFront result (job_at lines.old) lines.new }
+    ensures few { IfOk result (λ job. lines.new.number ≤ 1707) }
+{
+    let settings = read_settings(lines)?;
+    let body = read_body(alloc, lines)?;
+    let script = if body.has_script {
+        read_script(alloc, lines, settings.replicas)?
+    } else {
+        no_script(alloc)
+    };
+    let Ok(rows) = rows_of(alloc, body.commands.as_slice(), settings.width) else {
+        return Err(InputEnd::NoMemory);
+    };
+    let config = Config {
+        version: settings.version,
+        width: settings.width,
+        replicas: settings.replicas,
+        ring: settings.ring,
+        budget: settings.budget,
+        rows,
+    };
+    Ok(Job {
+        config,
+        commands: body.commands,
+        script,
+    })
+}
+
+/// Nothing befalls any replica.
+fn no_script(alloc: Global) -> Script
+    ensures { result ≡ record { stops = []; pauses = [] } }
+{
+    Script {
+        stops: Sequence::from_vec(Vec::new(alloc)),
+        pauses: Sequence::from_vec(Vec::new(alloc)),
+    }
+}
+
+/// No line is left.
+fn read_end(lines: &mut LineReader<'_>) -> Result<(), InputEnd>
+    requires { lines.old.number + 1 < 2 ^ 32 }
+    ensures { EndsHere result lines.old }
+{
+    let line = lines.number();
+    match lines.next() {
+        None => Ok(()),
+        Some(_) => Err(InputEnd::Refused {
+            line,
+            cause: cause::AFTER_END,
+        }),
+    }
 }
