@@ -5,3 +5,5 @@ pub mod Keys
 pub mod Readings
 pub mod Stages
 pub mod FirstWords
+pub mod ManyWords
+pub mod Clients
