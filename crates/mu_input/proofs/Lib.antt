@@ -7,3 +7,4 @@ pub mod Stages
 pub mod FirstWords
 pub mod ManyWords
 pub mod Clients
+pub mod BodyReadings

@@ -40,6 +40,18 @@ pub struct Body {
     pub has_script: bool,
 }
 
+impl Body {
+    fn of(commands: Vec<Command>, has_script: bool) -> Body
+        ensures commands { result.commands ≡ commands.items }
+        ensures script { result.has_script ≡ has_script }
+    {
+        Body {
+            commands: Sequence::from_vec(commands),
+            has_script,
+        }
+    }
+}
+
 /// The commands, taken from the front of the lines with the `script` or `end` behind them. Takes
 /// memory for the commands alone.
 ///
@@ -59,13 +71,10 @@ pub fn read_body(alloc: Global, lines: &mut LineReader<'_>) -> Result<Body, Inpu
     let mut clients: u8 = 0;
     // How many commands the last client has.
     let mut count: u16 = 0;
-    let has_script = loop {
+    loop {
         let number = lines.number();
         let Some(line) = lines.next() else {
-            return Err(InputEnd::Refused {
-                line: number,
-                cause: NO_END,
-            });
+            return Err(InputEnd::at(number, NO_END));
         };
         match body_line(clients, commands.len(), line) {
             Ok(BodyLine::Client) => {
@@ -80,18 +89,11 @@ pub fn read_body(alloc: Global, lines: &mut LineReader<'_>) -> Result<Body, Inpu
                     op,
                 })?;
             }
-            Ok(BodyLine::Script) => break true,
-            Ok(BodyLine::End) => break false,
-            Err(cause) => return Err(InputEnd::Refused {
-                line: number,
-                cause,
-            }),
+            Ok(BodyLine::Script) => return Ok(Body::of(commands, true)),
+            Ok(BodyLine::End) => return Ok(Body::of(commands, false)),
+            Err(cause) => return Err(InputEnd::at(number, cause)),
         }
-    };
-    Ok(Body {
-        commands: Sequence::from_vec(commands),
-        has_script,
-    })
+    }
 }
 
 /// What a line says after so many clients and commands, or the cause why it says nothing.

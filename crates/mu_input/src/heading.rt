@@ -87,15 +87,9 @@ fn next_setting(
 {
     let number = lines.number();
     let Some(line) = lines.next() else {
-        return Err(InputEnd::Refused {
-            line: number,
-            cause: NO_END,
-        });
+        return Err(InputEnd::at(number, NO_END));
     };
-    setting(line, name, low, high).ok_or(InputEnd::Refused {
-        line: number,
-        cause,
-    })
+    setting(line, name, low, high).ok_or(InputEnd::at(number, cause))
 }
 
 /// The number of a line of a name and a number from `low` to `high`.

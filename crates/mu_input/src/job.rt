@@ -1,6 +1,6 @@
 //! What a run is given.
 ghost use Rattle.std.specs.Prelude.{◌≡◌};
-ghost use Rattle.mu_input.specs.declared.job.InputEnd.TheVariants.{NoMemory};
+ghost use Rattle.mu_input.specs.declared.job.InputEnd.TheVariants.{Refused, NoMemory};
 
 use kv_store::Command;
 use mu_model::{Config, Script, Sequence};
@@ -32,6 +32,15 @@ pub enum InputEnd {
     },
     /// Want of memory.
     NoMemory,
+}
+
+impl InputEnd {
+    /// The refusal of this line for this cause.
+    pub fn at(line: u32, cause: u8) -> InputEnd
+        ensures { result ≡ Refused line cause }
+    {
+        InputEnd::Refused { line, cause }
+    }
 }
 
 impl<T: Drop> From<AllocFailed<T>> for InputEnd {
