@@ -3,8 +3,7 @@ use Rattle.std.proofs.Common.{◌≡◌, ℕ, ◌+◌, List, ◌∷◌, length, 
 use Rattle.kv_store.specs.Commands.{Request}
 use Rattle.mu_input.specs.Bodies.{body_line, body_after, body_from}
 use Rattle.mu_input.specs.Lines.{Left, words}
-use Rattle.mu_input.specs.Readings.{Front, Line}
-use Rattle.mu_input.specs.declared.bodies.Body.{Body}
+use Rattle.mu_input.specs.Readings.{Line}
 use Rattle.mu_input.specs.declared.bodies.BodyLine.{BodyLine}
 
 -- what the lines give is what the first of them leads to

@@ -105,7 +105,8 @@ fn body_line(clients: u8, commands: usize, line: &[u8]) -> Result<BodyLine, u8>
 }
 
 fn line_of(clients: u8, commands: usize, words: &[&[u8]]) -> Result<BodyLine, u8>
-    ensures reading { Tells result (body_line clients commands (map (λ word. word.now) words.now)) }
+    ensures reading { Tells result
+        (body_line clients commands (map (λ word. word.now) words.now)) }
     ensures room { IfOk result (HasRoom clients commands) }
 {
     if is_first(words, b"client") {

@@ -1,8 +1,9 @@
 //! The settings of a job: its first lines.
-ghost use Rattle.std.specs.Prelude.{◌≡◌, ◌+◌, ◌<◌, ◌≤◌, ◌^◌, IfOk, IfSome};
+ghost use Rattle.std.specs.Prelude.{◌≡◌, ◌≢◌, ◌+◌, ◌<◌, ◌≤◌, ◌^◌, IfOk, IfErr, IfSome};
 ghost use Rattle.mu_input.specs.Lines.{words};
 ghost use Rattle.mu_input.specs.Numbers.{setting};
 ghost use Rattle.mu_input.specs.Readings.{ReadsFront};
+ghost use Rattle.mu_input.specs.declared.job.InputEnd.TheVariants.{NoMemory};
 ghost use Rattle.mu_input.specs.Settings.{setting_at, width_at, settings_at, HasLimits};
 
 use crate::cause::{BATCH, BUDGET, HEAD, NO_END, REPLICAS, RING};
@@ -39,6 +40,7 @@ pub fn read_settings(lines: &mut LineReader<'_>) -> Result<Settings, InputEnd>
     ensures reading { ReadsFront result (settings_at lines.old) lines.new }
     ensures limits { IfOk result HasLimits }
     ensures few { IfOk result (λ _. lines.new.number ≤ lines.old.number + 5) }
+    ensures refused { IfErr result (λ end. end ≢ NoMemory) }
 {
     let version = next_setting(lines, b"mu", 1, 2, HEAD)?;
     let replicas = next_setting(lines, b"replicas", 1, u32::from(MOST_REPLICAS), REPLICAS)?;
@@ -63,6 +65,7 @@ fn width(lines: &mut LineReader<'_>, version: u32) -> Result<u32, InputEnd>
     ensures high { IfOk result (λ width. width ≤ MOST_WIDTH) }
     ensures single { IfOk result (λ width. version ≡ 1 → width ≡ 1) }
     ensures few { IfOk result (λ _. lines.new.number ≤ lines.old.number + 1) }
+    ensures refused { IfErr result (λ end. end ≢ NoMemory) }
 {
     if version == 2 {
         next_setting(lines, b"batch", 1, u32::from(MOST_WIDTH), BATCH)
@@ -84,6 +87,7 @@ fn next_setting(
     ensures low { IfOk result (λ number. low ≤ number) }
     ensures high { IfOk result (λ number. number ≤ high) }
     ensures one { IfOk result (λ _. lines.new.number ≡ lines.old.number + 1) }
+    ensures refused { IfErr result (λ end. end ≢ NoMemory) }
 {
     let number = lines.number();
     let Some(line) = lines.next() else {

@@ -13,7 +13,7 @@ pub fn names_operation(words: &[&[u8]]) -> bool
     ensures { result ≡ names_operation (map (λ word. word.now) words.now) }
 {
     match words {
-        [b"put", ..] | [b"get", ..] | [b"del", ..] | [b"swap", ..] | [b"cas", ..] => true,
+        [b"put" | b"get" | b"del" | b"swap" | b"cas", ..] => true,
         _ => false,
     }
 }
@@ -59,7 +59,8 @@ fn with_text(name: &[u8], key: &[u8], text: &[u8]) -> Result<Op, u8>
 }
 
 fn with_two_texts(name: &[u8], key: &[u8], old: &[u8], new: &[u8]) -> Result<Op, u8>
-    ensures reading { Tells result (operation_of (name.now ∷ key.now ∷ old.now ∷ new.now ∷ [])) }
+    ensures reading { Tells result
+        (operation_of (name.now ∷ key.now ∷ old.now ∷ new.now ∷ [])) }
     ensures short { IfOk result HasShortTexts }
 {
     match name {
@@ -88,7 +89,8 @@ fn swap(key: &[u8], text: &[u8]) -> Result<Op, u8>
 
 fn compare_and_set(key: &[u8], old: &[u8], new: &[u8]) -> Result<Op, u8>
     ensures reading { Tells result
-        (judged key.now (is_short_text old.now && is_short_text new.now) (Op.Cas key.now old.now new.now)) }
+        (judged key.now (is_short_text old.now && is_short_text new.now)
+        (Op.Cas key.now old.now new.now)) }
     ensures short { IfOk result HasShortTexts }
 {
     let key = good_key(key)?;

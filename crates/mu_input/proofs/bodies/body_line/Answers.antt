@@ -1,4 +1,4 @@
-use Rattle.std.proofs.Common.{◌∙◌, ℕ, List, ap, subst}
+use Rattle.std.proofs.Common.{◌∙◌, ap, subst}
 use Rattle.mu_input.specs.Bodies.{body_line}
 use Rattle.mu_input.specs.Lines.{words}
 use Rattle.mu_input.specs.Readings.{Tells}

@@ -55,7 +55,7 @@ loop-line-preserved c =
     let next_is = next_command-is l.clients l.count l.commands.items op l.invariant.body in
     record {
       reading = ap (λ commands. body_from l.clients commands c.next.new.self.number c.next.new.self.lines) (pushed ∙ ap (λ (command : Request). l.commands.items ++ command ∷ []) (sym next_is))
-        ∙ sym here ∙ l.invariant.reading;
+          ∙ sym here ∙ l.invariant.reading;
       body = subst (IsBody l.clients (l.count + 1)) (sym pushed) (IsBody-operation l.clients l.count l.commands.items op l.invariant.body room.0 few);
       number = omega (arith, l.invariant.number, c.in-Some.ensures.1, ap length pushed, length-append l.commands.items (next ∷ []));
     }
