@@ -5,4 +5,6 @@ pub mod Keys
 pub mod Readings
 pub mod Stages
 pub mod FirstWords
-pub mod Advancing
+pub mod ManyWords
+pub mod Clients
+pub mod BodyReadings

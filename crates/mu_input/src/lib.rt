@@ -10,6 +10,7 @@ mod job;
 mod line_reader;
 mod lines;
 mod numbers;
+mod operations;
 mod reading;
 mod scripts;
 mod traces;
