@@ -24,6 +24,10 @@ value_of-take word i below = ap value_of (grind (arith, common_steps, take-suc w
 pub small : (i value : ℕ) → value + 1 ≤ 10 ^ i → i ≤ 6 → value < 1000000
 small i value below few = omega (arith, pow-le-pow_right {n = 10} (lit≤ tt) few)
 
+-- a number of at most nineteen digits is below ten to the nineteenth
+pub wide : (i value : ℕ) → value + 1 ≤ 10 ^ i → i ≤ 19 → value < 10000000000000000000
+wide i value below few = omega (arith, pow-le-pow_right {n = 10} (lit≤ tt) few)
+
 chosen : (b : Bool) (n value : ℕ) → Some value ≡ cond b (Some n) None → (b ≡ true) × (value ≡ n)
 chosen true n value e = (refl, cc)
 chosen false n value e = cc

@@ -3,6 +3,7 @@
 
 mod bodies;
 mod cause;
+mod events;
 mod first_form;
 mod heading;
 mod job;
@@ -11,6 +12,7 @@ mod lines;
 mod numbers;
 mod reading;
 mod scripts;
+mod traces;
 mod words;
 
 pub use first_form::read_first;
@@ -74,5 +76,7 @@ pub const FIRST_COMMANDS: usize = 8;
 /// The cause of a refusal: bytes that leave the first form.
 pub const FORM: u8 = 14;
 
+#[cfg(test)]
+mod event_tests;
 #[cfg(test)]
 mod tests;
