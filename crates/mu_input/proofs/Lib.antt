@@ -1,8 +1,11 @@
 pub mod Cutting
 pub mod Digits
+pub mod EventLines
+pub mod EventWords
 pub mod FirstJobs
 pub mod Keys
 pub mod Readings
+pub mod Sides
 pub mod Stages
 pub mod FirstWords
 pub mod ManyWords

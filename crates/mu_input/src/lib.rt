@@ -4,6 +4,7 @@
 mod batches;
 mod bodies;
 mod cause;
+mod events;
 mod first_form;
 mod heading;
 mod job;
@@ -77,5 +78,7 @@ pub const FIRST_COMMANDS: usize = 8;
 /// The cause of a refusal: bytes that leave the first form.
 pub const FORM: u8 = 14;
 
+#[cfg(test)]
+mod event_tests;
 #[cfg(test)]
 mod tests;

@@ -1,7 +1,7 @@
 use Rattle.std.proofs.Common.{◌≡◌, ◌+◌, ◌^◌, ◌≤◌, true, take}
 use Rattle.std.specs.List.{list_all}
 use Rattle.mu_input.specs.Numbers.{is_digit, value_of}
-use Rattle.mu_input.proofs.numbers.number.Given as goal
+use Rattle.mu_input.proofs.numbers.decimal.Given as goal
 
 abbrev pub invariant-loop-byte : goal.invariant-loop-byte
 invariant-loop-byte l = record {
