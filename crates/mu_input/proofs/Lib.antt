@@ -11,3 +11,4 @@ pub mod FirstWords
 pub mod ManyWords
 pub mod Clients
 pub mod BodyReadings
+pub mod Advancing

@@ -13,13 +13,6 @@ use crate::lines::two_words;
 use crate::numbers::limited;
 use crate::{LEAST_RING, MOST_REPLICAS, MOST_RING, MOST_STEPS, MOST_WIDTH};
 
-ghost use Rattle.std.specs.Prelude.{◌≤◌, ◌+◌, ◌<◌, ◌^◌, IfOk};
-ghost use Rattle.mu_input.specs.Settings.{settings_at};
-ghost use Rattle.mu_input.specs.Readings.{ReadsFront};
-
-use crate::job::InputEnd;
-use crate::line_reader::LineReader;
-
 /// The settings of a job.
 #[derive(Clone, Copy, Debug, PartialEq, Eq)]
 pub struct Settings {

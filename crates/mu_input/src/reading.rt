@@ -6,14 +6,15 @@ ghost use Rattle.mu_input.specs.Grammar.{job, job_at};
 ghost use Rattle.mu_input.specs.Readings.{EndsHere, Reads, ReadsFront};
 ghost use Rattle.mu_input.specs.Traces.{ReadsTrace, trace};
 
+use crate::TRACE_LIMIT;
 use crate::batches::rows_of;
 use crate::bodies::read_body;
+use crate::cause::AFTER_END;
 use crate::heading::read_settings;
 use crate::job::{InputEnd, Job};
 use crate::line_reader::LineReader;
 use crate::scripts::read_script;
 use crate::traces::read_events;
-use crate::{TRACE_LIMIT, cause};
 use mu_model::{Config, Journal, Script, Sequence};
 use std::alloc::Global;
 
@@ -103,9 +104,6 @@ fn read_end(lines: &mut LineReader<'_>) -> Result<(), InputEnd>
     let line = lines.number();
     match lines.next() {
         None => Ok(()),
-        Some(_) => Err(InputEnd::Refused {
-            line,
-            cause: cause::AFTER_END,
-        }),
+        Some(_) => Err(InputEnd::at(line, AFTER_END)),
     }
 }

@@ -1,7 +1,6 @@
 //! The events of a trace: the lines after its job.
 ghost use Rattle.std.specs.Prelude.{◌≡◌, ◌+◌, ◌≤◌, ◌<◌, ◌^◌, length, vec_len, IfOk};
-ghost use Rattle.std.specs.Result.{result_map_both};
-ghost use Rattle.mu_input.specs.Readings.{ReadsFront};
+ghost use Rattle.mu_input.specs.Readings.{ReadsFrontAs};
 ghost use Rattle.mu_input.specs.Traces.{events_at};
 
 use crate::cause::{EVENT, NO_END};
@@ -18,13 +17,13 @@ use std::alloc::Global;
 ///
 /// `Refused` with the first line that is neither an event nor `end` and the cause 13, or with the
 /// line after the last one and the cause 11. `NoMemory` for want of memory.
-pub fn events(
+pub fn read_events(
     alloc: Global,
     lines: &mut LineReader<'_>,
     replicas: u8,
 ) -> Result<Vec<Event>, InputEnd>
     requires room { lines.old.number + length lines.old.lines + 1 < 2 ^ 32 }
-    ensures reading { ReadsFront (result_map_both (λ events. events.items) (λ end. end) result)
+    ensures reading { ReadsFrontAs (λ events. events.items) result
         (events_at replicas lines.old) lines.new }
     ensures few { IfOk result (λ events. vec_len events ≤ length lines.old.lines) }
     ensures counted { lines.new.number + length lines.new.lines ≡ lines.old.number + length lines.old.lines }
@@ -34,19 +33,14 @@ pub fn events(
     loop {
         let line = lines.number();
         let Some(text) = lines.next() else {
-            return Err(InputEnd::Refused {
-                line,
-                cause: NO_END,
-            });
+            return Err(InputEnd::at(line, NO_END));
         };
         if text == b"end".as_slice() {
             return Ok(events);
         }
         let Some(event) = event(replicas, text) else {
-            return Err(InputEnd::Refused { line, cause: EVENT });
+            return Err(InputEnd::at(line, EVENT));
         };
-        if events.push(event).is_err() {
-            return Err(InputEnd::NoMemory);
-        }
+        events.push(event)?;
     }
 }

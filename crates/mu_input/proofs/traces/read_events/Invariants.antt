@@ -1,6 +1,6 @@
 use Rattle.std.proofs.Common.{◌≡◌, ◌+◌, ◌≤◌, length}
 use Rattle.mu_input.specs.Traces.{events_at, events_from}
-use Rattle.mu_input.proofs.traces.events.Given as goal
+use Rattle.mu_input.proofs.traces.read_events.Given as goal
 
 abbrev pub invariant-loop-text : goal.invariant-loop-text
 invariant-loop-text l = record {
