@@ -5,3 +5,4 @@ pub mod Keys
 pub mod Readings
 pub mod Stages
 pub mod FirstWords
+pub mod StopsAndPauses
