@@ -1,8 +1,10 @@
 pub mod Cutting
 pub mod Digits
 pub mod FirstJobs
+pub mod JobConfigs
 pub mod Keys
 pub mod Readings
 pub mod Stages
+pub mod Cuts
 pub mod FirstWords
 pub mod StopsAndPauses

@@ -1,7 +1,9 @@
 //! Jobs and event lists, and the reading of them.
 #![tactic(auto)]
 
+mod batches;
 mod bodies;
+mod bulk_jobs;
 mod cause;
 mod first_form;
 mod heading;
@@ -13,6 +15,7 @@ mod reading;
 mod scripts;
 mod words;
 
+pub use bulk_jobs::{NoMemory, bulk};
 pub use first_form::read_first;
 pub use job::{Commands, InputEnd, Job};
 pub use reading::{read, read_trace};
