@@ -95,11 +95,11 @@ fits width command (next ∷ commands) some few turn =
     elim (cases_of (command.number % width == 0)) [
       | inl last ↦ rw last (omega (arith, place))
       | inr on ↦ rw on (elim (cases_of (next.client == command.client)) [
-          | inl same ↦
-              let number : next.number ≡ command.number + 1 = turn.0 ((Decides-eqb next.client command.client).0 same) in
-              rw same (one_further width (command.number % width) (next.number % width) (followers width next commands) place (subst (λ n. (n % width ≡ 0) ⊎ (n % width ≡ command.number % width + 1)) (sym number) (next_place width command.number some few)) (full width next commands) rest)
-          | inr other ↦ rw other (omega (arith, place))
-        ])
+        | inl same ↦
+            let number : next.number ≡ command.number + 1 = turn.0 ((Decides-eqb next.client command.client).0 same) in
+            rw same (one_further width (command.number % width) (next.number % width) (followers width next commands) place (subst (λ n. (n % width ≡ 0) ⊎ (n % width ≡ command.number % width + 1)) (sym number) (next_place width command.number some few)) (full width next commands) rest)
+        | inr other ↦ rw other (omega (arith, place))
+      ])
     ]
 
 -- fewer follow than the width

@@ -5,6 +5,7 @@ pub mod JobConfigs
 pub mod Keys
 pub mod Readings
 pub mod Stages
+pub mod BulkCommands
 pub mod Cuts
 pub mod FirstWords
 pub mod StopsAndPauses

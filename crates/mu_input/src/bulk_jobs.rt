@@ -123,3 +123,6 @@ fn bulk_old_text(alloc: Global, index: u16) -> Result<Text, AllocError>
     };
     Ok(text)
 }
+
+#[cfg(test)]
+mod tests;

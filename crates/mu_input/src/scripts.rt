@@ -58,11 +58,7 @@ pub fn script_where(
 ///
 /// `Refused` with the first line that is none of a script, or is missing, and the cause: 10 the
 /// line, 9 one line too many, 11 no end. `NoMemory` for want of memory.
-pub fn script(
-    alloc: Global,
-    lines: &mut LineReader<'_>,
-    replicas: u8,
-) -> Result<Script, InputEnd>
+pub fn script(alloc: Global, lines: &mut LineReader<'_>, replicas: u8) -> Result<Script, InputEnd>
     requires some { 1 ≤ replicas }
     requires most { replicas ≤ 7 }
     requires room { lines.old.number + 102 < 2 ^ 32 }
@@ -82,11 +78,10 @@ pub fn script(
             words.as_slice(),
         ) {
             Ok(said) => said,
-            Err(cause) =>
-                return Err(InputEnd::Refused {
-                    line: number,
-                    cause,
-                }),
+            Err(cause) => return Err(InputEnd::Refused {
+                line: number,
+                cause,
+            }),
         };
         match said {
             ScriptLine::Stop(stop) => {
@@ -170,12 +165,11 @@ fn stop_line(replicas: u8, stops: &[Stop], words: &[&[u8]]) -> Option<Stop>
     ensures { result ≡ stop_line replicas stops.now (map (λ word. word.now) words.now) }
 {
     match words {
-        [name, replica, steps] if *name == b"stop".as_slice() =>
-            another_stop(
-                stops,
-                replica_of(replica, replicas),
-                limited(steps, 0, MOST_STEPS),
-            ),
+        [name, replica, steps] if *name == b"stop".as_slice() => another_stop(
+            stops,
+            replica_of(replica, replicas),
+            limited(steps, 0, MOST_STEPS),
+        ),
         _ => None,
     }
 }
@@ -203,13 +197,12 @@ fn pause_line(replicas: u8, pauses: &[Pause], words: &[&[u8]]) -> Option<Pause>
     ensures { result ≡ pause_line replicas pauses.now (map (λ word. word.now) words.now) }
 {
     match words {
-        [name, replica, steps, rounds] if *name == b"pause".as_slice() =>
-            another_pause(
-                pauses,
-                replica_of(replica, replicas),
-                limited(steps, 0, MOST_STEPS),
-                limited(rounds, 1, MOST_ROUNDS),
-            ),
+        [name, replica, steps, rounds] if *name == b"pause".as_slice() => another_pause(
+            pauses,
+            replica_of(replica, replicas),
+            limited(steps, 0, MOST_STEPS),
+            limited(rounds, 1, MOST_ROUNDS),
+        ),
         _ => None,
     }
 }
@@ -286,7 +279,8 @@ fn stops_in_order(alloc: Global, replicas: u8, stops: &[Stop]) -> Result<Vec<Sto
 }
 
 fn push_stops_of(ordered: &mut Vec<Stop>, replica: u8, stops: &[Stop]) -> Result<(), AllocError>
-    ensures { IfOk result (λ _. ordered.new.items ≡ ordered.old.items ++ stops_of replica stops.now) }
+    ensures { IfOk result (λ _.
+        ordered.new.items ≡ ordered.old.items ++ stops_of replica stops.now) }
 {
     for stop in stops {
         if stop.replica == replica {
@@ -308,7 +302,8 @@ fn pauses_in_order(alloc: Global, replicas: u8, pauses: &[Pause]) -> Result<Vec<
 }
 
 fn push_pauses_of(ordered: &mut Vec<Pause>, replica: u8, pauses: &[Pause]) -> Result<(), AllocError>
-    ensures { IfOk result (λ _. ordered.new.items ≡ ordered.old.items ++ pauses_of replica pauses.now) }
+    ensures { IfOk result (λ _.
+        ordered.new.items ≡ ordered.old.items ++ pauses_of replica pauses.now) }
 {
     for pause in pauses {
         if pause.replica == replica {
@@ -317,3 +312,6 @@ fn push_pauses_of(ordered: &mut Vec<Pause>, replica: u8, pauses: &[Pause]) -> Re
     }
     Ok(())
 }
+
+#[cfg(test)]
+mod tests;
