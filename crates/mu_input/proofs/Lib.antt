@@ -3,12 +3,12 @@ pub mod Digits
 pub mod EventLines
 pub mod EventWords
 pub mod FirstJobs
+pub mod JobConfigs
 pub mod Keys
 pub mod Readings
 pub mod Sides
 pub mod Stages
+pub mod BulkCommands
+pub mod Cuts
 pub mod FirstWords
-pub mod ManyWords
-pub mod Clients
-pub mod BodyReadings
-pub mod Advancing
+pub mod StopsAndPauses

@@ -3,6 +3,7 @@
 
 mod batches;
 mod bodies;
+mod bulk_jobs;
 mod cause;
 mod events;
 mod first_form;
@@ -17,6 +18,7 @@ mod scripts;
 mod traces;
 mod words;
 
+pub use bulk_jobs::{NoMemory, bulk};
 pub use first_form::read_first;
 pub use job::{Commands, InputEnd, Job};
 pub use reading::{read, read_trace};
