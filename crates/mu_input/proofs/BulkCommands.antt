@@ -1,6 +1,6 @@
 -- The commands of the stated job: their keys and texts, their number and their session.
 use Rattle.std.proofs.Common.{◌≡◌, ℕ, suc, zero, ◌+◌, ◌-◌, ◌/◌, ◌%◌, ◌^◌, ◌<◌, ◌≤◌, ◌==◌, Bool, true, false, cond, List, [], ◌∷◌, ◌++◌, length, codes, refl, sym, ap, subst, ◌∙◌, inl, inr, ◌⊎◌, arith}
-use Rattle.std.proofs.lemmas.Fmt.{decimal_by_steps, decimal_nonempty, length-decimal-le}
+use Rattle.std.proofs.lemmas.Fmt.{decimal_by_steps, length-decimal-le}
 use Rattle.std.proofs.lemmas.List.{length-append}
 use Rattle.std.proofs.lemmas.List.Elements.{All-cons, All-nil, All-push}
 use Rattle.std.proofs.lemmas.Bool.{false≢true}
@@ -14,10 +14,9 @@ use Rattle.kv_store.specs.Commands.{Request}
 use Rattle.kv_store.specs.Sessions.{numbers_of, IsInSession}
 use Rattle.kv_store.specs.Words.{IsKey, IsText, IsVisible, IsWord}
 use Rattle.kv_store.proofs.InSession.{IsInSession-push, numbers_of-append}
-use Rattle.mu_input.specs.Bulk.{bulk_key, bulk_text, bulk_command, bulk_commands, bulk_settings}
+use Rattle.mu_input.specs.Bulk.{bulk_key, bulk_text, bulk_command, bulk_commands}
 use Rattle.mu_model.specs.declared.script.Script.{Script}
 use Rattle.mu_input.specs.Grammar.{job_of}
-use Rattle.mu_input.specs.Limits.{HasLimits}
 use Rattle.mu_input.specs.declared.heading.Settings.{Settings}
 use Rattle.mu_input.specs.declared.job.Job.{Job}
 use Rattle.mu_input.specs.declared.TheConstants.{MOST_COMMANDS}

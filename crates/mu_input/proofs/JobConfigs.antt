@@ -1,16 +1,16 @@
 -- The configuration that settings and commands in session give.
-use Rattle.std.proofs.Common.{◌≡◌, ℕ, suc, zero, ◌+◌, ◌/◌, ◌%◌, ◌^◌, ◌<◌, ◌≤◌, ◌==◌, Bool, true, false, cond, List, [], ◌∷◌, ◌++◌, length, take, drop, slice_get, None, Some, refl, sym, ap, subst, ◌∙◌, inl, inr, ◌⊎◌, arith}
+use Rattle.std.proofs.Common.{◌≡◌, ℕ, suc, zero, ◌+◌, ◌/◌, ◌%◌, ◌^◌, ◌<◌, ◌≤◌, ◌==◌, Bool, true, false, cond, List, [], ◌∷◌, ◌++◌, length, take, drop, slice_get, Some, refl, sym, ap, subst, ◌∙◌, inl, inr, ◌⊎◌, arith}
 use Rattle.std.proofs.lemmas.List.{length-append}
 use Rattle.std.proofs.lemmas.Bool.Decides.{Decides-eqb}
 use Rattle.kv_store.specs.Commands.{Request}
 use Rattle.kv_store.specs.Sessions.{numbers_of, IsInSession}
 use Rattle.kv_store.proofs.InSession.{IsInSession-next, IsInSession-take, numbers_of-append}
-use Rattle.mu_model.specs.Contents.{IsConfig, client_of, number_of, rest_of, row_count, rows_before, word_of}
+use Rattle.mu_model.specs.Contents.{IsConfig, client_of, number_of, rows_before, word_of}
 use Rattle.mu_model.specs.declared.config.Config.{Config}
 use Rattle.mu_model.specs.declared.config.Row.{Row}
 use Rattle.mu_input.specs.Batches.{followers}
 use Rattle.mu_input.specs.Heads.{HasHead, HaveHeads}
-use Rattle.mu_input.specs.Limits.{HasLimits}
+use Rattle.mu_input.specs.Settings.{HasLimits}
 use Rattle.mu_input.specs.declared.TheConstants.{MOST_COMMANDS}
 use Rattle.mu_input.specs.declared.heading.Settings.{Settings}
 use Rattle.mu_input.proofs.Cuts.{AreInTurn, AreInTurn-rest, AreInTurn-session, followers_below}

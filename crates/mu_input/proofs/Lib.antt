@@ -12,3 +12,7 @@ pub mod BulkCommands
 pub mod Cuts
 pub mod FirstWords
 pub mod StopsAndPauses
+pub mod Advancing
+pub mod BodyReadings
+pub mod Clients
+pub mod ManyWords

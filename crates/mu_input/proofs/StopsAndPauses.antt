@@ -8,8 +8,8 @@ use Rattle.std.specs.declared.option.Option.{Option}
 use Rattle.std.specs.List.{filter, list_all, list_any}
 use Rattle.mu_model.specs.declared.script.Stop.{Stop}
 use Rattle.mu_model.specs.declared.script.Pause.{Pause}
-use Rattle.mu_input.specs.Lines.{Left, is_alone, words}
-use Rattle.mu_input.specs.Readings.{Front, Line, Says, Wrong}
+use Rattle.mu_input.specs.Lines.{is_alone, words}
+use Rattle.mu_input.specs.Readings.{Line, Says, Wrong}
 use Rattle.mu_input.specs.Scripts.{is_stopped, stop_line, pauses_before, pause_line, script_after, script_from, script_line, stop_or_pause, with_room, stops_of, stops_in_order, pauses_of, pauses_in_order}
 use Rattle.mu_input.specs.declared.scripts.ScriptLine.{ScriptLine}
 use Rattle.mu_input.specs.declared.scripts.ScriptLine.TheVariants as line

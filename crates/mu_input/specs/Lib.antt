@@ -8,7 +8,6 @@ pub mod Bodies
 pub mod Scripts
 pub mod Batches
 pub mod Heads
-pub mod Limits
 pub mod Grammar
 pub mod Bulk
 pub mod Events

@@ -6,7 +6,7 @@ ghost use Rattle.mu_rows.specs.Rows.{spelled};
 ghost use Rattle.mu_input.specs.Batches.{followers, rows_of};
 ghost use Rattle.mu_input.specs.Grammar.{job_of};
 ghost use Rattle.mu_input.specs.Heads.{HasHead, HaveHeads};
-ghost use Rattle.mu_input.specs.Limits.{HasLimits};
+ghost use Rattle.mu_input.specs.Settings.{HasLimits};
 
 use crate::heading::Settings;
 use crate::job::{Commands, Job};

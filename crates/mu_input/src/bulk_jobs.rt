@@ -10,11 +10,8 @@ use crate::heading::Settings;
 use crate::job::Job;
 use crate::{MOST_COMMANDS, MOST_STEPS};
 use kv_store::{Command, Key, Op, Text};
-use mu_model::{Script, Sequence};
+use mu_model::{NoMemory, Script, Sequence};
 use std::alloc::{AllocError, Global};
-
-/// Want of memory.
-pub use std::alloc::AllocError as NoMemory;
 
 /// The job of so many commands, 0 to 1,500, which four clients ask for in turn. Takes memory for
 /// the commands and the rows, and linear time.

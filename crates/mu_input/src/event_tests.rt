@@ -4,7 +4,7 @@ ghost use Rattle.std.specs.Prelude.{◌+◌, ◌<◌, ◌^◌, length};
 use crate::InputEnd;
 use crate::events::event;
 use crate::line_reader::LineReader;
-use crate::traces::events;
+use crate::traces::read_events;
 use mu_model::{Answer, Event, Fence, Target, Verb};
 use std::alloc::Global;
 use std::test::Fail;
@@ -238,7 +238,7 @@ type Told = Result<(usize, u32), (u32, u8)>;
 fn told(alloc: Global, mut lines: LineReader<'_>) -> Result<Told, Fail>
     requires { lines.number + length lines.lines + 1 < 2 ^ 32 }
 {
-    match events(alloc, &mut lines, 3) {
+    match read_events(alloc, &mut lines, 3) {
         Ok(events) => Ok(Ok((events.len(), lines.number()))),
         Err(InputEnd::Refused { line, cause }) => Ok(Err((line, cause))),
         Err(InputEnd::NoMemory) => Err(Fail::from("no memory")),
@@ -274,7 +274,7 @@ fn first_line_that_is_no_event(rt: HostRuntime) -> Result<(), Fail> {
 #[test]
 fn events_in_their_order(rt: HostRuntime) -> Result<(), Fail> {
     let mut lines = LineReader::new(b"0 ask 0 = done\n2 fuo 1 = 7\nend\n");
-    let events = events(rt.alloc(), &mut lines, 3)?;
+    let events = read_events(rt.alloc(), &mut lines, 3)?;
     assert_eq!(rt; events.first().copied(), done(0, Verb::Ask(0)));
     assert_eq!(rt; events.last().copied(), found(2, Verb::Fuo(1), 7));
     Ok(())

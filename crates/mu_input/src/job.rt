@@ -4,7 +4,7 @@ ghost use Rattle.mu_input.specs.declared.job.InputEnd.TheVariants.{Refused, NoMe
 
 use kv_store::Command;
 use mu_model::{Config, Script, Sequence};
-use std::alloc::AllocFailed;
+use std::alloc::{AllocError, AllocFailed};
 
 /// The commands of a job, in the order of the file.
 pub type Commands = Sequence<Command>;
@@ -40,6 +40,14 @@ impl InputEnd {
         ensures { result ≡ Refused line cause }
     {
         InputEnd::Refused { line, cause }
+    }
+}
+
+impl From<AllocError> for InputEnd {
+    ghost from_gives = { λ _ end. end ≡ NoMemory };
+
+    fn from(_failed: AllocError) -> InputEnd {
+        InputEnd::NoMemory
     }
 }
 

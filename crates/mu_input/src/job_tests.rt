@@ -7,7 +7,8 @@ use std::test::Fail;
 const HEAD: &str = "mu 1\nreplicas 1\nring 8\nbudget 100\n";
 
 /// Six commands of two clients.
-const TWO_CLIENTS: &str = "mu 1\nreplicas 3\nring 8\nbudget 20000\nclient 0\nput a 5\nget a\ncas a 5 6\nclient 1\nput b 7\nswap a 9\ncas a 9 1\nend\n";
+const TWO_CLIENTS: &str =
+    "mu 1\nreplicas 3\nring 8\nbudget 20000\nclient 0\nput a 5\nget a\ncas a 5 6\nclient 1\nput b 7\nswap a 9\ncas a 9 1\nend\n";
 
 /// The line and the cause of the refusal of these bytes, or none where they are a job.
 fn refusal(alloc: Global, bytes: &[u8]) -> Result<Option<(u32, u8)>, Fail> {
@@ -43,7 +44,11 @@ fn refuses_inputs(rt: HostRuntime) -> Result<(), Fail> {
         ("client 0\nput a  5\nend\n", 6, 6),
         ("client 0\nput  5\nend\n", 6, 7),
         ("client 0\nput a \nend\n", 6, 8),
-        ("client 0\ncas a 5 123456789012345678901234567890123\nend\n", 6, 8),
+        (
+            "client 0\ncas a 5 123456789012345678901234567890123\nend\n",
+            6,
+            8,
+        ),
         ("batch 1\nend\n", 5, 6),
         ("script x\nend\n", 5, 6),
         ("end x\n", 5, 6),
@@ -67,13 +72,21 @@ fn refuses_settings(rt: HostRuntime) -> Result<(), Fail> {
     let alloc = rt.alloc();
     for (text, line, cause) in [
         ("", 1, 11),
-        ("mu 1\r\nreplicas 1\r\nring 8\r\nbudget 100\r\nend\r\n", 1, 1),
+        (
+            "mu 1\r\nreplicas 1\r\nring 8\r\nbudget 100\r\nend\r\n",
+            1,
+            1,
+        ),
         ("mu 3\nreplicas 1\nring 8\nbudget 100\nend\n", 1, 1),
         ("mu 1\nreplicas 8\nring 8\nbudget 100\nend\n", 2, 2),
         ("mu 1\nreplicas 1\nring 7\nbudget 100\nend\n", 3, 3),
         ("mu 1\nreplicas 1\nring 08\nbudget 100\nend\n", 3, 3),
         ("mu 1\nreplicas 1\nring 8\nbudget 10000000\nend\n", 4, 4),
-        ("mu 2\nreplicas 1\nring 8\nbudget 100\nbatch 5\nend\n", 5, 15),
+        (
+            "mu 2\nreplicas 1\nring 8\nbudget 100\nbatch 5\nend\n",
+            5,
+            15,
+        ),
         ("mu 2\nreplicas 1\nring 8\nbudget 100\nend\n", 5, 15),
         ("mu 2\nreplicas 1\nring 8\nbudget 100\n", 5, 11),
     ] {
@@ -222,11 +235,22 @@ fn rows(alloc: Global, job: &Job) -> Result<Vec<(u8, u16, u8)>, Fail> {
 fn cuts_batches(rt: HostRuntime) -> Result<(), Fail> {
     let alloc = rt.alloc();
     let job = read(alloc, TWO_CLIENTS.as_bytes())?;
-    let alone = [(0, 1, 0), (0, 2, 0), (0, 3, 0), (1, 1, 0), (1, 2, 0), (1, 3, 0)];
+    let alone = [
+        (0, 1, 0),
+        (0, 2, 0),
+        (0, 3, 0),
+        (1, 1, 0),
+        (1, 2, 0),
+        (1, 3, 0),
+    ];
     assert_eq!(rt; rows(alloc, &job)?.as_slice(), alone.as_slice());
-    assert_eq!(rt; (job.config.version, job.config.width, job.config.replicas), (1, 1, 3));
+    assert_eq!(rt;
+        (job.config.version, job.config.width, job.config.replicas),
+        (1, 1, 3)
+    );
     assert_eq!(rt; (job.config.ring, job.config.budget), (8, 20_000));
-    let text = "mu 2\nreplicas 3\nring 8\nbudget 20000\nbatch 2\nclient 0\nput a 5\nget a\ncas a 5 6\nclient 1\nput b 7\nswap a 9\nend\n";
+    let text =
+        "mu 2\nreplicas 3\nring 8\nbudget 20000\nbatch 2\nclient 0\nput a 5\nget a\ncas a 5 6\nclient 1\nput b 7\nswap a 9\nend\n";
     let job = read(alloc, text.as_bytes())?;
     let pairs = [(0, 1, 1), (0, 2, 0), (0, 3, 0), (1, 1, 1), (1, 2, 0)];
     assert_eq!(rt; rows(alloc, &job)?.as_slice(), pairs.as_slice());
@@ -236,13 +260,27 @@ fn cuts_batches(rt: HostRuntime) -> Result<(), Fail> {
 
 #[test]
 fn orders_the_script(rt: HostRuntime) -> Result<(), Fail> {
-    let text = "mu 1\nreplicas 3\nring 8\nbudget 100\nscript\nstop 2 5\npause 1 9 3\nstop 0 7\npause 0 4 2\npause 1 10 1\nend\n";
+    let text =
+        "mu 1\nreplicas 3\nring 8\nbudget 100\nscript\nstop 2 5\npause 1 9 3\nstop 0 7\npause 0 4 2\npause 1 10 1\nend\n";
     let job = read(rt.alloc(), text.as_bytes())?;
-    let mut stops = job.script.stops.as_slice().iter().map(|stop| (stop.replica, stop.steps));
-    assert_eq!(rt; (stops.next(), stops.next(), stops.next()), (Some((0, 7)), Some((2, 5)), None));
+    let mut stops = job
+        .script
+        .stops
+        .as_slice()
+        .iter()
+        .map(|stop| (stop.replica, stop.steps));
+    assert_eq!(rt;
+        (stops.next(), stops.next(), stops.next()),
+        (Some((0, 7)), Some((2, 5)), None)
+    );
     let pauses = job.script.pauses.as_slice();
-    let mut told = pauses.iter().map(|pause| (pause.replica, pause.steps, pause.rounds));
-    assert_eq!(rt; (told.next(), told.next()), (Some((0, 4, 2)), Some((1, 9, 3))));
+    let mut told = pauses
+        .iter()
+        .map(|pause| (pause.replica, pause.steps, pause.rounds));
+    assert_eq!(rt;
+        (told.next(), told.next()),
+        (Some((0, 4, 2)), Some((1, 9, 3)))
+    );
     assert_eq!(rt; (told.next(), told.next()), (Some((1, 10, 1)), None));
     Ok(())
 }

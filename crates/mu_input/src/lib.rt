@@ -18,7 +18,7 @@ mod scripts;
 mod traces;
 mod words;
 
-pub use bulk_jobs::{NoMemory, bulk};
+pub use bulk_jobs::bulk;
 pub use first_form::read_first;
 pub use job::{Commands, InputEnd, Job};
 pub use reading::{read, read_trace};
@@ -82,5 +82,7 @@ pub const FORM: u8 = 14;
 
 #[cfg(test)]
 mod event_tests;
+#[cfg(test)]
+mod job_tests;
 #[cfg(test)]
 mod tests;

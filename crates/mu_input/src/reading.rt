@@ -7,15 +7,15 @@ ghost use Rattle.mu_input.specs.Readings.{EndsHere, Reads, ReadsFront};
 ghost use Rattle.mu_input.specs.Traces.{ReadsTrace, trace};
 
 use crate::TRACE_LIMIT;
-use crate::batches::rows_of;
+use crate::batches::job_of;
 use crate::bodies::read_body;
 use crate::cause::AFTER_END;
 use crate::heading::read_settings;
 use crate::job::{InputEnd, Job};
 use crate::line_reader::LineReader;
-use crate::scripts::read_script;
+use crate::scripts::script_where;
 use crate::traces::read_events;
-use mu_model::{Config, Journal, Script, Sequence};
+use mu_model::Journal;
 use std::alloc::Global;
 
 /// The job that bytes spell. Takes memory for its commands, rows and script alone, and the time of
@@ -30,6 +30,8 @@ use std::alloc::Global;
 /// want of memory.
 pub fn read(alloc: Global, bytes: &[u8]) -> Result<Job, InputEnd>
     ensures reading { Reads result (job bytes.now) }
+    ensures config { IfOk result (λ job. IsConfig job.config) }
+    ensures session { IfOk result (λ job. IsInSession job.commands) }
 {
     let mut lines = LineReader::new(bytes);
     let job = read_job(alloc, &mut lines)?;
@@ -46,6 +48,8 @@ pub fn read(alloc: Global, bytes: &[u8]) -> Result<Job, InputEnd>
 pub fn read_trace(alloc: Global, bytes: &[u8]) -> Result<(Job, Journal), InputEnd>
     requires { length bytes.now ≤ TRACE_LIMIT }
     ensures reading { ReadsTrace result (trace bytes.now) }
+    ensures config { IfOk result (λ r. IsConfig r.0.config) }
+    ensures session { IfOk result (λ r. IsInSession r.0.commands) }
     ensures few { IfOk result (λ r. length r.1.events < 2 ^ 32) }
 {
     let mut lines = LineReader::new(bytes);
@@ -59,41 +63,14 @@ pub fn read_trace(alloc: Global, bytes: &[u8]) -> Result<(Job, Journal), InputEn
 fn read_job(alloc: Global, lines: &mut LineReader<'_>) -> Result<Job, InputEnd>
     requires { lines.old.number ≡ 1 }
     ensures reading { ReadsFront result (job_at lines.old) lines.new }
+    ensures config { IfOk result (λ job. IsConfig job.config) }
+    ensures session { IfOk result (λ job. IsInSession job.commands) }
     ensures few { IfOk result (λ job. lines.new.number ≤ 1707) }
 {
     let settings = read_settings(lines)?;
     let body = read_body(alloc, lines)?;
-    let script = if body.has_script {
-        read_script(alloc, lines, settings.replicas)?
-    } else {
-        no_script(alloc)
-    };
-    let Ok(rows) = rows_of(alloc, body.commands.as_slice(), settings.width) else {
-        return Err(InputEnd::NoMemory);
-    };
-    let config = Config {
-        version: settings.version,
-        width: settings.width,
-        replicas: settings.replicas,
-        ring: settings.ring,
-        budget: settings.budget,
-        rows,
-    };
-    Ok(Job {
-        config,
-        commands: body.commands,
-        script,
-    })
-}
-
-/// Nothing befalls any replica.
-fn no_script(alloc: Global) -> Script
-    ensures { result ≡ record { stops = []; pauses = [] } }
-{
-    Script {
-        stops: Sequence::from_vec(Vec::new(alloc)),
-        pauses: Sequence::from_vec(Vec::new(alloc)),
-    }
+    let script = script_where(alloc, lines, body.has_script, settings.replicas)?;
+    Ok(job_of(alloc, settings, body.commands, script)?)
 }
 
 /// No line is left.

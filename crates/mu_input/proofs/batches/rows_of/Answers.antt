@@ -1,4 +1,4 @@
-use Rattle.std.proofs.Common.{refl, subst, append-nil}
+use Rattle.std.proofs.Common.{refl, subst}
 use Rattle.mu_input.proofs.Cuts.{AreInTurn, AreInTurn-rest, AreInTurn-session, followers_below, rows_of-more, HaveHeads-more}
 use Rattle.mu_input.proofs.batches.rows_of.Goals as goal
 

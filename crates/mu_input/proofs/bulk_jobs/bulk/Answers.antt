@@ -1,7 +1,5 @@
-use Rattle.std.proofs.Common.{◌≡◌, ◌≤◌, ◌∙◌, List, ap, length, subst, sym, arith}
-use Rattle.kv_store.specs.Commands.{Request}
+use Rattle.std.proofs.Common.{◌≤◌, ◌∙◌, ap, length, subst, sym, arith}
 use Rattle.kv_store.specs.Sessions.{IsInSession}
-use Rattle.mu_input.specs.Bulk.{bulk_commands}
 use Rattle.mu_input.specs.declared.TheConstants.{MOST_COMMANDS}
 use Rattle.mu_input.proofs.BulkCommands.{IsInSession-bulk, length-bulk_commands, session_of-job_of}
 use Rattle.mu_input.proofs.bulk_jobs.bulk.Goals as goal

@@ -1,4 +1,4 @@
-use Rattle.std.proofs.Common.{ap, append-nil, append_assoc, arith}
+use Rattle.std.proofs.Common.{append-nil, append_assoc, arith}
 use Rattle.std.proofs.lemmas.Grind.{common_steps}
 use Rattle.mu_model.specs.declared.script.Stop.{Stop}
 use Rattle.mu_input.proofs.StopsAndPauses.{stops_of-more}
