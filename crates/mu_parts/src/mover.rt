@@ -16,7 +16,7 @@ use mu_grant::Grants;
 use mu_leads::{Heads, Leading};
 use mu_learns::{Covering, Fetching, Knowing, Landings};
 use mu_looks::Placing;
-use mu_model::{Config, Event, NoMemory, Verb, reserve_of, row_word};
+use mu_model::{Config, Event, NoMemory, Verb, positions_in, row_word};
 use std::alloc::Global;
 
 /// What the events of one replica so far let it do next.
@@ -49,7 +49,7 @@ fn is_position(config: &Config, i: u16) -> bool
     requires { IsConfig config.now }
     ensures { IsTrue result ↔ (i ≤ row_count config.now + reserve config.now) }
 {
-    usize::from(i) <= config.rows.len() + usize::from(reserve_of(config))
+    usize::from(i) < positions_in(config)
 }
 
 /// How many steps there were, after one more.
