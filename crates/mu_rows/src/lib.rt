@@ -1,4 +1,4 @@
-//! Rows: how a command stands in twelve words of shared memory.
+//! Rows: how a command stands in twelve words of shared memory, and how it is read back.
 #![tactic(auto)]
 
 ghost use Rattle.std.specs.Prelude.{◌≡◌, ◌<◌, ◌≤◌, ◌/◌, ◌%◌, ◌^◌, length, slice_index, slice_index_or};

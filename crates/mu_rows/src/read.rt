@@ -10,17 +10,18 @@ use crate::{CLIENT, FIRST_LENGTH, KEY_LENGTH, NUMBER, REST, SECOND_LENGTH, encod
 use kv_store::{Command, Key, Op, TEXT_BYTES, Text};
 use mu_model::Row;
 
-// How many values the number of a command has in the head word, and how many each other field.
+// How many values the number of a command has in the head word, and how many each other field has.
 const NUMBERS: u64 = 65_536;
 
 const BYTES: u64 = 256;
 
-// The most rows of a batch that follow one of them.
+// How many rows of the same batch follow at most.
 const MOST_REST: u8 = 3;
 
-/// The command of a row, and how many rows of the same batch follow: 0 to 3. `None` where no command has this row.
+/// The command of a row, and how many rows of the same batch follow: 0 to 3. `None` where no command
+/// has this row. What `encode` answers is read back, and nothing else is.
 pub fn decode(row: &Row) -> Option<(Command, u8)>
-    ensures some { IfSome result (λ r. (r.1 ≤ 3) × (row.now.words ≡ spelled r.0 r.1)) }
+    ensures some { IfSome result (λ r. IsCommand r.0 × (r.1 ≤ 3) × (row.now.words ≡ spelled r.0 r.1)) }
     ensures none { result ≡ None → (c : Request) (k : ℕ) → IsCommand c → k ≤ 3 → row.now.words ≢ spelled c k }
 {
     let rest = (row.words[0] / REST) as u8;
@@ -41,7 +42,8 @@ pub fn rows_differ()
         → (c ≡ d) × (j ≡ k) }
 {}
 
-/// The command of a row. Where no command has the row, it is some other or `None`.
+/// The command of these words. Where they are no row of a command, it is some other one or `None`,
+/// and so it is with the parts that follow.
 fn command_in(words: &[u64; 12]) -> Option<Command>
     ensures { (c : Request) (k : ℕ) → IsCommand c → k ≤ 3 → words.now ≡ spelled c k → result ≡ Some c }
 {
@@ -51,6 +53,7 @@ fn command_in(words: &[u64; 12]) -> Option<Command>
     Command::new(client, number, op_in(words)?)
 }
 
+/// The operation of these words.
 fn op_in(words: &[u64; 12]) -> Option<Op>
     ensures { (c : Request) (k : ℕ) → IsCommand c → k ≤ 3 → words.now ≡ spelled c k → result ≡ Some c.op }
 {
@@ -65,6 +68,7 @@ fn op_in(words: &[u64; 12]) -> Option<Op>
     }
 }
 
+/// The key of these words.
 fn key_in(words: &[u64; 12]) -> Option<Key>
     ensures { (c : Request) (k : ℕ) → IsCommand c → k ≤ 3 → words.now ≡ spelled c k
         → result ≡ Some (key_of c.op) }
@@ -73,6 +77,7 @@ fn key_in(words: &[u64; 12]) -> Option<Key>
     Key::new(bytes_of(&words[1..4]).get(..len as usize)?)
 }
 
+/// The text of these words, the old one of a cas.
 fn first_text_in(words: &[u64; 12]) -> Option<Text>
     ensures { (c : Request) (k : ℕ) → IsCommand c → k ≤ 3 → words.now ≡ spelled c k
         → IsText (first_text c.op) → result ≡ Some (first_text c.op) }
@@ -81,6 +86,7 @@ fn first_text_in(words: &[u64; 12]) -> Option<Text>
     Text::new(bytes_of(&words[4..]).get(..len as usize)?)
 }
 
+/// The new text of a cas.
 fn second_text_in(words: &[u64; 12]) -> Option<Text>
     ensures { (c : Request) (k : ℕ) → IsCommand c → k ≤ 3 → words.now ≡ spelled c k
         → IsText (second_text c.op) → result ≡ Some (second_text c.op) }
