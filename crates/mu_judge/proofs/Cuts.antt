@@ -23,6 +23,12 @@ cut-step byte bytes e = ap (λ t. cond t (Some ([], drop 4 bytes)) (behind (byte
 cut-here : (byte : ℕ) (bytes : List ℕ) → is_between (byte ∷ bytes) ≡ true → cut (byte ∷ bytes) ≡ Some ([], drop 4 bytes)
 cut-here byte bytes e = ap (λ t. cond t (Some ([], drop 4 bytes)) (behind (byte ∷ []) (cut bytes))) e
 
+one_more : (i : ℕ) → suc (i + 1) ≡ suc i + 1
+one_more i = omega arith
+
+five_more : (i : ℕ) → suc (i + 5) ≡ suc i + 5
+five_more i = omega arith
+
 -- no separator at this place: it is looked for from the next on
 pub cut_later : (bytes : List ℕ) (i : ℕ) → i < length bytes → is_between (drop i bytes) ≡ false
     → behind (take i bytes) (cut (drop i bytes)) ≡ behind (take (i + 1) bytes) (cut (drop (i + 1) bytes))
@@ -32,6 +38,7 @@ cut_later (byte ∷ bytes) (suc i) below e =
     behind-cons byte (take i bytes) (cut (drop i bytes))
     ∙ ap (option_map (λ p. (byte ∷ p.0, p.1))) (cut_later bytes i (omega arith) e)
     ∙ sym (behind-cons byte (take (i + 1) bytes) (cut (drop (i + 1) bytes)))
+    ∙ ap (λ n. behind (take n (byte ∷ bytes)) (cut (drop n (byte ∷ bytes)))) (one_more i)
 
 -- a separator at this place: the bytes are cut here
 pub cut_found : (bytes : List ℕ) (i : ℕ) → i < length bytes → is_between (drop i bytes) ≡ true
@@ -41,6 +48,7 @@ cut_found (byte ∷ bytes) zero below e = behind-nil (cut (byte ∷ bytes)) ∙ 
 cut_found (byte ∷ bytes) (suc i) below e =
     behind-cons byte (take i bytes) (cut (drop i bytes))
     ∙ ap (option_map (λ p. (byte ∷ p.0, p.1))) (cut_found bytes i (omega arith) e)
+    ∙ ap (λ n. Some (byte ∷ take i bytes, drop n (byte ∷ bytes))) (five_more i)
 
 -- past the last byte there is none
 pub cut_none : (bytes : List ℕ) (i : ℕ) → length bytes ≤ i → behind (take i bytes) (cut (drop i bytes)) ≡ None

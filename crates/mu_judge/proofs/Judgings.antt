@@ -1,5 +1,5 @@
 -- What was judged trace by trace was judged as one.
-use Rattle.std.proofs.Common.{◌≡◌, ℕ, List, [], ◌∷◌, ◌++◌, Option, None, Some, MatchOption, refl, sym, ap, subst, ◌∙◌, append_assoc, append-nil}
+use Rattle.std.proofs.Common.{◌≡◌, ℕ, List, [], ◌∷◌, ◌++◌, Option, None, Some, MatchOption, Result, Ok, Err, OnOk, refl, sym, ap, subst, ◌∙◌, append_assoc, append-nil}
 use Rattle.std.specs.Io.KnownBytes.{Appends}
 use Rattle.std.proofs.KnownBytes.{Appends-nil, Appends-trans}
 use Rattle.mu_report.specs.declared.said.Said.{Said}
@@ -35,13 +35,21 @@ judged_step bytes rest trace more a b c p is q = record {
   printed = subst (Appends a c) (sym (texts-next p.saids q.said)) (Appends-trans a b c _ _ p.printed q.printed);
 }
 
+last_says : (rest : List ℕ) (said : Said) → cut rest ≡ None → SaysOf rest said → SaysOfAll rest (said ∷ [])
+last_says rest said is says =
+    let none : List Said = [] in
+    subst (λ parts. MatchOption parts (SaysOf rest said × (none ≡ none)) (λ parts. SaysOf parts.0 said × SaysOfAll parts.1 none)) (sym is) (says, refl)
+
 -- the last trace was judged
 pub judged_end : (bytes rest : List ℕ) (a b c : Option (List ℕ)) → JudgedUpTo bytes rest a b → cut rest ≡ None → JudgesOne rest b c → JudgesAll bytes a c
 judged_end bytes rest a b c p is q = record {
   saids = p.saids ++ q.said ∷ [];
-  says =
-      let last : SaysOfAll rest (q.said ∷ []) =
-      subst (λ parts. MatchOption parts (SaysOf rest q.said × ([] ≡ [])) (λ parts. SaysOf parts.0 q.said × SaysOfAll parts.1 [])) (sym is) (q.says, refl) in
-      p.says (q.said ∷ []) last;
+  says = p.says (q.said ∷ []) (last_says rest q.said is q.says);
   printed = subst (Appends a c) (sym (texts-next p.saids q.said)) (Appends-trans a b c _ _ p.printed q.printed);
 }
+
+-- where its line was written
+pub judged_last : {T : Type 0} {E : Type 0} (bytes rest : List ℕ) (a b c : Option (List ℕ)) (r : Result T E) → JudgedUpTo bytes rest a b → cut rest ≡ None
+    → OnOk r (JudgesOne rest b c) → OnOk r (JudgesAll bytes a c)
+judged_last bytes rest a b c (Ok x) p is q = judged_end bytes rest a b c p is q
+judged_last bytes rest a b c (Err fault) p is q = tt

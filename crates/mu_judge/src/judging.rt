@@ -10,7 +10,7 @@ use mu_report::{judged, print};
 use std::alloc::Global;
 
 /// The most bytes that an input may have.
-pub const INPUT_LIMIT: usize = 33_554_432;
+pub const INPUT_LIMIT: usize = 8_388_608;
 
 /// Why not all traces were judged.
 #[derive(Clone, Copy, Debug, PartialEq, Eq)]

@@ -8,7 +8,7 @@
 //! For each trace one line is printed, as `mu check` prints it: `refused line L cause C`, `legal E`,
 //! `illegal I not allowed`, `illegal I expected ANSWER`, or `no memory`. The status is 0 where each
 //! trace was judged so, 4 for a read fault, 5 for a write fault, 6 where there is no memory for the
-//! input, and 8 for an input above 33,554,432 bytes.
+//! input, and 8 for an input above 8,388,608 bytes.
 #![tactic(auto)]
 
 mod cutting;
