@@ -1,1 +1,2 @@
-pub mod Configs
+pub mod Cuts
+pub mod Judgings

@@ -1,49 +1,106 @@
-//! From the bytes of a table to its lines.
-use crate::ending::End;
-use crate::lines::verdict_line;
-use crate::reader::Reader;
-use crate::table::{read_config, read_events};
-use mu_check::check;
-use mu_io::{Sink, Source, read_all, write_all};
+//! From the bytes of an input to the lines on its traces.
+ghost use Rattle.std.specs.Prelude.{◌≡◌, ◌≤◌, length, IfErr, IfSome, OnErr, OnOk};
+ghost use Rattle.mu_io.specs.Faults.{Rose};
+ghost use Rattle.mu_input.specs.declared.TheConstants.{TRACE_LIMIT};
+ghost use Rattle.mu_judge.specs.Traces.{JudgesAll, JudgesOne, Stops, status_of};
+
+use crate::cutting::cut;
+use mu_io::{ReadEnd, Sink, Source, WriteFault, read_all};
+use mu_report::{judged, print};
 use std::alloc::Global;
 
-/// The most bytes that a table may have.
-pub const TABLE_LIMIT: usize = 33_554_432;
+/// The most bytes that an input may have.
+pub const INPUT_LIMIT: usize = 8_388_608;
 
-/// Reads a whole table, judges its traces one by one, and writes the line of each.
+/// Why not all traces were judged.
+#[derive(Clone, Copy, Debug, PartialEq, Eq)]
+pub enum End {
+    /// The input couldn't be read.
+    ReadFault,
+    /// A line couldn't be written.
+    WriteFault,
+    /// There was no memory for the input.
+    NoMemory,
+    /// The input has more bytes than the limit.
+    TooLong,
+}
+
+impl End {
+    /// The status that the program ends with: 4 read fault, 5 write fault, 6 want of memory, 8 too
+    /// long.
+    pub fn status(self) -> u8
+        ensures { result ≡ status_of self }
+    {
+        match self {
+            End::ReadFault => 4,
+            End::WriteFault => 5,
+            End::NoMemory => 6,
+            End::TooLong => 8,
+        }
+    }
+}
+
+/// Reads a whole input, judges its traces one by one, and writes the line of each.
 ///
 /// # Errors
 ///
-/// A fault of the source, more bytes than the limit, or an end of [`judge_bytes`].
-pub fn judge_table<S: Source, K: Sink>(
+/// A fault of the source, more bytes than the limit, want of memory for the input, or a fault of the
+/// sink: the lines of the traces before are written by then.
+pub fn judge_input<S: Source, K: Sink>(
     alloc: Global,
     source: &mut S,
     sink: &mut K,
-) -> Result<(), End> {
-    let table = read_all(alloc, source, TABLE_LIMIT)?;
-    judge_bytes(alloc, table.as_slice(), sink)
+) -> Result<(), End>
+    ensures all { OnOk result (IfSome (S.left source.old)
+        (λ bytes. JudgesAll bytes (K.written sink.old) (K.written sink.new))) }
+    ensures read { OnOk result (S.faults source.new ≡ S.faults source.old) }
+    ensures written { OnOk result (K.faults sink.new ≡ K.faults sink.old) }
+    ensures stops { IfErr result (λ end. Stops (S.left source.old)
+        (S.faults source.old) (S.faults source.new) (K.faults sink.old) (K.faults sink.new) end) }
+{
+    let bytes = match read_all(alloc, source, INPUT_LIMIT) {
+        Ok(bytes) => bytes,
+        Err(ReadEnd::Fault) => return Err(End::ReadFault),
+        Err(ReadEnd::TooLong) => return Err(End::TooLong),
+        Err(ReadEnd::NoMemory) => return Err(End::NoMemory),
+    };
+    match judge_bytes(alloc, bytes.as_slice(), sink) {
+        Ok(()) => Ok(()),
+        Err(_) => Err(End::WriteFault),
+    }
 }
 
-/// Judges the traces of a table one by one, and writes the line of each.
+/// Judges the traces of an input one by one, and writes the line of each.
 ///
 /// # Errors
 ///
-/// A flaw of the table, a fault of the sink, or want of memory. The lines of the traces before are
-/// written by then.
-pub fn judge_bytes<K: Sink>(alloc: Global, table: &[u8], sink: &mut K) -> Result<(), End> {
-    let mut reader = Reader::new(table);
-    let traces = reader.number_of_32()?;
-    for _ in 0..traces {
-        let line = judge_trace(alloc, &mut reader)?;
-        write_all(sink, line.as_bytes())?;
+/// `WriteFault` where the sink counted a fault, with the number of the bytes of that line that it had
+/// taken.
+fn judge_bytes<K: Sink>(alloc: Global, bytes: &[u8], sink: &mut K) -> Result<(), WriteFault>
+    requires { length bytes.now ≤ TRACE_LIMIT }
+    ensures all { OnOk result (JudgesAll bytes.now (K.written sink.old) (K.written sink.new)) }
+    ensures same_faults { OnOk result (K.faults sink.new ≡ K.faults sink.old) }
+    ensures fault { OnErr result (Rose (K.faults sink.old) (K.faults sink.new)) }
+{
+    let mut rest = bytes;
+    while let Some((trace, behind)) = cut(rest) {
+        judge_trace(alloc, trace, sink)?;
+        rest = behind;
     }
-    reader.end()
+    judge_trace(alloc, rest, sink)
 }
 
-/// The line of the next trace.
-fn judge_trace(alloc: Global, reader: &mut Reader<'_>) -> Result<String, End> {
-    let config = read_config(alloc, reader)?;
-    let events = read_events(alloc, reader)?;
-    let verdict = check(alloc, &config, events.as_slice())?;
-    Ok(verdict_line(alloc, verdict, events.len())?)
+/// Judges a trace and writes its line.
+///
+/// # Errors
+///
+/// `WriteFault` where the sink counted a fault, with the number of the bytes of the line that it had
+/// taken.
+fn judge_trace<K: Sink>(alloc: Global, bytes: &[u8], sink: &mut K) -> Result<(), WriteFault>
+    requires { length bytes.now ≤ TRACE_LIMIT }
+    ensures one { OnOk result (JudgesOne bytes.now (K.written sink.old) (K.written sink.new)) }
+    ensures same_faults { OnOk result (K.faults sink.new ≡ K.faults sink.old) }
+    ensures fault { OnErr result (Rose (K.faults sink.old) (K.faults sink.new)) }
+{
+    print(sink, &judged(alloc, bytes))
 }

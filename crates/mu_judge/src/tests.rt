@@ -1,72 +1,71 @@
-//! What the program prints and refuses, over a source and a sink in memory.
+//! How an input is cut, and how a run ends, over a source and a sink in memory.
 use super::*;
 use mu_io::{MemSink, MemSource};
 use std::alloc::{AllocError, Global};
 use std::test::Fail;
 
-/// One trace of two replicas and no rows, in which replica 0 beats and replica 1 reads it.
-const BEATS: &str = "1\n1 1 2 8 100 0\n2\n0 14 0\n1 10 0 5 1\n";
+/// Two traces without events, the first with a line feed at its end.
+const TWO: &str = "mu 1\nreplicas 3\nring 8\nbudget 100\nend\nend\n\n---\nmu 1\nreplicas 8\n";
 
-/// How a run ended, and what it printed.
+/// How a run ended, and what it wrote.
 #[derive(Drop)]
 struct Judged {
     end: Option<End>,
     sink: MemSink,
 }
 
-/// Judges a table over a sink that fails at one write (0 for none).
-fn after(alloc: Global, table: &str, failing_write: u32) -> Result<Judged, AllocError> {
-    let mut sink = MemSink::new(vec![in alloc; 0; 64]?, 64, vec![in alloc; failing_write]?);
-    let end = judge_bytes(alloc, table.as_bytes(), &mut sink).err();
+/// Judges an input over a source that fails at one read, and a sink that fails at one write (0 for
+/// none).
+fn after(
+    alloc: Global,
+    input: &str,
+    failing_read: u32,
+    failing_write: u32,
+) -> Result<Judged, AllocError> {
+    let bytes = Vec::from_slice(alloc, input.as_bytes())?;
+    let mut source = MemSource::new(bytes, 16, vec![in alloc; failing_read]?);
+    let mut sink = MemSink::new(vec![in alloc; 0; 256]?, 256, vec![in alloc; failing_write]?);
+    let end = judge_input(alloc, &mut source, &mut sink).err();
     Ok(Judged { end, sink })
 }
 
 #[test]
-fn judges_beats(rt: HostRuntime) -> Result<(), Fail> {
-    let judged = after(rt.alloc(), BEATS, 0)?;
-    assert_eq!(rt; judged.end, None);
-    assert_eq!(rt; judged.sink.written(), b"legal 2\n".as_slice());
-    Ok(())
-}
-
-#[test]
-fn refuses_bad_tables(rt: HostRuntime) -> Result<(), Fail> {
-    for (table, number, flaw) in [
-        ("", 1, Flaw::Missing),
-        ("4294967296", 1, Flaw::TooLarge),
-        ("18446744073709551616", 1, Flaw::TooLarge),
-        ("-1", 1, Flaw::NoNumber),
-        ("0 \n 1", 2, Flaw::Left),
-        ("1 1 1 2 8 100 0 1 0 20 0", 10, Flaw::NoKind),
-        ("1 1 1 2 8 100 0 1 0 14 9", 11, Flaw::NoKind),
-        ("1 1 1 2 8 100 0 1 0 3 0 3", 12, Flaw::NoKind),
-        ("1 1 1 8 8 100 0 0", 7, Flaw::NoConfig),
-        (
-            "1 1 1 2 8 100 1 0 0 0 0 0 0 0 0 0 0 0 0",
-            19,
-            Flaw::NoConfig,
-        ),
-        ("1 1 1 2 8 100 0 4294967295", 9, Flaw::Missing),
-    ] {
-        let judged = after(rt.alloc(), table, 0)?;
-        assert_eq!(rt;
-            judged.end,
-            Some(End::BadTable { number, flaw }),
-            "at {table}"
-        );
+fn cuts_at_the_first_separator(rt: HostRuntime) -> Result<(), Fail> {
+    let rows: [(&str, Option<(&str, &str)>); 8] = [
+        ("", None),
+        ("end\n", None),
+        ("---\n", None),
+        ("end\n---", None),
+        ("end\n---\n", Some(("end", ""))),
+        ("end\n\n---\nmu 1\n", Some(("end\n", "mu 1\n"))),
+        ("\n---\n---\n", Some(("", "---\n"))),
+        ("a\n---\nb\n---\nc", Some(("a", "b\n---\nc"))),
+    ];
+    for (input, parts) in rows {
+        let parts = parts.map(|(front, behind)| (front.as_bytes(), behind.as_bytes()));
+        assert_eq!(rt; cut(input.as_bytes()), parts, "{input}");
     }
     Ok(())
 }
 
 #[test]
-fn ends_at_faults(rt: HostRuntime) -> Result<(), Fail> {
-    let unwritten = after(rt.alloc(), BEATS, 1)?;
-    assert_eq!(rt; unwritten.end, Some(End::WriteFault));
+fn judges_each_trace(rt: HostRuntime) -> Result<(), Fail> {
+    let judged = after(rt.alloc(), TWO, 0, 0)?;
+    assert_eq!(rt; judged.end, None);
+    assert_eq!(rt;
+        judged.sink.written(),
+        b"legal 0\nrefused line 2 cause 2\n".as_slice()
+    );
+    Ok(())
+}
 
-    let bytes = Vec::from_slice(rt.alloc(), BEATS.as_bytes())?;
-    let mut source = MemSource::new(bytes, 16, vec![in rt.alloc(); 2]?);
-    let mut sink = MemSink::new(vec![in rt.alloc(); 0; 64]?, 64, Vec::new(rt.alloc()));
-    let end = judge_table(rt.alloc(), &mut source, &mut sink).err();
-    assert_eq!(rt; end, Some(End::ReadFault));
+#[test]
+fn ends_at_faults(rt: HostRuntime) -> Result<(), Fail> {
+    let unread = after(rt.alloc(), TWO, 2, 0)?;
+    assert_eq!(rt; unread.end, Some(End::ReadFault));
+    assert_eq!(rt; unread.sink.written(), b"".as_slice());
+    let unwritten = after(rt.alloc(), TWO, 0, 2)?;
+    assert_eq!(rt; unwritten.end, Some(End::WriteFault));
+    assert_eq!(rt; unwritten.sink.written(), b"legal 0\n".as_slice());
     Ok(())
 }

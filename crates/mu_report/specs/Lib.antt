@@ -1,3 +1,5 @@
+pub mod Answers
+pub mod Judged
 pub mod Printing
 pub mod Report
 pub mod Said

@@ -7,8 +7,10 @@ ghost use Rattle.mu_report.specs.declared.line.TheConstants.{LINE_BYTES};
 ghost use Rattle.mu_report.specs.Printing.{PrintsAll, PrintsPart};
 ghost use Rattle.mu_report.specs.Said.{text, lines_of, IsShort};
 
+use crate::answers::verdict_line;
 use crate::line::{Line, print_line};
 use crate::report::print_report;
+use mu_check::Verdict;
 use mu_cluster::Outcome;
 use mu_io::{Sink, WriteFault};
 
@@ -26,6 +28,13 @@ pub enum Said {
     },
     /// What a run left.
     Ran(Outcome),
+    /// Whether a list of events is legal.
+    Judged {
+        /// How many events it has.
+        events: u32,
+        /// Whether they are legal, and if not, which is the first that breaks the list and why.
+        verdict: Verdict,
+    },
     /// The input couldn't be read.
     ReadFault,
     /// Want of memory.
@@ -88,6 +97,7 @@ fn print_said<K: Sink>(sink: &mut K, said: &Said) -> Result<usize, WriteFault>
         }
         Said::Refused { line, cause } => print_line(sink, 0, refusal(*line, *cause)),
         Said::Ran(outcome) => print_report(sink, outcome),
+        Said::Judged { events, verdict } => print_line(sink, 0, verdict_line(*events, verdict)),
         Said::ReadFault => print_words(sink, b"read fault"),
         Said::NoMemory => print_words(sink, b"no memory"),
         Said::TooLong => print_words(sink, b"too long"),

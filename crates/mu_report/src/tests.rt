@@ -5,10 +5,11 @@ ghost use Rattle.mu_report.specs.Said.{IsShort};
 
 use crate::{Said, print, status};
 use kv_store::{Command, Key, Op, Reply, Text};
+use mu_check::{Verdict, Wrong};
 use mu_cluster::{Commit, Commits, Log, Outcome};
 use mu_input::Job;
 use mu_io::{MemSink, WriteFault};
-use mu_model::{Config, End, Row, Script, Sequence};
+use mu_model::{Answer, Config, End, Fence, Row, Script, Sequence, Target};
 use std::alloc::{AllocError, Global};
 use std::test::Fail;
 
@@ -249,5 +250,81 @@ fn counts_what_was_taken(rt: HostRuntime) -> Result<(), Fail> {
             "piece {piece}"
         );
     }
+    Ok(())
+}
+
+/// A fence in four parts.
+fn fence(owner: Option<u8>, grant: u32, closing: bool, target: Target) -> Fence {
+    Fence {
+        owner,
+        grant,
+        closing,
+        target,
+    }
+}
+
+#[test]
+fn says_verdicts(rt: HostRuntime) -> Result<(), Fail> {
+    let wrong = [
+        (Answer::Done, "done"),
+        (Answer::Missed, "missed"),
+        (Answer::Entered, "entered"),
+        (Answer::Empty, "empty"),
+        (Answer::Past, "past"),
+        (Answer::Number(0), "0"),
+        (Answer::Number(u64::MAX), "18446744073709551615"),
+        (
+            Answer::Entry {
+                number: 4_294_967_295,
+                value: 65_535,
+            },
+            "entry 4294967295 65535",
+        ),
+        (
+            Answer::Seen(fence(None, 0, false, Target::None)),
+            "fence none 0 open none",
+        ),
+        (
+            Answer::Seen(fence(Some(0), 1, true, Target::Place(65_535))),
+            "fence 0 1 closing place 65535",
+        ),
+        (
+            Answer::Lost(fence(Some(3), 8, false, Target::Min)),
+            "lost 3 8 open min",
+        ),
+    ];
+    for (expected, words) in wrong {
+        let verdict = Verdict::Illegal {
+            index: 24,
+            cause: Wrong::WrongAnswer { expected },
+        };
+        let said = printed(
+            rt.alloc(),
+            &Said::Judged {
+                events: 26,
+                verdict,
+            },
+        )?;
+        let line = format!(in rt.alloc(); "illegal 24 expected {words}\n")?;
+        assert_eq!(rt; said.as_slice(), line.as_bytes());
+    }
+    let verdict = Verdict::Illegal {
+        index: 14,
+        cause: Wrong::NotAllowed,
+    };
+    let said = printed(
+        rt.alloc(),
+        &Said::Judged {
+            events: 26,
+            verdict,
+        },
+    )?;
+    assert_eq!(rt; said.as_slice(), b"illegal 14 not allowed\n".as_slice());
+    let legal = Said::Judged {
+        events: 26,
+        verdict: Verdict::Legal,
+    };
+    let said = printed(rt.alloc(), &legal)?;
+    assert_eq!(rt; said.as_slice(), b"legal 26\n".as_slice());
     Ok(())
 }

@@ -1,17 +1,19 @@
 //! `mu`: replicas that agree on a log of commands, run from the command line.
 #![tactic(auto)]
 
+mod asking;
 #[cfg(test)]
 mod tests;
 mod top;
 
+pub use asking::{INPUT_LIMIT, Task};
 use mu_cluster::OpenGate;
 use mu_io::{StdSink, StdSource};
 use std::alloc::{AllocError, Global};
 use std::process::ExitCode;
 use std::rt::Env;
 use std::{env, io};
-pub use top::{Answered, INPUT_LIMIT, mu};
+pub use top::{Answered, mu};
 
 /// The status where there is no memory for the words of the command line.
 const NO_MEMORY: u8 = 6;

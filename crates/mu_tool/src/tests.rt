@@ -1,5 +1,6 @@
 //! Worked rows through the top call, over sources and sinks in memory.
-use crate::top::{Answered, INPUT_LIMIT, mu};
+use crate::asking::INPUT_LIMIT;
+use crate::top::{Answered, mu};
 use mu_cluster::OpenGate;
 use mu_io::{MemSink, MemSource};
 use mu_report::Said;
@@ -27,6 +28,43 @@ replies 2
 0.2 value 5
 status 0
 ";
+
+/// What is said where the words ask for nothing.
+const USAGE: &str = "usage: mu replay, mu run, mu check, mu trace, mu bulk N\n";
+
+/// The job of the lists of events below.
+const ONE_PUT: &str = "mu 1\nreplicas 3\nring 8\nbudget 100\nclient 0\nput a 5\nend\n";
+
+/// The lines of a list of 26 events in which a region is granted on before the second number lands.
+const LATE_NUMBER: [&str; 27] = [
+    "0 ask 0 = done",
+    "0 ask 1 = done",
+    "0 ask 2 = done",
+    "0 readask 0 = 1",
+    "0 close = fence none 0 open none",
+    "0 grant 0 = done",
+    "1 readask 0 = 1",
+    "1 close = fence none 0 open none",
+    "1 grant 0 = done",
+    "0 fence 0 = fence 0 1 open none",
+    "0 fence 1 = fence 0 1 open none",
+    "0 min 0 = 0",
+    "0 min 1 = 0",
+    "0 enter 0 min = entered",
+    "0 putmin 0 8 = done",
+    "0 enter 1 min = entered",
+    "1 ask 0 = done",
+    "1 ask 1 = done",
+    "1 ask 2 = done",
+    "1 readask 1 = 1",
+    "1 close = fence 0 1 open min",
+    "1 looktarget = done",
+    "1 drain = done",
+    "1 grant 1 = done",
+    "0 putmin 1 8 = missed",
+    "0 fence 1 = fence 1 2 open none",
+    "end",
+];
 
 /// What the top call answered and wrote.
 #[derive(Drop)]
@@ -97,18 +135,61 @@ fn answers_jobs_and_refusals(rt: HostRuntime) -> Result<(), Fail> {
             2,
             "refused line 6 cause 14\n",
         ),
-        (
-            "replays",
-            PUT_AND_GET,
-            1,
-            "usage: mu replay, mu run, mu check, mu trace, mu bulk N\n",
-        ),
+        ("replays", PUT_AND_GET, 1, USAGE),
+        ("checks", PUT_AND_GET, 1, USAGE),
     ];
     for (word, input, status, text) in rows {
         let told = told(&rt, rt.alloc(), word, input, 0, 0)?;
         assert_eq!(rt; told.answered.status, status, "{text}");
         assert_eq!(rt; told.sink.written(), text.as_bytes(), "{text}");
         assert_eq!(rt; told.answered.taken, text.len(), "{text}");
+    }
+    Ok(())
+}
+
+/// A trace of these lines after the job of one put, with another line in place of the one at an index.
+fn trace(alloc: Global, lines: &[&str], changed: usize, other: &str) -> Result<String, AllocError> {
+    let mut text = String::from_str(alloc, ONE_PUT)?;
+    for (index, line) in lines.iter().enumerate() {
+        text.push_str(if index == changed { other } else { *line })?;
+        text.push('\n')?;
+    }
+    Ok(text)
+}
+
+#[test]
+fn judged_scripts(rt: HostRuntime) -> Result<(), Fail> {
+    let rows = [
+        (26, "end", 0, "legal 26\n"),
+        (24, "0 putmin 1 8 = done", 7, "illegal 24 expected missed\n"),
+        (14, "0 putmin 0 16 = done", 7, "illegal 14 not allowed\n"),
+    ];
+    for (changed, line, status, text) in rows {
+        let input = trace(rt.alloc(), &LATE_NUMBER, changed, line)?;
+        let told = told(&rt, rt.alloc(), "check", input.as_str(), 0, 0)?;
+        assert_eq!(rt; told.answered.status, status, "{text}");
+        assert_eq!(rt; told.sink.written(), text.as_bytes(), "{text}");
+    }
+    Ok(())
+}
+
+#[test]
+fn hostile_inputs(rt: HostRuntime) -> Result<(), Fail> {
+    let rows = [
+        ("0 putslot 0 65535 8 0 = done", 7, "illegal 0 not allowed\n"),
+        (
+            "0 putslot 0 65536 8 0 = done",
+            2,
+            "refused line 8 cause 13\n",
+        ),
+        ("3 beat = done", 2, "refused line 8 cause 13\n"),
+        ("0 beat = missed", 7, "illegal 0 expected done\n"),
+    ];
+    for (line, status, text) in rows {
+        let input = trace(rt.alloc(), &[line, "end"], 0, line)?;
+        let told = told(&rt, rt.alloc(), "check", input.as_str(), 0, 0)?;
+        assert_eq!(rt; told.answered.status, status, "{line}");
+        assert_eq!(rt; told.sink.written(), text.as_bytes(), "{line}");
     }
     Ok(())
 }

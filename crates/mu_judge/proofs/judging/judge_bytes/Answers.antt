@@ -1,0 +1,17 @@
+use Rattle.std.proofs.Common.{◌≤◌, ◌<◌, length, ◌∙◌, arith}
+use Rattle.mu_judge.proofs.Judgings.{judged_last, judged_step}
+use Rattle.mu_judge.proofs.judging.judge_bytes.Goals as goal
+
+pub loop-trace-preserved : goal.loop-trace-preserved
+loop-trace-preserved g c =
+    let shorter : length c.in-Some.behind.now < length c.loop-trace.rest.now = c.in-Some.ensures.behind in
+    let within : length c.loop-trace.rest.now ≤ length c.args.bytes.now = c.loop-trace.invariant.within in
+    record {
+      before = judged_step _ _ c.in-Some.trace.now c.in-Some.behind.now _ _ _ c.loop-trace.invariant.before c.in-Some.ensures.parts c.in_ok-judge_trace.ensures.one;
+      faults = c.in_ok-judge_trace.ensures.same_faults ∙ c.loop-trace.invariant.faults;
+      within = omega arith;
+    }
+
+pub returns-clause-all : goal.returns-clause-all
+returns-clause-all g c =
+    judged_last _ _ _ _ _ c.judge_trace-2.result c.loop-trace.invariant.before c.in_default.ensures.parts c.judge_trace-2.ensures.one
