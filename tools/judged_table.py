@@ -1,18 +1,20 @@
 #!/usr/bin/env python3
 """Writes the judged traces: the input and the wanted output of crates/mu_judge.
 
-    tools/judged_table.py INPUT OUTPUT FOLDER..
+    tools/judged_table.py INPUT OUTPUT TRACES JOBS
 
-A folder has cases: a trace in a file NAME, `check` in NAME.args, and what an independent program says
-of it in NAME.stdout. INPUT gets the traces, byte for byte, with the separator of
+TRACES and JOBS are folders of cases: a trace or a job in a file NAME, `check` in NAME.args, and what an
+independent program says of it in NAME.stdout. INPUT gets them, byte for byte, with the separator of
 crates/mu_judge/src/main.rt between two; OUTPUT gets one line for each. The lines are those of the
-cases, never the program's own.
+cases, never the program's own. A job that is refused for a line after its `end` is left out: events
+may follow there in a trace (such jobs stand in crates/mu_input/src/job_tests.rt).
 """
 
 import pathlib
 import sys
 
 SEPARATOR = b"\n---\n"
+AFTER_END = b" cause 12\n"
 
 
 def cases(folder):
@@ -23,8 +25,9 @@ def cases(folder):
 
 
 def main():
-    input_path, output_path, *folders = sys.argv[1:]
-    traces, lines = zip(*(case for folder in folders for case in cases(folder)))
+    input_path, output_path, traces_folder, jobs_folder = sys.argv[1:]
+    jobs = [case for case in cases(jobs_folder) if not case[1].endswith(AFTER_END)]
+    traces, lines = zip(*cases(traces_folder), *jobs)
     joined = SEPARATOR.join(traces)
     if joined.split(SEPARATOR) != list(traces):
         sys.exit("a trace holds the separator")

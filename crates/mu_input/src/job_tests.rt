@@ -68,6 +68,29 @@ fn refuses_inputs(rt: HostRuntime) -> Result<(), Fail> {
 }
 
 #[test]
+fn refuses_lines_after_the_end(rt: HostRuntime) -> Result<(), Fail> {
+    for (text, line) in [
+        (
+            "mu 1\nreplicas 5\nring 11\nbudget 54519\nclient 0\nput long-key 3\nclient 1\nclient 2\nclient 3\nput long-key 4\nscript\npause 3 164 2133\npause 2 976 3614\npause 1 146 81\npause 2 1358 3504\npause 3 187 1182\npause 1 154 1604\npause 3 571 8555\npause 1 3744 39\npause 3 6558 2790\nstop 4 3660\npause 3 31633 85\npause 3 48330 3545\nend\n\n",
+            25,
+        ),
+        ("mu 1\nreplicas 1\nring 8\nbudget 59581\nend\nend\n", 6),
+        (
+            "mu 1\nreplicas 5\nring 8\nbudget 32054\nclient 0\nswap c 2\nget long-key\ndel a\ncas key B98x7 5\nget a\nswap k1 4\nclient 1\ndel long-key\nput b 4\nclient 2\nclient 3\nget a\nclient 4\nswap %(P!m'z17bX-\"D`V]QZmB[%1 5\nput k1 dAZS]'?/T{V$f[Qro9eo46&Or\nclient 5\nget key\nclient 6\nclient 7\nswap k0 0\nclient 8\nput key 1\nclient 9\nget c\ncas a 0 0\nput a 0\ncas c 3 2\nclient 10\nget \\Ae+I?1}cZ^\"35H`|9$O02RH\nget a\nclient 11\nput b 1\nclient 12\nclient 13\nclient 14\ndel a\nget k0\nclient 15\nscript\nstop 3 18466\nend\n \n",
+            47,
+        ),
+        (
+            "mu 2\nreplicas 5\nring 12\nbudget 46139\nbatch 3\nclient 0\ncas N?:D~|!'p+k*Y`7IF<N3+_9? B98x6 5\nput k1 3\nget long-key\nput b 5\nput k0 2\ncas a S100x7 B101x2\ncas a 0 4\nget key\nget a\nget key\nput long-key 1\nget 9F]{iwh}qI&[K4oZ;-.FhY/*\nget k1\nswap k1 3\nend\nend\n",
+            22,
+        ),
+    ] {
+        let told = refusal(rt.alloc(), text.as_bytes())?;
+        assert_eq!(rt; told, Some((line, 12)), "{text}");
+    }
+    Ok(())
+}
+
+#[test]
 fn refuses_settings(rt: HostRuntime) -> Result<(), Fail> {
     let alloc = rt.alloc();
     for (text, line, cause) in [

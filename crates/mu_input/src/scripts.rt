@@ -78,36 +78,19 @@ pub fn script(alloc: Global, lines: &mut LineReader<'_>, replicas: u8) -> Result
             words.as_slice(),
         ) {
             Ok(said) => said,
-            Err(cause) => return Err(InputEnd::Refused {
-                line: number,
-                cause,
-            }),
+            Err(cause) => return Err(InputEnd::at(number, cause)),
         };
         match said {
-            ScriptLine::Stop(stop) => {
-                let Ok(()) = stops.push(stop) else {
-                    return Err(InputEnd::NoMemory);
-                };
-            }
-            ScriptLine::Pause(pause) => {
-                let Ok(()) = pauses.push(pause) else {
-                    return Err(InputEnd::NoMemory);
-                };
-            }
+            ScriptLine::Stop(stop) => stops.push(stop)?,
+            ScriptLine::Pause(pause) => pauses.push(pause)?,
             ScriptLine::End => {
                 let ordered = script_of(alloc, replicas, stops.as_slice(), pauses.as_slice());
-                let Ok(script) = ordered else {
-                    return Err(InputEnd::NoMemory);
-                };
-                return Ok(script);
+                return ordered.or(Err(InputEnd::NoMemory));
             }
         }
         number += 1;
     }
-    Err(InputEnd::Refused {
-        line: number,
-        cause: NO_END,
-    })
+    Err(InputEnd::at(number, NO_END))
 }
 
 /// What a line says after these stops and pauses, or the cause why it is none of a script.
