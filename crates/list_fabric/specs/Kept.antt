@@ -1,5 +1,5 @@
 -- What a fabric is seen as, and what it keeps.
-use Rattle.std.specs.Prelude.{ℕ, ◌+◌, ◌*◌, ◌≤◌, List, length}
+use Rattle.std.specs.Prelude.{ℕ, ◌+◌, ◌*◌, ◌<◌, ◌≤◌, List, length}
 use Rattle.mu_model.specs.declared.config.Config.{Config}
 use Rattle.mu_model.specs.declared.event.Event.{Event}
 use Rattle.mu_model.specs.First.{IsFirstLegal}
@@ -25,3 +25,13 @@ pub record IsListKept (config : Config) (events : List Event) (room : ℕ) (regi
   pub legal : IsLegal config events
   pub room_left : config.replicas * config.budget ≤ length events + room
   pub stands : Stands config (history events) regions
+
+-- a port: the replica that steps through it, and the fabric that it holds
+pub record Held : Type 0 where
+  pub replica : ℕ
+  pub fabric : Kept
+
+-- there is such a replica, and the list is legal
+pub record IsHeld (replica : ℕ) (fabric : Kept) : Type 0 where
+  pub inside : replica < fabric.config.replicas
+  pub legal : IsLegal fabric.config fabric.events

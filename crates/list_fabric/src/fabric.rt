@@ -1,6 +1,7 @@
 //! The fabric of whole runs: it answers from what the regions hold.
 ghost use Rattle.std.specs.Prelude.{◌≡◌, [], IfOk};
 
+use crate::port::ListPort;
 use mu_model::{Answer, Config, Event, Journal, NoMemory, Verb};
 use mu_regions::Regions;
 use std::alloc::Global;
@@ -26,7 +27,7 @@ impl Model for ListFabric {
 }
 
 impl ListFabric {
-    ghost use Rattle.std.specs.Prelude.{◌++◌, ◌∷◌};
+    ghost use Rattle.std.specs.Prelude.{◌++◌, ◌<◌, ◌∷◌};
     ghost use Rattle.mu_model.specs.Allowed.{Allowed};
     ghost use Rattle.mu_model.specs.Answers.{answer_of};
     ghost use Rattle.mu_model.specs.Contents.{IsConfig};
@@ -76,6 +77,15 @@ impl ListFabric {
         ensures legal { IsLegal self.now.config self.now.events }
     {
         self.kept.as_slice()
+    }
+
+    /// The port of the replica `by`, which holds the fabric. Takes no memory.
+    pub fn port(self, by: u8) -> ListPort
+        requires { by < self.config.replicas }
+        ensures replica { result.replica ≡ by }
+        ensures fabric { result.fabric ≡ self }
+    {
+        ListPort::new(self, by)
     }
 
     /// The kept list itself.

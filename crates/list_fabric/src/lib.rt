@@ -4,8 +4,10 @@
 
 mod fabric;
 mod first_fabric;
+mod port;
 #[cfg(test)]
 mod tests;
 
 pub use fabric::ListFabric;
 pub use first_fabric::FirstFabric;
+pub use port::ListPort;

@@ -6,6 +6,7 @@ ghost use Rattle.mu_model.specs.Histories.{history, part};
 
 use crate::ListFabric;
 use mu_model::{Answer, Config, Event, Fence, Row, Sequence, Target, Verb, allows};
+use mu_port::Port;
 use std::alloc::{AllocError, Global};
 use std::process::Abort;
 use std::test::Fail;
@@ -170,6 +171,40 @@ fn follow(
     Ok(())
 }
 
+/// Makes one step through a port, and tells whose step it is.
+fn step_through<P: Port>(port: &mut P, verb: Verb) -> (u8, Answer)
+    requires { Allowed (P.config port.old) (P.number port.old) (P.part port.old) verb }
+    ensures number { result.0 ≡ P.number port.old }
+    ensures same { P.same port.old port.new }
+{
+    let answer = port.step(verb);
+    (port.id(), answer)
+}
+
+/// Checks and makes the steps as `follow` does, each through a port that is given back before the
+/// next one is made.
+fn follow_through_ports(
+    rt: &impl Abort,
+    alloc: Global,
+    start: ListFabric,
+    steps: &[(u8, Verb, Answer)],
+) -> Result<ListFabric, Fail> {
+    let mut fabric = start;
+    for (by, verb, want) in steps {
+        let index = fabric.events().len();
+        let allowed = is_allowed(alloc, &fabric, *by, verb)?;
+        assert!(rt; allowed, "event {index}");
+        let mut port = fabric.port(*by);
+        assert_eq!(rt;
+            step_through(&mut port, *verb),
+            (*by, *want),
+            "event {index}"
+        );
+        fabric = port.back();
+    }
+    Ok(fabric)
+}
+
 #[test]
 fn misses_after_a_drain(rt: HostRuntime) -> Result<(), Fail> {
     let alloc = rt.alloc();
@@ -213,4 +248,18 @@ fn exchanges_late(rt: HostRuntime) -> Result<(), Fail> {
         (2, Verb::Head(1), Answer::Number(0)),
     ];
     follow(&rt, alloc, &mut fabric, &late)
+}
+
+#[test]
+fn misses_after_drain_through_ports(rt: HostRuntime) -> Result<(), Fail> {
+    let alloc = rt.alloc();
+    let fabric = ListFabric::start(alloc, &config(alloc)?)?;
+    let fabric = follow_through_ports(&rt, alloc, fabric, &beginning())?;
+    let fabric = follow_through_ports(&rt, alloc, fabric, &joined())?;
+    let fabric = follow_through_ports(&rt, alloc, fabric, &taken_over(Target::Place(0)))?;
+    assert_eq!(rt; fabric.events().len(), 42);
+    let late = [(0, Verb::PutSlot(1, 0, 8, 0), Answer::Missed)];
+    let fabric = follow_through_ports(&rt, alloc, fabric, &late)?;
+    assert_eq!(rt; fabric.into_events().as_slice().len(), 43);
+    Ok(())
 }

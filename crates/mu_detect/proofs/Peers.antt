@@ -5,8 +5,9 @@ use Rattle.std.proofs.lemmas.Option.{slice_get-get_or}
 use Rattle.mu_model.specs.declared.event.Answer.{Answer}
 use Rattle.mu_model.specs.declared.event.Event.{Event}
 use Rattle.mu_model.specs.declared.event.Verb.{Verb}
-use Rattle.mu_detect.specs.Stands.{HoldsPeer, HoldsPeers, OthersKeep, reads_count}
+use Rattle.mu_detect.specs.Stands.{HoldsPeer, HoldsPeers, OthersKeep, StandsFor, reads_count}
 use Rattle.mu_detect.specs.declared.scores.Peer.{Peer}
+use Rattle.mu_detect.specs.declared.scores.Scores.{Scores}
 use Rattle.mu_model.specs.Scores.{beat_read}
 use Rattle.mu_detect.proofs.Least.{different}
 
@@ -32,15 +33,24 @@ pub reads_none : (r q by : ℕ) (verb : Verb) (answer : Answer) → reads_count 
 reads_none r q by (Verb.ReadBeat p) (Answer.Number x) none = cc
 reads_none r q by _ _ none = refl
 
--- an event that reads no count of beats changes nothing of what the scores stand for
-pub others_kept : OthersKeep
-others_kept n r mine state event none held = record {
+-- an event of another replica reads none of q
+pub read_elsewhere : (r q by : ℕ) (verb : Verb) (answer : Answer) → (by == r) ≡ false → beat_read r q by verb answer ≡ None
+read_elsewhere r q by (Verb.ReadBeat p) (Answer.Number x) other = rw other refl
+read_elsewhere r q by _ _ other = refl
+
+-- an event by which r reads no count of beats changes nothing of what the scores stand for
+pub scores_kept : (n r : ℕ) (mine : List Event) (state : Scores) (event : Event) → ((q : ℕ) → beat_read r q event.by event.verb event.answer ≡ None) → StandsFor n r mine state → StandsFor n r (event ∷ mine) state
+scores_kept n r mine state event none held = record {
   few = held.few;
   inside = held.inside;
   replicas = held.replicas;
   id = held.id;
-  peers = λ q peer low there. peer_kept r q mine event peer (reads_none r q event.by event.verb event.answer none) (held.peers q peer low there);
+  peers = λ q peer low there. peer_kept r q mine event peer (none q) (held.peers q peer low there);
 }
+
+-- an event that reads no count of beats changes nothing of what the scores stand for
+pub others_kept : OthersKeep
+others_kept n r mine state event none = scores_kept n r mine state event (λ q. reads_none r q event.by event.verb event.answer none)
 
 -- a read of p tells nothing of q
 pub reads_other : (r q p x by : ℕ) (verb : Verb) (answer : Answer) → verb ≡ Verb.ReadBeat p → answer ≡ Answer.Number x → (p == q) ≡ false → beat_read r q by verb answer ≡ None

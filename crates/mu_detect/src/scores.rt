@@ -7,7 +7,7 @@ ghost use Rattle.mu_model.specs.declared.event.Verb.{Verb};
 ghost use Rattle.mu_model.specs.Scores.{leader, score};
 ghost use Rattle.mu_detect.specs.Stands.{HoldsPeer, StandsFor};
 
-use mu_model::score_after;
+use mu_model::{Answer, Event, Verb, score_after};
 
 /// What a replica holds of one replica.
 #[derive(Clone, Copy)]
@@ -71,6 +71,17 @@ impl Scores {
         if q < self.replicas && q < 7 {
             let at = usize::from(q);
             self.peers[at] = self.peers[at].after(count);
+        }
+    }
+
+    /// Takes the next event, of any kind and of any replica.
+    pub fn note(&mut self, event: &Event)
+        ensures { (n r : ℕ) → (mine : List Event) → StandsFor n r mine self.old → StandsFor n r (event.now ∷ mine) self.new }
+    {
+        if let (Verb::ReadBeat(q), Answer::Number(count)) = (event.verb, event.answer) {
+            if event.by == self.id {
+                self.take(q, count);
+            }
         }
     }
 

@@ -9,7 +9,7 @@ ghost use Rattle.mu_model.specs.Histories.{all_below, or_zero};
 ghost use Rattle.mu_model.specs.Leaderships.{owner_is};
 ghost use Rattle.mu_model.specs.Regions.{fence_closing, fence_owner};
 ghost use Rattle.mu_model.specs.Serving.{drained_since_close, has_unserved_ask, is_least_waiting, looked_since_close, must_drain, seen_asks, served, served_as_owner, served_by_grant};
-ghost use Rattle.mu_grant.specs.Stands.{close_named, Gives, HoldsGuest, HoldsGuests, IsDue, LookedFirst, StandsFor};
+ghost use Rattle.mu_grant.specs.Stands.{close_named, Gives, HoldsGuest, HoldsGuests, IsDue, StandsFor};
 
 use mu_model::{Answer, Event, Target, Verb};
 
@@ -242,9 +242,10 @@ impl Grants {
         }
     }
 
-    /// Takes an event of the replica itself.
-    fn take_event(&mut self, event: &Event)
-        ensures { (n r : ℕ) → (mine : List Event) → StandsFor n r mine self.old → LookedFirst r (event.now ∷ mine) → StandsFor n r (event.now ∷ mine) self.new }
+    /// Takes the next event of the replica, of any kind. It may be a `Drain` only where a
+    /// `LookTarget` came since the last `Close`, as it does wherever a drain is allowed.
+    pub fn note(&mut self, event: &Event)
+        ensures { (n r : ℕ) → (mine : List Event) → (event.now.verb ≡ Verb.Drain → looked_since_close r mine ≡ true) → StandsFor n r mine self.old → StandsFor n r (event.now ∷ mine) self.new }
     {
         let r = self.id;
         take_at_guests(&mut self.guests, self.owner, self.closing, r, event);
@@ -260,7 +261,7 @@ impl Grants {
         ensures { (n r : ℕ) → (mine : List Event) → (event : Event) → event.by ≡ r → event.verb ≡ Verb.ReadAsk w → event.answer ≡ Answer.Number count → StandsFor n r mine self.old → StandsFor n r (event ∷ mine) self.new }
     {
         let by = self.id;
-        self.take_event(&Event {
+        self.note(&Event {
             by,
             verb: Verb::ReadAsk(w),
             answer: Answer::Number(count),
@@ -299,21 +300,21 @@ impl Grants {
     }
 
     /// Whether the host may close its fence: none is pending, and a replica waits.
-    fn may_close(&self) -> bool
+    pub fn may_close(&self) -> bool
         ensures { (c : Config) → (r : ℕ) → (mine : List Event) → StandsFor c.replicas r mine self.now → (IsTrue result ↔ Needs c r mine Verb.Close) }
     {
         !self.closing && self.first_waiting().is_some()
     }
 
     /// Whether the host may load the word that its closed fence names.
-    fn may_look_target(&self) -> bool
+    pub fn may_look_target(&self) -> bool
         ensures { (c : Config) → (r : ℕ) → (mine : List Event) → StandsFor c.replicas r mine self.now → (IsTrue result ↔ Needs c r mine Verb.LookTarget) }
     {
         self.has_to_drain() && !self.looked
     }
 
     /// Whether the host may drain the word that it loaded.
-    fn may_drain(&self) -> bool
+    pub fn may_drain(&self) -> bool
         ensures { (c : Config) → (r : ℕ) → (mine : List Event) → StandsFor c.replicas r mine self.now → (IsTrue result ↔ Needs c r mine Verb.Drain) }
     {
         self.has_to_drain() && self.looked && !self.drained
@@ -336,6 +337,16 @@ impl Grants {
             self.first_waiting()
         } else {
             None
+        }
+    }
+
+    /// Whether the host may grant its region to `w`.
+    pub fn may_grant(&self, w: u8) -> bool
+        ensures { (c : Config) → (r : ℕ) → (mine : List Event) → StandsFor c.replicas r mine self.now → (IsTrue result ↔ Needs c r mine (Verb.Grant w)) }
+    {
+        match self.next_owner() {
+            Some(q) => q == w,
+            None => false,
         }
     }
 
@@ -377,7 +388,7 @@ impl Grants {
     {
         if let Some(verb) = self.answered(answer) {
             let by = self.id;
-            self.take_event(&Event { by, verb, answer });
+            self.note(&Event { by, verb, answer });
         }
     }
 }

@@ -40,14 +40,15 @@ place : (p : ℕ → Bool) (bytes : List ℕ) (end : ℕ) → position p bytes �
 place p bytes end e = let f = found (nat_lt (position_or_len p bytes) (length bytes)) (position_or_len p bytes) end e in grind (arith, common_steps, f)
 
 -- where none passes, each fails
-none_passes : (p : ℕ → Bool) (bytes : List ℕ) → position p bytes ≡ None → All (λ byte. p byte ≡ false) bytes
-none_passes p bytes e k d below =
-    let m : nat_lt (position_or_len p bytes) (length bytes) ≡ false = missing _ (position_or_len p bytes) e in
-    let l : length bytes ≤ position_or_len p bytes = grind (arith, common_steps, m) in
-    fails_before_first p bytes k d (omega arith)
+pub none_passes : {X : Type 0} (p : X → Bool) (xs : List X) → position p xs ≡ None → All (λ x. p x ≡ false) xs
+none_passes p xs e k d below =
+    let m : nat_lt (position_or_len p xs) (length xs) ≡ false = missing _ (position_or_len p xs) e in
+    let l : length xs ≤ position_or_len p xs = grind (arith, common_steps, m) in
+    fails_before_first p xs k d (omega arith)
 
-all_after : (bytes : List ℕ) (n : ℕ) → take (length bytes - n) (drop n bytes) ≡ drop n bytes
-all_after bytes n = grind (arith, common_steps)
+-- all elements from a place on
+pub all_after : {X : Type 0} (xs : List X) (n : ℕ) → take (length xs - n) (drop n xs) ≡ drop n xs
+all_after xs n = grind (arith, common_steps)
 
 -- the first line ends at the first line feed
 pub lines-first : (bytes : List ℕ) (end : ℕ) → position (λ byte. byte == LINE_FEED) bytes ≡ Some end → lines bytes ≡ take end bytes ∷ lines (take (length bytes - (end + 1)) (drop (end + 1) bytes))

@@ -1,6 +1,6 @@
 -- The commands of a job: the lines between the settings and the script or the end.
-use Rattle.std.specs.Prelude.{ℕ, ◌+◌, ◌-◌, ◌==◌, nat_lt, true, false, List, [], ◌∷◌, ◌++◌, length, codes, if◌then◌else◌}
-use Rattle.kv_store.specs.Commands.{Request}
+use Rattle.std.specs.Prelude.{ℕ, ◌+◌, ◌-◌, ◌<◌, ◌==◌, ⊤, nat_lt, true, false, List, [], ◌∷◌, ◌++◌, length, codes, if◌then◌else◌}
+use Rattle.kv_store.specs.Commands.{Request, HasShortTexts}
 use Rattle.kv_store.specs.Sessions.{numbers_of}
 use Rattle.kv_store.specs.declared.command.Op.{Op}
 use Rattle.mu_input.specs.Lines.{Left, is_alone, is_first, words}
@@ -32,6 +32,13 @@ body_line clients commands line =
     else if is_alone (codes "script") line then Says Script
     else if is_alone (codes "end") line then Says End
     else Wrong OPERATION
+
+-- there is room for what a line says after so many clients and commands
+abbrev pub HasRoom : ℕ → ℕ → BodyLine → Type 0
+HasRoom clients commands Client = clients < MOST_CLIENTS
+HasRoom clients commands (Operation op) = (0 < clients) × (commands < MOST_COMMANDS) × HasShortTexts op
+HasRoom clients commands Script = ⊤
+HasRoom clients commands End = ⊤
 
 -- the next command of a client, after these commands
 abbrev pub next_command : ℕ → List Request → Op → Request

@@ -7,7 +7,9 @@ pub mod Operations
 pub mod Bodies
 pub mod Scripts
 pub mod Batches
+pub mod Heads
 pub mod Grammar
+pub mod Bulk
 pub mod Events
 pub mod Traces
 pub mod Jobs

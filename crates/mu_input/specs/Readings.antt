@@ -1,5 +1,5 @@
 -- What bytes spell, or the first line that leaves the grammar, and why.
-use Rattle.std.specs.Prelude.{ℕ, ◌≡◌, List, [], ◌∷◌, ⊤}
+use Rattle.std.specs.Prelude.{ℕ, ◌≡◌, ◌≢◌, List, [], ◌∷◌, ⊤}
 use Rattle.std.specs.declared.result.Result.{Result}
 use Rattle.std.specs.declared.result.Result.TheVariants.{Ok, Err}
 use Rattle.mu_input.specs.Lines.{Left}
@@ -37,6 +37,12 @@ abbrev pub whole : {A : Type 0} → Front A → Reading A
 whole (Begins a left) = whole_from a left.number left.lines
 whole (Breaks line cause) = Leaves line cause
 
+-- a result says whether no line is left, and else which line is the first
+abbrev pub EndsHere : Result (Unit {0}) InputEnd → Left → Type 0
+EndsHere (Ok u) left = left.lines ≡ []
+EndsHere (Err (Refused line cause)) left = (left.lines ≢ []) × (line ≡ left.number) × (cause ≡ AFTER_END)
+EndsHere (Err NoMemory) left = ⊥
+
 -- a result says what the reading is; want of memory can come at any bytes
 abbrev pub Reads : {A : Type 0} → Result A InputEnd → Reading A → Type 0
 Reads (Ok a) reading = reading ≡ Fits a
@@ -48,6 +54,12 @@ abbrev pub ReadsFront : {A : Type 0} → Result A InputEnd → Front A → Left 
 ReadsFront (Ok a) front left = front ≡ Begins a left
 ReadsFront (Err (Refused line cause)) front left = front ≡ Breaks line cause
 ReadsFront (Err NoMemory) front left = ⊤
+
+-- the same of a result that is seen as something else
+abbrev pub ReadsFrontAs : {A : Type 0} {B : Type 0} → (A → B) → Result A InputEnd → Front B → Left → Type 0
+ReadsFrontAs seen (Ok a) front left = front ≡ Begins (seen a) left
+ReadsFrontAs seen (Err (Refused line cause)) front left = front ≡ Breaks line cause
+ReadsFrontAs seen (Err NoMemory) front left = ⊤
 
 -- a result says what the line says
 abbrev pub Tells : {A : Type 0} → Result A ℕ → Line A → Type 0

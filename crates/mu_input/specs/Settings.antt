@@ -1,5 +1,5 @@
 -- The settings of a job: its first lines.
-use Rattle.std.specs.Prelude.{ℕ, ◌+◌, List, [], ◌∷◌, codes, if◌then◌else◌, ◌==◌}
+use Rattle.std.specs.Prelude.{ℕ, ◌+◌, ◌≡◌, ◌≤◌, List, [], ◌∷◌, codes, if◌then◌else◌, ◌==◌}
 use Rattle.std.specs.Option.{option_map_or}
 use Rattle.mu_input.specs.Lines.{Left, words}
 use Rattle.mu_input.specs.Numbers.{setting}
@@ -33,3 +33,17 @@ settings_at left =
     followed (setting_at (codes "budget") 1 MOST_STEPS BUDGET left) (λ budget left.
     followed (width_at version left) (λ width left.
     Begins (record { version = version; width = width; replicas = replicas; ring = ring; budget = budget }) left)))))
+
+-- the bounds of the settings; a batch of version 1 has one command
+pub record HasLimits (settings : Settings) : Type 0 where
+  pub version_least : 1 ≤ settings.version
+  pub version_most : settings.version ≤ 2
+  pub single : settings.version ≡ 1 → settings.width ≡ 1
+  pub width_least : 1 ≤ settings.width
+  pub width_most : settings.width ≤ MOST_WIDTH
+  pub replicas_least : 1 ≤ settings.replicas
+  pub replicas_most : settings.replicas ≤ MOST_REPLICAS
+  pub ring_least : LEAST_RING ≤ settings.ring
+  pub ring_most : settings.ring ≤ MOST_RING
+  pub budget_least : 1 ≤ settings.budget
+  pub budget_most : settings.budget ≤ MOST_STEPS

@@ -9,11 +9,12 @@ ghost use Rattle.mu_input.specs.FirstForm.{operation, next_command, after, row_o
 ghost use Rattle.mu_input.specs.Jobs.{IsFirstJob};
 ghost use Rattle.mu_model.specs.Contents.{rest_of};
 
+use crate::heading::setting;
 use crate::job::{InputEnd, Job};
 use crate::lines::{next_line, three_words, two_words};
-use crate::numbers::limited;
+use crate::operations::{key_of, text_of};
 use crate::{FIRST_COMMANDS, FORM};
-use kv_store::{Command, Key, Op, Text};
+use kv_store::{Command, Op};
 use mu_model::{Config, Row, Rows, Script, Sequence};
 use mu_rows::encode;
 use std::alloc::{AllocError, Global};
@@ -204,19 +205,6 @@ fn next_command(commands: &[Command], line: &[u8]) -> Option<Command>
     Command::new(0, commands.len() as u16 + 1, op)
 }
 
-/// The number of a line of a name and a number from `low` to `high`.
-fn setting(line: &[u8], name: &[u8], low: u32, high: u32) -> Option<u32>
-    ensures exact { result ≡ setting name.now low high (words line.now) }
-    ensures high { IfSome result (λ number. number ≤ high) }
-{
-    let (word, value) = two_words(line)?;
-    if word == name {
-        limited(value, low, high)
-    } else {
-        None
-    }
-}
-
 /// What a command asks for.
 fn operation(line: &[u8]) -> Option<Op>
     ensures { result ≡ operation (words line.now) }
@@ -250,16 +238,4 @@ fn put(key: &[u8], text: &[u8]) -> Option<Op>
     let key = key_of(key)?;
     let text = text_of(text)?;
     Some(Op::Put(key, text))
-}
-
-fn key_of(bytes: &[u8]) -> Option<Key>
-    ensures { result ≡ (if is_key bytes.now then Some bytes.now else None) }
-{
-    Key::new(bytes)
-}
-
-fn text_of(bytes: &[u8]) -> Option<Text>
-    ensures { result ≡ (if is_text bytes.now then Some bytes.now else None) }
-{
-    Text::new(bytes)
 }

@@ -1,6 +1,10 @@
 //! What a run is given.
+ghost use Rattle.std.specs.Prelude.{◌≡◌};
+ghost use Rattle.mu_input.specs.declared.job.InputEnd.TheVariants.{Refused, NoMemory};
+
 use kv_store::Command;
 use mu_model::{Config, Script, Sequence};
+use std::alloc::{AllocError, AllocFailed};
 
 /// The commands of a job, in the order of the file.
 pub type Commands = Sequence<Command>;
@@ -28,4 +32,29 @@ pub enum InputEnd {
     },
     /// Want of memory.
     NoMemory,
+}
+
+impl InputEnd {
+    /// The refusal of this line for this cause.
+    pub fn at(line: u32, cause: u8) -> InputEnd
+        ensures { result ≡ Refused line cause }
+    {
+        InputEnd::Refused { line, cause }
+    }
+}
+
+impl From<AllocError> for InputEnd {
+    ghost from_gives = { λ _ end. end ≡ NoMemory };
+
+    fn from(_failed: AllocError) -> InputEnd {
+        InputEnd::NoMemory
+    }
+}
+
+impl<T: Drop> From<AllocFailed<T>> for InputEnd {
+    ghost from_gives = { λ _ end. end ≡ NoMemory };
+
+    fn from(_failed: AllocFailed<T>) -> InputEnd {
+        InputEnd::NoMemory
+    }
 }

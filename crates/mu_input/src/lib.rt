@@ -1,18 +1,24 @@
 //! Jobs and event lists, and the reading of them.
 #![tactic(auto)]
 
+mod batches;
 mod bodies;
+mod bulk_jobs;
 mod cause;
+mod events;
 mod first_form;
 mod heading;
 mod job;
 mod line_reader;
 mod lines;
 mod numbers;
+mod operations;
 mod reading;
 mod scripts;
+mod traces;
 mod words;
 
+pub use bulk_jobs::bulk;
 pub use first_form::read_first;
 pub use job::{Commands, InputEnd, Job};
 pub use reading::{read, read_trace};
@@ -74,5 +80,9 @@ pub const FIRST_COMMANDS: usize = 8;
 /// The cause of a refusal: bytes that leave the first form.
 pub const FORM: u8 = 14;
 
+#[cfg(test)]
+mod event_tests;
+#[cfg(test)]
+mod job_tests;
 #[cfg(test)]
 mod tests;

@@ -1,13 +1,20 @@
 //! The reading of whole inputs.
-ghost use Rattle.std.specs.Prelude.{◌<◌, ◌≤◌, ◌^◌, IfOk, length};
+ghost use Rattle.std.specs.Prelude.{◌≡◌, ◌≢◌, [], ◌+◌, ◌<◌, ◌≤◌, ◌^◌, IfErr, IfOk, OnErr, OnOk, length};
 ghost use Rattle.kv_store.specs.Sessions.{IsInSession};
 ghost use Rattle.mu_model.specs.Contents.{IsConfig};
-ghost use Rattle.mu_input.specs.Grammar.{job};
-ghost use Rattle.mu_input.specs.Readings.{Reads};
+ghost use Rattle.mu_input.specs.Grammar.{job, job_at};
+ghost use Rattle.mu_input.specs.Readings.{EndsHere, Reads, ReadsFront};
 ghost use Rattle.mu_input.specs.Traces.{ReadsTrace, trace};
 
 use crate::TRACE_LIMIT;
+use crate::batches::job_of;
+use crate::bodies::read_body;
+use crate::cause::AFTER_END;
+use crate::heading::read_settings;
 use crate::job::{InputEnd, Job};
+use crate::line_reader::LineReader;
+use crate::scripts::script_where;
+use crate::traces::read_events;
 use mu_model::Journal;
 use std::alloc::Global;
 
@@ -21,12 +28,15 @@ use std::alloc::Global;
 /// the steps of a replica, 5 the client, 6 the operation, 7 the key, 8 a text, 9 one line too many,
 /// 10 the script, 11 no end, 12 a line after the end, 15 the commands of a batch. `NoMemory` for
 /// want of memory.
-pub fn read(_alloc: Global, _bytes: &[u8]) -> Result<Job, InputEnd>
-    ensures reading { Reads result (job _bytes.now) }
+pub fn read(alloc: Global, bytes: &[u8]) -> Result<Job, InputEnd>
+    ensures reading { Reads result (job bytes.now) }
     ensures config { IfOk result (λ job. IsConfig job.config) }
     ensures session { IfOk result (λ job. IsInSession job.commands) }
 {
-    Err(InputEnd::NoMemory)
+    let mut lines = LineReader::new(bytes);
+    let job = read_job(alloc, &mut lines)?;
+    read_end(&mut lines)?;
+    Ok(job)
 }
 
 /// The job and the events that the bytes of a trace spell. Takes memory for these alone, and the
@@ -35,12 +45,42 @@ pub fn read(_alloc: Global, _bytes: &[u8]) -> Result<Job, InputEnd>
 /// # Errors
 ///
 /// Those of [`read`], and the cause 13 for a line that is no event of the job's replicas.
-pub fn read_trace(_alloc: Global, _bytes: &[u8]) -> Result<(Job, Journal), InputEnd>
-    requires { length _bytes.now ≤ TRACE_LIMIT }
-    ensures reading { ReadsTrace result (trace _bytes.now) }
+pub fn read_trace(alloc: Global, bytes: &[u8]) -> Result<(Job, Journal), InputEnd>
+    requires { length bytes.now ≤ TRACE_LIMIT }
+    ensures reading { ReadsTrace result (trace bytes.now) }
     ensures config { IfOk result (λ r. IsConfig r.0.config) }
     ensures session { IfOk result (λ r. IsInSession r.0.commands) }
     ensures few { IfOk result (λ r. length r.1.events < 2 ^ 32) }
 {
-    Err(InputEnd::NoMemory)
+    let mut lines = LineReader::new(bytes);
+    let job = read_job(alloc, &mut lines)?;
+    let events = read_events(alloc, &mut lines, job.config.replicas)?;
+    read_end(&mut lines)?;
+    Ok((job, Journal::from_vec(events)))
+}
+
+/// The job at the front of all lines.
+fn read_job(alloc: Global, lines: &mut LineReader<'_>) -> Result<Job, InputEnd>
+    requires { lines.old.number ≡ 1 }
+    ensures reading { ReadsFront result (job_at lines.old) lines.new }
+    ensures config { IfOk result (λ job. IsConfig job.config) }
+    ensures session { IfOk result (λ job. IsInSession job.commands) }
+    ensures few { IfOk result (λ job. lines.new.number ≤ 1707) }
+{
+    let settings = read_settings(lines)?;
+    let body = read_body(alloc, lines)?;
+    let script = script_where(alloc, lines, body.has_script, settings.replicas)?;
+    Ok(job_of(alloc, settings, body.commands, script)?)
+}
+
+/// No line is left.
+fn read_end(lines: &mut LineReader<'_>) -> Result<(), InputEnd>
+    requires { lines.old.number + 1 < 2 ^ 32 }
+    ensures { EndsHere result lines.old }
+{
+    let line = lines.number();
+    match lines.next() {
+        None => Ok(()),
+        Some(_) => Err(InputEnd::at(line, AFTER_END)),
+    }
 }

@@ -8,6 +8,7 @@ use std::marker::Model;
 
 /// The first words of a line: all of them, unless it has more than any line of a grammar. Contracts
 /// see the words.
+#[derive(Drop)]
 pub struct Words<'a> {
     items: [&'a [u8]; MANY_WORDS],
     count: usize,

@@ -14,8 +14,8 @@ ghost use Rattle.mu_learns.specs.Knowing.{is_set};
 ghost use Rattle.mu_learns.specs.Landings.{HoldsLandings};
 
 use crate::landings::Landings;
-use mu_leads::{begins, positions_in};
-use mu_model::{Answer, Config, Event, NoMemory, Verb};
+use mu_leads::begins;
+use mu_model::{Answer, Config, Event, NoMemory, Verb, positions_in};
 use std::alloc::Global;
 
 /// The FUO of `p` that the event reads.

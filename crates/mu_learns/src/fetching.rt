@@ -8,8 +8,7 @@ ghost use Rattle.mu_model.specs.Knowledge.{applied, fetched_prefix, has_entry, h
 ghost use Rattle.mu_model.specs.Parts.{IsPossible};
 ghost use Rattle.mu_learns.specs.Fetching.{AreThere, HasWords, HoldsFetching, IsOfRows, WroteWords, word_place};
 
-use mu_leads::{row_rest, stands_for_batch};
-use mu_model::{Config, Event, NoMemory, Verb};
+use mu_model::{Config, Event, NoMemory, Verb, row_rest, stands_for_batch};
 use std::alloc::Global;
 
 /// Which rows a replica has written or read, and what it has applied.

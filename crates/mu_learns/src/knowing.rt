@@ -10,8 +10,10 @@ ghost use Rattle.mu_model.specs.Parts.{IsPossible};
 ghost use Rattle.mu_model.specs.Room.{reserve};
 ghost use Rattle.mu_learns.specs.Knowing.{CountsCommands, HoldsKnowing, HoldsValues, IsPlaced, MarksReplicas, ReadsFuos, SeesEntries, TellsAccepted};
 
-use mu_leads::{positions_in, row_client, row_rest, stands_for_batch};
-use mu_model::{Answer, Config, Event, NoMemory, Verb, stands_for_mark};
+use mu_model::{
+    Answer, Config, Event, NoMemory, Verb, positions_in, row_client, row_rest, stands_for_batch,
+    stands_for_mark,
+};
 use std::alloc::Global;
 
 /// What a replica has learnt, and what decides whether it may trust a look.

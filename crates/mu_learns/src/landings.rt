@@ -11,8 +11,8 @@ ghost use Rattle.mu_model.specs.Room.{reserve};
 ghost use Rattle.mu_learns.specs.Landings.{HoldsLandings, NotesEach, is_entry, landed_put, last_landed, noted_in};
 ghost use Rattle.mu_leads.specs.Leading.{HoldsLeading};
 
-use mu_leads::{Leading, begins, positions_in};
-use mu_model::{Answer, Config, Event, NoMemory, Verb};
+use mu_leads::{Leading, begins};
+use mu_model::{Answer, Config, Event, NoMemory, Verb, positions_in};
 use std::alloc::Global;
 
 /// An entry that was put.

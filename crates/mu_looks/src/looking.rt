@@ -13,8 +13,7 @@ ghost use Rattle.mu_model.specs.Placing.{fuo_read_or_raised, is_within_ring, loo
 ghost use Rattle.mu_model.specs.Room.{reserve};
 ghost use Rattle.mu_looks.specs.Placing.{HoldsEachLook, HoldsLook, HoldsLooks, HoldsPuts, HoldsReach, begun_time, enter_time, has_looked_since, is_good_since, joining_time, member_time, put_time};
 
-use mu_leads::positions_in;
-use mu_model::{Answer, Config, Event, NoMemory, Verb};
+use mu_model::{Answer, Config, Event, NoMemory, Verb, positions_in};
 use std::alloc::Global;
 
 /// What the looks at one position came to. The times are those of the replica's own events, counted

@@ -15,8 +15,8 @@ ghost use Rattle.mu_leads.specs.Leading.{HoldsLeading};
 ghost use Rattle.mu_looks.specs.Placing.{HoldsEachRegion, HoldsFirst, HoldsFirsts, HoldsOwnReach, HoldsPlacing, begun_time, joining_time};
 
 use crate::looking::{Looks, farther};
-use mu_leads::{Leading, begins, positions_in};
-use mu_model::{Answer, Config, Event, NoMemory, Verb};
+use mu_leads::{Leading, begins};
+use mu_model::{Answer, Config, Event, NoMemory, Verb, positions_in};
 use std::alloc::Global;
 
 /// The first put at one position in a leadership. The time is that of the replica's own events,

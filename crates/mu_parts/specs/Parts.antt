@@ -6,10 +6,10 @@ use Rattle.mu_model.specs.declared.event.Event.{Event}
 use Rattle.mu_model.specs.Histories.{part}
 use Rattle.mu_parts.specs.declared.mover.Mover.{Mover}
 use Rattle.mu_parts.specs.declared.movers.Movers.{Movers}
+use Rattle.mu_grant.specs.Stands.{StandsFor}
 use Rattle.mu_learns.specs.Covering.{HoldsCovering}
 use Rattle.mu_learns.specs.Fetching.{HoldsFetching}
 use Rattle.mu_leads.specs.Heads.{HoldsHeads}
-use Rattle.mu_leads.specs.Hosting.{HoldsHosting}
 use Rattle.mu_learns.specs.Knowing.{HoldsKnowing}
 use Rattle.mu_learns.specs.Landings.{HoldsLandings}
 use Rattle.mu_leads.specs.Leading.{HoldsLeading}
@@ -20,7 +20,7 @@ pub record HoldsPart (c : Config) (r : ℕ) (mine : List Event) (state : Mover) 
   pub replica : state.replica ≡ r
   pub steps : state.steps ≡ length mine
   pub leading : HoldsLeading r mine state.leading
-  pub hosting : HoldsHosting r mine state.hosting
+  pub grants : StandsFor c.replicas r mine state.grants
   pub heads : HoldsHeads c r mine state.heads
   pub knowing : HoldsKnowing c r mine state.knowing
   pub fetching : HoldsFetching c r mine state.fetching

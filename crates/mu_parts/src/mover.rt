@@ -12,10 +12,11 @@ ghost use Rattle.mu_learns.specs.Landings.{HoldsLandings};
 ghost use Rattle.mu_leads.specs.Leading.{HoldsLeading};
 ghost use Rattle.mu_parts.specs.Parts.{HoldsPart};
 
-use mu_leads::{Heads, Hosting, Leading, reserve_of, row_word};
+use mu_grant::Grants;
+use mu_leads::{Heads, Leading};
 use mu_learns::{Covering, Fetching, Knowing, Landings};
 use mu_looks::Placing;
-use mu_model::{Config, Event, NoMemory, Verb};
+use mu_model::{Config, Event, NoMemory, Verb, positions_in, row_word};
 use std::alloc::Global;
 
 /// What the events of one replica so far let it do next.
@@ -28,7 +29,7 @@ pub struct Mover {
     /// What its leaderships have come to.
     pub leading: Leading,
     /// What it has done as the host of its region.
-    pub hosting: Hosting,
+    pub grants: Grants,
     /// The heads that it read, and the scores of the others.
     pub heads: Heads,
     /// What it knows.
@@ -48,7 +49,7 @@ fn is_position(config: &Config, i: u16) -> bool
     requires { IsConfig config.now }
     ensures { IsTrue result ↔ (i ≤ row_count config.now + reserve config.now) }
 {
-    usize::from(i) <= config.rows.len() + usize::from(reserve_of(config))
+    usize::from(i) < positions_in(config)
 }
 
 /// How many steps there were, after one more.
@@ -80,14 +81,15 @@ impl Mover {
     /// The state before any event. Takes all memory that it ever needs.
     pub fn start(alloc: Global, config: &Config, replica: u8) -> Result<Mover, NoMemory>
         requires config { IsConfig config.now }
+        requires inside { replica < config.now.replicas }
         ensures { IfOk result (λ state. HoldsPart config.now replica [] state) }
     {
         Ok(Mover {
             replica,
             steps: 0,
             leading: Leading::none(replica),
-            hosting: Hosting::none(),
-            heads: Heads::none(),
+            grants: Grants::new(config.replicas, replica),
+            heads: Heads::none(config, replica),
             knowing: Knowing::start(alloc, config)?,
             fetching: Fetching::start(alloc, config)?,
             landings: Landings::start(alloc, config)?,
@@ -105,7 +107,7 @@ impl Mover {
         self.steps = steps_after(self.steps);
         self.placing.take(&self.leading, event);
         self.leading.take(r, event);
-        self.hosting.take(r, event);
+        self.grants.note(event);
         self.heads.take(r, event);
         self.landings.take(r, event);
         let accepted = is_accepted(&self.landings, &self.leading, config.replicas, event);
@@ -149,10 +151,10 @@ impl Mover {
                 && self.placing.reaches_head(h),
             Verb::Beat => true,
             Verb::ReadAsk(w) => w < n,
-            Verb::Close => self.hosting.may_close(n),
-            Verb::LookTarget => self.hosting.may_look_target(),
-            Verb::Drain => self.hosting.may_drain(),
-            Verb::Grant(w) => self.hosting.may_grant(n, w),
+            Verb::Close => self.grants.may_close(),
+            Verb::LookTarget => self.grants.may_look_target(),
+            Verb::Drain => self.grants.may_drain(),
+            Verb::Grant(w) => self.grants.may_grant(w),
         }
     }
 
@@ -161,8 +163,6 @@ impl Mover {
         requires config { IsConfig config.now }
         ensures { (r : ℕ) → (mine : List Event) → IsPossible config.now r mine → HoldsPart config.now r mine self.now → (IsTrue result ↔ Allowed config.now r mine verb.now) }
     {
-        self.steps < config.budget
-            && self.replica < config.replicas
-            && self.meets_needs(config, verb)
+        self.steps < config.budget && self.meets_needs(config, verb)
     }
 }

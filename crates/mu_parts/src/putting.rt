@@ -16,8 +16,9 @@ ghost use Rattle.mu_model.specs.Room.{has_room, is_mark_candidate, last_head, re
 ghost use Rattle.mu_parts.specs.Parts.{HoldsPart};
 
 use crate::mover::Mover;
-use mu_leads::{reserve_of, row_client, row_number, stands_for_batch};
-use mu_model::{Config, Target, stands_for_mark};
+use mu_model::{
+    Config, Target, reserve_of, row_client, row_number, stands_for_batch, stands_for_mark,
+};
 
 /// Whether all points hold.
 fn all_hold(a: bool, b: bool, c: bool, d: bool, e: bool) -> bool
@@ -29,7 +30,8 @@ fn all_hold(a: bool, b: bool, c: bool, d: bool, e: bool) -> bool
 impl Mover {
     /// Whether the head of `q` leaves room, or `q` is known to be gone.
     fn leaves_room(&self, config: &Config, q: u8, i: u16, free: u8) -> bool
-        ensures { (r : ℕ) → (mine : List Event) → q < 7 → HoldsPart config.now r mine self.now → result ≡ (marked config.now q (known config.now r mine) || nat_lt (i + free) (last_head r q mine + config.now.ring)) }
+        requires { config.now.replicas ≤ 7 }
+        ensures { (r : ℕ) → (mine : List Event) → q < config.now.replicas → HoldsPart config.now r mine self.now → result ≡ (marked config.now q (known config.now r mine) || nat_lt (i + free) (last_head r q mine + config.now.ring)) }
     {
         let gone = self.knowing.is_marked(q);
         let room = self.heads.leaves_room(q, config.ring, i, free);
@@ -50,7 +52,8 @@ impl Mover {
 
     /// Whether `v` is the mark of `q`, which may be marked.
     fn may_mark(&self, config: &Config, q: u8, v: u16, limit: u64) -> bool
-        ensures { (r : ℕ) → (mine : List Event) → q < 7 → HoldsPart config.now r mine self.now → result ≡ (is_mark config.now q v && (not (q == r) && (not (marked config.now q (known config.now r mine)) && is_mark_candidate config.now r q limit mine))) }
+        requires { config.now.replicas ≤ 7 }
+        ensures { (r : ℕ) → (mine : List Event) → q < config.now.replicas → HoldsPart config.now r mine self.now → result ≡ (is_mark config.now q v && (not (q == r) && (not (marked config.now q (known config.now r mine)) && is_mark_candidate config.now r q limit mine))) }
     {
         let other = q != self.replica;
         let here = !self.knowing.is_marked(q);

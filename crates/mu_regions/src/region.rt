@@ -7,7 +7,6 @@ ghost use Rattle.mu_model.specs.Answers.{answer_of, drained, entered_or_lost, pu
 ghost use Rattle.mu_model.specs.Contents.{row_count};
 ghost use Rattle.mu_model.specs.Leaderships.{noted_grant};
 ghost use Rattle.mu_model.specs.Regions.{asks, fence, region_log, row_word};
-ghost use Rattle.mu_model.specs.Room.{reserve};
 ghost use Rattle.mu_regions.specs.Range.{InRange, IsNear, read_at};
 ghost use Rattle.mu_regions.specs.Stands.{Holds};
 
@@ -15,20 +14,8 @@ use crate::effects::{
     beats_after, fence_after, fuo_after, head_after, minimum_after, note_ask, note_drain,
     note_grant, note_put, note_word,
 };
-use mu_model::{Answer, Config, Event, Fence, NoMemory, Target, Verb};
+use mu_model::{Answer, Config, Event, Fence, NoMemory, Target, Verb, positions_in};
 use std::alloc::Global;
-
-/// How many positions there are.
-fn positions_in(config: &Config) -> usize
-    requires { row_count config.now ≤ 1500 }
-    ensures { result ≡ row_count config.now + reserve config.now + 1 }
-{
-    if config.version == 2 {
-        config.rows.len() + usize::from(config.replicas) + 1
-    } else {
-        config.rows.len() + 1
-    }
-}
 
 /// What the region `id` holds, with the rows of its replica.
 #[derive(Drop)]

@@ -1,6 +1,7 @@
 -- How a row of twelve words spells a command.
 use Rattle.std.specs.Prelude.{ℕ, ◌+◌, ◌-◌, ◌*◌, List, [], ◌∷◌, length, take, drop, nat_lt, if◌then◌else◌}
-use Rattle.kv_store.specs.Commands.{Request}
+use Rattle.kv_store.specs.Commands.{Request, IsAllowed}
+use Rattle.kv_store.specs.Words.{IsKey, IsText}
 use Rattle.kv_store.specs.declared.command.Op.{Op}
 use Rattle.kv_store.specs.declared.command.Op.TheVariants.{Put, Get, Del, Swap, Cas}
 
@@ -67,3 +68,16 @@ spelled request rest =
     ∷ word_of (key_of request.op) 0 ∷ word_of (key_of request.op) 1 ∷ word_of (key_of request.op) 2
     ∷ text_word request.op 0 ∷ text_word request.op 1 ∷ text_word request.op 2 ∷ text_word request.op 3
     ∷ text_word request.op 4 ∷ text_word request.op 5 ∷ text_word request.op 6 ∷ text_word request.op 7 ∷ []
+
+-- what an operation has is a key and texts
+abbrev pub HasWords : Op → Type 0
+HasWords (Put key text) = IsKey key × IsText text
+HasWords (Get key) = IsKey key
+HasWords (Del key) = IsKey key
+HasWords (Swap key text) = IsKey key × IsText text
+HasWords (Cas key old new) = IsKey key × IsText old × IsText new
+
+-- a request that is a command: one that the store may be asked for
+pub record IsCommand (request : Request) : Type 0 where
+  pub allowed : IsAllowed request.client request.number request.op
+  pub words : HasWords request.op

@@ -1,11 +1,14 @@
-//! Rows: how a command stands in twelve words of shared memory.
+//! Rows: how a command stands in twelve words of shared memory, and how it is read back.
 #![tactic(auto)]
 
 ghost use Rattle.std.specs.Prelude.{◌≡◌, ◌<◌, ◌≤◌, ◌/◌, ◌%◌, ◌^◌, length, slice_index, slice_index_or};
 ghost use Rattle.mu_rows.specs.Rows.{word_of, code_of, key_of, first_text, second_text, head_word, text_word, spelled};
 
+mod read;
+
 use kv_store::{Command, Key, Op};
 use mu_model::Row;
+pub use read::{decode, rows_differ};
 
 // Where the fields of the head word begin. The operation stands lowest.
 const CLIENT: u64 = 256;

@@ -1,6 +1,7 @@
 //! Rows against words that were spelled by hand.
-use crate::encode;
+use crate::{decode, encode};
 use kv_store::{Command, Key, Op, Text};
+use mu_model::Row;
 use std::test::Fail;
 
 fn key(name: &str) -> Result<Key, Fail> {
@@ -90,6 +91,23 @@ fn spells_commands(rt: HostRuntime) -> Result<(), Fail> {
         let command = Command::new(client, number, op).ok_or("no command")?;
         assert!(rt; rest <= 3);
         assert_eq!(rt; encode(&command, rest).words, words, "{op:?}");
+        assert_eq!(rt; decode(&Row { words }), Some((command, rest)), "{op:?}");
     }
+    Ok(())
+}
+
+#[test]
+fn reads_rows(rt: HostRuntime) -> Result<(), Fail> {
+    let put = Command::new(0, 1, Op::Put(key("a")?, text("5")?)).ok_or("no command")?;
+    for (head, last, found) in [
+        (1_103_806_660_609, 0, Some((put, 0))),
+        (1_103_806_660_609, 1, None),
+        (216_173_885_920_444_417, 0, Some((put, 3))),
+        (288_231_479_958_372_353, 0, None),
+    ] {
+        let words = [head, 97, 0, 0, 53, 0, 0, 0, 0, 0, 0, last];
+        assert_eq!(rt; decode(&Row { words }), found, "{head}, .., {last}");
+    }
+    assert_eq!(rt; decode(&Row { words: [0; 12] }), None);
     Ok(())
 }

@@ -24,3 +24,15 @@ returns-then-from-applied_length c r mine low possible held =
     let same = c.from-in-RaiseHead.ensures in
     let within = c.if-from-applied_length.true in
     needs_of c.args.config.now r mine c.args.verb.now _ c.reaches_head.result c.in-RaiseHead.is (λ h. (omega arith, sym reach ∙ h), λ m. reach ∙ m.1)
+
+pub returns-in-Close : goal.returns-in-Close
+returns-in-Close c r mine low possible held = needs_of c.args.config.now r mine c.args.verb.now _ c.may_close.result c.in-Close.is (c.may_close.ensures c.args.config.now r mine held.grants)
+
+pub returns-in-LookTarget : goal.returns-in-LookTarget
+returns-in-LookTarget c r mine low possible held = needs_of c.args.config.now r mine c.args.verb.now _ c.may_look_target.result c.in-LookTarget.is (c.may_look_target.ensures c.args.config.now r mine held.grants)
+
+pub returns-in-Drain : goal.returns-in-Drain
+returns-in-Drain c r mine low possible held = needs_of c.args.config.now r mine c.args.verb.now _ c.may_drain.result c.in-Drain.is (c.may_drain.ensures c.args.config.now r mine held.grants)
+
+pub returns-in-Grant : goal.returns-in-Grant
+returns-in-Grant c r mine low possible held = needs_of c.args.config.now r mine c.args.verb.now _ c.may_grant.result c.in-Grant.is (c.may_grant.ensures c.args.config.now r mine held.grants)

@@ -1,6 +1,0 @@
-use Rattle.kv_store.specs.declared.TheConstants.{KEY_BYTES}
-use Rattle.mu_input.proofs.Keys.{word-made}
-use Rattle.mu_input.proofs.first_form.key_of.Goals as goal
-
-pub returns : goal.returns
-returns c = word-made KEY_BYTES c.args.bytes.now _ c.new.ensures.allowed c.new.ensures.same

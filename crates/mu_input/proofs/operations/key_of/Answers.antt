@@ -1,0 +1,6 @@
+use Rattle.kv_store.specs.declared.TheConstants.{KEY_BYTES}
+use Rattle.mu_input.proofs.Keys.{word-made}
+use Rattle.mu_input.proofs.operations.key_of.Goals as goal
+
+pub returns : goal.returns
+returns c = word-made KEY_BYTES c.args.bytes.now _ c.new.ensures.allowed c.new.ensures.same

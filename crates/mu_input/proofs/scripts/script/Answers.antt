@@ -1,0 +1,41 @@
+use Rattle.std.proofs.Common.{◌≡◌, ◌∙◌, ◌++◌, ◌∷◌, [], length, take, ap, arith}
+use Rattle.std.proofs.lemmas.List.{length-append}
+use Rattle.mu_input.specs.Lines.{words}
+use Rattle.mu_input.specs.declared.TheConstants.{MANY_WORDS}
+use Rattle.mu_input.specs.declared.scripts.ScriptLine.TheVariants as line
+use Rattle.mu_input.proofs.StopsAndPauses.{line_by_line, room, told}
+use Rattle.mu_input.proofs.scripts.script.Goals as goal
+use Rattle.mu_input.proofs.scripts.script.Goals.{in-Stop+in-Ok-push, in-Pause+in-Ok-push-2}
+
+pub loop-line-preserved : goal.loop-line-preserved
+loop-line-preserved c =
+    let l = c.loop-line in
+    let old = l.invariant in
+    elim c.match-said.branch [
+      | in-Stop+in-Ok-push w ↦
+          let said = told c.args.replicas l.stops.items _ l.pauses.items _ c.in-Some.line.now _ _ _ (line.Stop w.in-Stop.stop) c.as_slice.ensures.value c.as_slice-in-Some.ensures.value c.as_slice-in-Some-2.ensures c.of-words.ensures w.in-Stop.is c.in-Ok.ensures in
+          let stops : c.match-said.stops.items ≡ l.stops.items ++ w.in-Stop.stop ∷ [] = rw w.stops-is w.in-Ok-push.ensures.items in
+          let pauses : c.match-said.pauses.items ≡ l.pauses.items = rw w.pauses-is in
+          let left = room c.args.replicas l.stops.items l.pauses.items (take MANY_WORDS (words c.in-Some.line.now)) (line.Stop w.in-Stop.stop) (λ e. cc) said in
+          let more = length-append l.stops.items (w.in-Stop.stop ∷ []) in
+          let step = line_by_line c.args.replicas l.stops.items l.pauses.items l.number l.lines.lines c.in-Some.line.now c.next.new.self.lines _ c.in-Some.ensures.0 said in
+          record {
+            reading = rw (stops, pauses) (old.reading ∙ step);
+            few = omega (arith, more, left, ap length stops, ap length pauses);
+            count = omega (arith, more, ap length stops, ap length pauses);
+            next = omega (arith, c.in-Some.ensures.1);
+          }
+      | in-Pause+in-Ok-push-2 w ↦
+          let said = told c.args.replicas l.stops.items _ l.pauses.items _ c.in-Some.line.now _ _ _ (line.Pause w.in-Pause.pause) c.as_slice.ensures.value c.as_slice-in-Some.ensures.value c.as_slice-in-Some-2.ensures c.of-words.ensures w.in-Pause.is c.in-Ok.ensures in
+          let stops : c.match-said.stops.items ≡ l.stops.items = rw w.stops-is in
+          let pauses : c.match-said.pauses.items ≡ l.pauses.items ++ w.in-Pause.pause ∷ [] = rw w.pauses-is w.in-Ok-push-2.ensures.items in
+          let left = room c.args.replicas l.stops.items l.pauses.items (take MANY_WORDS (words c.in-Some.line.now)) (line.Pause w.in-Pause.pause) (λ e. cc) said in
+          let more = length-append l.pauses.items (w.in-Pause.pause ∷ []) in
+          let step = line_by_line c.args.replicas l.stops.items l.pauses.items l.number l.lines.lines c.in-Some.line.now c.next.new.self.lines _ c.in-Some.ensures.0 said in
+          record {
+            reading = rw (stops, pauses) (old.reading ∙ step);
+            few = omega (arith, more, left, ap length stops, ap length pauses);
+            count = omega (arith, more, ap length stops, ap length pauses);
+            next = omega (arith, c.in-Some.ensures.1);
+          }
+    ]

@@ -1,0 +1,286 @@
+//! Whole jobs, and the lines at which others leave the grammar.
+use crate::{InputEnd, Job, read};
+use std::alloc::Global;
+use std::test::Fail;
+
+/// The settings of version 1 for one replica, a ring of 8 and 100 steps: four lines.
+const HEAD: &str = "mu 1\nreplicas 1\nring 8\nbudget 100\n";
+
+/// Six commands of two clients.
+const TWO_CLIENTS: &str =
+    "mu 1\nreplicas 3\nring 8\nbudget 20000\nclient 0\nput a 5\nget a\ncas a 5 6\nclient 1\nput b 7\nswap a 9\ncas a 9 1\nend\n";
+
+/// The line and the cause of the refusal of these bytes, or none where they are a job.
+fn refusal(alloc: Global, bytes: &[u8]) -> Result<Option<(u32, u8)>, Fail> {
+    match read(alloc, bytes) {
+        Ok(_) => Ok(None),
+        Err(InputEnd::Refused { line, cause }) => Ok(Some((line, cause))),
+        Err(InputEnd::NoMemory) => Err(Fail::from("no memory")),
+    }
+}
+
+/// The settings of version 1, and these lines after them.
+fn with_head(alloc: Global, lines: &str) -> Result<Vec<u8>, Fail> {
+    let mut bytes = Vec::from_slice(alloc, HEAD.as_bytes())?;
+    bytes.extend_from_slice(lines.as_bytes())?;
+    Ok(bytes)
+}
+
+#[test]
+fn refuses_inputs(rt: HostRuntime) -> Result<(), Fail> {
+    let alloc = rt.alloc();
+    for (lines, line, cause) in [
+        ("", 5, 11),
+        ("end\nx\n", 6, 12),
+        ("end\n\n", 6, 12),
+        ("client 0\nget aaaaaaaaaaaaaaaaaaaaaaaaa\nend\n", 6, 7),
+        ("put a 5\nend\n", 5, 5),
+        ("client 0\nput a\nend\n", 6, 6),
+        ("script\nstop 1 0\nend\n", 6, 10),
+        (" end\n", 5, 6),
+        ("client 1\nend\n", 5, 5),
+        ("client\nend\n", 5, 5),
+        ("client 00\nend\n", 5, 5),
+        ("client 0\nput a  5\nend\n", 6, 6),
+        ("client 0\nput  5\nend\n", 6, 7),
+        ("client 0\nput a \nend\n", 6, 8),
+        (
+            "client 0\ncas a 5 123456789012345678901234567890123\nend\n",
+            6,
+            8,
+        ),
+        ("batch 1\nend\n", 5, 6),
+        ("script x\nend\n", 5, 6),
+        ("end x\n", 5, 6),
+        ("script\nstop 0 5\nstop 0 6\nend\n", 7, 10),
+        ("script\nstop 0 131072\nend\n", 6, 10),
+        ("script\npause 0 5 1\npause 0 5 1\nend\n", 7, 10),
+        ("script\npause 0 5 0\nend\n", 6, 10),
+        ("script\npause 0 5 10001\nend\n", 6, 10),
+        ("script\nend x\nend\n", 6, 10),
+        ("script\n", 6, 11),
+    ] {
+        let bytes = with_head(alloc, lines)?;
+        let told = refusal(alloc, bytes.as_slice())?;
+        assert_eq!(rt; told, Some((line, cause)), "{lines}");
+    }
+    Ok(())
+}
+
+#[test]
+fn refuses_settings(rt: HostRuntime) -> Result<(), Fail> {
+    let alloc = rt.alloc();
+    for (text, line, cause) in [
+        ("", 1, 11),
+        (
+            "mu 1\r\nreplicas 1\r\nring 8\r\nbudget 100\r\nend\r\n",
+            1,
+            1,
+        ),
+        ("mu 3\nreplicas 1\nring 8\nbudget 100\nend\n", 1, 1),
+        ("mu 1\nreplicas 8\nring 8\nbudget 100\nend\n", 2, 2),
+        ("mu 1\nreplicas 1\nring 7\nbudget 100\nend\n", 3, 3),
+        ("mu 1\nreplicas 1\nring 08\nbudget 100\nend\n", 3, 3),
+        ("mu 1\nreplicas 1\nring 8\nbudget 10000000\nend\n", 4, 4),
+        (
+            "mu 2\nreplicas 1\nring 8\nbudget 100\nbatch 5\nend\n",
+            5,
+            15,
+        ),
+        ("mu 2\nreplicas 1\nring 8\nbudget 100\nend\n", 5, 15),
+        ("mu 2\nreplicas 1\nring 8\nbudget 100\n", 5, 11),
+    ] {
+        let told = refusal(alloc, text.as_bytes())?;
+        assert_eq!(rt; told, Some((line, cause)), "{text}");
+    }
+    let feeds = vec![in alloc; b'\n'; 1_048_576]?;
+    assert_eq!(rt; refusal(alloc, feeds.as_slice())?, Some((1, 1)));
+    Ok(())
+}
+
+/// The settings and `client 0`, and so many lines after them.
+fn repeated(alloc: Global, first: &str, line: &str, count: u32) -> Result<Vec<u8>, Fail> {
+    let mut bytes = with_head(alloc, first)?;
+    for _ in 0..count {
+        bytes.extend_from_slice(line.as_bytes())?;
+    }
+    Ok(bytes)
+}
+
+#[test]
+fn refuses_one_too_many(rt: HostRuntime) -> Result<(), Fail> {
+    let alloc = rt.alloc();
+    let mut commands = repeated(alloc, "client 0\n", "get a\n", 1_500)?;
+    commands.extend_from_slice(b"end\n")?;
+    assert_eq!(rt; refusal(alloc, commands.as_slice())?, None);
+    let commands = repeated(alloc, "client 0\n", "get a\n", 1_501)?;
+    assert_eq!(rt; refusal(alloc, commands.as_slice())?, Some((1_506, 9)));
+    let mut clients = with_head(alloc, "")?;
+    for client in [
+        "client 0\n",
+        "client 1\n",
+        "client 2\n",
+        "client 3\n",
+        "client 4\n",
+        "client 5\n",
+        "client 6\n",
+        "client 7\n",
+        "client 8\n",
+        "client 9\n",
+        "client 10\n",
+        "client 11\n",
+        "client 12\n",
+        "client 13\n",
+        "client 14\n",
+        "client 15\n",
+        "client 16\n",
+    ] {
+        clients.extend_from_slice(client.as_bytes())?;
+    }
+    assert_eq!(rt; refusal(alloc, clients.as_slice())?, Some((21, 9)));
+    Ok(())
+}
+
+#[test]
+fn judges_the_form_before_the_count(rt: HostRuntime) -> Result<(), Fail> {
+    let alloc = rt.alloc();
+    let mut text = with_head(alloc, "script\n")?;
+    for tens in b'1'..=b'9' {
+        for ones in b'0'..=b'9' {
+            text.extend_from_slice(&[b'p', b'a', b'u', b's', b'e', b' ', b'0', b' '])?;
+            text.extend_from_slice(&[tens, ones, b' ', b'1', b'\n'])?;
+        }
+    }
+    for ones in b'0'..=b'9' {
+        text.extend_from_slice(b"pause 0 10")?;
+        text.extend_from_slice(&[ones, b' ', b'1', b'\n'])?;
+    }
+    let mut well = Vec::from_slice(alloc, text.as_slice())?;
+    well.extend_from_slice(b"pause 0 110 1\nend\n")?;
+    assert_eq!(rt; refusal(alloc, well.as_slice())?, Some((106, 9)));
+    let mut ill = Vec::from_slice(alloc, text.as_slice())?;
+    ill.extend_from_slice(b"pause 0 109 1\nend\n")?;
+    assert_eq!(rt; refusal(alloc, ill.as_slice())?, Some((106, 10)));
+    text.extend_from_slice(b"end\n")?;
+    assert_eq!(rt; refusal(alloc, text.as_slice())?, None);
+    Ok(())
+}
+
+#[test]
+fn refuses_every_shorter_prefix(rt: HostRuntime) -> Result<(), Fail> {
+    // From each length on, up to the next one, the line and the cause.
+    let table: [(usize, u32, u8); 34] = [
+        (0, 1, 11),
+        (1, 1, 1),
+        (4, 2, 11),
+        (6, 2, 2),
+        (15, 3, 11),
+        (17, 3, 3),
+        (22, 4, 11),
+        (24, 4, 4),
+        (31, 5, 11),
+        (37, 5, 6),
+        (42, 5, 5),
+        (44, 6, 11),
+        (46, 6, 6),
+        (51, 6, 8),
+        (52, 7, 11),
+        (54, 7, 6),
+        (57, 7, 7),
+        (58, 8, 11),
+        (60, 8, 6),
+        (67, 8, 8),
+        (68, 9, 11),
+        (70, 9, 6),
+        (75, 9, 5),
+        (77, 10, 11),
+        (79, 10, 6),
+        (84, 10, 8),
+        (85, 11, 11),
+        (87, 11, 6),
+        (93, 11, 8),
+        (94, 12, 11),
+        (96, 12, 6),
+        (103, 12, 8),
+        (104, 13, 11),
+        (106, 13, 6),
+    ];
+    let alloc = rt.alloc();
+    let bytes = TWO_CLIENTS.as_bytes();
+    let mut wanted = None;
+    for length in 0..108 {
+        for (from, line, cause) in table {
+            if from == length {
+                wanted = Some((line, cause));
+            }
+        }
+        let told = refusal(alloc, &bytes[..length])?;
+        assert_eq!(rt; told, wanted, "the first {length} bytes");
+    }
+    assert_eq!(rt; refusal(alloc, &bytes[..108])?, None);
+    assert_eq!(rt; refusal(alloc, bytes)?, None);
+    Ok(())
+}
+
+/// The client, the number and how many rows of its batch follow, of each row of a job.
+fn rows(alloc: Global, job: &Job) -> Result<Vec<(u8, u16, u8)>, Fail> {
+    let mut rows = Vec::new(alloc);
+    for row in job.config.rows.as_slice() {
+        rows.push((row.client(), row.number(), row.rest()))?;
+    }
+    Ok(rows)
+}
+
+#[test]
+fn cuts_batches(rt: HostRuntime) -> Result<(), Fail> {
+    let alloc = rt.alloc();
+    let job = read(alloc, TWO_CLIENTS.as_bytes())?;
+    let alone = [
+        (0, 1, 0),
+        (0, 2, 0),
+        (0, 3, 0),
+        (1, 1, 0),
+        (1, 2, 0),
+        (1, 3, 0),
+    ];
+    assert_eq!(rt; rows(alloc, &job)?.as_slice(), alone.as_slice());
+    assert_eq!(rt;
+        (job.config.version, job.config.width, job.config.replicas),
+        (1, 1, 3)
+    );
+    assert_eq!(rt; (job.config.ring, job.config.budget), (8, 20_000));
+    let text =
+        "mu 2\nreplicas 3\nring 8\nbudget 20000\nbatch 2\nclient 0\nput a 5\nget a\ncas a 5 6\nclient 1\nput b 7\nswap a 9\nend\n";
+    let job = read(alloc, text.as_bytes())?;
+    let pairs = [(0, 1, 1), (0, 2, 0), (0, 3, 0), (1, 1, 1), (1, 2, 0)];
+    assert_eq!(rt; rows(alloc, &job)?.as_slice(), pairs.as_slice());
+    assert_eq!(rt; (job.config.version, job.config.width), (2, 2));
+    Ok(())
+}
+
+#[test]
+fn orders_the_script(rt: HostRuntime) -> Result<(), Fail> {
+    let text =
+        "mu 1\nreplicas 3\nring 8\nbudget 100\nscript\nstop 2 5\npause 1 9 3\nstop 0 7\npause 0 4 2\npause 1 10 1\nend\n";
+    let job = read(rt.alloc(), text.as_bytes())?;
+    let mut stops = job
+        .script
+        .stops
+        .as_slice()
+        .iter()
+        .map(|stop| (stop.replica, stop.steps));
+    assert_eq!(rt;
+        (stops.next(), stops.next(), stops.next()),
+        (Some((0, 7)), Some((2, 5)), None)
+    );
+    let pauses = job.script.pauses.as_slice();
+    let mut told = pauses
+        .iter()
+        .map(|pause| (pause.replica, pause.steps, pause.rounds));
+    assert_eq!(rt;
+        (told.next(), told.next()),
+        (Some((0, 4, 2)), Some((1, 9, 3)))
+    );
+    assert_eq!(rt; (told.next(), told.next()), (Some((1, 10, 1)), None));
+    Ok(())
+}

@@ -1,0 +1,231 @@
+-- What a row says of the command that it spells.
+use Rattle.std.proofs.Common.{◌≡◌, ◌↔◌, Option, None, Some, subst, add-zero, ℕ, zero, suc, ◌+◌, ◌*◌, ◌<◌, ◌≤◌, ◌/◌, ◌%◌, List, [], ◌∷◌, length, map, take, drop, get_or, refl, sym, ap, ◌∙◌, arith, length-take, get_or-take}
+use Rattle.std.specs.Option.{IsSome, IfSome}
+use Rattle.std.proofs.lemmas.Bool.{false≢true}
+use Rattle.std.specs.Int.{w64, to_le_bytes}
+use Rattle.std.specs.List.{range_with_len, slice_range}
+use Rattle.std.proofs.lemmas.Grind.{common_steps, same_number_lists}
+use Rattle.std.proofs.lemmas.List.{length-take-le}
+use Rattle.std.proofs.lemmas.List.FromFn.{length-map-range_with_len, get_or-map-range_with_len}
+use Rattle.std.proofs.lemmas.Nat.{le_bytes_8}
+use Rattle.kv_store.specs.Commands.{Request, HasShortTexts, IsAllowed}
+use Rattle.kv_store.specs.Words.{IsWord, IsText}
+use Rattle.kv_store.specs.declared.command.Op.{Op}
+use Rattle.kv_store.specs.declared.command.Op.TheVariants.{Put, Get, Del, Swap, Cas}
+use Rattle.mu_rows.specs.Rows.{word_of, code_of, key_of, first_text, second_text, head_word, text_word, spelled, HasWords, IsCommand}
+use Rattle.mu_rows.proofs.Bytes.{word_of-bytes}
+
+-- visible bytes are bytes
+below : (most : ℕ) (bytes : List ℕ) → IsWord most bytes → (i : ℕ) → get_or bytes i 0 < 256
+below most bytes word i = grind (arith, common_steps, word.visible i 0)
+
+below-map : (f : ℕ → ℕ) → ((i : ℕ) → f i < 256) → (xs : List ℕ) (i : ℕ) → get_or (map f xs) i 0 < 256
+below-map f small [] i = omega arith
+below-map f small (x ∷ xs) zero = small x
+below-map f small (x ∷ xs) (suc i) = below-map f small xs i
+
+-- the bytes of a word are those that it was made of
+word-back : (bytes : List ℕ) (j m : ℕ) → ((i : ℕ) → get_or bytes i 0 < 256) → m < 8
+    → get_or (to_le_bytes w64 (word_of bytes j)) m 0 ≡ get_or bytes (8 * j + m) 0
+word-back bytes j m small lt =
+    let f : ℕ → ℕ = λ i. get_or bytes (8 * j + i) 0 in
+    ap (λ l. get_or l m 0) (le_bytes_8 (map f (range_with_len 0 8)) (word_of bytes j) refl (below-map f (λ i. small (8 * j + i)) (range_with_len 0 8)) (omega (arith, word_of-bytes bytes j, ap (λ i. get_or bytes i 0) (add-zero (8 * j)))))
+    ∙ get_or-map-range_with_len f 0 8 m m 0 lt (omega arith)
+
+byte-back : (bytes : List ℕ) → ((i : ℕ) → get_or bytes i 0 < 256) → (i : ℕ)
+    → get_or (to_le_bytes w64 (word_of bytes (i / 8))) (i % 8) 0 ≡ get_or bytes i 0
+byte-back bytes small i =
+    word-back bytes (i / 8) (i % 8) small (omega arith) ∙ ap (λ k. get_or bytes k 0) (omega arith)
+
+-- bytes are read back where their words stand
+pub bytes-back : (bytes words back : List ℕ) (count : ℕ) → IsText bytes → length bytes ≤ 8 * count
+    → take count words ≡ map (word_of bytes) (range_with_len 0 count) → length back ≡ 64
+    → ((i : ℕ) → i < 64 → i / 8 < length words → get_or back i 0 ≡ get_or (to_le_bytes w64 (get_or words (i / 8) 0)) (i % 8) 0)
+    → take (length bytes) back ≡ bytes
+bytes-back bytes words back count text fits same long reads =
+    let small = below 64 bytes text in
+    let words_long : count ≤ length words = omega (arith, sym (length-take count words) ∙ ap length same ∙ length-map-range_with_len (word_of bytes) 0 count) in
+    let word : (j : ℕ) → j < count → get_or words j 0 ≡ word_of bytes j = λ j lt. sym (get_or-take count words j 0 lt) ∙ ap (λ l. get_or l j 0) same ∙ get_or-map-range_with_len (word_of bytes) 0 count j j 0 lt (omega arith) in
+    let all : length (take (length bytes) back) ≡ length bytes = length-take-le (length bytes) back (omega (arith, text.fits)) in
+    same_number_lists (take (length bytes) back) bytes all
+    (λ i lt. let within : i < length bytes = omega arith in
+    get_or-take (length bytes) back i 0 within
+    ∙ reads i (omega (arith, text.fits)) (omega arith)
+    ∙ ap (λ w. get_or (to_le_bytes w64 w) (i % 8) 0) (word (i / 8) (omega arith))
+    ∙ byte-back bytes small i)
+
+-- words of bytes of one length tell them
+words-tell : (most : ℕ) (a b : List ℕ) (count : ℕ) → IsWord most a → IsWord most b → length a ≡ length b → length a ≤ 8 * count
+    → map (word_of a) (range_with_len 0 count) ≡ map (word_of b) (range_with_len 0 count) → a ≡ b
+words-tell most a b count word_a word_b long fits same =
+    let at : (j : ℕ) → j < count → word_of a j ≡ word_of b j = λ j lt. sym (get_or-map-range_with_len (word_of a) 0 count j j 0 lt (omega arith)) ∙ ap (λ l. get_or l j 0) same ∙ get_or-map-range_with_len (word_of b) 0 count j j 0 lt (omega arith) in
+    same_number_lists a b long
+    (λ i lt. sym (byte-back a (below most a word_a) i)
+    ∙ ap (λ w. get_or (to_le_bytes w64 w) (i % 8) 0) (at (i / 8) (omega arith))
+    ∙ byte-back b (below most b word_b) i)
+
+-- what the fields of a head word hold
+record Small (op : Op) : Type 0 where
+  pub code : code_of op ≤ 5
+  pub key : IsWord 24 (key_of op)
+  pub first : length (first_text op) ≤ 64
+  pub second : length (second_text op) ≤ 64
+
+small : (op : Op) → HasWords op → Small op
+small (Put key text) h = record { code = omega arith; key = h.0; first = h.1.fits; second = omega arith }
+small (Get key) h = record { code = omega arith; key = h; first = omega arith; second = omega arith }
+small (Del key) h = record { code = omega arith; key = h; first = omega arith; second = omega arith }
+small (Swap key text) h = record { code = omega arith; key = h.0; first = h.1.fits; second = omega arith }
+small (Cas key old new) h = record { code = omega arith; key = h.0; first = h.1.fits; second = h.2.fits }
+
+-- the fields of the head word of a command
+pub record Fields (head : ℕ) (r : Request) (k : ℕ) : Type 0 where
+  pub code : head % 256 ≡ code_of r.op
+  pub client : head / 256 % 256 ≡ r.client
+  pub number : head / 65536 % 65536 ≡ r.number
+  pub key : head / 4294967296 % 256 ≡ length (key_of r.op)
+  pub first : head / 1099511627776 % 256 ≡ length (first_text r.op)
+  pub second : head / 281474976710656 % 256 ≡ length (second_text r.op)
+  pub rest : head / 72057594037927936 ≡ k
+
+pub fields : (head : ℕ) (r : Request) (k : ℕ) → IsCommand r → k ≤ 3 → head ≡ head_word r k → Fields head r k
+fields head r k is few same =
+    let s = small r.op is.words in
+    let code : code_of r.op ≤ 5 = s.code in
+    let client : r.client ≤ 15 = is.allowed.client_known in
+    let number : r.number ≤ 1500 = is.allowed.number_fits in
+    let key : length (key_of r.op) ≤ 24 = s.key.fits in
+    let first : length (first_text r.op) ≤ 64 = s.first in
+    let second : length (second_text r.op) ≤ 64 = s.second in
+    record {
+      code = omega arith;
+      client = omega arith;
+      number = omega arith;
+      key = omega arith;
+      first = omega arith;
+      second = omega arith;
+      rest = omega arith;
+    }
+
+-- a request of these parts
+abbrev the-request : ℕ → ℕ → Op → Request
+the-request client number op = record { client = client; number = number; op = op }
+
+one-request : {a b x y : ℕ} {o p : Op} → a ≡ x → b ≡ y → o ≡ p
+    → the-request a b o ≡ the-request x y p
+one-request {a} {b} {x} {y} {o} {p} e f g = ap (λ a. the-request a b o) e ∙ ap (λ b. the-request x b o) f ∙ ap (the-request x y) g
+
+-- the words of the texts of an operation
+abbrev texts : Op → List ℕ
+texts op = map (text_word op) (range_with_len 0 8)
+
+-- a text stands at the front of words
+pub record Stands (words text : List ℕ) : Type 0 where
+  pub count : ℕ
+  pub enough : length text ≤ 8 * count
+  pub same : take count words ≡ map (word_of text) (range_with_len 0 count)
+
+first-stands : (op : Op) → HasWords op → HasShortTexts op → IsText (first_text op) → Stands (texts op) (first_text op)
+first-stands (Put key text) words short is = record { count = 8; enough = omega (arith, is.fits); same = refl }
+first-stands (Get key) words short is = absurd (omega (arith, is.some))
+first-stands (Del key) words short is = absurd (omega (arith, is.some))
+first-stands (Swap key text) words short is = record { count = 8; enough = omega (arith, is.fits); same = refl }
+first-stands (Cas key old new) words short is = record { count = 4; enough = omega (arith, short.0); same = refl }
+
+second-stands : (op : Op) → HasWords op → HasShortTexts op → IsText (second_text op) → Stands (drop 4 (texts op)) (second_text op)
+second-stands (Put key text) words short is = absurd (omega (arith, is.some))
+second-stands (Get key) words short is = absurd (omega (arith, is.some))
+second-stands (Del key) words short is = absurd (omega (arith, is.some))
+second-stands (Swap key text) words short is = absurd (omega (arith, is.some))
+second-stands (Cas key old new) words short is = record { count = 4; enough = omega (arith, short.1); same = refl }
+
+-- the key and the texts of a command stand in its row
+pub key-in-row : (words : List ℕ) (r : Request) (k : ℕ) → IsCommand r → words ≡ spelled r k → Stands (take 3 (drop 1 words)) (key_of r.op)
+key-in-row words r k is same = record {
+  count = 3;
+  enough = omega (arith, (small r.op is.words).key.fits);
+  same = ap (λ l. take 3 (take 3 (drop 1 l))) same;
+}
+
+pub first-in-row : (words : List ℕ) (r : Request) (k : ℕ) → IsCommand r → words ≡ spelled r k → IsText (first_text r.op)
+    → Stands (take 8 (drop 4 words)) (first_text r.op)
+first-in-row words r k is same text =
+    subst (λ l. Stands l (first_text r.op)) (sym (ap (λ l. take 8 (drop 4 l)) same)) (first-stands r.op is.words is.allowed.short_texts text)
+
+pub second-in-row : (words : List ℕ) (r : Request) (k : ℕ) → IsCommand r → words ≡ spelled r k → IsText (second_text r.op)
+    → Stands (take 4 (drop 8 words)) (second_text r.op)
+second-in-row words r k is same text =
+    subst (λ l. Stands l (second_text r.op)) (sym (ap (λ l. take 4 (drop 8 l)) same)) (second-stands r.op is.words is.allowed.short_texts text)
+
+pub key-is-key : (op : Op) → HasWords op → IsWord 24 (key_of op)
+key-is-key op words = (small op words).key
+
+pub key-is-text : (op : Op) → HasWords op → IsText (key_of op)
+key-is-text op words =
+    let key = (small op words).key in
+    record { some = key.some; fits = omega (arith, key.fits); visible = key.visible }
+
+-- a range at the front is the front
+pub front : (bytes part word : List ℕ) (len : ℕ) → part ≡ slice_range bytes 0 len → len ≡ length word → take (length word) bytes ≡ word → part ≡ word
+front bytes part word len is long same = is ∙ ap (λ n. take n bytes) (omega (arith, long)) ∙ same
+
+-- what a maker of words answers, of bytes that are the word
+pub made : (result : Option (List ℕ)) (most : ℕ) (bytes word : List ℕ) → (IsSome result ↔ IsWord most bytes) → IfSome result (λ w. w ≡ bytes)
+    → bytes ≡ word → IsWord most word → result ≡ Some word
+made (Some w) most bytes word allowed same is fits = ap Some (same ∙ is)
+made None most bytes word allowed same is fits = absurd (false≢true (allowed.1 (subst (IsWord most) (sym is) fits)))
+
+-- what the maker of commands answers, of what a command has
+pub made-command : (result : Option Request) (client number : ℕ) (op : Op) (r : Request) → (IsSome result ↔ IsAllowed client number op)
+    → IfSome result (λ x. x ≡ record { client = client; number = number; op = op }) → client ≡ r.client → number ≡ r.number → op ≡ r.op
+    → IsAllowed r.client r.number r.op → result ≡ Some r
+made-command (Some x) client number op r allowed same c n o is = ap Some (same ∙ one-request c n o)
+made-command None client number op r allowed same c n o is = absurd (false≢true (allowed.1 (rw (c, n, o) is)))
+
+-- which operation has a code, a key and texts
+pub put-from : (op : Op) (key text : List ℕ) → code_of op ≡ 1 → HasWords op → key ≡ key_of op
+    → (IsText (first_text op) → text ≡ first_text op) → Put key text ≡ op
+put-from (Put k t) key text code words e f = ap (λ k. Put k text) e ∙ ap (Put k) (f words.1)
+put-from op key text code words e f = absurd (omega arith)
+
+pub swap-from : (op : Op) (key text : List ℕ) → code_of op ≡ 4 → HasWords op → key ≡ key_of op
+    → (IsText (first_text op) → text ≡ first_text op) → Swap key text ≡ op
+swap-from (Swap k t) key text code words e f = ap (λ k. Swap k text) e ∙ ap (Swap k) (f words.1)
+swap-from op key text code words e f = absurd (omega arith)
+
+pub cas-from : (op : Op) (key old new : List ℕ) → code_of op ≡ 5 → HasWords op → key ≡ key_of op
+    → (IsText (first_text op) → old ≡ first_text op) → (IsText (second_text op) → new ≡ second_text op) → Cas key old new ≡ op
+cas-from (Cas k o n) key old new code words e f g = ap (λ k. Cas k old new) e ∙ ap (λ o. Cas k o new) (f words.1) ∙ ap (Cas k o) (g words.2)
+cas-from op key old new code words e f g = absurd (omega arith)
+
+pub has-second : (op : Op) → code_of op ≡ 5 → HasWords op → IsText (second_text op)
+has-second (Cas k o n) code words = words.2
+has-second op code words = absurd (omega arith)
+
+-- operations with the same words are the same
+same-op : (o p : Op) → HasWords o → HasWords p → HasShortTexts o → HasShortTexts p → code_of o ≡ code_of p
+    → length (key_of o) ≡ length (key_of p) → length (first_text o) ≡ length (first_text p) → length (second_text o) ≡ length (second_text p)
+    → map (word_of (key_of o)) (range_with_len 0 3) ≡ map (word_of (key_of p)) (range_with_len 0 3) → texts o ≡ texts p → o ≡ p
+same-op (Put k t) (Put l u) wo wp so sp c kl fl sl ks ts =
+    ap (λ k. Put k t) (words-tell 24 k l 3 wo.0 wp.0 kl (omega (arith, wo.0.fits)) ks)
+    ∙ ap (Put l) (words-tell 64 t u 8 wo.1 wp.1 fl (omega (arith, wo.1.fits)) ts)
+same-op (Get k) (Get l) wo wp so sp c kl fl sl ks ts = ap Get (words-tell 24 k l 3 wo wp kl (omega (arith, wo.fits)) ks)
+same-op (Del k) (Del l) wo wp so sp c kl fl sl ks ts = ap Del (words-tell 24 k l 3 wo wp kl (omega (arith, wo.fits)) ks)
+same-op (Swap k t) (Swap l u) wo wp so sp c kl fl sl ks ts =
+    ap (λ k. Swap k t) (words-tell 24 k l 3 wo.0 wp.0 kl (omega (arith, wo.0.fits)) ks)
+    ∙ ap (Swap l) (words-tell 64 t u 8 wo.1 wp.1 fl (omega (arith, wo.1.fits)) ts)
+same-op (Cas k o n) (Cas l p q) wo wp so sp c kl fl sl ks ts =
+    ap (λ k. Cas k o n) (words-tell 24 k l 3 wo.0 wp.0 kl (omega (arith, wo.0.fits)) ks)
+    ∙ ap (λ o. Cas l o n) (words-tell 64 o p 4 wo.1 wp.1 fl (omega (arith, so.0)) (ap (take 4) ts))
+    ∙ ap (Cas l p) (words-tell 64 n q 4 wo.2 wp.2 sl (omega (arith, so.1)) (ap (drop 4) ts))
+same-op o p wo wp so sp c kl fl sl ks ts = absurd (omega arith)
+
+-- commands with one row are the same
+pub same-row : (c d : Request) (j k : ℕ) → IsCommand c → IsCommand d → j ≤ 3 → k ≤ 3 → spelled c j ≡ spelled d k → (c ≡ d) × (j ≡ k)
+same-row c d j k is_c is_d few_j few_k same =
+    let f = fields (head_word c j) c j is_c few_j refl in
+    let g = fields (head_word c j) d k is_d few_k (ap (λ l. get_or l 0 0) same) in
+    let op = same-op c.op d.op is_c.words is_d.words is_c.allowed.short_texts is_d.allowed.short_texts
+    (sym f.code ∙ g.code) (sym f.key ∙ g.key) (sym f.first ∙ g.first) (sym f.second ∙ g.second)
+    (ap (λ l. take 3 (drop 1 l)) same) (ap (drop 4) same) in
+    (one-request (sym f.client ∙ g.client) (sym f.number ∙ g.number) op, sym f.rest ∙ g.rest)
