@@ -1,5 +1,5 @@
 #!/usr/bin/env python3
-"""Writes one long legal trace in the form of crates/mu_judge, to measure how fast it is judged.
+"""Writes one long legal trace, to measure how fast `mu check` judges it.
 
     tools/long_trace.py [TURNS [COMMANDS]] > LONG
 
@@ -12,11 +12,29 @@ nothing to do, the replica beats. The wanted output is `legal` and the number of
 
 import sys
 
-from judged_table import VERBS, row_words
-
 REPLICAS, RING, BUDGET, CLIENTS = 7, 64, 131071, 4
-CODE = {verb: code for code, verb in enumerate(VERBS)}
-DONE, ENTERED, EMPTY, MIN, PLACE = (0,), (2,), (6,), (1,), (2,)
+OPERATIONS = {"put": 1, "get": 2, "del": 3, "swap": 4, "cas": 5}
+DONE, ENTERED, EMPTY, PAST = ("done",), ("entered",), ("empty",), ("past",)
+MIN, PLACE = ("min",), ("place",)
+
+
+def word_at(text, index):
+    """One of the words of a text: eight bytes each, the first in the lowest place."""
+    return int.from_bytes(text[8 * index:8 * index + 8], "little")
+
+
+def row_words(client, number, words):
+    """The twelve words of the row of a command that is a batch of its own."""
+    operation, key, *texts = words
+    first, second = ([text.encode() for text in texts] + [b"", b""])[:2]
+    head = OPERATIONS[operation] | client << 8 | number << 16
+    for place, length in zip((32, 40, 48), (len(key), len(first), len(second))):
+        head |= length << place
+    if operation == "cas":
+        values = [word_at(first, k) for k in range(4)] + [word_at(second, k) for k in range(4)]
+    else:
+        values = [word_at(first, k) for k in range(8)]
+    return [head] + [word_at(key.encode(), k) for k in range(3)] + values
 
 
 def command(index):
@@ -31,21 +49,21 @@ class Region:
     """What one region holds."""
 
     def __init__(self):
-        self.owner, self.grant, self.closing, self.target = None, 0, False, (0,)
+        self.owner, self.grant, self.closing, self.target = "none", 0, False, ("none",)
         self.minimum = self.fuo = self.head = self.beats = 0
         self.asks = [0] * REPLICAS
         self.log, self.rows = [], {}
 
     def fence(self):
-        """The fence as numbers."""
-        owner = (0,) if self.owner is None else (1, self.owner)
-        return owner + (self.grant, int(self.closing)) + self.target
+        """The fence as an answer."""
+        state = "closing" if self.closing else "open"
+        return ("fence", self.owner, self.grant, state) + self.target
 
     def look(self, position):
         """What a look at a position finds."""
         if len(self.log) > position + RING:
-            return (8,)
-        return (7,) + self.log[position] if position < len(self.log) else EMPTY
+            return PAST
+        return ("entry",) + self.log[position] if position < len(self.log) else EMPTY
 
 
 class World:
@@ -56,9 +74,9 @@ class World:
         self.events = []
 
     def step(self, by, verb, *numbers):
-        """Makes a step and answers what it finds, as numbers."""
+        """Makes a step and answers what it finds, in words."""
         answer = self.made(by, verb, numbers)
-        self.events.append(" ".join(map(str, (by, CODE[verb]) + numbers + answer)))
+        self.events.append(" ".join(map(str, (by, verb) + numbers + ("=",) + answer)))
         return answer
 
     def made(self, by, verb, numbers):
@@ -68,7 +86,7 @@ class World:
             return self.made_at_home(own, verb, numbers)
         if verb == "readrow":
             value, word = numbers
-            return 5, self.regions[value // 4096].rows.get((value % 4096, word), 0)
+            return (self.regions[value // 4096].rows.get((value % 4096, word), 0),)
         region = self.regions[numbers[0]]
         if verb == "ask":
             region.asks[by] += 1
@@ -83,24 +101,24 @@ class World:
         elif verb == "raisefuo":
             region.fuo = max(region.fuo, numbers[1])
         elif verb == "fence":
-            return (4,) + region.fence()
+            return region.fence()
         elif verb == "look":
             return region.look(numbers[1])
         else:
-            return 5, {"min": region.minimum, "fuo": region.fuo, "head": region.head,
-                       "readbeat": region.beats}[verb]
+            return ({"min": region.minimum, "fuo": region.fuo, "head": region.head,
+                     "readbeat": region.beats}[verb],)
         return DONE
 
     def made_at_home(self, own, verb, numbers):
         """The same for a step in the own region."""
         if verb == "readask":
-            return 5, own.asks[numbers[0]]
+            return (own.asks[numbers[0]],)
         if verb == "close":
             before = own.fence()
             own.closing = True
-            return (4,) + before
+            return before
         if verb == "grant":
-            own.owner, own.closing, own.target = numbers[0], False, (0,)
+            own.owner, own.closing, own.target = numbers[0], False, ("none",)
             own.grant += 1
         elif verb == "writerow":
             own.rows[numbers[:2]] = numbers[2]
@@ -129,7 +147,7 @@ class Replica:
 
     def read(self, verb, *numbers):
         """Makes a step that finds a number."""
-        return self.step(verb, *numbers)[1]
+        return self.step(verb, *numbers)[0]
 
     def rounds(self):
         """The even turns: each `yield` ends one."""
@@ -178,7 +196,7 @@ class Replica:
         yield
         filled = False
         if next_position + 1 < self.total:
-            filled = self.step("look", self.me, next_position + 1)[0] == 7
+            filled = self.step("look", self.me, next_position + 1)[0] == "entry"
         else:
             self.step("beat")
         yield
@@ -226,7 +244,7 @@ def lead(replica, rows):
     while granted < REPLICAS:
         granted = 0
         for p in regions:
-            granted += replica.step("fence", p) == (4, 1, 0, 1, 0, 0)
+            granted += replica.step("fence", p) == ("fence", 0, 1, "open", "none")
             yield
     for p in regions:
         replica.step("min", p)
@@ -275,7 +293,8 @@ def committed(replica, position, words):
 
 def main():
     turns, total = ([int(word) for word in sys.argv[1:]] + [120887, 1500][len(sys.argv) - 1:])[:2]
-    rows = [row_words(j % CLIENTS, j // CLIENTS + 1, command(j), 0) for j in range(total)]
+    each = -(-total // CLIENTS)
+    rows = [row_words(j // each, j % each + 1, command(j)) for j in range(total)]
     world = World()
     replicas = [Replica(world, r, total) for r in range(REPLICAS)]
     leader = lead(replicas[0], rows)
@@ -288,12 +307,12 @@ def main():
                 replica.step("beat")
     told = f"{len(replicas[0].known)} put, {min(r.applied for r in replicas)} applied by all"
     print(told, file=sys.stderr)
-    out = sys.stdout
-    out.write(f"1\n1 1 {REPLICAS} {RING} {BUDGET} {len(rows)}\n")
-    for words in rows:
-        out.write(" ".join(map(str, words)) + "\n")
-    out.write(f"{len(world.events)}\n")
-    out.write("\n".join(world.events) + "\n")
+    lines = ["mu 1", f"replicas {REPLICAS}", f"ring {RING}", f"budget {BUDGET}"]
+    for j in range(total):
+        if j % each == 0:
+            lines.append(f"client {j // each}")
+        lines.append(" ".join(command(j)))
+    sys.stdout.write("\n".join(lines + ["end"] + world.events + ["end"]) + "\n")
 
 
 if __name__ == "__main__":
