@@ -1,5 +1,5 @@
 //! Reads a whole input and writes a whole output, over any source and sink.
-ghost use Rattle.std.specs.Prelude.{◌≡◌, ◌≢◌, ◌+◌, ◌-◌, ◌<◌, ◌≤◌, [], length, take, drop, Some, IfErr, IfOk, IfSome, OnErr, OnOk};
+ghost use Rattle.std.specs.Prelude.{◌≡◌, ◌≢◌, ◌+◌, ◌-◌, ◌<◌, ◌≤◌, [], ◌++◌, length, take, drop, vec_capacity, Some, IfErr, IfOk, IfSome, OnErr, OnOk};
 ghost use Rattle.std.specs.Io.KnownBytes.{Appends, Consumes, IsAtEnd, Keeps};
 ghost use Rattle.mu_io.specs.Faults.{Rose};
 ghost use Rattle.mu_io.specs.Whole.{OnFault, OnNoMemory, OnTooLong, TakesAtMost};
@@ -43,7 +43,7 @@ pub enum ReadEnd {
     Fault,
     /// There were more bytes than the limit.
     TooLong,
-    /// There was no memory for the limit and one byte more.
+    /// There was no memory for the limit and one byte more, and a piece.
     NoMemory,
 }
 
@@ -60,12 +60,15 @@ impl fmt::Display for ReadEnd {
 impl Error for ReadEnd {}
 
 /// Reads to the end of the input, which has at most `limit` bytes, in pieces of at most [`PIECE`].
+/// Takes memory for `limit + 1` bytes and one piece before the first read, and touches only what
+/// comes.
 ///
 /// # Errors
 ///
-/// `Fault` where the source counted a fault: up to `limit` bytes may have been taken then. `TooLong` where
-/// more than `limit` bytes came: the first `limit + 1` of them were taken. `NoMemory` where no
-/// memory was given for `limit + 1` bytes, or that number is above `usize::MAX`: nothing was read.
+/// `Fault` where the source counted a fault: up to `limit` bytes may have been taken then.
+/// `TooLong` where more than `limit` bytes came: the first `limit + 1` of them were taken.
+/// `NoMemory` where no memory was given for `limit + 1` bytes and a piece, or `limit + 1` is above
+/// `usize::MAX`: nothing was read.
 pub fn read_all<S: Source>(alloc: Global, source: &mut S, limit: usize) -> Result<Bytes, ReadEnd>
     ensures within_limit { IfOk result (λ bytes. length bytes ≤ limit) }
     ensures whole { IfOk result (λ bytes. IfSome (S.left source.old) (λ left. left ≡ bytes)) }
@@ -87,60 +90,82 @@ pub fn read_all<S: Source>(alloc: Global, source: &mut S, limit: usize) -> Resul
     let Some(size) = limit.checked_add(1) else {
         return Err(ReadEnd::NoMemory);
     };
-    let Ok(mut buffer) = vec![in alloc; 0u8; size] else {
+    let Ok(mut buffer) = Vec::with_capacity(alloc, size) else {
         return Err(ReadEnd::NoMemory);
     };
-    let Ok(filled) = fill(source, buffer.as_mut_slice()) else {
+    let Ok(mut piece) = vec![in alloc; 0u8; size.min(PIECE)] else {
+        return Err(ReadEnd::NoMemory);
+    };
+    let Ok(filled) = fill(source, &mut buffer, size, piece.as_mut_slice()) else {
         return Err(ReadEnd::Fault);
     };
     if filled > limit {
         return Err(ReadEnd::TooLong);
     }
-    buffer.truncate(filled);
     Ok(Bytes { buffer })
 }
 
-/// Reads until `buffer` is full or the input ends, and answers how many bytes came.
-fn fill<S: Source>(source: &mut S, buffer: &mut [u8]) -> Result<usize, Failed>
-    ensures at_most { IfOk result (λ n. n ≤ length buffer.new) }
-    ensures bytes { IfOk result (λ n.
-        Consumes (S.left source.old) (S.left source.new) (take n buffer.new)) }
-    ensures whole { IfOk result (λ n. n < length buffer.new
-        → IfSome (S.left source.old) (λ left. left ≡ take n buffer.new)) }
-    ensures at_end { IfOk result (λ n. n < length buffer.new
+/// Reads by way of `piece` until the empty `buffer` holds `size` bytes or the input ends, and
+/// answers how many bytes came.
+fn fill<S: Source>(
+    source: &mut S,
+    buffer: &mut Vec<u8>,
+    size: usize,
+    piece: &mut [u8],
+) -> Result<usize, Failed>
+    requires empty { buffer.old.items ≡ [] }
+    requires room { size ≤ vec_capacity buffer.old }
+    requires piece { 0 < length piece.old }
+    ensures count { IfOk result (λ n. n ≡ length buffer.new.items) }
+    ensures at_most { IfOk result (λ n. n ≤ size) }
+    ensures bytes { OnOk result
+        (Consumes (S.left source.old) (S.left source.new) buffer.new.items) }
+    ensures whole { IfOk result (λ n. n < size
+        → IfSome (S.left source.old) (λ left. left ≡ buffer.new.items)) }
+    ensures at_end { IfOk result (λ n. n < size
         → IfSome (S.left source.old) (λ _. S.left source.new ≡ Some [])) }
     ensures same_faults { OnOk result (S.faults source.new ≡ S.faults source.old) }
     ensures failed { OnErr result (Rose (S.faults source.old) (S.faults source.new)) }
     ensures failed_taken { OnErr result
-        (TakesAtMost (S.left source.old) (S.left source.new) (length buffer.old - 1)) }
+        (TakesAtMost (S.left source.old) (S.left source.new) (size - 1)) }
     ensures never_falls { S.faults source.old ≤ S.faults source.new }
 {
-    let mut filled = 0;
-    while filled < buffer.len() {
-        let count = read_at(source, buffer, filled)?;
+    while buffer.len() < size {
+        let count = read_on(source, buffer, size - buffer.len(), piece)?;
         if count == 0 {
-            return Ok(filled);
+            return Ok(buffer.len());
         }
-        filled += count;
     }
-    Ok(filled)
+    Ok(buffer.len())
 }
 
-/// Reads one piece to where `buffer` is filled so far.
-fn read_at<S: Source>(source: &mut S, buffer: &mut [u8], filled: usize) -> Result<usize, Failed>
-    requires { filled < length buffer.old }
-    ensures front { take filled buffer.new ≡ take filled buffer.old }
-    ensures fits { IfOk result (λ n. filled + n ≤ length buffer.new) }
+/// Reads one piece of at most `most` bytes, appends what came to `buffer`, which has room for it,
+/// and answers how many bytes that was.
+fn read_on<S: Source>(
+    source: &mut S,
+    buffer: &mut Vec<u8>,
+    most: usize,
+    piece: &mut [u8],
+) -> Result<usize, Failed>
+    requires some { 0 < most }
+    requires room { length buffer.old.items + most ≤ vec_capacity buffer.old }
+    requires piece { 0 < length piece.old }
+    ensures fits { IfOk result (λ n. n ≤ most) }
+    ensures capacity { vec_capacity buffer.old ≤ vec_capacity buffer.new }
+    ensures items { IfOk result (λ n. (n ≤ length piece.new)
+        × (buffer.new.items ≡ buffer.old.items ++ take n piece.new)) }
     ensures bytes { IfOk result (λ n.
-        Consumes (S.left source.old) (S.left source.new) (take n (drop filled buffer.new))) }
+        Consumes (S.left source.old) (S.left source.new) (take n piece.new)) }
     ensures end { IfOk result (λ n. n ≡ 0 → IsAtEnd (S.left source.old)) }
     ensures same_faults { OnOk result (S.faults source.new ≡ S.faults source.old) }
     ensures failed { OnErr result (Rose (S.faults source.old) (S.faults source.new)) }
     ensures kept { OnErr result (Keeps (S.left source.old) (S.left source.new)) }
     ensures never_falls { S.faults source.old ≤ S.faults source.new }
 {
-    let piece = (buffer.len() - filled).min(PIECE);
-    source.read(&mut buffer[filled..filled + piece])
+    let most = most.min(piece.len());
+    let count = source.read(&mut piece[..most])?;
+    buffer.extend_from_slice(&piece[..count]).unwrap();
+    Ok(count)
 }
 
 /// A write of a whole output that failed.
