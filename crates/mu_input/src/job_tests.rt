@@ -1,5 +1,5 @@
 //! Whole jobs, and the lines at which others leave the grammar.
-use crate::{InputEnd, Job, read};
+use crate::{InputEnd, Job, read, read_trace};
 use std::alloc::Global;
 use std::test::Fail;
 
@@ -305,5 +305,36 @@ fn orders_the_script(rt: HostRuntime) -> Result<(), Fail> {
         (Some((0, 4, 2)), Some((1, 9, 3)))
     );
     assert_eq!(rt; (told.next(), told.next()), (Some((1, 10, 1)), None));
+    Ok(())
+}
+
+/// How many events a trace has, or the line and the cause of its refusal.
+fn events(alloc: Global, bytes: &[u8]) -> Result<Result<usize, (u32, u8)>, Fail> {
+    match read_trace(alloc, bytes) {
+        Ok((_, journal)) => Ok(Ok(journal.as_slice().len())),
+        Err(InputEnd::Refused { line, cause }) => Ok(Err((line, cause))),
+        Err(InputEnd::NoMemory) => Err(Fail::from("no memory")),
+    }
+}
+
+#[test]
+fn reads_traces(rt: HostRuntime) -> Result<(), Fail> {
+    let alloc = rt.alloc();
+    for (lines, told) in [
+        ("end\nend\n", Ok(0)),
+        ("end\nend", Ok(0)),
+        ("end\n0 beat = done\n0 beat = missed\nend\n", Ok(2)),
+        ("end\n0 putslot 0 65535 8 0 = done\nend\n", Ok(1)),
+        ("end\n0 putslot 0 65536 8 0 = done\nend\n", Err((6, 13))),
+        ("end\n1 beat = done\nend\n", Err((6, 13))),
+        ("end\n\nend\n", Err((6, 13))),
+        ("end\n0 beat = done\n", Err((7, 11))),
+        ("end\n0 beat = done\nend\n0 beat = done\n", Err((8, 12))),
+        ("put a 5\nend\nend\n", Err((5, 5))),
+        ("", Err((5, 11))),
+    ] {
+        let bytes = with_head(alloc, lines)?;
+        assert_eq!(rt; events(alloc, bytes.as_slice())?, told, "{lines}");
+    }
     Ok(())
 }
