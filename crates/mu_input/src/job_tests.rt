@@ -1,5 +1,5 @@
 //! Whole jobs, and the lines at which others leave the grammar.
-use crate::{InputEnd, Job, read, read_trace};
+use crate::{InputEnd, Job, TRACE_LIMIT, read, read_trace};
 use std::alloc::Global;
 use std::test::Fail;
 
@@ -310,6 +310,9 @@ fn orders_the_script(rt: HostRuntime) -> Result<(), Fail> {
 
 /// How many events a trace has, or the line and the cause of its refusal.
 fn events(alloc: Global, bytes: &[u8]) -> Result<Result<usize, (u32, u8)>, Fail> {
+    if bytes.len() > TRACE_LIMIT {
+        return Err(Fail::from("too long"));
+    }
     match read_trace(alloc, bytes) {
         Ok((_, journal)) => Ok(Ok(journal.as_slice().len())),
         Err(InputEnd::Refused { line, cause }) => Ok(Err((line, cause))),
