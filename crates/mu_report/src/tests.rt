@@ -263,68 +263,68 @@ fn fence(owner: Option<u8>, grant: u32, closing: bool, target: Target) -> Fence 
     }
 }
 
-#[test]
-fn says_verdicts(rt: HostRuntime) -> Result<(), Fail> {
-    let wrong = [
-        (Answer::Done, "done"),
-        (Answer::Missed, "missed"),
-        (Answer::Entered, "entered"),
-        (Answer::Empty, "empty"),
-        (Answer::Past, "past"),
-        (Answer::Number(0), "0"),
-        (Answer::Number(u64::MAX), "18446744073709551615"),
+/// Answers that an event would have to have, and the lines on them.
+fn expected_answers() -> [(Answer, &'static str); 11] {
+    [
+        (Answer::Done, "illegal 24 expected done\n"),
+        (Answer::Missed, "illegal 24 expected missed\n"),
+        (Answer::Entered, "illegal 24 expected entered\n"),
+        (Answer::Empty, "illegal 24 expected empty\n"),
+        (Answer::Past, "illegal 24 expected past\n"),
+        (Answer::Number(0), "illegal 24 expected 0\n"),
+        (
+            Answer::Number(u64::MAX),
+            "illegal 24 expected 18446744073709551615\n",
+        ),
         (
             Answer::Entry {
                 number: 4_294_967_295,
                 value: 65_535,
             },
-            "entry 4294967295 65535",
+            "illegal 24 expected entry 4294967295 65535\n",
         ),
         (
             Answer::Seen(fence(None, 0, false, Target::None)),
-            "fence none 0 open none",
+            "illegal 24 expected fence none 0 open none\n",
         ),
         (
             Answer::Seen(fence(Some(0), 1, true, Target::Place(65_535))),
-            "fence 0 1 closing place 65535",
+            "illegal 24 expected fence 0 1 closing place 65535\n",
         ),
         (
             Answer::Lost(fence(Some(3), 8, false, Target::Min)),
-            "lost 3 8 open min",
+            "illegal 24 expected lost 3 8 open min\n",
         ),
-    ];
-    for (expected, words) in wrong {
-        let verdict = Verdict::Illegal {
-            index: 24,
-            cause: Wrong::WrongAnswer { expected },
-        };
-        let said = printed(
-            rt.alloc(),
-            &Said::Judged {
-                events: 26,
-                verdict,
-            },
-        )?;
-        let line = format!(in rt.alloc(); "illegal 24 expected {words}\n")?;
-        assert_eq!(rt; said.as_slice(), line.as_bytes());
-    }
-    let verdict = Verdict::Illegal {
-        index: 14,
-        cause: Wrong::NotAllowed,
-    };
-    let said = printed(
-        rt.alloc(),
+    ]
+}
+
+/// What is said of 26 events on which this is the verdict.
+fn judged(alloc: Global, verdict: Verdict) -> Result<Vec<u8>, Fail> {
+    printed(
+        alloc,
         &Said::Judged {
             events: 26,
             verdict,
         },
-    )?;
+    )
+}
+
+#[test]
+fn says_expected_answers(rt: HostRuntime) -> Result<(), Fail> {
+    for (expected, text) in expected_answers() {
+        let cause = Wrong::WrongAnswer { expected };
+        let said = judged(rt.alloc(), Verdict::Illegal { index: 24, cause })?;
+        assert_eq!(rt; said.as_slice(), text.as_bytes());
+    }
+    Ok(())
+}
+
+#[test]
+fn says_verdicts(rt: HostRuntime) -> Result<(), Fail> {
+    let cause = Wrong::NotAllowed;
+    let said = judged(rt.alloc(), Verdict::Illegal { index: 14, cause })?;
     assert_eq!(rt; said.as_slice(), b"illegal 14 not allowed\n".as_slice());
-    let legal = Said::Judged {
-        events: 26,
-        verdict: Verdict::Legal,
-    };
-    let said = printed(rt.alloc(), &legal)?;
+    let said = judged(rt.alloc(), Verdict::Legal)?;
     assert_eq!(rt; said.as_slice(), b"legal 26\n".as_slice());
     Ok(())
 }
