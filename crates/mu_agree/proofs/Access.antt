@@ -17,15 +17,12 @@ use Rattle.mu_model.specs.Leaderships.{begins_leadership, grant_for, is_first_as
 use Rattle.mu_model.specs.Legal.{IsLegalHistory, MayFollow}
 use Rattle.mu_model.specs.Regions.{fence, fence_closing, fence_grant, fence_owner, fence_target, is_close_by, is_close_of, is_drain_by, is_drain_of, is_grant_by, is_grant_of}
 use Rattle.mu_model.specs.Serving.{close_seen, drained_since_close, has_target, must_drain, names_target}
-use Rattle.mu_agree.proofs.Parts.{IsOwnTest, IsOwn, newest-part, since-part, has-part}
-use Rattle.mu_agree.proofs.Numbers.{begins-own}
+use Rattle.mu_model.proofs.Owned.{IsOwnTest, IsOwn, newest-part, since-part, has-part, begins-own}
 use Rattle.std.proofs.lemmas.List.{reverse-append, append_assoc}
 use mathlib.Core.List.{reverse}
 use Rattle.mu_agree.proofs.Entering.{slot_entered}
-use Rattle.mu_agree.proofs.Legal.{made, legal_induction}
-
-some_is : {A : Type 0} (x y : A) → Some x ≡ Some y → x ≡ y
-some_is x y e = cc
+use Rattle.mu_agree.proofs.Legal.{made, legal_induction, legal_older}
+use Rattle.mu_model.proofs.Basics.{same_some}
 
 -- what r noted of p is a grant that was given, and while it stands r is the owner
 abbrev pub NotedIs : ℕ → Option ℕ → ℕ → Option ℕ → Type 0
@@ -42,7 +39,7 @@ noting_seen : (r : ℕ) (f : Fence) → NotedIs r (grant_for r (Some f)) f.grant
 noting_seen r f g e = go (not f.closing && owner_is r f.owner) refl e
   where
     go : (t : Bool) → (not f.closing && owner_is r f.owner) ≡ t → cond t (Some f.grant) None ≡ Some g → (g ≤ f.grant) × (g ≡ f.grant → f.owner ≡ Some r)
-    go true h k = let i : f.grant ≡ g = some_is f.grant g k in (omega arith, λ _. noted_now r g f.owner (and_parts (not f.closing) (owner_is r f.owner) h).1)
+    go true h k = let i : f.grant ≡ g = same_some f.grant g k in (omega arith, λ _. noted_now r g f.owner (and_parts (not f.closing) (owner_is r f.owner) h).1)
     go false h k = cc
 
 noting_ask : (c : Config) (r p by q : ℕ) (past : List Event) → Noting r p past → (t : Bool) → is_first_ask r by (Verb.Ask q) ≡ t → Noting r p (made c past by (Verb.Ask q) ∷ past)
@@ -128,7 +125,7 @@ opened_ask c r p by q past o true h = rw h (λ t e. cc)
 opened_ask c r p by q past o false h = rw h o
 
 pub no_target : (t : Target) → Some Target.None ≡ Some t → has_target t ≡ true → ⊥
-no_target t e f = true≢false (sym f ∙ ap has_target (sym (some_is Target.None t e)))
+no_target t e f = true≢false (sym f ∙ ap has_target (sym (same_some Target.None t e)))
 
 opened_put_min : (c : Config) (r p by q b : ℕ) (past : List Event) → Opened r p past → (t : Bool) → ((by == r) && (q == p)) ≡ t → Opened r p (made c past by (Verb.PutMin q b) ∷ past)
 opened_put_min c r p by q b past o true h = rw h (λ t e f g. absurd (no_target t e f))
@@ -305,14 +302,10 @@ lands_at c p by v past h may e = absurd (true≢false (sym e))
 pub landed : (c : Config) (p : ℕ) (e : Event) (past : List Event) → IsLegalHistory c past → MayFollow c past e → is_landing p e.verb e.answer ≡ true → MayLand e.by p past
 landed c p e past h m k = held_lands c e.by p past h (lands_at c p e.by e.verb past h m.allowed.may (sym (ap (is_landing p e.verb) m.answer) ∙ k))
 
-before_that : (c : Config) (newer older : List Event) → IsLegalHistory c (newer ++ older) → IsLegalHistory c older
-before_that c [] older h = h
-before_that c (e ∷ newer) older h = before_that c newer older h.0
-
 onlys : (c : Config) (p : ℕ) (e : Event) (newer older all : List Event) → all ≡ newer ++ (e ∷ older) → IsLegalHistory c all → is_landing p e.verb e.answer ≡ true
     → (fence_owner p older ≡ Some e.by) × (has (is_drain_of p) (since (is_grant_of p) older) ≡ false)
 onlys c p e newer older all is h k =
-    let legal : IsLegalHistory c (e ∷ older) = before_that c newer (e ∷ older) (subst (IsLegalHistory c) is h) in
+    let legal : IsLegalHistory c (e ∷ older) = legal_older c newer (e ∷ older) (subst (IsLegalHistory c) is h) in
     let m = landed c p e older legal.0 legal.1 k in
     (m.by_owner, m.undrained)
 

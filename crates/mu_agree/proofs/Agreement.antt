@@ -22,14 +22,12 @@ use Rattle.mu_agree.proofs.Knowing.{Teaches, teaches, by_put, by_look}
 use Rattle.mu_agree.proofs.Landings.{at_part, look_stands}
 use Rattle.mu_agree.proofs.Early.{accepted_chosen, trusted, PutValue, copied, again, fresh, put_value}
 use Rattle.mu_agree.proofs.Late.{Base, chosen_is}
-use Rattle.mu_agree.proofs.Tame.{none_some, known_longer}
+use Rattle.mu_agree.proofs.Tame.{known_longer}
 use Rattle.mu_agree.proofs.Settled.{Late, Know}
-
-some_is : {A : Type 0} (x y : A) → Some x ≡ Some y → x ≡ y
-some_is x y e = cc
+use Rattle.mu_model.proofs.Basics.{same_some, none_some}
 
 pub get_more : (xs : List ℕ) (i v x : ℕ) → slice_get (xs ++ v ∷ []) i ≡ Some x → (slice_get xs i ≡ Some x) ⊎ ((i ≡ length xs) × (x ≡ v))
-get_more [] zero v x e = inr (refl, sym (some_is v x e))
+get_more [] zero v x e = inr (refl, sym (same_some v x e))
 get_more [] (suc i) v x e = cc
 get_more (y ∷ xs) zero v x e = inl e
 get_more (y ∷ xs) (suc i) v x e = elim (get_more xs i v x e) [ inl k ↦ inl k | inr k ↦ inr (ap suc k.0, k.1) ]
@@ -100,14 +98,14 @@ firsts_slot c r i x by q j n w past a h may s hx true hj f = rw (hx, hj) (λ e m
 
     go : (o : Option ℕ) → first_value r i (part r past) ≡ o → earlier_or (Some w) o ≡ Some f → (u : Bool) → (w == x) ≡ u → cond u true (has (λ e. value_at r i x e.by e.verb) (leadership r (part r past))) ≡ true
         → (f ≡ x) ⊎ (i < length (known c r (record { by = by; verb = Verb.PutSlot q j n w; answer = a } ∷ part r past)))
-    go None eo e true hu m = inl (sym (some_is w f e) ∙ eqb-true w x hu)
+    go None eo e true hu m = inl (sym (same_some w f e) ∙ eqb-true w x hu)
     go None eo e false hu m = absurd (put_first r i x (leadership r (part r past)) m eo)
     go (Some g) eo e false hu m = known_more c r i f x (record { by = by; verb = Verb.PutSlot q j n w; answer = a }) (part r past) (s f (eo ∙ e) m)
     go (Some g) eo e true hu m = from at
       where
         from : PutValue c r i n w past → (f ≡ x) ⊎ (i < length (known c r (record { by = by; verb = Verb.PutSlot q j n w; answer = a } ∷ part r past)))
         from (copied k) = known_more c r i f x (record { by = by; verb = Verb.PutSlot q j n w; answer = a }) (part r past) (inr (slice_get_within (known c r (part r past)) i w k))
-        from (again o f1 nx jn) = inl (some_is f w (sym e ∙ sym eo ∙ f1) ∙ eqb-true w x hu)
+        from (again o f1 nx jn) = inl (same_some f w (sym e ∙ sym eo ∙ f1) ∙ eqb-true w x hu)
         from (fresh o f1 nx fd g') = absurd (none_some g (sym f1 ∙ eo))
 
 firsts_step : (c : Config) (r i x by : ℕ) (v : Verb) (past : List Event) → IsLegalHistory c past → Needs c by (part by past) v → Firsts c r i x (part r past) → Firsts c r i x (part r (made c past by v ∷ past))

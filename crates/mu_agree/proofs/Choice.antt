@@ -21,9 +21,7 @@ use Rattle.mu_agree.proofs.Counting.{Member, share, some_below, count_more}
 use Rattle.mu_agree.proofs.Landed.{landed, lands_no_more}
 use Rattle.mu_agree.proofs.Looks.{LookSays, looks_say, member_reached}
 use Rattle.mu_agree.proofs.Offers.{offered, offer_stays}
-
-some_is : {A : Type 0} (x y : A) → Some x ≡ Some y → x ≡ y
-some_is x y e = cc
+use Rattle.mu_model.proofs.Basics.{same_some}
 
 -- v is chosen at i under the number b
 abbrev pub Chosen : Config → ℕ → ℕ → ℕ → List Event → Type 0
@@ -65,7 +63,7 @@ chosen_somewhere c i b v past h = some_below c.replicas (λ p. landed p i b v pa
 
 -- what is blocked isn't chosen, where what landed under the number is its offer
 pub not_chosen : (c : Config) (i b w : ℕ) (past : List Event) → ((p : ℕ) → landed p i b w past ≡ true → offered i b past ≡ Some w) → Blocked c i b w past → Chosen c i b w past → ⊥
-not_chosen c i b w past f (inl o) h = let m = chosen_somewhere c i b w past h in o.differs (some_is o.u w (sym o.is ∙ f m.who m.passes))
+not_chosen c i b w past f (inl o) h = let m = chosen_somewhere c i b w past h in o.differs (same_some o.u w (sym o.is ∙ f m.who m.passes))
 not_chosen c i b w past f (inr k) h =
     let m = share c.replicas (λ p. landed p i b w past) (λ p. nat_lt b (region_min p past) && not (landed p i b w past)) h k in
     let x = and_parts (landed m.who i b w past) (nat_lt b (region_min m.who past) && not (landed m.who i b w past)) m.passes in
@@ -75,7 +73,7 @@ not_chosen c i b w past f (inr k) h =
 -- the best of the looks at members
 pub entry_is : (o : Option Answer) (z : ℕ × ℕ) → entry_of o ≡ Some z → o ≡ Some (Answer.Entry z.0 z.1)
 entry_is None z e = cc
-entry_is (Some (Answer.Entry b v)) z e = let k : (b, v) ≡ z = some_is (b, v) z e in ap (λ y. Some (Answer.Entry y.0 y.1)) k
+entry_is (Some (Answer.Entry b v)) z e = let k : (b, v) ≡ z = same_some (b, v) z e in ap (λ y. Some (Answer.Entry y.0 y.1)) k
 entry_is (Some Answer.Done) z e = cc
 entry_is (Some Answer.Missed) z e = cc
 entry_is (Some Answer.Entered) z e = cc
@@ -100,7 +98,7 @@ pub record IsLarger (x y : Option (ℕ × ℕ)) (z : ℕ × ℕ) : Type 0 where
   pub right : (a : ℕ × ℕ) → y ≡ Some a → a.0 ≤ z.0
 
 same_first : (a z : ℕ × ℕ) → Some a ≡ Some z → a.0 ≤ z.0
-same_first a z e = let k : a.0 ≡ z.0 = ap (λ y. y.0) (some_is a z e) in omega arith
+same_first a z e = let k : a.0 ≡ z.0 = ap (λ y. y.0) (same_some a z e) in omega arith
 
 larger_some : (x y : Option (ℕ × ℕ)) (z : ℕ × ℕ) → larger x y ≡ Some z → IsLarger x y z
 larger_some None y z e = record { one = inr e; left = λ a k. cc; right = λ a k. same_first a z (sym k ∙ e) }
@@ -108,8 +106,8 @@ larger_some (Some x) None z e = record { one = inl e; left = λ a k. same_first 
 larger_some (Some x) (Some y) z e = go (nat_lt x.0 y.0) refl e
   where
     go : (t : Bool) → nat_lt x.0 y.0 ≡ t → cond t (Some y) (Some x) ≡ Some z → IsLarger (Some x) (Some y) z
-    go true h e = let l = ltb-true x.0 y.0 h in let m = same_first y z e in record { one = inr e; left = λ a k. (let q : a.0 ≡ x.0 = ap (λ w. w.0) (some_is a x (sym k)) in omega arith); right = λ a k. (let q : a.0 ≡ y.0 = ap (λ w. w.0) (some_is a y (sym k)) in omega arith) }
-    go false h e = let l = ltb-false x.0 y.0 h in let m = same_first x z e in record { one = inl e; left = λ a k. (let q : a.0 ≡ x.0 = ap (λ w. w.0) (some_is a x (sym k)) in omega arith); right = λ a k. (let q : a.0 ≡ y.0 = ap (λ w. w.0) (some_is a y (sym k)) in omega arith) }
+    go true h e = let l = ltb-true x.0 y.0 h in let m = same_first y z e in record { one = inr e; left = λ a k. (let q : a.0 ≡ x.0 = ap (λ w. w.0) (same_some a x (sym k)) in omega arith); right = λ a k. (let q : a.0 ≡ y.0 = ap (λ w. w.0) (same_some a y (sym k)) in omega arith) }
+    go false h e = let l = ltb-false x.0 y.0 h in let m = same_first x z e in record { one = inl e; left = λ a k. (let q : a.0 ≡ x.0 = ap (λ w. w.0) (same_some a x (sym k)) in omega arith); right = λ a k. (let q : a.0 ≡ y.0 = ap (λ w. w.0) (same_some a y (sym k)) in omega arith) }
 
 pub best_none : (r i n : ℕ) (J : List Event) → highest_accepted r i J n ≡ None → (p : ℕ) → p < n → is_member r p J ≡ true → entry_of (last_look r p i J) ≡ None
 best_none r i zero J e p l m = absurd (omega arith)
@@ -186,7 +184,7 @@ members_block c r i b v n w past h s f l =
     at : (p : ℕ) → p < c.replicas → is_member r p (part r past) ≡ true → (nat_lt n (region_min p past) && not (landed p i n w past)) ≡ true
     at p k m =
         let t = member_reached c r p past h m in
-        let x : t.b ≡ b = some_is t.b b (sym t.is ∙ s.number) in
+        let x : t.b ≡ b = same_some t.b b (sym t.is ∙ s.number) in
         let y = t.below in
         and_from (nat_lt n (region_min p past)) (not (landed p i n w past)) (lt-ltb n (region_min p past) (omega arith))
         (ap not (seen p k m (last_look r p i (part r past)) refl (s.looked p k m)))

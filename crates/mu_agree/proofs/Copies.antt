@@ -25,9 +25,7 @@ use Rattle.mu_agree.proofs.Offers.{at_part', of_one}
 use Rattle.mu_agree.proofs.Early.{PutValue, copied, again, fresh, put_value}
 use Rattle.mu_agree.proofs.Settled.{Late, Copied, puts_it, has_put_it, min_of}
 use Rattle.mu_agree.proofs.Agreement.{value_at, put_first, firsts, slot_at, puts_at_members}
-
-some_is : {A : Type 0} (x y : A) → Some x ≡ Some y → x ≡ y
-some_is x y e = cc
+use Rattle.mu_model.proofs.Basics.{same_some}
 
 it_is_value : (i V r p by : ℕ) (v : Verb) (a : Answer) → puts_it i V r p by v a ≡ true → value_at r i V by v ≡ true
 it_is_value i V r p by (Verb.PutSlot q j n w) Answer.Done m =
@@ -80,7 +78,7 @@ copied_put c i V B maj r p by q j n w past h may s a e t hq u hj = at_part' (Cop
 
         at : cond (w == V) true (has_put_it i V r p (part r past)) ≡ true → (y : ℕ × ℕ) → slice_get (put_in' (region_log p past) j (n, w)) i ≡ Some y → y.1 ≡ V
         at m y k =
-            let z : (n, w) ≡ y = some_is (n, w) y (sym (get_put_same (region_log p past) j (n, w) room) ∙ ap (slice_get (put_in' (region_log p past) j (n, w))) (eqb-true j i hj) ∙ k) in
+            let z : (n, w) ≡ y = same_some (n, w) y (sym (get_put_same (region_log p past) j (n, w) room) ∙ ap (slice_get (put_in' (region_log p past) j (n, w))) (eqb-true j i hj) ∙ k) in
             ap (λ x. x.1) (sym z) ∙ value m
     own Answer.Done true false e hq hj hx = rw (hx, hq, hj) (λ m o y k. elim (get_put (region_log p past) j i (n, w) y k) [ inl l ↦ s.copied r p m o y l | inr l ↦ absurd (eqb-false j i hj (sym l.0)) ])
     own Answer.Done false u e hq hj hx = rw (hx, hq) (s.copied r p)
@@ -108,7 +106,7 @@ copied_min c i V B maj r p by q b past h may s a e t hq = at_part' (Copied i V r
         let k = member m in
         let num : proposal_number r (part r past) ≡ Some b = number_back b b (region_min p past) (proposal_number r (part r past)) k o in
         let low : region_min p past ≤ b = subst (λ x. region_min x past ≤ b) (eqb-true q p hq) (min_lands c by q b past h may e) in
-        let same : k.b ≡ b = some_is k.b b (sym k.is ∙ num) in
+        let same : k.b ≡ b = same_some k.b b (sym k.is ∙ num) in
         let up = k.below in
         let eq : b ≡ region_min p past = omega arith in s.copied r p m (num ∙ ap Some eq))
     own Answer.Done false e hq hx = rw (hx, hq) (λ m o. s.copied r p m (number_back b (region_min p past) (region_min p past) (proposal_number r (part r past)) (member m) o))

@@ -29,9 +29,7 @@ use Rattle.mu_agree.proofs.Landings.{no_gaps, at_part, has_more, has_since, has_
 use Rattle.mu_agree.proofs.Landed.{landed, slot_landed, is_put}
 use Rattle.mu_agree.proofs.Offers.{offered, offer_stays, first_is}
 use Rattle.mu_agree.proofs.Choice.{Chosen, Blocked, blocked_stays, Found, free, taken, found, Seeing, seeing}
-
-some_is : {A : Type 0} (x y : A) → Some x ≡ Some y → x ≡ y
-some_is x y e = cc
+use Rattle.mu_model.proofs.Basics.{same_some}
 
 -- what every member of a leadership took is chosen
 pub done_lands : (r p i b v by : ℕ) (verb : Verb) (a : Answer) → is_put_done r p i b v by verb a ≡ true → slot_landed p i b v verb a ≡ true
@@ -226,7 +224,7 @@ early_safe c i by q j n w past h s may b v m x e l d = blocked_stays c i m x by 
         let at : MayPutSlot c by (part by past) q i b w = subst (λ z. MayPutSlot c by (part by past) q i z w) (eqb-true n b y.1) (subst (λ z. MayPutSlot c by (part by past) q z n w) (eqb-true j i y.0) may.2) in
         elim (early_value c i by q b w past h s at) [
           | inl o ↦ (let z : None ≡ Some w = sym k ∙ o in cc)
-          | inr o ↦ o.1 m x l (λ z. d (sym (some_is w v e') ∙ z))
+          | inr o ↦ o.1 m x l (λ z. d (sym (same_some w v e') ∙ z))
         ]
 
 pub length_most : (log : List (ℕ × ℕ)) (j : ℕ) (z : ℕ × ℕ) → length (put_in' log j z) ≤ max (length log) (j + 1)

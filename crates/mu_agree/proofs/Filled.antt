@@ -32,9 +32,7 @@ use Rattle.mu_agree.proofs.Tame.{Tame, knowing, under, known_longer}
 use Rattle.mu_agree.proofs.Settled.{Late, Settled, Know, Shows, settled_kept, settled_step}
 use Rattle.mu_agree.proofs.Agreement.{knows_kept}
 use Rattle.mu_agree.proofs.Copies.{copied_step}
-
-some_is : {A : Type 0} (x y : A) → Some x ≡ Some y → x ≡ y
-some_is x y e = cc
+use Rattle.mu_model.proofs.Basics.{same_some}
 
 abbrev put : ℕ → ℕ → ℕ → ℕ → ℕ → Event
 put by q j n w = record { by = by; verb = Verb.PutSlot q j n w; answer = Answer.Done }
@@ -56,7 +54,7 @@ here_settles : (c : Config) (i V B : ℕ) (maj : ℕ → Bool) (p by q j n w : �
     → ((x : ℕ) → slice_get (known c by (part by past)) i ≡ Some x → x ≡ V) → (q == p) ≡ true → (j == i) ≡ true → slice_get (known c by (part by past)) i ≡ Some w → Settled c i V B maj p (put by q j n w ∷ past)
 here_settles c i V B maj p by q j n w past h may ans kn hq hj k = put_settles c i V B maj p by q j n w past h may (let nm = num in omega arith) (λ l. absurd (let nm = num in omega arith))
     (let l = slice_get_within (known c by (part by past)) i w k in let m = known_longer c by (put by q j n w) (part by past) in omega arith)
-    (rw hq (λ y m. (let z : (n, w) ≡ y = some_is (n, w) y (sym (get_put_same (region_log p past) j (n, w) room) ∙ ap (slice_get (put_in' (region_log p past) j (n, w))) (eqb-true j i hj) ∙ m) in ap (λ x. x.1) (sym z) ∙ kn w k)))
+    (rw hq (λ y m. (let z : (n, w) ≡ y = same_some (n, w) y (sym (get_put_same (region_log p past) j (n, w) room) ∙ ap (slice_get (put_in' (region_log p past) j (n, w))) (eqb-true j i hj) ∙ m) in ap (λ x. x.1) (sym z) ∙ kn w k)))
   where
     num : n ≡ region_min p past
     num = slot_number c by q j n w past h may ans ∙ ap (λ x. region_min x past) (eqb-true q p hq)
@@ -123,7 +121,7 @@ there_settles c i V B maj p by q j n w past h al ans base' len len' hp = go (lea
 
             wrong : (y.1 ≡ V → ⊥) → ⊥
             wrong d = let o = base'.own p y.0 y.1 facts d in let ab = above in elim (cases_eq n y.0) [
-              | inl e ↦ d (some_is y.1 V (sym o ∙ ap (λ z. offered i z (record { by = by; verb = Verb.PutSlot q j n w; answer = Answer.Done } ∷ past)) (sym e) ∙ mine))
+              | inl e ↦ d (same_some y.1 V (sym o ∙ ap (λ z. offered i z (record { by = by; verb = Verb.PutSlot q j n w; answer = Answer.Done } ∷ past)) (sym e) ∙ mine))
               | inr ne ↦ not_chosen c i n V (record { by = by; verb = Verb.PutSlot q j n w; answer = Answer.Done } ∷ past) (λ p' m. mine) (base'.safe_offers y.0 y.1 n V o d (omega arith) d) ch
             ]
 

@@ -22,6 +22,7 @@ use Rattle.mu_agree.proofs.Room.{mark_version}
 use Rattle.mu_agree.proofs.Sound.{Fits, by_batch, by_mark, Sound, chosen_sound, some_fails}
 use Rattle.mu_model.proofs.Scans.{session_append}
 use Rattle.mu_agree.proofs.Sessions.{AreChosen, known_are_chosen, marked_once, mark_no_batch, mark_place, row_within, batch_numbers, length_counted, same_list}
+use Rattle.mu_model.proofs.Lists.{get_front}
 
 -- each entry has a place of its own: the row with which its batch begins, or one beyond the rows
 abbrev pub key : Config → ℕ → ℕ
@@ -53,11 +54,6 @@ split [] i x e = cc
 split (y ∷ xs) zero x e = let same : y ≡ x = cc in record { front = []; back = xs; is = ap (λ z. z ∷ xs) same; count = refl }
 split (y ∷ xs) (suc i) x e = let s = split xs i x e in record { front = y ∷ s.front; back = s.back; is = ap (λ z. y ∷ z) s.is; count = ap suc s.count }
 
-front_get : (xs ys : List ℕ) (k x : ℕ) → slice_get xs k ≡ Some x → slice_get (xs ++ ys) k ≡ Some x
-front_get [] ys k x e = cc
-front_get (z ∷ xs) ys zero x e = e
-front_get (z ∷ xs) ys (suc k) x e = front_get xs ys k x e
-
 -- a batch isn't chosen at two positions
 batch_once : (c : Config) (i j v w : ℕ) (past : List Event) → IsConfig c → IsLegalHistory c past → IsChosen c past i v → IsChosen c past j w → is_batch c v ≡ true → is_batch c w ≡ true → v % 4096 ≡ w % 4096 → i < j → ⊥
 batch_once c i j v w past g h a b bv bw same l = go (chosen_sound c i v past h a).fits (chosen_sound c j w past h b).fits
@@ -77,7 +73,7 @@ batch_once c i j v w past g h a b bv bw same l = go (chosen_sound c i v past h a
         let is : at.0 ≡ v = one_chosen c i ch.0 at.0 a.0 v past h ch.1 a.1 in
         let s = split sw.values i v (at.1 ∙ ap Some is) in
         let fronts : s.front ≡ sv.values = same_list s.front sv.values (s.count ∙ sym sv.count) (λ k p q d e.
-        let u = sw.chosen k p (subst (λ t. slice_get t k ≡ Some p) (sym s.is) (front_get s.front (v ∷ s.back) k p d)) in
+        let u = sw.chosen k p (subst (λ t. slice_get t k ≡ Some p) (sym s.is) (get_front s.front (v ∷ s.back) k p d)) in
         let o = sv.chosen k q e in
         one_chosen c k u.0 p o.0 q past h u.1 o.1) in
         let client : ℕ = client_of c (v % 4096) in

@@ -8,13 +8,11 @@ use Rattle.mu_model.specs.declared.event.Answer.{Answer}
 use Rattle.mu_model.specs.Histories.{earlier_or, oldest}
 use Rattle.mu_model.specs.Leaderships.{is_first_ask, leadership}
 use Rattle.mu_model.specs.Picks.{first_value, is_joining, joined_since_first_put, since_last_joining, value_put}
+use Rattle.mu_model.proofs.Basics.{none_some}
 
 -- no put at i came since the last joining
 abbrev pub joined_late : ℕ → ℕ → List Event → Bool
 joined_late r i past = is_none (oldest (λ e. value_put r i e.by e.verb) (since_last_joining r past))
-
-none_some : {A : Type 0} (x : A) → None ≡ Some x → ⊥
-none_some x e = cc
 
 some_join : (o : Option ℕ) (t : Bool) (f : ℕ) → o ≡ Some f → (if true && is_some o then true else t) ≡ false → true ≡ false
 some_join (Some x) t f e k = k

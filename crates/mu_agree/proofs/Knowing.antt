@@ -8,6 +8,7 @@ use Rattle.mu_model.specs.declared.event.Event.{Event}
 use Rattle.mu_model.specs.declared.event.Verb.{Verb}
 use Rattle.mu_model.specs.declared.event.Answer.{Answer}
 use Rattle.mu_model.specs.Knowledge.{grown, is_accepted_by_all, is_known_decided, known, learnt_by}
+use Rattle.mu_model.proofs.Basics.{same_some}
 
 -- ys begins with xs
 pub record Begins (xs ys : List ℕ) : Type 0 where
@@ -29,9 +30,6 @@ pub data Teaches (c : Config) (r : ℕ) (past now : List Event) (i v by : ℕ) :
   by_put : {p b : ℕ} → (by == r) ≡ true → is_accepted_by_all c r now i b v ≡ true → Teaches c r past now i v by (Verb.PutSlot p i b v) Answer.Done
   by_look : {p b : ℕ} → (by == r) ≡ true → is_known_decided r past p i ≡ true → Teaches c r past now i v by (Verb.Look p i) (Answer.Entry b v)
 
-some_is : (x y : ℕ) → Some x ≡ Some y → x ≡ y
-some_is x y e = cc
-
 pub teaches : (c : Config) (r i v by : ℕ) (verb : Verb) (a : Answer) (past now : List Event) → learnt_by c r past i by verb a now ≡ Some v → Teaches c r past now i v by verb a
 teaches c r i v by (Verb.PutSlot p j b w) Answer.Done past now = go ((by == r) && ((j == i) && is_accepted_by_all c r now j b w)) refl
   where
@@ -40,7 +38,7 @@ teaches c r i v by (Verb.PutSlot p j b w) Answer.Done past now = go ((by == r) &
     go true h e =
         let first = and_parts (by == r) ((j == i) && is_accepted_by_all c r now j b w) h in
         let second = and_parts (j == i) (is_accepted_by_all c r now j b w) first.1 in
-        subst (λ z. Teaches c r past now i z by (Verb.PutSlot p j b w) Answer.Done) (some_is w v e)
+        subst (λ z. Teaches c r past now i z by (Verb.PutSlot p j b w) Answer.Done) (same_some w v e)
         (subst (λ z. Teaches c r past now z w by (Verb.PutSlot p j b w) Answer.Done) (eqb-true j i second.0) (by_put first.0 second.1))
 teaches c r i v by (Verb.Look p j) (Answer.Entry b w) past now = go ((by == r) && ((j == i) && is_known_decided r past p j)) refl
   where
@@ -49,6 +47,6 @@ teaches c r i v by (Verb.Look p j) (Answer.Entry b w) past now = go ((by == r) &
     go true h e =
         let first = and_parts (by == r) ((j == i) && is_known_decided r past p j) h in
         let second = and_parts (j == i) (is_known_decided r past p j) first.1 in
-        subst (λ z. Teaches c r past now i z by (Verb.Look p j) (Answer.Entry b w)) (some_is w v e)
+        subst (λ z. Teaches c r past now i z by (Verb.Look p j) (Answer.Entry b w)) (same_some w v e)
         (subst (λ z. Teaches c r past now z w by (Verb.Look p j) (Answer.Entry b w)) (eqb-true j i second.0) (by_look first.0 second.1))
 teaches c r i v by verb a past now = λ e. cc

@@ -16,9 +16,7 @@ use Rattle.mu_agree.proofs.Minimum.{rises_step}
 use Rattle.mu_agree.proofs.Members.{slot_number}
 use Rattle.mu_agree.proofs.Slots.{put_in', get_put}
 use Rattle.mu_agree.proofs.Landings.{no_gaps, has_more, has_implied, is_landed_at, below_all}
-
-some_is : {A : Type 0} (x y : A) → Some x ≡ Some y → x ≡ y
-some_is x y e = cc
+use Rattle.mu_model.proofs.Basics.{same_some}
 
 -- (b, v) landed at p in position i
 abbrev pub slot_landed : ℕ → ℕ → ℕ → ℕ → Verb → Answer → Bool
@@ -99,7 +97,7 @@ facts_put c p by q j n w past h may f Answer.Done e true hq = record { in_log = 
       where
         go : (t : Bool) → (j == i) ≡ t → (u : Bool) → ((n == b) && (w == v)) ≡ u → cond (t && u) true (landed p i b v past) ≡ true → b ≤ y.0
         go true ht u hu m =
-            let z : (n, w) ≡ y = some_is (n, w) y (sym (get_put_same (region_log p past) j (n, w) room) ∙ ap (slice_get (put_in' (region_log p past) j (n, w))) (eqb-true j i ht) ∙ l) in
+            let z : (n, w) ≡ y = same_some (n, w) y (sym (get_put_same (region_log p past) j (n, w) room) ∙ ap (slice_get (put_in' (region_log p past) j (n, w))) (eqb-true j i ht) ∙ l) in
             let first : n ≡ y.0 = ap (λ x. x.0) z in
             below u hu m first
           where

@@ -20,9 +20,7 @@ use Rattle.mu_agree.proofs.Landed.{landed, is_put, landed_stays}
 use Rattle.mu_agree.proofs.Offers.{offered, offer_stays}
 use Rattle.mu_agree.proofs.Choice.{Chosen, Blocked, blocked_stays, not_chosen, chosen_somewhere, Found, free, taken}
 use Rattle.mu_agree.proofs.Early.{Safe, PutValue, copied, again, fresh, put_value, fresh_safe, offered_now}
-
-some_is : {A : Type 0} (x y : A) → Some x ≡ Some y → x ≡ y
-some_is x y e = cc
+use Rattle.mu_model.proofs.Basics.{same_some}
 
 pub record Base (c : Config) (i V B : ℕ) (maj : ℕ → Bool) (past : List Event) : Type 0 where
   pub many : majority_of c.replicas ≤ count_below c.replicas maj
@@ -103,7 +101,7 @@ base_put c i V B maj by q j n w past h s kn may a ans = record {
         go o k false ht e' = s.offers b x l (k ∙ e')
         go None k true ht e' =
             let y = and_parts (j == i) (n == b) ht in
-            elim (at b (eqb-true j i y.0) (eqb-true n b y.1)) [ inl z ↦ sym (some_is w x e') ∙ z | inr z ↦ absurd (let q' = z.1.low in omega arith) ]
+            elim (at b (eqb-true j i y.0) (eqb-true n b y.1)) [ inl z ↦ sym (same_some w x e') ∙ z | inr z ↦ absurd (let q' = z.1.low in omega arith) ]
 
     above' : (a : Answer) (p b x : ℕ) → B ≤ b → landed p i b x (record { by = by; verb = Verb.PutSlot q j n w; answer = a } ∷ past) ≡ true → x ≡ V
     above' Answer.Done p b x l m = go ((q == p) && ((j == i) && ((n == b) && (w == x)))) refl m
@@ -136,7 +134,7 @@ base_put c i V B maj by q j n w past h s kn may a ans = record {
         go o k false ht e' = s.safe_offers b v m x (k ∙ e') dv l d
         go None k true ht e' =
             let y = and_parts (j == i) (n == b) ht in
-            let is : w ≡ v = some_is w v e' in
+            let is : w ≡ v = same_some w v e' in
             elim (at b (eqb-true j i y.0) (eqb-true n b y.1)) [
               | inl z ↦ absurd (dv (sym is ∙ z))
               | inr z ↦ elim z.1.how [ inl o ↦ absurd (let u : None ≡ Some w = sym k ∙ o in cc) | inr o ↦ o.1 m x l (λ u. d (sym is ∙ u)) ]
@@ -177,7 +175,7 @@ base_start c i V B past own safe h = record {
     offers b w l e = elim (cases_eq w V) [
       | inl k ↦ k
       | inr d ↦ elim (cases_order b B) [
-        | inl k ↦ some_is w V (sym e ∙ ap (λ z. offered i z past) k ∙ (let m = chosen_somewhere c i B V past h in own m.who B V m.passes))
+        | inl k ↦ same_some w V (sym e ∙ ap (λ z. offered i z past) k ∙ (let m = chosen_somewhere c i B V past h in own m.who B V m.passes))
         | inr x ↦ elim x [
           | inl k ↦ absurd (omega arith)
           | inr k ↦ absurd (not_chosen c i B V past (λ p q. own p B V q) (safe b w B V e k d) h)

@@ -1,4 +1,3 @@
-pub mod Parts
 pub mod Legal
 pub mod Numbers
 pub mod Entering

@@ -17,13 +17,11 @@ use Rattle.mu_model.specs.Legal.{IsLegalHistory}
 use Rattle.mu_model.specs.Picks.{last_look}
 use Rattle.mu_model.specs.Regions.{region_log, region_min}
 use Rattle.mu_agree.proofs.Legal.{made, legal_induction}
-use Rattle.mu_agree.proofs.Minimum.{rises_step}
+use Rattle.mu_agree.proofs.Minimum.{rises_step, number_first}
 use Rattle.mu_agree.proofs.Members.{number_with, number_stays}
 use Rattle.mu_agree.proofs.Landings.{at_part, look_reply}
 use Rattle.mu_agree.proofs.Landed.{landed, landed_facts, landed_within, lands_no_more, landed_stays}
-
-some_is : {A : Type 0} (x y : A) → Some x ≡ Some y → x ≡ y
-some_is x y e = cc
+use Rattle.mu_model.proofs.Basics.{same_some}
 
 -- a member's leadership has a number, which the member's minimum has reached
 pub record Reached (num : Option ℕ) (least : ℕ) : Type 0 where
@@ -37,10 +35,6 @@ MemberReached r p past = is_member r p (part r past) ≡ true → Reached (propo
 reached_put : (b : ℕ) (num : Option ℕ) (least later : ℕ) → least ≤ later → Reached num least → Reached (earlier_or (Some b) num) later
 reached_put b num least later l s = record { b = s.b; is = number_stays b s.b num s.is; below = (let k = s.below in omega arith) }
 
-is_the_first : (r b : ℕ) (past : List Event) (o : Option ℕ) → number_allowed r past b o → (m : ℕ) → o ≡ Some m → b ≡ m
-is_the_first r b past None h m e = cc
-is_the_first r b past (Some x) h m e = h ∙ some_is x m e
-
 member_own : (r p by q b least later : ℕ) (J : List Event) → least ≤ later → earlier_or (Some b) (proposal_number r J) ≡ Some b → (is_member r p J ≡ true → Reached (proposal_number r J) least)
     → (a : Answer) → (a ≡ Answer.Done → (q == p) ≡ true → b ≤ later) → (by == r) ≡ true → (y : Bool) → (q == p) ≡ y
     → is_member r p (record { by = by; verb = Verb.PutMin q b; answer = a } ∷ J) ≡ true → Reached (proposal_number r (record { by = by; verb = Verb.PutMin q b; answer = a } ∷ J)) later
@@ -53,7 +47,7 @@ min_here p by q b past Answer.Done e hq = rw hq (omega arith)
 min_here p by q b past a e hq = cc
 
 pub own_number : (r by p b : ℕ) (past : List Event) → MayPutMin by (part by past) p b → (by == r) ≡ true → earlier_or (Some b) (proposal_number r (part r past)) ≡ Some b
-own_number r by p b past may hx = number_with b (proposal_number r (part r past)) (is_the_first r b (part r past) (proposal_number r (part r past)) (subst (λ z. number_allowed z (part z past) b (proposal_number z (part z past))) (eqb-true by r hx) may.numbered))
+own_number r by p b past may hx = number_with b (proposal_number r (part r past)) (number_first r b (part r past) (proposal_number r (part r past)) (subst (λ z. number_allowed z (part z past) b (proposal_number z (part z past))) (eqb-true by r hx) may.numbered))
 
 member_put : (c : Config) (r p by q b : ℕ) (past : List Event) → IsLegalHistory c past → Needs c by (part by past) (Verb.PutMin q b) → MemberReached r p past → MemberReached r p (made c past by (Verb.PutMin q b) ∷ past)
 member_put c r p by q b past h may s =
@@ -115,7 +109,7 @@ found_now c b p i past h = go (nat_lt (i + c.ring) (length (region_log p past)))
     go false = at (slice_get (region_log p past) i) refl
 
 reach : (b least : ℕ) (num : Option ℕ) → Reached num least → num ≡ Some b → b ≤ least
-reach b least num s e = let k = s.below in let i : s.b ≡ b = some_is s.b b (sym s.is ∙ e) in omega arith
+reach b least num s e = let k = s.below in let i : s.b ≡ b = same_some s.b b (sym s.is ∙ e) in omega arith
 
 -- after a step that is none of a look's, what the looks said is still true
 looks_kept : (c : Config) (r p i by : ℕ) (v : Verb) (past : List Event) → IsLegalHistory c past → Needs c by (part by past) v → LooksSay r p i past
@@ -130,7 +124,7 @@ says_look : (c : Config) (r p i by q j : ℕ) (past : List Event) → IsLegalHis
 says_look c r p i by q j past h may s hx true hy true hz = rw (hx, hy, hz) (λ a b l m n.
     let now : LookSays b p i past (look_reply c.ring (region_log p past) i) = found_now c b p i past h in
     let same : look_reply c.ring (region_log q past) j ≡ look_reply c.ring (region_log p past) i = ap (λ x. look_reply c.ring (region_log x past) j) (eqb-true q p hy) ∙ ap (look_reply c.ring (region_log p past)) (eqb-true j i hz) in
-    let is : look_reply c.ring (region_log p past) i ≡ a = sym same ∙ some_is (look_reply c.ring (region_log q past) j) a l in
+    let is : look_reply c.ring (region_log p past) i ≡ a = sym same ∙ same_some (look_reply c.ring (region_log q past) j) a l in
     says_stays c b p i by (Verb.Look q j) past h may (reach b (region_min p past) (proposal_number r (part r past)) (member_reached c r p past h m) n) a (subst (LookSays b p i past) is now))
 says_look c r p i by q j past h may s hx true hy false hz = rw (hx, hy, hz) s
 says_look c r p i by q j past h may s hx false hy z hz = rw (hx, hy) s

@@ -19,12 +19,11 @@ use Rattle.mu_model.specs.Regions.{fence, fence_grant, fence_owner, region_min}
 use Rattle.mu_model.specs.Serving.{has_target}
 use Rattle.mu_agree.proofs.Entering.{slot_entered}
 use Rattle.mu_agree.proofs.Legal.{made, legal_induction}
-use Rattle.mu_agree.proofs.Numbers.{begins-own, number-part}
+use Rattle.mu_agree.proofs.Numbers.{number-part}
 use Rattle.mu_agree.proofs.Access.{opened, min_holds, put_done_undrained, entered_facts, open_target-part, grant_needs, not_granted, no_target}
-use Rattle.mu_agree.proofs.Minimum.{noted-part, first_by, not_other}
-
-some_is : {A : Type 0} (x y : A) → Some x ≡ Some y → x ≡ y
-some_is x y e = cc
+use Rattle.mu_agree.proofs.Minimum.{first_by, not_other}
+use Rattle.mu_model.proofs.Basics.{same_some}
+use Rattle.mu_model.proofs.Owned.{begins-own, noted-part}
 
 lands_min-own : (r p by : ℕ) (v : Verb) (a : Answer) → (by == r) ≡ false → lands_min r p by v a ≡ false
 lands_min-own r p by (Verb.PutMin q b) Answer.Done h = rw h refl
@@ -96,7 +95,7 @@ number_stays b m None e = cc
 number_stays b m (Some x) e = e
 
 joined_lands : (r b grant : ℕ) (owner num old : Option ℕ) (least : ℕ) (joined : Option ℕ) → owner ≡ Some r → num ≡ Some b → JoinedIs r joined grant owner old least → JoinedIs r (newer_or joined (Some grant)) grant owner num b
-joined_lands r b grant owner num old least None o n s g e = let k : grant ≡ g = some_is grant g e in (omega arith, λ _. (o, n))
+joined_lands r b grant owner num old least None o n s g e = let k : grant ≡ g = same_some grant g e in (omega arith, λ _. (o, n))
 joined_lands r b grant owner num old least (Some x) o n s g e = ((s g e).0, λ _. (o, n))
 
 owner_lands : (c : Config) (r p by q b : ℕ) (past : List Event) → IsLegalHistory c past → Needs c by (part by past) (Verb.PutMin q b) → put_answer (drained by q past) ≡ Answer.Done → (by == r) ≡ true → (q == p) ≡ true → fence_owner p past ≡ Some r
@@ -134,7 +133,7 @@ seen_grant : (r g : ℕ) (f : Fence) → grant_for r (Some f) ≡ Some g → g �
 seen_grant r g f e = go (not f.closing && owner_is r f.owner) e
   where
     go : (t : Bool) → cond t (Some f.grant) None ≡ Some g → g ≡ f.grant
-    go true e = sym (some_is f.grant g e)
+    go true e = sym (same_some f.grant g e)
     go false e = cc
 
 note_fence : (c : Config) (r p by q : ℕ) (past : List Event) → OpenNoted r p past → (x : Bool) → (by == r) ≡ x → (y : Bool) → (q == p) ≡ y → OpenNoted r p (made c past by (Verb.Fence q) ∷ past)
@@ -166,7 +165,7 @@ note_enter r p by q t past s Answer.Entered e true hx true hy =
     let at_p = subst (λ z. entered_or_lost (noted_grant by z past) (fence z past) ≡ Answer.Entered) (eqb-true q p hy) e in
     let at_r = subst (λ z. entered_or_lost (noted_grant z p past) (fence p past) ≡ Answer.Entered) (eqb-true by r hx) at_p in
     let k = entered_facts (noted_grant r p past) (fence p past) at_r in
-    rw (hx, hy) (λ t' g e' f d n. some_is g k.g (sym n ∙ k.is) ∙ sym k.same)
+    rw (hx, hy) (λ t' g e' f d n. same_some g k.g (sym n ∙ k.is) ∙ sym k.same)
 note_enter r p by q t past s Answer.Entered e true hx false hy = rw (hx, hy) s
 note_enter r p by q t past s Answer.Entered e false hx y hy = rw hx s
 note_enter r p by q t past s a e true hx true hy = rw (hx, hy) (λ t' g e' f. absurd (no_target t' e' f))
@@ -198,7 +197,7 @@ pair_none : JoinPair None None
 pair_none = record { is = λ g e. cc; none = λ e. refl }
 
 pair_lands : (grant : ℕ) (n : Option ℕ) (o : Option (Option ℕ)) (j : Option ℕ) → ((g : ℕ) → n ≡ Some g → g ≡ grant) → JoinPair o j → JoinPair (newer_or o (Some n)) (newer_or j (Some grant))
-pair_lands grant n None None f s = record { is = λ g e. ap Some (sym (f g (some_is n (Some g) e))); none = λ e. cc }
+pair_lands grant n None None f s = record { is = λ g e. ap Some (sym (f g (same_some n (Some g) e))); none = λ e. cc }
 pair_lands grant n None (Some x) f s = absurd (let e : Some x ≡ None = s.none refl in cc)
 pair_lands grant n (Some o) None f s = record { is = λ g e. (let k : None ≡ Some g = s.is g e in cc); none = λ e. cc }
 pair_lands grant n (Some o) (Some x) f s = record { is = s.is; none = λ e. cc }
@@ -242,7 +241,7 @@ stays_ask c r p by q past s false h = rw h s
 unchanged : (o : Option ℕ) (j : Option (Option ℕ)) (f : Fence) (g : ℕ) → j ≡ Some o → is_changed j f ≡ false → g ≡ f.grant → o ≡ Some g
 unchanged o None f g e h k = cc
 unchanged o (Some None) f g e h k = cc
-unchanged o (Some (Some x)) f g e h k = sym (some_is (Some x) o e) ∙ ap Some (sym (eqb-true f.grant x (not_not (f.grant == x) (or_parts f.closing (not (f.grant == x)) h).1)) ∙ sym k)
+unchanged o (Some (Some x)) f g e h k = sym (same_some (Some x) o e) ∙ ap Some (sym (eqb-true f.grant x (not_not (f.grant == x) (or_parts f.closing (not (f.grant == x)) h).1)) ∙ sym k)
   where
     not_not : (t : Bool) → not t ≡ false → t ≡ true
     not_not true e = refl
@@ -256,7 +255,7 @@ stays_fence c r p by q past s true hx false hy = rw (hx, hy) (λ o g v j n. s o 
 stays_fence c r p by q past s false hx y hy = rw hx s
 
 stays_lands : (n : Option ℕ) (j : Option (Option ℕ)) (o : Option ℕ) (g : ℕ) → ((o : Option ℕ) → j ≡ Some o → o ≡ Some g) → newer_or j (Some n) ≡ Some o → n ≡ Some g → o ≡ Some g
-stays_lands n None o g f e k = sym (some_is n o e) ∙ k
+stays_lands n None o g f e k = sym (same_some n o e) ∙ k
 stays_lands n (Some x) o g f e k = f o e
 
 stays_put : (r p by q b : ℕ) (past : List Event) → StaysNoted r p past → (a : Answer) → (x : Bool) → (by == r) ≡ x → (y : Bool) → (q == p) ≡ y → StaysNoted r p (record { by = by; verb = Verb.PutMin q b; answer = a } ∷ past)
@@ -337,7 +336,7 @@ place_enter c r p by q t past h may s Answer.Entered e true hx true hy =
     let may_p = subst (λ z. MayEnter c by (part by past) z t) (eqb-true q p hy) may in
     let may_r = subst (λ z. MayEnter c z (part z past) p t) (eqb-true by r hx) may_p in
     let k = entered_facts (noted_grant r p past) (fence p past) at_r in
-    rw (hx, hy) (λ x e' d. let m = place_needs c r p x t past may_r (some_is t (Target.Place x) e') in member_least c r p k.g past (grant_at_joining r p past) h refl m.0 m.1 k.is (sym k.same))
+    rw (hx, hy) (λ x e' d. let m = place_needs c r p x t past may_r (same_some t (Target.Place x) e') in member_least c r p k.g past (grant_at_joining r p past) h refl m.0 m.1 k.is (sym k.same))
 place_enter c r p by q t past h may s Answer.Entered e true hx false hy = rw (hx, hy) s
 place_enter c r p by q t past h may s Answer.Entered e false hx y hy = rw hx s
 place_enter c r p by q t past h may s a e true hx true hy = rw (hx, hy) (λ x e d. cc)
@@ -358,5 +357,5 @@ open_place c r p = legal_induction c (OpenPlace r p) (λ t e. cc) (λ past by v 
 -- the number of a slot that lands is the region's minimum
 pub slot_number : (c : Config) (r p i b v : ℕ) (past : List Event) → IsLegalHistory c past → Needs c r (part r past) (Verb.PutSlot p i b v) → put_answer (drained r p past) ≡ Answer.Done → b ≡ region_min p past
 slot_number c r p i b v past h may e =
-    some_is b (region_min p past) (sym may.2.numbered ∙ number-part r past
+    same_some b (region_min p past) (sym may.2.numbered ∙ number-part r past
     ∙ open_place c r p past h (i % c.ring) (sym (open_target-part r p past) ∙ slot_entered c r p i b v (part r past) may.2) (put_done_undrained (drained r p past) e))

@@ -14,25 +14,24 @@ use Rattle.mu_agree.specs.Laws.{MinimumRises}
 use Rattle.mu_model.specs.Allowed.{Needs}
 use Rattle.mu_model.specs.Answers.{drained, entered_or_lost, put_answer}
 use Rattle.mu_model.specs.Entering.{MayEnter, MayPutMin, grant_seen, min_read, min_read_since, min_read_under, number_allowed, open_target}
-use Rattle.mu_model.specs.Histories.{earlier_or, has, newest, or_zero, part, since}
-use Rattle.mu_model.specs.Leaderships.{begins_leadership, fence_seen, grant_for, is_first_ask, leadership, noted_grant, proposal_number}
+use Rattle.mu_model.specs.Histories.{earlier_or, has, newest, or_zero, part}
+use Rattle.mu_model.specs.Leaderships.{begins_leadership, is_first_ask, leadership, noted_grant, proposal_number}
 use Rattle.mu_model.specs.Legal.{IsLegalHistory}
 use Rattle.mu_model.specs.Regions.{fence, fence_grant, fence_owner, region_min}
-use Rattle.mu_agree.proofs.Parts.{IsOwnTest, IsOwn, newest-part, since-part, has-part}
+use Rattle.mu_model.proofs.Owned.{IsOwnTest, IsOwn, newest-part, since-part, has-part, begins-own, noted-part}
 use Rattle.mu_agree.proofs.Legal.{made, legal_induction, legal_onward}
-use Rattle.mu_agree.proofs.Numbers.{begins-own, top, number-part, fresh_by, fresh}
+use Rattle.mu_agree.proofs.Numbers.{top, number-part, fresh_by, fresh}
 use Rattle.mu_agree.proofs.Access.{noting, opened, min_holds, put_done_undrained, entered_holds, entered_facts, open_target-part}
-
-some_is : {A : Type 0} (x y : A) → Some x ≡ Some y → x ≡ y
-some_is x y e = cc
+use Rattle.mu_model.proofs.Basics.{same_some}
 
 -- the number of the leadership is the greatest that was put
 abbrev pub TopIs : ℕ → List Event → Type 0
 TopIs r past = (m : ℕ) → proposal_number r past ≡ Some m → top r past ≡ m
 
-number_first : (r b : ℕ) (past : List Event) (o : Option ℕ) → number_allowed r past b o → (m : ℕ) → o ≡ Some m → b ≡ m
+-- the number of a leadership is the one that its first put had
+pub number_first : (r b : ℕ) (past : List Event) (o : Option ℕ) → number_allowed r past b o → (m : ℕ) → o ≡ Some m → b ≡ m
 number_first r b past None h m e = cc
-number_first r b past (Some x) h m e = h ∙ some_is x m e
+number_first r b past (Some x) h m e = h ∙ same_some x m e
 
 pub first_by : (r by p b : ℕ) (past : List Event) → MayPutMin by (part by past) p b → (by == r) ≡ true → (m : ℕ) → proposal_number r past ≡ Some m → b ≡ m
 first_by r by p b past may h m e =
@@ -40,7 +39,7 @@ first_by r by p b past may h m e =
     number_first r b (part r past) (proposal_number r (part r past)) k.numbered m (number-part r past ∙ e)
 
 top_case : (t b : ℕ) (o : Option ℕ) → (o ≡ None → t < b) → ((m : ℕ) → o ≡ Some m → b ≡ m) → ((m : ℕ) → o ≡ Some m → t ≡ m) → (m : ℕ) → earlier_or (Some b) o ≡ Some m → max b t ≡ m
-top_case t b None f g k m e = let i : b ≡ m = some_is b m e in let j : t < b = f refl in omega arith
+top_case t b None f g k m e = let i : b ≡ m = same_some b m e in let j : t < b = f refl in omega arith
 top_case t b (Some x) f g k m e = let i : b ≡ m = g m e in let j : t ≡ m = k m e in omega arith
 
 top_put : (c : Config) (r by p b : ℕ) (past : List Event) → MayPutMin by (part by past) p b → TopIs r past → (t : Bool) → (by == r) ≡ t → TopIs r (made c past by (Verb.PutMin p b) ∷ past)
@@ -98,7 +97,8 @@ seen_step c r p by v past s = s
 pub seen_law : (c : Config) (r p : ℕ) (past : List Event) → IsLegalHistory c past → Seen' r p past
 seen_law c r p = legal_induction c (Seen' r p) (λ g e. cc) (λ past by v h may s. seen_step c r p by v past s)
 
-more : (t b : Bool) → b ≡ true → cond t true b ≡ true
+-- a test that passes is enough
+pub more : (t b : Bool) → b ≡ true → cond t true b ≡ true
 more true b h = refl
 more false b h = h
 
@@ -126,7 +126,7 @@ known_min c r p by q past s true hx false hy = rw (hx, hy) s
 known_min c r p by q past s false hx y hy = rw hx s
 
 pub one_owner : (r s : ℕ) (o : Option ℕ) → o ≡ Some r → o ≡ Some s → (s == r) ≡ false → ⊥
-one_owner r s o e f h = eqb-false s r h (sym (some_is r s (sym e ∙ f)))
+one_owner r s o e f h = eqb-false s r h (sym (same_some r s (sym e ∙ f)))
 
 -- another can't land while r owns p
 pub not_other : (c : Config) (r p by q b : ℕ) (past : List Event) → IsLegalHistory c past → Needs c by (part by past) (Verb.PutMin q b) → put_answer (drained by q past) ≡ Answer.Done → (by == r) ≡ false → (q == p) ≡ true → fence_owner p past ≡ Some r → ⊥
@@ -158,18 +158,6 @@ known_step c r p by v past h may s = s
 
 pub min_known : (c : Config) (r p : ℕ) (past : List Event) → IsLegalHistory c past → MinKnown r p past
 min_known c r p = legal_induction c (MinKnown r p) (λ g e o m. cc) (λ past by v h may s. known_step c r p by v past h may.may s)
-
-fence_seen-own : (r p : ℕ) → IsOwn r (λ e. fence_seen r p e.by e.verb e.answer)
-fence_seen-own r p = record { own = λ e h. go e.by e.verb e.answer h }
-  where
-    go : (by : ℕ) (v : Verb) (a : Answer) → (by == r) ≡ false → fence_seen r p by v a ≡ None
-    go by (Verb.Fence q) (Answer.Seen f) h = rw h refl
-    go by v a h = refl
-
-pub noted-part : (r p : ℕ) (past : List Event) → noted_grant r p (part r past) ≡ noted_grant r p past
-noted-part r p past =
-    ap (λ l. grant_for r (newest (λ e. fence_seen r p e.by e.verb e.answer) l)) (since-part (begins_leadership r) r (begins-own r) past)
-    ∙ ap (grant_for r) (newest-part (λ e. fence_seen r p e.by e.verb e.answer) r (fence_seen-own r p) (since (begins_leadership r) past))
 
 min_read-own : (r p : ℕ) → IsOwn r (λ e. min_read r p e.by e.verb e.answer)
 min_read-own r p = record { own = λ e h. go e.by e.verb e.answer h }
@@ -203,7 +191,7 @@ leadership-part r past = since-part (begins_leadership r) r (begins-own r) past
 
 since_under : (r p : ℕ) (past : List Event) (g : ℕ) (o : Option ℕ) → o ≡ Some g → min_read_since r p past o ≡ true → min_read_under r p g past ≡ true
 since_under r p past g None e h = cc
-since_under r p past g (Some x) e h = subst (λ z. min_read_under r p z past ≡ true) (some_is x g e) h
+since_under r p past g (Some x) e h = subst (λ z. min_read_under r p z past ≡ true) (same_some x g e) h
 
 -- who enters for the minimum has read it under the grant
 entered_read : (c : Config) (r p g : ℕ) (t : Target) (past : List Event) → MayEnter c r (part r past) p t → t ≡ Target.Min → noted_grant r p past ≡ Some g → min_read_under r p g past ≡ true
@@ -253,7 +241,7 @@ open_enter c r p by q t past h may s Answer.Entered e true hx true hy =
     let may_r = subst (λ z. MayEnter c z (part z past) p t) (eqb-true by r hx) may_p in
     let k = entered_facts (noted_grant r p past) (fence p past) at_r in
     let o = entered_holds r p past (noting c r p past h) at_r in
-    rw (hx, hy) (λ e' d. min_known c r p past h k.g (sym k.same) o.0 (entered_read c r p k.g t past may_r (some_is t Target.Min e') k.is))
+    rw (hx, hy) (λ e' d. min_known c r p past h k.g (sym k.same) o.0 (entered_read c r p k.g t past may_r (same_some t Target.Min e') k.is))
 open_enter c r p by q t past h may s Answer.Entered e true hx false hy = rw (hx, hy) s
 open_enter c r p by q t past h may s Answer.Entered e false hx y hy = rw hx s
 open_enter c r p by q t past h may s a e true hx true hy = rw (hx, hy) (λ e d. cc)

@@ -13,14 +13,8 @@ use Rattle.mu_model.specs.Leaderships.{begins_leadership, is_first_ask, leadersh
 use Rattle.mu_model.specs.Legal.{IsLegalHistory}
 use Rattle.std.proofs.lemmas.List.{reverse-append}
 use mathlib.Core.List.{reverse}
-use Rattle.mu_agree.proofs.Parts.{IsOwnTest, IsOwn, oldest-part, greatest-part, since-part}
-
-begins-own_at : (r by : ℕ) (v : Verb) → (by == r) ≡ false → is_first_ask r by v ≡ false
-begins-own_at r by (Verb.Ask p) h = rw h refl
-begins-own_at r by _ h = refl
-
-pub begins-own : (r : ℕ) → IsOwnTest r (begins_leadership r)
-begins-own r = record { own = λ e h. begins-own_at r e.by e.verb h }
+use Rattle.mu_model.proofs.Owned.{IsOwn, oldest-part, greatest-part, since-part, begins-own}
+use Rattle.mu_model.proofs.Basics.{same_some}
 
 number_put-own_at : (r by : ℕ) (v : Verb) → (by == r) ≡ false → number_put r by v ≡ None
 number_put-own_at r by (Verb.PutMin p b) h = rw h refl
@@ -28,13 +22,6 @@ number_put-own_at r by _ h = refl
 
 pub number_put-own : (r : ℕ) → IsOwn r (λ e. number_put r e.by e.verb)
 number_put-own r = record { own = λ e h. number_put-own_at r e.by e.verb h }
-
-any_number_put-own_at : (r by : ℕ) (v : Verb) → (by == r) ≡ false → number_put r by v ≡ None
-any_number_put-own_at r by (Verb.PutMin p b) h = rw h refl
-any_number_put-own_at r by _ h = refl
-
-pub any_number_put-own : (r : ℕ) → IsOwn r (λ e. number_put r e.by e.verb)
-any_number_put-own r = record { own = λ e h. any_number_put-own_at r e.by e.verb h }
 
 -- a number of the part is that of the history
 pub number-part : (r : ℕ) (past : List Event) → proposal_number r (part r past) ≡ proposal_number r past
@@ -47,10 +34,7 @@ abbrev pub top : ℕ → List Event → ℕ
 top r past = greatest (λ e. number_put r e.by e.verb) past
 
 pub top-part : (r : ℕ) (past : List Event) → top r (part r past) ≡ top r past
-top-part r past = greatest-part (λ e. number_put r e.by e.verb) r (any_number_put-own r) past
-
-some_is : (x y : ℕ) → Some x ≡ Some y → x ≡ y
-some_is x y e = cc
+top-part r past = greatest-part (λ e. number_put r e.by e.verb) r (number_put-own r) past
 
 -- the number b was that of the n-th leadership of r, and is passed by each later one
 pub record Stands (r b n : ℕ) (past : List Event) : Type 0 where
@@ -81,7 +65,7 @@ step_ask r b n by p a past s false h = record { put = s.put; own = s.own; case =
 put_case : (L n b b' : ℕ) (o : Option ℕ) → (o ≡ None → b < b') → ((L ≡ n) × (o ≡ Some b)) ⊎ ((n < L) × ((m : ℕ) → o ≡ Some m → b < m))
     → ((L ≡ n) × (earlier_or (Some b') o ≡ Some b)) ⊎ ((n < L) × ((m : ℕ) → earlier_or (Some b') o ≡ Some m → b < m))
 put_case L n b b' None f (inl h) = cc
-put_case L n b b' None f (inr h) = inr (h.0, λ m e. subst (λ x. b < x) (some_is b' m e) (f refl))
+put_case L n b b' None f (inr h) = inr (h.0, λ m e. subst (λ x. b < x) (same_some b' m e) (f refl))
 put_case L n b b' (Some x) f h = h
 
 step_put : (r b n by p b' : ℕ) (a : Answer) (past : List Event) → ((by == r) ≡ true → proposal_number r past ≡ None → (top r past < b') × (b' % 8 ≡ r)) → Stands r b n past → (t : Bool) → (by == r) ≡ t → Stands r b n (record { by = by; verb = Verb.PutMin p b'; answer = a } ∷ past)
@@ -98,11 +82,11 @@ number_ask r by p a past s true h = record { put = rw h (λ m e. cc); own = rw h
 number_ask r by p a past s false h = record { put = rw h s.put; own = rw h s.own }
 
 number_case : (r b : ℕ) (o : Option ℕ) → (o ≡ None → b % 8 ≡ r) → ((m : ℕ) → o ≡ Some m → m % 8 ≡ r) → (m : ℕ) → earlier_or (Some b) o ≡ Some m → m % 8 ≡ r
-number_case r b None f g m e = subst (λ x. x % 8 ≡ r) (some_is b m e) (f refl)
+number_case r b None f g m e = subst (λ x. x % 8 ≡ r) (same_some b m e) (f refl)
 number_case r b (Some x) f g m e = g m e
 
 top_case : (t b : ℕ) (o : Option ℕ) → ((m : ℕ) → o ≡ Some m → m ≤ t) → (m : ℕ) → earlier_or (Some b) o ≡ Some m → m ≤ max b t
-top_case t b None g m e = let k : b ≡ m = some_is b m e in omega arith
+top_case t b None g m e = let k : b ≡ m = same_some b m e in omega arith
 top_case t b (Some x) g m e = let k : m ≤ t = g m e in omega arith
 
 number_step_put : (r by p b : ℕ) (a : Answer) (past : List Event) → ((by == r) ≡ true → proposal_number r past ≡ None → (top r past < b) × (b % 8 ≡ r)) → Numbered r past → (t : Bool) → (by == r) ≡ t → Numbered r (record { by = by; verb = Verb.PutMin p b; answer = a } ∷ past)
@@ -117,10 +101,6 @@ number_step c r by v a past may s = record { put = s.put; own = s.own }
 pub numbered : (c : Config) (r : ℕ) (past : List Event) → IsLegalHistory c past → Numbered r past
 numbered c r [] h = record { put = λ m e. cc; own = λ m e. cc }
 numbered c r (e ∷ past) h = number_step c r e.by e.verb e.answer past h.1.allowed.may (numbered c r past h.0)
-
-legal_before : (c : Config) (newer older : List Event) → IsLegalHistory c (newer ++ older) → IsLegalHistory c older
-legal_before c [] older h = h
-legal_before c (e ∷ newer) older h = legal_before c newer older h.0
 
 stands : (c : Config) (r b : ℕ) (newer older : List Event) → IsLegalHistory c (newer ++ older) → proposal_number r older ≡ Some b → Stands r b (leaderships r older) (newer ++ older)
 stands c r b [] older h e = let k = numbered c r older h in record { put = k.put b e; own = k.own b e; case = inl (refl, e) }

@@ -14,9 +14,7 @@ use Rattle.mu_agree.proofs.Legal.{made, legal_induction}
 use Rattle.mu_agree.proofs.Numbers.{number-part, numbered, top, fresh_by}
 use Rattle.mu_agree.proofs.Members.{number_stays}
 use Rattle.mu_agree.proofs.Landings.{at_part}
-
-some_is : {A : Type 0} (x y : A) → Some x ≡ Some y → x ≡ y
-some_is x y e = cc
+use Rattle.mu_model.proofs.Basics.{same_some}
 
 abbrev pub slot_value : ℕ → ℕ → Verb → Option ℕ
 slot_value i b (Verb.PutSlot p j n w) = if (j == i) && (n == b) then Some w else None
@@ -109,7 +107,7 @@ first_other c r i by q j n w past h may s hx b e = go (j == i) (n == b) refl
 first_own : (c : Config) (r i by q j n w : ℕ) (past : List Event) → Needs c by (part by past) (Verb.PutSlot q j n w) → FirstIs r i past (part r past) → (by == r) ≡ true → FirstIs r i (made c past by (Verb.PutSlot q j n w) ∷ past) (made c past by (Verb.PutSlot q j n w) ∷ part r past)
 first_own c r i by q j n w past may s hx b e =
     let k : proposal_number r (part r past) ≡ Some n = subst (λ z. proposal_number z (part z past) ≡ Some n) (eqb-true by r hx) may.2.numbered in
-    let same : n ≡ b = some_is n b (sym k ∙ e) in
+    let same : n ≡ b = same_some n b (sym k ∙ e) in
     let t : (n == b) ≡ true = eq-eqb n b same in
     rw (hx, t) (go (j == i) (offered i b past) (first_value r i (part r past)) (s b e))
   where
@@ -128,7 +126,7 @@ first_min c r i by q b' past h may s hx = rw hx (λ b e. go (proposal_number r (
     go (Some x) k b e = s b (k ∙ e)
     go None k b e =
         let f = fresh_by r by q b' past may.1 hx (sym (number-part r past) ∙ k) in
-        let same : b' ≡ b = some_is b' b e in
+        let same : b' ≡ b = same_some b' b e in
         subst (λ z. offered i z past ≡ first_value r i (part r past)) same (offer_none c i b' r past (offered i b' past) h refl f.1 f.0 ∙ sym (no_first c r i past h k))
 
 first_ask : (c : Config) (r i by q : ℕ) (past J : List Event) → FirstIs r i past J → (t : Bool) → is_first_ask r by (Verb.Ask q) ≡ t → FirstIs r i past (made c past by (Verb.Ask q) ∷ J)

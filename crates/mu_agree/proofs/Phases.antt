@@ -32,6 +32,7 @@ use Rattle.mu_agree.proofs.Settled.{Late, Settled, Know, Copied, puts_it, has_pu
 use Rattle.mu_agree.proofs.Agreement.{get_more, slot_at, puts_at_members}
 use Rattle.mu_agree.proofs.Copies.{it_is_at}
 use Rattle.mu_agree.proofs.Filled.{filled_put, late_step, value_is}
+use Rattle.mu_model.proofs.Basics.{same_some}
 
 -- a put of a leadership carries its number
 abbrev pub Carries : ℕ → ℕ → ℕ → ℕ → List Event → List Event → Type 0
@@ -41,9 +42,6 @@ carries_ask : (c : Config) (i V r p by q : ℕ) (past J : List Event) → Carrie
 carries_ask c i V r p by q past J s true h = rw h (λ b m. absurd (true≢false (sym m)))
 carries_ask c i V r p by q past J s false h = rw h s
 
-some_is : {A : Type 0} (x y : A) → Some x ≡ Some y → x ≡ y
-some_is x y e = cc
-
 carries_put : (c : Config) (i V r p by q j n w : ℕ) (past : List Event) → Needs c r (part r past) (Verb.PutSlot q j n w) → Carries i V r p past (part r past) → (by == r) ≡ true → (a : Answer)
     → Carries i V r p (record { by = by; verb = Verb.PutSlot q j n w; answer = a } ∷ past) (record { by = by; verb = Verb.PutSlot q j n w; answer = a } ∷ part r past)
 carries_put c i V r p by q j n w past may s hx Answer.Done b m o =
@@ -51,7 +49,7 @@ carries_put c i V r p by q j n w past may s hx Answer.Done b m o =
       | inl k ↦ (let x = and_parts (by == r) ((q == p) && ((j == i) && (w == V))) k in
           let y = and_parts (q == p) ((j == i) && (w == V)) x.1 in
           let z = and_parts (j == i) (w == V) y.1 in
-          let u : (n == b) ≡ true = eq-eqb n b (some_is n b (sym may.2.numbered ∙ o)) in rw (y.0, z.0, u, z.1) refl)
+          let u : (n == b) ≡ true = eq-eqb n b (same_some n b (sym may.2.numbered ∙ o)) in rw (y.0, z.0, u, z.1) refl)
       | inr k ↦ landed_stays p i b V (record { by = by; verb = Verb.PutSlot q j n w; answer = Answer.Done }) past (s b k o)
     ]
 carries_put c i V r p by q j n w past may s hx a b m o = s b m o
@@ -192,7 +190,7 @@ late_start c i by q j n w past h al s ch = record { base = base'; knows = knows'
         let low = facts.most i b w y at k in
         let high = facts.least i y.0 y.1 y_at in
         let same : y.0 ≡ region_min p past = omega arith in
-        some_is y.1 w (sym (own' p y.0 y.1 y_at) ∙ ap (λ z. offered i z (made c past by (Verb.PutSlot q j n w) ∷ past)) same ∙ own' p b w at)
+        same_some y.1 w (sym (own' p y.0 y.1 y_at) ∙ ap (λ z. offered i z (made c past by (Verb.PutSlot q j n w) ∷ past)) same ∙ own' p b w at)
 
 -- before the choice, or after it
 pub data Phase (c : Config) (i : ℕ) (past : List Event) : Type 0 where

@@ -24,9 +24,9 @@ use Rattle.mu_model.specs.declared.event.Fence.{Fence}
 use Rattle.mu_agree.proofs.Landings.{no_gaps}
 use Rattle.mu_agree.proofs.Prefixes.{get_below}
 use Rattle.mu_agree.proofs.Room.{look_kept, mark_version, past_long}
-use Rattle.mu_agree.proofs.Parts.{IsOwn, has-part, greatest-part}
+use Rattle.mu_model.proofs.Owned.{IsOwn, has-part, greatest-part, noted-part}
 use Rattle.mu_agree.proofs.Access.{noting}
-use Rattle.mu_agree.proofs.Minimum.{noted-part, leadership-part, grant_seen-own}
+use Rattle.mu_agree.proofs.Minimum.{leadership-part, grant_seen-own}
 use Rattle.mu_agree.proofs.Reach.{log_under}
 use Rattle.mu_agree.proofs.Sound.{chosen_sound}
 use Rattle.mu_agree.proofs.Sessions.{known_in_session, known_are_chosen, marked_once, fits_stands, rows_read}

@@ -19,20 +19,13 @@ use Rattle.mu_model.specs.Legal.{IsLegalHistory}
 use Rattle.mu_model.specs.Regions.{fence_grant, fence_owner, region_fuo, region_log}
 use Rattle.mu_agree.proofs.Legal.{made, legal_induction}
 use Rattle.mu_agree.proofs.Access.{slot_holds}
-use Rattle.mu_agree.proofs.Minimum.{seen_law, one_owner}
+use Rattle.mu_agree.proofs.Minimum.{seen_law, one_owner, more}
 use Rattle.mu_agree.proofs.Landed.{lands_within}
 use Rattle.mu_agree.proofs.Room.{log_near, length_put_room}
-
-some_is : (x y : ℕ) → Some x ≡ Some y → x ≡ y
-some_is x y e = cc
+use Rattle.mu_model.proofs.Basics.{same_some}
 
 abbrev pub LogUnder : Config → ℕ → ℕ → List Event → Type 0
 LogUnder c r p past = (g u : ℕ) → g ≡ fence_grant p past → fence_owner p past ≡ Some r → fuo_under r p g (leadership r past) ≡ Some u → length (region_log p past) ≤ max (u + c.ring) (put_end r p (leadership r past))
-
--- what was read under a grant was read after the grant was seen
-more : (t b : Bool) → b ≡ true → cond t true b ≡ true
-more true b h = refl
-more false b h = h
 
 under_seen : (r p g u : ℕ) (past : List Event) → fuo_under r p g past ≡ Some u → has (λ e. grant_seen r p g e.by e.verb e.answer) past ≡ true
 under_seen r p g u [] e = cc
@@ -54,7 +47,7 @@ reach_fuo c r p by q past l h s true k = rw k (λ g u e o m. go (has (λ f. gran
     go : (t : Bool) (g u : ℕ) → g ≡ fence_grant p past → fence_owner p past ≡ Some r → newer_or (kept_if t (Some (region_fuo q past))) (fuo_under r p g (leadership r past)) ≡ Some u → length (region_log p past) ≤ max (u + c.ring) (put_end r p (leadership r past))
     go true g u e o m =
         let same : region_fuo q past ≡ region_fuo p past = ap (λ z. region_fuo z past) (eqb-true q p (and_parts (by == r) (q == p) k).1) in
-        let is : region_fuo q past ≡ u = some_is (region_fuo q past) u m in
+        let is : region_fuo q past ≡ u = same_some (region_fuo q past) u m in
         let n = log_near c p past l h in omega arith
     go false g u e o m = s g u e o m
 reach_fuo c r p by q past l h s false k = rw k s

@@ -24,9 +24,8 @@ use Rattle.mu_model.proofs.Scans.{all_at}
 use Rattle.mu_agree.proofs.Phases.{one_chosen, known_chosen}
 use Rattle.mu_agree.proofs.Prefixes.{get_below}
 use Rattle.mu_agree.proofs.Sound.{Fits, by_batch, by_mark, Sound, chosen_sound, all_sound, put_sound}
-
-some_is : {A : Type 0} (x y : A) → Some x ≡ Some y → x ≡ y
-some_is x y e = cc
+use Rattle.mu_model.proofs.Basics.{same_some}
+use Rattle.mu_model.proofs.Lists.{get_front}
 
 -- laws of lists of numbers
 pub length_counted : (n k : ℕ) → length (counted n k) ≡ n
@@ -130,11 +129,6 @@ same_list [] (y ∷ ys) e f = absurd (omega arith)
 same_list (x ∷ xs) [] e f = absurd (omega arith)
 same_list (x ∷ xs) (y ∷ ys) e f = ap (λ z. z ∷ xs) (f 0 x y refl refl) ∙ ap (λ z. y ∷ z) (same_list xs ys (omega arith) (λ k a b. f (suc k) a b))
 
-get_front : (xs ys : List ℕ) (k x : ℕ) → slice_get xs k ≡ Some x → slice_get (xs ++ ys) k ≡ Some x
-get_front [] ys k x e = cc
-get_front (z ∷ xs) ys zero x e = e
-get_front (z ∷ xs) ys (suc k) x e = get_front xs ys k x e
-
 get_middle : (xs ys : List ℕ) (v : ℕ) → slice_get (xs ++ v ∷ ys) (length xs) ≡ Some v
 get_middle [] ys v = refl
 get_middle (z ∷ xs) ys v = get_middle xs ys v
@@ -175,7 +169,7 @@ known_stands_law c events r i v h k =
 -- marks
 is_marked : (c : Config) (q : ℕ) (values : List ℕ) (k v : ℕ) → slice_get values k ≡ Some v → is_mark c q v ≡ true → marked c q values ≡ true
 is_marked c q [] k v e m = cc
-is_marked c q (x ∷ xs) zero v e m = let same : x ≡ v = some_is x v e in here (is_mark c q x) (marked c q xs) (subst (λ z. is_mark c q z ≡ true) (sym same) m)
+is_marked c q (x ∷ xs) zero v e m = let same : x ≡ v = same_some x v e in here (is_mark c q x) (marked c q xs) (subst (λ z. is_mark c q z ≡ true) (sym same) m)
   where
     here : (t u : Bool) → t ≡ true → (t || u) ≡ true
     here true u h = refl

@@ -29,9 +29,7 @@ use Rattle.mu_agree.proofs.Offers.{at_part', of_one}
 use Rattle.mu_agree.proofs.Early.{Protected, position_within, length_most}
 use Rattle.mu_agree.proofs.Late.{Base}
 use Rattle.mu_agree.proofs.Tame.{Tame, knowing, tame_put, tame_own, join_tame, other_tame}
-
-some_is : {A : Type 0} (x y : A) → Some x ≡ Some y → x ≡ y
-some_is x y e = cc
+use Rattle.mu_model.proofs.Basics.{same_some}
 
 abbrev pub Shows : ℕ → ℕ → ℕ → List Event → Type 0
 Shows i V p past = (y : ℕ × ℕ) → slice_get (region_log p past) i ≡ Some y → y.1 ≡ V
@@ -77,7 +75,7 @@ tame_min c i V B maj p by q b past h may s kn z Answer.Done e true hq r hx true 
     let t = member_reached c r p past h member in
     let num : proposal_number r (part r past) ≡ Some b = number_back b b (region_min p past) (proposal_number r (part r past)) t o in
     let low : region_min p past ≤ b = subst (λ x. region_min x past ≤ b) (eqb-true q p hq) (min_lands c by q b past h may e) in
-    let same : t.b ≡ b = some_is t.b b (sym t.is ∙ num) in
+    let same : t.b ≡ b = same_some t.b b (sym t.is ∙ num) in
     let up = t.below in
     let eq : b ≡ region_min p past = omega arith in
     subst (λ x. Tame c i V B maj r (record { by = by; verb = Verb.PutMin q b; answer = x } ∷ part r past) (record { by = by; verb = Verb.PutMin q b; answer = x } ∷ past)) e

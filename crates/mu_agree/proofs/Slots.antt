@@ -16,20 +16,18 @@ use Rattle.mu_model.specs.Regions.{region_log, region_min}
 use Rattle.mu_agree.proofs.Legal.{made, legal_induction, legal_onward, legal_older}
 use Rattle.mu_agree.proofs.Minimum.{rises_step}
 use Rattle.mu_agree.proofs.Members.{slot_number}
-
-some_is : {A : Type 0} (x y : A) → Some x ≡ Some y → x ≡ y
-some_is x y e = cc
+use Rattle.mu_model.proofs.Basics.{same_some}
 
 -- what stands at i after one entry was added, or set
 pub get_added : (log : List (ℕ × ℕ)) (i : ℕ) (z y : ℕ × ℕ) → slice_get (log ++ z ∷ []) i ≡ Some y → (slice_get log i ≡ Some y) ⊎ ((i ≡ length log) × (y ≡ z))
-get_added [] zero z y e = inr (refl, sym (some_is z y e))
+get_added [] zero z y e = inr (refl, sym (same_some z y e))
 get_added [] (suc i) z y e = cc
 get_added (x ∷ log) zero z y e = inl e
 get_added (x ∷ log) (suc i) z y e = elim (get_added log i z y e) [ inl h ↦ inl h | inr h ↦ inr (ap suc h.0, h.1) ]
 
 pub get_set : (log : List (ℕ × ℕ)) (j i : ℕ) (z y : ℕ × ℕ) → slice_get (set log j z) i ≡ Some y → (slice_get log i ≡ Some y) ⊎ ((i ≡ j) × (y ≡ z))
 get_set [] j i z y e = cc
-get_set (x ∷ log) zero zero z y e = inr (refl, sym (some_is z y e))
+get_set (x ∷ log) zero zero z y e = inr (refl, sym (same_some z y e))
 get_set (x ∷ log) zero (suc i) z y e = inl e
 get_set (x ∷ log) (suc j) zero z y e = inl e
 get_set (x ∷ log) (suc j) (suc i) z y e = elim (get_set log j i z y e) [ inl h ↦ inl h | inr h ↦ inr (ap suc h.0, h.1) ]
@@ -93,7 +91,7 @@ above_step c p i n by v past h may s = record { least = s.least; slot = s.slot }
 pub slot_rises : (c : Config) (p i : ℕ) (x y : ℕ × ℕ) (newer older : List Event) → IsLegalHistory c (newer ++ older) → slice_get (region_log p older) i ≡ Some x → slice_get (region_log p (newer ++ older)) i ≡ Some y → x.0 ≤ y.0
 slot_rises c p i x y newer older h e k =
     let s = legal_onward c (Above p i x.0) older
-    (record { least = log_below c p older (legal_older c newer older h) i x e; slot = λ z f. (let g : x ≡ z = some_is x z (sym e ∙ f) in let o : x.0 ≡ z.0 = ap (λ w. w.0) g in omega arith) })
+    (record { least = log_below c p older (legal_older c newer older h) i x e; slot = λ z f. (let g : x ≡ z = same_some x z (sym e ∙ f) in let o : x.0 ≡ z.0 = ap (λ w. w.0) g in omega arith) })
     (λ past by v l may t. above_step c p i x.0 by v past l may.may t) newer h in
     s.slot y k
 

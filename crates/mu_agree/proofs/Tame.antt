@@ -29,12 +29,7 @@ use Rattle.mu_agree.proofs.Offers.{offered, offer_stays}
 use Rattle.mu_agree.proofs.Choice.{Chosen, not_chosen, free, taken, Seeing, best_none, best_most}
 use Rattle.mu_agree.proofs.Early.{PutValue, copied, again, fresh, put_value, fresh_safe}
 use Rattle.mu_agree.proofs.Late.{Base}
-
-some_is : {A : Type 0} (x y : A) → Some x ≡ Some y → x ≡ y
-some_is x y e = cc
-
-pub none_some : {A : Type 0} (x : A) → None ≡ Some x → ⊥
-none_some x e = cc
+use Rattle.mu_model.proofs.Basics.{same_some, none_some}
 
 pub record LateEntry (B : ℕ) (a : Answer) : Type 0 where
   pub m : ℕ
@@ -92,7 +87,7 @@ pub tame_put : (c : Config) (i V B : ℕ) (maj : ℕ → Bool) (r q b w : ℕ) (
 tame_put c i V B maj r q b w past h s kn t may = elim (cases_eq w V) [ inl e ↦ e | inr d ↦ absurd (go d (put_value c r q i b w past h may) t) ]
   where
     lower : (w ≡ V → ⊥) → Below c i V r (part r past) past → ((n : ℕ) → n < b → offered i n past ≡ Some V → Chosen c i n V past → ⊥) → ⊥
-    lower d u f = let e : u.m ≡ b = some_is u.m b (sym u.num ∙ may.numbered) in let l = u.less in f u.b (omega arith) u.mine u.chosen
+    lower d u f = let e : u.m ≡ b = same_some u.m b (sym u.num ∙ may.numbered) in let l = u.less in f u.b (omega arith) u.mine u.chosen
 
     go : (w ≡ V → ⊥) → PutValue c r i b w past → Tame c i V B maj r (part r past) past → ⊥
     go d (copied k) t = d (kn w k)
@@ -166,7 +161,7 @@ look_calm c i V B maj r by q j past h s hx k = record { looks = λ p a l m. rw h
         → newer_or (cond (x && y) (Some (look_reply c.ring (region_log q past) j)) None) (last_look r p i (part r past)) ≡ Some a → (a ≡ Answer.Past) ⊎ LateEntry B a
     at p a l m true hq true hj e =
         let same : look_reply c.ring (region_log q past) j ≡ look_reply c.ring (region_log p past) i = ap (λ x. look_reply c.ring (region_log x past) j) (eqb-true q p hq) ∙ ap (look_reply c.ring (region_log p past)) (eqb-true j i hj) in
-        let is : look_reply c.ring (region_log p past) i ≡ a = sym same ∙ some_is (look_reply c.ring (region_log q past) j) a e in
+        let is : look_reply c.ring (region_log p past) i ≡ a = sym same ∙ same_some (look_reply c.ring (region_log q past) j) a e in
         subst (λ z. (z ≡ Answer.Past) ⊎ LateEntry B z) is (late_look c i V B p past h (s.took p l m))
     at p a l m true hq false hj e = k.looks p a l m e
     at p a l m false hq y hj e = k.looks p a l m e
@@ -198,19 +193,19 @@ slot_tame c i V B maj r by q j n w past h s kn t may hx a = go t (j == i) refl
         values o eo f = record { looks = k.looks; joined = rw (hx, hj, eo) (new o f) }
           where
             new : (o : Option ℕ) → ((f : ℕ) → o ≡ Some f → f ≡ V) → (x : ℕ) → earlier_or (Some w) o ≡ Some x → (x ≡ V → ⊥) → is_none (earlier_or (Some w) (oldest (λ f. value_put r i f.by f.verb) (since_last_joining r (part r past)))) ≡ true
-            new None f x m d = absurd (d (sym (some_is w x m) ∙ is))
+            new None f x m d = absurd (d (sym (same_some w x m) ∙ is))
             new (Some y) f x m d = absurd (d (f x m))
 
         again_or : (o : Option ℕ) → first_value r i (part r past) ≡ o → Tame c i V B maj r (record { by = by; verb = Verb.PutSlot q j n w; answer = a } ∷ part r past) (record { by = by; verb = Verb.PutSlot q j n w; answer = a } ∷ past)
         again_or None eo = calm (values None eo (λ f m. absurd (none_some f m)))
         again_or (Some f) eo = elim (cases_eq f V) [
-          | inl d ↦ calm (values (Some f) eo (λ x m. sym (some_is f x m) ∙ d))
+          | inl d ↦ calm (values (Some f) eo (λ x m. sym (same_some f x m) ∙ d))
           | inr d ↦ from (put_value c r q i n w past h (at (eqb-true j i hj)))
         ]
           where
             from : PutValue c r i n w past → Tame c i V B maj r (record { by = by; verb = Verb.PutSlot q j n w; answer = a } ∷ part r past) (record { by = by; verb = Verb.PutSlot q j n w; answer = a } ∷ past)
             from (copied m) = knowing (let l = slice_get_within (known c r (part r past)) i w m in let x = known_longer c r (record { by = by; verb = Verb.PutSlot q j n w; answer = a }) (part r past) in omega arith)
-            from (again o f1 nx jn) = calm (values (Some f) eo (λ x m. sym (some_is w x (sym f1 ∙ eo ∙ m)) ∙ is))
+            from (again o f1 nx jn) = calm (values (Some f) eo (λ x m. sym (same_some w x (sym f1 ∙ eo ∙ m)) ∙ is))
             from (fresh o f1 nx fd g) = absurd (none_some f (sym f1 ∙ eo))
 
 -- what is tame stays tame after an own step

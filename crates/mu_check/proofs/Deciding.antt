@@ -1,5 +1,5 @@
 -- Each list has one verdict.
-use Rattle.std.proofs.Common.{List, [], ◌∷◌, ◌++◌, Some, ℕ, suc, ◌<◌, ◌≡◌, inl, inr, refl, sym, ap, subst, ◌∙◌, arith, take, drop}
+use Rattle.std.proofs.Common.{List, ◌∷◌, Some, ℕ, suc, ◌<◌, ◌≡◌, inl, inr, refl, sym, ap, subst, ◌∙◌, arith, take, drop}
 use Rattle.std.specs.List.{slice_get}
 use Rattle.std.proofs.lemmas.Bool.{cases_lt}
 use Rattle.mu_model.specs.declared.config.Config.{Config}
@@ -10,11 +10,7 @@ use Rattle.mu_check.specs.declared.verdict.Verdict.{Verdict}
 use Rattle.mu_check.specs.declared.verdict.Wrong.{Wrong}
 use Rattle.mu_check.specs.Verdicts.{AtMostOneVerdict, BreaksAt, IsWrong}
 use Rattle.mu_check.proofs.Places.{history_at, slice_get-take, take-take}
-
--- what comes after the older part of a legal history may be left out
-legal_older : (c : Config) (newer older : List Event) → IsLegalHistory c (newer ++ older) → IsLegalHistory c older
-legal_older c [] older h = h
-legal_older c (e ∷ newer) older h = legal_older c newer older h.0
+use Rattle.mu_agree.proofs.Legal.{legal_older}
 
 -- each event of a legal list may come after those before it
 legal_at : (c : Config) (events : List Event) (i : ℕ) (e : Event) → IsLegal c events → slice_get events i ≡ Some e → MayFollow c (history (take i events)) e

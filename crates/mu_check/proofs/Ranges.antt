@@ -5,41 +5,15 @@ use Rattle.std.proofs.lemmas.Bool.{cases_eq}
 use Rattle.std.proofs.lemmas.Bool.Decides.{eqb_tells}
 use Rattle.mu_model.specs.declared.config.Config.{Config}
 use Rattle.mu_model.specs.declared.event.Event.{Event}
-use Rattle.mu_model.specs.declared.event.Verb.{Verb}
-use Rattle.mu_model.specs.Allowed.{Allowed}
 use Rattle.mu_model.specs.Contents.{IsConfig}
 use Rattle.mu_model.specs.Histories.{part}
 use Rattle.mu_model.specs.Legal.{IsLegalHistory}
-use Rattle.mu_regions.specs.Range.{InRange}
 
 same_id : (r : ℕ) → r == r ≡ true
 same_id r = elim (eqb_tells r r) [ inl same ↦ same.0 | inr off ↦ absurd (off.1 refl) ]
 
 other_id : (r q : ℕ) → r ≢ q → q == r ≡ false
 other_id r q differ = elim (eqb_tells q r) [ inl same ↦ absurd (differ (sym same.1)) | inr off ↦ off.0 ]
-
--- what is allowed names regions, positions, rows and words that are there
-pub in_range : (c : Config) (r : ℕ) (mine : List Event) (verb : Verb) → Allowed c r mine verb → InRange c r verb
-in_range c r mine (Verb.Ask p) a = record { replica = a.replica; read = a.may.0; near = tt }
-in_range c r mine (Verb.Fence p) a = record { replica = a.replica; read = a.may.0; near = tt }
-in_range c r mine (Verb.Min p) a = record { replica = a.replica; read = a.may.0; near = tt }
-in_range c r mine (Verb.Enter p t) a = record { replica = a.replica; read = a.may.0; near = tt }
-in_range c r mine (Verb.PutMin p b) a = record { replica = a.replica; read = a.may.0; near = tt }
-in_range c r mine (Verb.Look p i) a = record { replica = a.replica; read = a.may.0; near = tt }
-in_range c r mine (Verb.PutSlot p i b v) a = record { replica = a.replica; read = a.may.0; near = a.may.1 }
-in_range c r mine (Verb.Fuo p) a = record { replica = a.replica; read = a.may; near = tt }
-in_range c r mine (Verb.RaiseFuo p u) a = record { replica = a.replica; read = a.may.0; near = tt }
-in_range c r mine (Verb.Head q) a = record { replica = a.replica; read = a.may; near = tt }
-in_range c r mine (Verb.ReadBeat q) a = record { replica = a.replica; read = a.may.0; near = tt }
-in_range c r mine (Verb.WriteRow j k x) a = record { replica = a.replica; read = a.replica; near = (a.may.0, a.may.1) }
-in_range c r mine (Verb.ReadRow v k) a = record { replica = a.replica; read = a.may.0; near = (a.may.1, a.may.2) }
-in_range c r mine (Verb.RaiseHead h) a = record { replica = a.replica; read = a.replica; near = tt }
-in_range c r mine Verb.Beat a = record { replica = a.replica; read = a.replica; near = tt }
-in_range c r mine (Verb.ReadAsk w) a = record { replica = a.replica; read = a.replica; near = a.may }
-in_range c r mine Verb.Close a = record { replica = a.replica; read = a.replica; near = tt }
-in_range c r mine Verb.LookTarget a = record { replica = a.replica; read = a.replica; near = tt }
-in_range c r mine Verb.Drain a = record { replica = a.replica; read = a.replica; near = tt }
-in_range c r mine (Verb.Grant w) a = record { replica = a.replica; read = a.replica; near = tt }
 
 -- a part is within the budget
 part_within : (c : Config) (r : ℕ) (past : List Event) → IsLegalHistory c past → length (part r past) ≤ c.budget

@@ -3,10 +3,10 @@ use Rattle.std.proofs.Common.{◌≡◌, ◌&&◌, ℕ, zero, suc, ◌+◌, ◌<
 use Rattle.std.proofs.lemmas.List.{length-append}
 use Rattle.std.proofs.lemmas.Bool.{cases_eq}
 use Rattle.std.specs.List.{slice_get}
-use Rattle.mu_model.proofs.Entries.{get_push_here, get_push_other}
 use Rattle.mu_model.specs.Histories.{all_below}
 use Rattle.mu_model.specs.Knowledge.{front}
 use Rattle.mu_cluster.specs.FirstSteps.{upto_by}
+use Rattle.mu_model.proofs.Lists.{get_push_here, get_push_other}
 
 pub length-upto_by : {A : Type 0} (f : ℕ → A) (n : ℕ) → length (upto_by f n) ≡ n
 length-upto_by f zero = refl

@@ -2,7 +2,8 @@
 use Rattle.std.proofs.Common.{Bool, List, arith, false, true, ℕ, ◌<◌, ◌==◌, ◌≡◌, ◌||◌, not, refl}
 use Rattle.mu_model.specs.declared.event.Event.{Event}
 use Rattle.mu_model.specs.Scores.{is_failed, score}
-use Rattle.mu_detect.proofs.Least.{different, same_number}
+use Rattle.mu_detect.proofs.Least.{different}
+use Rattle.mu_model.proofs.Basics.{same_number}
 
 -- q is r, or r holds it to be alive
 abbrev pub may_lead : ℕ → List Event → ℕ → Bool

@@ -1,11 +1,8 @@
 -- The least number that passes.
-use Rattle.std.proofs.Common.{Bool, arith, false, true, suc, zero, ℕ, ◌+◌, ◌<◌, ◌==◌, ◌≡◌, ◌≢◌, inl, inr, eqb-true, eq-eqb, refl, sym, subst}
+use Rattle.std.proofs.Common.{Bool, arith, false, true, suc, zero, ℕ, ◌+◌, ◌<◌, ◌==◌, ◌≡◌, ◌≢◌, inl, inr, eqb-true, refl, sym, subst}
 use Rattle.std.proofs.lemmas.Bool.{cases_lt}
 use Rattle.mu_model.specs.Scores.{least_below}
-
--- a number equals itself
-pub same_number : (n : ℕ) → n == n ≡ true
-same_number n = eq-eqb n n refl
+use Rattle.mu_model.proofs.Basics.{same_number}
 
 -- the test whether two numbers that differ are equal
 pub different : (a b : ℕ) → a ≢ b → a == b ≡ false

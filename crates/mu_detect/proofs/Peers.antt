@@ -1,5 +1,5 @@
 -- What is held of the replicas, after one more event.
-use Rattle.std.proofs.Common.{Bool, List, None, Some, [], arith, false, true, suc, zero, ℕ, ◌<◌, ◌==◌, ◌≡◌, ◌≢◌, ◌⊎◌, inl, inr, ◌∷◌, refl, sym, subst, ap, ◌∙◌, set, get_or, length}
+use Rattle.std.proofs.Common.{Bool, List, None, Some, false, true, ℕ, ◌<◌, ◌==◌, ◌≡◌, inl, inr, ◌∷◌, refl, sym, subst, ◌∙◌, set, get_or, length}
 use Rattle.std.specs.List.{slice_get}
 use Rattle.std.proofs.lemmas.Option.{slice_get-get_or}
 use Rattle.mu_model.specs.declared.event.Answer.{Answer}
@@ -10,19 +10,7 @@ use Rattle.mu_detect.specs.declared.scores.Peer.{Peer}
 use Rattle.mu_detect.specs.declared.scores.Scores.{Scores}
 use Rattle.mu_model.specs.Scores.{beat_read}
 use Rattle.mu_detect.proofs.Least.{different}
-
--- two things that are there and equal as such are the same thing
-pub same_some : {A : Type 0} (x y : A) → Some x ≡ Some y → x ≡ y
-same_some x y same = cc
-
--- an item of a list in which one was set is this one or an old one
-pub set_get : {A : Type 0} (xs : List A) (i : ℕ) (y : A) (k : ℕ) (z : A) → slice_get (set xs i y) k ≡ Some z → ((k ≡ i) × (y ≡ z)) ⊎ ((k ≢ i) × (slice_get xs k ≡ Some z))
-set_get [] zero y k z is = cc
-set_get [] (suc i) y k z is = cc
-set_get (x ∷ xs) zero y zero z is = inl (refl, same_some y z is)
-set_get (x ∷ xs) zero y (suc k) z is = inr ((λ e. absurd (omega arith)), is)
-set_get (x ∷ xs) (suc i) y zero z is = inr ((λ e. absurd (omega arith)), is)
-set_get (x ∷ xs) (suc i) y (suc k) z is = elim (set_get xs i y k z is) [ inl here ↦ inl (ap suc here.0, here.1) | inr other ↦ inr ((λ e. other.0 (omega arith)), other.1) ]
+use Rattle.mu_model.proofs.Lists.{set_get}
 
 -- what is held of a replica stays, where the event reads nothing of it
 pub peer_kept : (r q : ℕ) (mine : List Event) (e : Event) (peer : Peer) → beat_read r q e.by e.verb e.answer ≡ None → HoldsPeer r q mine peer → HoldsPeer r q (e ∷ mine) peer

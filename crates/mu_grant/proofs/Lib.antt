@@ -1,5 +1,4 @@
 pub mod Events
-pub mod Lists
 pub mod Onward
 pub mod Others
 pub mod Places

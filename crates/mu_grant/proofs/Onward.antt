@@ -13,10 +13,10 @@ use Rattle.mu_model.specs.Serving.{drained_since_close, has_unserved_ask, looked
 use Rattle.mu_model.specs.Stretches.{is_odd}
 use Rattle.mu_grant.specs.Pace.{DueFollows, FollowsCycle, IsAtPlace, IsElsewhere, OrderGoesOn, OtherFollows, host_place, places}
 use Rattle.mu_grant.specs.Stands.{Gives, is_of_place}
-use Rattle.mu_grant.proofs.Lists.{same_some}
 use Rattle.mu_grant.proofs.Places.{gives, not_none, of_drain, of_grant, of_look}
 use Rattle.mu_grant.proofs.Turns.{least, made, not_all}
 use Rattle.mu_grant.proofs.Waiting.{both}
+use Rattle.mu_model.proofs.Basics.{same_some}
 
 -- a place of the host has no read of asks
 no_ask : (d w : ℕ) (verb : Verb) → is_of_place d verb ≡ true → verb ≡ Verb.ReadAsk w → ⊥

@@ -6,7 +6,7 @@ use Rattle.mu_model.specs.declared.event.Event.{Event}
 use Rattle.mu_model.specs.declared.event.Verb.{Verb}
 use Rattle.mu_model.specs.Allowed.{Needs}
 use Rattle.mu_grant.specs.Stands.{Gives, is_of_place}
-use Rattle.mu_grant.proofs.Lists.{same_some}
+use Rattle.mu_model.proofs.Basics.{same_some}
 
 -- what is needed of a verb that is given beside a step that is left
 pub gives : (c : Config) (r : ℕ) (mine : List Event) (place : ℕ) (due : Option Verb) → length mine < c.budget → r < c.replicas

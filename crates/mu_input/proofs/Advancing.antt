@@ -9,15 +9,15 @@ use Rattle.mu_model.specs.declared.script.Pause.{Pause}
 use Rattle.mu_model.specs.declared.script.Script.{Script}
 use Rattle.mu_model.specs.declared.script.Stop.{Stop}
 use Rattle.mu_input.specs.Bodies.{body_after, body_from, body_line}
-use Rattle.mu_input.specs.Events.{event_of}
+use Rattle.mu_events.specs.Events.{event_of}
 use Rattle.mu_input.specs.Grammar.{job_at}
-use Rattle.mu_input.specs.Lines.{Left, lines, words}
-use Rattle.mu_input.specs.Numbers.{setting}
+use Rattle.mu_text.specs.Lines.{Left, lines, words}
 use Rattle.mu_input.specs.Readings.{Front, Begins, Breaks, Line, Says, Wrong, followed}
 use Rattle.mu_input.specs.Scripts.{script_after, script_at, script_from, script_line}
-use Rattle.mu_input.specs.Settings.{setting_among, setting_at, settings_at, width_at}
+use Rattle.mu_input.specs.Settings.{setting, setting_among, setting_at, settings_at, width_at}
 use Rattle.mu_input.specs.Traces.{events_at, events_from}
-use Rattle.mu_input.specs.declared.TheConstants.{LINE_FEED, MOST_REPLICAS, LEAST_RING, MOST_RING, MOST_STEPS, MOST_WIDTH}
+use Rattle.mu_text.specs.declared.TheConstants.{LINE_FEED}
+use Rattle.mu_input.specs.declared.TheConstants.{MOST_REPLICAS, LEAST_RING, MOST_RING, MOST_STEPS, MOST_WIDTH}
 use Rattle.mu_input.specs.declared.cause.TheConstants.{HEAD, REPLICAS, RING, BUDGET, BATCH, EVENT}
 use Rattle.mu_input.specs.declared.bodies.Body.{Body}
 use Rattle.mu_input.specs.declared.bodies.BodyLine.{BodyLine}

@@ -2,7 +2,7 @@
 use Rattle.std.proofs.Common.{◌≡◌, ℕ, ◌+◌, List, ◌∷◌, length, sym, ap, ◌∙◌}
 use Rattle.kv_store.specs.Commands.{Request}
 use Rattle.mu_input.specs.Bodies.{body_line, body_after, body_from}
-use Rattle.mu_input.specs.Lines.{Left, words}
+use Rattle.mu_text.specs.Lines.{Left, words}
 use Rattle.mu_input.specs.Readings.{Line}
 use Rattle.mu_input.specs.declared.bodies.BodyLine.{BodyLine}
 

@@ -1,5 +1,5 @@
 -- The commands of the stated job: their keys and texts, their number and their session.
-use Rattle.std.proofs.Common.{◌≡◌, ℕ, suc, zero, ◌+◌, ◌-◌, ◌/◌, ◌%◌, ◌^◌, ◌<◌, ◌≤◌, ◌==◌, Bool, true, false, cond, List, [], ◌∷◌, ◌++◌, length, codes, refl, sym, ap, subst, ◌∙◌, inl, inr, ◌⊎◌, arith}
+use Rattle.std.proofs.Common.{◌≡◌, ℕ, suc, zero, ◌+◌, ◌-◌, ◌/◌, ◌%◌, ◌^◌, ◌<◌, ◌≤◌, ◌==◌, true, false, cond, List, [], ◌∷◌, ◌++◌, length, codes, refl, sym, ap, subst, ◌∙◌, inl, inr, arith}
 use Rattle.std.proofs.lemmas.Fmt.{decimal_by_steps, length-decimal-le}
 use Rattle.std.proofs.lemmas.List.{length-append}
 use Rattle.std.proofs.lemmas.List.Elements.{All-cons, All-nil, All-push}
@@ -20,10 +20,7 @@ use Rattle.mu_input.specs.Grammar.{job_of}
 use Rattle.mu_input.specs.declared.heading.Settings.{Settings}
 use Rattle.mu_input.specs.declared.job.Job.{Job}
 use Rattle.mu_input.specs.declared.TheConstants.{MOST_COMMANDS}
-
-cases_of : (b : Bool) → (b ≡ true) ⊎ (b ≡ false)
-cases_of true = inl refl
-cases_of false = inr refl
+use Rattle.mu_input.proofs.Cuts.{cases_of}
 
 -- digits are visible
 visible : (n : ℕ) → n < 2 ^ 64 → All IsVisible (decimal n)

@@ -9,7 +9,8 @@ use Rattle.mu_rows.specs.Rows.{spelled}
 use Rattle.mu_input.specs.Batches.{followers, rows_of}
 use Rattle.mu_input.specs.Heads.{HasHead, HaveHeads}
 
-cases_of : (b : Bool) → (b ≡ true) ⊎ (b ≡ false)
+-- a test passes or fails
+pub cases_of : (b : Bool) → (b ≡ true) ⊎ (b ≡ false)
 cases_of true = inl refl
 cases_of false = inr refl
 

@@ -1,16 +1,10 @@
-pub mod Cutting
-pub mod Digits
-pub mod EventLines
-pub mod EventWords
 pub mod FirstJobs
 pub mod JobConfigs
 pub mod Keys
 pub mod Readings
-pub mod Sides
 pub mod Stages
 pub mod BulkCommands
 pub mod Cuts
-pub mod FirstWords
 pub mod StopsAndPauses
 pub mod Advancing
 pub mod BodyReadings

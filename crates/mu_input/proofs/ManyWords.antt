@@ -1,7 +1,7 @@
 -- Lines of the commands are told by their first words.
 use Rattle.std.proofs.Common.{◌≡◌, ℕ, List, [], ◌∷◌, take, refl}
 use Rattle.mu_input.specs.Bodies.{body_line}
-use Rattle.mu_input.specs.declared.TheConstants.{MANY_WORDS}
+use Rattle.mu_text.specs.declared.TheConstants.{MANY_WORDS}
 
 -- a line says what its first words say
 pub body_line-take : (clients commands : ℕ) (words : List (List ℕ)) → body_line clients commands (take MANY_WORDS words) ≡ body_line clients commands words

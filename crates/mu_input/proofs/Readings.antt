@@ -2,7 +2,7 @@
 use Rattle.std.proofs.Common.{◌≡◌, ℕ, ◌+◌, List, [], ◌∷◌, None, Some, ap, ◌∙◌}
 use Rattle.std.specs.Option.{option_map_or}
 use Rattle.kv_store.specs.Commands.{Request}
-use Rattle.mu_input.specs.Lines.{lines}
+use Rattle.mu_text.specs.Lines.{lines}
 use Rattle.mu_input.specs.FirstForm.{after, ended, read_from, Leaves}
 use Rattle.mu_input.specs.declared.first_form.Expected.{Expected}
 

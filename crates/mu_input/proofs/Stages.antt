@@ -9,9 +9,9 @@ use Rattle.kv_store.specs.Commands.{Request}
 use Rattle.kv_store.specs.Sessions.{numbers_of, IsInSession}
 use Rattle.kv_store.specs.declared.command.Op.{Op}
 use Rattle.kv_store.proofs.InSession.{IsInSession-push}
-use Rattle.mu_input.specs.Lines.{words}
-use Rattle.mu_input.specs.Numbers.{number_of, within}
-use Rattle.mu_input.specs.Numbers.{setting}
+use Rattle.mu_text.specs.Lines.{words}
+use Rattle.mu_text.specs.Numbers.{number_of, within}
+use Rattle.mu_input.specs.Settings.{setting}
 use Rattle.mu_input.specs.FirstForm.{operation, next_command, after}
 use Rattle.mu_input.specs.declared.first_form.Expected.{Expected}
 use Rattle.mu_input.specs.declared.first_form.Expected.TheVariants.{Version, Replicas, Ring, Budget, Clients, Commands, Nothing}

@@ -8,13 +8,14 @@ use Rattle.std.specs.declared.option.Option.{Option}
 use Rattle.std.specs.List.{filter, list_all, list_any}
 use Rattle.mu_model.specs.declared.script.Stop.{Stop}
 use Rattle.mu_model.specs.declared.script.Pause.{Pause}
-use Rattle.mu_input.specs.Lines.{is_alone, words}
+use Rattle.mu_text.specs.Lines.{is_alone, words}
 use Rattle.mu_input.specs.Readings.{Line, Says, Wrong}
 use Rattle.mu_input.specs.Scripts.{is_stopped, stop_line, pauses_before, pause_line, script_after, script_from, script_line, stop_or_pause, with_room, stops_of, stops_in_order, pauses_of, pauses_in_order}
 use Rattle.mu_input.specs.declared.scripts.ScriptLine.{ScriptLine}
 use Rattle.mu_input.specs.declared.scripts.ScriptLine.TheVariants as line
 use Rattle.mu_input.specs.declared.cause.TheConstants.{TOO_MANY}
-use Rattle.mu_input.specs.declared.TheConstants.{MANY_WORDS, MOST_SCRIPT_LINES}
+use Rattle.mu_text.specs.declared.TheConstants.{MANY_WORDS}
+use Rattle.mu_input.specs.declared.TheConstants.{MOST_SCRIPT_LINES}
 
 -- the test of a stop is one of each of them
 pub is_stopped-any : (r : ℕ) (stops : List Stop) → list_any (λ (stop : Stop). stop.replica == r) stops ≡ is_stopped r stops

@@ -3,8 +3,8 @@ use Rattle.std.specs.Prelude.{ℕ, ◌+◌, ◌-◌, ◌<◌, ◌==◌, ⊤, nat
 use Rattle.kv_store.specs.Commands.{Request, HasShortTexts}
 use Rattle.kv_store.specs.Sessions.{numbers_of}
 use Rattle.kv_store.specs.declared.command.Op.{Op}
-use Rattle.mu_input.specs.Lines.{Left, is_alone, is_first, words}
-use Rattle.mu_input.specs.Numbers.{is_numbered, number_of}
+use Rattle.mu_text.specs.Lines.{Left, is_alone, is_first, words}
+use Rattle.mu_text.specs.Numbers.{is_numbered, number_of}
 use Rattle.mu_input.specs.Operations.{names_operation, operation_of}
 use Rattle.mu_input.specs.Readings.{Front, Begins, Breaks, Line, Says, Wrong}
 use Rattle.mu_input.specs.declared.TheConstants.{MOST_CLIENTS, MOST_COMMANDS}

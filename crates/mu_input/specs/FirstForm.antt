@@ -10,8 +10,8 @@ use Rattle.kv_store.specs.declared.command.Op.{Op}
 use Rattle.kv_store.specs.declared.command.Op.TheVariants.{Put, Get}
 use Rattle.mu_model.specs.declared.config.Row.{Row}
 use Rattle.mu_rows.specs.Rows.{spelled}
-use Rattle.mu_input.specs.Lines.{lines, words}
-use Rattle.mu_input.specs.Numbers.{setting}
+use Rattle.mu_text.specs.Lines.{lines, words}
+use Rattle.mu_input.specs.Settings.{setting}
 use Rattle.mu_input.specs.Fields.{is_key, is_text}
 use Rattle.mu_input.specs.declared.job.Job.{Job}
 use Rattle.mu_input.specs.declared.job.InputEnd.{InputEnd}

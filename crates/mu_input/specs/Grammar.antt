@@ -4,7 +4,7 @@ use Rattle.kv_store.specs.Commands.{Request}
 use Rattle.mu_model.specs.declared.script.Script.{Script}
 use Rattle.mu_input.specs.Batches.{rows_of}
 use Rattle.mu_input.specs.Bodies.{body_at}
-use Rattle.mu_input.specs.Lines.{Left, lines}
+use Rattle.mu_text.specs.Lines.{Left, lines}
 use Rattle.mu_input.specs.Readings.{Front, Begins, Reading, followed, whole}
 use Rattle.mu_input.specs.Scripts.{script_at}
 use Rattle.mu_input.specs.Settings.{settings_at}

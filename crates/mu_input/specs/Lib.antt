@@ -1,5 +1,3 @@
-pub mod Lines
-pub mod Numbers
 pub mod Readings
 pub mod Fields
 pub mod Settings
@@ -10,7 +8,6 @@ pub mod Batches
 pub mod Heads
 pub mod Grammar
 pub mod Bulk
-pub mod Events
 pub mod Traces
 pub mod Jobs
 pub mod FirstForm

@@ -2,7 +2,7 @@
 use Rattle.std.specs.Prelude.{ℕ, ◌≡◌, ◌≢◌, List, [], ◌∷◌, ⊤}
 use Rattle.std.specs.declared.result.Result.{Result}
 use Rattle.std.specs.declared.result.Result.TheVariants.{Ok, Err}
-use Rattle.mu_input.specs.Lines.{Left}
+use Rattle.mu_text.specs.Lines.{Left}
 use Rattle.mu_input.specs.declared.cause.TheConstants.{AFTER_END}
 use Rattle.mu_input.specs.declared.job.InputEnd.{InputEnd}
 use Rattle.mu_input.specs.declared.job.InputEnd.TheVariants.{Refused, NoMemory}

@@ -5,8 +5,8 @@ use Rattle.std.specs.Str.{bytes_eq}
 use Rattle.mu_model.specs.declared.script.Stop.{Stop}
 use Rattle.mu_model.specs.declared.script.Pause.{Pause}
 use Rattle.mu_model.specs.declared.script.Script.{Script}
-use Rattle.mu_input.specs.Lines.{Left, is_alone, words}
-use Rattle.mu_input.specs.Numbers.{below, number_of, within}
+use Rattle.mu_text.specs.Lines.{Left, is_alone, words}
+use Rattle.mu_text.specs.Numbers.{below, number_of, within}
 use Rattle.mu_input.specs.Readings.{Front, Begins, Breaks, Line, Says, Wrong}
 use Rattle.mu_input.specs.declared.TheConstants.{MOST_STEPS, MOST_ROUNDS, MOST_SCRIPT_LINES}
 use Rattle.mu_input.specs.declared.cause.TheConstants.{SCRIPT, TOO_MANY, NO_END}

@@ -1,12 +1,19 @@
 -- The settings of a job: its first lines.
-use Rattle.std.specs.Prelude.{ℕ, ◌+◌, ◌≡◌, ◌≤◌, List, [], ◌∷◌, codes, if◌then◌else◌, ◌==◌}
+use Rattle.std.specs.Prelude.{ℕ, ◌+◌, ◌≡◌, ◌≤◌, List, [], ◌∷◌, codes, if◌then◌else◌, ◌==◌, None}
+use Rattle.std.specs.declared.option.Option.{Option}
 use Rattle.std.specs.Option.{option_map_or}
-use Rattle.mu_input.specs.Lines.{Left, words}
-use Rattle.mu_input.specs.Numbers.{setting}
+use Rattle.std.specs.Str.{bytes_eq}
+use Rattle.mu_text.specs.Lines.{Left, words}
+use Rattle.mu_text.specs.Numbers.{number_of, within}
 use Rattle.mu_input.specs.Readings.{Front, Begins, Breaks, followed}
 use Rattle.mu_input.specs.declared.TheConstants.{MOST_REPLICAS, LEAST_RING, MOST_RING, MOST_STEPS, MOST_WIDTH}
 use Rattle.mu_input.specs.declared.cause.TheConstants.{HEAD, REPLICAS, RING, BUDGET, BATCH, NO_END}
 use Rattle.mu_input.specs.declared.heading.Settings.{Settings}
+
+-- the number of a line of a name and a number from `low` to `high`
+abbrev pub setting : List ℕ → ℕ → ℕ → List (List ℕ) → Option ℕ
+setting name low high (word ∷ value ∷ []) = if bytes_eq word name then within low high (number_of value) else None
+setting name low high _ = None
 
 -- a line of a name and a number from `low` to `high` comes first among the lines from `number` on, else the cause is this
 abbrev pub setting_among : List ℕ → ℕ → ℕ → ℕ → ℕ → List (List ℕ) → Front ℕ

@@ -5,9 +5,9 @@ use Rattle.std.specs.declared.result.Result.TheVariants.{Ok, Err}
 use Rattle.std.specs.Option.{option_map_or}
 use Rattle.std.specs.Str.{bytes_eq}
 use Rattle.mu_model.specs.declared.event.Event.{Event}
-use Rattle.mu_input.specs.Events.{event_of}
+use Rattle.mu_events.specs.Events.{event_of}
 use Rattle.mu_input.specs.Grammar.{all_lines, job_at}
-use Rattle.mu_input.specs.Lines.{Left, words}
+use Rattle.mu_text.specs.Lines.{Left, words}
 use Rattle.mu_model.specs.Journals.{Record}
 use Rattle.mu_input.specs.Readings.{Front, Begins, Breaks, Reading, Fits, Leaves, followed, whole}
 use Rattle.mu_input.specs.declared.cause.TheConstants.{EVENT, NO_END}

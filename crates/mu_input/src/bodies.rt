@@ -2,20 +2,18 @@
 ghost use Rattle.std.specs.Prelude.{◌≡◌, ◌+◌, ◌<◌, ◌≤◌, ◌^◌, ◌==◌, if◌then◌else◌, length, map, IfOk};
 ghost use Rattle.kv_store.specs.Sessions.{IsInSession};
 ghost use Rattle.mu_input.specs.Bodies.{body_at, body_line, client_line, operation_line, HasRoom};
-ghost use Rattle.mu_input.specs.Lines.{is_alone, is_first, words};
-ghost use Rattle.mu_input.specs.Numbers.{is_numbered, number_of};
+ghost use Rattle.mu_text.specs.Lines.{words};
+ghost use Rattle.mu_text.specs.Numbers.{is_numbered, number_of};
 ghost use Rattle.mu_input.specs.Operations.{operation_of};
 ghost use Rattle.mu_input.specs.Readings.{ReadsFront, Tells, Wrong};
 
 use crate::cause::{CLIENT, NO_END, OPERATION, TOO_MANY};
 use crate::job::{Commands, InputEnd};
-use crate::line_reader::LineReader;
-use crate::numbers::number;
 use crate::operations::{names_operation, operation};
-use crate::words::Words;
 use crate::{MOST_CLIENTS, MOST_COMMANDS};
 use kv_store::{Command, Op};
 use mu_model::Sequence;
+use mu_text::{LineReader, Words, is_alone, is_first, number};
 use std::alloc::Global;
 
 /// What a line of this part says.
@@ -119,26 +117,6 @@ fn line_of(clients: u8, commands: usize, words: &[&[u8]]) -> Result<BodyLine, u8
         Ok(BodyLine::End)
     } else {
         Err(OPERATION)
-    }
-}
-
-/// Whether the first word is this one.
-fn is_first(words: &[&[u8]], wanted: &[u8]) -> bool
-    ensures { result ≡ is_first wanted.now (map (λ word. word.now) words.now) }
-{
-    match words {
-        [word, ..] => *word == wanted,
-        [] => false,
-    }
-}
-
-/// Whether this is the only word.
-fn is_alone(words: &[&[u8]], wanted: &[u8]) -> bool
-    ensures { result ≡ is_alone wanted.now (map (λ word. word.now) words.now) }
-{
-    match words {
-        [word] => *word == wanted,
-        _ => false,
     }
 }
 

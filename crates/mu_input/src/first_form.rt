@@ -2,21 +2,21 @@
 ghost use Rattle.std.specs.Prelude.{◌≡◌, ℕ, ◌<◌, ◌≤◌, ◌/◌, ◌^◌, ◌&&◌, if◌then◌else◌, length, map, codes, slice_index, All, MatchOption, IfSome, OnSome, IfOk, vec_capacity};
 ghost use Rattle.std.specs.Option.{option_map};
 ghost use Rattle.std.specs.Str.{bytes_eq};
-ghost use Rattle.mu_input.specs.Lines.{words};
+ghost use Rattle.mu_text.specs.Lines.{words};
 ghost use Rattle.mu_input.specs.Fields.{is_key, is_text};
-ghost use Rattle.mu_input.specs.Numbers.{setting};
+ghost use Rattle.mu_input.specs.Settings.{setting};
 ghost use Rattle.mu_input.specs.FirstForm.{operation, next_command, after, row_of, ended, first_form, Reads};
 ghost use Rattle.mu_input.specs.Jobs.{IsFirstJob};
 ghost use Rattle.mu_model.specs.Contents.{rest_of};
 
 use crate::heading::setting;
 use crate::job::{InputEnd, Job};
-use crate::lines::{next_line, three_words, two_words};
 use crate::operations::{key_of, text_of};
 use crate::{FIRST_COMMANDS, FORM};
 use kv_store::{Command, Op};
 use mu_model::{Config, Row, Rows, Script, Sequence};
 use mu_rows::encode;
+use mu_text::{next_line, three_words, two_words};
 use std::alloc::{AllocError, Global};
 
 /// The job that bytes of the first form spell. Takes memory for the commands and the rows alone, and the time of one walk over

@@ -1,17 +1,14 @@
 //! The settings of a job: its first lines.
 ghost use Rattle.std.specs.Prelude.{◌≡◌, ◌≢◌, ◌+◌, ◌<◌, ◌≤◌, ◌^◌, IfOk, IfErr, IfSome};
-ghost use Rattle.mu_input.specs.Lines.{words};
-ghost use Rattle.mu_input.specs.Numbers.{setting};
+ghost use Rattle.mu_text.specs.Lines.{words};
 ghost use Rattle.mu_input.specs.Readings.{ReadsFront};
 ghost use Rattle.mu_input.specs.declared.job.InputEnd.TheVariants.{NoMemory};
-ghost use Rattle.mu_input.specs.Settings.{setting_at, width_at, settings_at, HasLimits};
+ghost use Rattle.mu_input.specs.Settings.{setting, setting_at, width_at, settings_at, HasLimits};
 
 use crate::cause::{BATCH, BUDGET, HEAD, NO_END, REPLICAS, RING};
 use crate::job::InputEnd;
-use crate::line_reader::LineReader;
-use crate::lines::two_words;
-use crate::numbers::limited;
 use crate::{LEAST_RING, MOST_REPLICAS, MOST_RING, MOST_STEPS, MOST_WIDTH};
+use mu_text::{LineReader, limited, two_words};
 
 /// The settings of a job.
 #[derive(Clone, Copy, Debug, PartialEq, Eq)]

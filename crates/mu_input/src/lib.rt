@@ -5,47 +5,21 @@ mod batches;
 mod bodies;
 mod bulk_jobs;
 mod cause;
-mod events;
 mod first_form;
 mod heading;
 mod job;
-mod line_reader;
-mod lines;
-mod numbers;
 mod operations;
 mod reading;
 mod scripts;
 mod traces;
-mod words;
 
 pub use bulk_jobs::bulk;
 pub use first_form::read_first;
 pub use job::{Commands, InputEnd, Job};
 pub use reading::{read, read_trace};
 
-/// The byte that ends a line.
-pub const LINE_FEED: u8 = b'\n';
-
-/// The byte between two words of a line.
-pub const SPACE: u8 = b' ';
-
 /// The most bytes of a trace.
 pub const TRACE_LIMIT: usize = 67_108_864;
-
-/// The least decimal digit.
-pub const ZERO: u8 = b'0';
-
-/// The greatest decimal digit.
-pub const NINE: u8 = b'9';
-
-/// The most digits of a number of a job.
-pub const MOST_DIGITS: usize = 7;
-
-/// The most digits of a number of an event.
-pub const MOST_WIDE_DIGITS: usize = 20;
-
-/// One more than the most words of a line of a job or of an event list.
-pub const MANY_WORDS: usize = 14;
 
 /// The most replicas.
 pub const MOST_REPLICAS: u8 = 7;
@@ -81,7 +55,7 @@ pub const FIRST_COMMANDS: usize = 8;
 pub const FORM: u8 = 14;
 
 #[cfg(test)]
-mod event_tests;
+mod trace_tests;
 #[cfg(test)]
 mod job_tests;
 #[cfg(test)]

@@ -12,10 +12,10 @@ use crate::bodies::read_body;
 use crate::cause::AFTER_END;
 use crate::heading::read_settings;
 use crate::job::{InputEnd, Job};
-use crate::line_reader::LineReader;
 use crate::scripts::script_where;
 use crate::traces::read_events;
 use mu_model::Journal;
+use mu_text::LineReader;
 use std::alloc::Global;
 
 /// The job that bytes spell. Takes memory for its commands, rows and script alone, and the time of

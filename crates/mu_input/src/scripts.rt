@@ -1,17 +1,14 @@
 //! The script of a job: its stops and pauses.
-ghost use Rattle.std.specs.Prelude.{◌≡◌, ◌+◌, ◌<◌, ◌≤◌, ◌^◌, ◌++◌, [], IfOk, codes, length, map};
-ghost use Rattle.mu_input.specs.Lines.{is_alone};
-ghost use Rattle.mu_input.specs.Numbers.{below, number_of};
+ghost use Rattle.std.specs.Prelude.{◌≡◌, ◌+◌, ◌<◌, ◌≤◌, ◌^◌, ◌++◌, [], IfOk, length, map};
+ghost use Rattle.mu_text.specs.Numbers.{below, number_of};
 ghost use Rattle.mu_input.specs.Readings.{ReadsFront, Tells};
 ghost use Rattle.mu_input.specs.Scripts.{is_stopped, another_stop, stop_line, pauses_before, another_pause, pause_line, stop_or_pause, with_room, script_line, stops_of, stops_in_order, pauses_of, pauses_in_order, script_of, script_from, script_at};
 
 use crate::cause::{NO_END, SCRIPT, TOO_MANY};
 use crate::job::InputEnd;
-use crate::line_reader::LineReader;
-use crate::numbers::{limited, number};
-use crate::words::Words;
 use crate::{MOST_ROUNDS, MOST_SCRIPT_LINES, MOST_STEPS};
 use mu_model::{Pause, Script, Sequence, Stop};
+use mu_text::{LineReader, Words, is_alone, limited, number};
 use std::alloc::{AllocError, Global};
 
 /// What a line of the script says.
@@ -104,7 +101,7 @@ fn script_line(
     ensures { Tells result (script_line replicas stops.now pauses.now
         (map (λ word. word.now) words.now)) }
 {
-    if is_end(words) {
+    if is_alone(words, b"end") {
         return Ok(ScriptLine::End);
     }
     let Some(said) = stop_or_pause(replicas, stops, pauses, words) else {
@@ -114,15 +111,6 @@ fn script_line(
         Ok(said)
     } else {
         Err(TOO_MANY)
-    }
-}
-
-fn is_end(words: &[&[u8]]) -> bool
-    ensures { result ≡ is_alone (codes "end") (map (λ word. word.now) words.now) }
-{
-    match words {
-        [b"end"] => true,
-        _ => false,
     }
 }
 

@@ -4,10 +4,10 @@ ghost use Rattle.mu_input.specs.Readings.{ReadsFrontAs};
 ghost use Rattle.mu_input.specs.Traces.{events_at};
 
 use crate::cause::{EVENT, NO_END};
-use crate::events::event;
 use crate::job::InputEnd;
-use crate::line_reader::LineReader;
+use mu_events::event;
 use mu_model::Event;
+use mu_text::LineReader;
 use std::alloc::Global;
 
 /// Takes the events of so many replicas, up to the line `end`. Takes memory for the events alone,

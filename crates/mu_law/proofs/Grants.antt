@@ -1,5 +1,5 @@
 -- What may come next.
-use Rattle.std.proofs.Common.{◌≡◌, ◌≢◌, ◌⊎◌, inl, inr, ℕ, ◌<◌, ◌≤◌, Bool, List, length, refl, sym, ◌∙◌}
+use Rattle.std.proofs.Common.{◌≡◌, ◌≢◌, ◌⊎◌, inl, inr, ℕ, ◌<◌, ◌≤◌, Bool, List, refl, sym, ◌∙◌}
 use Rattle.std.specs.Prelude.{IsTrue, ◌↔◌}
 use Rattle.mu_model.specs.declared.config.Config.{Config}
 use Rattle.mu_model.specs.declared.event.Answer.{Answer}
@@ -8,14 +8,9 @@ use Rattle.mu_model.specs.declared.event.Verb.{Verb}
 use Rattle.mu_model.specs.Answers.{answer_of}
 use Rattle.mu_model.specs.Histories.{history}
 use Rattle.mu_model.specs.Legal.{IsLegal}
-use Rattle.mu_model.specs.Regions.{fence_grant, region_head}
+use Rattle.mu_model.specs.Regions.{region_head}
 use Rattle.mu_agree.specs.Agreement.{IsMarked}
-use Rattle.mu_model.proofs.Counts.{grants_within}
 use Rattle.mu_agree.proofs.Room.{place_kept}
-
--- a region is granted at most once an event
-pub few_granted : (p : ℕ) (events : List Event) → fence_grant p (history events) ≤ length events
-few_granted p events = grants_within p events
 
 -- a look from the head on isn't past, unless a mark of the replica is chosen
 pub kept_or_marked : (c : Config) (events : List Event) (r i : ℕ) (b : Bool) → (IsTrue b ↔ (answer_of c r (history events) (Verb.Look r i) ≢ Answer.Past)) → IsLegal c events → r < c.replicas

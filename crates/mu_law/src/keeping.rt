@@ -17,7 +17,7 @@ use std::alloc::Global;
 /// # Errors
 ///
 /// Want of memory.
-#[tactic(auto, using(crate::proofs::Grants::few_granted))]
+#[tactic(auto, using(mu_model::proofs::Counts::grants_within))]
 pub fn kept(
     _alloc: Global,
     config: &Config,

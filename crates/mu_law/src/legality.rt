@@ -20,7 +20,7 @@ fn is_allowed(alloc: Global, config: &Config, events: &[Event], e: &Event) -> Re
 }
 
 /// Whether `e` is answered as `events` make it.
-#[tactic(auto, using(crate::proofs::Grants::few_granted))]
+#[tactic(auto, using(mu_model::proofs::Counts::grants_within))]
 fn is_answered(config: &Config, events: &[Event], e: &Event) -> bool
     requires { length events.now < 2 ^ 32 }
     ensures { IsTrue result ↔ (e.now.answer ≡ answer_of config.now e.now.by (history events.now) e.now.verb) }

@@ -15,10 +15,10 @@ use Rattle.mu_model.specs.Leaderships.{begins_leadership, fence_seen, grant_for,
 use Rattle.mu_model.specs.Parts.{IsPossible}
 use Rattle.mu_model.specs.Regions.{fence, fence_grant}
 use Rattle.mu_agree.proofs.Minimum.{grant_seen-own, read_under_seen, seen_law}
-use Rattle.mu_agree.proofs.Parts.{has-part}
+use Rattle.mu_model.proofs.Owned.{has-part}
 use Rattle.mu_agree.proofs.Possible.{at_event, parts_shorten_law}
 use Rattle.mu_leads.specs.Leading.{grant_of, last_grant}
-use Rattle.mu_leads.proofs.Basics.{same_number, same_some}
+use Rattle.mu_model.proofs.Basics.{same_number, same_some}
 
 -- r saw the grant g of p
 abbrev pub saw : ℕ → ℕ → ℕ → List Event → Bool

@@ -1,4 +1,2 @@
-pub mod Basics
 pub mod Grants
-pub mod Lists
 pub mod Within

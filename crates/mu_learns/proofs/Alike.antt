@@ -1,6 +1,6 @@
 -- In one leadership all puts at a position that isn't known yet are alike.
 use Rattle.std.proofs.Common.{◌≡◌, ℕ, ◌+◌, ◌<◌, ◌≤◌, ◌⊎◌, inl, inr, Bool, true, false, cond, ◌==◌, ◌&&◌, List, [], ◌∷◌, length, refl, sym, ◌∙◌, ap, arith, Some, None, subst, true≢false, eqb-true, eq-eqb}
-use Rattle.std.specs.Prelude.{if◌then◌else◌, not}
+use Rattle.std.specs.Prelude.{not}
 use Rattle.std.specs.declared.option.Option.{Option}
 use Rattle.std.specs.List.{slice_get}
 use Rattle.std.proofs.lemmas.Bool.{and_parts}
@@ -11,7 +11,7 @@ use Rattle.mu_model.specs.declared.event.Event.{Event}
 use Rattle.mu_model.specs.declared.event.Verb.{Verb}
 use Rattle.mu_model.specs.Allowed.{Needs}
 use Rattle.mu_model.specs.Contents.{row_count}
-use Rattle.mu_model.specs.Histories.{earlier_or, has, how_many, newer_or, newest}
+use Rattle.mu_model.specs.Histories.{earlier_or, has, newer_or, newest}
 use Rattle.mu_model.specs.Knowledge.{is_put_done, known, lands_entry}
 use Rattle.mu_model.specs.Leaderships.{begins_leadership, is_first_ask, leadership, leaderships, number_put, proposal_number}
 use Rattle.mu_model.specs.Parts.{IsPossible}
@@ -20,22 +20,14 @@ use Rattle.mu_model.specs.Placing.{IsNew}
 use Rattle.mu_model.specs.Room.{reserve}
 use Rattle.mu_agree.proofs.Landings.{has_cases, has_since}
 use Rattle.mu_agree.proofs.Possible.{parts_shorten_law}
-use Rattle.mu_agree.proofs.Tame.{known_longer, none_some}
+use Rattle.mu_agree.proofs.Tame.{known_longer}
 use Rattle.mu_learns.specs.Landings.{entry_put, is_entry, last_landed}
-use Rattle.mu_leads.proofs.Basics.{same_number, same_some}
-
--- no count of events is above their number
-at_most_all : (test : Event → Bool) (mine : List Event) → how_many test mine ≤ length mine
-at_most_all test [] = omega arith
-at_most_all test (e ∷ mine) = by_test (test e) (at_most_all test mine)
-  where
-    by_test : (t : Bool) → how_many test mine ≤ length mine → (if t then how_many test mine + 1 else how_many test mine) ≤ length (e ∷ mine)
-    by_test true before = omega arith
-    by_test false before = omega arith
+use Rattle.mu_model.proofs.Basics.{same_number, same_some, none_some}
+use Rattle.mu_model.proofs.Counts.{how_many_within}
 
 -- there are no more leaderships than events
 pub few_leaderships : (r : ℕ) (mine : List Event) → leaderships r mine ≤ length mine
-few_leaderships r mine = at_most_all (begins_leadership r) mine
+few_leaderships r mine = how_many_within (begins_leadership r) mine
 
 -- what a put that landed says
 pub record IsPut (r p i b v by q j n w : ℕ) : Type 0 where

@@ -15,14 +15,14 @@ use Rattle.mu_model.specs.Knowledge.{fuo_read, greatest_fuo_read, grown, is_put_
 use Rattle.mu_model.specs.Leaderships.{begins_leadership, is_first_ask, leadership}
 use Rattle.mu_model.specs.Parts.{IsPossible}
 use Rattle.mu_model.specs.Placing.{IsNew, is_caught_up_at, is_known_put}
-use Rattle.mu_model.proofs.Entries.{get_push_other}
 use Rattle.mu_agree.proofs.Landings.{has_cases, has_implied, has_more}
 use Rattle.mu_agree.proofs.Possible.{parts_shorten_law}
 use Rattle.mu_learns.specs.Covering.{IsFirstBehind, has_known, is_below}
 use Rattle.mu_learns.specs.Landings.{last_landed}
 use Rattle.mu_learns.proofs.Alike.{AreAlike, is_put, last_was_put, put_has_last, still_alike}
 use Rattle.mu_learns.proofs.Filled.{below_max}
-use Rattle.mu_leads.proofs.Basics.{none_of_or, or_true, same_number, same_some, true_or}
+use Rattle.mu_model.proofs.Basics.{none_of_or, or_true, same_number, same_some, true_or}
+use Rattle.mu_model.proofs.Lists.{get_push_other}
 
 -- what is known at a position stays
 pub known_at_stays : (c : Config) (r j v : ℕ) (e : Event) (mine : List Event) → slice_get (known c r mine) j ≡ Some v → slice_get (known c r (e ∷ mine)) j ≡ Some v

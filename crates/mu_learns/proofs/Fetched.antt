@@ -14,7 +14,7 @@ use Rattle.mu_agree.proofs.Knowing.{known_stays}
 use Rattle.mu_agree.proofs.Landings.{has_more}
 use Rattle.mu_agree.proofs.Sessions.{batch_within, row_within}
 use Rattle.mu_agree.proofs.Sound.{all_implied}
-use Rattle.mu_leads.proofs.Basics.{same_some}
+use Rattle.mu_model.proofs.Basics.{same_some}
 
 -- all rows of a batch are there
 pub batch_there : (c : Config) (v : ℕ) → IsConfig c → is_batch c v ≡ true → (v / 4096 < 7) × (v % 4096 + (rest_of c (v % 4096) + 1) ≤ row_count c)

@@ -1,6 +1,6 @@
 -- Which positions one event shows to be filled.
 use Rattle.std.proofs.Common.{◌≡◌, ℕ, ◌+◌, ◌<◌, ◌≤◌, Bool, true, false, cond, ◌==◌, ◌&&◌, ◌||◌, List, ◌∷◌, length, refl, sym, ◌∙◌, ap, arith, Some, None, subst, eqb-true, max, true≢false, replicate}
-use Rattle.mu_leads.proofs.Lists.{copies_fail}
+use Rattle.mu_model.proofs.Lists.{copies_fail}
 use Rattle.std.proofs.Math.Bool.{and-false}
 use Rattle.std.specs.Prelude.{nat_le, nat_lt}
 use Rattle.std.specs.declared.option.Option.{Option}
@@ -22,7 +22,7 @@ use Rattle.mu_model.proofs.Scans.{all_at, each_all}
 use Rattle.mu_agree.proofs.Possible.{parts_shorten_law}
 use Rattle.mu_learns.specs.Covering.{filled_spot, is_at, is_below}
 use Rattle.mu_learns.specs.Knowing.{is_set}
-use Rattle.mu_leads.proofs.Basics.{same_number}
+use Rattle.mu_model.proofs.Basics.{same_number}
 
 -- a step at another position than the next teaches nothing
 not_grown : (c : Config) (r j : ℕ) (mine now : List Event) (o : Option ℕ) → o ≡ None → known c r now ≡ grown (known c r mine) o → (length (known c r mine) == j) && (length (known c r now) == j + 1) ≡ false

@@ -10,8 +10,8 @@ use Rattle.mu_model.specs.declared.event.Verb.{Verb}
 use Rattle.mu_model.specs.Leaderships.{begins_leadership, leaderships}
 use Rattle.mu_learns.specs.Landings.{IsWithin, Notes, NotesEach, entry_put, landed_put, noted_in}
 use Rattle.mu_learns.specs.declared.landings.Landing.{Landing}
-use Rattle.mu_leads.proofs.Lists.{all_copies, set_get}
-use Rattle.mu_leads.proofs.Basics.{same_number, same_some}
+use Rattle.mu_model.proofs.Lists.{all_copies, set_get}
+use Rattle.mu_model.proofs.Basics.{same_number, same_some}
 
 none_of : {A : Type 0} (t : Bool) (x : A) → cond (t && false) (Some x) None ≡ None
 none_of true x = refl

@@ -15,8 +15,8 @@ use Rattle.mu_looks.specs.declared.looking.Look.{Look}
 use Rattle.mu_looks.specs.declared.looking.Looks.{Looks}
 use Rattle.mu_looks.specs.declared.placing.First.{First}
 use Rattle.mu_looks.specs.Placing.{HoldsEachLook, HoldsEachRegion, HoldsFirst, HoldsFirsts, HoldsLook, HoldsLooks, begun_time, joining_time}
-use Rattle.mu_leads.proofs.Basics.{same_number}
-use Rattle.mu_leads.proofs.Lists.{item_read, set_get}
+use Rattle.mu_model.proofs.Basics.{same_number}
+use Rattle.mu_model.proofs.Lists.{item_read, set_get}
 use Rattle.mu_looks.proofs.Looks.{look_stays, made}
 use Rattle.mu_looks.proofs.Times.{is_early, joining_in_time, last_in_time, not_late}
 

@@ -6,7 +6,8 @@ use Rattle.mu_model.specs.declared.event.Event.{Event}
 use Rattle.mu_model.specs.Histories.{history, how_many}
 use Rattle.mu_model.specs.Regions.{fence_grant, is_grant_of}
 
-how_many_within : (test : Event → Bool) (past : List Event) → how_many test past ≤ length past
+-- of any kind
+pub how_many_within : (test : Event → Bool) (past : List Event) → how_many test past ≤ length past
 how_many_within test [] = omega arith
 how_many_within test (e ∷ past) = by_test (test e) (how_many_within test past)
   where

@@ -1,32 +1,9 @@
 -- What stands in a list after a push or a change.
-use Rattle.std.proofs.Common.{◌≡◌, ◌≢◌, ℕ, zero, suc, ◌<◌, ◌≤◌, Bool, true, false, List, [], ◌∷◌, ◌++◌, refl, sym, ◌∙◌, ap, arith, Some, length, set, ◌&&◌, ◌==◌, eqb-true}
+use Rattle.std.proofs.Common.{◌≡◌, ℕ, zero, suc, ◌<◌, ◌≤◌, Bool, true, false, List, [], ◌∷◌, ◌++◌, refl, sym, ◌∙◌, ap, arith, Some, length, set, ◌&&◌, ◌==◌, eqb-true}
 use Rattle.std.specs.Prelude.{if◌then◌else◌, nat_le}
 use Rattle.std.proofs.lemmas.Bool.{eqb-false, leb-true, leb-false}
 use Rattle.std.specs.List.{slice_get}
-
-pub get_push_here : {A : Type 0} (xs : List A) (i : ℕ) (z : A) → i ≡ length xs → slice_get (xs ++ z ∷ []) i ≡ Some z
-get_push_here [] zero z e = refl
-get_push_here [] (suc i) z e = absurd (omega arith)
-get_push_here (x ∷ xs) zero z e = absurd (omega arith)
-get_push_here (x ∷ xs) (suc i) z e = get_push_here xs i z (omega arith)
-
-pub get_push_other : {A : Type 0} (xs : List A) (i : ℕ) (z : A) → i ≢ length xs → slice_get (xs ++ z ∷ []) i ≡ slice_get xs i
-get_push_other [] zero z d = absurd (d refl)
-get_push_other [] (suc i) z d = refl
-get_push_other (x ∷ xs) zero z d = refl
-get_push_other (x ∷ xs) (suc i) z d = get_push_other xs i z (λ e. d (ap suc e))
-
-pub get_set_here : (xs : List (ℕ × ℕ)) (i : ℕ) (z : ℕ × ℕ) → i < length xs → slice_get (set xs i z) i ≡ Some z
-get_set_here [] i z l = absurd (omega arith)
-get_set_here (x ∷ xs) zero z l = refl
-get_set_here (x ∷ xs) (suc i) z l = get_set_here xs i z (omega arith)
-
-pub get_set_other : (xs : List (ℕ × ℕ)) (i j : ℕ) (z : ℕ × ℕ) → i ≢ j → slice_get (set xs j z) i ≡ slice_get xs i
-get_set_other [] i j z d = refl
-get_set_other (x ∷ xs) zero zero z d = absurd (d refl)
-get_set_other (x ∷ xs) zero (suc j) z d = refl
-get_set_other (x ∷ xs) (suc i) zero z d = refl
-get_set_other (x ∷ xs) (suc i) (suc j) z d = get_set_other xs i j z (λ e. d (ap suc e))
+use Rattle.mu_model.proofs.Lists.{get_push_here, get_push_other, get_set_here, get_set_other}
 
 pub set_past : (xs : List (ℕ × ℕ)) (j : ℕ) (z : ℕ × ℕ) → length xs ≤ j → set xs j z ≡ xs
 set_past [] j z l = refl

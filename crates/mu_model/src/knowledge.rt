@@ -131,7 +131,7 @@ pub fn known_length(config: &Config, r: u8, part: &[Event]) -> u64
 }
 
 /// The value at `i` after `v` was added to a list of `count` values.
-#[tactic(auto, using(crate::proofs::Entries::get_push_here, crate::proofs::Entries::get_push_other))]
+#[tactic(auto, using(crate::proofs::Lists::get_push_here, crate::proofs::Lists::get_push_other))]
 fn value_added(value: Option<u16>, count: u64, i: u16, v: u16) -> Option<u16>
     ensures { (values : List ℕ) → length values ≡ count → slice_get values i ≡ value → result ≡ slice_get (values ++ v ∷ []) i }
 {

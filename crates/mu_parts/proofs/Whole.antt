@@ -1,6 +1,6 @@
 -- The states of all replicas and the parts of a history.
 use Rattle.std.proofs.Common.{ℕ, List, ◌∷◌, Some, ◌≡◌, ◌≢◌, inl, inr, refl, sym, ◌∙◌, set, subst}
-use Rattle.mu_leads.proofs.Basics.{same_number}
+use Rattle.mu_model.proofs.Basics.{same_number}
 use Rattle.std.specs.List.{slice_get}
 use Rattle.std.proofs.lemmas.Bool.Decides.{eqb_tells}
 use Rattle.mu_model.specs.declared.config.Config.{Config}
@@ -10,7 +10,7 @@ use Rattle.mu_model.specs.Legal.{IsLegalHistory}
 use Rattle.mu_model.specs.Parts.{IsPossible}
 use Rattle.mu_parts.specs.declared.mover.Mover.{Mover}
 use Rattle.mu_parts.specs.Parts.{HoldsPart}
-use Rattle.mu_leads.proofs.Lists.{set_get}
+use Rattle.mu_model.proofs.Lists.{set_get}
 
 -- each state of the list, counted from 0, stands for the part of its replica
 abbrev pub HoldsEach : Config → List Event → List Mover → Type 0

@@ -1,5 +1,5 @@
 -- Each of the four answers has its cause.
-use Rattle.std.proofs.Common.{◌≡◌, ◌≢◌, ◌⊎◌, inl, inr, ℕ, ◌+◌, ◌<◌, ◌≤◌, ◌==◌, ◌&&◌, Bool, true, false, not, cond, List, [], ◌∷◌, length, Some, None, refl, sym, ap, ◌∙◌, subst, arith, eqb-true, true≢false}
+use Rattle.std.proofs.Common.{◌≡◌, ◌≢◌, ◌⊎◌, inl, inr, ℕ, ◌+◌, ◌<◌, ◌≤◌, ◌==◌, ◌&&◌, Bool, true, false, not, cond, List, length, Some, None, refl, sym, ap, ◌∙◌, subst, arith, eqb-true, true≢false}
 use Rattle.std.proofs.lemmas.Bool.{eqb-false, lt-ltb, ltb-true}
 use Rattle.std.proofs.lemmas.Option.{slice_get_cases, slice_get_past}
 use Rattle.std.specs.Prelude.{get_or, if◌then◌else◌, nat_lt}
@@ -12,41 +12,14 @@ use Rattle.mu_model.specs.declared.event.Fence.{Fence}
 use Rattle.mu_model.specs.declared.event.Target.{Target}
 use Rattle.mu_model.specs.declared.event.Verb.{Verb}
 use Rattle.mu_model.specs.Answers.{answer_of, drained, entered_or_lost, put_answer, shown}
-use Rattle.mu_model.specs.Histories.{newer_or, newest, part, since}
-use Rattle.mu_model.specs.Leaderships.{begins_leadership, fence_seen, grant_for, is_first_ask, noted_grant}
+use Rattle.mu_model.specs.Leaderships.{noted_grant}
 use Rattle.mu_model.specs.Regions.{fence, region_log}
 use Rattle.mu_port.specs.Causes.{HasCauses}
-
--- what r saw of a fence, and where a leadership of r begins, is in the part of r
-no_start : (r by : ℕ) (v : Verb) → (by == r) ≡ false → is_first_ask r by v ≡ false
-no_start r by (Verb.Ask p) h = rw h refl
-no_start r by v h = refl
-
-no_fence : (r p by : ℕ) (v : Verb) (a : Answer) → (by == r) ≡ false → fence_seen r p by v a ≡ None
-no_fence r p by (Verb.Fence q) (Answer.Seen f) h = rw h refl
-no_fence r p by v a h = refl
-
-abbrev seen : ℕ → ℕ → List Event → Option Fence
-seen r p past = newest (λ e. fence_seen r p e.by e.verb e.answer) (since (begins_leadership r) past)
-
-same_seen : (r p : ℕ) (past : List Event) → seen r p (part r past) ≡ seen r p past
-same_seen r p [] = refl
-same_seen r p (e ∷ past) = go (e.by == r) refl (begins_leadership r e) refl (same_seen r p past)
-  where
-    go : (t : Bool) → (e.by == r) ≡ t → (u : Bool) → begins_leadership r e ≡ u → seen r p (part r past) ≡ seen r p past → seen r p (part r (e ∷ past)) ≡ seen r p (e ∷ past)
-    go true h true k same = rw (h, k) refl
-    go true h false k same = rw (h, k) (ap (newer_or (fence_seen r p e.by e.verb e.answer)) same)
-    go false h true k same = absurd (true≢false (sym k ∙ no_start r e.by e.verb h))
-    go false h false k same = rw (h, k, no_fence r p e.by e.verb e.answer h) same
-
-same_noted : (r p : ℕ) (past : List Event) → noted_grant r p (part r past) ≡ noted_grant r p past
-same_noted r p past = ap (grant_for r) (same_seen r p past)
+use Rattle.mu_model.proofs.Basics.{same_some}
+use Rattle.mu_model.proofs.Owned.{noted-part}
 
 lost_is : (f g : Fence) → Answer.Lost f ≡ Answer.Lost g → f ≡ g
 lost_is f g e = cc
-
-some_is : {A : Type 0} (x y : A) → Some x ≡ Some y → x ≡ y
-some_is x y e = cc
 
 -- an `Enter` is lost exactly where the fence found is closing or has another grant than the noted one
 abbrev IsOther : Option ℕ → Fence → Type 0
@@ -59,7 +32,7 @@ why_lost (Some g) now f e = go (now.closing) refl (now.grant == g) refl e
     go : (t : Bool) → now.closing ≡ t → (u : Bool) → (now.grant == g) ≡ u → cond (not t && u) Answer.Entered (Answer.Lost now) ≡ Answer.Lost f → (f ≡ now) × IsOther (Some g) f
     go true h u k e = let same = lost_is now f e in (sym same, inl (subst (λ x. x.closing ≡ true) same h))
     go false h true k e = cc
-    go false h false k e = let same = lost_is now f e in (sym same, inr (subst (λ x. Some g ≢ Some x.grant) same (λ i. eqb-false now.grant g k (sym (some_is g now.grant i)))))
+    go false h false k e = let same = lost_is now f e in (sym same, inr (subst (λ x. Some g ≢ Some x.grant) same (λ i. eqb-false now.grant g k (sym (same_some g now.grant i)))))
 
 gets_lost : (noted : Option ℕ) (now : Fence) → IsOther noted now → entered_or_lost noted now ≡ Answer.Lost now
 gets_lost None now other = refl
@@ -118,9 +91,9 @@ finds_look ring log i = go (nat_lt (i + ring) (length log)) (slice_get log i)
 enters : (c : Config) (r p : ℕ) (t : Target) (past : List Event) → HasCauses c r past (Verb.Enter p t) (entered_or_lost (noted_grant r p past) (fence p past))
 enters c r p t past = record {
   lost = λ f. (
-    λ e. let why = why_lost (noted_grant r p past) (fence p past) f e in record { found = why.0; other = subst (λ n. IsOther n f) (sym (same_noted r p past)) why.1 },
+    λ e. let why = why_lost (noted_grant r p past) (fence p past) f e in record { found = why.0; other = subst (λ n. IsOther n f) (sym (noted-part r p past)) why.1 },
     λ o. subst (λ g. entered_or_lost (noted_grant r p past) (fence p past) ≡ Answer.Lost g) (sym o.found)
-        (gets_lost (noted_grant r p past) (fence p past) (subst (λ g. IsOther (noted_grant r p past) g) o.found (subst (λ n. IsOther n f) (same_noted r p past) o.other))),
+        (gets_lost (noted_grant r p past) (fence p past) (subst (λ g. IsOther (noted_grant r p past) g) o.found (subst (λ n. IsOther n f) (noted-part r p past) o.other))),
   );
   missed = (differ of_enter now Answer.Missed finds refl, λ o. absurd o);
   overwritten = (differ of_enter now Answer.Past finds refl, λ o. absurd o);

@@ -1,5 +1,5 @@
 -- No count is above the length of the history, and what one event adds for one replica.
-use Rattle.std.proofs.Common.{◌≡◌, ℕ, ◌+◌, ◌<◌, ◌≤◌, ◌==◌, ◌&&◌, Bool, true, false, List, [], ◌∷◌, length, refl, sym, ap, ◌∙◌, subst, ◌≢◌, zero, suc, arith, replicate, set, Some, None, eqb-true, eq-eqb}
+use Rattle.std.proofs.Common.{◌≡◌, ℕ, ◌+◌, ◌<◌, ◌≤◌, ◌==◌, ◌&&◌, Bool, true, false, List, ◌∷◌, length, refl, sym, ap, ◌∙◌, subst, arith, set, Some, None, eqb-true, eq-eqb}
 use Rattle.std.specs.Prelude.{if◌then◌else◌, slice_index}
 use Rattle.std.specs.declared.option.Option.{Option}
 use Rattle.std.specs.List.{slice_get}
@@ -9,44 +9,21 @@ use Rattle.mu_model.specs.declared.event.Answer.{Answer}
 use Rattle.mu_model.specs.declared.event.Event.{Event}
 use Rattle.mu_model.specs.declared.event.Fence.{Fence}
 use Rattle.mu_model.specs.declared.event.Verb.{Verb}
-use Rattle.mu_model.specs.Histories.{how_many, newer_or, newest}
+use Rattle.mu_model.specs.Histories.{newer_or, newest}
 use Rattle.mu_model.specs.Leaderships.{fence_seen, grant_for, leadership}
 use Rattle.mu_model.specs.Regions.{asks, beats, fence_grant, is_ask_by, is_beat_by, is_grant_of}
 use Rattle.mu_regions.specs.Stands.{CountsAsks, NotesGrants}
-
-pub at_most_all : (test : Event → Bool) (past : List Event) → how_many test past ≤ length past
-at_most_all test [] = omega arith
-at_most_all test (e ∷ past) = by_test (test e) refl (at_most_all test past)
-  where
-    by_test : (t : Bool) → test e ≡ t → how_many test past ≤ length past → how_many test (e ∷ past) ≤ length (e ∷ past)
-    by_test true is before = rw is (omega (arith, before))
-    by_test false is before = rw is (omega (arith, before))
+use Rattle.mu_model.proofs.Counts.{how_many_within}
+use Rattle.mu_model.proofs.Lists.{get_set_here, get_set_other}
 
 pub few_beats : (q : ℕ) (past : List Event) → beats q past ≤ length past
-few_beats q past = at_most_all (λ e. is_beat_by q e.by e.verb) past
+few_beats q past = how_many_within (λ e. is_beat_by q e.by e.verb) past
 
 pub few_asks : (w p : ℕ) (past : List Event) → asks w p past ≤ length past
-few_asks w p past = at_most_all (λ e. is_ask_by w p e.by e.verb) past
+few_asks w p past = how_many_within (λ e. is_ask_by w p e.by e.verb) past
 
 pub few_grants : (p : ℕ) (past : List Event) → fence_grant p past ≤ length past
-few_grants p past = at_most_all (is_grant_of p) past
-
-pub get_replicate : {A : Type 0} (n i : ℕ) (z : A) → i < n → slice_get (replicate n z) i ≡ Some z
-get_replicate zero i z l = absurd (omega arith)
-get_replicate (suc n) zero z l = refl
-get_replicate (suc n) (suc i) z l = get_replicate n i z (omega arith)
-
-pub get_set_here : {A : Type 0} (xs : List A) (i : ℕ) (z : A) → i < length xs → slice_get (set xs i z) i ≡ Some z
-get_set_here [] i z l = absurd (omega arith)
-get_set_here (x ∷ xs) zero z l = refl
-get_set_here (x ∷ xs) (suc i) z l = get_set_here xs i z (omega arith)
-
-pub get_set_other : {A : Type 0} (xs : List A) (i j : ℕ) (z : A) → i ≢ j → slice_get (set xs j z) i ≡ slice_get xs i
-get_set_other [] i j z d = refl
-get_set_other (x ∷ xs) zero zero z d = absurd (d refl)
-get_set_other (x ∷ xs) zero (suc j) z d = refl
-get_set_other (x ∷ xs) (suc i) zero z d = refl
-get_set_other (x ∷ xs) (suc i) (suc j) z d = get_set_other xs i j z (λ e. d (ap suc e))
+few_grants p past = how_many_within (is_grant_of p) past
 
 -- one more ask of replica i
 pub one_more : (p : ℕ) (e : Event) (past : List Event) (counts : List ℕ) (i n : ℕ) → e.verb ≡ Verb.Ask p → e.by ≡ i → i < length counts → n ≡ asks i p past + 1

@@ -6,13 +6,10 @@ use Rattle.std.proofs.Math.Seq.{take-append_seam}
 use Rattle.std.proofs.lemmas.Bool.{eqb-false}
 use Rattle.mu_model.specs.declared.config.Config.{Config}
 use Rattle.mu_model.specs.declared.event.Event.{Event}
-use Rattle.mu_model.proofs.Entries.{get_push_here, get_push_other}
 use Rattle.mu_regions.specs.Stands.{Holds, HoldsEach}
 use Rattle.mu_regions.specs.declared.region.Region.{Region}
-use Rattle.mu_regions.proofs.Counts.{get_set_here, get_set_other}
-
-same_some : {A : Type 0} (x y : A) → Some x ≡ Some y → x ≡ y
-same_some x y same = cc
+use Rattle.mu_model.proofs.Lists.{get_push_here, get_push_other, get_set_here, get_set_other}
+use Rattle.mu_model.proofs.Basics.{same_some}
 
 pub each_pushed : (c : Config) (past : List Event) (regions : List Region) (last : Region) → HoldsEach c past regions → Holds c (length regions) past last → HoldsEach c past (regions ++ last ∷ [])
 each_pushed c past regions last held new p region at = by_test (p == length regions) refl

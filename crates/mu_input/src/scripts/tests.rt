@@ -1,8 +1,8 @@
 //! Scripts of three replicas, and the lines at which others leave the grammar.
 use crate::job::InputEnd;
-use crate::line_reader::LineReader;
 use crate::scripts::script;
 use mu_model::{Pause, Stop};
+use mu_text::LineReader;
 use std::test::Fail;
 
 #[test]

@@ -4,8 +4,9 @@ use Rattle.mu_model.specs.Legal.{IsLegalHistory, MayFollow}
 use Rattle.mu_parts.specs.Parts.{HoldsParts}
 use Rattle.mu_regions.specs.Stands.{Stands}
 use Rattle.mu_check.proofs.Places.{history_at_next, read_there}
-use Rattle.mu_check.proofs.Ranges.{few_legal, in_range}
+use Rattle.mu_check.proofs.Ranges.{few_legal}
 use Rattle.mu_check.proofs.judging.check.Goals as goal
+use Rattle.mu_regions.proofs.Range.{in_range}
 
 pub returns-in-Some : goal.returns-in-Some
 returns-in-Some c =

@@ -1,7 +1,7 @@
 use Rattle.std.proofs.Common.{sym, ◌∙◌}
 use Rattle.std.proofs.lemmas.Bool.{false≢true}
-use Rattle.mu_check.proofs.Ranges.{in_range}
 use Rattle.mu_check.proofs.judging.fault.Goals as goal
+use Rattle.mu_regions.proofs.Range.{in_range}
 
 pub returns-then-not-allows : goal.returns-then-not-allows
 returns-then-not-allows c = λ past legal stands held allowed. false≢true (sym c.if-not-allows.true ∙ (c.allows.ensures past legal held).1 allowed)

@@ -1,7 +1,7 @@
 use Rattle.std.proofs.Common.{◌∷◌, arith, refl, sym}
 use Rattle.mu_grant.specs.Stands.{HoldsGuest}
-use Rattle.mu_grant.proofs.Lists.{upto_all, upto_next}
 use Rattle.mu_grant.proofs.grants.take_at_guests.Goals as goal
+use Rattle.mu_model.proofs.Lists.{upto_all, upto_next}
 
 pub loop-w-preserved : goal.loop-w-preserved
 loop-w-preserved c mine owner closing held =

@@ -1,6 +1,6 @@
 use Rattle.std.proofs.Common.{◌∙◌, ap, subst}
 use Rattle.mu_input.specs.Bodies.{body_line}
-use Rattle.mu_input.specs.Lines.{words}
+use Rattle.mu_text.specs.Lines.{words}
 use Rattle.mu_input.specs.Readings.{Tells}
 use Rattle.mu_input.proofs.ManyWords.{body_line-take}
 use Rattle.mu_input.proofs.bodies.body_line.Goals as goal

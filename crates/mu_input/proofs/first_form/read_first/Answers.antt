@@ -1,5 +1,5 @@
 use Rattle.std.proofs.Common.{◌∙◌, sym, arith}
-use Rattle.mu_input.specs.Lines.{lines}
+use Rattle.mu_text.specs.Lines.{lines}
 use Rattle.mu_input.proofs.FirstJobs.{first_job}
 use Rattle.mu_input.proofs.Readings.{fits}
 use Rattle.mu_input.proofs.Stages.{IsStage-after}

@@ -1,5 +1,5 @@
 use Rattle.std.proofs.Common.{◌≡◌, ◌≤◌, length, vec_capacity}
-use Rattle.mu_input.specs.Lines.{lines}
+use Rattle.mu_text.specs.Lines.{lines}
 use Rattle.mu_input.specs.FirstForm.{read_from, first_form}
 use Rattle.mu_input.proofs.Stages.{IsStage}
 use Rattle.mu_input.proofs.first_form.read_first.Given as goal

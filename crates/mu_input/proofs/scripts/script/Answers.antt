@@ -1,7 +1,7 @@
 use Rattle.std.proofs.Common.{◌≡◌, ◌∙◌, ◌++◌, ◌∷◌, [], length, take, ap, arith}
 use Rattle.std.proofs.lemmas.List.{length-append}
-use Rattle.mu_input.specs.Lines.{words}
-use Rattle.mu_input.specs.declared.TheConstants.{MANY_WORDS}
+use Rattle.mu_text.specs.Lines.{words}
+use Rattle.mu_text.specs.declared.TheConstants.{MANY_WORDS}
 use Rattle.mu_input.specs.declared.scripts.ScriptLine.TheVariants as line
 use Rattle.mu_input.proofs.StopsAndPauses.{line_by_line, room, told}
 use Rattle.mu_input.proofs.scripts.script.Goals as goal

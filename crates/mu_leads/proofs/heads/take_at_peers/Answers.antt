@@ -1,6 +1,6 @@
 use Rattle.std.proofs.Common.{arith, length, length-set, rules, ◌<◌, ◌∙◌, ◌∷◌, ◌≡◌}
 use Rattle.mu_leads.specs.Heads.{HoldsPeer}
-use Rattle.mu_leads.proofs.Lists.{upto_all, upto_next}
+use Rattle.mu_model.proofs.Lists.{upto_all, upto_next}
 use Rattle.mu_leads.proofs.heads.take_at_peers.Goals as goal
 
 pub loop-q-init : goal.loop-q-init

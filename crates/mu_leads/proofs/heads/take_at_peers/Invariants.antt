@@ -3,7 +3,7 @@ use Rattle.mu_model.specs.declared.config.Config.{Config}
 use Rattle.mu_model.specs.declared.event.Event.{Event}
 use Rattle.mu_detect.specs.Stands.{StandsFor}
 use Rattle.mu_leads.specs.Heads.{HoldsPeer, HoldsPeers}
-use Rattle.mu_leads.proofs.Lists.{HoldsUpto}
+use Rattle.mu_model.proofs.Lists.{HoldsUpto}
 use Rattle.mu_leads.proofs.heads.take_at_peers.Given as goal
 
 abbrev pub invariant-loop-q : goal.invariant-loop-q

@@ -1,6 +1,6 @@
 use Rattle.std.proofs.Common.{[]}
 use Rattle.mu_leads.specs.Leading.{HoldsDealing}
-use Rattle.mu_leads.proofs.Lists.{all_copies}
+use Rattle.mu_model.proofs.Lists.{all_copies}
 use Rattle.mu_leads.proofs.leading.no_dealings.Goals as goal
 
 pub returns : goal.returns

@@ -1,6 +1,6 @@
 use Rattle.std.proofs.Common.{arith, ◌∷◌, ◌≡◌, length, length-set, ◌∙◌}
 use Rattle.mu_leads.specs.Leading.{HoldsDealing}
-use Rattle.mu_leads.proofs.Lists.{upto_next, upto_all}
+use Rattle.mu_model.proofs.Lists.{upto_next, upto_all}
 use Rattle.mu_leads.proofs.leading.take_at_each.Goals as goal
 
 pub loop-p-preserved : goal.loop-p-preserved

@@ -3,7 +3,7 @@ use Rattle.mu_model.specs.declared.config.Config.{Config}
 use Rattle.mu_model.specs.declared.event.Event.{Event}
 use Rattle.mu_model.specs.Parts.{IsPossible}
 use Rattle.mu_leads.specs.Leading.{HoldsDealing, HoldsDealings}
-use Rattle.mu_leads.proofs.Lists.{HoldsUpto}
+use Rattle.mu_model.proofs.Lists.{HoldsUpto}
 use Rattle.mu_leads.proofs.leading.take_at_each.Given as goal
 
 abbrev pub invariant-loop-p : goal.invariant-loop-p

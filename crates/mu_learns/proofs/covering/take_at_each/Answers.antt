@@ -1,6 +1,6 @@
 use Rattle.std.proofs.Common.{◌∷◌, arith, refl}
 use Rattle.mu_learns.specs.Covering.{HoldsCoverage}
-use Rattle.mu_leads.proofs.Lists.{upto_all, upto_next}
+use Rattle.mu_model.proofs.Lists.{upto_all, upto_next}
 use Rattle.mu_learns.proofs.covering.take_at_each.Goals as goal
 
 pub loop-region-init : goal.loop-region-init

@@ -6,7 +6,7 @@ use Rattle.mu_model.specs.Knowledge.{known}
 use Rattle.mu_model.specs.Parts.{IsPossible}
 use Rattle.mu_learns.specs.Covering.{HoldsCoverage, HoldsCoverages}
 use Rattle.mu_learns.specs.Landings.{HoldsLandings}
-use Rattle.mu_leads.proofs.Lists.{HoldsUpto}
+use Rattle.mu_model.proofs.Lists.{HoldsUpto}
 use Rattle.mu_learns.proofs.covering.take_at_each.Given as goal
 
 abbrev pub invariant-loop-region : goal.invariant-loop-region

@@ -1,8 +1,8 @@
 use Rattle.std.proofs.Common.{rules, ◌≡◌, false, get_or, ◌∷◌, ◌++◌, [], arith, sym, ◌∙◌, ap, Some, length, length-set}
 use Rattle.std.proofs.lemmas.Option.{slice_get-get_or, slice_get_within}
 use Rattle.mu_model.specs.Contents.{marked}
-use Rattle.mu_leads.proofs.Basics.{same_some}
-use Rattle.mu_leads.proofs.Lists.{upto_all, upto_next}
+use Rattle.mu_model.proofs.Basics.{same_some}
+use Rattle.mu_model.proofs.Lists.{upto_all, upto_next}
 use Rattle.mu_learns.proofs.knowing.note_mark.Goals as goal
 
 pub loop-q-init : goal.loop-q-init

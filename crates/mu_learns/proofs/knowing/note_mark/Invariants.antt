@@ -1,7 +1,7 @@
 use Rattle.std.proofs.Common.{ℕ, List, [], ◌∷◌, ◌++◌, ◌≡◌, length}
 use Rattle.mu_model.specs.Contents.{marked}
 use Rattle.mu_learns.specs.Knowing.{MarksReplicas}
-use Rattle.mu_leads.proofs.Lists.{HoldsUpto}
+use Rattle.mu_model.proofs.Lists.{HoldsUpto}
 use Rattle.mu_learns.proofs.knowing.note_mark.Given as goal
 
 abbrev pub invariant-loop-q : goal.invariant-loop-q

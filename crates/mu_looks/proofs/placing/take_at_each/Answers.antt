@@ -1,6 +1,6 @@
 use Rattle.std.proofs.Common.{◌∷◌, arith, refl}
 use Rattle.mu_looks.specs.Placing.{HoldsLooks}
-use Rattle.mu_leads.proofs.Lists.{upto_all, upto_next}
+use Rattle.mu_model.proofs.Lists.{upto_all, upto_next}
 use Rattle.mu_looks.proofs.placing.take_at_each.Goals as goal
 
 pub loop-looks-preserved : goal.loop-looks-preserved

@@ -2,7 +2,7 @@ use Rattle.std.proofs.Common.{◌≡◌, ◌+◌, ◌<◌, List, ◌∷◌, leng
 use Rattle.mu_model.specs.declared.config.Config.{Config}
 use Rattle.mu_model.specs.declared.event.Event.{Event}
 use Rattle.mu_looks.specs.Placing.{HoldsEachRegion, HoldsLooks}
-use Rattle.mu_leads.proofs.Lists.{HoldsUpto}
+use Rattle.mu_model.proofs.Lists.{HoldsUpto}
 use Rattle.mu_looks.proofs.placing.take_at_each.Given as goal
 
 abbrev pub invariant-loop-looks : goal.invariant-loop-looks

@@ -1,8 +1,8 @@
 use Rattle.std.proofs.Common.{arith, not, sym, subst, ap, refl, ◌∙◌, ◌<◌, ◌≡◌, true, false}
 use Rattle.mu_model.specs.Serving.{has_unserved_ask}
-use Rattle.mu_grant.proofs.Lists.{same_some}
 use Rattle.mu_grant.proofs.Waiting.{IsFirst, all_more}
 use Rattle.mu_grant.proofs.grants.Grants.first_waiting.Goals as goal
+use Rattle.mu_model.proofs.Basics.{same_some}
 
 pub returns-then-is_waiting-clause-found : goal.returns-then-is_waiting-clause-found
 returns-then-is_waiting-clause-found c n r w mine held is =

@@ -1,7 +1,7 @@
 use Rattle.std.proofs.Common.{Some, ap, eq-eqb, eqb-true, sym, ◌∙◌}
-use Rattle.mu_grant.proofs.Lists.{same_some}
 use Rattle.mu_grant.proofs.Places.{not_none}
 use Rattle.mu_grant.proofs.grants.Grants.may_grant.Goals as goal
+use Rattle.mu_model.proofs.Basics.{same_some}
 
 pub returns-in-Some : goal.returns-in-Some
 returns-in-Some c config r mine held = (

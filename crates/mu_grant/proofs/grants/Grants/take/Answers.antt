@@ -2,8 +2,8 @@ use Rattle.std.proofs.Common.{sym, subst, ◌∷◌, ◌∙◌, ◌≡◌}
 use Rattle.mu_model.specs.Allowed.{Needs}
 use Rattle.mu_grant.specs.Stands.{StandsFor}
 use Rattle.mu_grant.proofs.Events.{from_parts}
-use Rattle.mu_grant.proofs.Lists.{same_some}
 use Rattle.mu_grant.proofs.grants.Grants.take.Goals as goal
+use Rattle.mu_model.proofs.Basics.{same_some}
 
 pub returns-in-Some : goal.returns-in-Some
 returns-in-Some c config r mine event due says held =

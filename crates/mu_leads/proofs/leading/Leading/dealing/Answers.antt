@@ -1,6 +1,6 @@
 use Rattle.std.proofs.Common.{rules}
 use Rattle.mu_leads.specs.Leading.{HoldsDealing}
-use Rattle.mu_leads.proofs.Lists.{item_read}
+use Rattle.mu_model.proofs.Lists.{item_read}
 use Rattle.mu_leads.proofs.leading.Leading.dealing.Goals as goal
 
 pub returns-then-p-lt7 : goal.returns-then-p-lt7

@@ -1,6 +1,6 @@
 use Rattle.std.proofs.Common.{◌∙◌, ◌||◌, ap, arith}
 use Rattle.std.specs.Prelude.{nat_le, nat_lt}
-use Rattle.mu_leads.proofs.Basics.{true_or}
+use Rattle.mu_model.proofs.Basics.{true_or}
 use Rattle.std.proofs.lemmas.Bool.{le-ltb, lt-ltb}
 use Rattle.std.specs.List.{slice_get}
 use Rattle.mu_model.specs.Knowledge.{is_filled}

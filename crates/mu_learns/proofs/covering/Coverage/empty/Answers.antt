@@ -1,7 +1,7 @@
 use Rattle.std.proofs.Common.{rules, ◌≡◌, false, replicate, refl, arith}
 use Rattle.mu_learns.specs.Knowing.{is_set}
 use Rattle.mu_learns.proofs.Filled.{none_filled}
-use Rattle.mu_leads.proofs.Lists.{copies_fail}
+use Rattle.mu_model.proofs.Lists.{copies_fail}
 use Rattle.mu_learns.proofs.covering.Coverage.empty.Goals as goal
 
 pub returns : goal.returns

@@ -1,6 +1,6 @@
 use Rattle.std.proofs.Common.{rules, [], arith, subst, sym, ◌∙◌, ◌≡◌}
 use Rattle.mu_learns.specs.Covering.{HoldsCoverage}
-use Rattle.mu_leads.proofs.Lists.{each_pushed}
+use Rattle.mu_model.proofs.Lists.{each_pushed}
 use Rattle.mu_learns.proofs.covering.Covering.start.Goals as goal
 
 pub loop-id-preserved : goal.loop-id-preserved

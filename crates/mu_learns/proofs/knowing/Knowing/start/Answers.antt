@@ -1,6 +1,6 @@
 use Rattle.std.proofs.Common.{rules, ◌≡◌, false, replicate, ◌∙◌, refl}
 use Rattle.std.proofs.lemmas.List.{length-replicate}
-use Rattle.mu_leads.proofs.Lists.{copies_fail, get_replicate}
+use Rattle.mu_model.proofs.Lists.{copies_fail, get_replicate}
 use Rattle.mu_learns.specs.Knowing.{is_set}
 use Rattle.mu_learns.proofs.knowing.Knowing.start.Goals as goal
 

@@ -1,7 +1,7 @@
 use Rattle.std.proofs.Common.{◌≡◌, List, ℕ, refl, rules, replicate, subst, sym, []}
 use Rattle.mu_looks.specs.declared.looking.Look.{Look}
 use Rattle.mu_looks.specs.Placing.{HoldsEachLook, HoldsLook, HoldsPuts}
-use Rattle.mu_leads.proofs.Lists.{all_copies}
+use Rattle.mu_model.proofs.Lists.{all_copies}
 use Rattle.mu_looks.proofs.looking.Looks.none.Goals as goal
 
 pub returns : goal.returns

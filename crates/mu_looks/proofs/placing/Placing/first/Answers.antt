@@ -1,6 +1,6 @@
 use Rattle.std.proofs.Common.{sym, subst, arith}
 use Rattle.mu_looks.specs.Placing.{HoldsFirst}
-use Rattle.mu_leads.proofs.Lists.{item_read}
+use Rattle.mu_model.proofs.Lists.{item_read}
 use Rattle.mu_looks.proofs.placing.Placing.first.Goals as goal
 
 pub returns-then-from-len : goal.returns-then-from-len

@@ -3,7 +3,7 @@ use Rattle.std.specs.Prelude.{is_some, not, ◌||◌}
 use Rattle.mu_model.specs.Histories.{all_below}
 use Rattle.mu_model.specs.Leaderships.{is_member}
 use Rattle.mu_model.specs.Picks.{last_look}
-use Rattle.mu_leads.proofs.Basics.{all_more}
+use Rattle.mu_model.proofs.Basics.{all_more}
 use Rattle.mu_looks.proofs.placing.Placing.have_looked.Goals.{then-not-is_looked_at, else-not-is_looked_at}
 use Rattle.mu_looks.proofs.placing.Placing.have_looked.Goals as goal
 

@@ -3,7 +3,7 @@ use Rattle.std.specs.Prelude.{not}
 use Rattle.mu_model.specs.Histories.{all_below, has}
 use Rattle.mu_model.specs.Leaderships.{is_member, leadership}
 use Rattle.mu_model.specs.Picks.{is_past_look, look_answer}
-use Rattle.mu_leads.proofs.Basics.{all_more}
+use Rattle.mu_model.proofs.Basics.{all_more}
 use Rattle.mu_looks.proofs.placing.Placing.none_past.Goals.{then-not-is_clear, else-not-is_clear}
 use Rattle.mu_looks.proofs.placing.Placing.none_past.Goals as goal
 

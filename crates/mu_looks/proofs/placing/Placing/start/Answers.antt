@@ -1,7 +1,7 @@
 use Rattle.std.proofs.Common.{◌≡◌, List, rules, sym, subst, [], refl, replicate}
 use Rattle.mu_looks.specs.declared.placing.First.{First}
 use Rattle.mu_looks.specs.Placing.{HoldsFirst, HoldsFirsts, HoldsLooks}
-use Rattle.mu_leads.proofs.Lists.{all_copies, each_pushed}
+use Rattle.mu_model.proofs.Lists.{all_copies, each_pushed}
 use Rattle.mu_looks.proofs.placing.Placing.start.Goals as goal
 
 pub loop-p-preserved : goal.loop-p-preserved

@@ -1,6 +1,6 @@
 use Rattle.std.proofs.Common.{rules, sym, subst, []}
 use Rattle.mu_parts.specs.Parts.{HoldsPart}
-use Rattle.mu_leads.proofs.Lists.{each_pushed}
+use Rattle.mu_model.proofs.Lists.{each_pushed}
 use Rattle.mu_parts.proofs.movers.Movers.start.Goals as goal
 
 pub loop-replica-preserved : goal.loop-replica-preserved

@@ -1,0 +1,152 @@
+-- Lines of events: `BY VERB = ANSWER`.
+use Rattle.std.specs.Prelude.{ℕ, Bool, false, true, List, [], ◌∷◌, codes, None, Some, if◌then◌else◌}
+use Rattle.std.specs.declared.option.Option.{Option}
+use Rattle.std.specs.Option.{option_map}
+use Rattle.std.specs.Str.{bytes_eq}
+use Rattle.mu_model.specs.declared.event.Answer.{Answer}
+use Rattle.mu_model.specs.declared.event.Event.{Event}
+use Rattle.mu_model.specs.declared.event.Fence.{Fence}
+use Rattle.mu_model.specs.declared.event.Target.{Target}
+use Rattle.mu_model.specs.declared.event.Target.TheVariants as target
+use Rattle.mu_model.specs.declared.event.Verb.{Verb}
+use Rattle.mu_text.specs.Numbers.{below, of_8, of_16, of_32, of_64, wide_number_of}
+
+-- a thing made of several, where all are there
+abbrev pub of_two : {A : Type 0} {B : Type 0} {C : Type 0} → (A → B → C) → Option A → Option B → Option C
+of_two make (Some a) (Some b) = Some (make a b)
+of_two make _ _ = None
+
+abbrev pub of_three : {A : Type 0} {B : Type 0} {C : Type 0} {D : Type 0} → (A → B → C → D) → Option A → Option B → Option C → Option D
+of_three make (Some a) (Some b) (Some c) = Some (make a b c)
+of_three make _ _ _ = None
+
+abbrev pub of_four : {A : Type 0} {B : Type 0} {C : Type 0} {D : Type 0} {E : Type 0} → (A → B → C → D → E) → Option A → Option B → Option C → Option D → Option E
+of_four make (Some a) (Some b) (Some c) (Some d) = Some (make a b c d)
+of_four make _ _ _ _ = None
+
+-- what a writer is about to write: `min`, or `place S`
+abbrev pub target_of : List (List ℕ) → Option Target
+target_of (word ∷ []) = if bytes_eq word (codes "min") then Some target.Min else None
+target_of (word ∷ place ∷ []) = if bytes_eq word (codes "place") then option_map target.Place (of_16 place) else None
+target_of _ = None
+
+-- a verb of one word
+abbrev pub verb_alone : List ℕ → Option Verb
+verb_alone name =
+    if bytes_eq name (codes "beat") then Some Verb.Beat
+    else if bytes_eq name (codes "close") then Some Verb.Close
+    else if bytes_eq name (codes "looktarget") then Some Verb.LookTarget
+    else if bytes_eq name (codes "drain") then Some Verb.Drain
+    else None
+
+-- a verb with one number
+abbrev pub verb_of_one : List ℕ → List ℕ → Option Verb
+verb_of_one name a =
+    if bytes_eq name (codes "ask") then option_map Verb.Ask (of_8 a)
+    else if bytes_eq name (codes "fence") then option_map Verb.Fence (of_8 a)
+    else if bytes_eq name (codes "min") then option_map Verb.Min (of_8 a)
+    else if bytes_eq name (codes "fuo") then option_map Verb.Fuo (of_8 a)
+    else if bytes_eq name (codes "head") then option_map Verb.Head (of_8 a)
+    else if bytes_eq name (codes "readbeat") then option_map Verb.ReadBeat (of_8 a)
+    else if bytes_eq name (codes "raisehead") then option_map Verb.RaiseHead (of_16 a)
+    else if bytes_eq name (codes "readask") then option_map Verb.ReadAsk (of_8 a)
+    else if bytes_eq name (codes "grant") then option_map Verb.Grant (of_8 a)
+    else None
+
+-- a verb with two numbers, or that enters the minimum
+abbrev pub verb_of_two : List ℕ → List ℕ → List ℕ → Option Verb
+verb_of_two name a b =
+    if bytes_eq name (codes "enter") then of_two Verb.Enter (of_8 a) (target_of (b ∷ []))
+    else if bytes_eq name (codes "putmin") then of_two Verb.PutMin (of_8 a) (of_32 b)
+    else if bytes_eq name (codes "look") then of_two Verb.Look (of_8 a) (of_16 b)
+    else if bytes_eq name (codes "raisefuo") then of_two Verb.RaiseFuo (of_8 a) (of_16 b)
+    else if bytes_eq name (codes "readrow") then of_two Verb.ReadRow (of_16 a) (of_8 b)
+    else None
+
+-- a verb with three numbers, or that enters a place
+abbrev pub verb_of_three : List ℕ → List ℕ → List ℕ → List ℕ → Option Verb
+verb_of_three name a b c =
+    if bytes_eq name (codes "enter") then of_two Verb.Enter (of_8 a) (target_of (b ∷ c ∷ []))
+    else if bytes_eq name (codes "writerow") then of_three Verb.WriteRow (of_16 a) (of_8 b) (of_64 c)
+    else None
+
+-- a verb with four numbers
+abbrev pub verb_of_four : List ℕ → List ℕ → List ℕ → List ℕ → List ℕ → Option Verb
+verb_of_four name a b c d =
+    if bytes_eq name (codes "putslot") then of_four Verb.PutSlot (of_8 a) (of_16 b) (of_32 c) (of_16 d) else None
+
+-- a verb and its words
+abbrev pub verb_of : List (List ℕ) → Option Verb
+verb_of (name ∷ []) = verb_alone name
+verb_of (name ∷ a ∷ []) = verb_of_one name a
+verb_of (name ∷ a ∷ b ∷ []) = verb_of_two name a b
+verb_of (name ∷ a ∷ b ∷ c ∷ []) = verb_of_three name a b c
+verb_of (name ∷ a ∷ b ∷ c ∷ d ∷ []) = verb_of_four name a b c d
+verb_of _ = None
+
+-- whom a fence lets write: a number, or `none`
+abbrev pub owner_of : List ℕ → Option (Option ℕ)
+owner_of word = if bytes_eq word (codes "none") then Some None else option_map Some (of_8 word)
+
+-- whether a fence is closing
+abbrev pub state_of : List ℕ → Option Bool
+state_of word =
+    if bytes_eq word (codes "open") then Some false
+    else if bytes_eq word (codes "closing") then Some true
+    else None
+
+-- what a fence names: `none`, or what a writer is about to write
+abbrev pub named_of : List (List ℕ) → Option Target
+named_of (word ∷ []) = if bytes_eq word (codes "none") then Some target.None else target_of (word ∷ [])
+named_of words = target_of words
+
+-- a fence: the owner, the grant, the state and what it names
+abbrev pub fence_of : List (List ℕ) → Option Fence
+fence_of (owner ∷ grant ∷ state ∷ named) =
+    of_four (λ owner grant closing named. record { owner = owner; grant = grant; closing = closing; target = named })
+    (owner_of owner) (of_32 grant) (state_of state) (named_of named)
+fence_of _ = None
+
+-- an answer of one word
+abbrev pub answer_alone : List ℕ → Option Answer
+answer_alone word =
+    if bytes_eq word (codes "done") then Some Answer.Done
+    else if bytes_eq word (codes "missed") then Some Answer.Missed
+    else if bytes_eq word (codes "entered") then Some Answer.Entered
+    else if bytes_eq word (codes "empty") then Some Answer.Empty
+    else if bytes_eq word (codes "past") then Some Answer.Past
+    else option_map Answer.Number (of_64 word)
+
+-- an entry: its proposal number and its payload number
+abbrev pub entry_of : List (List ℕ) → Option Answer
+entry_of (number ∷ value ∷ []) = of_two Answer.Entry (of_32 number) (of_16 value)
+entry_of _ = None
+
+-- an answer of several words: an entry, or a fence
+abbrev pub answer_of_many : List ℕ → List (List ℕ) → Option Answer
+answer_of_many name words =
+    if bytes_eq name (codes "entry") then entry_of words
+    else if bytes_eq name (codes "fence") then option_map Answer.Seen (fence_of words)
+    else if bytes_eq name (codes "lost") then option_map Answer.Lost (fence_of words)
+    else None
+
+-- an answer and its words
+abbrev pub answer_of : List (List ℕ) → Option Answer
+answer_of [] = None
+answer_of (word ∷ []) = answer_alone word
+answer_of (word ∷ next ∷ words) = answer_of_many word (next ∷ words)
+
+-- the words before and after the first `=`
+abbrev pub sides : List (List ℕ) → Option (List (List ℕ) × List (List ℕ))
+sides [] = None
+sides (word ∷ words) = if bytes_eq word (codes "=") then Some ([], words) else option_map (λ parts. (word ∷ parts.0, parts.1)) (sides words)
+
+-- the event of one of so many replicas that these words before and after a `=` spell
+abbrev pub event_between : ℕ → Option (List (List ℕ) × List (List ℕ)) → Option Event
+event_between replicas (Some (by ∷ verb, answer)) =
+    of_three (λ by verb answer. record { by = by; verb = verb; answer = answer }) (below replicas (wide_number_of by)) (verb_of verb) (answer_of answer)
+event_between replicas _ = None
+
+-- the event that the words of a line spell, if they spell one
+abbrev pub event_of : ℕ → List (List ℕ) → Option Event
+event_of replicas words = event_between replicas (sides words)

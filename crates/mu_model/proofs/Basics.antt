@@ -1,0 +1,36 @@
+-- Small facts of numbers, booleans and of what is there.
+use Rattle.std.proofs.Common.{◌≡◌, ℕ, suc, ◌+◌, Bool, true, false, ◌==◌, ◌&&◌, ◌||◌, refl, sym, ◌∙◌, ap, subst, arith, None, Some, ⊥, eq-eqb, true≢false}
+use Rattle.mu_model.specs.Histories.{all_below}
+
+-- two things that are there and equal as such are the same thing
+pub same_some : {A : Type 0} (x y : A) → Some x ≡ Some y → x ≡ y
+same_some x y same = cc
+
+-- what isn't there is nothing that is
+pub none_some : {A : Type 0} (x : A) → None ≡ Some x → ⊥
+none_some x same = cc
+
+-- a number equals itself
+pub same_number : (n : ℕ) → n == n ≡ true
+same_number n = eq-eqb n n refl
+
+-- where one of two tests passes, one of them does
+pub true_or : (a b : Bool) → a ≡ true → a || b ≡ true
+true_or true b is = refl
+true_or false b is = absurd (true≢false (sym is))
+
+-- the same of the second
+pub or_true : (a b : Bool) → b ≡ true → a || b ≡ true
+or_true true b is = refl
+or_true false b is = is
+
+-- where none of two tests passes, the first doesn't
+pub none_of_or : (a b : Bool) → (a || b) ≡ false → a ≡ false
+none_of_or true b is = absurd (true≢false is)
+none_of_or false b is = refl
+
+-- all numbers up to p pass where p does and all below
+pub all_more : (p : ℕ) (test : ℕ → Bool) (t one : Bool) → one ≡ test p → t ≡ (one && all_below p test) → t ≡ all_below (p + 1) test
+all_more p test t one told is =
+    let next : suc p ≡ p + 1 = omega arith in
+    subst (λ n. t ≡ all_below n test) next (is ∙ ap (λ b. b && all_below p test) told)

@@ -1,0 +1,33 @@
+//! A text as lines, words and decimal numbers.
+#![tactic(auto)]
+
+mod line_reader;
+mod line_words;
+mod lines;
+mod numbers;
+
+pub use line_reader::LineReader;
+pub use line_words::{Words, is_alone, is_first};
+pub use lines::{next_line, three_words, two_words};
+pub use numbers::{limited, number, of_8, of_16, of_32, of_64};
+
+/// The byte that ends a line.
+pub const LINE_FEED: u8 = b'\n';
+
+/// The byte between two words of a line.
+pub const SPACE: u8 = b' ';
+
+/// The least decimal digit.
+pub const ZERO: u8 = b'0';
+
+/// The greatest decimal digit.
+pub const NINE: u8 = b'9';
+
+/// The most digits of a number of a job.
+pub const MOST_DIGITS: usize = 7;
+
+/// The most digits of a number of an event.
+pub const MOST_WIDE_DIGITS: usize = 20;
+
+/// One more than the most words of a line of a job or of an event list.
+pub const MANY_WORDS: usize = 14;

@@ -1,0 +1,72 @@
+//! The words of one line.
+ghost use Rattle.std.specs.Prelude.{◌≡◌, map, take};
+ghost use Rattle.mu_text.specs.Lines.{is_alone, is_first, words};
+
+use crate::MANY_WORDS;
+use crate::lines::split_word;
+use std::marker::Model;
+
+/// The first words of a line: all of them, unless it has more than any line of a grammar. Contracts
+/// see the words.
+#[derive(Drop)]
+pub struct Words<'a> {
+    items: [&'a [u8]; MANY_WORDS],
+    count: usize,
+}
+
+impl<'a> Model for Words<'a> {
+    ghost use Rattle.std.specs.Prelude.{ℕ, ◌≤◌, List, map, take};
+    ghost use Rattle.mu_text.specs.declared.TheConstants.{MANY_WORDS};
+
+    ghost Value = { List (List ℕ) };
+
+    ghost view = { λ w. map (λ word. word.now) (take w.count w.items) };
+
+    ghost invariant = { λ w. w.count ≤ MANY_WORDS };
+}
+
+impl<'a> Words<'a> {
+    /// The first words of a line, at most [`MANY_WORDS`].
+    pub fn of(line: &'a [u8]) -> Words<'a>
+        ensures { result ≡ take MANY_WORDS (words line.now) }
+    {
+        let mut items = [line; MANY_WORDS];
+        let mut count = 0;
+        let mut rest = Some(line);
+        while count < MANY_WORDS {
+            let Some(text) = rest else { break };
+            let (word, more) = split_word(text);
+            items[count] = word;
+            count += 1;
+            rest = more;
+        }
+        Words { items, count }
+    }
+
+    /// The words in order.
+    pub fn as_slice(&self) -> &[&'a [u8]]
+        ensures { map (λ word. word.now) result.now ≡ self.now }
+    {
+        &self.items[..self.count]
+    }
+}
+
+/// Whether the first word is this one.
+pub fn is_first(words: &[&[u8]], wanted: &[u8]) -> bool
+    ensures { result ≡ is_first wanted.now (map (λ word. word.now) words.now) }
+{
+    match words {
+        [word, ..] => *word == wanted,
+        [] => false,
+    }
+}
+
+/// Whether this is the only word.
+pub fn is_alone(words: &[&[u8]], wanted: &[u8]) -> bool
+    ensures { result ≡ is_alone wanted.now (map (λ word. word.now) words.now) }
+{
+    match words {
+        [word] => *word == wanted,
+        _ => false,
+    }
+}

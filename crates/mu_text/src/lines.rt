@@ -1,0 +1,57 @@
+//! Lines and words, taken one by one from the front of bytes.
+ghost use Rattle.std.specs.Prelude.{◌≡◌, ◌≢◌, ◌<◌, ◌==◌, [], ◌∷◌, length, position, MatchOption, IfSome};
+ghost use Rattle.mu_text.specs.Lines.{lines, words};
+
+use crate::{LINE_FEED, SPACE};
+
+/// Where the first such byte stands, if there is one.
+fn place_of(bytes: &[u8], wanted: u8) -> Option<usize>
+    ensures { result ≡ position (λ byte. byte == wanted) bytes.now }
+{
+    bytes.iter().position(|&byte| byte == wanted)
+}
+
+/// The first line, without its line feed, and the bytes after it. `None` where there is no line.
+pub fn next_line(bytes: &[u8]) -> Option<(&[u8], &[u8])>
+    ensures lines { MatchOption result (lines bytes.now ≡ []) (λ r. lines bytes.now ≡ r.0.now ∷ lines r.1.now) }
+    ensures shorter { IfSome result (λ r. length r.1.now < length bytes.now) }
+{
+    if bytes.is_empty() {
+        return None;
+    }
+    match place_of(bytes, LINE_FEED) {
+        Some(end) => Some((&bytes[..end], &bytes[end + 1..])),
+        None => Some((bytes, &bytes[bytes.len()..])),
+    }
+}
+
+/// The first word of a line, and what stands after the space behind it, if there is one.
+pub fn split_word(line: &[u8]) -> (&[u8], Option<&[u8]>)
+    ensures { MatchOption result.1 (words line.now ≡ result.0.now ∷ []) (λ rest. words line.now ≡ result.0.now ∷ words rest.now) }
+{
+    match place_of(line, SPACE) {
+        Some(end) => (&line[..end], Some(&line[end + 1..])),
+        None => (line, None),
+    }
+}
+
+/// The words of a line of two words.
+pub fn two_words(line: &[u8]) -> Option<(&[u8], &[u8])>
+    ensures { MatchOption result (length (words line.now) ≢ 2) (λ r. words line.now ≡ r.0.now ∷ r.1.now ∷ []) }
+{
+    let (first, rest) = split_word(line);
+    let (second, more) = split_word(rest?);
+    match more {
+        None => Some((first, second)),
+        Some(_) => None,
+    }
+}
+
+/// The words of a line of three words.
+pub fn three_words(line: &[u8]) -> Option<(&[u8], &[u8], &[u8])>
+    ensures { MatchOption result (length (words line.now) ≢ 3) (λ r. words line.now ≡ r.0.now ∷ r.1.now ∷ r.2.now ∷ []) }
+{
+    let (first, rest) = split_word(line);
+    let (second, third) = two_words(rest?)?;
+    Some((first, second, third))
+}

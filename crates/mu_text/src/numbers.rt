@@ -1,0 +1,91 @@
+//! Numbers in decimal.
+ghost use Rattle.std.specs.Prelude.{◌≡◌, ◌<◌, ◌≤◌, ◌-◌, ◌^◌, if◌then◌else◌, IfSome};
+ghost use Rattle.mu_text.specs.Numbers.{is_decimal, is_digit, value_of};
+ghost use Rattle.mu_text.specs.Numbers.{number_of, wide_number_of, within};
+ghost use Rattle.mu_text.specs.Numbers.{of_8, of_16, of_32, of_64};
+
+use crate::{MOST_DIGITS, MOST_WIDE_DIGITS, NINE, ZERO};
+
+/// What a digit is worth.
+fn digit(byte: u8) -> Option<u8>
+    ensures exact { result ≡ (if is_digit byte then Some (byte - ZERO) else None) }
+    ensures small { IfSome result (λ digit. digit ≤ 9) }
+{
+    if ZERO <= byte && byte <= NINE {
+        Some(byte - ZERO)
+    } else {
+        None
+    }
+}
+
+/// The value of one to `most` digits, without a leading zero.
+fn decimal(word: &[u8], most: usize) -> Option<u128>
+    requires { most ≤ MOST_WIDE_DIGITS }
+    ensures exact { result ≡ (if is_decimal most word.now then Some (value_of word.now) else None) }
+    ensures small { IfSome result (λ value. value < 10 ^ most) }
+{
+    if word.is_empty() || word.len() > most || (word.len() > 1 && word[0] == ZERO) {
+        return None;
+    }
+    let mut value: u128 = 0;
+    for &byte in word {
+        value = value * 10 + u128::from(digit(byte)?);
+    }
+    Some(value)
+}
+
+/// The number that a word spells: one to seven digits, without a leading zero.
+pub fn number(word: &[u8]) -> Option<u32>
+    ensures { result ≡ number_of word.now }
+{
+    Some(decimal(word, MOST_DIGITS)? as u32)
+}
+
+/// The number that a word spells, where it is from `low` to `high`.
+pub fn limited(word: &[u8], low: u32, high: u32) -> Option<u32>
+    ensures exact { result ≡ within low high (number_of word.now) }
+    ensures low { IfSome result (λ number. low ≤ number) }
+    ensures high { IfSome result (λ number. number ≤ high) }
+{
+    let value = number(word)?;
+    if low <= value && value <= high {
+        Some(value)
+    } else {
+        None
+    }
+}
+
+/// The number that a word of an event spells: one to twenty digits, without a leading zero.
+pub fn wide_number(word: &[u8]) -> Option<u128>
+    ensures { result ≡ wide_number_of word.now }
+{
+    decimal(word, MOST_WIDE_DIGITS)
+}
+
+/// The number of 8 bits that a word of an event spells.
+pub fn of_8(word: &[u8]) -> Option<u8>
+    ensures { result ≡ of_8 word.now }
+{
+    u8::try_from(wide_number(word)?).ok()
+}
+
+/// The number of 16 bits that a word of an event spells.
+pub fn of_16(word: &[u8]) -> Option<u16>
+    ensures { result ≡ of_16 word.now }
+{
+    u16::try_from(wide_number(word)?).ok()
+}
+
+/// The number of 32 bits that a word of an event spells.
+pub fn of_32(word: &[u8]) -> Option<u32>
+    ensures { result ≡ of_32 word.now }
+{
+    u32::try_from(wide_number(word)?).ok()
+}
+
+/// The number of 64 bits that a word of an event spells.
+pub fn of_64(word: &[u8]) -> Option<u64>
+    ensures { result ≡ of_64 word.now }
+{
+    u64::try_from(wide_number(word)?).ok()
+}
