@@ -1,5 +1,5 @@
 -- Small facts of numbers, booleans and of what is there.
-use Rattle.std.proofs.Common.{◌≡◌, ℕ, suc, ◌+◌, Bool, true, false, ◌==◌, ◌&&◌, ◌||◌, refl, sym, ◌∙◌, ap, subst, arith, None, Some, ⊥, eq-eqb, true≢false}
+use Rattle.std.proofs.Common.{◌≡◌, ℕ, suc, ◌+◌, Bool, true, false, ◌==◌, ◌&&◌, ◌||◌, refl, sym, ◌∙◌, ap, subst, arith, None, Some, eq-eqb, true≢false}
 use Rattle.mu_model.specs.Histories.{all_below}
 
 -- two things that are there and equal as such are the same thing
