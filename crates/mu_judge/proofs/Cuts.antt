@@ -1,6 +1,5 @@
 -- The first separator, looked for place by place.
-use Rattle.std.proofs.Common.{◌≡◌, ℕ, zero, suc, ◌+◌, ◌-◌, ◌<◌, ◌≤◌, true, false, cond, List, [], ◌∷◌, ◌++◌, length, take, drop, Option, None, Some, refl, sym, ap, ◌∙◌, arith}
-use Rattle.std.proofs.lemmas.Grind.{common_steps}
+use Rattle.std.proofs.Common.{◌≡◌, ℕ, zero, suc, ◌+◌, ◌<◌, ◌≤◌, true, false, cond, List, [], ◌∷◌, ◌++◌, length, take, drop, Option, None, Some, refl, sym, ap, ◌∙◌, arith}
 use Rattle.std.proofs.lemmas.List.{drop_all}
 use Rattle.std.specs.Option.{option_map}
 use Rattle.mu_judge.specs.Traces.{cut, is_between}
@@ -53,6 +52,3 @@ cut_found (byte ∷ bytes) (suc i) below e =
 -- past the last byte there is none
 pub cut_none : (bytes : List ℕ) (i : ℕ) → length bytes ≤ i → behind (take i bytes) (cut (drop i bytes)) ≡ None
 cut_none bytes i past = ap (λ rest. behind (take i bytes) (cut rest)) (drop_all i bytes past)
-
-pub all_after : (bytes : List ℕ) (n : ℕ) → take (length bytes - n) (drop n bytes) ≡ drop n bytes
-all_after bytes n = grind (arith, common_steps)

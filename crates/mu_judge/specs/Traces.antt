@@ -1,7 +1,7 @@
 -- How an input is cut into traces, and what is printed of them.
 use Rattle.std.specs.Prelude.{ℕ, ◌≡◌, ◌<◌, Bool, List, [], ◌∷◌, ◌++◌, length, take, drop, None, Some, IfSome, MatchOption, if◌then◌else◌, ⊤}
 use Rattle.std.specs.declared.option.Option.{Option}
-use Rattle.std.specs.Option.{option_map}
+use Rattle.std.specs.Option.{option_map, option_map_or}
 use Rattle.std.specs.Str.{bytes_eq}
 use Rattle.std.specs.Io.KnownBytes.{Appends}
 use Rattle.mu_io.specs.Faults.{Rose}
@@ -36,6 +36,15 @@ abbrev pub texts : List Said → List ℕ
 texts [] = []
 texts (said ∷ saids) = text said ++ texts saids
 
+-- the bytes of the first trace
+abbrev pub first_of : List ℕ → List ℕ
+first_of bytes = option_map_or (λ parts. parts.0) (cut bytes) bytes
+
+-- what there is to say of the first traces of the bytes, in order, and of the one after them
+abbrev pub SaysOfFirst : List ℕ → List Said → Said → Type 0
+SaysOfFirst bytes [] last = SaysOf (first_of bytes) last
+SaysOfFirst bytes (said ∷ saids) last = MatchOption (cut bytes) ⊥ (λ parts. SaysOf parts.0 said × SaysOfFirst parts.1 saids last)
+
 -- what there is to say of the trace was written
 pub record JudgesOne (bytes : List ℕ) (before after : Option (List ℕ)) : Type 0 where
   pub said : Said
@@ -48,13 +57,35 @@ pub record JudgesAll (bytes : List ℕ) (before after : Option (List ℕ)) : Typ
   pub says : SaysOfAll bytes saids
   pub printed : Appends before after (texts saids)
 
--- each end, and what it tells of the bytes that the source had left, where it tells them, and of the counts of faults of the
--- source and of the sink before and after
-abbrev pub Stops : Option (List ℕ) → ℕ → ℕ → ℕ → ℕ → End → Type 0
-Stops left read now_read wrote now_wrote End.ReadFault = Rose read now_read
-Stops left read now_read wrote now_wrote End.WriteFault = Rose wrote now_wrote
-Stops left read now_read wrote now_wrote End.NoMemory = ⊤
-Stops left read now_read wrote now_wrote End.TooLong = IfSome left (λ bytes. INPUT_LIMIT < length bytes)
+-- of what there is to say of the trace so many bytes were written, but not all
+pub record JudgesPart (bytes : List ℕ) (before after : Option (List ℕ)) (taken : ℕ) : Type 0 where
+  pub said : Said
+  pub says : SaysOf bytes said
+  pub printed : Appends before after (take taken (text said))
+  pub short : taken < length (text said)
+
+-- what there is to say of the first traces was written, and of the next so many bytes, but not all
+pub record JudgesSome (bytes : List ℕ) (before after : Option (List ℕ)) (taken : ℕ) : Type 0 where
+  pub saids : List Said
+  pub last : Said
+  pub says : SaysOfFirst bytes saids last
+  pub printed : Appends before after (texts saids ++ take taken (text last))
+  pub short : taken < length (text last)
+
+-- each end, and what it tells of the bytes that the source had left and of those that the sink had taken before and after,
+-- where these tell them
+abbrev pub Stops : Option (List ℕ) → Option (List ℕ) → Option (List ℕ) → End → Type 0
+Stops left before after End.WriteFault = IfSome left (λ bytes. (taken : ℕ) × JudgesSome bytes before after taken)
+Stops left before after End.TooLong = IfSome left (λ bytes. INPUT_LIMIT < length bytes) × (after ≡ before)
+Stops left before after End.ReadFault = after ≡ before
+Stops left before after End.NoMemory = after ≡ before
+
+-- a fault comes where the count of the source's or the sink's faults rose
+abbrev pub HasFault : ℕ → ℕ → ℕ → ℕ → End → Type 0
+HasFault read now_read wrote now_wrote End.ReadFault = Rose read now_read
+HasFault read now_read wrote now_wrote End.WriteFault = Rose wrote now_wrote
+HasFault read now_read wrote now_wrote End.NoMemory = ⊤
+HasFault read now_read wrote now_wrote End.TooLong = ⊤
 
 -- the status of the program at an end
 abbrev pub status_of : End → ℕ

@@ -2,7 +2,7 @@
 ghost use Rattle.std.specs.Prelude.{◌≡◌, ◌≤◌, length, IfErr, IfSome, OnErr, OnOk};
 ghost use Rattle.mu_io.specs.Faults.{Rose};
 ghost use Rattle.mu_input.specs.declared.TheConstants.{TRACE_LIMIT};
-ghost use Rattle.mu_judge.specs.Traces.{JudgesAll, JudgesOne, Stops, status_of};
+ghost use Rattle.mu_judge.specs.Traces.{HasFault, JudgesAll, JudgesOne, JudgesPart, JudgesSome, Stops, status_of};
 
 use crate::cutting::cut;
 use mu_io::{ReadEnd, Sink, Source, WriteFault, read_all};
@@ -44,8 +44,9 @@ impl End {
 ///
 /// # Errors
 ///
-/// A fault of the source, more bytes than the limit, want of memory for the input, or a fault of the
-/// sink: the lines of the traces before are written by then.
+/// A fault of the source, more bytes than the limit or want of memory for the input, before anything is
+/// written; or a fault of the sink, where the lines of the first traces are written, and of the next
+/// line so many bytes as the sink had taken.
 pub fn judge_input<S: Source, K: Sink>(
     alloc: Global,
     source: &mut S,
@@ -55,8 +56,10 @@ pub fn judge_input<S: Source, K: Sink>(
         (λ bytes. JudgesAll bytes (K.written sink.old) (K.written sink.new))) }
     ensures read { OnOk result (S.faults source.new ≡ S.faults source.old) }
     ensures written { OnOk result (K.faults sink.new ≡ K.faults sink.old) }
-    ensures stops { IfErr result (λ end. Stops (S.left source.old)
-        (S.faults source.old) (S.faults source.new) (K.faults sink.old) (K.faults sink.new) end) }
+    ensures stops { IfErr result
+        (Stops (S.left source.old) (K.written sink.old) (K.written sink.new)) }
+    ensures fault { IfErr result (HasFault
+        (S.faults source.old) (S.faults source.new) (K.faults sink.old) (K.faults sink.new)) }
 {
     let bytes = match read_all(alloc, source, INPUT_LIMIT) {
         Ok(bytes) => bytes,
@@ -79,6 +82,8 @@ pub fn judge_input<S: Source, K: Sink>(
 fn judge_bytes<K: Sink>(alloc: Global, bytes: &[u8], sink: &mut K) -> Result<(), WriteFault>
     requires { length bytes.now ≤ TRACE_LIMIT }
     ensures all { OnOk result (JudgesAll bytes.now (K.written sink.old) (K.written sink.new)) }
+    ensures some { IfErr result (λ fault.
+        JudgesSome bytes.now (K.written sink.old) (K.written sink.new) fault.taken) }
     ensures same_faults { OnOk result (K.faults sink.new ≡ K.faults sink.old) }
     ensures fault { OnErr result (Rose (K.faults sink.old) (K.faults sink.new)) }
 {
@@ -99,6 +104,8 @@ fn judge_bytes<K: Sink>(alloc: Global, bytes: &[u8], sink: &mut K) -> Result<(),
 fn judge_trace<K: Sink>(alloc: Global, bytes: &[u8], sink: &mut K) -> Result<(), WriteFault>
     requires { length bytes.now ≤ TRACE_LIMIT }
     ensures one { OnOk result (JudgesOne bytes.now (K.written sink.old) (K.written sink.new)) }
+    ensures part { IfErr result (λ fault.
+        JudgesPart bytes.now (K.written sink.old) (K.written sink.new) fault.taken) }
     ensures same_faults { OnOk result (K.faults sink.new ≡ K.faults sink.old) }
     ensures fault { OnErr result (Rose (K.faults sink.old) (K.faults sink.new)) }
 {

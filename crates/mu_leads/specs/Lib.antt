@@ -1,2 +1,3 @@
+pub mod Bearing
 pub mod Heads
 pub mod Leading

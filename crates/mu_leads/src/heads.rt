@@ -7,6 +7,7 @@ ghost use Rattle.mu_model.specs.Scores.{score};
 ghost use Rattle.mu_detect.specs.Stands.{StandsFor};
 ghost use Rattle.mu_leads.specs.Heads.{HoldsHeads, HoldsPeer, HoldsPeers, StandsForStuck};
 
+use crate::bearing::tells_of_peers;
 use mu_detect::Scores;
 use mu_model::{Answer, Config, Event, Verb};
 
@@ -126,6 +127,9 @@ impl Heads {
     pub fn take(&mut self, r: u8, event: &Event)
         ensures { (c : Config) → (mine : List Event) → HoldsHeads c r mine self.old → HoldsHeads c r (event.now ∷ mine) self.new }
     {
+        if !tells_of_peers(&event.verb) {
+            return;
+        }
         take_at_peers(&mut self.peers, &self.scores, r, event);
         self.scores.note(event);
     }

@@ -3,10 +3,12 @@
 //! Each state stands for the replica's own events, and is kept up to date event by event.
 #![tactic(auto)]
 
+mod bearing;
 mod dealing;
 mod heads;
 mod leading;
 
+pub use bearing::is_leaders;
 pub use dealing::begins;
 pub use heads::Heads;
 pub use leading::Leading;

@@ -7,3 +7,4 @@ pub mod Filled
 pub mod Learning
 pub mod Noted
 pub mod Placed
+pub mod Kept

@@ -15,7 +15,7 @@ ghost use Rattle.mu_leads.specs.Leading.{HoldsLeading};
 ghost use Rattle.mu_looks.specs.Placing.{HoldsEachRegion, HoldsFirst, HoldsFirsts, HoldsOwnReach, HoldsPlacing, begun_time, joining_time};
 
 use crate::looking::{Looks, farther};
-use mu_leads::{Leading, begins};
+use mu_leads::{Leading, begins, is_leaders};
 use mu_model::{Answer, Config, Event, NoMemory, Verb, positions_in};
 use std::alloc::Global;
 
@@ -201,13 +201,16 @@ impl Placing {
     {
         let r = self.replica;
         let now = self.time;
+        self.time = now.saturating_add(1);
+        if !is_leaders(&event.verb) {
+            return;
+        }
         let joining = joins(before, r, event);
         note_first(&mut self.firsts, self.begun_at, r, now, event);
         self.begun_at = begun_after(self.begun_at, r, now, event);
         self.joined_at = joined_after(self.joined_at, joining, r, now, event);
         self.own_reach = own_reach_after(self.own_reach, r, event);
         take_at_each(&mut self.regions, r, now, event);
-        self.time = now.saturating_add(1);
     }
 
     /// Whether the leadership read or raised a FUO of `p` within a ring of position `i`.

@@ -1,6 +1,7 @@
 use Rattle.std.proofs.Common.{◌≡◌, ◌+◌, true, false, Some, sym, ap, ◌∙◌, take, drop}
 use Rattle.mu_judge.specs.Traces.{is_between}
-use Rattle.mu_judge.proofs.Cuts.{all_after, cut_found, cut_later}
+use Rattle.mu_text.proofs.Cutting.{all_after}
+use Rattle.mu_judge.proofs.Cuts.{cut_found, cut_later}
 use Rattle.mu_judge.proofs.cutting.cut.Goals as goal
 
 pub returns-then-is_between-clause-parts : goal.returns-then-is_between-clause-parts

@@ -1,5 +1,5 @@
-use Rattle.std.proofs.Common.{◌≤◌, ◌<◌, length, ◌∙◌, arith}
-use Rattle.mu_judge.proofs.Judgings.{judged_last, judged_step}
+use Rattle.std.proofs.Common.{rules, ◌≤◌, ◌<◌, length, ◌∙◌, arith}
+use Rattle.mu_judge.proofs.Judgings.{first_cut, first_whole, judged_last, judged_some_of, judged_step}
 use Rattle.mu_judge.proofs.judging.judge_bytes.Goals as goal
 
 pub loop-trace-preserved : goal.loop-trace-preserved
@@ -15,3 +15,11 @@ loop-trace-preserved g c =
 pub returns-clause-all : goal.returns-clause-all
 returns-clause-all g c =
     judged_last _ _ _ _ _ c.judge_trace-2.result c.loop-trace.invariant.before c.in_default.ensures.parts c.judge_trace-2.ensures.one
+
+pub returns-in_err-judge_trace-clause-some : goal.returns-in_err-judge_trace-clause-some
+returns-in_err-judge_trace-clause-some g c =
+    judged_some_of _ _ c.in-Some.trace.now _ _ _ c.from_residual.result c.loop-trace.invariant.before (first_cut c.loop-trace.rest.now c.in-Some.trace.now c.in-Some.behind.now c.in-Some.ensures.parts) (search rules)
+
+pub returns-clause-some : goal.returns-clause-some
+returns-clause-some g c =
+    judged_some_of _ _ _ _ _ _ c.judge_trace-2.result c.loop-trace.invariant.before (first_whole c.loop-trace.rest.now c.in_default.ensures.parts) c.judge_trace-2.ensures.part

@@ -1,3 +1,5 @@
+use Rattle.std.proofs.Common.{rules}
+use Rattle.mu_leads.proofs.Kept.{leading_kept}
 use Rattle.mu_leads.proofs.Within.{reads_within}
 use Rattle.mu_leads.proofs.leading.Leading.take.Goals as goal
 
@@ -12,3 +14,6 @@ returns c c' mine few possible held = record {
   put = c.greatest_number_after-self.ensures mine held.put;
   dealings = c.take_at_each.ensures c' mine possible held.dealings;
 }
+
+pub returns-then-not-is_leaders : goal.returns-then-not-is_leaders
+returns-then-not-is_leaders c c' mine few possible held = leading_kept c.args.r c.args.event.now mine c.args.self.now (search rules) held

@@ -1,7 +1,8 @@
-use Rattle.std.proofs.Common.{List, ◌∷◌, ◌∙◌, length, drop, sym, ap, subst}
+use Rattle.std.proofs.Common.{rules, List, ◌∷◌, ◌∙◌, length, drop, sym, ap, subst}
 use Rattle.mu_learns.specs.Covering.{HoldsCoverages}
 use Rattle.std.proofs.lemmas.List.{take_at}
 use Rattle.mu_learns.specs.declared.covering.Coverage.{Coverage}
+use Rattle.mu_learns.proofs.Kept.{covering_kept}
 use Rattle.mu_learns.proofs.covering.Covering.take.Goals as goal
 
 pub returns : goal.returns
@@ -14,3 +15,6 @@ returns c c' mine config possible before after landings held =
       count = ap length back ∙ (long ∙ (ap length same ∙ held.count));
       each = subst (λ (regions : List Coverage). HoldsCoverages c' c.args.r (c.args.event.now ∷ mine) regions) (sym back) (c.take_at_each.ensures c' mine config possible before after landings was);
     }
+
+pub returns-then-not-is_leaders : goal.returns-then-not-is_leaders
+returns-then-not-is_leaders c c' mine config possible before after landings held = covering_kept c' c.args.r c.args.event.now mine c.args.self.now (search rules) held

@@ -1,4 +1,4 @@
-use Rattle.std.proofs.Common.{◌≡◌, List, ◌∷◌, ◌<◌, drop, length, sym, ap, subst, ◌∙◌, arith}
+use Rattle.std.proofs.Common.{rules, ◌≡◌, List, ◌∷◌, ◌<◌, drop, length, sym, ap, subst, ◌∙◌, arith}
 use Rattle.mu_model.specs.Parts.{IsPossible}
 use Rattle.std.proofs.lemmas.List.{take_at}
 use Rattle.mu_looks.specs.declared.looking.Looks.{Looks}
@@ -6,6 +6,7 @@ use Rattle.mu_looks.specs.declared.placing.First.{First}
 use Rattle.mu_leads.specs.Leading.{HoldsLeading}
 use Rattle.mu_looks.specs.Placing.{HoldsEachRegion, HoldsFirsts, HoldsOwnReach, HoldsPlacing, begun_time, joining_time}
 use Rattle.mu_leads.proofs.Within.{is_short}
+use Rattle.mu_looks.proofs.Kept.{placing_kept}
 use Rattle.mu_looks.proofs.placing.Placing.take.Goals as goal
 
 pub returns : goal.returns
@@ -37,3 +38,9 @@ returns c k r mine config possible leading held =
       seven = ap length regions ∙ (c.take_at_each.auto.regions ∙ (ap length same_regions ∙ held.seven));
       regions = subst (λ (xs : List Looks). HoldsEachRegion k r (c.args.event.now ∷ mine) xs) (sym regions) regions_after;
     }
+
+pub returns-then-not-is_leaders : goal.returns-then-not-is_leaders
+returns-then-not-is_leaders c k r mine config possible leading held =
+    let at = held.time in
+    let short = is_short k r mine c.args.event.now config possible in
+    placing_kept k r c.args.event.now mine c.args.self.now c.saturating_add-self.result (search rules) (omega (arith, c.saturating_add-self.ensures, at, short)) held

@@ -1,0 +1,23 @@
+-- Which verbs bear on what a replica does as a leader, and on what it has read of the others.
+use Rattle.std.specs.Prelude.{Bool, false, true}
+use Rattle.mu_model.specs.declared.event.Verb.{Verb}
+
+-- a verb of a leader
+abbrev pub is_leaders : Verb → Bool
+is_leaders (Verb.Ask p) = true
+is_leaders (Verb.Fence p) = true
+is_leaders (Verb.Min p) = true
+is_leaders (Verb.Enter p t) = true
+is_leaders (Verb.PutMin p b) = true
+is_leaders (Verb.Look p i) = true
+is_leaders (Verb.PutSlot p i b v) = true
+is_leaders (Verb.Fuo p) = true
+is_leaders (Verb.RaiseFuo p u) = true
+is_leaders _ = false
+
+-- a verb that reads a head or a count of beats, or may begin a leadership
+abbrev pub tells_of_peers : Verb → Bool
+tells_of_peers (Verb.Ask p) = true
+tells_of_peers (Verb.Head q) = true
+tells_of_peers (Verb.ReadBeat q) = true
+tells_of_peers _ = false
