@@ -55,8 +55,8 @@ pub const FIRST_COMMANDS: usize = 8;
 pub const FORM: u8 = 14;
 
 #[cfg(test)]
-mod trace_tests;
-#[cfg(test)]
 mod job_tests;
 #[cfg(test)]
 mod tests;
+#[cfg(test)]
+mod trace_tests;

@@ -24,8 +24,8 @@ kept_by c r by (Verb.RaiseFuo p u) answer mine state other held = cc
 kept_by c r by verb answer mine state other held = record {
   count = held.count;
   each = λ p region there.
-    let h = held.each p region there in
-    record { id = h.id; room = h.room; filled = h.filled; filled_next = h.filled_next; caught = h.caught; caught_next = h.caught_next };
+      let h = held.each p region there in
+      record { id = h.id; room = h.room; filled = h.filled; filled_next = h.filled_next; caught = h.caught; caught_next = h.caught_next };
 }
 
 pub covering_kept : (c : Config) (r : ℕ) (e : Event) (mine : List Event) (state : Covering) → is_leaders e.verb ≡ false → HoldsCovering c r mine state → HoldsCovering c r (e ∷ mine) state

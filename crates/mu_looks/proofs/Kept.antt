@@ -36,17 +36,17 @@ kept_by c r by verb answer mine state time other later held = record {
   firsts = firsts_stay r mine (event by verb answer) state.firsts.items (λ q j b v put own. absurd (true≢false (sym (ap is_leaders put) ∙ other))) held.firsts;
   seven = held.seven;
   regions = λ p looks there.
-    let h = held.regions p looks there in
-    record {
-      region = h.region;
-      member_since = h.member_since;
-      entered_at = h.entered_at;
-      reach = h.reach;
-      places = h.places;
-      puts = h.puts;
-      positions = h.positions;
-      looks = looks_stay c r p mine (event by verb answer) looks.looks.items (λ q j look own here. absurd (true≢false (sym (ap is_leaders look) ∙ other))) h.looks;
-    };
+      let h = held.regions p looks there in
+      record {
+        region = h.region;
+        member_since = h.member_since;
+        entered_at = h.entered_at;
+        reach = h.reach;
+        places = h.places;
+        puts = h.puts;
+        positions = h.positions;
+        looks = looks_stay c r p mine (event by verb answer) looks.looks.items (λ q j look own here. absurd (true≢false (sym (ap is_leaders look) ∙ other))) h.looks;
+      };
 }
 
 pub placing_kept : (c : Config) (r : ℕ) (e : Event) (mine : List Event) (state : Placing) (time : ℕ) → is_leaders e.verb ≡ false → time ≡ state.time + 1 → HoldsPlacing c r mine state → HoldsPlacing c r (e ∷ mine) (at_time state time)

@@ -1,3 +1,4 @@
 pub mod Counts
 pub mod Each
+pub mod Elsewhere
 pub mod Range

@@ -1,5 +1,5 @@
 -- Which steps are in range, and which region a step reads.
-use Rattle.std.specs.Prelude.{ℕ, ◌%◌, ◌+◌, ◌/◌, ◌<◌, ◌≤◌}
+use Rattle.std.specs.Prelude.{ℕ, Bool, false, ◌==◌, ◌%◌, ◌+◌, ◌/◌, ◌<◌, ◌≤◌}
 use Rattle.mu_model.specs.declared.config.Config.{Config}
 use Rattle.mu_model.specs.declared.event.Verb.{Verb}
 use Rattle.mu_model.specs.Contents.{row_count}
@@ -20,6 +20,11 @@ read_at r (Verb.Head q) = q
 read_at r (Verb.ReadBeat q) = q
 read_at r (Verb.ReadRow v k) = v / 4096
 read_at r _ = r
+
+-- an ask that begins a leadership: of all regions it changes what its replica has noted
+abbrev pub is_first : Verb → Bool
+is_first (Verb.Ask p) = p == 0
+is_first _ = false
 
 -- the positions, rows and words that a verb names are there, and so is the replica whose asks it reads
 abbrev pub IsNear : Config → Verb → Type 0

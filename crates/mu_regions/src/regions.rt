@@ -4,7 +4,7 @@ ghost use Rattle.mu_model.specs.declared.config.Config.{Config};
 ghost use Rattle.mu_model.specs.declared.event.Event.{Event};
 ghost use Rattle.mu_model.specs.Answers.{answer_of};
 ghost use Rattle.mu_model.specs.Contents.{IsConfig};
-ghost use Rattle.mu_regions.specs.Range.{InRange, IsNear, read_at};
+ghost use Rattle.mu_regions.specs.Range.{InRange, IsNear, is_first, read_at};
 ghost use Rattle.mu_regions.specs.Stands.{HoldsEach, Stands};
 
 use crate::region::Region;
@@ -44,6 +44,16 @@ fn region_read(by: u8, verb: &Verb) -> u16
         | Verb::LookTarget
         | Verb::Drain
         | Verb::Grant(_) => u16::from(by),
+    }
+}
+
+/// Whether the verb begins a leadership: then all regions change what its replica has noted.
+fn is_first(verb: &Verb) -> bool
+    ensures { result ≡ is_first verb.now }
+{
+    match *verb {
+        Verb::Ask(p) => p == 0,
+        _ => false,
     }
 }
 
@@ -88,6 +98,13 @@ impl Regions {
     pub fn take(&mut self, event: &Event)
         ensures { (c : Config) → (past : List Event) → length past < 2 ^ 20 → IsNear c event.now.verb → Stands c past self.old → Stands c (event.now ∷ past) self.new }
     {
-        take_at_each(&mut self.regions, event);
+        if is_first(&event.verb) {
+            take_at_each(&mut self.regions, event);
+            return;
+        }
+        let at = usize::from(region_read(event.by, &event.verb));
+        if let Some(region) = self.regions.get_mut(at) {
+            region.take(event);
+        }
     }
 }
