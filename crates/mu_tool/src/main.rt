@@ -9,14 +9,12 @@ mod top;
 pub use asking::{INPUT_LIMIT, Task};
 use mu_cluster::OpenGate;
 use mu_io::{StdSink, StdSource};
+use mu_report::Said;
 use std::alloc::{AllocError, Global};
 use std::process::ExitCode;
 use std::rt::Env;
 use std::{env, io};
-pub use top::{Answered, mu};
-
-/// The status where there is no memory for the words of the command line.
-const NO_MEMORY: u8 = 6;
+pub use top::{Answered, answer, mu};
 
 /// The words of the command line after the program's own name. Words that are no text are no
 /// command, and so are none at all.
@@ -35,11 +33,11 @@ fn words_after_name<R: Env + AllocGlobal>(rt: &R) -> Result<Vec<String>, AllocEr
 }
 
 fn main(rt: HostRuntime) -> ExitCode {
-    let Ok(words) = words_after_name(&rt) else {
-        return ExitCode::from(NO_MEMORY);
-    };
     let mut source = StdSource::new(rt.stdin());
     let mut sink = StdSink::new(rt.stdout());
+    let Ok(words) = words_after_name(&rt) else {
+        return ExitCode::from(answer(&mut sink, Said::NoMemory).status);
+    };
     let answered = mu(
         &rt,
         rt.alloc(),

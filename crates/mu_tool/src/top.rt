@@ -67,7 +67,16 @@ fn answer_words<S: Source, K: Sink>(
     ensures wrote { Wrote (K.written sink.old) (K.written sink.new) (K.faults sink.old) (K.faults sink.new)
         result.said result.status result.taken }
 {
-    let said = told(alloc, task_of(words), source);
+    answer(sink, told(alloc, task_of(words), source))
+}
+
+/// Writes what there is to say, and answers how that went.
+pub fn answer<K: Sink>(sink: &mut K, said: Said) -> Answered
+    requires { IsShort said }
+    ensures said { result.said ≡ said }
+    ensures wrote { Wrote (K.written sink.old) (K.written sink.new) (K.faults sink.old) (K.faults sink.new)
+        result.said result.status result.taken }
+{
     match printed(sink, &said) {
         Ok(taken) => Answered {
             status: code_of(&said),
