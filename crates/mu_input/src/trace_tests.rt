@@ -53,7 +53,16 @@ fn first_line_that_is_no_event(rt: HostRuntime) -> Result<(), Fail> {
 fn events_in_their_order(rt: HostRuntime) -> Result<(), Fail> {
     let mut lines = LineReader::new(b"0 ask 0 = done\n2 fuo 1 = 7\nend\n");
     let events = read_events(rt.alloc(), &mut lines, 3)?;
-    assert_eq!(rt; events.first().copied(), done(0, Verb::Ask(0)));
-    assert_eq!(rt; events.last().copied(), found(2, Verb::Fuo(1), 7));
+    let ask = Event {
+        by: 0,
+        verb: Verb::Ask(0),
+        answer: Answer::Done,
+    };
+    let read = Event {
+        by: 2,
+        verb: Verb::Fuo(1),
+        answer: Answer::Number(7),
+    };
+    assert_eq!(rt; events.as_slice(), [ask, read].as_slice());
     Ok(())
 }
