@@ -157,7 +157,8 @@ grant_rises p (e ∷ newer) older = go (is_grant_of p e) (grant_rises p newer ol
     go true l = omega arith
     go false l = l
 
-same_fence : (x y : Fence) → Answer.Seen x ≡ Answer.Seen y → x ≡ y
+-- two fences seen that are the same answer are the same
+pub same_fence : (x y : Fence) → Answer.Seen x ≡ Answer.Seen y → x ≡ y
 same_fence x y e = cc
 
 grant_lost : (c : Config) (r p j g u : ℕ) (past : List Event) → IsLegalHistory c past → p < c.replicas → noted_grant r p (part r past) ≡ Some g → fuo_under r p g (leadership r (part r past)) ≡ Some u

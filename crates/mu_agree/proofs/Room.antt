@@ -14,7 +14,7 @@ use Rattle.mu_model.specs.Allowed.{Needs}
 use Rattle.mu_model.specs.Answers.{answer_of, drained, put_answer, shown}
 use Rattle.mu_model.specs.Contents.{is_mark, marked}
 use Rattle.mu_model.specs.Histories.{has, history, max_with, newer_or, newest, or_zero, part}
-use Rattle.mu_model.specs.Knowledge.{fetched_prefix, has_entry, known}
+use Rattle.mu_model.specs.Knowledge.{known}
 use Rattle.mu_model.specs.Leaderships.{begins_leadership, leadership}
 use Rattle.mu_model.specs.Legal.{IsLegalHistory, MayFollow}
 use Rattle.mu_model.specs.Placing.{IsNew, MayPutSlot, fuo_read_or_raised, is_within_ring, reaches_head}
@@ -23,7 +23,7 @@ use Rattle.mu_model.specs.Room.{head_read, last_head}
 use Rattle.mu_agree.proofs.Legal.{made, legal_induction, legal_older}
 use Rattle.mu_agree.proofs.Access.{reversed_at}
 use Rattle.mu_agree.proofs.Slots.{put_in'}
-use Rattle.mu_model.proofs.Scans.{all_at}
+use Rattle.mu_model.proofs.Scans.{all_at, front_length}
 use Rattle.mu_agree.proofs.Landings.{at_part, has_cases, has_implied, has_since}
 use Rattle.mu_agree.proofs.Landed.{lands_within, landed_within}
 use Rattle.mu_agree.proofs.Choice.{chosen_somewhere}
@@ -191,19 +191,11 @@ head_within_fuo_law c events r h = head_below c r (history events) h
 abbrev pub HeadKnown : Config → ℕ → List Event → Type 0
 HeadKnown c r past = region_head r past ≤ length (known c r (part r past))
 
-pub front_short : (c : Config) (r : ℕ) (past : List Event) (values : List ℕ) → length (fetched_prefix c r past values) ≤ length values
-front_short c r past [] = omega arith
-front_short c r past (v ∷ vs) = go (has_entry c r v past) (front_short c r past vs)
-  where
-    go : (t : Bool) → length (fetched_prefix c r past vs) ≤ length vs → length (if t then (v ∷ fetched_prefix c r past vs) else []) ≤ suc (length vs)
-    go true l = omega arith
-    go false l = omega arith
-
 head_known_raise : (c : Config) (r by k : ℕ) (past : List Event) → Needs c by (part by past) (Verb.RaiseHead k) → HeadKnown c r past → (t : Bool) → (by == r) ≡ t → max_with (cond t (Some k) None) (region_head r past) ≤ length (known c r (part r past))
 head_known_raise c r by k past may s true hx =
     let m = subst (λ z. Needs c z (part z past) (Verb.RaiseHead k)) (eqb-true by r hx) may in
     let l = m.0 in
-    let f = front_short c r (part r past) (known c r (part r past)) in omega arith
+    let f = front_length c r (part r past) (known c r (part r past)) in omega arith
 head_known_raise c r by k past may s false hx = s
 
 head_known_step : (c : Config) (r by : ℕ) (v : Verb) (past : List Event) → Needs c by (part by past) v → HeadKnown c r past → HeadKnown c r (made c past by v ∷ past)

@@ -166,9 +166,6 @@ look_calm c i V B maj r by q j past h s hx k = record { looks = λ p a l m. rw h
     at p a l m true hq false hj e = k.looks p a l m e
     at p a l m false hq y hj e = k.looks p a l m e
 
-first_stays : (w f : ℕ) (o : Option ℕ) → o ≡ Some f → earlier_or (Some w) o ≡ Some f
-first_stays w f o e = number_stays w f o e
-
 slot_tame : (c : Config) (i V B : ℕ) (maj : ℕ → Bool) (r by q j n w : ℕ) (past : List Event) → IsLegalHistory c past → Base c i V B maj past
     → ((x : ℕ) → slice_get (known c r (part r past)) i ≡ Some x → x ≡ V) → Tame c i V B maj r (part r past) past → Needs c r (part r past) (Verb.PutSlot q j n w) → (by == r) ≡ true → (a : Answer)
     → Tame c i V B maj r (record { by = by; verb = Verb.PutSlot q j n w; answer = a } ∷ part r past) (record { by = by; verb = Verb.PutSlot q j n w; answer = a } ∷ past)

@@ -13,12 +13,6 @@ split_at [] i x is = cc
 split_at (y ∷ xs) zero x is = let same : y ≡ x = cc in ap (λ z. z ∷ xs) same
 split_at (y ∷ xs) (suc i) x is = ap (λ l. y ∷ l) (split_at xs i x is)
 
--- an item stands at each index of a list
-pub item_at : {X : Type 0} (xs : List X) (i : ℕ) → i < length xs → (x : X) × (slice_get xs i ≡ Some x)
-item_at [] i l = absurd (omega arith)
-item_at (x ∷ xs) zero l = (x, refl)
-item_at (x ∷ xs) (suc i) l = item_at xs i (omega arith)
-
 pub slice_get-take : {X : Type 0} (xs : List X) (n i : ℕ) → i < n → slice_get (take n xs) i ≡ slice_get xs i
 slice_get-take [] zero i l = refl
 slice_get-take [] (suc n) i l = refl

@@ -1,19 +1,13 @@
 -- What is allowed is in range, and a legal list is short.
 use Rattle.std.proofs.Common.{List, [], ◌∷◌, Bool, true, false, ℕ, zero, suc, ◌+◌, ◌*◌, ◌<◌, ◌≤◌, ◌^◌, ◌≡◌, ◌≢◌, inl, inr, ◌==◌, refl, sym, ap, subst, ◌∙◌, arith, length, eqb-true}
 use Rattle.std.specs.Prelude.{if◌then◌else◌}
-use Rattle.std.proofs.lemmas.Bool.{cases_eq}
-use Rattle.std.proofs.lemmas.Bool.Decides.{eqb_tells}
+use Rattle.std.proofs.lemmas.Bool.{cases_eq, ne_eqb}
 use Rattle.mu_model.specs.declared.config.Config.{Config}
 use Rattle.mu_model.specs.declared.event.Event.{Event}
 use Rattle.mu_model.specs.Contents.{IsConfig}
 use Rattle.mu_model.specs.Histories.{part}
 use Rattle.mu_model.specs.Legal.{IsLegalHistory}
-
-same_id : (r : ℕ) → r == r ≡ true
-same_id r = elim (eqb_tells r r) [ inl same ↦ same.0 | inr off ↦ absurd (off.1 refl) ]
-
-other_id : (r q : ℕ) → r ≢ q → q == r ≡ false
-other_id r q differ = elim (eqb_tells q r) [ inl same ↦ absurd (differ (sym same.1)) | inr off ↦ off.0 ]
+use Rattle.mu_model.proofs.Basics.{same_number}
 
 -- a part is within the budget
 part_within : (c : Config) (r : ℕ) (past : List Event) → IsLegalHistory c past → length (part r past) ≤ c.budget
@@ -39,10 +33,10 @@ first_within c (suc n) past few legal =
     omega arith
 
 part_more : (e : Event) (past : List Event) → length (part e.by (e ∷ past)) ≡ suc (length (part e.by past))
-part_more e past = let own = same_id e.by in rw own refl
+part_more e past = let own = same_number e.by in rw own refl
 
 part_other : (r : ℕ) (e : Event) (past : List Event) → r ≢ e.by → length (part r (e ∷ past)) ≡ length (part r past)
-part_other r e past differ = let other = other_id r e.by differ in rw other refl
+part_other r e past differ = let other = ne_eqb e.by r (λ same. differ (sym same)) in rw other refl
 
 first_same : (n : ℕ) (e : Event) (past : List Event) → n ≤ e.by → of_first n (e ∷ past) ≡ of_first n past
 first_same zero e past l = refl

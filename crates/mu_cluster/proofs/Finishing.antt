@@ -12,9 +12,10 @@ use Rattle.mu_model.specs.First.{first_commits, first_applied, raised, is_first_
 use Rattle.mu_cluster.specs.declared.leader.Stage.{Stage}
 use Rattle.mu_cluster.specs.declared.follower.Pursuit.{Pursuit}
 use Rattle.mu_cluster.specs.FirstSteps.{upto_by, words_written, regions_told, rows_committed, Leads, Follows, is_going}
-use Rattle.mu_cluster.proofs.Upto.{length-upto_by, front-upto, all_below-true}
+use Rattle.mu_cluster.proofs.Upto.{length-upto_by, front-upto}
 use Rattle.mu_cluster.proofs.Pairs.{earlier}
 use Rattle.mu_cluster.proofs.Following.{follower_applied}
+use Rattle.mu_model.proofs.Scans.{each_all}
 
 -- a replica that is done has applied all rows, and has ended
 pub record IsDone (c : Config) (r : ℕ) (mine : List Event) (commits : ℕ) : Type 0 where
@@ -36,7 +37,7 @@ leader_done c i stage mine past l few idle = record {
     plain = ap (λ s. i + rows_committed s) (l.at_end end) ∙ (let e = end in omega arith)
 
     has_rows : (v : ℕ) → v < row_count c → has_row 0 v mine ≡ true
-    has_rows v low = all_below-true 12 (λ k. has_word 0 v k mine) (λ k word.
+    has_rows v low = each_all 12 (λ k. has_word 0 v k mine) (λ k word.
         let wrote_it : wrote 0 v k mine ≡ true = l.words v k word ∙ earlier i (words_written stage) v k (let e = end in omega arith) in
         let few_rows : v < 4096 = omega arith in
         rw (div-eq_of_lt few_rows, mod-eq_of_lt few_rows, wrote_it) refl)
@@ -46,7 +47,7 @@ leader_done c i stage mine past l few idle = record {
 
     told : (n : ℕ) → row_count c ≡ n → ((n == 0) || all_below 3 (λ p. raised 0 p n mine)) ≡ true
     told zero is = refl
-    told (suc n) is = rw (ne_eqb (suc n) 0 (λ e. absurd (omega arith))) (all_below-true 3 (λ p. raised 0 p (suc n) mine) (λ p low. l.tells n p low ∙ earlier i (regions_told stage) n p (let e = end in omega arith)))
+    told (suc n) is = rw (ne_eqb (suc n) 0 (λ e. absurd (omega arith))) (each_all 3 (λ p. raised 0 p (suc n) mine) (λ p low. l.tells n p low ∙ earlier i (regions_told stage) n p (let e = end in omega arith)))
 
     finished : is_first_finished c 0 mine ≡ true
     finished = rw (eq-eqb (length (first_applied 0 mine)) (row_count c) (ap length applied ∙ length-upto_by (λ j. j) (row_count c))) (told (row_count c) refl)

@@ -16,8 +16,9 @@ use Rattle.mu_model.specs.First.{first_known, first_applied, is_first_finished, 
 use Rattle.mu_cluster.specs.declared.follower.Pursuit.{Pursuit}
 use Rattle.mu_cluster.specs.declared.follower.Follower.{Follower}
 use Rattle.mu_cluster.specs.FirstSteps.{upto_by, comes_before, PassBefore, words_read, entries_open, follower_verb, follower_after, Follows, HoldRows}
-use Rattle.mu_cluster.proofs.Upto.{length-upto_by, slice_get-upto_by, upto_by-more, front-upto, front-upto_failing, all_below-true, all_below-false}
+use Rattle.mu_cluster.proofs.Upto.{length-upto_by, slice_get-upto_by, upto_by-more, front-upto, front-upto_failing, all_below-false}
 use Rattle.mu_cluster.proofs.Pairs.{earlier, later, here_above, one_more, next_row}
+use Rattle.mu_model.proofs.Scans.{each_all}
 
 -- the event of a follower's next step
 abbrev pub followed : Config → ℕ → ℕ → Pursuit → List Event → Event
@@ -31,7 +32,7 @@ pub follower_applied : (c : Config) (r k : ℕ) (pursuit : Pursuit) (mine past :
 follower_applied c r k pursuit mine past f = ap (front (λ v. has_row r v mine)) f.known ∙ by_pursuit pursuit f
   where
     whole : (pursuit : Pursuit) → Follows c r k pursuit mine past → (v : ℕ) → v < k → has_row r v mine ≡ true
-    whole pursuit f v low = all_below-true 12 (λ word. has_word r v word mine) (λ word in_row. f.reads v word in_row ∙ earlier k (words_read pursuit) v word low)
+    whole pursuit f v low = each_all 12 (λ word. has_word r v word mine) (λ word in_row. f.reads v word in_row ∙ earlier k (words_read pursuit) v word low)
 
     no_more : (n : ℕ) → upto_by (λ j. j) (n + 0) ≡ upto_by (λ j. j) n
     no_more n = let same : n + 0 ≡ n = omega arith in ap (upto_by (λ j. j)) same

@@ -13,8 +13,9 @@ use Rattle.mu_model.specs.First.{first_known, first_commits, raised, is_put_ever
 use Rattle.mu_cluster.specs.declared.leader.Stage.{Stage}
 use Rattle.mu_cluster.specs.declared.leader.Leader.{Leader}
 use Rattle.mu_cluster.specs.FirstSteps.{upto_by, comes_before, PassBefore, regions_told, steps_made, rows_committed, IsStage, leader_verb, leader_after, Leads}
-use Rattle.mu_cluster.proofs.Upto.{length-upto_by, upto_by-more, all_below-true, all_below-false}
+use Rattle.mu_cluster.proofs.Upto.{length-upto_by, upto_by-more, all_below-false}
 use Rattle.mu_cluster.proofs.Pairs.{earlier, later, here_below, here_above, one_more, next_row}
+use Rattle.mu_model.proofs.Scans.{each_all}
 
 -- the event of the leader's next step
 abbrev pub led : Config → ℕ → Stage → Event
@@ -154,7 +155,7 @@ everywhere : (c : Config) (i q : ℕ) (mine past : List Event) → Leads c i (St
 everywhere c i q mine past l = elim (cases_lt 1 q) [ inl last ↦ all last ∙ sym (lt-ltb 1 q last) | inr first ↦ some first ∙ sym (le-ltb 1 q first) ]
   where
     all : 1 < q → is_put_everywhere 0 i i (led c i (Stage.Put q) ∷ mine) ≡ true
-    all last = all_below-true 3 (λ p. put_done 0 p i 8 i (led c i (Stage.Put q) ∷ mine)) (λ p low. puts_more c i q mine past l i p low ∙ here_below i (q + 1) p (omega arith))
+    all last = each_all 3 (λ p. put_done 0 p i 8 i (led c i (Stage.Put q) ∷ mine)) (λ p low. puts_more c i q mine past l i p low ∙ here_below i (q + 1) p (omega arith))
 
     some : q ≤ 1 → is_put_everywhere 0 i i (led c i (Stage.Put q) ∷ mine) ≡ false
     some first = all_below-false 3 (λ p. put_done 0 p i 8 i (led c i (Stage.Put q) ∷ mine)) 2 (omega arith) (puts_more c i q mine past l i 2 (omega arith) ∙ here_above i (q + 1) 2 (omega arith))
@@ -317,8 +318,8 @@ leader_allowed c i stage mine past l low few budget = record {
         position = low;
         number = refl;
         payload = refl;
-        written = all_below-true 12 (λ k. wrote 0 i k mine) (λ k word. l.words i k word ∙ here_below i 12 k word);
-        below = λ j under. all_below-true 3 (λ p. put_done 0 p j 8 j mine) (λ p region. l.puts j p region ∙ earlier i q j p under);
+        written = each_all 12 (λ k. wrote 0 i k mine) (λ k word. l.words i k word ∙ here_below i 12 k word);
+        below = λ j under. each_all 3 (λ p. put_done 0 p j 8 j mine) (λ p region. l.puts j p region ∙ earlier i q j p under);
         anew = l.puts i q l.stage_in ∙ here_above i q q (omega arith);
       },
     )

@@ -62,10 +62,6 @@ front-upto_failing test n h fails =
     last : front test (n ∷ []) ≡ []
     last = rw fails refl
 
-pub all_below-true : (n : ℕ) (test : ℕ → Bool) → ((k : ℕ) → k < n → test k ≡ true) → all_below n test ≡ true
-all_below-true zero test h = refl
-all_below-true (suc n) test h = rw (h n (omega arith)) (all_below-true n test (λ k low. h k (omega arith)))
-
 pub all_below-false : (n : ℕ) (test : ℕ → Bool) (k : ℕ) → k < n → test k ≡ false → all_below n test ≡ false
 all_below-false zero test k low fails = absurd (omega arith)
 all_below-false (suc n) test k low fails = elim (cases_eq k n) [

@@ -2,8 +2,8 @@
 use Rattle.std.proofs.Common.{Bool, List, arith, false, true, ℕ, ◌<◌, ◌==◌, ◌≡◌, ◌||◌, not, refl}
 use Rattle.mu_model.specs.declared.event.Event.{Event}
 use Rattle.mu_model.specs.Scores.{is_failed, score}
-use Rattle.mu_detect.proofs.Least.{different}
 use Rattle.mu_model.proofs.Basics.{same_number}
+use Rattle.std.proofs.lemmas.Bool.{ne_eqb}
 
 -- q is r, or r holds it to be alive
 abbrev pub may_lead : ℕ → List Event → ℕ → Bool
@@ -19,7 +19,7 @@ alive_leads r q mine alive = by_test (q == r) refl
 
 -- another that is failed may not
 pub failed_follows : (r q : ℕ) (mine : List Event) → q < r → (score r q mine).1 ≡ false → may_lead r mine q ≡ false
-failed_follows r q mine low failed = rw (different q r (λ same. absurd (omega arith))) (rw failed refl)
+failed_follows r q mine low failed = rw (ne_eqb q r (λ same. absurd (omega arith))) (rw failed refl)
 
 -- the own id may lead
 pub own_leads : (r : ℕ) (mine : List Event) → may_lead r mine r ≡ true

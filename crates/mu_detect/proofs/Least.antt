@@ -1,16 +1,8 @@
 -- The least number that passes.
-use Rattle.std.proofs.Common.{Bool, arith, false, true, suc, zero, ℕ, ◌+◌, ◌<◌, ◌==◌, ◌≡◌, ◌≢◌, inl, inr, eqb-true, refl, sym, subst}
-use Rattle.std.proofs.lemmas.Bool.{cases_lt}
+use Rattle.std.proofs.Common.{Bool, arith, false, true, suc, zero, ℕ, ◌+◌, ◌<◌, ◌≡◌, inl, inr, refl, sym, subst}
+use Rattle.std.proofs.lemmas.Bool.{cases_lt, ne_eqb}
 use Rattle.mu_model.specs.Scores.{least_below}
 use Rattle.mu_model.proofs.Basics.{same_number}
-
--- the test whether two numbers that differ are equal
-pub different : (a b : ℕ) → a ≢ b → a == b ≡ false
-different a b other = by_test (a == b) refl
-  where
-    by_test : (t : Bool) → (a == b) ≡ t → a == b ≡ false
-    by_test true is = absurd (other (eqb-true a b is))
-    by_test false is = is
 
 -- none below q passes, nor q itself
 pub least_next : (test : ℕ → Bool) (q : ℕ) → least_below q test ≡ q → test q ≡ false → least_below (q + 1) test ≡ q + 1
@@ -22,7 +14,7 @@ least_next test q none fails =
 pub least_found : (test : ℕ → Bool) (n q : ℕ) → least_below q test ≡ q → test q ≡ true → q < n → least_below n test ≡ q
 least_found test zero q none passes low = absurd (omega arith)
 least_found test (suc n) q none passes low = elim (cases_lt q n) [
-  | inl below ↦ rw (least_found test n q none passes below) (rw (different q n (λ same. absurd (omega arith))) refl)
+  | inl below ↦ rw (least_found test n q none passes below) (rw (ne_eqb q n (λ same. absurd (omega arith))) refl)
   | inr above ↦ here (omega arith)
 ]
   where

@@ -9,8 +9,8 @@ use Rattle.mu_detect.specs.Stands.{HoldsPeer, HoldsPeers, OthersKeep, StandsFor,
 use Rattle.mu_detect.specs.declared.scores.Peer.{Peer}
 use Rattle.mu_detect.specs.declared.scores.Scores.{Scores}
 use Rattle.mu_model.specs.Scores.{beat_read}
-use Rattle.mu_detect.proofs.Least.{different}
 use Rattle.mu_model.proofs.Lists.{set_get}
+use Rattle.std.proofs.lemmas.Bool.{ne_eqb}
 
 -- what is held of a replica stays, where the event reads nothing of it
 pub peer_kept : (r q : ℕ) (mine : List Event) (e : Event) (peer : Peer) → beat_read r q e.by e.verb e.answer ≡ None → HoldsPeer r q mine peer → HoldsPeer r q (e ∷ mine) peer
@@ -53,7 +53,7 @@ pub peers_after : (n r p x k : ℕ) (mine : List Event) (e : Event) (peers : Lis
 peers_after n r p x k mine e peers new at is says held step q peer low there = elim (set_get peers k new q peer there) [
   | inl here ↦ let same = here.0 ∙ at in
       subst (λ m. HoldsPeer r m (e ∷ mine) peer) (sym same) (subst (λ y. HoldsPeer r p (e ∷ mine) y) here.1 (step (subst (λ m. m < n) same low)))
-  | inr other ↦ peer_kept r q mine e peer (reads_other r q p x e.by e.verb e.answer is says (different p q (λ same. other.0 (sym same ∙ sym at)))) (held q peer low other.1)
+  | inr other ↦ peer_kept r q mine e peer (reads_other r q p x e.by e.verb e.answer is says (ne_eqb p q (λ same. other.0 (sym same ∙ sym at)))) (held q peer low other.1)
 ]
 
 -- what is held of a replica that is read from the list

@@ -14,9 +14,9 @@ use Rattle.mu_model.specs.Stretches.{is_odd}
 use Rattle.mu_grant.specs.Pace.{DueFollows, FollowsCycle, IsAtPlace, IsElsewhere, OrderGoesOn, OtherFollows, host_place, places}
 use Rattle.mu_grant.specs.Stands.{Gives, is_of_place}
 use Rattle.mu_grant.proofs.Places.{gives, not_none, of_drain, of_grant, of_look}
-use Rattle.mu_grant.proofs.Turns.{least, made, not_all}
+use Rattle.mu_grant.proofs.Turns.{least, not_all}
 use Rattle.mu_grant.proofs.Waiting.{both}
-use Rattle.mu_model.proofs.Basics.{same_some}
+use Rattle.mu_model.proofs.Basics.{same_some, event_by}
 
 -- a place of the host has no read of asks
 no_ask : (d w : ℕ) (verb : Verb) → is_of_place d verb ≡ true → verb ≡ Verb.ReadAsk w → ⊥
@@ -142,19 +142,19 @@ given_or_over c r d past low inside = elim (cases_lt (length past) c.budget) [
 
 -- some verb may be made at the turn, whatever it is answered
 abbrev GoesOn : Config → ℕ → List Event → Type 0
-GoesOn c r past = (verb : Verb) × ((answer : Answer) → FollowsCycle c r past (made r verb answer))
+GoesOn c r past = (verb : Verb) × ((answer : Answer) → FollowsCycle c r past (event_by r verb answer))
 
 -- what is due, or else a beat
 goes_on_at : (c : Config) (r d : ℕ) (past : List Event) → d < 4 → IsAtPlace c (host_place c d) past → IsGiven c r past d → GoesOn c r past
 goes_on_at c r d past low at due = go due.0 due.1
   where
     go : (o : Option Verb) → Gives c r past d o → GoesOn c r past
-    go None held = (Verb.Beat, λ answer. due_is_next c r d past (made r Verb.Beat answer) None refl low at held (λ v is. absurd (not_none v None refl is)) (λ none. (refl, λ w is. cc)))
-    go (Some v) held = (v, λ answer. due_is_next c r d past (made r v answer) (Some v) refl low at held (λ u is. same_some v u is) (λ none. absurd (not_none v (Some v) none refl)))
+    go None held = (Verb.Beat, λ answer. due_is_next c r d past (event_by r Verb.Beat answer) None refl low at held (λ v is. absurd (not_none v None refl is)) (λ none. (refl, λ w is. cc)))
+    go (Some v) held = (v, λ answer. due_is_next c r d past (event_by r v answer) (Some v) refl low at held (λ u is. same_some v u is) (λ none. absurd (not_none v (Some v) none refl)))
 
 -- elsewhere a beat
 goes_on_elsewhere : (c : Config) (r : ℕ) (past : List Event) → IsElsewhere c past → GoesOn c r past
-goes_on_elsewhere c r past away = (Verb.Beat, λ answer. other_is_next c r past (made r Verb.Beat answer) refl away refl (λ w is. cc))
+goes_on_elsewhere c r past away = (Verb.Beat, λ answer. other_is_next c r past (event_by r Verb.Beat answer) refl away refl (λ w is. cc))
 
 -- at every turn
 goes_on : (c : Config) (r : ℕ) (past : List Event) → r < c.replicas → GoesOn c r past

@@ -14,8 +14,9 @@ use Rattle.mu_model.specs.Steps.{is_ask_read, is_ask_read_verb, is_granting, is_
 use Rattle.mu_grant.specs.Pace.{FollowsCycle, GrantsInTheRound, GrantsWithinTheCycle, InCycleOrder, MakesDue, ask_place, host_place, is_host_verb}
 use Rattle.mu_grant.specs.Stands.{is_of_place}
 use Rattle.mu_grant.proofs.Positions.{IsNext, at_place, next, next_is, place_at, position}
-use Rattle.mu_grant.proofs.Turns.{closes, closing_on, granted_before, granted_now, least, made, not_all, of_grants, of_host, reads_ask, waits_on}
+use Rattle.mu_grant.proofs.Turns.{closes, closing_on, granted_before, granted_now, least, not_all, of_grants, of_host, reads_ask, waits_on}
 use Rattle.mu_grant.proofs.Waiting.{both}
+use Rattle.mu_model.proofs.Basics.{event_by}
 
 -- what holds of the host before each turn: a pending `Close` has somebody waiting, is looked at and drained by its place, and is granted on by the place of grants
 record IsReady (c : Config) (r : ℕ) (past : List Event) : Type 0 where
@@ -28,7 +29,7 @@ record IsReady (c : Config) (r : ℕ) (past : List Event) : Type 0 where
 record IsTurn (c : Config) (r by : ℕ) (verb : Verb) (answer : Answer) (past : List Event) : Type 0 where
   inside : r < c.replicas
   left : length past < c.budget
-  turn : FollowsCycle c r past (made by verb answer)
+  turn : FollowsCycle c r past (event_by by verb answer)
 
 -- a verb of the host that is made at a place was due there
 at_due : (c : Config) (r d : ℕ) (past : List Event) (verb : Verb) → MakesDue c r past d verb → is_host_verb verb ≡ true → (is_of_place d verb ≡ true) × Allowed c r past verb
@@ -132,12 +133,12 @@ ready_open c r past is = record {
 }
 
 -- a host stays ready at each turn
-ready_next : (c : Config) (r by : ℕ) (verb : Verb) (answer : Answer) (past : List Event) → IsTurn c r by verb answer past → IsReady c r past → IsReady c r (made by verb answer ∷ past)
+ready_next : (c : Config) (r by : ℕ) (verb : Verb) (answer : Answer) (past : List Event) → IsTurn c r by verb answer past → IsReady c r past → IsReady c r (event_by by verb answer ∷ past)
 ready_next c r by Verb.Close answer past t ready =
     let h = host_turn c r by Verb.Close answer past t refl in
     let zeroth = eqb-true h.d 0 h.of in
     let at = h.at in
-    let now = next_is c (made by Verb.Close answer) past (4 * c.replicas) (omega arith) (omega arith) in
+    let now = next_is c (event_by by Verb.Close answer) past (4 * c.replicas) (omega arith) (omega arith) in
     let first = least c.replicas (has_unserved_ask r past) h.needs.1 in record {
       rested = λ there. elim there [ inl low ↦ absurd (omega arith) | inr high ↦ absurd (omega arith) ];
       waited = λ is. (first.0, first.1, (both (has_unserved_ask r past first.0) _ first.2).0);
@@ -148,7 +149,7 @@ ready_next c r by Verb.LookTarget answer past t ready =
     let h = host_turn c r by Verb.LookTarget answer past t refl in
     let first = eqb-true h.d 1 h.of in
     let at = h.at in
-    let now = next_is c (made by Verb.LookTarget answer) past (4 * c.replicas + 2) (omega arith) (omega arith) in record {
+    let now = next_is c (event_by by Verb.LookTarget answer) past (4 * c.replicas + 2) (omega arith) (omega arith) in record {
       rested = λ there. elim there [ inl low ↦ absurd (omega arith) | inr high ↦ absurd (omega arith) ];
       waited = ready.waited;
       looked = λ late must. rw (own_is c r by Verb.LookTarget answer past t) refl;
@@ -158,23 +159,23 @@ ready_next c r by Verb.Drain answer past t ready =
     let h = host_turn c r by Verb.Drain answer past t refl in
     let second = eqb-true h.d 2 h.of in
     let at = h.at in
-    let now = next_is c (made by Verb.Drain answer) past (4 * c.replicas + 4) (omega arith) (omega arith) in record {
+    let now = next_is c (event_by by Verb.Drain answer) past (4 * c.replicas + 4) (omega arith) (omega arith) in record {
       rested = λ there. elim there [ inl low ↦ absurd (omega arith) | inr high ↦ absurd (omega arith) ];
       waited = ready.waited;
       looked = λ late must. h.needs.1;
       drained = λ late must. rw (own_is c r by Verb.Drain answer past t) refl;
     }
-ready_next c r by (Verb.Grant w) answer past t ready = ready_open c r (made by (Verb.Grant w) answer ∷ past) (rw (own_is c r by (Verb.Grant w) answer past t) refl)
+ready_next c r by (Verb.Grant w) answer past t ready = ready_open c r (event_by by (Verb.Grant w) answer ∷ past) (rw (own_is c r by (Verb.Grant w) answer past t) refl)
 ready_next c r by (Verb.ReadAsk w) answer past t ready =
     let asked = t.turn.asks w refl in
     let low = asked.0 in
     let at = at_place c (ask_place c w) past asked.1 in
-    ready_open c r (made by (Verb.ReadAsk w) answer ∷ past) (ready.rested (inl (omega arith)))
+    ready_open c r (event_by by (Verb.ReadAsk w) answer ∷ past) (ready.rested (inl (omega arith)))
 ready_next c r by verb answer past t ready = record {
-  rested = rests c r by verb answer past (position c (made by verb answer ∷ past)) t ready refl (next c (made by verb answer) past);
+  rested = rests c r by verb answer past (position c (event_by by verb answer ∷ past)) t ready refl (next c (event_by by verb answer) past);
   waited = ready.waited;
-  looked = looks c r by verb answer past (position c (made by verb answer ∷ past)) t ready refl (next c (made by verb answer) past);
-  drained = drains c r by verb answer past (position c (made by verb answer ∷ past)) t ready refl (next c (made by verb answer) past);
+  looked = looks c r by verb answer past (position c (event_by by verb answer ∷ past)) t ready refl (next c (event_by by verb answer) past);
+  drained = drains c r by verb answer past (position c (event_by by verb answer ∷ past)) t ready refl (next c (event_by by verb answer) past);
 }
 
 -- a host is ready throughout
@@ -196,7 +197,7 @@ record IsPending (c : Config) (r w since : ℕ) (past : List Event) : Type 0 whe
 
 -- from the place of closing on a `Close` is pending, where the next event grants nothing
 closes_now : (c : Config) (r w since by : ℕ) (verb : Verb) (answer : Answer) (past : List Event) → w < c.replicas → IsTurn c r by verb answer past → IsReady c r past → IsPending c r w since past
-    → is_granting_verb verb ≡ false → 4 * c.replicas ≤ position c past → fence_closing r (made by verb answer ∷ past) ≡ true
+    → is_granting_verb verb ≡ false → 4 * c.replicas ≤ position c past → fence_closing r (event_by by verb answer ∷ past) ≡ true
 closes_now c r w since by verb answer past low t ready pending none late = elim (cases_lt (4 * c.replicas) (position c past)) [
   | inl over ↦ closing_on r by verb answer past (own_is c r by verb answer past t) none (pending.closing (omega arith))
   | inr under ↦
@@ -224,11 +225,11 @@ reads_now c r w since by verb answer past t pending = go (is_ask_read_verb w ver
 
 -- one more event that grants nothing
 pending_next : (c : Config) (r w since by : ℕ) (verb : Verb) (answer : Answer) (past : List Event) → w < c.replicas → IsTurn c r by verb answer past → IsReady c r past → IsPending c r w since past → is_granting_verb verb ≡ false
-    → IsPending c r w (since + 1) (made by verb answer ∷ past)
+    → IsPending c r w (since + 1) (event_by by verb answer ∷ past)
 pending_next c r w since by verb answer past low t ready pending none =
     let at = pending.at in
     let near = grants_now c r w since by verb answer past t ready pending none in
-    let now = next_is c (made by verb answer) past (position c past) refl (omega arith) in record {
+    let now = next_is c (event_by by verb answer) past (position c past) refl (omega arith) in record {
       at = omega arith;
       near = omega arith;
       waiting = λ early. waits_on r w by verb answer past (own_is c r by verb answer past t) none (reads_now c r w since by verb answer past t pending) ∙ pending.waiting (omega arith);

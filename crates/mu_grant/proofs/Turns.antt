@@ -10,26 +10,23 @@ use Rattle.mu_model.specs.Steps.{is_ask_read_verb, is_granting, is_granting_verb
 use Rattle.mu_grant.specs.Pace.{is_host_verb}
 use Rattle.mu_grant.specs.Stands.{is_of_place}
 use Rattle.mu_grant.proofs.Waiting.{one_passes, opposite}
-
--- an event in parts
-abbrev pub made : ℕ → Verb → Answer → Event
-made by verb answer = record { by = by; verb = verb; answer = answer }
+use Rattle.mu_model.proofs.Basics.{event_by}
 
 -- who waits still does after an event that neither grants nor reads its asks
-pub waits_on : (r w by : ℕ) (verb : Verb) (answer : Answer) (past : List Event) → (by == r) ≡ true → is_granting_verb verb ≡ false → is_ask_read_verb w verb ≡ false → has_unserved_ask r (made by verb answer ∷ past) w ≡ has_unserved_ask r past w
+pub waits_on : (r w by : ℕ) (verb : Verb) (answer : Answer) (past : List Event) → (by == r) ≡ true → is_granting_verb verb ≡ false → is_ask_read_verb w verb ≡ false → has_unserved_ask r (event_by by verb answer ∷ past) w ≡ has_unserved_ask r past w
 waits_on r w by (Verb.Grant q) answer past own keeps other = cc
 waits_on r w by (Verb.ReadAsk q) (Answer.Number x) past own keeps other = rw (own, other) refl
 waits_on r w by (Verb.ReadAsk q) answer past own keeps other = refl
 waits_on r w by verb answer past own keeps other = refl
 
 -- a pending `Close` stays pending where nothing is granted
-pub closing_on : (r by : ℕ) (verb : Verb) (answer : Answer) (past : List Event) → (by == r) ≡ true → is_granting_verb verb ≡ false → fence_closing r past ≡ true → fence_closing r (made by verb answer ∷ past) ≡ true
+pub closing_on : (r by : ℕ) (verb : Verb) (answer : Answer) (past : List Event) → (by == r) ≡ true → is_granting_verb verb ≡ false → fence_closing r past ≡ true → fence_closing r (event_by by verb answer ∷ past) ≡ true
 closing_on r by (Verb.Grant q) answer past own keeps is = cc
 closing_on r by Verb.Close answer past own keeps is = rw own refl
 closing_on r by verb answer past own keeps is = is
 
 -- a `Close` is pending at once
-pub closes : (r by : ℕ) (verb : Verb) (answer : Answer) (past : List Event) → (by == r) ≡ true → is_of_place 0 verb ≡ true → fence_closing r (made by verb answer ∷ past) ≡ true
+pub closes : (r by : ℕ) (verb : Verb) (answer : Answer) (past : List Event) → (by == r) ≡ true → is_of_place 0 verb ≡ true → fence_closing r (event_by by verb answer ∷ past) ≡ true
 closes r by Verb.Close answer past own is = rw own refl
 closes r by _ answer past own is = cc
 

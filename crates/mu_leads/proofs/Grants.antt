@@ -16,7 +16,7 @@ use Rattle.mu_model.specs.Parts.{IsPossible}
 use Rattle.mu_model.specs.Regions.{fence, fence_grant}
 use Rattle.mu_agree.proofs.Minimum.{grant_seen-own, read_under_seen, seen_law}
 use Rattle.mu_model.proofs.Owned.{has-part}
-use Rattle.mu_agree.proofs.Possible.{at_event, parts_shorten_law}
+use Rattle.mu_agree.proofs.Possible.{at_event, parts_shorten_law, same_fence}
 use Rattle.mu_leads.specs.Leading.{grant_of, last_grant}
 use Rattle.mu_model.proofs.Basics.{same_number, same_some}
 
@@ -28,16 +28,13 @@ saw r p g mine = has (λ e. grant_seen r p g e.by e.verb e.answer) mine
 abbrev pub LastIsGreatest : ℕ → ℕ → List Event → Type 0
 LastIsGreatest r p mine = (g : ℕ) → saw r p g mine ≡ true → (h : ℕ) × (last_grant r p mine ≡ Some h) × (saw r p h mine ≡ true) × (g ≤ h)
 
-seen_is : (f g : Fence) → Answer.Seen f ≡ Answer.Seen g → f ≡ g
-seen_is f g e = cc
-
 -- a fence shows no lower grant than r saw before
 pub shows_no_lower : (c : Config) (r p g : ℕ) (mine : List Event) (e : Event) (f : Fence) → IsPossible c r (e ∷ mine) → e.verb ≡ Verb.Fence p → e.answer ≡ Answer.Seen f → saw r p g mine ≡ true → g ≤ f.grant
 shows_no_lower c r p g mine e f possible verb answer seen =
     let s = at_event c r mine e possible in
     let here : answer_of c e.by s.older e.verb ≡ Answer.Seen f = sym s.follows.answer ∙ answer in
     let shown : Answer.Seen (fence p s.older) ≡ Answer.Seen f = sym (ap (λ v. answer_of c e.by s.older v) verb) ∙ here in
-    let is : fence p s.older ≡ f = seen_is (fence p s.older) f shown in
+    let is : fence p s.older ≡ f = same_fence (fence p s.older) f shown in
     let grant : fence_grant p s.older ≡ f.grant = ap (λ x. x.grant) is in
     let whole : saw r p g s.older ≡ true = sym (has-part (λ x. grant_seen r p g x.by x.verb x.answer) r (grant_seen-own r p g) s.older) ∙ ap (λ l. saw r p g l) s.part_is ∙ seen in
     let low : g ≤ fence_grant p s.older = seen_law c r p s.older s.legal g whole in

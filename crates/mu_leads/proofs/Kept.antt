@@ -10,11 +10,9 @@ use Rattle.mu_leads.specs.Heads.{HoldsHeads}
 use Rattle.mu_leads.specs.Leading.{HoldsLeading}
 use Rattle.mu_leads.specs.declared.heads.Heads.{Heads}
 use Rattle.mu_leads.specs.declared.leading.Leading.{Leading}
+use Rattle.mu_model.proofs.Basics.{event_by}
 
-abbrev event : ℕ → Verb → Answer → Event
-event by verb answer = record { by = by; verb = verb; answer = answer }
-
-kept_by : (r by : ℕ) (verb : Verb) (answer : Answer) (mine : List Event) (state : Leading) → is_leaders verb ≡ false → HoldsLeading r mine state → HoldsLeading r (event by verb answer ∷ mine) state
+kept_by : (r by : ℕ) (verb : Verb) (answer : Answer) (mine : List Event) (state : Leading) → is_leaders verb ≡ false → HoldsLeading r mine state → HoldsLeading r (event_by by verb answer ∷ mine) state
 kept_by r by (Verb.Ask p) answer mine state other held = cc
 kept_by r by (Verb.Fence p) answer mine state other held = cc
 kept_by r by (Verb.Min p) answer mine state other held = cc
@@ -38,7 +36,7 @@ kept_by r by verb answer mine state other held = record {
 pub leading_kept : (r : ℕ) (e : Event) (mine : List Event) (state : Leading) → is_leaders e.verb ≡ false → HoldsLeading r mine state → HoldsLeading r (e ∷ mine) state
 leading_kept r e mine state other held = kept_by r e.by e.verb e.answer mine state other held
 
-told_by : (c : Config) (r by : ℕ) (verb : Verb) (answer : Answer) (mine : List Event) (state : Heads) → tells_of_peers verb ≡ false → HoldsHeads c r mine state → HoldsHeads c r (event by verb answer ∷ mine) state
+told_by : (c : Config) (r by : ℕ) (verb : Verb) (answer : Answer) (mine : List Event) (state : Heads) → tells_of_peers verb ≡ false → HoldsHeads c r mine state → HoldsHeads c r (event_by by verb answer ∷ mine) state
 told_by c r by (Verb.Ask p) answer mine state none held = cc
 told_by c r by (Verb.Head q) answer mine state none held = cc
 told_by c r by (Verb.ReadBeat q) answer mine state none held = cc

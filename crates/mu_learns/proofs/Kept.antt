@@ -7,11 +7,9 @@ use Rattle.mu_model.specs.declared.event.Verb.{Verb}
 use Rattle.mu_leads.specs.Bearing.{is_leaders}
 use Rattle.mu_learns.specs.Covering.{HoldsCovering}
 use Rattle.mu_learns.specs.declared.covering.Covering.{Covering}
+use Rattle.mu_model.proofs.Basics.{event_by}
 
-abbrev event : ℕ → Verb → Answer → Event
-event by verb answer = record { by = by; verb = verb; answer = answer }
-
-kept_by : (c : Config) (r by : ℕ) (verb : Verb) (answer : Answer) (mine : List Event) (state : Covering) → is_leaders verb ≡ false → HoldsCovering c r mine state → HoldsCovering c r (event by verb answer ∷ mine) state
+kept_by : (c : Config) (r by : ℕ) (verb : Verb) (answer : Answer) (mine : List Event) (state : Covering) → is_leaders verb ≡ false → HoldsCovering c r mine state → HoldsCovering c r (event_by by verb answer ∷ mine) state
 kept_by c r by (Verb.Ask p) answer mine state other held = cc
 kept_by c r by (Verb.Fence p) answer mine state other held = cc
 kept_by c r by (Verb.Min p) answer mine state other held = cc

@@ -1,6 +1,13 @@
--- Small facts of numbers, booleans and of what is there.
+-- Small facts of numbers, booleans and of what is there, and an event made of its three parts.
 use Rattle.std.proofs.Common.{◌≡◌, ℕ, suc, ◌+◌, Bool, true, false, ◌==◌, ◌&&◌, ◌||◌, refl, sym, ◌∙◌, ap, subst, arith, None, Some, eq-eqb, true≢false}
 use Rattle.mu_model.specs.Histories.{all_below}
+use Rattle.mu_model.specs.declared.event.Answer.{Answer}
+use Rattle.mu_model.specs.declared.event.Event.{Event}
+use Rattle.mu_model.specs.declared.event.Verb.{Verb}
+
+-- the event of a replica with this verb and this answer
+abbrev pub event_by : ℕ → Verb → Answer → Event
+event_by by verb answer = record { by = by; verb = verb; answer = answer }
 
 -- two things that are there and equal as such are the same thing
 pub same_some : {A : Type 0} (x y : A) → Some x ≡ Some y → x ≡ y

@@ -35,7 +35,8 @@ marked_after c q v (x ∷ xs) = ap (λ t. is_mark c q x || t) (marked_after c q 
     go false u w = refl
 
 -- how many of the first values are there, after one more
-front_length : (c : Config) (r : ℕ) (past : List Event) (xs : List ℕ) → length (fetched_prefix c r past xs) ≤ length xs
+-- no more of the first values are there than there are
+pub front_length : (c : Config) (r : ℕ) (past : List Event) (xs : List ℕ) → length (fetched_prefix c r past xs) ≤ length xs
 front_length c r past [] = omega arith
 front_length c r past (x ∷ xs) = go (has_entry c r x past) (front_length c r past xs)
   where
@@ -111,9 +112,6 @@ rows_after c client n j = let one : n + 1 ≡ suc n = omega arith in ap (λ z. l
 
 pub all_more : (f : ℕ → Bool) (n : ℕ) → all_below (n + 1) f ≡ (f n && all_below n f)
 all_more f n = let one : n + 1 ≡ suc n = omega arith in ap (λ z. all_below z f) one
-
-pub all_each : (n : ℕ) (f : ℕ → Bool) → all_below n f ≡ true → (j : ℕ) → j < n → f j ≡ true
-all_each n f h j l = all_at n f h j l
 
 pub each_all : (n : ℕ) (f : ℕ → Bool) → ((j : ℕ) → j < n → f j ≡ true) → all_below n f ≡ true
 each_all zero f h = refl

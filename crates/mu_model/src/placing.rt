@@ -209,7 +209,7 @@ fn is_caught_up_below(config: &Config, r: u8, p: u8, part: &[Event], i: u16) -> 
 }
 
 /// Whether each position below `i` is brought.
-#[tactic(auto, using(crate::proofs::Scans::all_each, crate::proofs::Scans::each_all))]
+#[tactic(auto, using(crate::proofs::Scans::all_at, crate::proofs::Scans::each_all))]
 fn has_caught_up(config: &Config, r: u8, p: u8, part: &[Event], i: u16) -> bool
     ensures { IsTrue result ↔ ((j : ℕ) → j < i → is_caught_up_at config.now r p (history part.now) j ≡ true) }
 {

@@ -1,10 +1,9 @@
 -- Regions of a list that stand for a history, one more at its end or one after the other.
-use Rattle.std.proofs.Common.{◌≡◌, ◌≢◌, ℕ, ◌<◌, ◌≤◌, inl, inr, ◌==◌, Bool, true, false, List, [], ◌∷◌, ◌++◌, length, set, take, refl, sym, ap, ◌∙◌, subst, arith, Some, eqb-true, ◌+◌, get_or}
+use Rattle.std.proofs.Common.{◌≡◌, ℕ, ◌<◌, ◌≤◌, inl, inr, ◌==◌, Bool, true, false, List, [], ◌∷◌, ◌++◌, length, set, take, refl, sym, ap, ◌∙◌, subst, arith, Some, eqb-true, ◌+◌, get_or}
 use Rattle.std.specs.List.{slice_get}
 use Rattle.std.proofs.lemmas.Option.{slice_get-get_or, slice_get_within}
 use Rattle.std.proofs.Math.Seq.{take-append_seam}
-use Rattle.std.proofs.lemmas.Bool.{eqb-false}
-use Rattle.std.proofs.lemmas.Bool.Decides.{eqb_tells}
+use Rattle.std.proofs.lemmas.Bool.{eqb-false, ne_eqb}
 use Rattle.mu_model.specs.declared.config.Config.{Config}
 use Rattle.mu_model.specs.declared.event.Event.{Event}
 use Rattle.mu_regions.specs.Stands.{Holds, HoldsEach}
@@ -13,10 +12,6 @@ use Rattle.mu_model.proofs.Lists.{get_push_here, get_push_other, get_set_here, g
 use Rattle.mu_regions.proofs.Elsewhere.{region_kept}
 use Rattle.mu_regions.specs.Range.{is_first, read_at}
 use Rattle.mu_model.proofs.Basics.{same_some}
-
--- numbers that differ aren't equal as a test says
-differ : (n k : ℕ) → n ≢ k → (n == k) ≡ false
-differ n k other = elim (eqb_tells n k) [ inl same ↦ absurd (other same.1) | inr off ↦ off.0 ]
 
 pub each_pushed : (c : Config) (past : List Event) (regions : List Region) (last : Region) → HoldsEach c past regions → Holds c (length regions) past last → HoldsEach c past (regions ++ last ∷ [])
 each_pushed c past regions last held new p region at = by_test (p == length regions) refl
@@ -64,10 +59,10 @@ pub each_taken : (c : Config) (past : List Event) (e : Event) (regions : List Re
     → (Holds c at past was → Holds c at (e ∷ past) new) → HoldsEach c past regions → HoldsEach c (e ∷ past) (set regions at new)
 each_taken c past e regions at was new reads later there step held p region found = elim (set_get regions at new p region found) [
   | inl here ↦ subst (λ q. Holds c q (e ∷ past) region) (sym here.0) (subst (λ x. Holds c at (e ∷ past) x) here.1 (step (held at was there)))
-  | inr other ↦ region_kept c p past e region later (differ (read_at e.by e.verb) p (λ same. other.0 (sym same ∙ sym reads))) (held p region other.1)
+  | inr other ↦ region_kept c p past e region later (ne_eqb (read_at e.by e.verb) p (λ same. other.0 (sym same ∙ sym reads))) (held p region other.1)
 ]
 
 -- the event reads a region that isn't there, and all stay
 pub each_kept : (c : Config) (past : List Event) (e : Event) (regions : List Region) → is_first e.verb ≡ false → length regions ≤ read_at e.by e.verb → HoldsEach c past regions → HoldsEach c (e ∷ past) regions
 each_kept c past e regions later beyond held p region found =
-    region_kept c p past e region later (differ (read_at e.by e.verb) p (λ same. let low = slice_get_within regions p region found in absurd (omega (arith, low, beyond, same)))) (held p region found)
+    region_kept c p past e region later (ne_eqb (read_at e.by e.verb) p (λ same. let low = slice_get_within regions p region found in absurd (omega (arith, low, beyond, same)))) (held p region found)

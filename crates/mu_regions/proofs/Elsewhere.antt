@@ -10,71 +10,69 @@ use Rattle.mu_model.specs.Regions.{asks, beats, fence, region_fuo, region_head, 
 use Rattle.mu_regions.specs.Range.{is_first, read_at}
 use Rattle.mu_regions.specs.Stands.{Holds}
 use Rattle.mu_regions.specs.declared.region.Region.{Region}
+use Rattle.mu_model.proofs.Basics.{event_by}
 
-abbrev event : ℕ → Verb → Answer → Event
-event by verb answer = record { by = by; verb = verb; answer = answer }
-
-fence_elsewhere : (p by : ℕ) (verb : Verb) (answer : Answer) (past : List Event) → (read_at by verb == p) ≡ false → fence p (event by verb answer ∷ past) ≡ fence p past
+fence_elsewhere : (p by : ℕ) (verb : Verb) (answer : Answer) (past : List Event) → (read_at by verb == p) ≡ false → fence p (event_by by verb answer ∷ past) ≡ fence p past
 fence_elsewhere p by (Verb.Grant w) answer past other = rw other refl
 fence_elsewhere p by Verb.Close answer past other = rw other refl
 fence_elsewhere p by (Verb.Enter q t) Answer.Entered past other = rw other refl
 fence_elsewhere p by verb answer past other = refl
 
-minimum_elsewhere : (p by : ℕ) (verb : Verb) (answer : Answer) (past : List Event) → (read_at by verb == p) ≡ false → region_min p (event by verb answer ∷ past) ≡ region_min p past
+minimum_elsewhere : (p by : ℕ) (verb : Verb) (answer : Answer) (past : List Event) → (read_at by verb == p) ≡ false → region_min p (event_by by verb answer ∷ past) ≡ region_min p past
 minimum_elsewhere p by (Verb.PutMin q b) Answer.Done past other = rw other refl
 minimum_elsewhere p by verb answer past other = refl
 
-log_elsewhere : (p by : ℕ) (verb : Verb) (answer : Answer) (past : List Event) → (read_at by verb == p) ≡ false → region_log p (event by verb answer ∷ past) ≡ region_log p past
+log_elsewhere : (p by : ℕ) (verb : Verb) (answer : Answer) (past : List Event) → (read_at by verb == p) ≡ false → region_log p (event_by by verb answer ∷ past) ≡ region_log p past
 log_elsewhere p by (Verb.PutSlot q i b v) Answer.Done past other = rw other refl
 log_elsewhere p by verb answer past other = refl
 
-fuo_elsewhere : (p by : ℕ) (verb : Verb) (answer : Answer) (past : List Event) → (read_at by verb == p) ≡ false → region_fuo p (event by verb answer ∷ past) ≡ region_fuo p past
+fuo_elsewhere : (p by : ℕ) (verb : Verb) (answer : Answer) (past : List Event) → (read_at by verb == p) ≡ false → region_fuo p (event_by by verb answer ∷ past) ≡ region_fuo p past
 fuo_elsewhere p by (Verb.RaiseFuo q u) answer past other = rw other refl
 fuo_elsewhere p by verb answer past other = refl
 
-head_elsewhere : (p by : ℕ) (verb : Verb) (answer : Answer) (past : List Event) → (read_at by verb == p) ≡ false → region_head p (event by verb answer ∷ past) ≡ region_head p past
+head_elsewhere : (p by : ℕ) (verb : Verb) (answer : Answer) (past : List Event) → (read_at by verb == p) ≡ false → region_head p (event_by by verb answer ∷ past) ≡ region_head p past
 head_elsewhere p by (Verb.RaiseHead h) answer past other = rw other refl
 head_elsewhere p by verb answer past other = refl
 
-beats_elsewhere : (p by : ℕ) (verb : Verb) (answer : Answer) (past : List Event) → (read_at by verb == p) ≡ false → beats p (event by verb answer ∷ past) ≡ beats p past
+beats_elsewhere : (p by : ℕ) (verb : Verb) (answer : Answer) (past : List Event) → (read_at by verb == p) ≡ false → beats p (event_by by verb answer ∷ past) ≡ beats p past
 beats_elsewhere p by Verb.Beat answer past other = rw other refl
 beats_elsewhere p by verb answer past other = refl
 
-asks_elsewhere : (w p by : ℕ) (verb : Verb) (answer : Answer) (past : List Event) → (read_at by verb == p) ≡ false → asks w p (event by verb answer ∷ past) ≡ asks w p past
+asks_elsewhere : (w p by : ℕ) (verb : Verb) (answer : Answer) (past : List Event) → (read_at by verb == p) ≡ false → asks w p (event_by by verb answer ∷ past) ≡ asks w p past
 asks_elsewhere w p by (Verb.Ask q) answer past other = go (by == w) refl
   where
-    go : (t : Bool) → (by == w) ≡ t → asks w p (event by (Verb.Ask q) answer ∷ past) ≡ asks w p past
+    go : (t : Bool) → (by == w) ≡ t → asks w p (event_by by (Verb.Ask q) answer ∷ past) ≡ asks w p past
     go true own = rw (own, other) refl
     go false own = rw own refl
 asks_elsewhere w p by verb answer past other = refl
 
-noted_elsewhere : (r p by : ℕ) (verb : Verb) (answer : Answer) (past : List Event) → is_first verb ≡ false → (read_at by verb == p) ≡ false → noted_grant r p (event by verb answer ∷ past) ≡ noted_grant r p past
+noted_elsewhere : (r p by : ℕ) (verb : Verb) (answer : Answer) (past : List Event) → is_first verb ≡ false → (read_at by verb == p) ≡ false → noted_grant r p (event_by by verb answer ∷ past) ≡ noted_grant r p past
 noted_elsewhere r p by (Verb.Ask q) answer past later other = go (by == r) refl
   where
-    go : (t : Bool) → (by == r) ≡ t → noted_grant r p (event by (Verb.Ask q) answer ∷ past) ≡ noted_grant r p past
+    go : (t : Bool) → (by == r) ≡ t → noted_grant r p (event_by by (Verb.Ask q) answer ∷ past) ≡ noted_grant r p past
     go true own = rw (own, later) refl
     go false own = rw own refl
 noted_elsewhere r p by (Verb.Fence q) (Answer.Seen f) past later other = go (by == r) refl
   where
-    go : (t : Bool) → (by == r) ≡ t → noted_grant r p (event by (Verb.Fence q) (Answer.Seen f) ∷ past) ≡ noted_grant r p past
+    go : (t : Bool) → (by == r) ≡ t → noted_grant r p (event_by by (Verb.Fence q) (Answer.Seen f) ∷ past) ≡ noted_grant r p past
     go true own = rw (own, other) refl
     go false own = rw own refl
 noted_elsewhere r p by verb answer past later other = refl
 
-drained_elsewhere : (r p by : ℕ) (verb : Verb) (answer : Answer) (past : List Event) → (read_at by verb == p) ≡ false → drained r p (event by verb answer ∷ past) ≡ drained r p past
+drained_elsewhere : (r p by : ℕ) (verb : Verb) (answer : Answer) (past : List Event) → (read_at by verb == p) ≡ false → drained r p (event_by by verb answer ∷ past) ≡ drained r p past
 drained_elsewhere r p by (Verb.Enter q t) answer past other = go (by == r) refl
   where
-    go : (t' : Bool) → (by == r) ≡ t' → drained r p (event by (Verb.Enter q t) answer ∷ past) ≡ drained r p past
+    go : (t' : Bool) → (by == r) ≡ t' → drained r p (event_by by (Verb.Enter q t) answer ∷ past) ≡ drained r p past
     go true own = rw (own, other) refl
     go false own = rw own refl
 drained_elsewhere r p by Verb.Drain answer past other = rw other refl
 drained_elsewhere r p by verb answer past other = refl
 
-word_elsewhere : (v k p by : ℕ) (verb : Verb) (answer : Answer) (past : List Event) → v / 4096 ≡ p → (read_at by verb == p) ≡ false → row_word v k (event by verb answer ∷ past) ≡ row_word v k past
+word_elsewhere : (v k p by : ℕ) (verb : Verb) (answer : Answer) (past : List Event) → v / 4096 ≡ p → (read_at by verb == p) ≡ false → row_word v k (event_by by verb answer ∷ past) ≡ row_word v k past
 word_elsewhere v k p by (Verb.WriteRow j word x) answer past here other = let off : (by == v / 4096) ≡ false = subst (λ q. (by == q) ≡ false) (sym here) other in rw off refl
 word_elsewhere v k p by verb answer past here other = refl
 
-kept_by : (c : Config) (p by : ℕ) (verb : Verb) (answer : Answer) (past : List Event) (region : Region) → is_first verb ≡ false → (read_at by verb == p) ≡ false → Holds c p past region → Holds c p (event by verb answer ∷ past) region
+kept_by : (c : Config) (p by : ℕ) (verb : Verb) (answer : Answer) (past : List Event) (region : Region) → is_first verb ≡ false → (read_at by verb == p) ≡ false → Holds c p past region → Holds c p (event_by by verb answer ∷ past) region
 kept_by c p by verb answer past region later other h = record {
   id = h.id;
   fence = h.fence ∙ sym (fence_elsewhere p by verb answer past other);
