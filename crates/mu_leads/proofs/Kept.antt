@@ -5,14 +5,14 @@ use Rattle.mu_model.specs.declared.event.Answer.{Answer}
 use Rattle.mu_model.specs.declared.event.Event.{Event}
 use Rattle.mu_model.specs.declared.event.Verb.{Verb}
 use Rattle.mu_model.specs.declared.config.Config.{Config}
-use Rattle.mu_leads.specs.Bearing.{is_leaders, tells_of_peers}
+use Rattle.mu_leads.specs.Bearing.{is_leader_verb, tells_of_peers}
 use Rattle.mu_leads.specs.Heads.{HoldsHeads}
 use Rattle.mu_leads.specs.Leading.{HoldsLeading}
 use Rattle.mu_leads.specs.declared.heads.Heads.{Heads}
 use Rattle.mu_leads.specs.declared.leading.Leading.{Leading}
 use Rattle.mu_model.proofs.Basics.{event_by}
 
-kept_by : (r by : ℕ) (verb : Verb) (answer : Answer) (mine : List Event) (state : Leading) → is_leaders verb ≡ false → HoldsLeading r mine state → HoldsLeading r (event_by by verb answer ∷ mine) state
+kept_by : (r by : ℕ) (verb : Verb) (answer : Answer) (mine : List Event) (state : Leading) → is_leader_verb verb ≡ false → HoldsLeading r mine state → HoldsLeading r (event_by by verb answer ∷ mine) state
 kept_by r by (Verb.Ask p) answer mine state other held = cc
 kept_by r by (Verb.Fence p) answer mine state other held = cc
 kept_by r by (Verb.Min p) answer mine state other held = cc
@@ -33,7 +33,7 @@ kept_by r by verb answer mine state other held = record {
   dealings = λ p dealing there. let d = held.dealings p dealing there in record { noted = d.noted; joined = d.joined; entered = d.entered; opened = d.opened; minimum = d.minimum; shown = d.shown; has_read = d.has_read };
 }
 
-pub leading_kept : (r : ℕ) (e : Event) (mine : List Event) (state : Leading) → is_leaders e.verb ≡ false → HoldsLeading r mine state → HoldsLeading r (e ∷ mine) state
+pub leading_kept : (r : ℕ) (e : Event) (mine : List Event) (state : Leading) → is_leader_verb e.verb ≡ false → HoldsLeading r mine state → HoldsLeading r (e ∷ mine) state
 leading_kept r e mine state other held = kept_by r e.by e.verb e.answer mine state other held
 
 told_by : (c : Config) (r by : ℕ) (verb : Verb) (answer : Answer) (mine : List Event) (state : Heads) → tells_of_peers verb ≡ false → HoldsHeads c r mine state → HoldsHeads c r (event_by by verb answer ∷ mine) state

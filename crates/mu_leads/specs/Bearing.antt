@@ -3,17 +3,17 @@ use Rattle.std.specs.Prelude.{Bool, false, true}
 use Rattle.mu_model.specs.declared.event.Verb.{Verb}
 
 -- a verb of a leader
-abbrev pub is_leaders : Verb → Bool
-is_leaders (Verb.Ask p) = true
-is_leaders (Verb.Fence p) = true
-is_leaders (Verb.Min p) = true
-is_leaders (Verb.Enter p t) = true
-is_leaders (Verb.PutMin p b) = true
-is_leaders (Verb.Look p i) = true
-is_leaders (Verb.PutSlot p i b v) = true
-is_leaders (Verb.Fuo p) = true
-is_leaders (Verb.RaiseFuo p u) = true
-is_leaders _ = false
+abbrev pub is_leader_verb : Verb → Bool
+is_leader_verb (Verb.Ask p) = true
+is_leader_verb (Verb.Fence p) = true
+is_leader_verb (Verb.Min p) = true
+is_leader_verb (Verb.Enter p t) = true
+is_leader_verb (Verb.PutMin p b) = true
+is_leader_verb (Verb.Look p i) = true
+is_leader_verb (Verb.PutSlot p i b v) = true
+is_leader_verb (Verb.Fuo p) = true
+is_leader_verb (Verb.RaiseFuo p u) = true
+is_leader_verb _ = false
 
 -- a verb that reads a head or a count of beats, or may begin a leadership
 abbrev pub tells_of_peers : Verb → Bool

@@ -1,13 +1,13 @@
 //! Which verbs bear on what a replica does as a leader, and on what it has read of the others.
 ghost use Rattle.std.specs.Prelude.{◌≡◌};
-ghost use Rattle.mu_leads.specs.Bearing.{is_leaders, tells_of_peers};
+ghost use Rattle.mu_leads.specs.Bearing.{is_leader_verb, tells_of_peers};
 
 use mu_model::Verb;
 
 /// Whether the verb is one of a leader's. Beats, rows, heads and what a host does change nothing of its
 /// leadership.
-pub fn is_leaders(verb: &Verb) -> bool
-    ensures { result ≡ is_leaders verb.now }
+pub fn is_leader_verb(verb: &Verb) -> bool
+    ensures { result ≡ is_leader_verb verb.now }
 {
     match verb {
         Verb::Ask(_)

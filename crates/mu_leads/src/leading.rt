@@ -10,7 +10,7 @@ ghost use Rattle.mu_model.specs.Leaderships.{ends_leadership, grant_at_joining, 
 ghost use Rattle.mu_model.specs.Parts.{IsPossible};
 ghost use Rattle.mu_leads.specs.Leading.{HoldsDealing, HoldsDealings, HoldsLeading, ReadsWithin};
 
-use crate::bearing::is_leaders;
+use crate::bearing::is_leader_verb;
 use crate::dealing::{Dealing, begins};
 use mu_model::{Answer, Config, Event, Fence, Target, Verb, majority};
 
@@ -205,7 +205,7 @@ impl Leading {
     pub fn take(&mut self, r: u8, event: &Event)
         ensures { (c : Config) → (mine : List Event) → c.replicas ≤ 7 → IsPossible c r (event.now ∷ mine) → HoldsLeading r mine self.old → HoldsLeading r (event.now ∷ mine) self.new }
     {
-        if !is_leaders(&event.verb) {
+        if !is_leader_verb(&event.verb) {
             return;
         }
         self.over = self.over_after(r, event);

@@ -8,7 +8,7 @@ mod dealing;
 mod heads;
 mod leading;
 
-pub use bearing::is_leaders;
+pub use bearing::is_leader_verb;
 pub use dealing::begins;
 pub use heads::Heads;
 pub use leading::Leading;

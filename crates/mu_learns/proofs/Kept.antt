@@ -4,12 +4,12 @@ use Rattle.mu_model.specs.declared.config.Config.{Config}
 use Rattle.mu_model.specs.declared.event.Answer.{Answer}
 use Rattle.mu_model.specs.declared.event.Event.{Event}
 use Rattle.mu_model.specs.declared.event.Verb.{Verb}
-use Rattle.mu_leads.specs.Bearing.{is_leaders}
+use Rattle.mu_leads.specs.Bearing.{is_leader_verb}
 use Rattle.mu_learns.specs.Covering.{HoldsCovering}
 use Rattle.mu_learns.specs.declared.covering.Covering.{Covering}
 use Rattle.mu_model.proofs.Basics.{event_by}
 
-kept_by : (c : Config) (r by : ℕ) (verb : Verb) (answer : Answer) (mine : List Event) (state : Covering) → is_leaders verb ≡ false → HoldsCovering c r mine state → HoldsCovering c r (event_by by verb answer ∷ mine) state
+kept_by : (c : Config) (r by : ℕ) (verb : Verb) (answer : Answer) (mine : List Event) (state : Covering) → is_leader_verb verb ≡ false → HoldsCovering c r mine state → HoldsCovering c r (event_by by verb answer ∷ mine) state
 kept_by c r by (Verb.Ask p) answer mine state other held = cc
 kept_by c r by (Verb.Fence p) answer mine state other held = cc
 kept_by c r by (Verb.Min p) answer mine state other held = cc
@@ -26,5 +26,5 @@ kept_by c r by verb answer mine state other held = record {
       record { id = h.id; room = h.room; filled = h.filled; filled_next = h.filled_next; caught = h.caught; caught_next = h.caught_next };
 }
 
-pub covering_kept : (c : Config) (r : ℕ) (e : Event) (mine : List Event) (state : Covering) → is_leaders e.verb ≡ false → HoldsCovering c r mine state → HoldsCovering c r (e ∷ mine) state
+pub covering_kept : (c : Config) (r : ℕ) (e : Event) (mine : List Event) (state : Covering) → is_leader_verb e.verb ≡ false → HoldsCovering c r mine state → HoldsCovering c r (e ∷ mine) state
 covering_kept c r e mine state other held = kept_by c r e.by e.verb e.answer mine state other held

@@ -14,7 +14,7 @@ ghost use Rattle.mu_learns.specs.Knowing.{is_set};
 ghost use Rattle.mu_learns.specs.Landings.{HoldsLandings};
 
 use crate::landings::Landings;
-use mu_leads::{begins, is_leaders};
+use mu_leads::{begins, is_leader_verb};
 use mu_model::{Answer, Config, Event, NoMemory, Verb, positions_in};
 use std::alloc::Global;
 
@@ -275,7 +275,7 @@ impl Covering {
     )
         ensures { (c : Config) → (mine : List Event) → IsConfig c → IsPossible c r (event.now ∷ mine) → known_before.now ≡ known c r mine → known_after.now ≡ known c r (event.now ∷ mine) → HoldsLandings c r (event.now ∷ mine) landings.now → HoldsCovering c r mine self.old → HoldsCovering c r (event.now ∷ mine) self.new }
     {
-        if !is_leaders(&event.verb) {
+        if !is_leader_verb(&event.verb) {
             return;
         }
         take_at_each(

@@ -4,7 +4,7 @@ use Rattle.mu_model.specs.declared.config.Config.{Config}
 use Rattle.mu_model.specs.declared.event.Answer.{Answer}
 use Rattle.mu_model.specs.declared.event.Event.{Event}
 use Rattle.mu_model.specs.declared.event.Verb.{Verb}
-use Rattle.mu_leads.specs.Bearing.{is_leaders}
+use Rattle.mu_leads.specs.Bearing.{is_leader_verb}
 use Rattle.mu_looks.specs.Placing.{HoldsPlacing}
 use Rattle.mu_looks.specs.declared.placing.Placing.{Placing}
 use Rattle.mu_looks.proofs.Tables.{firsts_stay, looks_stay}
@@ -14,7 +14,7 @@ use Rattle.mu_model.proofs.Basics.{event_by}
 abbrev pub at_time : Placing → ℕ → Placing
 at_time state time = record { replica = state.replica; time = time; begun_at = state.begun_at; joined_at = state.joined_at; own_reach = state.own_reach; firsts = state.firsts; regions = state.regions }
 
-kept_by : (c : Config) (r by : ℕ) (verb : Verb) (answer : Answer) (mine : List Event) (state : Placing) (time : ℕ) → is_leaders verb ≡ false → time ≡ state.time + 1 → HoldsPlacing c r mine state → HoldsPlacing c r (event_by by verb answer ∷ mine) (at_time state time)
+kept_by : (c : Config) (r by : ℕ) (verb : Verb) (answer : Answer) (mine : List Event) (state : Placing) (time : ℕ) → is_leader_verb verb ≡ false → time ≡ state.time + 1 → HoldsPlacing c r mine state → HoldsPlacing c r (event_by by verb answer ∷ mine) (at_time state time)
 kept_by c r by (Verb.Ask p) answer mine state time other later held = cc
 kept_by c r by (Verb.Fence p) answer mine state time other later held = cc
 kept_by c r by (Verb.Min p) answer mine state time other later held = cc
@@ -31,7 +31,7 @@ kept_by c r by verb answer mine state time other later held = record {
   joined_at = held.joined_at;
   own_reach = held.own_reach;
   positions = held.positions;
-  firsts = firsts_stay r mine (event_by by verb answer) state.firsts.items (λ q j b v put own. absurd (true≢false (sym (ap is_leaders put) ∙ other))) held.firsts;
+  firsts = firsts_stay r mine (event_by by verb answer) state.firsts.items (λ q j b v put own. absurd (true≢false (sym (ap is_leader_verb put) ∙ other))) held.firsts;
   seven = held.seven;
   regions = λ p looks there.
       let h = held.regions p looks there in
@@ -43,9 +43,9 @@ kept_by c r by verb answer mine state time other later held = record {
         places = h.places;
         puts = h.puts;
         positions = h.positions;
-        looks = looks_stay c r p mine (event_by by verb answer) looks.looks.items (λ q j look own here. absurd (true≢false (sym (ap is_leaders look) ∙ other))) h.looks;
+        looks = looks_stay c r p mine (event_by by verb answer) looks.looks.items (λ q j look own here. absurd (true≢false (sym (ap is_leader_verb look) ∙ other))) h.looks;
       };
 }
 
-pub placing_kept : (c : Config) (r : ℕ) (e : Event) (mine : List Event) (state : Placing) (time : ℕ) → is_leaders e.verb ≡ false → time ≡ state.time + 1 → HoldsPlacing c r mine state → HoldsPlacing c r (e ∷ mine) (at_time state time)
+pub placing_kept : (c : Config) (r : ℕ) (e : Event) (mine : List Event) (state : Placing) (time : ℕ) → is_leader_verb e.verb ≡ false → time ≡ state.time + 1 → HoldsPlacing c r mine state → HoldsPlacing c r (e ∷ mine) (at_time state time)
 placing_kept c r e mine state time other later held = kept_by c r e.by e.verb e.answer mine state time other later held

@@ -15,7 +15,7 @@ ghost use Rattle.mu_leads.specs.Leading.{HoldsLeading};
 ghost use Rattle.mu_looks.specs.Placing.{HoldsEachRegion, HoldsFirst, HoldsFirsts, HoldsOwnReach, HoldsPlacing, begun_time, joining_time};
 
 use crate::looking::{Looks, farther};
-use mu_leads::{Leading, begins, is_leaders};
+use mu_leads::{Leading, begins, is_leader_verb};
 use mu_model::{Answer, Config, Event, NoMemory, Verb, positions_in};
 use std::alloc::Global;
 
@@ -202,7 +202,7 @@ impl Placing {
         let r = self.replica;
         let now = self.time;
         self.time = now.saturating_add(1);
-        if !is_leaders(&event.verb) {
+        if !is_leader_verb(&event.verb) {
             return;
         }
         let joining = joins(before, r, event);

@@ -15,5 +15,5 @@ returns c c' mine few possible held = record {
   dealings = c.take_at_each.ensures c' mine possible held.dealings;
 }
 
-pub returns-then-not-is_leaders : goal.returns-then-not-is_leaders
-returns-then-not-is_leaders c c' mine few possible held = leading_kept c.args.r c.args.event.now mine c.args.self.now (search rules) held
+pub returns-then-not-is_leader_verb : goal.returns-then-not-is_leader_verb
+returns-then-not-is_leader_verb c c' mine few possible held = leading_kept c.args.r c.args.event.now mine c.args.self.now (search rules) held

@@ -16,5 +16,5 @@ returns c c' mine config possible before after landings held =
       each = subst (λ (regions : List Coverage). HoldsCoverages c' c.args.r (c.args.event.now ∷ mine) regions) (sym back) (c.take_at_each.ensures c' mine config possible before after landings was);
     }
 
-pub returns-then-not-is_leaders : goal.returns-then-not-is_leaders
-returns-then-not-is_leaders c c' mine config possible before after landings held = covering_kept c' c.args.r c.args.event.now mine c.args.self.now (search rules) held
+pub returns-then-not-is_leader_verb : goal.returns-then-not-is_leader_verb
+returns-then-not-is_leader_verb c c' mine config possible before after landings held = covering_kept c' c.args.r c.args.event.now mine c.args.self.now (search rules) held

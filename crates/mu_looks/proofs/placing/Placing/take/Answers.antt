@@ -39,8 +39,8 @@ returns c k r mine config possible leading held =
       regions = subst (λ (xs : List Looks). HoldsEachRegion k r (c.args.event.now ∷ mine) xs) (sym regions) regions_after;
     }
 
-pub returns-then-not-is_leaders : goal.returns-then-not-is_leaders
-returns-then-not-is_leaders c k r mine config possible leading held =
+pub returns-then-not-is_leader_verb : goal.returns-then-not-is_leader_verb
+returns-then-not-is_leader_verb c k r mine config possible leading held =
     let at = held.time in
     let short = is_short k r mine c.args.event.now config possible in
     placing_kept k r c.args.event.now mine c.args.self.now c.saturating_add-self.result (search rules) (omega (arith, c.saturating_add-self.ensures, at, short)) held
