@@ -4,7 +4,8 @@ use Rattle.kv_store.specs.declared.TheConstants.{LAST_CLIENT, LAST_NUMBER, CAS_T
 use Rattle.kv_store.specs.declared.command.Op.{Op}
 use Rattle.kv_store.specs.declared.command.Op.TheVariants.{Put, Get, Del, Swap, Cas}
 
--- what a client asks for: the client, the number of the command among those of the client, and the operation
+-- what a client asks for: the client, the number of the command among those of the client, and the
+-- operation
 pub record Request : Type 0 where
   pub client : ℕ
   pub number : ℕ

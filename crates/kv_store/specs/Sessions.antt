@@ -5,7 +5,9 @@ use Rattle.kv_store.specs.Commands.{Request}
 -- the numbers of the commands of a client, in their order
 abbrev pub numbers_of : ℕ → List Request → List ℕ
 numbers_of client [] = []
-numbers_of client (command ∷ commands) = if command.client == client then command.number ∷ numbers_of client commands else numbers_of client commands
+numbers_of client (command ∷ commands) =
+    if command.client == client then command.number ∷ numbers_of client commands
+    else numbers_of client commands
 
 -- the numbers are `first`, the one after it, and so on
 abbrev pub CountsFrom : ℕ → List ℕ → Type 0

@@ -1,4 +1,5 @@
--- The store of the product: a table from keys to texts, what each operation answers, and what it leaves.
+-- The store of the product: a table from keys to texts, what each operation answers, and what it
+-- leaves.
 use Rattle.std.specs.Prelude.{ℕ, refl, List, [], ◌∷◌, Bool, false, if◌then◌else◌, None, Some}
 use Rattle.std.specs.declared.option.Option.{Option}
 use Rattle.std.specs.Str.{bytes_eq}
@@ -55,7 +56,8 @@ table_after table (Put key text) = map.insert table key text
 table_after table (Get key) = table
 table_after table (Del key) = map.remove table key
 table_after table (Swap key text) = map.insert table key text
-table_after table (Cas key old new) = if holds (map.get table key) old then map.insert table key new else table
+table_after table (Cas key old new) =
+    if holds (map.get table key) old then map.insert table key new else table
 
 -- the table after commands, one after the other, from this one on
 abbrev pub store_from : Table → List Request → Table
@@ -65,7 +67,8 @@ store_from table (command ∷ commands) = store_from (table_after table command.
 -- the replies to commands, one after the other, from this table on
 abbrev pub replies_from : Table → List Request → List Reply
 replies_from table [] = []
-replies_from table (command ∷ commands) = reply_to table command.op ∷ replies_from (table_after table command.op) commands
+replies_from table (command ∷ commands) =
+    reply_to table command.op ∷ replies_from (table_after table command.op) commands
 
 -- the table after commands, from the empty one on
 abbrev pub store : List Request → Table
@@ -82,4 +85,6 @@ pub record Holding : Type 0 where
 
 -- a holding is stored as the pair of its parts
 abbrev pub holding_code : Coded Holding
-holding_code = code_by (Table × ℕ) (coded× (map.code (coded_list coded_ℕ) (coded_list coded_ℕ)) coded_ℕ) (λ h. (h.table, h.room)) (λ p. record { table = p.0; room = p.1 }) (λ _. refl)
+holding_code =
+    code_by (Table × ℕ) (coded× (map.code (coded_list coded_ℕ) (coded_list coded_ℕ)) coded_ℕ)
+    (λ h. (h.table, h.room)) (λ p. record { table = p.0; room = p.1 }) (λ _. refl)

@@ -44,11 +44,12 @@ impl Model for Command {
 }
 
 impl Command {
-    /// The command. `None` where the client is above 15, the number is 0 or above 1,500, or a text of a `Cas` is longer than
-    /// 32 bytes.
+    /// The command. `None` where the client is above 15, the number is 0 or above 1,500, or a text
+    /// of a `Cas` is longer than 32 bytes.
     pub fn new(client: u8, number: u16, op: Op) -> Option<Command>
         ensures allowed { IsSome result ↔ IsAllowed client number op }
-        ensures same { IfSome result (λ command. command ≡ record { client = client; number = number; op = op }) }
+        ensures same { IfSome result
+            (λ command. command ≡ record { client = client; number = number; op = op }) }
     {
         let numbered = 1 <= number && number <= LAST_NUMBER;
         if client <= LAST_CLIENT && numbered && has_short_texts(&op) {

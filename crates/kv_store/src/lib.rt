@@ -1,6 +1,8 @@
 //! Commands of clients, and the store of texts under keys that they act on.
 #![tactic(auto)]
 
+ghost use Rattle.std.specs.Prelude.{◌≡◌};
+
 pub mod command;
 pub mod key;
 pub mod store;
@@ -33,5 +35,9 @@ pub const LAST_CLIENT: u8 = 15;
 /// The greatest number of a command of a client. The least is 1.
 pub const LAST_NUMBER: u16 = 1500;
 
-#[cfg(test)]
-mod tests;
+/// Each limit is this number.
+pub fn limits_are_stated()
+    ensures words { (KEY_BYTES ≡ 24) × (TEXT_BYTES ≡ 64) × (CAS_TEXT_BYTES ≡ 32) }
+    ensures bytes { (FIRST_BYTE ≡ 33) × (LAST_BYTE ≡ 126) }
+    ensures commands { (LAST_CLIENT ≡ 15) × (LAST_NUMBER ≡ 1500) }
+{}

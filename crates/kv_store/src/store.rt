@@ -28,7 +28,8 @@ pub enum Reply {
 
 type Texts = IndexMap<Key, Text>;
 
-/// Texts under keys. Contracts see a `Holding`: the table, and how many more commands can surely be applied.
+/// Texts under keys. Contracts see a `Holding`: the table, and how many more commands can surely be
+/// applied.
 #[derive(Drop)]
 pub struct Store {
     texts: Texts,
@@ -56,8 +57,15 @@ impl Store {
         Ok(Store { texts })
     }
 
-    /// Acts on the store as the command says, with one look-up of its key. It takes no memory, and uses up the room for one
-    /// command at most.
+    /// What the table holds for the key. Takes no memory.
+    pub fn look(&self, key: &Key) -> Option<Text>
+        ensures { result ≡ map.get self.now.table key.now }
+    {
+        look_up(&self.texts, key)
+    }
+
+    /// Acts on the store as the command says, with one look-up of its key. It takes no memory, and
+    /// uses up the room for one command at most.
     pub fn apply(&mut self, command: &Command) -> Reply
         requires { 0 < self.old.room }
         ensures reply { result ≡ reply_to self.old.table command.now.op }

@@ -13,7 +13,7 @@ use Rattle.mu_regions.specs.Stands.{Stands}
 use Rattle.mu_regions.specs.declared.regions.Regions.{Regions}
 use Rattle.mu_regions.proofs.Range.{in_range}
 use Rattle.list_fabric.specs.Kept.{IsListKept}
-use Rattle.list_fabric.proofs.Room.{few_steps, legal_keeps, room_for}
+use Rattle.mu_model.proofs.Budgets.{few_steps, legal_keeps, room_for}
 
 -- there is room for the step
 pub has_room : (c : Config) (events : List Event) (room : ℕ) (state : Regions) (r : ℕ) (verb : Verb) → IsListKept c events room state → Allowed c r (part r (history events)) verb

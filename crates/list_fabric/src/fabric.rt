@@ -1,8 +1,8 @@
 //! The fabric of whole runs: it answers from what the regions hold.
 ghost use Rattle.std.specs.Prelude.{◌≡◌, [], IfOk};
 
-use crate::port::ListPort;
 use mu_model::{Answer, Config, Event, Journal, NoMemory, Verb};
+use mu_port::{Memory, MemoryPort};
 use mu_regions::Regions;
 use std::alloc::Global;
 use std::marker::Model;
@@ -17,7 +17,8 @@ pub struct ListFabric {
 }
 
 impl Model for ListFabric {
-    ghost use Rattle.list_fabric.specs.Kept.{IsListKept, Kept};
+    ghost use Rattle.mu_port.specs.Keeping.{Kept};
+    ghost use Rattle.list_fabric.specs.Kept.{IsListKept};
 
     ghost Value = { Kept };
 
@@ -27,12 +28,7 @@ impl Model for ListFabric {
 }
 
 impl ListFabric {
-    ghost use Rattle.std.specs.Prelude.{◌++◌, ◌<◌, ◌∷◌};
-    ghost use Rattle.mu_model.specs.Allowed.{Allowed};
-    ghost use Rattle.mu_model.specs.Answers.{answer_of};
     ghost use Rattle.mu_model.specs.Contents.{IsConfig};
-    ghost use Rattle.mu_model.specs.Histories.{history, part};
-    ghost use Rattle.mu_model.specs.Legal.{IsLegal};
 
     /// No event yet. Takes memory for the budgets of all replicas and for the regions.
     pub fn start(alloc: Global, config: &Config) -> Result<ListFabric, NoMemory>
@@ -44,26 +40,21 @@ impl ListFabric {
         Ok(ListFabric {
             config: config.copied(alloc)?,
             kept: Journal::with_room(alloc, room)?,
-            regions: Regions::start(alloc, config)?,
+            regions: Regions::new(alloc, config)?,
         })
     }
+}
 
-    /// The configuration.
-    pub fn config(&self) -> &Config
-        ensures { result.now ≡ self.now.config }
-    {
+impl Memory for ListFabric {
+    ghost config = { λ f. f.config };
+
+    ghost events = { λ f. f.events };
+
+    fn config(&self) -> &Config {
         &self.config
     }
 
-    /// Makes a step that is allowed after the part of `by`: the event is appended, and the answer is
-    /// the one after the list before. Takes no memory, and the same time however long the list is.
-    pub fn step(&mut self, by: u8, verb: Verb) -> Answer
-        requires { Allowed self.old.config by (part by (history self.old.events)) verb }
-        ensures answer { result ≡ answer_of self.old.config by (history self.old.events) verb }
-        ensures events { self.new.events ≡ self.old.events ++ (record { by = by; verb = verb; answer = result }) ∷ [] }
-        ensures config { self.new.config ≡ self.old.config }
-        ensures legal { IsLegal self.new.config self.new.events }
-    {
+    fn step(&mut self, by: u8, verb: Verb) -> Answer {
         let answer = self.regions.answer(by, &verb);
         let event = Event { by, verb, answer };
         self.regions.take(&event);
@@ -71,28 +62,11 @@ impl ListFabric {
         answer
     }
 
-    /// The kept list, in true order.
-    pub fn events(&self) -> &[Event]
-        ensures events { result.now ≡ self.now.events }
-        ensures legal { IsLegal self.now.config self.now.events }
-    {
+    fn events(&self) -> &[Event] {
         self.kept.as_slice()
     }
 
-    /// The port of the replica `by`, which holds the fabric. Takes no memory.
-    pub fn port(self, by: u8) -> ListPort
-        requires { by < self.config.replicas }
-        ensures replica { result.replica ≡ by }
-        ensures fabric { result.fabric ≡ self }
-    {
-        ListPort::new(self, by)
-    }
-
-    /// The kept list itself.
-    pub fn into_events(self) -> Journal
-        ensures events { result.events ≡ self.events }
-        ensures legal { IsLegal self.config self.events }
-    {
+    fn into_events(self) -> Journal {
         let ListFabric {
             config: _,
             kept,
@@ -101,3 +75,6 @@ impl ListFabric {
         kept
     }
 }
+
+/// The access of one replica to a fabric of lists.
+pub type ListPort = MemoryPort<ListFabric>;

@@ -3,11 +3,5 @@
 #![tactic(auto)]
 
 mod fabric;
-mod first_fabric;
-mod port;
-#[cfg(test)]
-mod tests;
 
-pub use fabric::ListFabric;
-pub use first_fabric::FirstFabric;
-pub use port::ListPort;
+pub use fabric::{ListFabric, ListPort};

@@ -80,21 +80,21 @@ Holds r p past = Held r (fence_owner p past) (fence_target p past) (fence_closin
 abbrev pub Opened : ℕ → ℕ → List Event → Type 0
 Opened r p past = (t : Target) → open_target r p past ≡ Some t → has_target t ≡ true → drained r p past ≡ false → Holds r p past
 
-grants-own : (r : ℕ) → IsOwnTest r (is_grant_of r)
+pub grants-own : (r : ℕ) → IsOwnTest r (is_grant_of r)
 grants-own r = record { own = λ e h. go e.by e.verb h }
   where
     go : (by : ℕ) (v : Verb) → (by == r) ≡ false → is_grant_by r by v ≡ false
     go by (Verb.Grant w) h = h
     go by v h = refl
 
-closes-own : (r : ℕ) → IsOwnTest r (is_close_of r)
+pub closes-own : (r : ℕ) → IsOwnTest r (is_close_of r)
 closes-own r = record { own = λ e h. go e.by e.verb h }
   where
     go : (by : ℕ) (v : Verb) → (by == r) ≡ false → is_close_by r by v ≡ false
     go by Verb.Close h = h
     go by v h = refl
 
-drains-own : (r : ℕ) → IsOwnTest r (is_drain_of r)
+pub drains-own : (r : ℕ) → IsOwnTest r (is_drain_of r)
 drains-own r = record { own = λ e h. go e.by e.verb h }
   where
     go : (by : ℕ) (v : Verb) → (by == r) ≡ false → is_drain_by r by v ≡ false
@@ -111,13 +111,13 @@ close_seen-own r = record { own = λ e h. go e.by e.verb e.answer h }
 closing-part : (r : ℕ) (past : List Event) → fence_closing r (part r past) ≡ fence_closing r past
 closing-part r past = ap (has (is_close_of r)) (since-part (is_grant_of r) r (grants-own r) past) ∙ has-part (is_close_of r) r (closes-own r) (since (is_grant_of r) past)
 
-drained_since-part : (r : ℕ) (past : List Event) → drained_since_close r (part r past) ≡ drained_since_close r past
+pub drained_since-part : (r : ℕ) (past : List Event) → drained_since_close r (part r past) ≡ drained_since_close r past
 drained_since-part r past = ap (has (is_drain_of r)) (since-part (is_close_of r) r (closes-own r) past) ∙ has-part (is_drain_of r) r (drains-own r) (since (is_close_of r) past)
 
-last_close-part : (r : ℕ) (past : List Event) → last_close r (part r past) ≡ last_close r past
+pub last_close-part : (r : ℕ) (past : List Event) → last_close r (part r past) ≡ last_close r past
 last_close-part r past = newest-part (λ e. close_seen r e.by e.verb e.answer) r (close_seen-own r) past
 
-must_drain-part : (r : ℕ) (past : List Event) → must_drain r (part r past) ≡ must_drain r past
+pub must_drain-part : (r : ℕ) (past : List Event) → must_drain r (part r past) ≡ must_drain r past
 must_drain-part r past = ap (λ t. t && names_target (last_close r (part r past))) (closing-part r past) ∙ ap (λ o. fence_closing r past && names_target o) (last_close-part r past)
 
 opened_ask : (c : Config) (r p by q : ℕ) (past : List Event) → Opened r p past → (t : Bool) → is_first_ask r by (Verb.Ask q) ≡ t → Opened r p (made c past by (Verb.Ask q) ∷ past)

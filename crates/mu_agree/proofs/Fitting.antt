@@ -98,7 +98,7 @@ batch_once c i j v w past g h a b bv bw same l = go (chosen_sound c i v past h a
             mine false e = absurd (true≢false (sym e))
 
 -- two positions have two keys
-keys_differ : (c : Config) (i j v w : ℕ) (past : List Event) → IsConfig c → IsLegalHistory c past → IsChosen c past i v → IsChosen c past j w → i < j → key c v ≡ key c w → ⊥
+pub keys_differ : (c : Config) (i j v w : ℕ) (past : List Event) → IsConfig c → IsLegalHistory c past → IsChosen c past i v → IsChosen c past j w → i < j → key c v ≡ key c w → ⊥
 keys_differ c i j v w past g h a b l e = go (chosen_sound c i v past h a).fits (chosen_sound c j w past h b).fits
   where
     go : Fits c v (chosen_sound c i v past h a).values past → Fits c w (chosen_sound c j w past h b).values past → ⊥
@@ -124,7 +124,7 @@ reserve_is c e = go (c.version == 2) (eq-eqb c.version 2 e)
     go true h = refl
     go false h = absurd (true≢false (sym h))
 
-key_below : (c : Config) (i v : ℕ) (past : List Event) → IsConfig c → IsLegalHistory c past → IsChosen c past i v → key c v < row_count c + reserve c
+pub key_below : (c : Config) (i v : ℕ) (past : List Event) → IsConfig c → IsLegalHistory c past → IsChosen c past i v → key c v < row_count c + reserve c
 key_below c i v past g h a = go (chosen_sound c i v past h a).fits
   where
     go : Fits c v (chosen_sound c i v past h a).values past → key c v < row_count c + reserve c
@@ -153,7 +153,7 @@ not_begun c j v h b e = go (subst (λ t. includes j (if t then rows_from (rest_o
     go : includes j (rows_from (rest_of c (v % 4096) + 1) (v % 4096)) ≡ false → ⊥
     go m = here (v % 4096 == j) (eq-eqb (v % 4096) j e) (subst (λ z. includes j (rows_from z (v % 4096)) ≡ false) one m)
 
-distinct_keys : (c : Config) (xs : List ℕ) → ((i j v w : ℕ) → slice_get xs i ≡ Some v → slice_get xs j ≡ Some w → i < j → key c v ≡ key c w → ⊥) → IsDistinct eqb (keys c xs)
+pub distinct_keys : (c : Config) (xs : List ℕ) → ((i j v w : ℕ) → slice_get xs i ≡ Some v → slice_get xs j ≡ Some w → i < j → key c v ≡ key c w → ⊥) → IsDistinct eqb (keys c xs)
 unfolding IsDistinct
 distinct_keys c [] f = tt
 distinct_keys c (x ∷ xs) f = IsDistinct-cons eqb (key c x) (keys c xs) (apart xs (λ j w e. f 0 (suc j) x w refl e (omega arith))) (distinct_keys c xs (λ i j v w a b l. f (suc i) (suc j) v w a b (omega arith)))
@@ -162,11 +162,11 @@ distinct_keys c (x ∷ xs) f = IsDistinct-cons eqb (key c x) (keys c xs) (apart 
     apart [] d = tt
     apart (y ∷ ys) d = (false_from_ne_true (eqb (key c x) (key c y)) (λ e. d 0 y refl (eqb-true (key c x) (key c y) e)), apart ys (λ j w e. d (suc j) w e))
 
-keys_short : (c : Config) (xs : List ℕ) → length (keys c xs) ≡ length xs
+pub keys_short : (c : Config) (xs : List ℕ) → length (keys c xs) ≡ length xs
 keys_short c [] = refl
 keys_short c (x ∷ xs) = ap suc (keys_short c xs)
 
-among_keys : (c : Config) (q n : ℕ) (xs : List ℕ) → ((i v : ℕ) → slice_get xs i ≡ Some v → key c v < n) → list_any (eqb q) (keys c xs) ≡ true → q < n
+pub among_keys : (c : Config) (q n : ℕ) (xs : List ℕ) → ((i v : ℕ) → slice_get xs i ≡ Some v → key c v < n) → list_any (eqb q) (keys c xs) ≡ true → q < n
 among_keys c q n [] f h = absurd (true≢false (sym h))
 among_keys c q n (x ∷ xs) f h = elim (or_cases (eqb q (key c x)) (list_any (eqb q) (keys c xs)) h) [
   | inl e ↦ (let a = eqb-true q (key c x) e in let b = f 0 x refl in omega arith)

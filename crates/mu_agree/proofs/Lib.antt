@@ -1,4 +1,5 @@
 pub mod Legal
+pub mod NextBatch
 pub mod Numbers
 pub mod Entering
 pub mod Access
@@ -14,6 +15,8 @@ pub mod Joins
 pub mod Offers
 pub mod Choice
 pub mod Early
+pub mod Entries
+pub mod Evidence
 pub mod Late
 pub mod Tame
 pub mod Settled
@@ -27,6 +30,7 @@ pub mod Sound
 pub mod Sessions
 pub mod Possible
 pub mod Reach
+pub mod Readings
 pub mod Fitting
 pub mod Windows
 pub mod Journals

@@ -322,7 +322,7 @@ place_put c r p by q b past h may s a e true hx false hy = rw (hx, hy) (λ t e d
 place_put c r p by q b past h may s a e false hx y hy = rw hx s
 
 -- what allows an `Enter` for a place
-place_needs : (c : Config) (r p s : ℕ) (t : Target) (past : List Event) → MayEnter c r (part r past) p t → t ≡ Target.Place s → (is_member r p past ≡ true) × (is_over r past ≡ false)
+pub place_needs : (c : Config) (r p s : ℕ) (t : Target) (past : List Event) → MayEnter c r (part r past) p t → t ≡ Target.Place s → (is_member r p past ≡ true) × (is_over r past ≡ false)
 place_needs c r p s Target.None past may e = absurd may
 place_needs c r p s Target.Min past may e = cc
 place_needs c r p s (Target.Place x) past may e = (ap is_some (sym (joined_under-part r p past)) ∙ may.0, sym (over-part r past) ∙ may.1)

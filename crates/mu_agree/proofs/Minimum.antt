@@ -194,7 +194,7 @@ since_under r p past g None e h = cc
 since_under r p past g (Some x) e h = subst (λ z. min_read_under r p z past ≡ true) (same_some x g e) h
 
 -- who enters for the minimum has read it under the grant
-entered_read : (c : Config) (r p g : ℕ) (t : Target) (past : List Event) → MayEnter c r (part r past) p t → t ≡ Target.Min → noted_grant r p past ≡ Some g → min_read_under r p g past ≡ true
+pub entered_read : (c : Config) (r p g : ℕ) (t : Target) (past : List Event) → MayEnter c r (part r past) p t → t ≡ Target.Min → noted_grant r p past ≡ Some g → min_read_under r p g past ≡ true
 entered_read c r p g Target.None past may e n = absurd may
 entered_read c r p g (Target.Place s) past may e n = cc
 entered_read c r p g Target.Min past may e n =

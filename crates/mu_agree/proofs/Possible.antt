@@ -184,3 +184,8 @@ parts_move_law c r p j g u mine e f x poss l ev ea n fu ul pl fv fa same =
     let up : fence_grant p t.older ≤ fence_grant p s.older = subst (λ z. fence_grant p t.older ≤ fence_grant p z) (sym t.is) (let a = grant_rises p (e ∷ []) t.older in let b = grant_rises p t.newer (e ∷ t.older) in omega arith) in
     let seen : Answer.Seen x ≡ Answer.Seen (fence p s.older) = sym fa ∙ s.follows.answer ∙ ap (λ z. answer_of c f.by s.older z) fv in
     let is : x.grant ≡ fence_grant p s.older = ap (λ z. z.grant) (same_fence x (fence p s.older) seen) in omega arith
+
+-- what the last event of a possible part was answered
+pub answered : (c : Config) (r : ℕ) (mine : List Event) (e : Event) (v : Verb) (p : IsPossible c r (e ∷ mine)) → e.verb ≡ v → e.answer ≡ answer_of c r (at_event c r mine e p).older v
+answered c r mine e v p is =
+    let s = at_event c r mine e p in s.follows.answer ∙ ap (λ z. answer_of c z s.older e.verb) s.own ∙ ap (answer_of c r s.older) is

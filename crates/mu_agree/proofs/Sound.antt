@@ -113,7 +113,7 @@ offered_tried i b v (f ∷ past) e = go f.verb e (offered_tried i b v past)
         at false h u o eo e = ih (eo ∙ e)
     go verb e ih = ih e
 
-landed_tried : (p i b v : ℕ) (past : List Event) → landed p i b v past ≡ true → tried i v past ≡ true
+pub landed_tried : (p i b v : ℕ) (past : List Event) → landed p i b v past ≡ true → tried i v past ≡ true
 landed_tried p i b v past h = has_implied (λ e. slot_landed p i b v e.verb e.answer) (λ e. is_try i v e.verb) (λ e m. at e.verb e.answer m) past h
   where
     at : (verb : Verb) (a : Answer) → slot_landed p i b v verb a ≡ true → is_try i v verb ≡ true

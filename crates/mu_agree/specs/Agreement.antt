@@ -18,15 +18,22 @@ use Rattle.mu_model.specs.Regions.{fence_grant, fence_owner, region_fuo, region_
 
 -- at most one value is chosen at a position
 abbrev pub AtMostOneChosen : Type 0
-AtMostOneChosen = (c : Config) (events : List Event) (i v w : ℕ) → IsLegal c events → IsChosen c (history events) i v → IsChosen c (history events) i w → v ≡ w
+AtMostOneChosen =
+    (c : Config) (events : List Event) (i v w : ℕ) → IsLegal c events
+    → IsChosen c (history events) i v → IsChosen c (history events) i w → v ≡ w
 
 -- each known entry is chosen
 abbrev pub KnownIsChosen : Type 0
-KnownIsChosen = (c : Config) (events : List Event) (r i v : ℕ) → IsLegal c events → slice_get (known c r (part r (history events))) i ≡ Some v → IsChosen c (history events) i v
+KnownIsChosen =
+    (c : Config) (events : List Event) (r i v : ℕ) → IsLegal c events
+    → slice_get (known c r (part r (history events))) i ≡ Some v → IsChosen c (history events) i v
 
 -- below the FUO of a region its log has chosen values
 abbrev pub FuoIsChosen : Type 0
-FuoIsChosen = (c : Config) (events : List Event) (p i : ℕ) (entry : ℕ × ℕ) → IsLegal c events → i < region_fuo p (history events) → slice_get (region_log p (history events)) i ≡ Some entry → IsChosen c (history events) i entry.1
+FuoIsChosen =
+    (c : Config) (events : List Event) (p i : ℕ) (entry : ℕ × ℕ) → IsLegal c events
+    → i < region_fuo p (history events) → slice_get (region_log p (history events)) i ≡ Some entry
+    → IsChosen c (history events) i entry.1
 
 -- one list begins the other
 abbrev pub Begins : List ℕ → List ℕ → Type 0
@@ -36,13 +43,18 @@ Begins xs ys = (rest : List ℕ) × (xs ++ rest ≡ ys)
 abbrev pub KnownAgree : Type 0
 KnownAgree =
     (c : Config) (events : List Event) (r s : ℕ) → IsLegal c events
-    → Begins (known c r (part r (history events))) (known c s (part s (history events))) ⊎ Begins (known c s (part s (history events))) (known c r (part r (history events)))
+    → Begins (known c r (part r (history events))) (known c s (part s (history events)))
+    ⊎ Begins (known c s (part s (history events))) (known c r (part r (history events)))
 
 -- below the FUO of a region its log holds the chosen value, now and after every legal continuation
 abbrev pub FuoIsKept : Type 0
 FuoIsKept =
-    (c : Config) (earlier later : List Event) (p i : ℕ) → IsLegal c (earlier ++ later) → i < region_fuo p (history earlier)
-    → (n : ℕ) × ((v : ℕ) × ((slice_get (region_log p (history (earlier ++ later))) i ≡ Some (n, v)) × IsChosen c (history earlier) i v))
+    (c : Config) (earlier later : List Event) (p i : ℕ) → IsLegal c (earlier ++ later)
+    → i < region_fuo p (history earlier)
+    → (n : ℕ)
+    × ((v : ℕ)
+    × ((slice_get (region_log p (history (earlier ++ later))) i ≡ Some (n, v))
+    × IsChosen c (history earlier) i v))
 
 -- a mark of q is chosen
 pub record IsMarked (c : Config) (q : ℕ) (past : List Event) : Type 0 where
@@ -53,23 +65,31 @@ pub record IsMarked (c : Config) (q : ℕ) (past : List Event) : Type 0 where
 
 -- the head of a replica is at most the FUO of its region
 abbrev pub HeadWithinFuo : Type 0
-HeadWithinFuo = (c : Config) (events : List Event) (r : ℕ) → IsLegal c events → region_head r (history events) ≤ region_fuo r (history events)
+HeadWithinFuo =
+    (c : Config) (events : List Event) (r : ℕ) → IsLegal c events
+    → region_head r (history events) ≤ region_fuo r (history events)
 
 -- a look by r at a position that it still has to read is `Past` only where a mark of r is chosen
 abbrev pub LooksAreKept : Type 0
 LooksAreKept =
-    (c : Config) (earlier later : List Event) (e : Event) (p i : ℕ) → IsLegal c (earlier ++ e ∷ later) → e.verb ≡ Verb.Look p i → e.answer ≡ Answer.Past
-    → (region_head e.by (history earlier) ≤ i) ⊎ (length (known c e.by (part e.by (history earlier))) ≤ i) → IsMarked c e.by (history earlier)
+    (c : Config) (earlier later : List Event) (e : Event) (p i : ℕ)
+    → IsLegal c (earlier ++ e ∷ later) → e.verb ≡ Verb.Look p i → e.answer ≡ Answer.Past
+    → (region_head e.by (history earlier) ≤ i) ⊎
+    (length (known c e.by (part e.by (history earlier))) ≤ i)
+    → IsMarked c e.by (history earlier)
 
 -- the same of a look that isn't made
 abbrev pub PlacesAreKept : Type 0
 PlacesAreKept =
-    (c : Config) (events : List Event) (r p i : ℕ) → IsLegal c events → r < c.replicas → region_head r (history events) ≤ i
+    (c : Config) (events : List Event) (r p i : ℕ) → IsLegal c events → r < c.replicas
+    → region_head r (history events) ≤ i
     → answer_of c r (history events) (Verb.Look p i) ≡ Answer.Past → IsMarked c r (history events)
 
 -- a log is never longer than its FUO and the ring
 abbrev pub LogWithinFuo : Type 0
-LogWithinFuo = (c : Config) (events : List Event) (p : ℕ) → IsLegal c events → p < c.replicas → length (region_log p (history events)) ≤ region_fuo p (history events) + c.ring
+LogWithinFuo =
+    (c : Config) (events : List Event) (p : ℕ) → IsLegal c events → p < c.replicas
+    → length (region_log p (history events)) ≤ region_fuo p (history events) + c.ring
 
 -- the answer, where the test holds
 abbrev pub kept_if : Bool → Option ℕ → Option ℕ
@@ -79,19 +99,28 @@ kept_if t (Some x) = if t then Some x else None
 -- the last `Fuo(p)` answer of r after a `Fence(p)` answer with the grant g
 abbrev pub fuo_under : ℕ → ℕ → ℕ → List Event → Option ℕ
 fuo_under r p g [] = None
-fuo_under r p g (e ∷ past) = newer_or (kept_if (has (λ f. grant_seen r p g f.by f.verb f.answer) past) (fuo_read r p e.by e.verb e.answer)) (fuo_under r p g past)
+fuo_under r p g (e ∷ past) =
+    newer_or
+    (kept_if (has (λ f. grant_seen r p g f.by f.verb f.answer) past)
+    (fuo_read r p e.by e.verb e.answer))
+    (fuo_under r p g past)
 
 -- one more than the position of a put of r that landed at p
 abbrev pub end_put : ℕ → ℕ → ℕ → Verb → Answer → Option ℕ
-end_put r p by (Verb.PutSlot q j b v) Answer.Done = if (by == r) && (q == p) then Some (j + 1) else None
+end_put r p by (Verb.PutSlot q j b v) Answer.Done =
+    if (by == r) && (q == p) then Some (j + 1) else None
 end_put r p by _ _ = None
 
 -- one more than the greatest position at p where a put of r landed
 abbrev pub put_end : ℕ → ℕ → List Event → ℕ
 put_end r p past = greatest (λ e. end_put r p e.by e.verb e.answer) past
 
--- while r owns p under the grant with which it read the FUO, the log reaches no further than the ring beyond it, or r's own puts
+-- while r owns p under the grant with which it read the FUO, the log reaches no further than the
+-- ring beyond it, or r's own puts
 abbrev pub LogWithinReach : Type 0
 LogWithinReach =
-    (c : Config) (events : List Event) (r p g u : ℕ) → IsLegal c events → p < c.replicas → g ≡ fence_grant p (history events) → fence_owner p (history events) ≡ Some r
-    → fuo_under r p g (leadership r (history events)) ≡ Some u → length (region_log p (history events)) ≤ max (u + c.ring) (put_end r p (leadership r (history events)))
+    (c : Config) (events : List Event) (r p g u : ℕ) → IsLegal c events → p < c.replicas
+    → g ≡ fence_grant p (history events) → fence_owner p (history events) ≡ Some r
+    → fuo_under r p g (leadership r (history events)) ≡ Some u
+    → length (region_log p (history events))
+    ≤ max (u + c.ring) (put_end r p (leadership r (history events)))

@@ -9,7 +9,9 @@ use Rattle.mu_model.specs.Ends.{Obeys}
 
 -- each beginning of a diligent journal is diligent
 abbrev pub BeginningsAreDiligent : Type 0
-BeginningsAreDiligent = (c : Config) (r : ℕ) (newer past : List Event) → IsDiligent c r (newer ++ past) → IsDiligent c r past
+BeginningsAreDiligent =
+    (c : Config) (r : ℕ) (newer past : List Event) → IsDiligent c r (newer ++ past)
+    → IsDiligent c r past
 
 -- a journal that obeys its script has no shorter beginning that does
 abbrev pub ObeysOnce : Type 0

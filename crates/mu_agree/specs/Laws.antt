@@ -10,11 +10,13 @@ use Rattle.mu_model.specs.Leaderships.{leaderships, proposal_number}
 use Rattle.mu_model.specs.Legal.{IsLegal}
 use Rattle.mu_model.specs.Regions.{fence_owner, is_drain_of, is_grant_of, region_log, region_min}
 
--- two leaderships under way at two moments that have one number are the same leadership of the same replica
+-- two leaderships under way at two moments that have one number are the same leadership of the same
+-- replica
 abbrev pub NumbersDiffer : Type 0
 NumbersDiffer =
     (c : Config) (earlier later : List Event) (r s b : ℕ) → IsLegal c (earlier ++ later)
-    → proposal_number r (history earlier) ≡ Some b → proposal_number s (history (earlier ++ later)) ≡ Some b
+    → proposal_number r (history earlier) ≡ Some b
+    → proposal_number s (history (earlier ++ later)) ≡ Some b
     → (r ≡ s) × (leaderships r (history (earlier ++ later)) ≡ leaderships r (history earlier))
 
 -- the event is a put that landed at p
@@ -26,15 +28,20 @@ is_landing p _ _ = false
 -- a put lands at p only while its writer owns p, and before a `Drain` of p under this grant
 abbrev pub OnlyOwnersPut : Type 0
 OnlyOwnersPut =
-    (c : Config) (earlier later : List Event) (e : Event) (p : ℕ) → IsLegal c (earlier ++ e ∷ later) → is_landing p e.verb e.answer ≡ true
-    → (fence_owner p (history earlier) ≡ Some e.by) × (has (is_drain_of p) (since (is_grant_of p) (history earlier)) ≡ false)
+    (c : Config) (earlier later : List Event) (e : Event) (p : ℕ) → IsLegal c (earlier ++ e ∷ later)
+    → is_landing p e.verb e.answer ≡ true
+    → (fence_owner p (history earlier) ≡ Some e.by)
+    × (has (is_drain_of p) (since (is_grant_of p) (history earlier)) ≡ false)
 
 -- the minimum of a region never goes down
 abbrev pub MinimumRises : Type 0
-MinimumRises = (c : Config) (earlier later : List Event) (p : ℕ) → IsLegal c (earlier ++ later) → region_min p (history earlier) ≤ region_min p (history (earlier ++ later))
+MinimumRises =
+    (c : Config) (earlier later : List Event) (p : ℕ) → IsLegal c (earlier ++ later)
+    → region_min p (history earlier) ≤ region_min p (history (earlier ++ later))
 
 -- the numbers that stand in one slot never go down
 abbrev pub SlotNumbersRise : Type 0
 SlotNumbersRise =
     (c : Config) (earlier later : List Event) (p i : ℕ) (x y : ℕ × ℕ) → IsLegal c (earlier ++ later)
-    → slice_get (region_log p (history earlier)) i ≡ Some x → slice_get (region_log p (history (earlier ++ later))) i ≡ Some y → x.0 ≤ y.0
+    → slice_get (region_log p (history earlier)) i ≡ Some x
+    → slice_get (region_log p (history (earlier ++ later))) i ≡ Some y → x.0 ≤ y.0

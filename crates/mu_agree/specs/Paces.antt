@@ -22,12 +22,15 @@ pub record ReadsRecently (c : Config) (r : ℕ) (past : List Event) : Type 0 whe
 -- before each event that passes at least k came since the last that passes, where there is one
 abbrev pub IsSpaced : (Event → Bool) → ℕ → List Event → Type 0
 IsSpaced test k [] = Unit {0}
-IsSpaced test k (e ∷ past) = IsSpaced test k past × (test e ≡ true → has test past ≡ true → k ≤ length (since test past))
+IsSpaced test k (e ∷ past) =
+    IsSpaced test k past × (test e ≡ true → has test past ≡ true → k ≤ length (since test past))
 
 -- how many replication events came since something held after a step, or since the history began
 abbrev pub steps_since : (List Event → Event → Bool) → List Event → ℕ
 steps_since held [] = 0
-steps_since held (e ∷ past) = if held past e then 0 else (if is_replication past e then steps_since held past + 1 else steps_since held past)
+steps_since held (e ∷ past) =
+    if held past e then 0
+    else (if is_replication past e then steps_since held past + 1 else steps_since held past)
 
 -- at each moment fewer than k replication events came since the last step that passes
 abbrev pub IsRecentStep : (List Event → Event → Bool) → ℕ → List Event → Type 0
@@ -40,14 +43,20 @@ asks_or_rests c r test past e = is_replication past e && (test e || not (has_to_
 
 -- asks and fences were made recently at each moment
 pub record AsksRecently (c : Config) (r : ℕ) (past : List Event) : Type 0 where
-  pub asks : (p : ℕ) → p < c.replicas → IsRecentStep (asks_or_rests c r (is_asking p)) (17 * c.replicas + 1) past
-  pub fences : (p : ℕ) → p < c.replicas → IsRecentStep (asks_or_rests c r (is_fencing p)) (17 * c.replicas + 1) past
+  pub asks :
+      (p : ℕ) → p < c.replicas
+      → IsRecentStep (asks_or_rests c r (is_asking p)) (17 * c.replicas + 1) past
+  pub fences :
+      (p : ℕ) → p < c.replicas
+      → IsRecentStep (asks_or_rests c r (is_fencing p)) (17 * c.replicas + 1) past
 
 -- who reads recently at each moment, and no beat twice in a round, reads in time in each stretch
 abbrev pub RecentReadsAreInTime : Type 0
 RecentReadsAreInTime =
-    (c : Config) (r : ℕ) (past : List Event) → ReadsRecently c r past → ((q : ℕ) → IsSpaced (is_beat_read q) (4 * c.replicas + 43) past) → ReadsInTime c r past
+    (c : Config) (r : ℕ) (past : List Event) → ReadsRecently c r past
+    → ((q : ℕ) → IsSpaced (is_beat_read q) (4 * c.replicas + 43) past) → ReadsInTime c r past
 
 -- who asks recently at each moment asks in time in each stretch
 abbrev pub RecentAsksAreInTime : Type 0
-RecentAsksAreInTime = (c : Config) (r : ℕ) (past : List Event) → AsksRecently c r past → AsksInTime c r past
+RecentAsksAreInTime =
+    (c : Config) (r : ℕ) (past : List Event) → AsksRecently c r past → AsksInTime c r past

@@ -5,7 +5,7 @@ ghost use Rattle.mu_agree.specs.Agreement.{AtMostOneChosen, FuoIsChosen, FuoIsKe
 ghost use Rattle.mu_agree.specs.Journals.{BeginningsAreDiligent, ObeysOnce};
 ghost use Rattle.mu_agree.specs.Laws.{MinimumRises, NumbersDiffer, OnlyOwnersPut, SlotNumbersRise};
 ghost use Rattle.mu_agree.specs.Paces.{RecentAsksAreInTime, RecentReadsAreInTime};
-ghost use Rattle.mu_agree.specs.Possible.{PartsFind, PartsFit, PartsInSession, PartsKeep, PartsMarkOnce, PartsMove, PartsReadRight, PartsShorten, PartsStand};
+ghost use Rattle.mu_agree.specs.Possible.{PartsClimb, PartsCount, PartsFind, PartsFit, PartsHaveNext, PartsHold, PartsInSession, PartsKeep, PartsMarkOnce, PartsMove, PartsReach, PartsReadRight, PartsShorten, PartsShowMisses, PartsStand, PartsStayFilled, PartsStayPast};
 ghost use Rattle.mu_agree.specs.Sessions.{KnownInSession, KnownMarkedOnce, KnownStands, MarkedOnce, RowsComeFirst, RowsReadRight};
 
 /// No two leaderships have the same number.
@@ -138,7 +138,8 @@ pub fn log_within_fuo()
     ensures { LogWithinFuo }
 {}
 
-/// While a replica owns a region, its log reaches no further than the ring beyond the FUO that it read, or its own puts.
+/// While a replica owns a region, its log reaches no further than the ring beyond the FUO that it
+/// read, or its own puts.
 pub fn log_within_reach()
     ensures { LogWithinReach }
 {}
@@ -151,6 +152,46 @@ pub fn parts_move()
 /// While a possible part doesn't know some command, there is a position for it.
 pub fn parts_fit()
     ensures { PartsFit }
+{}
+
+/// Heads that a possible part reads never fall.
+pub fn parts_climb()
+    ensures { PartsClimb }
+{}
+
+/// The FUOs that a possible part reads are within the positions.
+pub fn parts_reach()
+    ensures { PartsReach }
+{}
+
+/// A fence that a possible part reads with a grant that it noted names it.
+pub fn parts_hold()
+    ensures { PartsHold }
+{}
+
+/// The numbers that a possible part reads and puts leave room for a next one.
+pub fn parts_count()
+    ensures { PartsCount }
+{}
+
+/// What a possible part saw past stays past.
+pub fn parts_stay_past()
+    ensures { PartsStayPast }
+{}
+
+/// Where a possible part saw an entry it sees no empty place again.
+pub fn parts_stay_filled()
+    ensures { PartsStayFilled }
+{}
+
+/// While a possible part doesn't know some command some client has a next batch.
+pub fn parts_have_next()
+    ensures { PartsHaveNext }
+{}
+
+/// After a put that missed each fence of its region shows that it closed or was granted on.
+pub fn parts_show_misses()
+    ensures { PartsShowMisses }
 {}
 
 /// Each beginning of a diligent journal is diligent.

@@ -1,15 +1,15 @@
 //! Judging a list of events.
-ghost use Rattle.std.specs.Prelude.{List, ◌≡◌, ◌+◌, ◌<◌, ◌^◌, ◌↔◌, IfOk, IsTrue, MatchOption, length};
+ghost use Rattle.std.specs.Prelude.{List, ◌≡◌, ◌↔◌, IfOk, IsTrue, MatchOption};
 ghost use Rattle.mu_model.specs.declared.event.Event.{Event};
 ghost use Rattle.mu_model.specs.Contents.{IsConfig};
 ghost use Rattle.mu_model.specs.Legal.{IsLegalHistory, MayFollow};
-ghost use Rattle.mu_parts.specs.Parts.{HoldsParts};
+ghost use Rattle.mu_parts.specs.Parts.{StandsForReplicas};
 ghost use Rattle.mu_regions.specs.Stands.{Stands};
-ghost use Rattle.mu_check.specs.Verdicts.{IsWrong, Judges};
+ghost use Rattle.mu_outcome.specs.Verdicts.{IsWrong, Judges};
 
-use crate::verdict::{Verdict, Wrong};
 use mu_model::{Answer, Config, Event, NoMemory};
-use mu_parts::Movers;
+use mu_outcome::{Verdict, Wrong};
+use mu_parts::Replicas;
 use mu_regions::Regions;
 use std::alloc::Global;
 
@@ -22,11 +22,15 @@ fn is_same(given: Answer, defined: Answer) -> bool
 
 /// What is wrong with an event after the legal history that the states of the regions and of the
 /// replicas stand for.
-fn fault(config: &Config, regions: &Regions, movers: &Movers, event: &Event) -> Option<Wrong>
+fn fault(config: &Config, regions: &Regions, replicas: &Replicas, event: &Event) -> Option<Wrong>
     requires { IsConfig config.now }
-    ensures { (past : List Event) → IsLegalHistory config.now past → Stands config.now past regions.now → HoldsParts config.now past movers.now → MatchOption result (MayFollow config.now past event.now) (λ cause. IsWrong config.now past event.now cause) }
+    ensures { (past : List Event) → IsLegalHistory config.now past
+        → Stands config.now past regions.now
+        → StandsForReplicas config.now past replicas.now
+        → MatchOption result (MayFollow config.now past event.now)
+        (λ cause. IsWrong config.now past event.now cause) }
 {
-    if !movers.allows(config, event.by, &event.verb) {
+    if !replicas.allows(config, event.by, &event.verb) {
         return Some(Wrong::NotAllowed);
     }
     let expected = regions.answer(event.by, &event.verb);
@@ -37,29 +41,28 @@ fn fault(config: &Config, regions: &Regions, movers: &Movers, event: &Event) -> 
     }
 }
 
-/// Judges a list of events. Takes all memory before it judges the first event, and about the same time
-/// for each event, however many there are.
+/// Judges a list of events. Takes all memory before it judges the first event, and about the same
+/// time for each event, however many there are.
 ///
 /// # Errors
 ///
 /// Want of memory alone.
 pub fn check(alloc: Global, config: &Config, events: &[Event]) -> Result<Verdict, NoMemory>
-    requires few { length events.now < 2 ^ 32 }
     requires config { IsConfig config.now }
     ensures { IfOk result (λ verdict. Judges config.now events.now verdict) }
 {
-    let mut regions = Regions::start(alloc, config)?;
-    let mut movers = Movers::start(alloc, config)?;
+    let mut regions = Regions::new(alloc, config)?;
+    let mut replicas = Replicas::new(alloc, config)?;
     for index in 0..events.len() {
         let event = events[index];
-        if let Some(cause) = fault(config, &regions, &movers, &event) {
+        if let Some(cause) = fault(config, &regions, &replicas, &event) {
             return Ok(Verdict::Illegal {
                 index: index as u32,
                 cause,
             });
         }
         regions.take(&event);
-        movers.take(config, &event);
+        replicas.take(config, &event);
     }
     Ok(Verdict::Legal)
 }

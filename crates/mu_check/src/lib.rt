@@ -2,10 +2,6 @@
 #![tactic(auto)]
 
 mod judging;
-mod verdict;
 
 pub use judging::check;
-pub use verdict::{Verdict, Wrong, at_most_one_verdict};
-
-#[cfg(test)]
-mod tests;
+pub use mu_outcome::{Verdict, Wrong, at_most_one_verdict};

@@ -1,5 +1,4 @@
-pub mod Entries
-pub mod FirstSteps
-pub mod Outcomes
+pub mod Branches
+pub mod Lists
 pub mod Rooms
-pub mod Turns
+pub mod Rounds

@@ -1,16 +1,17 @@
 //! A whole run: replicas over shared memory, what each has learnt, and how each ended.
 #![tactic(auto)]
 
-mod entries;
-mod first_rounds;
-mod follower;
-mod gate;
-mod leader;
-mod outcome;
+mod branch;
+mod leaving;
+mod lists;
 mod playing;
 mod room;
+mod rounds;
+mod running;
 
-pub use entries::commands_of;
-pub use gate::{Gate, OpenGate};
-pub use outcome::{AllCommits, Commit, Commits, Ends, Journals, Log, Logs, Outcome, Replies};
-pub use playing::replay;
+pub use mu_gate::{Gate, OpenGate};
+pub use mu_outcome::{
+    AllCommits, Commit, Commits, Ends, Journals, Log, Logs, Outcome, Replies, commands_of,
+};
+pub use playing::{replay, replay_over};
+pub use running::run;

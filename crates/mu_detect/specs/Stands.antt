@@ -21,7 +21,8 @@ pub record HoldsPeer (r q : ℕ) (mine : List Event) (peer : Peer) : Type 0 wher
 
 -- the same of each of n replicas
 abbrev pub HoldsPeers : ℕ → ℕ → List Event → List Peer → Type 0
-HoldsPeers n r mine peers = (q : ℕ) (peer : Peer) → q < n → slice_get peers q ≡ Some peer → HoldsPeer r q mine peer
+HoldsPeers n r mine peers =
+    (q : ℕ) (peer : Peer) → q < n → slice_get peers q ≡ Some peer → HoldsPeer r q mine peer
 
 -- the scores stand for the events of r, one of n replicas
 pub record StandsFor (n r : ℕ) (mine : List Event) (state : Scores) : Type 0 where
@@ -38,4 +39,7 @@ reads_count _ _ = false
 
 -- an event that reads no count of beats changes nothing of what the scores stand for
 abbrev pub OthersKeep : Type 0
-OthersKeep = (n r : ℕ) (mine : List Event) (state : Scores) (event : Event) → reads_count event.verb event.answer ≡ false → StandsFor n r mine state → StandsFor n r (event ∷ mine) state
+OthersKeep =
+    (n r : ℕ) (mine : List Event) (state : Scores) (event : Event)
+    → reads_count event.verb event.answer ≡ false → StandsFor n r mine state
+    → StandsFor n r (event ∷ mine) state

@@ -8,8 +8,6 @@
 ghost use Rattle.mu_detect.specs.Stands.{OthersKeep};
 
 mod scores;
-#[cfg(test)]
-mod tests;
 
 pub use scores::Scores;
 

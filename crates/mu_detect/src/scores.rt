@@ -34,7 +34,9 @@ pub struct Scores {
 impl Peer {
     /// What is held of it after one more read of its count of beats.
     fn after(self, count: u64) -> Peer
-        ensures { (r q : ℕ) → (mine : List Event) → (event : Event) → event.by ≡ r → event.verb ≡ Verb.ReadBeat q → event.answer ≡ Answer.Number count → HoldsPeer r q mine self → HoldsPeer r q (event ∷ mine) result }
+        ensures { (r q : ℕ) → (mine : List Event) → (event : Event) → event.by ≡ r
+            → event.verb ≡ Verb.ReadBeat q → event.answer ≡ Answer.Number count
+            → HoldsPeer r q mine self → HoldsPeer r q (event ∷ mine) result }
     {
         let (points, alive) = score_after(self.points, self.alive, count != self.count);
         Peer {
@@ -65,7 +67,9 @@ impl Scores {
 
     /// Takes a read of the count of beats of `q`. Of a replica that isn't there it takes nothing.
     pub fn take(&mut self, q: u8, count: u64)
-        ensures reads { (n r : ℕ) → (mine : List Event) → (event : Event) → event.by ≡ r → event.verb ≡ Verb.ReadBeat q → event.answer ≡ Answer.Number count → StandsFor n r mine self.old → StandsFor n r (event ∷ mine) self.new }
+        ensures reads { (n r : ℕ) → (mine : List Event) → (event : Event) → event.by ≡ r
+            → event.verb ≡ Verb.ReadBeat q → event.answer ≡ Answer.Number count
+            → StandsFor n r mine self.old → StandsFor n r (event ∷ mine) self.new }
         ensures beyond { self.old.replicas ≤ q → self.new ≡ self.old }
     {
         if q < self.replicas && q < 7 {
@@ -76,7 +80,8 @@ impl Scores {
 
     /// Takes the next event, of any kind and of any replica.
     pub fn note(&mut self, event: &Event)
-        ensures { (n r : ℕ) → (mine : List Event) → StandsFor n r mine self.old → StandsFor n r (event.now ∷ mine) self.new }
+        ensures { (n r : ℕ) → (mine : List Event) → StandsFor n r mine self.old
+            → StandsFor n r (event.now ∷ mine) self.new }
     {
         if let (Verb::ReadBeat(q), Answer::Number(count)) = (event.verb, event.answer) {
             if event.by == self.id {
@@ -87,7 +92,8 @@ impl Scores {
 
     /// The score of `q`, from 0 to 15. Of a replica that isn't there the answer says nothing.
     pub fn score(&self, q: u8) -> u8
-        ensures { (n r : ℕ) → (mine : List Event) → q < n → StandsFor n r mine self.now → result ≡ (score r q mine).0 }
+        ensures { (n r : ℕ) → (mine : List Event) → q < n → StandsFor n r mine self.now
+            → result ≡ (score r q mine).0 }
     {
         match self.peers.get(usize::from(q)) {
             Some(peer) => peer.points,
@@ -97,7 +103,8 @@ impl Scores {
 
     /// Whether `q` is held to be alive. Of a replica that isn't there the answer says nothing.
     pub fn alive(&self, q: u8) -> bool
-        ensures { (n r : ℕ) → (mine : List Event) → q < n → StandsFor n r mine self.now → result ≡ (score r q mine).1 }
+        ensures { (n r : ℕ) → (mine : List Event) → q < n → StandsFor n r mine self.now
+            → result ≡ (score r q mine).1 }
     {
         match self.peers.get(usize::from(q)) {
             Some(peer) => peer.alive,
@@ -108,7 +115,8 @@ impl Scores {
     /// Whom the scores name leader: the least of the own id and the others that are held to be
     /// alive.
     pub fn leader(&self) -> u8
-        ensures { (c : Config) → (r : ℕ) → (mine : List Event) → StandsFor c.replicas r mine self.now → result ≡ leader c r mine }
+        ensures { (c : Config) → (r : ℕ) → (mine : List Event) → StandsFor c.replicas r mine self.now
+            → result ≡ leader c r mine }
     {
         for q in 0..self.id {
             if self.alive(q) {

@@ -1,3 +1,4 @@
 pub mod EventLines
 pub mod EventWords
 pub mod Sides
+pub mod Spelled

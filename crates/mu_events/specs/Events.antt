@@ -12,22 +12,28 @@ use Rattle.mu_model.specs.declared.event.Verb.{Verb}
 use Rattle.mu_text.specs.Numbers.{below, of_8, of_16, of_32, of_64, wide_number_of}
 
 -- a thing made of several, where all are there
-abbrev pub of_two : {A : Type 0} {B : Type 0} {C : Type 0} → (A → B → C) → Option A → Option B → Option C
+abbrev pub of_two :
+    {A : Type 0} {B : Type 0} {C : Type 0} → (A → B → C) → Option A → Option B → Option C
 of_two make (Some a) (Some b) = Some (make a b)
 of_two make _ _ = None
 
-abbrev pub of_three : {A : Type 0} {B : Type 0} {C : Type 0} {D : Type 0} → (A → B → C → D) → Option A → Option B → Option C → Option D
+abbrev pub of_three :
+    {A : Type 0} {B : Type 0} {C : Type 0} {D : Type 0} → (A → B → C → D) → Option A → Option B
+    → Option C → Option D
 of_three make (Some a) (Some b) (Some c) = Some (make a b c)
 of_three make _ _ _ = None
 
-abbrev pub of_four : {A : Type 0} {B : Type 0} {C : Type 0} {D : Type 0} {E : Type 0} → (A → B → C → D → E) → Option A → Option B → Option C → Option D → Option E
+abbrev pub of_four :
+    {A : Type 0} {B : Type 0} {C : Type 0} {D : Type 0} {E : Type 0} → (A → B → C → D → E)
+    → Option A → Option B → Option C → Option D → Option E
 of_four make (Some a) (Some b) (Some c) (Some d) = Some (make a b c d)
 of_four make _ _ _ _ = None
 
 -- what a writer is about to write: `min`, or `place S`
 abbrev pub target_of : List (List ℕ) → Option Target
 target_of (word ∷ []) = if bytes_eq word (codes "min") then Some target.Min else None
-target_of (word ∷ place ∷ []) = if bytes_eq word (codes "place") then option_map target.Place (of_16 place) else None
+target_of (word ∷ place ∷ []) =
+    if bytes_eq word (codes "place") then option_map target.Place (of_16 place) else None
 target_of _ = None
 
 -- a verb of one word
@@ -73,7 +79,8 @@ verb_of_three name a b c =
 -- a verb with four numbers
 abbrev pub verb_of_four : List ℕ → List ℕ → List ℕ → List ℕ → List ℕ → Option Verb
 verb_of_four name a b c d =
-    if bytes_eq name (codes "putslot") then of_four Verb.PutSlot (of_8 a) (of_16 b) (of_32 c) (of_16 d) else None
+    if bytes_eq name (codes "putslot")
+    then of_four Verb.PutSlot (of_8 a) (of_16 b) (of_32 c) (of_16 d) else None
 
 -- a verb and its words
 abbrev pub verb_of : List (List ℕ) → Option Verb
@@ -97,13 +104,16 @@ state_of word =
 
 -- what a fence names: `none`, or what a writer is about to write
 abbrev pub named_of : List (List ℕ) → Option Target
-named_of (word ∷ []) = if bytes_eq word (codes "none") then Some target.None else target_of (word ∷ [])
+named_of (word ∷ []) =
+    if bytes_eq word (codes "none") then Some target.None else target_of (word ∷ [])
 named_of words = target_of words
 
 -- a fence: the owner, the grant, the state and what it names
 abbrev pub fence_of : List (List ℕ) → Option Fence
 fence_of (owner ∷ grant ∷ state ∷ named) =
-    of_four (λ owner grant closing named. record { owner = owner; grant = grant; closing = closing; target = named })
+    of_four
+    (λ owner grant closing named. record
+    { owner = owner; grant = grant; closing = closing; target = named })
     (owner_of owner) (of_32 grant) (state_of state) (named_of named)
 fence_of _ = None
 
@@ -139,12 +149,15 @@ answer_of (word ∷ next ∷ words) = answer_of_many word (next ∷ words)
 -- the words before and after the first `=`
 abbrev pub sides : List (List ℕ) → Option (List (List ℕ) × List (List ℕ))
 sides [] = None
-sides (word ∷ words) = if bytes_eq word (codes "=") then Some ([], words) else option_map (λ parts. (word ∷ parts.0, parts.1)) (sides words)
+sides (word ∷ words) =
+    if bytes_eq word (codes "=") then Some ([], words)
+    else option_map (λ parts. (word ∷ parts.0, parts.1)) (sides words)
 
 -- the event of one of so many replicas that these words before and after a `=` spell
 abbrev pub event_between : ℕ → Option (List (List ℕ) × List (List ℕ)) → Option Event
 event_between replicas (Some (by ∷ verb, answer)) =
-    of_three (λ by verb answer. record { by = by; verb = verb; answer = answer }) (below replicas (wide_number_of by)) (verb_of verb) (answer_of answer)
+    of_three (λ by verb answer. record { by = by; verb = verb; answer = answer })
+    (below replicas (wide_number_of by)) (verb_of verb) (answer_of answer)
 event_between replicas _ = None
 
 -- the event that the words of a line spell, if they spell one

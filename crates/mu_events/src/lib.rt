@@ -1,9 +1,10 @@
-//! Events as lines of text.
+//! Events as lines of text: their reading and their printing.
 #![tactic(auto)]
 
+mod answers;
+mod event_lines;
 mod events;
 
+pub use answers::push_answer;
+pub use event_lines::{event_line, events_are_read_back};
 pub use events::event;
-
-#[cfg(test)]
-mod tests;

@@ -1,5 +1,6 @@
--- The order in which a replica calls the places of its cycle, as far as the host goes, and how soon the host grants.
--- Turns count from 0, and each is one event: the even ones are background turns and go round the cycle, the odd ones are replication turns.
+-- The order in which a replica calls the places of its cycle, as far as the host goes, and how soon
+-- the host grants. Turns count from 0, and each is one event: the even ones are background turns
+-- and go round the cycle, the odd ones are replication turns.
 use Rattle.std.specs.Prelude.{Bool, List, None, Some, [], false, length, true, ℕ, ◌%◌, ◌*◌, ◌+◌, ◌/◌, ◌<◌, ◌∷◌, ◌≡◌, ◌≤◌, ◌⊎◌}
 use Rattle.std.specs.declared.option.Option.{Option}
 use Rattle.mu_model.specs.declared.config.Config.{Config}
@@ -13,8 +14,8 @@ use Rattle.mu_model.specs.Steps.{is_ask_read, is_granting}
 use Rattle.mu_model.specs.Stretches.{IsStretch, is_odd}
 use Rattle.mu_grant.specs.Stands.{Gives}
 
--- how many places the cycle has: a beat, the reads of the other beats, those of the asks of each replica,
--- four of the host, and the replayer's
+-- how many places the cycle has: a beat, the reads of the other beats, those of the asks of each
+-- replica, four of the host, and the replayer's
 abbrev pub places : Config → ℕ
 places c = 2 * c.replicas + 22
 
@@ -47,11 +48,13 @@ pub record MakesDue (c : Config) (r : ℕ) (past : List Event) (d : ℕ) (verb :
   pub idle : due ≡ None → is_host_verb verb ≡ false
 
 -- the event, whatever its answer, is one that r may make at the turn after these:
--- at a place of the host what is due there, verbs of the host nowhere else, and asks read only at their places
+-- at a place of the host what is due there, verbs of the host nowhere else, and asks read only at
+-- their places
 pub record FollowsCycle (c : Config) (r : ℕ) (past : List Event) (e : Event) : Type 0 where
   pub own : e.by ≡ r
   pub host : (d : ℕ) → d < 4 → IsAtPlace c (host_place c d) past → MakesDue c r past d e.verb
-  pub nowhere_else : is_host_verb e.verb ≡ true → (d : ℕ) × (d < 4) × IsAtPlace c (host_place c d) past
+  pub nowhere_else :
+      is_host_verb e.verb ≡ true → (d : ℕ) × (d < 4) × IsAtPlace c (host_place c d) past
   pub asks : (w : ℕ) → e.verb ≡ Verb.ReadAsk w → (w < c.replicas) × IsAtPlace c (ask_place c w) past
 
 -- the places were called in the cycle's order throughout the journal
@@ -59,37 +62,53 @@ abbrev pub InCycleOrder : Config → ℕ → List Event → Type 0
 InCycleOrder c r [] = Unit {0}
 InCycleOrder c r (e ∷ past) = InCycleOrder c r past × FollowsCycle c r past e
 
--- a read of asks that leaves w unserved is followed by a grant at the next place of grants at the latest:
--- that is 2 (n - w) + 6 events on, where there are n replicas
+-- a read of asks that leaves w unserved is followed by a grant at the next place of grants at the
+-- latest: that is 2 (n - w) + 6 events on, where there are n replicas
 abbrev pub GrantsInTheRound : Type 0
 GrantsInTheRound =
-    (c : Config) (r : ℕ) (past : List Event) → r < c.replicas → length past ≤ c.budget → InCycleOrder c r past
-    → (w : ℕ) (e : Event) (window older : List Event) → IsStretch past window (e ∷ older) → is_ask_read w e ≡ true → has_unserved_ask r (e ∷ older) w ≡ true
+    (c : Config) (r : ℕ) (past : List Event) → r < c.replicas → length past ≤ c.budget
+    → InCycleOrder c r past
+    → (w : ℕ) (e : Event) (window older : List Event) → IsStretch past window (e ∷ older)
+    → is_ask_read w e ≡ true → has_unserved_ask r (e ∷ older) w ≡ true
     → 2 * c.replicas + 6 ≤ length window + 2 * w → has is_granting window ≡ true
 
--- a host whose places are called in the cycle's order keeps the grant pace, whatever each `Close` found
+-- a host whose places are called in the cycle's order keeps the grant pace, whatever each `Close`
+-- found
 abbrev pub GrantsWithinTheCycle : Type 0
-GrantsWithinTheCycle = (c : Config) (r : ℕ) (past : List Event) → r < c.replicas → length past ≤ c.budget → InCycleOrder c r past → GrantsInTime c r past
+GrantsWithinTheCycle =
+    (c : Config) (r : ℕ) (past : List Event) → r < c.replicas → length past ≤ c.budget
+    → InCycleOrder c r past → GrantsInTime c r past
 
 -- at a place of the host an event follows the cycle that makes what is due there;
 -- where nothing is due, one that is no verb of the host and reads no asks
 abbrev pub DueFollows : Type 0
 DueFollows =
-    (c : Config) (r d : ℕ) (past : List Event) (e : Event) (due : Option Verb) → e.by ≡ r → d < 4 → IsAtPlace c (host_place c d) past → Gives c r past d due
-    → ((wanted : Verb) → due ≡ Some wanted → e.verb ≡ wanted) → (due ≡ None → (is_host_verb e.verb ≡ false) × ((w : ℕ) → e.verb ≡ Verb.ReadAsk w → ⊥)) → FollowsCycle c r past e
+    (c : Config) (r d : ℕ) (past : List Event) (e : Event) (due : Option Verb) → e.by ≡ r → d < 4
+    → IsAtPlace c (host_place c d) past → Gives c r past d due
+    → ((wanted : Verb) → due ≡ Some wanted → e.verb ≡ wanted)
+    → (due ≡ None → (is_host_verb e.verb ≡ false) × ((w : ℕ) → e.verb ≡ Verb.ReadAsk w → ⊥))
+    → FollowsCycle c r past e
 
 -- after these events comes a turn at no place of the host: a replication turn, or another place
 abbrev pub IsElsewhere : Config → List Event → Type 0
-IsElsewhere c past = (is_odd (length past) ≡ true) ⊎ ((length past / 2 % places c < host_place c 0) ⊎ (host_place c 4 ≤ length past / 2 % places c))
+IsElsewhere c past =
+    (is_odd (length past) ≡ true)
+    ⊎ ((length past / 2 % places c < host_place c 0)
+    ⊎ (host_place c 4 ≤ length past / 2 % places c))
 
--- elsewhere an event follows the cycle that is no verb of the host, and reads asks at their place if at all
+-- elsewhere an event follows the cycle that is no verb of the host, and reads asks at their place
+-- if at all
 abbrev pub OtherFollows : Type 0
 OtherFollows =
-    (c : Config) (r : ℕ) (past : List Event) (e : Event) → e.by ≡ r → IsElsewhere c past → is_host_verb e.verb ≡ false
-    → ((w : ℕ) → e.verb ≡ Verb.ReadAsk w → (w < c.replicas) × IsAtPlace c (ask_place c w) past) → FollowsCycle c r past e
+    (c : Config) (r : ℕ) (past : List Event) (e : Event) → e.by ≡ r → IsElsewhere c past
+    → is_host_verb e.verb ≡ false
+    → ((w : ℕ) → e.verb ≡ Verb.ReadAsk w → (w < c.replicas) × IsAtPlace c (ask_place c w) past)
+    → FollowsCycle c r past e
 
 -- after every journal in the cycle's order some verb keeps the order, whatever it is answered
 abbrev pub OrderGoesOn : Type 0
 OrderGoesOn =
     (c : Config) (r : ℕ) (past : List Event) → r < c.replicas → InCycleOrder c r past
-    → (verb : Verb) × ((answer : Answer) → InCycleOrder c r (record { by = r; verb = verb; answer = answer } ∷ past))
+    → (verb : Verb)
+    × ((answer : Answer)
+    → InCycleOrder c r (record { by = r; verb = verb; answer = answer } ∷ past))

@@ -25,7 +25,8 @@ pub record HoldsGuest (r w : ℕ) (mine : List Event) (guest : Guest) : Type 0 w
 
 -- the same of every replica
 abbrev pub HoldsGuests : ℕ → List Event → List Guest → Type 0
-HoldsGuests r mine guests = (w : ℕ) (guest : Guest) → slice_get guests w ≡ Some guest → HoldsGuest r w mine guest
+HoldsGuests r mine guests =
+    (w : ℕ) (guest : Guest) → slice_get guests w ≡ Some guest → HoldsGuest r w mine guest
 
 -- no word was drained since the last `Close` before it was loaded
 abbrev pub LookedFirst : ℕ → List Event → Type 0
@@ -55,7 +56,8 @@ is_of_place place _ = false
 
 -- at a place a verb of it is given that is allowed, and none exactly where none is allowed
 pub record Gives (c : Config) (r : ℕ) (mine : List Event) (place : ℕ) (due : Option Verb) : Type 0 where
-  pub given : (verb : Verb) → due ≡ Some verb → (is_of_place place verb ≡ true) × Allowed c r mine verb
+  pub given :
+      (verb : Verb) → due ≡ Some verb → (is_of_place place verb ≡ true) × Allowed c r mine verb
   pub none : due ≡ None → (verb : Verb) → is_of_place place verb ≡ true → Allowed c r mine verb → ⊥
 
 -- the answer is one of a verb of the host: a `Close` sees a fence, and the others are done
@@ -83,4 +85,22 @@ is_noted _ _ = false
 
 -- an event that is none of these changes nothing of what the state stands for
 abbrev pub OthersKeep : Type 0
-OthersKeep = (n r : ℕ) (mine : List Event) (state : Grants) (event : Event) → is_noted event.verb event.answer ≡ false → StandsFor n r mine state → StandsFor n r (event ∷ mine) state
+OthersKeep =
+    (n r : ℕ) (mine : List Event) (state : Grants) (event : Event)
+    → is_noted event.verb event.answer ≡ false → StandsFor n r mine state
+    → StandsFor n r (event ∷ mine) state
+
+-- the verb reads asks, or is one of a host
+abbrev pub is_host_step : Verb → Bool
+is_host_step (Verb.ReadAsk w) = true
+is_host_step Verb.Close = true
+is_host_step Verb.LookTarget = true
+is_host_step Verb.Drain = true
+is_host_step (Verb.Grant w) = true
+is_host_step _ = false
+
+-- the replica whose asks are read, or that is granted the region
+abbrev pub guest_named : Verb → Option ℕ
+guest_named (Verb.ReadAsk w) = Some w
+guest_named (Verb.Grant w) = Some w
+guest_named _ = None

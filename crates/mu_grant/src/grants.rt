@@ -9,7 +9,7 @@ ghost use Rattle.mu_model.specs.Histories.{all_below, or_zero};
 ghost use Rattle.mu_model.specs.Leaderships.{owner_is};
 ghost use Rattle.mu_model.specs.Regions.{fence_closing, fence_owner};
 ghost use Rattle.mu_model.specs.Serving.{drained_since_close, has_unserved_ask, is_least_waiting, looked_since_close, must_drain, seen_asks, served, served_as_owner, served_by_grant};
-ghost use Rattle.mu_grant.specs.Stands.{close_named, Gives, HoldsGuest, HoldsGuests, IsDue, StandsFor};
+ghost use Rattle.mu_grant.specs.Stands.{close_named, Gives, HoldsGuest, HoldsGuests, IsDue, StandsFor, guest_named, is_host_step};
 
 use mu_model::{Answer, Event, Target, Verb};
 
@@ -74,7 +74,8 @@ fn owner_after(held: Option<u8>, r: u8, event: &Event) -> Option<u8>
 
 /// Whether a `Close` is pending after the event.
 fn closing_after(held: bool, r: u8, event: &Event) -> bool
-    ensures { (mine : List Event) → held ≡ fence_closing r mine → result ≡ fence_closing r (event.now ∷ mine) }
+    ensures { (mine : List Event) → held ≡ fence_closing r mine
+        → result ≡ fence_closing r (event.now ∷ mine) }
 {
     match event.verb {
         Verb::Grant(_) => held && event.by != r,
@@ -101,7 +102,8 @@ fn named_after(held: bool, r: u8, event: &Event) -> bool
 
 /// Whether a `LookTarget` came since the last `Close`, after the event.
 fn looked_after(held: bool, r: u8, event: &Event) -> bool
-    ensures { (mine : List Event) → held ≡ looked_since_close r mine → result ≡ looked_since_close r (event.now ∷ mine) }
+    ensures { (mine : List Event) → held ≡ looked_since_close r mine
+        → result ≡ looked_since_close r (event.now ∷ mine) }
 {
     match event.verb {
         Verb::Close => held && event.by != r,
@@ -112,7 +114,8 @@ fn looked_after(held: bool, r: u8, event: &Event) -> bool
 
 /// Whether a `Drain` came since the last `Close`, after the event.
 fn drained_after(held: bool, r: u8, event: &Event) -> bool
-    ensures { (mine : List Event) → held ≡ drained_since_close r mine → result ≡ drained_since_close r (event.now ∷ mine) }
+    ensures { (mine : List Event) → held ≡ drained_since_close r mine
+        → result ≡ drained_since_close r (event.now ∷ mine) }
 {
     match event.verb {
         Verb::Close => held && event.by != r,
@@ -139,7 +142,8 @@ fn seen_after(held: u64, r: u8, w: usize, event: &Event) -> u64
 
 /// The asks of `w` that the host had seen when it last granted to `w`, after the event.
 fn at_grant_after(held: u64, seen: u64, r: u8, w: usize, event: &Event) -> u64
-    ensures { (mine : List Event) → seen ≡ seen_asks r w mine → held ≡ served_by_grant r w mine → result ≡ served_by_grant r w (event.now ∷ mine) }
+    ensures { (mine : List Event) → seen ≡ seen_asks r w mine → held ≡ served_by_grant r w mine
+        → result ≡ served_by_grant r w (event.now ∷ mine) }
 {
     match event.verb {
         Verb::Grant(q) => {
@@ -156,7 +160,10 @@ fn at_grant_after(held: u64, seen: u64, r: u8, w: usize, event: &Event) -> u64
 /// The asks of `w` that the host saw last while `w` was owner and no `Close` was pending, after the
 /// event: `serving` says whether this is so before it.
 fn as_owner_after(held: u64, serving: bool, r: u8, w: usize, event: &Event) -> u64
-    ensures { (mine : List Event) → serving ≡ (owner_is w (fence_owner r mine) && not (fence_closing r mine)) → held ≡ or_zero (served_as_owner r w mine) → result ≡ or_zero (served_as_owner r w (event.now ∷ mine)) }
+    ensures { (mine : List Event)
+        → serving ≡ (owner_is w (fence_owner r mine) && not (fence_closing r mine))
+        → held ≡ or_zero (served_as_owner r w mine)
+        → result ≡ or_zero (served_as_owner r w (event.now ∷ mine)) }
 {
     match (event.verb, event.answer) {
         (Verb::ReadAsk(q), Answer::Number(x)) => {
@@ -174,7 +181,9 @@ impl Guest {
     /// The guest `w` of `r` after the event: `serving` says whether `w` was owner and no `Close`
     /// was pending before it.
     fn after(self, serving: bool, r: u8, w: usize, event: &Event) -> Guest
-        ensures { (mine : List Event) → serving ≡ (owner_is w (fence_owner r mine) && not (fence_closing r mine)) → HoldsGuest r w mine self → HoldsGuest r w (event.now ∷ mine) result }
+        ensures { (mine : List Event)
+            → serving ≡ (owner_is w (fence_owner r mine) && not (fence_closing r mine))
+            → HoldsGuest r w mine self → HoldsGuest r w (event.now ∷ mine) result }
     {
         Guest {
             seen: seen_after(self.seen, r, w, event),
@@ -185,18 +194,52 @@ impl Guest {
 
     /// Whether the guest has an ask that was not served by a grant nor as owner.
     fn has_unserved(&self) -> bool
-        ensures { (r : ℕ) → (w : ℕ) → (mine : List Event) → HoldsGuest r w mine self.now → result ≡ nat_lt (served r w mine) (seen_asks r w mine) }
+        ensures { (r : ℕ) → (w : ℕ) → (mine : List Event) → HoldsGuest r w mine self.now
+            → result ≡ nat_lt (served r w mine) (seen_asks r w mine) }
     {
         self.at_grant.max(self.as_owner) < self.seen
     }
 }
 
-/// Takes the event at each guest.
-fn take_at_guests(guests: &mut [Guest], owner: Option<u8>, closing: bool, r: u8, event: &Event)
-    ensures { (mine : List Event) → owner ≡ fence_owner r mine → closing ≡ fence_closing r mine → HoldsGuests r mine guests.old → HoldsGuests r (event.now ∷ mine) guests.new }
+/// Whether the verb reads asks, or is one of a host: no other changes what a host holds.
+fn is_of_host(verb: &Verb) -> bool
+    ensures { result ≡ is_host_step verb.now }
 {
-    for (w, guest) in guests.iter_mut().enumerate() {
-        *guest = guest.after(is_serving(w, owner, closing), r, w, event);
+    match *verb {
+        Verb::ReadAsk(_) | Verb::Close | Verb::LookTarget | Verb::Drain | Verb::Grant(_) => true,
+        _ => false,
+    }
+}
+
+/// The guest whose asks are read, or who is granted the region.
+fn guest_of(verb: &Verb) -> Option<u8>
+    ensures { result ≡ guest_named verb.now }
+{
+    match *verb {
+        Verb::ReadAsk(w) | Verb::Grant(w) => Some(w),
+        _ => None,
+    }
+}
+
+/// Takes the event at the guest that it names.
+fn take_at(guests: &mut [Guest], w: usize, owner: Option<u8>, closing: bool, r: u8, event: &Event)
+    ensures { (mine : List Event) → owner ≡ fence_owner r mine → closing ≡ fence_closing r mine
+        → guest_named event.now.verb ≡ Some w → HoldsGuests r mine guests.old
+        → HoldsGuests r (event.now ∷ mine) guests.new }
+{
+    if w < guests.len() {
+        guests[w] = guests[w].after(is_serving(w, owner, closing), r, w, event);
+    }
+}
+
+/// Takes the event at the guest that it names, if any.
+fn take_at_guests(guests: &mut [Guest], owner: Option<u8>, closing: bool, r: u8, event: &Event)
+    ensures { (mine : List Event) → owner ≡ fence_owner r mine → closing ≡ fence_closing r mine
+        → HoldsGuests r mine guests.old → HoldsGuests r (event.now ∷ mine) guests.new }
+{
+    match guest_of(&event.verb) {
+        Some(w) => take_at(guests, usize::from(w), owner, closing, r, event),
+        None => {}
     }
 }
 
@@ -245,7 +288,21 @@ impl Grants {
     /// Takes the next event of the replica, of any kind. It may be a `Drain` only where a
     /// `LookTarget` came since the last `Close`, as it does wherever a drain is allowed.
     pub fn note(&mut self, event: &Event)
-        ensures { (n r : ℕ) → (mine : List Event) → (event.now.verb ≡ Verb.Drain → looked_since_close r mine ≡ true) → StandsFor n r mine self.old → StandsFor n r (event.now ∷ mine) self.new }
+        ensures { (n r : ℕ) → (mine : List Event)
+            → (event.now.verb ≡ Verb.Drain → looked_since_close r mine ≡ true)
+            → StandsFor n r mine self.old → StandsFor n r (event.now ∷ mine) self.new }
+    {
+        if !is_of_host(&event.verb) {
+            return;
+        }
+        self.note_own(event);
+    }
+
+    /// Takes a read of asks, or a verb of the host.
+    fn note_own(&mut self, event: &Event)
+        ensures { (n r : ℕ) → (mine : List Event)
+            → (event.now.verb ≡ Verb.Drain → looked_since_close r mine ≡ true)
+            → StandsFor n r mine self.old → StandsFor n r (event.now ∷ mine) self.new }
     {
         let r = self.id;
         take_at_guests(&mut self.guests, self.owner, self.closing, r, event);
@@ -258,7 +315,9 @@ impl Grants {
 
     /// Takes a read of how often `w` asked for the region.
     pub fn note_ask(&mut self, w: u8, count: u64)
-        ensures { (n r : ℕ) → (mine : List Event) → (event : Event) → event.by ≡ r → event.verb ≡ Verb.ReadAsk w → event.answer ≡ Answer.Number count → StandsFor n r mine self.old → StandsFor n r (event ∷ mine) self.new }
+        ensures { (n r : ℕ) → (mine : List Event) → (event : Event) → event.by ≡ r
+            → event.verb ≡ Verb.ReadAsk w → event.answer ≡ Answer.Number count
+            → StandsFor n r mine self.old → StandsFor n r (event ∷ mine) self.new }
     {
         let by = self.id;
         self.note(&Event {
@@ -270,7 +329,8 @@ impl Grants {
 
     /// Whether `w`, which is not the owner, has an ask that was not served.
     fn is_waiting(&self, w: u8) -> bool
-        ensures { (n r : ℕ) → (mine : List Event) → w < n → StandsFor n r mine self.now → result ≡ has_unserved_ask r mine w }
+        ensures { (n r : ℕ) → (mine : List Event) → w < n → StandsFor n r mine self.now
+            → result ≡ has_unserved_ask r mine w }
     {
         let w = usize::from(w);
         match self.guests.get(w) {
@@ -281,8 +341,10 @@ impl Grants {
 
     /// The least replica that waits, if any.
     fn first_waiting(&self) -> Option<u8>
-        ensures found { (n r w : ℕ) → (mine : List Event) → StandsFor n r mine self.now → result ≡ Some w → (w < n) × (is_least_waiting r mine w ≡ true) }
-        ensures nobody { (n r : ℕ) → (mine : List Event) → StandsFor n r mine self.now → result ≡ None → all_below n (λ w. not (has_unserved_ask r mine w)) ≡ true }
+        ensures found { (n r w : ℕ) → (mine : List Event) → StandsFor n r mine self.now → result ≡ Some w
+            → (w < n) × (is_least_waiting r mine w ≡ true) }
+        ensures nobody { (n r : ℕ) → (mine : List Event) → StandsFor n r mine self.now → result ≡ None
+            → all_below n (λ w. not (has_unserved_ask r mine w)) ≡ true }
     {
         for w in 0..self.replicas {
             if self.is_waiting(w) {
@@ -294,28 +356,32 @@ impl Grants {
 
     /// Whether a `Close` is pending whose answer names a word.
     fn has_to_drain(&self) -> bool
-        ensures { (n r : ℕ) → (mine : List Event) → StandsFor n r mine self.now → result ≡ must_drain r mine }
+        ensures { (n r : ℕ) → (mine : List Event) → StandsFor n r mine self.now
+            → result ≡ must_drain r mine }
     {
         self.closing && self.named
     }
 
     /// Whether the host may close its fence: none is pending, and a replica waits.
     pub fn may_close(&self) -> bool
-        ensures { (c : Config) → (r : ℕ) → (mine : List Event) → StandsFor c.replicas r mine self.now → (IsTrue result ↔ Needs c r mine Verb.Close) }
+        ensures { (c : Config) → (r : ℕ) → (mine : List Event) → StandsFor c.replicas r mine self.now
+            → (IsTrue result ↔ Needs c r mine Verb.Close) }
     {
         !self.closing && self.first_waiting().is_some()
     }
 
     /// Whether the host may load the word that its closed fence names.
     pub fn may_look_target(&self) -> bool
-        ensures { (c : Config) → (r : ℕ) → (mine : List Event) → StandsFor c.replicas r mine self.now → (IsTrue result ↔ Needs c r mine Verb.LookTarget) }
+        ensures { (c : Config) → (r : ℕ) → (mine : List Event) → StandsFor c.replicas r mine self.now
+            → (IsTrue result ↔ Needs c r mine Verb.LookTarget) }
     {
         self.has_to_drain() && !self.looked
     }
 
     /// Whether the host may drain the word that it loaded.
     pub fn may_drain(&self) -> bool
-        ensures { (c : Config) → (r : ℕ) → (mine : List Event) → StandsFor c.replicas r mine self.now → (IsTrue result ↔ Needs c r mine Verb.Drain) }
+        ensures { (c : Config) → (r : ℕ) → (mine : List Event) → StandsFor c.replicas r mine self.now
+            → (IsTrue result ↔ Needs c r mine Verb.Drain) }
     {
         self.has_to_drain() && self.looked && !self.drained
     }
@@ -323,15 +389,20 @@ impl Grants {
     /// Whether the host may grant its region: a `Close` is pending, and the word that it found
     /// named is drained.
     fn is_free(&self) -> bool
-        ensures { (n r : ℕ) → (mine : List Event) → StandsFor n r mine self.now → (IsTrue result ↔ (fence_closing r mine ≡ true) × (must_drain r mine ≡ true → drained_since_close r mine ≡ true)) }
+        ensures { (n r : ℕ) → (mine : List Event) → StandsFor n r mine self.now
+            → (IsTrue result
+            ↔ (fence_closing r mine ≡ true)
+            × (must_drain r mine ≡ true → drained_since_close r mine ≡ true)) }
     {
         self.closing && (!self.has_to_drain() || self.drained)
     }
 
     /// Whom the host may grant its region to, if anybody.
     fn next_owner(&self) -> Option<u8>
-        ensures found { (c : Config) → (r w : ℕ) → (mine : List Event) → StandsFor c.replicas r mine self.now → result ≡ Some w → Needs c r mine (Verb.Grant w) }
-        ensures only { (c : Config) → (r w : ℕ) → (mine : List Event) → StandsFor c.replicas r mine self.now → Needs c r mine (Verb.Grant w) → result ≡ Some w }
+        ensures found { (c : Config) → (r w : ℕ) → (mine : List Event) → StandsFor c.replicas r mine self.now
+            → result ≡ Some w → Needs c r mine (Verb.Grant w) }
+        ensures only { (c : Config) → (r w : ℕ) → (mine : List Event) → StandsFor c.replicas r mine self.now
+            → Needs c r mine (Verb.Grant w) → result ≡ Some w }
     {
         if self.is_free() {
             self.first_waiting()
@@ -342,7 +413,8 @@ impl Grants {
 
     /// Whether the host may grant its region to `w`.
     pub fn may_grant(&self, w: u8) -> bool
-        ensures { (c : Config) → (r : ℕ) → (mine : List Event) → StandsFor c.replicas r mine self.now → (IsTrue result ↔ Needs c r mine (Verb.Grant w)) }
+        ensures { (c : Config) → (r : ℕ) → (mine : List Event) → StandsFor c.replicas r mine self.now
+            → (IsTrue result ↔ Needs c r mine (Verb.Grant w)) }
     {
         match self.next_owner() {
             Some(q) => q == w,
@@ -353,7 +425,8 @@ impl Grants {
     /// The verb of a place that the host may make next, if any: 0 is `Close`, 1 is `LookTarget`, 2
     /// is `Drain`, 3 is `Grant`. There are no other places.
     pub fn due(&self, place: u8) -> Option<Verb>
-        ensures { (c : Config) → (r : ℕ) → (mine : List Event) → StandsFor c.replicas r mine self.now → length mine < c.budget → Gives c r mine place result }
+        ensures { (c : Config) → (r : ℕ) → (mine : List Event) → StandsFor c.replicas r mine self.now
+            → length mine < c.budget → Gives c r mine place result }
     {
         match place {
             0 => given(self.may_close(), Verb::Close),
@@ -366,7 +439,9 @@ impl Grants {
 
     /// The verb that was due, where an answer to it came.
     fn answered(&self, answer: Answer) -> Option<Verb>
-        ensures { (c : Config) → (r : ℕ) → (mine : List Event) → (event : Event) → StandsFor c.replicas r mine self.now → IsDue c r mine event → event.answer ≡ answer → result ≡ Some event.verb }
+        ensures { (c : Config) → (r : ℕ) → (mine : List Event) → (event : Event)
+            → StandsFor c.replicas r mine self.now → IsDue c r mine event → event.answer ≡ answer
+            → result ≡ Some event.verb }
     {
         match answer {
             Answer::Seen(_) => Some(Verb::Close),
@@ -384,7 +459,9 @@ impl Grants {
 
     /// Takes the answer of the verb that was due and is made.
     pub fn take(&mut self, answer: Answer)
-        ensures { (c : Config) → (r : ℕ) → (mine : List Event) → (event : Event) → IsDue c r mine event → event.answer ≡ answer → StandsFor c.replicas r mine self.old → StandsFor c.replicas r (event ∷ mine) self.new }
+        ensures { (c : Config) → (r : ℕ) → (mine : List Event) → (event : Event) → IsDue c r mine event
+            → event.answer ≡ answer → StandsFor c.replicas r mine self.old
+            → StandsFor c.replicas r (event ∷ mine) self.new }
     {
         if let Some(verb) = self.answered(answer) {
             let by = self.id;

@@ -8,8 +8,6 @@ ghost use Rattle.mu_grant.specs.Pace.{DueFollows, GrantsInTheRound, GrantsWithin
 ghost use Rattle.mu_grant.specs.Stands.{OthersKeep};
 
 mod grants;
-#[cfg(test)]
-mod tests;
 
 pub use grants::Grants;
 

@@ -56,9 +56,6 @@ setting_advances name low high cause number (line ∷ text) = by_value (setting 
 setting_at_advances : (name : List ℕ) (low high cause : ℕ) (left : Left) → Advances left (setting_at name low high cause left)
 setting_at_advances name low high cause left = setting_advances name low high cause left.number left.lines
 
-begins_advances : {A : Type 0} (a : A) (left : Left) → Advances left (Begins a left)
-begins_advances a left = refl
-
 width_advances : (version : ℕ) (left : Left) → Advances left (width_at version left)
 width_advances version left = by_test (version == 2)
   where

@@ -1,5 +1,5 @@
 -- The commands of the stated job: their keys and texts, their number and their session.
-use Rattle.std.proofs.Common.{◌≡◌, ℕ, suc, zero, ◌+◌, ◌-◌, ◌/◌, ◌%◌, ◌^◌, ◌<◌, ◌≤◌, ◌==◌, cond, List, [], ◌∷◌, ◌++◌, length, codes, refl, sym, ap, subst, ◌∙◌, inl, inr, arith}
+use Rattle.std.proofs.Common.{◌≡◌, ℕ, suc, zero, ◌+◌, ◌-◌, ◌/◌, ◌%◌, ◌^◌, ◌<◌, ◌≤◌, ◌==◌, cond, List, [], ◌∷◌, ◌++◌, length, refl, sym, ap, subst, ◌∙◌, inl, inr, arith}
 use Rattle.std.proofs.lemmas.Fmt.{decimal_by_steps, length-decimal-le}
 use Rattle.std.proofs.lemmas.List.{length-append}
 use Rattle.std.proofs.lemmas.List.Elements.{All-cons, All-nil, All-push}
@@ -47,9 +47,6 @@ IsText-bulk_text j few = named 64 118 j (omega arith) (omega arith, omega arith)
 
 pub short_text : (j : ℕ) → j < MOST_COMMANDS → length (bulk_text j) ≤ 32
 short_text j few = let short = length-decimal-le 4 j (omega arith) (omega arith) (omega arith) in omega (arith, short)
-
-pub IsText-x : IsText (codes "x")
-IsText-x = record { some = omega arith; fits = omega arith; visible = All-cons IsVisible 120 [] (omega arith, omega arith) (All-nil IsVisible) }
 
 -- one more command
 pub bulk_commands-more : (j : ℕ) → bulk_commands (j + 1) ≡ bulk_commands j ++ bulk_command j ∷ []

@@ -21,10 +21,6 @@ pub record IsBody (clients count : ℕ) (commands : List Request) : Type 0 where
   pub counted : count ≡ length (numbers_of (clients - 1) commands)
   pub session : IsInSession commands
 
--- before the first line
-pub IsBody-start : IsBody 0 0 []
-IsBody-start = record { few_clients = omega arith; few = omega arith; known = λ k d below. absurd (omega arith); counted = refl; session = λ client. tt }
-
 another : (command : Request) (clients : ℕ) (numbers : List ℕ) → command.client < clients → cond (command.client == clients) (command.number ∷ numbers) numbers ≡ numbers
 another command clients numbers below = elim (command.client == clients) as (λ b. (command.client == clients) ≡ b → cond b (command.number ∷ numbers) numbers ≡ numbers) [
   | true ↦ λ same. let is = (Decides-eqb command.client clients).0 same in absurd (omega arith)

@@ -1,5 +1,5 @@
 -- The configuration that settings and commands in session give.
-use Rattle.std.proofs.Common.{◌≡◌, ℕ, suc, zero, ◌+◌, ◌/◌, ◌%◌, ◌^◌, ◌<◌, ◌≤◌, ◌==◌, Bool, true, false, cond, List, [], ◌∷◌, ◌++◌, length, take, drop, slice_get, Some, refl, sym, ap, subst, ◌∙◌, inl, inr, ◌⊎◌, arith}
+use Rattle.std.proofs.Common.{◌≡◌, ℕ, suc, zero, ◌+◌, ◌/◌, ◌%◌, ◌^◌, ◌<◌, ◌≤◌, ◌==◌, Bool, true, false, cond, List, [], ◌∷◌, ◌++◌, length, take, drop, slice_get, Some, refl, sym, ap, subst, ◌∙◌, inl, inr, ◌⊎◌, ⊎_elim, arith}
 use Rattle.std.proofs.lemmas.List.{length-append}
 use Rattle.std.proofs.lemmas.Bool.Decides.{Decides-eqb}
 use Rattle.kv_store.specs.Commands.{Request}
@@ -16,33 +16,33 @@ use Rattle.mu_input.specs.declared.heading.Settings.{Settings}
 use Rattle.mu_input.proofs.Cuts.{AreInTurn, AreInTurn-rest, AreInTurn-session, followers_below}
 
 -- what the head word of row j says
-abbrev client_at : List Row → ℕ → ℕ
+abbrev pub client_at : List Row → ℕ → ℕ
 client_at rows j = word_of (slice_get rows j) 0 / 2 ^ 8 % 2 ^ 8
 
-abbrev number_at : List Row → ℕ → ℕ
+abbrev pub number_at : List Row → ℕ → ℕ
 number_at rows j = word_of (slice_get rows j) 0 / 2 ^ 16 % 2 ^ 16
 
-abbrev rest_at : List Row → ℕ → ℕ
+abbrev pub rest_at : List Row → ℕ → ℕ
 rest_at rows j = word_of (slice_get rows j) 0 / 2 ^ 56
 
 -- command j, and what row j says of it
-record IsAt (width : ℕ) (commands : List Request) (rows : List Row) (j : ℕ) (command : Request) : Type 0 where
-  there : slice_get commands j ≡ Some command
-  client : client_at rows j ≡ command.client
-  number : number_at rows j ≡ command.number
-  behind : rest_at rows j ≡ followers width command (drop (suc j) commands)
+pub record IsAt (width : ℕ) (commands : List Request) (rows : List Row) (j : ℕ) (command : Request) : Type 0 where
+  pub there : slice_get commands j ≡ Some command
+  pub client : client_at rows j ≡ command.client
+  pub number : number_at rows j ≡ command.number
+  pub behind : rest_at rows j ≡ followers width command (drop (suc j) commands)
 
 later : (width : ℕ) (first : Request) (commands : List Request) (row : Row) (rows : List Row) (j : ℕ) (command : Request) → IsAt width commands rows j command → IsAt width (first ∷ commands) (row ∷ rows) (suc j) command
 later width first commands row rows j command at = record { there = at.there; client = at.client; number = at.number; behind = at.behind }
 
-row_at : (width : ℕ) (commands : List Request) (rows : List Row) → HaveHeads width commands rows → (j : ℕ) → j < length rows → (command : Request) × IsAt width commands rows j command
+pub row_at : (width : ℕ) (commands : List Request) (rows : List Row) → HaveHeads width commands rows → (j : ℕ) → j < length rows → (command : Request) × IsAt width commands rows j command
 row_at width [] [] have j below = absurd (omega arith)
 row_at width [] (row ∷ rows) have j below = absurd have
 row_at width (command ∷ commands) [] have j below = absurd have
 row_at width (command ∷ commands) (row ∷ rows) have zero below = (command, record { there = refl; client = have.0.client; number = have.0.number; behind = have.0.rest })
 row_at width (command ∷ commands) (row ∷ rows) have (suc j) below = let at = row_at width commands rows have.1 j (omega arith) in (at.0, later width command commands row rows j at.0 at.1)
 
-as_many : (width : ℕ) (commands : List Request) (rows : List Row) → HaveHeads width commands rows → length rows ≡ length commands
+pub as_many : (width : ℕ) (commands : List Request) (rows : List Row) → HaveHeads width commands rows → length rows ≡ length commands
 as_many width [] [] have = refl
 as_many width [] (row ∷ rows) have = absurd have
 as_many width (command ∷ commands) [] have = absurd have
@@ -135,4 +135,20 @@ IsConfig-made settings commands rows limits session few have = record {
   rests = rests settings.width commands rows limits.width_least limits.width_most session have;
   numbers = numbers (made settings rows) commands have session;
   batches = λ j k below e. let on = batch settings.width commands rows have j k below e in let next : j + 1 ≡ suc j = omega arith in rw next on;
+}
+
+-- the settings of a configuration that a job gives are within their bounds
+pub HasLimits-config : (c : Config) → IsConfig c → HasLimits (record { version = c.version; width = c.width; replicas = c.replicas; ring = c.ring; budget = c.budget })
+HasLimits-config c is = record {
+  version_least = ⊎_elim (λ (e : c.version ≡ 1). omega (arith, e)) (λ (e : c.version ≡ 2). omega (arith, e)) is.versions;
+  version_most = ⊎_elim (λ (e : c.version ≡ 1). omega (arith, e)) (λ (e : c.version ≡ 2). omega (arith, e)) is.versions;
+  single = is.plain;
+  width_least = is.widths.0;
+  width_most = is.widths.1;
+  replicas_least = is.replicas.0;
+  replicas_most = is.replicas.1;
+  ring_least = is.ring.0;
+  ring_most = is.ring.1;
+  budget_least = is.budget.0;
+  budget_most = is.budget.1;
 }

@@ -1,5 +1,5 @@
 -- Stops and pauses: the tests of one more, and their order.
-use Rattle.std.proofs.Common.{Bor, ◌≡◌, ◌≢◌, ℕ, ◌+◌, ◌<◌, ◌==◌, nat_lt, Bool, not, ◌&&◌, ◌||◌, cond, suc, List, [], ◌∷◌, ◌++◌, length, map, take, get_or, codes, true, false, None, Some, refl, sym, ap, ◌∙◌, arith}
+use Rattle.std.proofs.Common.{Bor, ◌≡◌, ◌≢◌, ℕ, ◌+◌, ◌<◌, ◌==◌, nat_lt, Bool, not, ◌&&◌, ◌||◌, cond, List, [], ◌∷◌, ◌++◌, length, map, take, get_or, codes, true, false, None, Some, refl, sym, ap, ◌∙◌, arith}
 use Rattle.std.proofs.lemmas.List.{length-map}
 use Rattle.std.proofs.lemmas.List.Elements.{filter_more}
 use Rattle.std.proofs.lemmas.List.Recursion.{same_from_clauses}
@@ -10,7 +10,7 @@ use Rattle.mu_model.specs.declared.script.Stop.{Stop}
 use Rattle.mu_model.specs.declared.script.Pause.{Pause}
 use Rattle.mu_text.specs.Lines.{is_alone, words}
 use Rattle.mu_input.specs.Readings.{Line, Says, Wrong}
-use Rattle.mu_input.specs.Scripts.{is_stopped, stop_line, pauses_before, pause_line, script_after, script_from, script_line, stop_or_pause, with_room, stops_of, stops_in_order, pauses_of, pauses_in_order}
+use Rattle.mu_input.specs.Scripts.{is_stopped, stop_line, pauses_before, pause_line, script_after, script_from, script_line, stop_or_pause, with_room, stops_of, pauses_of}
 use Rattle.mu_input.specs.declared.scripts.ScriptLine.{ScriptLine}
 use Rattle.mu_input.specs.declared.scripts.ScriptLine.TheVariants as line
 use Rattle.mu_input.specs.declared.cause.TheConstants.{TOO_MANY}
@@ -25,7 +25,7 @@ is_stopped-any r stops = same_from_clauses (list_any (λ (stop : Stop). stop.rep
 pub pauses_before-all : (r k : ℕ) (pauses : List Pause) → list_all (λ (pause : Pause). not (pause.replica == r) || nat_lt pause.steps k) pauses ≡ pauses_before r k pauses
 pauses_before-all r k pauses = same_from_clauses (list_all (λ (pause : Pause). not (pause.replica == r) || nat_lt pause.steps k)) (pauses_before r k) (λ (pause : Pause) (rest : Bool). (not (pause.replica == r) || nat_lt pause.steps k) && rest) refl (λ _ _. refl) (λ _ _. refl) pauses
 
-stops_of-filter : (r : ℕ) (stops : List Stop) → stops_of r stops ≡ filter (λ (stop : Stop). stop.replica == r) stops
+pub stops_of-filter : (r : ℕ) (stops : List Stop) → stops_of r stops ≡ filter (λ (stop : Stop). stop.replica == r) stops
 stops_of-filter r stops = same_from_clauses (stops_of r) (filter (λ (stop : Stop). stop.replica == r)) (λ (stop : Stop) rest. cond (stop.replica == r) (stop ∷ rest) rest) refl (λ _ _. refl) (λ _ _. refl) stops
 
 -- one more stop
@@ -34,7 +34,7 @@ stops_of-more r stops i d below =
     stops_of-filter r (take (i + 1) stops) ∙ filter_more (λ (stop : Stop). stop.replica == r) stops i d below
     ∙ ap (λ front. front ++ cond ((get_or stops i d).replica == r) (get_or stops i d ∷ []) []) (sym (stops_of-filter r (take i stops)))
 
-pauses_of-filter : (r : ℕ) (pauses : List Pause) → pauses_of r pauses ≡ filter (λ (pause : Pause). pause.replica == r) pauses
+pub pauses_of-filter : (r : ℕ) (pauses : List Pause) → pauses_of r pauses ≡ filter (λ (pause : Pause). pause.replica == r) pauses
 pauses_of-filter r pauses = same_from_clauses (pauses_of r) (filter (λ (pause : Pause). pause.replica == r)) (λ (pause : Pause) rest. cond (pause.replica == r) (pause ∷ rest) rest) refl (λ _ _. refl) (λ _ _. refl) pauses
 
 -- one more pause
@@ -42,13 +42,6 @@ pub pauses_of-more : (r : ℕ) (pauses : List Pause) (i : ℕ) (d : Pause) → i
 pauses_of-more r pauses i d below =
     pauses_of-filter r (take (i + 1) pauses) ∙ filter_more (λ (pause : Pause). pause.replica == r) pauses i d below
     ∙ ap (λ front. front ++ cond ((get_or pauses i d).replica == r) (get_or pauses i d ∷ []) []) (sym (pauses_of-filter r (take i pauses)))
-
--- one more replica
-pub stops_in_order-more : (r : ℕ) (stops : List Stop) → stops_in_order (r + 1) stops ≡ stops_in_order r stops ++ stops_of r stops
-stops_in_order-more r stops = let e : r + 1 ≡ suc r = omega arith in ap (λ n. stops_in_order n stops) e
-
-pub pauses_in_order-more : (r : ℕ) (pauses : List Pause) → pauses_in_order (r + 1) pauses ≡ pauses_in_order r pauses ++ pauses_of r pauses
-pauses_in_order-more r pauses = let e : r + 1 ≡ suc r = omega arith in ap (λ n. pauses_in_order n pauses) e
 
 stop_line-other : (replicas : ℕ) (stops : List Stop) (ws : List (List ℕ)) → length ws ≢ 3 → stop_line replicas stops ws ≡ None
 stop_line-other replicas stops [] other = refl

@@ -4,8 +4,8 @@ use Rattle.kv_store.specs.Commands.{Request}
 use Rattle.mu_model.specs.declared.config.Row.{Row}
 use Rattle.mu_rows.specs.Rows.{spelled}
 
--- how many commands follow the first of these in its batch: the commands of a client are cut into groups of the width, and
--- the last group may be shorter
+-- how many commands follow the first of these in its batch: the commands of a client are cut into
+-- groups of the width, and the last group may be shorter
 abbrev pub followers : ℕ → Request → List Request → ℕ
 followers width command [] = 0
 followers width command (next ∷ commands) =
@@ -16,4 +16,5 @@ followers width command (next ∷ commands) =
 -- the rows of commands, one for each
 abbrev pub rows_of : ℕ → List Request → List Row
 rows_of width [] = []
-rows_of width (command ∷ commands) = record { words = spelled command (followers width command commands) } ∷ rows_of width commands
+rows_of width (command ∷ commands) =
+    record { words = spelled command (followers width command commands) } ∷ rows_of width commands

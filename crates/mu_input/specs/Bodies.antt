@@ -16,19 +16,22 @@ use Rattle.mu_input.specs.declared.bodies.Body.{Body}
 -- a line of the next client, after so many: it has this number
 abbrev pub client_line : ℕ → List (List ℕ) → Line BodyLine
 client_line clients (name ∷ number ∷ []) =
-    if is_numbered clients (number_of number) then (if nat_lt clients MOST_CLIENTS then Says Client else Wrong TOO_MANY) else Wrong CLIENT
+    if is_numbered clients (number_of number)
+    then (if nat_lt clients MOST_CLIENTS then Says Client else Wrong TOO_MANY) else Wrong CLIENT
 client_line clients _ = Wrong CLIENT
 
 -- an operation of the last client, where there is room for it among so many commands
 abbrev pub operation_line : ℕ → Line Op → Line BodyLine
-operation_line commands (Says op) = if nat_lt commands MOST_COMMANDS then Says (Operation op) else Wrong TOO_MANY
+operation_line commands (Says op) =
+    if nat_lt commands MOST_COMMANDS then Says (Operation op) else Wrong TOO_MANY
 operation_line commands (Wrong cause) = Wrong cause
 
 -- what a line says after so many clients and commands
 abbrev pub body_line : ℕ → ℕ → List (List ℕ) → Line BodyLine
 body_line clients commands line =
     if is_first (codes "client") line then client_line clients line
-    else if names_operation line then (if clients == 0 then Wrong CLIENT else operation_line commands (operation_of line))
+    else if names_operation line
+    then (if clients == 0 then Wrong CLIENT else operation_line commands (operation_of line))
     else if is_alone (codes "script") line then Says Script
     else if is_alone (codes "end") line then Says End
     else Wrong OPERATION
@@ -36,20 +39,26 @@ body_line clients commands line =
 -- there is room for what a line says after so many clients and commands
 abbrev pub HasRoom : ℕ → ℕ → BodyLine → Type 0
 HasRoom clients commands Client = clients < MOST_CLIENTS
-HasRoom clients commands (Operation op) = (0 < clients) × (commands < MOST_COMMANDS) × HasShortTexts op
+HasRoom clients commands (Operation op) =
+    (0 < clients) × (commands < MOST_COMMANDS) × HasShortTexts op
 HasRoom clients commands Script = ⊤
 HasRoom clients commands End = ⊤
 
 -- the next command of a client, after these commands
 abbrev pub next_command : ℕ → List Request → Op → Request
-next_command client commands op = record { client = client; number = length (numbers_of client commands) + 1; op = op }
+next_command client commands op =
+    record { client = client; number = length (numbers_of client commands) + 1; op = op }
 
 -- the line says this, and `again` reads the lines from `left` on with the clients and commands then
-abbrev pub body_after : ℕ → List Request → ℕ → Left → (ℕ → List Request → Front Body) → Line BodyLine → Front Body
+abbrev pub body_after :
+    ℕ → List Request → ℕ → Left → (ℕ → List Request → Front Body) → Line BodyLine → Front Body
 body_after clients commands number left again (Says Client) = again (clients + 1) commands
-body_after clients commands number left again (Says (Operation op)) = again clients (commands ++ next_command (clients - 1) commands op ∷ [])
-body_after clients commands number left again (Says Script) = Begins (record { commands = commands; has_script = true }) left
-body_after clients commands number left again (Says End) = Begins (record { commands = commands; has_script = false }) left
+body_after clients commands number left again (Says (Operation op)) =
+    again clients (commands ++ next_command (clients - 1) commands op ∷ [])
+body_after clients commands number left again (Says Script) =
+    Begins (record { commands = commands; has_script = true }) left
+body_after clients commands number left again (Says End) =
+    Begins (record { commands = commands; has_script = false }) left
 body_after clients commands number left again (Wrong cause) = Breaks number cause
 
 -- the commands that the lines from `number` on give, after so many clients and these commands

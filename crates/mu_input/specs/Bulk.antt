@@ -16,7 +16,8 @@ bulk_key j = codes "k" ++ decimal (j % 3)
 abbrev pub bulk_text : ℕ → List ℕ
 bulk_text j = codes "v" ++ decimal j
 
--- the text that a cas looks for: at odd j the one that the put three commands before sets, and else one that nobody sets
+-- the text that a cas looks for: at odd j the one that the put three commands before sets, and else
+-- one that nobody sets
 abbrev pub bulk_old_text : ℕ → List ℕ
 bulk_old_text j = if j % 2 == 1 then bulk_text (j - 3) else codes "x"
 

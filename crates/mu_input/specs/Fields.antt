@@ -9,7 +9,8 @@ is_visible byte = nat_le FIRST_BYTE byte && nat_le byte LAST_BYTE
 
 -- one to `most` visible bytes
 abbrev pub is_word : ℕ → List ℕ → Bool
-is_word most bytes = (nat_le 1 (length bytes) && nat_le (length bytes) most) && list_all is_visible bytes
+is_word most bytes =
+    (nat_le 1 (length bytes) && nat_le (length bytes) most) && list_all is_visible bytes
 
 abbrev pub is_key : List ℕ → Bool
 is_key bytes = is_word KEY_BYTES bytes

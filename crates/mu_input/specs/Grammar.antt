@@ -26,6 +26,21 @@ job_of settings commands script = record {
   script = script;
 }
 
+-- the job with these commands in place of its own
+abbrev pub with_commands : List Request → Job → Job
+with_commands commands job = record {
+  config = record {
+    version = job.config.version;
+    width = job.config.width;
+    replicas = job.config.replicas;
+    ring = job.config.ring;
+    budget = job.config.budget;
+    rows = rows_of job.config.width commands;
+  };
+  commands = commands;
+  script = job.script;
+}
+
 -- the settings, the commands, and a script where one follows
 abbrev pub job_at : Left → Front Job
 job_at left =

@@ -13,5 +13,6 @@ pub record HasHead (row : Row) (command : Request) (behind : ℕ) : Type 0 where
 -- the head words of rows say commands, one each, and their batches
 abbrev pub HaveHeads : ℕ → List Request → List Row → Type 0
 HaveHeads width [] [] = ⊤
-HaveHeads width (command ∷ commands) (row ∷ rows) = HasHead row command (followers width command commands) × HaveHeads width commands rows
+HaveHeads width (command ∷ commands) (row ∷ rows) =
+    HasHead row command (followers width command commands) × HaveHeads width commands rows
 HaveHeads width _ _ = ⊥

@@ -7,7 +7,7 @@ pub mod Scripts
 pub mod Batches
 pub mod Heads
 pub mod Grammar
+pub mod Senders
 pub mod Bulk
+pub mod JobLines
 pub mod Traces
-pub mod Jobs
-pub mod FirstForm

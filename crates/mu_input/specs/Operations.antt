@@ -27,7 +27,8 @@ operation_of (name ∷ key ∷ text ∷ []) =
     else if bytes_eq name (codes "swap") then judged key (is_text text) (Swap key text)
     else Wrong OPERATION
 operation_of (name ∷ key ∷ first ∷ second ∷ []) =
-    if bytes_eq name (codes "cas") then judged key (is_short_text first && is_short_text second) (Cas key first second)
+    if bytes_eq name (codes "cas")
+    then judged key (is_short_text first && is_short_text second) (Cas key first second)
     else Wrong OPERATION
 operation_of _ = Wrong OPERATION
 
@@ -35,4 +36,7 @@ operation_of _ = Wrong OPERATION
 abbrev pub names_operation : List (List ℕ) → Bool
 names_operation [] = false
 names_operation (name ∷ words) =
-    bytes_eq name (codes "put") || (bytes_eq name (codes "get") || (bytes_eq name (codes "del") || (bytes_eq name (codes "swap") || bytes_eq name (codes "cas"))))
+    bytes_eq name (codes "put")
+    || (bytes_eq name (codes "get")
+    || (bytes_eq name (codes "del")
+    || (bytes_eq name (codes "swap") || bytes_eq name (codes "cas"))))

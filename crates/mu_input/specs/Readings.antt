@@ -40,7 +40,8 @@ whole (Breaks line cause) = Leaves line cause
 -- a result says whether no line is left, and else which line is the first
 abbrev pub EndsHere : Result (Unit {0}) InputEnd → Left → Type 0
 EndsHere (Ok u) left = left.lines ≡ []
-EndsHere (Err (Refused line cause)) left = (left.lines ≢ []) × (line ≡ left.number) × (cause ≡ AFTER_END)
+EndsHere (Err (Refused line cause)) left =
+    (left.lines ≢ []) × (line ≡ left.number) × (cause ≡ AFTER_END)
 EndsHere (Err NoMemory) left = ⊥
 
 -- a result says what the reading is; want of memory can come at any bytes
@@ -56,7 +57,8 @@ ReadsFront (Err (Refused line cause)) front left = front ≡ Breaks line cause
 ReadsFront (Err NoMemory) front left = ⊤
 
 -- the same of a result that is seen as something else
-abbrev pub ReadsFrontAs : {A : Type 0} {B : Type 0} → (A → B) → Result A InputEnd → Front B → Left → Type 0
+abbrev pub ReadsFrontAs :
+    {A : Type 0} {B : Type 0} → (A → B) → Result A InputEnd → Front B → Left → Type 0
 ReadsFrontAs seen (Ok a) front left = front ≡ Begins (seen a) left
 ReadsFrontAs seen (Err (Refused line cause)) front left = front ≡ Breaks line cause
 ReadsFrontAs seen (Err NoMemory) front left = ⊤

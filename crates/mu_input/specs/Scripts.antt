@@ -20,30 +20,37 @@ is_stopped r (stop ∷ stops) = (stop.replica == r) || is_stopped r stops
 
 -- the stop of a replica after so many steps, where it has none yet
 abbrev pub another_stop : List Stop → Option ℕ → Option ℕ → Option Stop
-another_stop stops (Some r) (Some k) = if is_stopped r stops then None else Some (record { replica = r; steps = k })
+another_stop stops (Some r) (Some k) =
+    if is_stopped r stops then None else Some (record { replica = r; steps = k })
 another_stop stops _ _ = None
 
 -- a line `stop R K` after these stops
 abbrev pub stop_line : ℕ → List Stop → List (List ℕ) → Option Stop
 stop_line replicas stops (name ∷ r ∷ k ∷ []) =
-    if bytes_eq name (codes "stop") then another_stop stops (below replicas (number_of r)) (within 0 MOST_STEPS (number_of k)) else None
+    if bytes_eq name (codes "stop")
+    then another_stop stops (below replicas (number_of r)) (within 0 MOST_STEPS (number_of k))
+    else None
 stop_line replicas stops _ = None
 
 -- each of these pauses that is of replica r comes after fewer than k steps
 abbrev pub pauses_before : ℕ → ℕ → List Pause → Bool
 pauses_before r k [] = true
-pauses_before r k (pause ∷ pauses) = (not (pause.replica == r) || nat_lt pause.steps k) && pauses_before r k pauses
+pauses_before r k (pause ∷ pauses) =
+    (not (pause.replica == r) || nat_lt pause.steps k) && pauses_before r k pauses
 
--- the pause of a replica after so many steps, for so many rounds, where it comes after its earlier ones
+-- the pause of a replica after so many steps, for so many rounds, where it comes after its earlier
+-- ones
 abbrev pub another_pause : List Pause → Option ℕ → Option ℕ → Option ℕ → Option Pause
-another_pause pauses (Some r) (Some k) (Some m) = if pauses_before r k pauses then Some (record { replica = r; steps = k; rounds = m }) else None
+another_pause pauses (Some r) (Some k) (Some m) =
+    if pauses_before r k pauses then Some (record { replica = r; steps = k; rounds = m }) else None
 another_pause pauses _ _ _ = None
 
 -- a line `pause R K M` after these pauses
 abbrev pub pause_line : ℕ → List Pause → List (List ℕ) → Option Pause
 pause_line replicas pauses (name ∷ r ∷ k ∷ m ∷ []) =
     if bytes_eq name (codes "pause")
-    then another_pause pauses (below replicas (number_of r)) (within 0 MOST_STEPS (number_of k)) (within 1 MOST_ROUNDS (number_of m))
+    then another_pause pauses (below replicas (number_of r)) (within 0 MOST_STEPS (number_of k))
+    (within 1 MOST_ROUNDS (number_of m))
     else None
 pause_line replicas pauses _ = None
 
@@ -62,7 +69,8 @@ with_room count (Some said) = if nat_lt count MOST_SCRIPT_LINES then Says said e
 abbrev pub script_line : ℕ → List Stop → List Pause → List (List ℕ) → Line ScriptLine
 script_line replicas stops pauses words =
     if is_alone (codes "end") words then Says line.End
-    else with_room (length stops + length pauses) (stop_or_pause (stop_line replicas stops words) (pause_line replicas pauses words))
+    else with_room (length stops + length pauses)
+    (stop_or_pause (stop_line replicas stops words) (pause_line replicas pauses words))
 
 -- the stops of replica r
 abbrev pub stops_of : ℕ → List Stop → List Stop
@@ -77,7 +85,8 @@ stops_in_order (suc r) stops = stops_in_order r stops ++ stops_of r stops
 -- the pauses of replica r, in the order of the file, which is that of their steps
 abbrev pub pauses_of : ℕ → List Pause → List Pause
 pauses_of r [] = []
-pauses_of r (pause ∷ pauses) = if pause.replica == r then pause ∷ pauses_of r pauses else pauses_of r pauses
+pauses_of r (pause ∷ pauses) =
+    if pause.replica == r then pause ∷ pauses_of r pauses else pauses_of r pauses
 
 -- the pauses of the first replicas, replica by replica
 abbrev pub pauses_in_order : ℕ → List Pause → List Pause
@@ -86,13 +95,19 @@ pauses_in_order (suc r) pauses = pauses_in_order r pauses ++ pauses_of r pauses
 
 -- the script of these stops and pauses
 abbrev pub script_of : ℕ → List Stop → List Pause → Script
-script_of replicas stops pauses = record { stops = stops_in_order replicas stops; pauses = pauses_in_order replicas pauses }
+script_of replicas stops pauses =
+    record { stops = stops_in_order replicas stops; pauses = pauses_in_order replicas pauses }
 
 -- the line says this, and `again` reads the lines after it with the stops and pauses then
-abbrev pub script_after : ℕ → List Stop → List Pause → ℕ → Left → (List Stop → List Pause → Front Script) → Line ScriptLine → Front Script
-script_after replicas stops pauses number left again (Says (line.Stop stop)) = again (stops ++ stop ∷ []) pauses
-script_after replicas stops pauses number left again (Says (line.Pause pause)) = again stops (pauses ++ pause ∷ [])
-script_after replicas stops pauses number left again (Says line.End) = Begins (script_of replicas stops pauses) left
+abbrev pub script_after :
+    ℕ → List Stop → List Pause → ℕ → Left → (List Stop → List Pause → Front Script)
+    → Line ScriptLine → Front Script
+script_after replicas stops pauses number left again (Says (line.Stop stop)) =
+    again (stops ++ stop ∷ []) pauses
+script_after replicas stops pauses number left again (Says (line.Pause pause)) =
+    again stops (pauses ++ pause ∷ [])
+script_after replicas stops pauses number left again (Says line.End) =
+    Begins (script_of replicas stops pauses) left
 script_after replicas stops pauses number left again (Wrong cause) = Breaks number cause
 
 -- the script that the lines from `number` on give, after these stops and pauses
@@ -106,4 +121,5 @@ script_from replicas stops pauses number (text ∷ lines) =
 -- the script at the front of the lines that are left, where one follows, and else an empty one
 abbrev pub script_at : Bool → ℕ → Left → Front Script
 script_at follows replicas left =
-    if follows then script_from replicas [] [] left.number left.lines else Begins (record { stops = []; pauses = [] }) left
+    if follows then script_from replicas [] [] left.number left.lines
+    else Begins (record { stops = []; pauses = [] }) left

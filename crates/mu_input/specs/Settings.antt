@@ -12,10 +12,12 @@ use Rattle.mu_input.specs.declared.heading.Settings.{Settings}
 
 -- the number of a line of a name and a number from `low` to `high`
 abbrev pub setting : List ℕ → ℕ → ℕ → List (List ℕ) → Option ℕ
-setting name low high (word ∷ value ∷ []) = if bytes_eq word name then within low high (number_of value) else None
+setting name low high (word ∷ value ∷ []) =
+    if bytes_eq word name then within low high (number_of value) else None
 setting name low high _ = None
 
--- a line of a name and a number from `low` to `high` comes first among the lines from `number` on, else the cause is this
+-- a line of a name and a number from `low` to `high` comes first among the lines from `number` on,
+-- else the cause is this
 abbrev pub setting_among : List ℕ → ℕ → ℕ → ℕ → ℕ → List (List ℕ) → Front ℕ
 setting_among name low high cause number [] = Breaks number NO_END
 setting_among name low high cause number (line ∷ lines) = option_map_or
@@ -29,9 +31,11 @@ setting_at name low high cause left = setting_among name low high cause left.num
 
 -- how many commands a batch has at most: a line of version 2, and 1 in version 1
 abbrev pub width_at : ℕ → Left → Front ℕ
-width_at version left = if version == 2 then setting_at (codes "batch") 1 MOST_WIDTH BATCH left else Begins 1 left
+width_at version left =
+    if version == 2 then setting_at (codes "batch") 1 MOST_WIDTH BATCH left else Begins 1 left
 
--- the version, the replicas, the places of a ring, the steps of a replica, and in version 2 the commands of a batch
+-- the version, the replicas, the places of a ring, the steps of a replica, and in version 2 the
+-- commands of a batch
 abbrev pub settings_at : Left → Front Settings
 settings_at left =
     followed (setting_at (codes "mu") 1 2 HEAD left) (λ version left.
@@ -39,7 +43,10 @@ settings_at left =
     followed (setting_at (codes "ring") LEAST_RING MOST_RING RING left) (λ ring left.
     followed (setting_at (codes "budget") 1 MOST_STEPS BUDGET left) (λ budget left.
     followed (width_at version left) (λ width left.
-    Begins (record { version = version; width = width; replicas = replicas; ring = ring; budget = budget }) left)))))
+    Begins
+    (record
+    { version = version; width = width; replicas = replicas; ring = ring; budget = budget })
+    left)))))
 
 -- the bounds of the settings; a batch of version 1 has one command
 pub record HasLimits (settings : Settings) : Type 0 where

@@ -19,8 +19,10 @@ use Rattle.mu_input.specs.declared.job.InputEnd.TheVariants.{Refused, NoMemory}
 abbrev pub events_from : ℕ → List Event → ℕ → List (List ℕ) → Front (List Event)
 events_from replicas events number [] = Breaks number NO_END
 events_from replicas events number (line ∷ lines) =
-    if bytes_eq line (codes "end") then Begins events (record { number = number + 1; lines = lines })
-    else option_map_or (λ event. events_from replicas (events ++ event ∷ []) (number + 1) lines) (event_of replicas (words line)) (Breaks number EVENT)
+    if bytes_eq line (codes "end")
+    then Begins events (record { number = number + 1; lines = lines })
+    else option_map_or (λ event. events_from replicas (events ++ event ∷ []) (number + 1) lines)
+    (event_of replicas (words line)) (Breaks number EVENT)
 
 -- the events at the front of the lines that are left
 abbrev pub events_at : ℕ → Left → Front (List Event)
@@ -44,6 +46,7 @@ trace bytes = whole (trace_at (all_lines bytes))
 
 -- a result says what the reading is; want of memory can come at any bytes
 abbrev pub ReadsTrace : Result (Job × Record) InputEnd → Reading Trace → Type 0
-ReadsTrace (Ok (job, journal)) reading = reading ≡ Fits (record { job = job; events = journal.events })
+ReadsTrace (Ok (job, journal)) reading =
+    reading ≡ Fits (record { job = job; events = journal.events })
 ReadsTrace (Err (Refused line cause)) reading = reading ≡ Leaves line cause
 ReadsTrace (Err NoMemory) reading = ⊤

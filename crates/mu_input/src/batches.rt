@@ -1,10 +1,10 @@
 //! How the commands of a job are cut into batches, and their rows.
-ghost use Rattle.std.specs.Prelude.{◌≡◌, ◌<◌, ◌≤◌, [], ◌∷◌, IfOk, MatchOption, length};
+ghost use Rattle.std.specs.Prelude.{◌≡◌, ◌<◌, ◌≤◌, [], ◌∷◌, IfOk, MatchOption, length, vec_capacity};
 ghost use Rattle.kv_store.specs.Sessions.{IsInSession};
 ghost use Rattle.mu_model.specs.Contents.{IsConfig};
 ghost use Rattle.mu_rows.specs.Rows.{spelled};
 ghost use Rattle.mu_input.specs.Batches.{followers, rows_of};
-ghost use Rattle.mu_input.specs.Grammar.{job_of};
+ghost use Rattle.mu_input.specs.Grammar.{job_of, with_commands};
 ghost use Rattle.mu_input.specs.Heads.{HasHead, HaveHeads};
 ghost use Rattle.mu_input.specs.Settings.{HasLimits};
 
@@ -16,7 +16,8 @@ use mu_model::{Config, Row, Rows, Script, Sequence};
 use mu_rows::encode;
 use std::alloc::{AllocError, Global};
 
-/// The job of these settings, commands and script. Takes memory for the rows alone, and linear time.
+/// The job of these settings, commands and script. Takes memory for the rows alone, and linear
+/// time.
 ///
 /// # Errors
 ///
@@ -32,6 +33,7 @@ pub fn job_of(
     requires few { length commands ≤ MOST_COMMANDS }
     ensures job { IfOk result (λ job. job ≡ job_of settings commands script) }
     ensures config { IfOk result (λ job. IsConfig job.config) }
+    ensures heads { IfOk result (λ job. HaveHeads job.config.width job.commands job.config.rows) }
 {
     let rows = rows_of(alloc, commands.as_slice(), settings.width)?;
     let config = Config {
@@ -49,6 +51,30 @@ pub fn job_of(
     })
 }
 
+/// The job with these commands in place of its own, and with their rows, made in `room`. Takes no
+/// memory, and linear time.
+pub fn with_commands(job: Job, commands: Commands, room: Vec<Row>) -> Job
+    requires config { IsConfig job.config }
+    requires session { IsInSession commands }
+    requires few { length commands ≤ MOST_COMMANDS }
+    requires empty { room.items ≡ [] }
+    requires room { length commands ≤ vec_capacity room }
+    ensures job { result ≡ with_commands commands job }
+    ensures config { IsConfig result.config }
+{
+    let Job {
+        config,
+        commands: _,
+        script,
+    } = job;
+    let rows = rows_in(room, commands.as_slice(), config.width);
+    Job {
+        config: Config { rows, ..config },
+        commands,
+        script,
+    }
+}
+
 /// The rows of commands, in batches of at most so many: 1 to 4. Takes linear time, since how many
 /// commands follow one in its batch is seen from the next three.
 ///
@@ -62,13 +88,27 @@ pub fn rows_of(alloc: Global, commands: &[Command], width: u8) -> Result<Rows, A
     ensures rows { IfOk result (λ rows. rows ≡ rows_of width commands.now) }
     ensures heads { IfOk result (λ rows. HaveHeads width commands.now rows) }
 {
-    let mut rows = Vec::with_capacity(alloc, commands.len())?;
+    let room = Vec::with_capacity(alloc, commands.len())?;
+    Ok(rows_in(room, commands, width))
+}
+
+/// The same in a list that has room for them. Takes no memory.
+fn rows_in(room: Vec<Row>, commands: &[Command], width: u8) -> Rows
+    requires least { 1 ≤ width }
+    requires most { width ≤ MOST_WIDTH }
+    requires session { IsInSession commands.now }
+    requires empty { room.items ≡ [] }
+    requires room { length commands.now ≤ vec_capacity room }
+    ensures rows { result ≡ rows_of width commands.now }
+    ensures heads { HaveHeads width commands.now result }
+{
+    let mut rows = room;
     let mut left = commands;
     while let Some((command, after)) = split_first(left) {
-        rows.push(row_of(command, after, width))?;
+        rows.push_reserved(row_of(command, after, width));
         left = after;
     }
-    Ok(Sequence::from_vec(rows))
+    Sequence::from_vec(rows)
 }
 
 /// The first command, and the ones after it.

@@ -95,7 +95,7 @@ pub fn read_body(alloc: Global, lines: &mut LineReader<'_>) -> Result<Body, Inpu
 }
 
 /// What a line says after so many clients and commands, or the cause why it says nothing.
-fn body_line(clients: u8, commands: usize, line: &[u8]) -> Result<BodyLine, u8>
+pub fn body_line(clients: u8, commands: usize, line: &[u8]) -> Result<BodyLine, u8>
     ensures reading { Tells result (body_line clients commands (words line.now)) }
     ensures room { IfOk result (HasRoom clients commands) }
 {

@@ -3,6 +3,7 @@ ghost use Rattle.std.specs.Prelude.{◌≡◌, ◌<◌, ◌≤◌, ◌%◌, IfOk
 ghost use Rattle.kv_store.specs.Commands.{HasShortTexts};
 ghost use Rattle.kv_store.specs.Sessions.{IsInSession};
 ghost use Rattle.mu_model.specs.Contents.{IsConfig};
+ghost use Rattle.mu_input.specs.Heads.{HaveHeads};
 ghost use Rattle.mu_input.specs.Bulk.{bulk_key, bulk_text, bulk_old_text, bulk_op, bulk_command, bulk_commands, bulk_job};
 
 use crate::batches::job_of;
@@ -24,6 +25,7 @@ pub fn bulk(alloc: Global, count: u16) -> Result<Job, NoMemory>
     ensures job { IfOk result (λ job. job ≡ bulk_job count) }
     ensures config { IfOk result (λ job. IsConfig job.config) }
     ensures session { IfOk result (λ job. IsInSession job.commands) }
+    ensures heads { IfOk result (λ job. HaveHeads job.config.width job.commands job.config.rows) }
 {
     let settings = Settings {
         version: 1,
@@ -120,6 +122,3 @@ fn bulk_old_text(alloc: Global, index: u16) -> Result<Text, AllocError>
     };
     Ok(text)
 }
-
-#[cfg(test)]
-mod tests;

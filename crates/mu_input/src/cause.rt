@@ -1,4 +1,5 @@
 //! Why a line leaves the grammar.
+ghost use Rattle.std.specs.Prelude.{◌≡◌};
 
 /// The first line names no version.
 pub const HEAD: u8 = 1;
@@ -41,3 +42,10 @@ pub const EVENT: u8 = 13;
 
 /// The commands of a batch.
 pub const BATCH: u8 = 15;
+
+/// Each cause is this number.
+pub fn causes_are_stated()
+    ensures settings { (HEAD ≡ 1) × (REPLICAS ≡ 2) × (RING ≡ 3) × (BUDGET ≡ 4) × (BATCH ≡ 15) }
+    ensures body { (CLIENT ≡ 5) × (OPERATION ≡ 6) × (KEY ≡ 7) × (VALUE ≡ 8) × (TOO_MANY ≡ 9) }
+    ensures ends { (SCRIPT ≡ 10) × (NO_END ≡ 11) × (AFTER_END ≡ 12) × (EVENT ≡ 13) }
+{}

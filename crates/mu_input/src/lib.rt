@@ -1,22 +1,26 @@
 //! Jobs and event lists, and the reading of them.
 #![tactic(auto)]
 
+ghost use Rattle.std.specs.Prelude.{◌≡◌};
+
 mod batches;
 mod bodies;
 mod bulk_jobs;
 mod cause;
-mod first_form;
 mod heading;
 mod job;
 mod operations;
 mod reading;
 mod scripts;
+mod senders;
 mod traces;
 
+pub use batches::with_commands;
 pub use bulk_jobs::bulk;
-pub use first_form::read_first;
 pub use job::{Commands, InputEnd, Job};
 pub use reading::{read, read_trace};
+pub use senders::desk_line;
+pub use traces::traces_are_read_back;
 
 /// The most bytes of a trace.
 pub const TRACE_LIMIT: usize = 67_108_864;
@@ -39,6 +43,9 @@ pub const MOST_WIDTH: u8 = 4;
 /// The most clients.
 pub const MOST_CLIENTS: u8 = 16;
 
+/// The most clients that a desk serves.
+pub const MOST_SENDERS: u8 = 4;
+
 /// The most commands.
 pub const MOST_COMMANDS: usize = 1_500;
 
@@ -48,15 +55,11 @@ pub const MOST_SCRIPT_LINES: usize = 100;
 /// The most rounds of a pause.
 pub const MOST_ROUNDS: u32 = 10_000;
 
-/// The most commands of a job of the first form.
-pub const FIRST_COMMANDS: usize = 8;
-
-/// The cause of a refusal: bytes that leave the first form.
-pub const FORM: u8 = 14;
-
-#[cfg(test)]
-mod job_tests;
-#[cfg(test)]
-mod tests;
-#[cfg(test)]
-mod trace_tests;
+/// Each limit is this number.
+pub fn limits_are_stated()
+    ensures settings { (MOST_REPLICAS ≡ 7) × (LEAST_RING ≡ 8) × (MOST_RING ≡ 1024)
+        × (MOST_STEPS ≡ 131071) × (MOST_WIDTH ≡ 4) }
+    ensures clients { (MOST_CLIENTS ≡ 16) × (MOST_SENDERS ≡ 4) × (MOST_COMMANDS ≡ 1500) }
+    ensures script { (MOST_SCRIPT_LINES ≡ 100) × (MOST_ROUNDS ≡ 10000) }
+    ensures trace { TRACE_LIMIT ≡ 67108864 }
+{}

@@ -2,11 +2,11 @@
 ghost use Rattle.std.specs.Prelude.{◌≡◌, ◌≢◌, [], ◌+◌, ◌<◌, ◌≤◌, ◌^◌, IfErr, IfOk, OnErr, OnOk, length};
 ghost use Rattle.kv_store.specs.Sessions.{IsInSession};
 ghost use Rattle.mu_model.specs.Contents.{IsConfig};
+ghost use Rattle.mu_input.specs.Heads.{HaveHeads};
 ghost use Rattle.mu_input.specs.Grammar.{job, job_at};
 ghost use Rattle.mu_input.specs.Readings.{EndsHere, Reads, ReadsFront};
 ghost use Rattle.mu_input.specs.Traces.{ReadsTrace, trace};
 
-use crate::TRACE_LIMIT;
 use crate::batches::job_of;
 use crate::bodies::read_body;
 use crate::cause::AFTER_END;
@@ -14,6 +14,7 @@ use crate::heading::read_settings;
 use crate::job::{InputEnd, Job};
 use crate::scripts::script_where;
 use crate::traces::read_events;
+use crate::{MOST_COMMANDS, MOST_SCRIPT_LINES, TRACE_LIMIT};
 use mu_model::Journal;
 use mu_text::LineReader;
 use std::alloc::Global;
@@ -32,6 +33,10 @@ pub fn read(alloc: Global, bytes: &[u8]) -> Result<Job, InputEnd>
     ensures reading { Reads result (job bytes.now) }
     ensures config { IfOk result (λ job. IsConfig job.config) }
     ensures session { IfOk result (λ job. IsInSession job.commands) }
+    ensures heads { IfOk result (λ job. HaveHeads job.config.width job.commands job.config.rows) }
+    ensures few { IfOk result (λ job. length job.commands ≤ MOST_COMMANDS) }
+    ensures lines { IfOk result (λ job.
+        length job.script.stops + length job.script.pauses ≤ MOST_SCRIPT_LINES) }
 {
     let mut lines = LineReader::new(bytes);
     let job = read_job(alloc, &mut lines)?;
@@ -65,7 +70,11 @@ fn read_job(alloc: Global, lines: &mut LineReader<'_>) -> Result<Job, InputEnd>
     ensures reading { ReadsFront result (job_at lines.old) lines.new }
     ensures config { IfOk result (λ job. IsConfig job.config) }
     ensures session { IfOk result (λ job. IsInSession job.commands) }
+    ensures heads { IfOk result (λ job. HaveHeads job.config.width job.commands job.config.rows) }
     ensures few { IfOk result (λ job. lines.new.number ≤ 1707) }
+    ensures commands { IfOk result (λ job. length job.commands ≤ MOST_COMMANDS) }
+    ensures lines { IfOk result (λ job.
+        length job.script.stops + length job.script.pauses ≤ MOST_SCRIPT_LINES) }
 {
     let settings = read_settings(lines)?;
     let body = read_body(alloc, lines)?;

@@ -38,6 +38,8 @@ pub fn script_where(
     requires room { lines.old.number + 102 < 2 ^ 32 }
     ensures reading { ReadsFront result (script_at follows replicas lines.old) lines.new }
     ensures few { IfOk result (λ _. lines.new.number ≤ lines.old.number + 101) }
+    ensures lines { IfOk result (λ script.
+        length script.stops + length script.pauses ≤ MOST_SCRIPT_LINES) }
 {
     if follows {
         script(alloc, lines, replicas)
@@ -62,6 +64,8 @@ pub fn script(alloc: Global, lines: &mut LineReader<'_>, replicas: u8) -> Result
     ensures reading { ReadsFront result
         (script_from replicas [] [] lines.old.number lines.old.lines) lines.new }
     ensures few { IfOk result (λ _. lines.new.number ≤ lines.old.number + 101) }
+    ensures lines { IfOk result (λ script.
+        length script.stops + length script.pauses ≤ MOST_SCRIPT_LINES) }
 {
     let mut stops = Vec::new(alloc);
     let mut pauses = Vec::new(alloc);
@@ -283,6 +287,3 @@ fn push_pauses_of(ordered: &mut Vec<Pause>, replica: u8, pauses: &[Pause]) -> Re
     }
     Ok(())
 }
-
-#[cfg(test)]
-mod tests;

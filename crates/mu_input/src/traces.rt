@@ -1,7 +1,14 @@
 //! The events of a trace: the lines after its job.
-ghost use Rattle.std.specs.Prelude.{◌≡◌, ◌+◌, ◌≤◌, ◌<◌, ◌^◌, length, vec_len, IfOk};
-ghost use Rattle.mu_input.specs.Readings.{ReadsFrontAs};
-ghost use Rattle.mu_input.specs.Traces.{events_at};
+ghost use Rattle.std.specs.Prelude.{◌≡◌, ◌+◌, ◌≤◌, ◌<◌, ◌^◌, ℕ, List, All, length, vec_len, IfOk};
+ghost use Rattle.mu_events.specs.Lines.{FitsEvent, IsSpelled};
+ghost use Rattle.mu_model.specs.Legal.{IsLegal};
+ghost use Rattle.mu_model.specs.declared.event.Event.{Event as Made};
+ghost use Rattle.mu_text.specs.Lines.{ended};
+ghost use Rattle.mu_input.specs.Grammar.{job};
+ghost use Rattle.mu_input.specs.JobLines.{lines_of_trace};
+ghost use Rattle.mu_input.specs.Readings.{Fits, ReadsFrontAs};
+ghost use Rattle.mu_input.specs.Traces.{events_at, trace};
+ghost use Rattle.mu_input.specs.declared.job.Job.{Job};
 
 use crate::cause::{EVENT, NO_END};
 use crate::job::InputEnd;
@@ -44,3 +51,16 @@ pub fn read_events(
         events.push(event)?;
     }
 }
+
+/// The lines of a trace are read back as its job and its events: of every job that bytes spell, and
+/// of every legal list of events whose numbers fit their types.
+pub fn traces_are_read_back()
+    ensures spelled { (bytes : List ℕ) (given : Job) (events : List Made) → job bytes ≡ Fits given
+        → All (IsSpelled given.config.replicas) events
+        → trace (ended (lines_of_trace given events))
+        ≡ Fits (record { job = given; events = events }) }
+    ensures legal { (bytes : List ℕ) (given : Job) (events : List Made) → job bytes ≡ Fits given
+        → IsLegal given.config events → All FitsEvent events
+        → trace (ended (lines_of_trace given events))
+        ≡ Fits (record { job = given; events = events }) }
+{}

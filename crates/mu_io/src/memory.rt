@@ -37,11 +37,13 @@ impl Model for MemSource {
 }
 
 impl MemSource {
-    /// A source of `bytes`, which gives at most `piece` of them at each read. The reads whose numbers,
-    /// counted from 1, stand in `fails` fail.
+    /// A source of `bytes`, which gives at most `piece` of them at each read. The reads whose
+    /// numbers, counted from 1, stand in `fails` fail.
     pub fn new(bytes: Vec<u8>, piece: usize, fails: Vec<u32>) -> MemSource
         requires { 0 < piece }
-        ensures { result ≡ record { left = bytes.items; piece = piece; fails = fails.items; calls = 0; faults = 0 } }
+        ensures { result
+            ≡ record
+            { left = bytes.items; piece = piece; fails = fails.items; calls = 0; faults = 0 } }
     {
         MemSource {
             bytes,
@@ -123,7 +125,15 @@ impl MemSink {
     /// each write. The writes whose numbers, counted from 1, stand in `fails` fail.
     pub fn new(room: Vec<u8>, piece: usize, fails: Vec<u32>) -> MemSink
         requires { 0 < piece }
-        ensures { result ≡ record { written = []; room = vec_len room; piece = piece; fails = fails.items; calls = 0; faults = 0 } }
+        ensures { result
+            ≡ record {
+              written = [];
+              room = vec_len room;
+              piece = piece;
+              fails = fails.items;
+              calls = 0;
+              faults = 0;
+            } }
     {
         MemSink {
             room,

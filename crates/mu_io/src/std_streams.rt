@@ -1,5 +1,6 @@
 //! The readers and writers of `std` as a source and a sink: the edge of what is proved.
-ghost use Rattle.std.specs.Prelude.{◌≡◌, ◌<◌, ◌≤◌, length, IfOk, OnOk, OnErr};
+ghost use Rattle.std.specs.Prelude.{◌≡◌, ◌<◌, ◌≤◌, length, take, IfOk, OnOk, OnErr};
+ghost use Rattle.std.specs.Io.KnownBytes.{Appends, Consumes, IsAtEnd, Keeps};
 ghost use Rattle.mu_io.specs.Faults.{Rose, one_more};
 
 use crate::streams::fault;
@@ -7,8 +8,9 @@ use crate::{Failed, Sink, Source};
 use std::io::{Read, Write};
 use std::marker::Model;
 
-/// A reader of `std` as a source, as `StdSource::new(rt.stdin())`. It tells nothing of the bytes.
-/// A contract sees it as the number of its faults.
+/// A reader of `std` as a source, as `StdSource::new(rt.stdin())`. It tells of the bytes what the
+/// reader tells: nothing where that is a standard stream. A contract sees the reader and the number
+/// of its faults.
 #[derive(Drop)]
 pub struct StdSource<I> {
     input: I,
@@ -18,35 +20,37 @@ pub struct StdSource<I> {
 impl<I> Model for StdSource<I> {
     ghost use Rattle.std.specs.Prelude.{ℕ};
 
-    ghost Value = { ℕ };
+    ghost Value = { I × ℕ };
 
-    ghost view = { λ s. s.faults };
+    ghost view = { λ s. (s.input, s.faults) };
 }
 
 impl<I: Read> StdSource<I> {
     /// A source of what `input` reads, with no fault so far.
     pub fn new(input: I) -> StdSource<I>
-        ensures { result ≡ 0 }
+        ensures { result ≡ (input, 0) }
     {
         StdSource { input, faults: 0 }
     }
 }
 
 impl<I: Read> Source for StdSource<I> {
-    ghost use Rattle.std.specs.Prelude.{None};
+    ghost left = { λ s. I.remaining s.0 };
 
-    ghost left = { λ _. None };
-
-    ghost faults = { λ s. s };
+    ghost faults = { λ s. s.1 };
 
     /// One read of the reader. Each error of it is a fault: an interrupted read too, and an end
     /// that comes as an error.
     fn read(&mut self, into: &mut [u8]) -> Result<usize, Failed>
         ensures at_most { IfOk result (λ k. k ≤ length into.new) }
-        ensures same_faults { OnOk result (self.new ≡ self.old) }
-        ensures counted { OnErr result (self.new ≡ one_more self.old) }
-        ensures failed { OnErr result (Rose self.old self.new) }
-        ensures never_falls { self.old ≤ self.new }
+        ensures bytes { IfOk result
+            (λ k. Consumes (I.remaining self.old.0) (I.remaining self.new.0) (take k into.new)) }
+        ensures end { IfOk result (λ k. k ≡ 0 → 0 < length into.old → IsAtEnd (I.remaining self.old.0)) }
+        ensures same_faults { OnOk result (self.new.1 ≡ self.old.1) }
+        ensures counted { OnErr result (self.new.1 ≡ one_more self.old.1) }
+        ensures failed { OnErr result (Rose self.old.1 self.new.1) }
+        ensures kept { OnErr result (Keeps (I.remaining self.old.0) (I.remaining self.new.0)) }
+        ensures never_falls { self.old.1 ≤ self.new.1 }
     {
         match self.input.read(into) {
             Ok(count) => Ok(count),
@@ -55,9 +59,9 @@ impl<I: Read> Source for StdSource<I> {
     }
 }
 
-/// A writer of `std` as a sink, as `StdSink::new(rt.stdout())`. It tells nothing of the bytes, and
-/// flushes nothing: give it a writer that does not buffer. A contract sees it as the number of its
-/// faults.
+/// A writer of `std` as a sink, as `StdSink::new(rt.stdout())`. It tells of the bytes what the
+/// writer tells: nothing where that is a standard stream. It flushes nothing: give it a writer that
+/// does not buffer. A contract sees the writer and the number of its faults.
 #[derive(Drop)]
 pub struct StdSink<O> {
     output: O,
@@ -67,36 +71,37 @@ pub struct StdSink<O> {
 impl<O> Model for StdSink<O> {
     ghost use Rattle.std.specs.Prelude.{ℕ};
 
-    ghost Value = { ℕ };
+    ghost Value = { O × ℕ };
 
-    ghost view = { λ s. s.faults };
+    ghost view = { λ s. (s.output, s.faults) };
 }
 
 impl<O: Write> StdSink<O> {
     /// A sink that writes to `output`, with no fault so far.
     pub fn new(output: O) -> StdSink<O>
-        ensures { result ≡ 0 }
+        ensures { result ≡ (output, 0) }
     {
         StdSink { output, faults: 0 }
     }
 }
 
 impl<O: Write> Sink for StdSink<O> {
-    ghost use Rattle.std.specs.Prelude.{None};
+    ghost written = { λ s. O.contents s.0 };
 
-    ghost written = { λ _. None };
-
-    ghost faults = { λ s. s };
+    ghost faults = { λ s. s.1 };
 
     /// One write of the writer. Each error of it is a fault, and so is a write that takes nothing
     /// of a piece that has bytes.
     fn write(&mut self, from: &[u8]) -> Result<usize, Failed>
         ensures at_most { IfOk result (λ k. k ≤ length from.now) }
         ensures some { IfOk result (λ k. 0 < length from.now → 0 < k) }
-        ensures same_faults { OnOk result (self.new ≡ self.old) }
-        ensures counted { OnErr result (self.new ≡ one_more self.old) }
-        ensures failed { OnErr result (Rose self.old self.new) }
-        ensures never_falls { self.old ≤ self.new }
+        ensures bytes { IfOk result
+            (λ k. Appends (O.contents self.old.0) (O.contents self.new.0) (take k from.now)) }
+        ensures same_faults { OnOk result (self.new.1 ≡ self.old.1) }
+        ensures counted { OnErr result (self.new.1 ≡ one_more self.old.1) }
+        ensures failed { OnErr result (Rose self.old.1 self.new.1) }
+        ensures kept { OnErr result (Keeps (O.contents self.old.0) (O.contents self.new.0)) }
+        ensures never_falls { self.old.1 ≤ self.new.1 }
     {
         match self.output.write(from) {
             Ok(count) if count > 0 || from.is_empty() => Ok(count),

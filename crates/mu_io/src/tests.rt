@@ -79,7 +79,8 @@ fn refuses_a_limit_without_memory(rt: HostRuntime) -> Result<(), Fail> {
 
 #[test]
 fn writes_whole_outputs(rt: HostRuntime) -> Result<(), Fail> {
-    // The size of a piece, the room, and how many bytes are taken where the write of that number fails.
+    // The size of a piece, the room, and how many bytes are taken where the write of that number
+    // fails.
     let table: [(usize, usize, [usize; 4]); 5] = [
         (1, 10, [10, 0, 1, 2]),
         (2, 12, [10, 0, 2, 4]),

@@ -1,12 +1,14 @@
 -- How an input is cut into traces, and what is printed of them.
-use Rattle.std.specs.Prelude.{ℕ, ◌≡◌, ◌<◌, Bool, List, [], ◌∷◌, ◌++◌, length, take, drop, None, Some, IfSome, MatchOption, if◌then◌else◌, ⊤}
+use Rattle.std.specs.Prelude.{ℕ, ◌≡◌, ◌<◌, ◌&&◌, Bool, true, false, List, [], ◌∷◌, ◌++◌, length, take, drop, None, Some, IfSome, MatchOption, Err, Ok, if◌then◌else◌, ⊤}
+use Rattle.std.specs.declared.result.Result.{Result}
 use Rattle.std.specs.declared.option.Option.{Option}
 use Rattle.std.specs.Option.{option_map, option_map_or}
 use Rattle.std.specs.Str.{bytes_eq}
 use Rattle.std.specs.Io.KnownBytes.{Appends}
 use Rattle.mu_io.specs.Faults.{Rose}
+use Rattle.mu_outcome.specs.declared.verdict.Verdict.{Verdict}
 use Rattle.mu_report.specs.declared.said.Said.{Said}
-use Rattle.mu_report.specs.Judged.{SaysOf}
+use Rattle.mu_judging.specs.Judged.{SaysOf}
 use Rattle.mu_report.specs.Said.{text}
 use Rattle.mu_judge.specs.declared.judging.TheConstants.{INPUT_LIMIT}
 use Rattle.mu_judge.specs.declared.judging.End.{End}
@@ -23,18 +25,30 @@ is_between bytes = bytes_eq separator (take 5 bytes)
 abbrev pub cut : List ℕ → Option (List ℕ × List ℕ)
 cut [] = None
 cut (byte ∷ bytes) =
-    if is_between (byte ∷ bytes) then Some ([], drop 4 bytes) else option_map (λ parts. (byte ∷ parts.0, parts.1)) (cut bytes)
+    if is_between (byte ∷ bytes) then Some ([], drop 4 bytes)
+    else option_map (λ parts. (byte ∷ parts.0, parts.1)) (cut bytes)
 
 -- what there is to say of each trace of the bytes, in order
 abbrev pub SaysOfAll : List ℕ → List Said → Type 0
 SaysOfAll bytes [] = ⊥
 SaysOfAll bytes (said ∷ saids) =
-    MatchOption (cut bytes) (SaysOf bytes said × (saids ≡ [])) (λ parts. SaysOf parts.0 said × SaysOfAll parts.1 saids)
+    MatchOption (cut bytes) (SaysOf bytes said × (saids ≡ []))
+    (λ parts. SaysOf parts.0 said × SaysOfAll parts.1 saids)
 
 -- the texts of what is said
 abbrev pub texts : List Said → List ℕ
 texts [] = []
 texts (said ∷ saids) = text said ++ texts saids
+
+-- a trace is said to be legal
+abbrev pub is_legal : Said → Bool
+is_legal (Said.Judged events Verdict.Legal) = true
+is_legal _ = false
+
+-- all of them are
+abbrev pub are_legal : List Said → Bool
+are_legal [] = true
+are_legal (said ∷ saids) = is_legal said && are_legal saids
 
 -- the bytes of the first trace
 abbrev pub first_of : List ℕ → List ℕ
@@ -43,19 +57,22 @@ first_of bytes = option_map_or (λ parts. parts.0) (cut bytes) bytes
 -- what there is to say of the first traces of the bytes, in order, and of the one after them
 abbrev pub SaysOfFirst : List ℕ → List Said → Said → Type 0
 SaysOfFirst bytes [] last = SaysOf (first_of bytes) last
-SaysOfFirst bytes (said ∷ saids) last = MatchOption (cut bytes) ⊥ (λ parts. SaysOf parts.0 said × SaysOfFirst parts.1 saids last)
+SaysOfFirst bytes (said ∷ saids) last =
+    MatchOption (cut bytes) ⊥ (λ parts. SaysOf parts.0 said × SaysOfFirst parts.1 saids last)
 
--- what there is to say of the trace was written
-pub record JudgesOne (bytes : List ℕ) (before after : Option (List ℕ)) : Type 0 where
+-- what there is to say of the trace was written, and whether it is legal
+pub record JudgesOne (bytes : List ℕ) (before after : Option (List ℕ)) (legal : Bool) : Type 0 where
   pub said : Said
   pub says : SaysOf bytes said
   pub printed : Appends before after (text said)
+  pub legal_is : is_legal said ≡ legal
 
--- what there is to say of each trace was written, in order
-pub record JudgesAll (bytes : List ℕ) (before after : Option (List ℕ)) : Type 0 where
+-- what there is to say of each trace was written, in order, and whether all are legal
+pub record JudgesAll (bytes : List ℕ) (before after : Option (List ℕ)) (legal : Bool) : Type 0 where
   pub saids : List Said
   pub says : SaysOfAll bytes saids
   pub printed : Appends before after (texts saids)
+  pub legal_is : are_legal saids ≡ legal
 
 -- of what there is to say of the trace so many bytes were written, but not all
 pub record JudgesPart (bytes : List ℕ) (before after : Option (List ℕ)) (taken : ℕ) : Type 0 where
@@ -72,11 +89,13 @@ pub record JudgesSome (bytes : List ℕ) (before after : Option (List ℕ)) (tak
   pub printed : Appends before after (texts saids ++ take taken (text last))
   pub short : taken < length (text last)
 
--- each end, and what it tells of the bytes that the source had left and of those that the sink had taken before and after,
--- where these tell them
+-- each end, and what it tells of the bytes that the source had left and of those that the sink had
+-- taken before and after, where these tell them
 abbrev pub Stops : Option (List ℕ) → Option (List ℕ) → Option (List ℕ) → End → Type 0
-Stops left before after End.WriteFault = IfSome left (λ bytes. (taken : ℕ) × JudgesSome bytes before after taken)
-Stops left before after End.TooLong = IfSome left (λ bytes. INPUT_LIMIT < length bytes) × (after ≡ before)
+Stops left before after End.WriteFault =
+    IfSome left (λ bytes. (taken : ℕ) × JudgesSome bytes before after taken)
+Stops left before after End.TooLong =
+    IfSome left (λ bytes. INPUT_LIMIT < length bytes) × (after ≡ before)
 Stops left before after End.ReadFault = after ≡ before
 Stops left before after End.NoMemory = after ≡ before
 
@@ -87,9 +106,11 @@ HasFault read now_read wrote now_wrote End.WriteFault = Rose wrote now_wrote
 HasFault read now_read wrote now_wrote End.NoMemory = ⊤
 HasFault read now_read wrote now_wrote End.TooLong = ⊤
 
--- the status of the program at an end
-abbrev pub status_of : End → ℕ
-status_of End.ReadFault = 4
-status_of End.WriteFault = 5
-status_of End.NoMemory = 6
-status_of End.TooLong = 8
+-- the status of the program: whether all traces are legal, or why not all were judged
+abbrev pub status_of : Result Bool End → ℕ
+status_of (Ok true) = 0
+status_of (Ok false) = 7
+status_of (Err End.ReadFault) = 4
+status_of (Err End.WriteFault) = 5
+status_of (Err End.NoMemory) = 6
+status_of (Err End.TooLong) = 8

@@ -1,12 +1,14 @@
 //! From the bytes of an input to the lines on its traces.
-ghost use Rattle.std.specs.Prelude.{◌≡◌, ◌≤◌, length, IfErr, IfSome, OnErr, OnOk};
+ghost use Rattle.std.specs.Prelude.{◌≡◌, ◌≤◌, length, IfErr, IfOk, IfSome, OnErr, OnOk};
 ghost use Rattle.mu_io.specs.Faults.{Rose};
 ghost use Rattle.mu_input.specs.declared.TheConstants.{TRACE_LIMIT};
-ghost use Rattle.mu_judge.specs.Traces.{HasFault, JudgesAll, JudgesOne, JudgesPart, JudgesSome, Stops, status_of};
+ghost use Rattle.mu_judge.specs.Traces.{HasFault, JudgesAll, JudgesOne, JudgesPart, JudgesSome, Stops, is_legal as is_legal_said, status_of};
 
 use crate::cutting::cut;
 use mu_io::{ReadEnd, Sink, Source, WriteFault, read_all};
-use mu_report::{judged, print};
+use mu_judging::judged;
+use mu_outcome::Verdict;
+use mu_report::{Said, print};
 use std::alloc::Global;
 
 /// The most bytes that an input may have.
@@ -25,35 +27,49 @@ pub enum End {
     TooLong,
 }
 
-impl End {
-    /// The status that the program ends with: 4 read fault, 5 write fault, 6 want of memory, 8 too
-    /// long.
-    pub fn status(self) -> u8
-        ensures { result ≡ status_of self }
-    {
-        match self {
-            End::ReadFault => 4,
-            End::WriteFault => 5,
-            End::NoMemory => 6,
-            End::TooLong => 8,
-        }
+/// The status that the program ends with: 0 where all traces are legal, 7 where one is not, else 4
+/// read fault, 5 write fault, 6 want of memory, 8 too long.
+pub fn status(end: Result<bool, End>) -> u8
+    ensures { result ≡ status_of end }
+{
+    match end {
+        Ok(true) => 0,
+        Ok(false) => 7,
+        Err(End::ReadFault) => 4,
+        Err(End::WriteFault) => 5,
+        Err(End::NoMemory) => 6,
+        Err(End::TooLong) => 8,
     }
 }
 
-/// Reads a whole input, judges its traces one by one, and writes the line of each.
+/// Whether a trace is said to be legal.
+fn is_legal(said: &Said) -> bool
+    ensures { result ≡ is_legal_said said.now }
+{
+    match said {
+        Said::Judged {
+            events: _,
+            verdict: Verdict::Legal,
+        } => true,
+        _ => false,
+    }
+}
+
+/// Reads a whole input, judges its traces one by one, and writes the line of each. Whether all of
+/// them are legal.
 ///
 /// # Errors
 ///
-/// A fault of the source, more bytes than the limit or want of memory for the input, before anything is
-/// written; or a fault of the sink, where the lines of the first traces are written, and of the next
-/// line so many bytes as the sink had taken.
+/// A fault of the source, more bytes than the limit or want of memory for the input, before
+/// anything is written; or a fault of the sink, where the lines of the first traces are written,
+/// and of the next line so many bytes as the sink had taken.
 pub fn judge_input<S: Source, K: Sink>(
     alloc: Global,
     source: &mut S,
     sink: &mut K,
-) -> Result<(), End>
-    ensures all { OnOk result (IfSome (S.left source.old)
-        (λ bytes. JudgesAll bytes (K.written sink.old) (K.written sink.new))) }
+) -> Result<bool, End>
+    ensures all { IfOk result (λ legal. IfSome (S.left source.old)
+        (λ bytes. JudgesAll bytes (K.written sink.old) (K.written sink.new) legal)) }
     ensures read { OnOk result (S.faults source.new ≡ S.faults source.old) }
     ensures written { OnOk result (K.faults sink.new ≡ K.faults sink.old) }
     ensures stops { IfErr result
@@ -68,46 +84,52 @@ pub fn judge_input<S: Source, K: Sink>(
         Err(ReadEnd::NoMemory) => return Err(End::NoMemory),
     };
     match judge_bytes(alloc, bytes.as_slice(), sink) {
-        Ok(()) => Ok(()),
+        Ok(legal) => Ok(legal),
         Err(_) => Err(End::WriteFault),
     }
 }
 
-/// Judges the traces of an input one by one, and writes the line of each.
+/// Judges the traces of an input one by one, and writes the line of each. Whether all are legal.
 ///
 /// # Errors
 ///
-/// `WriteFault` where the sink counted a fault, with the number of the bytes of that line that it had
-/// taken.
-fn judge_bytes<K: Sink>(alloc: Global, bytes: &[u8], sink: &mut K) -> Result<(), WriteFault>
+/// `WriteFault` where the sink counted a fault, with the number of the bytes of that line that it
+/// had taken.
+fn judge_bytes<K: Sink>(alloc: Global, bytes: &[u8], sink: &mut K) -> Result<bool, WriteFault>
     requires { length bytes.now ≤ TRACE_LIMIT }
-    ensures all { OnOk result (JudgesAll bytes.now (K.written sink.old) (K.written sink.new)) }
+    ensures all { IfOk result (λ legal.
+        JudgesAll bytes.now (K.written sink.old) (K.written sink.new) legal) }
     ensures some { IfErr result (λ fault.
         JudgesSome bytes.now (K.written sink.old) (K.written sink.new) fault.taken) }
     ensures same_faults { OnOk result (K.faults sink.new ≡ K.faults sink.old) }
     ensures fault { OnErr result (Rose (K.faults sink.old) (K.faults sink.new)) }
 {
     let mut rest = bytes;
+    let mut legal = true;
     while let Some((trace, behind)) = cut(rest) {
-        judge_trace(alloc, trace, sink)?;
+        legal &= judge_trace(alloc, trace, sink)?;
         rest = behind;
     }
-    judge_trace(alloc, rest, sink)
+    legal &= judge_trace(alloc, rest, sink)?;
+    Ok(legal)
 }
 
-/// Judges a trace and writes its line.
+/// Judges a trace and writes its line. Whether it is legal.
 ///
 /// # Errors
 ///
-/// `WriteFault` where the sink counted a fault, with the number of the bytes of the line that it had
-/// taken.
-fn judge_trace<K: Sink>(alloc: Global, bytes: &[u8], sink: &mut K) -> Result<(), WriteFault>
+/// `WriteFault` where the sink counted a fault, with the number of the bytes of the line that it
+/// had taken.
+fn judge_trace<K: Sink>(alloc: Global, bytes: &[u8], sink: &mut K) -> Result<bool, WriteFault>
     requires { length bytes.now ≤ TRACE_LIMIT }
-    ensures one { OnOk result (JudgesOne bytes.now (K.written sink.old) (K.written sink.new)) }
+    ensures one { IfOk result (λ legal.
+        JudgesOne bytes.now (K.written sink.old) (K.written sink.new) legal) }
     ensures part { IfErr result (λ fault.
         JudgesPart bytes.now (K.written sink.old) (K.written sink.new) fault.taken) }
     ensures same_faults { OnOk result (K.faults sink.new ≡ K.faults sink.old) }
     ensures fault { OnErr result (Rose (K.faults sink.old) (K.faults sink.new)) }
 {
-    print(sink, &judged(alloc, bytes))
+    let said = judged(alloc, bytes);
+    print(sink, &said)?;
+    Ok(is_legal(&said))
 }

@@ -2,13 +2,14 @@
 //!
 //! The traces come on standard input, each as `mu check` reads one. Between two traces stand a line
 //! feed and a line `---` with its line feed, which no trace can hold; the bytes before and after
-//! these five are exactly those of the traces, so the last line of a trace may have a line feed of its
-//! own or lack it. An input without such a line is one trace.
+//! these five are exactly those of the traces, so the last line of a trace may have a line feed of
+//! its own or lack it. An input without such a line is one trace.
 //!
-//! For each trace one line is printed, as `mu check` prints it: `refused line L cause C`, `legal E`,
-//! `illegal I not allowed`, `illegal I expected ANSWER`, or `no memory`. The status is 0 where each
-//! trace was judged so, 4 for a read fault, 5 for a write fault, 6 where there is no memory for the
-//! input, and 8 for an input above 8,388,608 bytes.
+//! For each trace one line is printed, as `mu check` prints it: `refused line L cause C`,
+//! `legal E`,
+//! `illegal I not allowed`, `illegal I expected ANSWER`, or `no memory`. The status is 0 where
+//! all traces are legal, 7 where one is not, 4 for a read fault, 5 for a write fault, 6 where there
+//! is no memory for the input, and 8 for an input above 8,388,608 bytes.
 #![tactic(auto)]
 
 mod cutting;
@@ -17,15 +18,12 @@ mod judging;
 mod tests;
 
 pub use cutting::cut;
-pub use judging::{End, INPUT_LIMIT, judge_input};
+pub use judging::{End, INPUT_LIMIT, judge_input, status};
 use mu_io::{StdSink, StdSource};
 use std::process::ExitCode;
 
 fn main(rt: HostRuntime) -> ExitCode {
     let mut source = StdSource::new(rt.stdin());
     let mut sink = StdSink::new(rt.stdout());
-    match judge_input(rt.alloc(), &mut source, &mut sink) {
-        Ok(()) => ExitCode::SUCCESS,
-        Err(end) => ExitCode::from(end.status()),
-    }
+    ExitCode::from(status(judge_input(rt.alloc(), &mut source, &mut sink)))
 }

@@ -1,4 +1,4 @@
 pub mod Found
 pub mod Grants
 pub mod Lists
-pub mod Rows
+pub mod Stepping

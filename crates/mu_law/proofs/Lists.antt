@@ -1,24 +1,25 @@
 -- What the laws of agreement say of one list.
-use Rattle.std.proofs.Common.{◌≡◌, ℕ, List, ◌++◌, sym, ◌∙◌, ap, Some, subst}
+use Rattle.std.proofs.Common.{◌≡◌, ℕ, ◌<◌, ◌≤◌, inl, inr, List, ◌++◌, sym, ◌∙◌, ap, arith, Some, subst}
 use Rattle.std.specs.List.{slice_get}
 use Rattle.std.specs.Prelude.{◌↔◌}
 use Rattle.std.proofs.lemmas.List.{reverse-append}
 use Rattle.mu_model.specs.declared.config.Config.{Config}
 use Rattle.mu_model.specs.declared.event.Event.{Event}
-use Rattle.mu_model.specs.Contents.{IsConfig, IsInSession}
+use Rattle.mu_model.specs.Contents.{IsConfig, IsInSession, command_count, counted, session}
 use Rattle.mu_model.specs.Histories.{history, part}
 use Rattle.mu_model.specs.Knowledge.{known}
 use Rattle.mu_model.specs.Legal.{IsLegal, IsLegalHistory}
-use Rattle.mu_model.specs.Regions.{region_log}
+use Rattle.mu_model.specs.Regions.{region_head, region_log}
 use Rattle.mu_agree.proofs.Access.{only_owners_put_law}
 use Rattle.mu_agree.proofs.Legal.{legal_older}
 use Rattle.mu_agree.proofs.Minimum.{minimum_rises_law}
 use Rattle.mu_agree.proofs.Numbers.{numbers_differ_law}
 use Rattle.mu_agree.proofs.Phases.{at_most_one_chosen_law, known_is_chosen_law}
 use Rattle.mu_agree.proofs.Prefixes.{fuo_is_kept_law, known_agree, known_agree_law}
-use Rattle.mu_agree.proofs.Sessions.{known_in_session_law, known_marked_once_law, known_stands_law}
+use Rattle.mu_agree.proofs.Sessions.{known_in_session_law, known_marked_once_law, known_stands_law, rows_come_first_law, rows_read_right_law}
+use Rattle.mu_agree.proofs.Room.{head_known, looks_are_kept_law, places_are_kept_law}
 use Rattle.mu_agree.proofs.Slots.{slot_numbers_rise_law}
-use Rattle.mu_law.specs.Laws.{AreChosen, AreMarkedOnce, BothKnow, ChosenOnce, FuosHold, KnownListsAgree, MinimumsRise, NumbersAreOwn, OwnersPut, SlotsRise, StandForEntries}
+use Rattle.mu_law.specs.Laws.{AreChosen, AreMarkedOnce, BothKnow, ChosenOnce, FuosHold, FuosLast, KeepsPlaces, KeptPlaces, KnownListsAgree, MinimumsRise, NumbersAreOwn, OwnersPut, RowsAreFirst, RowsAreRight, SlotsRise, StandForEntries}
 
 -- what a legal list begins with is legal
 legal_front : (c : Config) (earlier later : List Event) → IsLegal c (earlier ++ later) → IsLegal c earlier
@@ -74,3 +75,26 @@ list_in_session c events r values h e is = subst (IsInSession c) (sym e) (known_
 pub list_marked_once : (c : Config) (events : List Event) (r : ℕ) (values : List ℕ) → IsLegal c events → values ≡ known c r (part r (history events)) → IsConfig c → AreMarkedOnce c values
 list_marked_once c events r values h e is q i j v w a b =
     known_marked_once_law c events r q i j v w is h (ap (λ l. slice_get l i) (sym e) ∙ a) (ap (λ l. slice_get l j) (sym e) ∙ b)
+
+-- the numbers of a client's commands in order
+pub numbers_counted : (c : Config) (events : List Event) (r client k : ℕ) → IsConfig c → IsLegal c events → k ≡ command_count c client (known c r (part r (history events)))
+    → session c client (known c r (part r (history events))) ≡ counted k 1
+numbers_counted c events r client k is h e = known_in_session_law c events r is h client ∙ ap (λ n. counted n 1) (sym e)
+
+pub fuos_last : (c : Config) (events : List Event) → FuosLast c events
+fuos_last c events more p i h l = fuo_is_kept_law c events more p i h l
+
+pub rows_first : (c : Config) (events : List Event) → IsConfig c → IsLegal c events → RowsAreFirst c events
+rows_first c events is h earlier later e p i b v at verb batch = rows_come_first_law c earlier later e p i b v is (subst (IsLegal c) at h) verb batch
+
+pub rows_right : (c : Config) (events : List Event) → IsConfig c → IsLegal c events → RowsAreRight c events
+rows_right c events is h earlier later e r i v t k at known_at batch few word verb =
+    rows_read_right_law c earlier later e r i v t k is (subst (IsLegal c) at h) known_at batch few word verb
+
+pub keeps_places : (c : Config) (events : List Event) (r : ℕ) → IsLegal c events → r < c.replicas → KeepsPlaces c events r
+keeps_places c events r h l p i need past =
+    let low : region_head r (history events) ≤ i = elim need [ inl x ↦ x | inr x ↦ (let y = head_known c r (history events) h in omega arith) ] in
+    places_are_kept_law c events r p i h l low past
+
+pub kept_places : (c : Config) (events : List Event) → IsLegal c events → KeptPlaces c events
+kept_places c events h earlier later e p i at verb past need = looks_are_kept_law c earlier later e p i (subst (IsLegal c) at h) verb past need

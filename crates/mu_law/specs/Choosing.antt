@@ -20,10 +20,12 @@ is_chosen_by c past i b v = nat_le (majority_of c.replicas) (takers c.replicas p
 
 -- the value of the put, where it landed at i and a majority took it
 abbrev pub choice_at : Config → List Event → ℕ → Verb → Answer → Option ℕ
-choice_at c past i (Verb.PutSlot p j b v) Answer.Done = if (j == i) && is_chosen_by c past j b v then Some v else None
+choice_at c past i (Verb.PutSlot p j b v) Answer.Done =
+    if (j == i) && is_chosen_by c past j b v then Some v else None
 choice_at c past i _ _ = None
 
 -- the position of the put, where it landed, its value is a mark of q and a majority took it
 abbrev pub choice_of_mark : Config → List Event → ℕ → Verb → Answer → Option ℕ
-choice_of_mark c past q (Verb.PutSlot p j b v) Answer.Done = if is_mark c q v && is_chosen_by c past j b v then Some j else None
+choice_of_mark c past q (Verb.PutSlot p j b v) Answer.Done =
+    if is_mark c q v && is_chosen_by c past j b v then Some j else None
 choice_of_mark c past q _ _ = None

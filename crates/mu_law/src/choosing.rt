@@ -1,7 +1,7 @@
 //! Which values are chosen.
 ghost use Rattle.std.specs.Prelude.{IfOk, Some, ℕ, ◌↔◌, ◌≡◌, ◌≤◌};
 ghost use Rattle.mu_law.specs.Choosing.{choice_at, choice_of_mark, is_chosen_by, takers};
-ghost use Rattle.mu_law.specs.Laws.{ChosenOnce, FuosHold, IsMarkedAt, MinimumsRise, NumbersAreOwn, OwnersPut, SlotsRise};
+ghost use Rattle.mu_law.specs.Laws.{ChosenOnce, FuosHold, FuosLast, IsMarkedAt, MinimumsRise, NumbersAreOwn, OwnersPut, SlotsRise};
 ghost use Rattle.mu_model.specs.Chosen.{IsChosen, is_accepted_at};
 ghost use Rattle.mu_model.specs.Contents.{IsConfig};
 ghost use Rattle.mu_model.specs.Histories.{has, history, newest};
@@ -80,7 +80,9 @@ fn mark_by(config: &Config, events: &[Event], q: u8, e: &Event) -> Option<u16>
 
 /// The value that some put shows to be chosen at `i`.
 fn choice_found(config: &Config, events: &[Event], i: usize) -> Option<u16>
-    ensures { result ≡ newest (λ e. choice_at config.now (history events.now) i e.verb e.answer) (history events.now) }
+    ensures { result
+        ≡ newest (λ e. choice_at config.now (history events.now) i e.verb e.answer)
+        (history events.now) }
 {
     let mut found: Option<u16> = None;
     for e in events {
@@ -93,7 +95,9 @@ fn choice_found(config: &Config, events: &[Event], i: usize) -> Option<u16>
 
 /// The position at which some put shows a mark of `q` to be chosen.
 fn mark_found(config: &Config, events: &[Event], q: u8) -> Option<u16>
-    ensures { result ≡ newest (λ e. choice_of_mark config.now (history events.now) q e.verb e.answer) (history events.now) }
+    ensures { result
+        ≡ newest (λ e. choice_of_mark config.now (history events.now) q e.verb e.answer)
+        (history events.now) }
 {
     let mut found: Option<u16> = None;
     for e in events {
@@ -104,7 +108,8 @@ fn mark_found(config: &Config, events: &[Event], q: u8) -> Option<u16>
     found
 }
 
-/// The value that is chosen at position `i`, exactly where one is. On condition that the list is legal.
+/// The value that is chosen at position `i`, exactly where one is. On condition that the list is
+/// legal.
 ///
 /// # Errors
 ///
@@ -116,9 +121,11 @@ pub fn chosen_at(
     i: usize,
 ) -> Result<Option<u16>, NoMemory>
     requires legal { IsLegal config.now events.now }
-    ensures is { IfOk result (λ found. (v : ℕ) → (found ≡ Some v) ↔ IsChosen config.now (history events.now) i v) }
+    ensures is { IfOk result
+        (λ found. (v : ℕ) → (found ≡ Some v) ↔ IsChosen config.now (history events.now) i v) }
     ensures once { ChosenOnce config.now events.now }
     ensures fuos { FuosHold config.now events.now }
+    ensures lasting { FuosLast config.now events.now }
     ensures owners { OwnersPut events.now }
     ensures minimums { MinimumsRise events.now }
     ensures slots { SlotsRise events.now }
@@ -127,7 +134,8 @@ pub fn chosen_at(
     Ok(choice_found(config, events, i))
 }
 
-/// The position at which a mark of `q` is chosen, exactly where one is. On condition that the list is legal.
+/// The position at which a mark of `q` is chosen, exactly where one is. On condition that the list
+/// is legal.
 ///
 /// # Errors
 ///
@@ -140,8 +148,10 @@ pub fn marked(
 ) -> Result<Option<u16>, NoMemory>
     requires config { IsConfig config.now }
     requires legal { IsLegal config.now events.now }
-    ensures is { IfOk result (λ found. (i : ℕ) → (found ≡ Some i) ↔ IsMarkedAt config.now q (history events.now) i) }
-    ensures once { (i j : ℕ) → IsMarkedAt config.now q (history events.now) i → IsMarkedAt config.now q (history events.now) j → i ≡ j }
+    ensures is { IfOk result
+        (λ found. (i : ℕ) → (found ≡ Some i) ↔ IsMarkedAt config.now q (history events.now) i) }
+    ensures once { (i j : ℕ) → IsMarkedAt config.now q (history events.now) i
+        → IsMarkedAt config.now q (history events.now) j → i ≡ j }
 {
     Ok(mark_found(config, events, q))
 }

@@ -1,14 +1,15 @@
 //! What holds of every legal list of events, computed from the list: for tests and tools.
 //!
-//! Each call wants memory at most, and may take the time of the cube of the list.
+//! What a replica knows and what a region holds come from the running states, in about the time of
+//! one walk over the list; which values are chosen takes about the time of its square.
 #![tactic(auto)]
 
 mod choosing;
 mod keeping;
 mod knowing;
 mod legality;
-mod parts;
 mod sessions;
+mod states;
 
 pub use choosing::{chosen_at, marked};
 pub use keeping::kept;
@@ -18,4 +19,4 @@ pub use mu_model::NoMemory;
 pub use sessions::session_of;
 
 #[cfg(test)]
-mod tests;
+mod untrue_tests;

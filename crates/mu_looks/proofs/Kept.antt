@@ -4,17 +4,17 @@ use Rattle.mu_model.specs.declared.config.Config.{Config}
 use Rattle.mu_model.specs.declared.event.Answer.{Answer}
 use Rattle.mu_model.specs.declared.event.Event.{Event}
 use Rattle.mu_model.specs.declared.event.Verb.{Verb}
-use Rattle.mu_leads.specs.Bearing.{is_leader_verb}
-use Rattle.mu_looks.specs.Placing.{HoldsPlacing}
-use Rattle.mu_looks.specs.declared.placing.Placing.{Placing}
+use Rattle.mu_leading.specs.Bearing.{is_leader_verb}
+use Rattle.mu_looks.specs.Looks.{StandsForLooks}
+use Rattle.mu_looks.specs.declared.looks.Looks.{Looks}
 use Rattle.mu_looks.proofs.Tables.{firsts_stay, looks_stay}
 use Rattle.mu_model.proofs.Basics.{event_by}
 
 -- the same with this time
-abbrev pub at_time : Placing → ℕ → Placing
+abbrev pub at_time : Looks → ℕ → Looks
 at_time state time = record { replica = state.replica; time = time; begun_at = state.begun_at; joined_at = state.joined_at; own_reach = state.own_reach; firsts = state.firsts; regions = state.regions }
 
-kept_by : (c : Config) (r by : ℕ) (verb : Verb) (answer : Answer) (mine : List Event) (state : Placing) (time : ℕ) → is_leader_verb verb ≡ false → time ≡ state.time + 1 → HoldsPlacing c r mine state → HoldsPlacing c r (event_by by verb answer ∷ mine) (at_time state time)
+kept_by : (c : Config) (r by : ℕ) (verb : Verb) (answer : Answer) (mine : List Event) (state : Looks) (time : ℕ) → is_leader_verb verb ≡ false → time ≡ state.time + 1 → StandsForLooks c r mine state → StandsForLooks c r (event_by by verb answer ∷ mine) (at_time state time)
 kept_by c r by (Verb.Ask p) answer mine state time other later held = cc
 kept_by c r by (Verb.Fence p) answer mine state time other later held = cc
 kept_by c r by (Verb.Min p) answer mine state time other later held = cc
@@ -47,5 +47,5 @@ kept_by c r by verb answer mine state time other later held = record {
       };
 }
 
-pub placing_kept : (c : Config) (r : ℕ) (e : Event) (mine : List Event) (state : Placing) (time : ℕ) → is_leader_verb e.verb ≡ false → time ≡ state.time + 1 → HoldsPlacing c r mine state → HoldsPlacing c r (e ∷ mine) (at_time state time)
+pub placing_kept : (c : Config) (r : ℕ) (e : Event) (mine : List Event) (state : Looks) (time : ℕ) → is_leader_verb e.verb ≡ false → time ≡ state.time + 1 → StandsForLooks c r mine state → StandsForLooks c r (e ∷ mine) (at_time state time)
 placing_kept c r e mine state time other later held = kept_by c r e.by e.verb e.answer mine state time other later held

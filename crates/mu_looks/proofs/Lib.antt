@@ -1,4 +1,4 @@
-pub mod Looks
+pub mod RegionLooks
 pub mod Tables
 pub mod Times
 pub mod Kept

@@ -11,13 +11,13 @@ use Rattle.mu_model.specs.declared.event.Verb.{Verb}
 use Rattle.mu_model.specs.Histories.{earlier_or}
 use Rattle.mu_model.specs.Leaderships.{is_member}
 use Rattle.mu_model.specs.Picks.{first_value, joined_since_first_put, look_answer, value_put}
-use Rattle.mu_looks.specs.declared.looking.Look.{Look}
-use Rattle.mu_looks.specs.declared.looking.Looks.{Looks}
-use Rattle.mu_looks.specs.declared.placing.First.{First}
-use Rattle.mu_looks.specs.Placing.{HoldsEachLook, HoldsEachRegion, HoldsFirst, HoldsFirsts, HoldsLook, HoldsLooks, begun_time, joining_time}
+use Rattle.mu_looks.specs.declared.region_looks.Look.{Look}
+use Rattle.mu_looks.specs.declared.region_looks.RegionLooks.{RegionLooks}
+use Rattle.mu_looks.specs.declared.looks.First.{First}
+use Rattle.mu_looks.specs.Looks.{HoldsEachLook, HoldsEachRegion, HoldsFirst, HoldsFirsts, HoldsLook, StandsForRegionLooks, begun_time, joining_time}
 use Rattle.mu_model.proofs.Basics.{same_number}
 use Rattle.mu_model.proofs.Lists.{item_read, set_get}
-use Rattle.mu_looks.proofs.Looks.{look_stays, made}
+use Rattle.mu_looks.proofs.RegionLooks.{look_stays, made}
 use Rattle.mu_looks.proofs.Times.{is_early, joining_in_time, last_in_time, not_late}
 
 -- a look at another position, or of another replica
@@ -161,11 +161,11 @@ firsts_put r q j b v mine e firsts was new is found step held i first there = el
 ]
 
 -- the region that was found at place p
-pub region_found : (c : Config) (r p : ℕ) (mine : List Event) (regions items : List Looks) (k : ℕ) (looks : Looks) → items ≡ regions → k ≡ p → looks ≡ get_or items k looks → k < length items → HoldsEachRegion c r mine regions → HoldsLooks c r p mine looks
+pub region_found : (c : Config) (r p : ℕ) (mine : List Event) (regions items : List RegionLooks) (k : ℕ) (looks : RegionLooks) → items ≡ regions → k ≡ p → looks ≡ get_or items k looks → k < length items → HoldsEachRegion c r mine regions → StandsForRegionLooks c r p mine looks
 region_found c r p mine regions items k looks same at found low each =
-    subst (λ l. HoldsLooks c r p mine l) (sym found)
-    (item_read (λ q l. HoldsLooks c r q mine l) items k p looks at (omega (arith, at, low)) (subst (λ (xs : List Looks). HoldsEachRegion c r mine xs) (sym same) each))
+    subst (λ l. StandsForRegionLooks c r p mine l) (sym found)
+    (item_read (λ q l. StandsForRegionLooks c r q mine l) items k p looks at (omega (arith, at, low)) (subst (λ (xs : List RegionLooks). HoldsEachRegion c r mine xs) (sym same) each))
 
 -- each of seven regions is found
-pub region_there : (p k : ℕ) (regions items : List Looks) → items ≡ regions → k ≡ p → length items ≤ k → length regions ≡ 7 → p < 7 → ⊥
+pub region_there : (p k : ℕ) (regions items : List RegionLooks) → items ≡ regions → k ≡ p → length items ≤ k → length regions ≡ 7 → p < 7 → ⊥
 region_there p k regions items same at low seven small = let long : length items ≡ 7 = ap length same ∙ seven in omega (arith, long, at, low, small)

@@ -7,7 +7,7 @@ use Rattle.mu_model.specs.declared.event.Event.{Event}
 use Rattle.mu_model.specs.Histories.{newer_or}
 use Rattle.mu_model.specs.Leaderships.{begins_leadership, grant_at_joining, is_member, lands_min}
 use Rattle.mu_model.specs.Picks.{is_joining}
-use Rattle.mu_looks.specs.Placing.{joining_time, last_time, member_time}
+use Rattle.mu_looks.specs.Looks.{joining_time, last_time, member_time}
 
 -- what is in time is not after the next event
 pub not_late : (n x : ℕ) → x ≤ n → nat_lt (n + 1) x ≡ false

@@ -3,7 +3,7 @@
 //! The state stands for the replica's own events, and is kept up to date event by event.
 #![tactic(auto)]
 
-mod looking;
-mod placing;
+mod looks;
+mod region_looks;
 
-pub use placing::Placing;
+pub use looks::Looks;

@@ -1,7 +1,6 @@
 pub mod Basics
+pub mod Budgets
 pub mod Counts
-pub mod Entries
-pub mod First
 pub mod Lists
 pub mod Owned
 pub mod Parts

@@ -1,12 +1,11 @@
 -- Steps of a loop over a list of events.
-use Rattle.std.proofs.Common.{◌⊎◌, inl, inr, ◌≡◌, ℕ, zero, suc, ◌+◌, ◌-◌, ◌%◌, ◌<◌, ◌≤◌, Bool, true, false, List, [], ◌∷◌, ◌++◌, refl, sym, ◌∙◌, ap, arith, None, length, take, get_or, ◌&&◌, ◌==◌, eqb-true}
+use Rattle.std.proofs.Common.{◌⊎◌, inl, inr, ◌≡◌, ℕ, zero, suc, ◌+◌, ◌-◌, ◌%◌, ◌<◌, ◌≤◌, Bool, true, false, List, [], ◌∷◌, ◌++◌, refl, sym, ◌∙◌, ap, arith, length, take, get_or, ◌&&◌, ◌==◌}
 use Rattle.std.specs.Prelude.{if◌then◌else◌, ◌||◌}
 use Rattle.mu_model.specs.declared.config.Config.{Config}
 use Rattle.mu_model.specs.Contents.{client_of, command_count, is_mark, marked, number_of, numbers_in, rows_from, rows_of, session}
-use Rattle.mu_model.specs.Histories.{all_below, history, newer_or, newest, since}
+use Rattle.mu_model.specs.Histories.{all_below, history}
 use Rattle.mu_model.specs.Knowledge.{fetched_prefix, has_entry}
-use Rattle.std.proofs.lemmas.Bool.{and_parts, cases_eq, eqb-false, and_from, cases_lt}
-use Rattle.std.specs.declared.option.Option.{Option}
+use Rattle.std.proofs.lemmas.Bool.{and_parts, cases_eq, and_from, cases_lt}
 use Rattle.std.proofs.lemmas.List.{reverse-append, take_more, append-nil, append_assoc, length-append}
 use mathlib.Core.List.{reverse}
 use Rattle.mu_model.specs.declared.event.Event.{Event}
@@ -14,12 +13,6 @@ use Rattle.mu_model.specs.declared.event.Event.{Event}
 -- one more event is the newest
 pub history_more : (xs : List Event) (i : ℕ) (e : Event) → i < length xs → e ≡ get_or xs i e → history (take (i + 1) xs) ≡ e ∷ history (take i xs)
 history_more xs i e h is = ap reverse (take_more xs i e h) ∙ reverse-append (take i xs) (get_or xs i e ∷ []) ∙ ap (λ x. x ∷ history (take i xs)) (sym is)
-
-pub newest_begun : {A : Type 0} (tells : Event → Option A) (test : Event → Bool) (e : Event) (past : List Event) → test e ≡ true → newest tells (since test (e ∷ past)) ≡ None
-newest_begun tells test e past h = rw h refl
-
-pub newest_told : {A : Type 0} (tells : Event → Option A) (test : Event → Bool) (e : Event) (past : List Event) → test e ≡ false → newest tells (since test (e ∷ past)) ≡ newer_or (tells e) (newest tells (since test past))
-newest_told tells test e past h = rw h refl
 
 -- whether a mark is among the values after one more
 pub marked_after : (c : Config) (q v : ℕ) (xs : List ℕ) → marked c q (xs ++ v ∷ []) ≡ (marked c q xs || is_mark c q v)
@@ -34,7 +27,6 @@ marked_after c q v (x ∷ xs) = ap (λ t. is_mark c q x || t) (marked_after c q 
     go true u w = refl
     go false u w = refl
 
--- how many of the first values are there, after one more
 -- no more of the first values are there than there are
 pub front_length : (c : Config) (r : ℕ) (past : List Event) (xs : List ℕ) → length (fetched_prefix c r past xs) ≤ length xs
 front_length c r past [] = omega arith
@@ -43,35 +35,6 @@ front_length c r past (x ∷ xs) = go (has_entry c r x past) (front_length c r p
     go : (t : Bool) → length (fetched_prefix c r past xs) ≤ length xs → length (if t then (x ∷ fetched_prefix c r past xs) else []) ≤ suc (length xs)
     go true l = omega arith
     go false l = omega arith
-
-front_whole : (c : Config) (r v : ℕ) (past : List Event) (xs : List ℕ) → length (fetched_prefix c r past xs) ≡ length xs → has_entry c r v past ≡ true → length (fetched_prefix c r past (xs ++ v ∷ [])) ≡ length xs + 1
-front_whole c r v past [] e h = rw h refl
-front_whole c r v past (x ∷ xs) e h = go (has_entry c r x past) e (front_whole c r v past xs)
-  where
-    go : (t : Bool) → length (if t then (x ∷ fetched_prefix c r past xs) else []) ≡ suc (length xs) → (length (fetched_prefix c r past xs) ≡ length xs → has_entry c r v past ≡ true → length (fetched_prefix c r past (xs ++ v ∷ [])) ≡ length xs + 1)
-        → length (if t then (x ∷ fetched_prefix c r past (xs ++ v ∷ [])) else []) ≡ suc (length xs) + 1
-    go true e ih = let k = ih (omega arith) h in omega arith
-    go false e ih = absurd (omega arith)
-
-front_stays : (c : Config) (r v : ℕ) (past : List Event) (xs : List ℕ) → ((length (fetched_prefix c r past xs) ≡ length xs) → ⊥) ⊎ (has_entry c r v past ≡ false) → length (fetched_prefix c r past (xs ++ v ∷ [])) ≡ length (fetched_prefix c r past xs)
-front_stays c r v past [] (inl d) = absurd (d refl)
-front_stays c r v past [] (inr h) = rw h refl
-front_stays c r v past (x ∷ xs) o = go (has_entry c r x past) o (front_stays c r v past xs)
-  where
-    go : (t : Bool) → ((length (if t then (x ∷ fetched_prefix c r past xs) else []) ≡ suc (length xs)) → ⊥) ⊎ (has_entry c r v past ≡ false)
-        → (((length (fetched_prefix c r past xs) ≡ length xs) → ⊥) ⊎ (has_entry c r v past ≡ false) → length (fetched_prefix c r past (xs ++ v ∷ [])) ≡ length (fetched_prefix c r past xs))
-        → length (if t then (x ∷ fetched_prefix c r past (xs ++ v ∷ [])) else []) ≡ length (if t then (x ∷ fetched_prefix c r past xs) else [])
-    go true (inl d) ih = ap suc (ih (inl (λ e. d (ap suc e))))
-    go true (inr h) ih = ap suc (ih (inr h))
-    go false o ih = refl
-
-pub front_after : (c : Config) (r v : ℕ) (past : List Event) (xs : List ℕ) → length (fetched_prefix c r past (xs ++ v ∷ [])) ≡ (if (length (fetched_prefix c r past xs) == length xs) && has_entry c r v past then length (fetched_prefix c r past xs) + 1 else length (fetched_prefix c r past xs))
-front_after c r v past xs = go (length (fetched_prefix c r past xs) == length xs) refl (has_entry c r v past) refl
-  where
-    go : (t : Bool) → (length (fetched_prefix c r past xs) == length xs) ≡ t → (u : Bool) → has_entry c r v past ≡ u → length (fetched_prefix c r past (xs ++ v ∷ [])) ≡ (if t && u then length (fetched_prefix c r past xs) + 1 else length (fetched_prefix c r past xs))
-    go true ht true hu = let e = eqb-true (length (fetched_prefix c r past xs)) (length xs) ht in let k = front_whole c r v past xs e hu in omega arith
-    go true ht false hu = front_stays c r v past xs (inr hu)
-    go false ht u hu = front_stays c r v past xs (inl (eqb-false (length (fetched_prefix c r past xs)) (length xs) ht))
 
 -- each number below n passes where all do
 pub all_at : (n : ℕ) (f : ℕ → Bool) → all_below n f ≡ true → (p : ℕ) → p < n → f p ≡ true
@@ -121,7 +84,7 @@ each_all (suc n) f h = and_from (f n) (all_below n f) (h n (omega arith)) (each_
 pub least_number : (b r x y : ℕ) → b % 8 ≡ r → (b < 16) ⊎ ((b ≤ x + 8) ⊎ (b ≤ y + 8)) → (n : ℕ) → n % 8 ≡ r → 8 ≤ n → x < n → y < n → b ≤ n
 least_number b r x y e o n f l m k = omega arith
 
-pub number_least : (b r x y : ℕ) → b % 8 ≡ r → 16 ≤ b → ((n : ℕ) → n % 8 ≡ r → 8 ≤ n → x < n → y < n → b ≤ n) → (b ≤ x + 8) ⊎ (b ≤ y + 8)
+number_least : (b r x y : ℕ) → b % 8 ≡ r → 16 ≤ b → ((n : ℕ) → n % 8 ≡ r → 8 ≤ n → x < n → y < n → b ≤ n) → (b ≤ x + 8) ⊎ (b ≤ y + 8)
 number_least b r x y e l h = elim (cases_lt (x + 8) b) [
   | inr m ↦ inl m
   | inl m ↦ elim (cases_lt (y + 8) b) [

@@ -21,28 +21,47 @@ last_ask r by _ = None
 
 -- what the verb needs beside a step that is left and a replica that there is
 abbrev pub Needs : Config → ℕ → List Event → Verb → Type 0
-Needs c r past (Verb.Ask p) = (p < c.replicas) × ((p ≡ 0) ⊎ ((has_begun r past ≡ true) × (newest (λ e. last_ask r e.by e.verb) past ≡ Some (p - 1))))
+Needs c r past (Verb.Ask p) =
+    (p < c.replicas)
+    × ((p ≡ 0)
+    ⊎ ((has_begun r past ≡ true) × (newest (λ e. last_ask r e.by e.verb) past ≡ Some (p - 1))))
 Needs c r past (Verb.Fence p) = (p < c.replicas) × (has_begun r past ≡ true)
-Needs c r past (Verb.Min p) = (p < c.replicas) × (is_some (noted_grant r p past) ≡ true) × (is_over r past ≡ false)
+Needs c r past (Verb.Min p) =
+    (p < c.replicas) × (is_some (noted_grant r p past) ≡ true) × (is_over r past ≡ false)
 Needs c r past (Verb.Enter p t) = (p < c.replicas) × MayEnter c r past p t
 Needs c r past (Verb.PutMin p b) = (p < c.replicas) × MayPutMin r past p b
-Needs c r past (Verb.Look p i) = (p < c.replicas) × (i ≤ row_count c + reserve c) × ((p ≡ r) ⊎ (is_some (noted_grant r p past) ≡ true))
-Needs c r past (Verb.PutSlot p i b v) = (p < c.replicas) × (i ≤ row_count c + reserve c) × MayPutSlot c r past p i b v
+Needs c r past (Verb.Look p i) =
+    (p < c.replicas) × (i ≤ row_count c + reserve c)
+    × ((p ≡ r) ⊎ (is_some (noted_grant r p past) ≡ true))
+Needs c r past (Verb.PutSlot p i b v) =
+    (p < c.replicas) × (i ≤ row_count c + reserve c) × MayPutSlot c r past p i b v
 Needs c r past (Verb.Fuo p) = p < c.replicas
-Needs c r past (Verb.RaiseFuo p u) = (p < c.replicas) × (u ≤ length (known c r past)) × (all_below u (is_filled c r p past) ≡ true)
+Needs c r past (Verb.RaiseFuo p u) =
+    (p < c.replicas) × (u ≤ length (known c r past)) × (all_below u (is_filled c r p past) ≡ true)
 Needs c r past (Verb.Head q) = q < c.replicas
 Needs c r past (Verb.ReadBeat q) = (q < c.replicas) × (q ≢ r)
-Needs c r past (Verb.WriteRow j k x) = (j < row_count c) × (k < 12) × (x ≡ config_word c j k) × (wrote r j k past ≡ false)
+Needs c r past (Verb.WriteRow j k x) =
+    (j < row_count c) × (k < 12) × (x ≡ config_word c j k) × (wrote r j k past ≡ false)
 Needs c r past (Verb.ReadRow v k) = (v / 4096 < c.replicas) × (v % 4096 < row_count c) × (k < 12)
-Needs c r past (Verb.RaiseHead h) = (h ≤ length (applied c r past)) × (has (λ e. reaches_head h (fuo_read_or_raised r r e.by e.verb e.answer)) past ≡ true)
+Needs c r past (Verb.RaiseHead h) =
+    (h ≤ length (applied c r past))
+    × (has (λ e. reaches_head h (fuo_read_or_raised r r e.by e.verb e.answer)) past ≡ true)
 Needs c r past Verb.Beat = Unit {0}
 Needs c r past (Verb.ReadAsk w) = w < c.replicas
-Needs c r past Verb.Close = (fence_closing r past ≡ false) × (all_below c.replicas (λ w. not (has_unserved_ask r past w)) ≡ false)
+Needs c r past Verb.Close =
+    (fence_closing r past ≡ false)
+    × (all_below c.replicas (λ w. not (has_unserved_ask r past w)) ≡ false)
 Needs c r past Verb.LookTarget = (must_drain r past ≡ true) × (looked_since_close r past ≡ false)
-Needs c r past Verb.Drain = (must_drain r past ≡ true) × (looked_since_close r past ≡ true) × (drained_since_close r past ≡ false)
-Needs c r past (Verb.Grant w) = (w < c.replicas) × (fence_closing r past ≡ true) × (must_drain r past ≡ true → drained_since_close r past ≡ true) × (is_least_waiting r past w ≡ true)
+Needs c r past Verb.Drain =
+    (must_drain r past ≡ true) × (looked_since_close r past ≡ true)
+    × (drained_since_close r past ≡ false)
+Needs c r past (Verb.Grant w) =
+    (w < c.replicas) × (fence_closing r past ≡ true)
+    × (must_drain r past ≡ true → drained_since_close r past ≡ true)
+    × (is_least_waiting r past w ≡ true)
 
--- r may make the verb after its part mine (the count of events is that of the part; every other word looks at the events of r alone)
+-- r may make the verb after its part mine (the count of events is that of the part; every other
+-- word looks at the events of r alone)
 pub record Allowed (c : Config) (r : ℕ) (mine : List Event) (verb : Verb) : Type 0 where
   pub budget : length mine < c.budget
   pub replica : r < c.replicas

@@ -27,7 +27,8 @@ drained r p past = has (is_drain_of p) (since (is_enter_of r p) past)
 -- an `Enter` finds the noted grant and a fence that is not closing, or it is lost
 abbrev pub entered_or_lost : Option ℕ → Fence → Answer
 entered_or_lost None f = Answer.Lost f
-entered_or_lost (Some g) f = if not f.closing && (f.grant == g) then Answer.Entered else Answer.Lost f
+entered_or_lost (Some g) f =
+    if not f.closing && (f.grant == g) then Answer.Entered else Answer.Lost f
 
 -- a put at a drained region misses
 abbrev pub put_answer : Bool → Answer
@@ -46,7 +47,9 @@ answer_of c r past (Verb.Fence p) = Answer.Seen (fence p past)
 answer_of c r past (Verb.Min p) = Answer.Number (region_min p past)
 answer_of c r past (Verb.Enter p t) = entered_or_lost (noted_grant r p past) (fence p past)
 answer_of c r past (Verb.PutMin p b) = put_answer (drained r p past)
-answer_of c r past (Verb.Look p i) = if nat_lt (i + c.ring) (length (region_log p past)) then Answer.Past else shown (slice_get (region_log p past) i)
+answer_of c r past (Verb.Look p i) =
+    if nat_lt (i + c.ring) (length (region_log p past)) then Answer.Past
+    else shown (slice_get (region_log p past) i)
 answer_of c r past (Verb.PutSlot p i b v) = put_answer (drained r p past)
 answer_of c r past (Verb.Fuo p) = Answer.Number (region_fuo p past)
 answer_of c r past (Verb.RaiseFuo p u) = Answer.Done

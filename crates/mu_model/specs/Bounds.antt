@@ -26,7 +26,8 @@ is_learning c r past e = is_learning_verb c r past e.verb && knows_more c r past
 
 -- the verb puts the known value at p and j
 abbrev pub is_copy_of_verb : Config → ℕ → ℕ → ℕ → List Event → Verb → Bool
-is_copy_of_verb c r p j past (Verb.PutSlot q i b v) = (q == p) && ((i == j) && is_value (slice_get (known c r past) j) v)
+is_copy_of_verb c r p j past (Verb.PutSlot q i b v) =
+    (q == p) && ((i == j) && is_value (slice_get (known c r past) j) v)
 is_copy_of_verb c r p j past _ = false
 
 -- the event puts the known value at p and j
@@ -36,7 +37,9 @@ is_copy_of c r p j past e = is_copy_of_verb c r p j past e.verb
 -- such a put was made in the leadership
 abbrev pub was_copied : Config → ℕ → ℕ → ℕ → List Event → Bool
 was_copied c r p j [] = false
-was_copied c r p j (e ∷ past) = if begins_leadership r e then false else if is_copy_of c r p j past e then true else was_copied c r p j past
+was_copied c r p j (e ∷ past) =
+    if begins_leadership r e then false else if is_copy_of c r p j past e then true
+    else was_copied c r p j past
 
 -- the offset, where there is one, is at most j
 abbrev pub is_at_most : ℕ → Option ℕ → Bool
@@ -47,9 +50,12 @@ is_at_most j (Some u) = nat_le u j
 abbrev pub first_fuo : ℕ → ℕ → List Event → Option ℕ
 first_fuo r p past = oldest (λ e. fuo_read r p e.by e.verb e.answer) (leadership r past)
 
--- the verb puts a known value at or above the first `Fuo(p)` answer of the leadership, for the first time
+-- the verb puts a known value at or above the first `Fuo(p)` answer of the leadership, for the
+-- first time
 abbrev pub is_copying_verb : Config → ℕ → List Event → Verb → Bool
-is_copying_verb c r past (Verb.PutSlot p j b v) = is_value (slice_get (known c r past) j) v && (not (was_copied c r p j past) && is_at_most j (first_fuo r p past))
+is_copying_verb c r past (Verb.PutSlot p j b v) =
+    is_value (slice_get (known c r past) j) v
+    && (not (was_copied c r p j past) && is_at_most j (first_fuo r p past))
 is_copying_verb c r past _ = false
 
 -- the event is such a put
@@ -62,7 +68,9 @@ copied c r window older = steps (is_learning c r) window older + steps (is_copyi
 
 -- how many replication events a stretch may take
 abbrev pub bound : Config → ℕ → List Event → List Event → ℕ
-bound c r window older = 6 * members c r (window ++ older) + 7 * c.replicas + 8 + 12 * c.width + 8 * copied c r window older
+bound c r window older =
+    6 * members c r (window ++ older) + 7 * c.replicas + 8 + 12 * c.width
+    + 8 * copied c r window older
 
 -- one turn of the cycle
 abbrev pub cycle : Config → ℕ

@@ -1,4 +1,5 @@
--- The rows of a configuration, what payload numbers stand for, and which lists of entries are in session.
+-- The rows of a configuration, what payload numbers stand for, and which lists of entries are in
+-- session.
 use Rattle.std.specs.Prelude.{Bool, List, None, Some, [], false, if◌then◌else◌, length, nat_lt, slice_index, suc, true, zero, ℕ, ◌%◌, ◌&&◌, ◌++◌, ◌+◌, ◌/◌, ◌<◌, ◌==◌, ◌^◌, ◌||◌, ◌∷◌, ◌≡◌, ◌≤◌, ◌⊎◌}
 use Rattle.std.specs.declared.option.Option.{Option}
 use Rattle.std.specs.List.{slice_get}
@@ -38,11 +39,14 @@ begins_batch c (suc j) = rest_of c j == 0
 
 -- the payload number v stands for the batch that begins with its row
 abbrev pub is_batch : Config → ℕ → Bool
-is_batch c v = nat_lt (v / 4096) c.replicas && (nat_lt (v % 4096) (row_count c) && begins_batch c (v % 4096))
+is_batch c v =
+    nat_lt (v / 4096) c.replicas && (nat_lt (v % 4096) (row_count c) && begins_batch c (v % 4096))
 
 -- the payload number v stands for the mark that replica q is gone
 abbrev pub is_mark : Config → ℕ → ℕ → Bool
-is_mark c q v = nat_lt (v / 4096) c.replicas && ((c.version == 2) && (nat_lt q c.replicas && (v % 4096 == 4080 + q)))
+is_mark c q v =
+    nat_lt (v / 4096) c.replicas
+    && ((c.version == 2) && (nat_lt q c.replicas && (v % 4096 == 4080 + q)))
 
 -- a mark of q is among these entries
 abbrev pub marked : Config → ℕ → List ℕ → Bool
@@ -65,7 +69,9 @@ rows_of c v = if is_batch c v then rows_from (rest_of c (v % 4096) + 1) (v % 409
 -- the numbers of the client's commands among these rows
 abbrev pub numbers_in : Config → ℕ → List ℕ → List ℕ
 numbers_in c client [] = []
-numbers_in c client (j ∷ js) = if client_of c j == client then (number_of c j ∷ numbers_in c client js) else numbers_in c client js
+numbers_in c client (j ∷ js) =
+    if client_of c j == client then (number_of c j ∷ numbers_in c client js)
+    else numbers_in c client js
 
 -- the numbers of the client's commands, entry by entry and in order within an entry
 abbrev pub session : Config → ℕ → List ℕ → List ℕ
@@ -83,7 +89,8 @@ counted (suc n) k = k ∷ counted n (k + 1)
 
 -- the entries are in session: the numbers of each client are 1, 2 and so on up to their count
 abbrev pub IsInSession : Config → List ℕ → Type 0
-IsInSession c values = (client : ℕ) → session c client values ≡ counted (length (session c client values)) 1
+IsInSession c values =
+    (client : ℕ) → session c client values ≡ counted (length (session c client values)) 1
 
 -- the rows of these entries
 abbrev pub rows_in : Config → List ℕ → List ℕ
@@ -102,9 +109,11 @@ holds_all c values = all_below (row_count c) (λ j. includes j (rows_in c values
 -- how many of the first j rows are the client's
 abbrev pub rows_before : Config → ℕ → ℕ → ℕ
 rows_before c client zero = 0
-rows_before c client (suc j) = if client_of c j == client then rows_before c client j + 1 else rows_before c client j
+rows_before c client (suc j) =
+    if client_of c j == client then rows_before c client j + 1 else rows_before c client j
 
--- a configuration that a job gives: all limits hold, the k-th row of a client has number k, and the rests of a batch fall to 0
+-- a configuration that a job gives: all limits hold, the k-th row of a client has number k, and the
+-- rests of a batch fall to 0
 pub record IsConfig (c : Config) : Type 0 where
   pub versions : (c.version ≡ 1) ⊎ (c.version ≡ 2)
   pub plain : c.version ≡ 1 → c.width ≡ 1
@@ -115,4 +124,6 @@ pub record IsConfig (c : Config) : Type 0 where
   pub few : row_count c ≤ 1500
   pub rests : (j : ℕ) → j < row_count c → rest_of c j < c.width
   pub numbers : (j : ℕ) → j < row_count c → number_of c j ≡ rows_before c (client_of c j) j + 1
-  pub batches : (j k : ℕ) → j < row_count c → rest_of c j ≡ suc k → (j + 1 < row_count c) × (client_of c (j + 1) ≡ client_of c j) × (rest_of c (j + 1) ≡ k)
+  pub batches :
+      (j k : ℕ) → j < row_count c → rest_of c j ≡ suc k
+      → (j + 1 < row_count c) × (client_of c (j + 1) ≡ client_of c j) × (rest_of c (j + 1) ≡ k)

@@ -18,21 +18,25 @@ use Rattle.mu_model.specs.Stretches.{steps}
 
 -- the length of the shortest prefix of the log that holds every command, where there is one
 abbrev pub full_length : Config → ℕ → List Event → ℕ
-full_length c r past = least_below (length (applied c r past) + 1) (λ k. holds_all c (take k (applied c r past)))
+full_length c r past =
+    least_below (length (applied c r past) + 1) (λ k. holds_all c (take k (applied c r past)))
 
 -- the log holds every command
 abbrev pub is_full : Config → ℕ → List Event → Bool
 is_full c r past = nat_le (full_length c r past) (length (applied c r past))
 
--- the region and position of a look of r that was `Past` at a position not below the length of known
+-- the region and position of a look of r that was `Past` at a position not below the length of
+-- known
 abbrev pub outrun_by : ℕ → ℕ → ℕ → Verb → Answer → Option (ℕ × ℕ)
-outrun_by r known_length by (Verb.Look p i) Answer.Past = if (by == r) && nat_le known_length i then Some (p, i) else None
+outrun_by r known_length by (Verb.Look p i) Answer.Past =
+    if (by == r) && nat_le known_length i then Some (p, i) else None
 outrun_by r known_length by _ _ = None
 
 -- the first such look
 abbrev pub outrun : Config → ℕ → List Event → Option (ℕ × ℕ)
 outrun c r [] = None
-outrun c r (e ∷ past) = earlier_or (outrun_by r (length (known c r past)) e.by e.verb e.answer) (outrun c r past)
+outrun c r (e ∷ past) =
+    earlier_or (outrun_by r (length (known c r past)) e.by e.verb e.answer) (outrun c r past)
 
 -- the script stops r after so many steps
 abbrev pub stops_at : ℕ → ℕ → List Stop → Bool
@@ -49,7 +53,11 @@ abbrev pub is_finished : Config → ℕ → List Event → Bool
 is_finished c r past =
     is_full c r past
     && (nat_le (full_length c r past) (region_head r past)
-    && all_below c.replicas (λ q. (q == r) || (is_at_least (full_length c r past) (newest (λ e. head_read r q e.by e.verb e.answer) past) || is_failed r q past)))
+    && all_below c.replicas
+    (λ q. (q == r)
+    || (is_at_least (full_length c r past)
+    (newest (λ e. head_read r q e.by e.verb e.answer) past)
+    || is_failed r q past)))
 
 -- the heads that r knows: its own, and the last answers of the others
 abbrev pub head_known : ℕ → List Event → ℕ → ℕ
@@ -79,4 +87,6 @@ EndsBy c script r past (End.Finished heads) =
 -- the journal has an end, and no shorter beginning of it has one
 pub record Obeys (c : Config) (script : Script) (r : ℕ) (past : List Event) (end : End) : Type 0 where
   pub ends : EndsBy c script r past end
-  pub first : (newer older : List Event) (other : End) → past ≡ newer ++ older → newer ≢ [] → EndsBy c script r older other → ⊥
+  pub first :
+      (newer older : List Event) (other : End) → past ≡ newer ++ older → newer ≢ []
+      → EndsBy c script r older other → ⊥

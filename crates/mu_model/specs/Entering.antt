@@ -28,7 +28,9 @@ grant_seen r p g by _ _ = false
 abbrev pub min_read_under : ℕ → ℕ → ℕ → List Event → Bool
 min_read_under r p g [] = false
 min_read_under r p g (e ∷ past) =
-    (is_some (min_read r p e.by e.verb e.answer) && has (λ f. grant_seen r p g f.by f.verb f.answer) past) || min_read_under r p g past
+    (is_some (min_read r p e.by e.verb e.answer)
+    && has (λ f. grant_seen r p g f.by f.verb f.answer) past)
+    || min_read_under r p g past
 
 -- the same of the noted grant, where there is one; both answers may be of an earlier leadership
 abbrev pub min_read_since : ℕ → ℕ → List Event → Option ℕ → Bool
@@ -41,23 +43,32 @@ has_read_min r p past = min_read_since r p past (noted_grant r p past)
 
 -- the regions with such an answer are a majority with r
 abbrev pub has_confirmed_majority : Config → ℕ → List Event → Bool
-has_confirmed_majority c r past = has_read_min r r past && nat_le (majority_of c.replicas) (count_below c.replicas (λ p. has_read_min r p past))
+has_confirmed_majority c r past =
+    has_read_min r r past
+    && nat_le (majority_of c.replicas) (count_below c.replicas (λ p. has_read_min r p past))
 
 -- r may enter p with the target
 abbrev pub MayEnter : Config → ℕ → List Event → ℕ → Target → Type 0
 MayEnter c r past p Target.None = ⊥
-MayEnter c r past p Target.Min = (is_some (noted_grant r p past) ≡ true) × (is_over r past ≡ false) × (has_read_min r p past ≡ true) × (proposal_number r past ≡ None → has_confirmed_majority c r past ≡ true)
-MayEnter c r past p (Target.Place s) = (is_member r p past ≡ true) × (is_over r past ≡ false) × (s < c.ring)
+MayEnter c r past p Target.Min =
+    (is_some (noted_grant r p past) ≡ true) × (is_over r past ≡ false)
+    × (has_read_min r p past ≡ true)
+    × (proposal_number r past ≡ None → has_confirmed_majority c r past ≡ true)
+MayEnter c r past p (Target.Place s) =
+    (is_member r p past ≡ true) × (is_over r past ≡ false) × (s < c.ring)
 
--- what the step makes of the target that r has entered p with: an `Enter` names it, a lost one or a put clears it
+-- what the step makes of the target that r has entered p with: an `Enter` names it, a lost one or a
+-- put clears it
 abbrev pub enter_open : ℕ → ℕ → ℕ → Verb → Answer → Option Target
 enter_open r p by (Verb.Enter q t) Answer.Entered = if (by == r) && (q == p) then Some t else None
 enter_open r p by (Verb.Enter q t) _ = if (by == r) && (q == p) then Some Target.None else None
 enter_open r p by (Verb.PutMin q b) _ = if (by == r) && (q == p) then Some Target.None else None
-enter_open r p by (Verb.PutSlot q i b v) _ = if (by == r) && (q == p) then Some Target.None else None
+enter_open r p by (Verb.PutSlot q i b v) _ =
+    if (by == r) && (q == p) then Some Target.None else None
 enter_open r p by _ _ = None
 
--- the target of the last `Enter` of r at p in the leadership, where it was `Entered` and no put of r came there since
+-- the target of the last `Enter` of r at p in the leadership, where it was `Entered` and no put of
+-- r came there since
 abbrev pub open_target : ℕ → ℕ → List Event → Option Target
 open_target r p past = newest (λ e. enter_open r p e.by e.verb e.answer) (leadership r past)
 
@@ -72,7 +83,9 @@ number_allowed r past b None =
     (b % 8 ≡ r) × (8 ≤ b)
     × (greatest (λ e. any_min_read r e.by e.verb e.answer) (leadership r past) < b)
     × (greatest (λ e. number_put r e.by e.verb) past < b)
-    × ((n : ℕ) → n % 8 ≡ r → 8 ≤ n → greatest (λ e. any_min_read r e.by e.verb e.answer) (leadership r past) < n → greatest (λ e. number_put r e.by e.verb) past < n → b ≤ n)
+    × ((n : ℕ) → n % 8 ≡ r → 8 ≤ n
+    → greatest (λ e. any_min_read r e.by e.verb e.answer) (leadership r past) < n
+    → greatest (λ e. number_put r e.by e.verb) past < n → b ≤ n)
 
 -- r may put the number b into the minimum of p
 pub record MayPutMin (r : ℕ) (past : List Event) (p b : ℕ) : Type 0 where

@@ -1,4 +1,5 @@
--- The terms of a leadership of replica r. They look at the events of r alone, so they say the same of the whole history and of the part of r.
+-- The terms of a leadership of replica r. They look at the events of r alone, so they say the same
+-- of the whole history and of the part of r.
 use Rattle.std.specs.Prelude.{Bool, List, None, Some, [], false, if◌then◌else◌, is_some, nat_le, nat_lt, not, true, ℕ, ◌&&◌, ◌+◌, ◌/◌, ◌==◌, ◌||◌, ◌∷◌}
 use Rattle.std.specs.declared.option.Option.{Option}
 use Rattle.mu_model.specs.declared.config.Config.{Config}
@@ -17,7 +18,8 @@ is_first_ask r by _ = false
 abbrev pub begins_leadership : ℕ → Event → Bool
 begins_leadership r e = is_first_ask r e.by e.verb
 
--- the leadership under way: the events after the last `Ask(0)`, or all where there is none (then no verb of a leader is allowed)
+-- the leadership under way: the events after the last `Ask(0)`, or all where there is none (then no
+-- verb of a leader is allowed)
 abbrev pub leadership : ℕ → List Event → List Event
 leadership r past = since (begins_leadership r) past
 
@@ -44,9 +46,11 @@ abbrev pub grant_for : ℕ → Option Fence → Option ℕ
 grant_for r None = None
 grant_for r (Some f) = if not f.closing && owner_is r f.owner then Some f.grant else None
 
--- the noted grant of p: that of the last `Fence(p)` answer in the leadership, where it names r and is not closing
+-- the noted grant of p: that of the last `Fence(p)` answer in the leadership, where it names r and
+-- is not closing
 abbrev pub noted_grant : ℕ → ℕ → List Event → Option ℕ
-noted_grant r p past = grant_for r (newest (λ e. fence_seen r p e.by e.verb e.answer) (leadership r past))
+noted_grant r p past =
+    grant_for r (newest (λ e. fence_seen r p e.by e.verb e.answer) (leadership r past))
 
 -- the number of a `PutMin` of r
 abbrev pub number_put : ℕ → ℕ → Verb → Option ℕ
@@ -81,7 +85,8 @@ abbrev pub is_above : Option ℕ → ℕ → Bool
 is_above None x = false
 is_above (Some b) x = nat_lt b x
 
--- the fence of a member is closing, or has another grant than the one noted at its joining; where none was noted, any fence is
+-- the fence of a member is closing, or has another grant than the one noted at its joining; where
+-- none was noted, any fence is
 abbrev pub is_changed : Option (Option ℕ) → Fence → Bool
 is_changed None f = false
 is_changed (Some None) f = true
@@ -92,14 +97,18 @@ abbrev pub ends_leadership : ℕ → List Event → ℕ → Verb → Answer → 
 ends_leadership r past by (Verb.Enter p t) (Answer.Lost f) = by == r
 ends_leadership r past by (Verb.PutMin p b) Answer.Missed = by == r
 ends_leadership r past by (Verb.PutSlot p i b v) Answer.Missed = by == r
-ends_leadership r past by (Verb.Min p) (Answer.Number x) = (by == r) && is_above (proposal_number r past) x
-ends_leadership r past by (Verb.Fence p) (Answer.Seen f) = (by == r) && is_changed (grant_at_joining r p past) f
+ends_leadership r past by (Verb.Min p) (Answer.Number x) =
+    (by == r) && is_above (proposal_number r past) x
+ends_leadership r past by (Verb.Fence p) (Answer.Seen f) =
+    (by == r) && is_changed (grant_at_joining r p past) f
 ends_leadership r past by _ _ = false
 
 -- the leadership is over
 abbrev pub is_over : ℕ → List Event → Bool
 is_over r [] = false
-is_over r (e ∷ past) = if begins_leadership r e then false else (ends_leadership r past e.by e.verb e.answer || is_over r past)
+is_over r (e ∷ past) =
+    if begins_leadership r e then false
+    else (ends_leadership r past e.by e.verb e.answer || is_over r past)
 
 -- more than half of n
 abbrev pub majority_of : ℕ → ℕ
@@ -107,4 +116,6 @@ majority_of n = n / 2 + 1
 
 -- the members are a majority with r
 abbrev pub has_quorum : Config → ℕ → List Event → Bool
-has_quorum c r past = is_member r r past && nat_le (majority_of c.replicas) (count_below c.replicas (λ p. is_member r p past))
+has_quorum c r past =
+    is_member r r past
+    && nat_le (majority_of c.replicas) (count_below c.replicas (λ p. is_member r p past))

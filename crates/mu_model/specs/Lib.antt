@@ -6,7 +6,6 @@ pub mod Contents
 pub mod Diligence
 pub mod Ends
 pub mod Entering
-pub mod First
 pub mod Histories
 pub mod Journals
 pub mod Knowledge

@@ -13,7 +13,8 @@ use Rattle.mu_model.specs.Room.{is_mark_candidate, reserve}
 
 -- the answer of a look of r at position i of region p
 abbrev pub look_answer : ℕ → ℕ → ℕ → ℕ → Verb → Answer → Option Answer
-look_answer r p i by (Verb.Look q j) a = if (by == r) && ((q == p) && (j == i)) then Some a else None
+look_answer r p i by (Verb.Look q j) a =
+    if (by == r) && ((q == p) && (j == i)) then Some a else None
 look_answer r p i by _ a = None
 
 -- the answer is `Past`
@@ -34,11 +35,14 @@ is_joining r past by _ _ = false
 -- the events of the leadership since the last region became a member
 abbrev pub since_last_joining : ℕ → List Event → List Event
 since_last_joining r [] = []
-since_last_joining r (e ∷ past) = if is_joining r past e.by e.verb e.answer then [] else if begins_leadership r e then [] else (e ∷ since_last_joining r past)
+since_last_joining r (e ∷ past) =
+    if is_joining r past e.by e.verb e.answer then [] else if begins_leadership r e then []
+    else (e ∷ since_last_joining r past)
 
 -- the last look at position i of region p since the last region became a member
 abbrev pub last_look : ℕ → ℕ → ℕ → List Event → Option Answer
-last_look r p i past = newest (λ e. look_answer r p i e.by e.verb e.answer) (since_last_joining r past)
+last_look r p i past =
+    newest (λ e. look_answer r p i e.by e.verb e.answer) (since_last_joining r past)
 
 -- the entry that a look shows
 abbrev pub entry_of : Option Answer → Option (ℕ × ℕ)
@@ -51,10 +55,13 @@ larger None other = other
 larger (Some x) None = Some x
 larger (Some x) (Some y) = if nat_lt x.0 y.0 then Some y else Some x
 
--- the entry of the largest number among the last looks at the members below n, of the least id at a tie
+-- the entry of the largest number among the last looks at the members below n, of the least id at a
+-- tie
 abbrev pub highest_accepted : ℕ → ℕ → List Event → ℕ → Option (ℕ × ℕ)
 highest_accepted r i past zero = None
-highest_accepted r i past (suc p) = larger (highest_accepted r i past p) (if is_member r p past then entry_of (last_look r p i past) else None)
+highest_accepted r i past (suc p) =
+    larger (highest_accepted r i past p)
+    (if is_member r p past then entry_of (last_look r p i past) else None)
 
 -- v is an own batch that is written in full, and the next of its client after what r knows
 abbrev pub is_offer : Config → ℕ → List Event → ℕ → Bool
@@ -66,7 +73,15 @@ is_offer c r past v =
 
 -- v is the own number of a mark of another replica that has none yet and is a candidate
 abbrev pub is_mark_offer : Config → ℕ → List Event → ℕ → Bool
-is_mark_offer c r past v = (v / 4096 == r) && not (all_below c.replicas (λ q. not (is_mark c q v && (not (q == r) && (not (marked c q (known c r past)) && is_mark_candidate c r q (length (known c r past) + reserve c) past)))))
+is_mark_offer c r past v =
+    (v / 4096 == r)
+    && not
+    (all_below c.replicas
+    (λ q. not
+    (is_mark c q v
+    && (not (q == r)
+    && (not (marked c q (known c r past))
+    && is_mark_candidate c r q (length (known c r past) + reserve c) past)))))
 
 -- where some look shows an entry its value alone, else an own offer or a mark
 abbrev pub pick : Config → ℕ → List Event → ℕ → Option (ℕ × ℕ) → Bool
@@ -96,10 +111,13 @@ joined_since_first_put r i (e ∷ past) =
     then true
     else joined_since_first_put r i past
 
--- v is the value of the first put at i, and no region joined since it; where none was made, every member was looked at since the last joining and the pick allows v
+-- v is the value of the first put at i, and no region joined since it; where none was made, every
+-- member was looked at since the last joining and the pick allows v
 abbrev pub may_propose : Config → ℕ → List Event → ℕ → ℕ → Option ℕ → Bool
 may_propose c r past i v (Some first) = (v == first) && not (joined_since_first_put r i past)
-may_propose c r past i v None = all_below c.replicas (λ p. not (is_member r p past) || is_some (last_look r p i past)) && may_pick_at c r past i v
+may_propose c r past i v None =
+    all_below c.replicas (λ p. not (is_member r p past) || is_some (last_look r p i past))
+    && may_pick_at c r past i v
 
 -- v is a batch, and no look shows an entry
 abbrev pub is_fresh_batch : Config → ℕ → List Event → ℕ → ℕ → Bool

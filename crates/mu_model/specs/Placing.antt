@@ -22,26 +22,33 @@ is_good_look (Some a) = not (is_past a)
 
 -- the step is a put of r at p in a position of the same place as i
 abbrev pub is_slot_put_at : ℕ → ℕ → ℕ → ℕ → ℕ → Verb → Bool
-is_slot_put_at r p ring i by (Verb.PutSlot q j b v) = (by == r) && ((q == p) && (j % ring == i % ring))
+is_slot_put_at r p ring i by (Verb.PutSlot q j b v) =
+    (by == r) && ((q == p) && (j % ring == i % ring))
 is_slot_put_at r p ring i by _ = false
 
 -- the events of the leadership since p became a member
 abbrev pub since_joining : ℕ → ℕ → List Event → List Event
 since_joining r p [] = []
-since_joining r p (e ∷ past) = if begins_leadership r e then [] else if is_member r p past then (e ∷ since_joining r p past) else []
+since_joining r p (e ∷ past) =
+    if begins_leadership r e then [] else if is_member r p past then (e ∷ since_joining r p past)
+    else []
 
--- before the last `Enter` of r at p a look at i there, made since p became a member, was no `Past`, and no put came since at that place
+-- before the last `Enter` of r at p a look at i there, made since p became a member, was no `Past`,
+-- and no put came since at that place
 abbrev pub looked_before_entering : Config → ℕ → ℕ → ℕ → List Event → Bool
 looked_before_entering c r p i past =
     has (λ e. is_good_look (look_answer r p i e.by e.verb e.answer))
-    (since (λ e. is_slot_put_at r p c.ring i e.by e.verb) (before (is_enter_of r p) (since_joining r p past)))
+    (since (λ e. is_slot_put_at r p c.ring i e.by e.verb)
+    (before (is_enter_of r p) (since_joining r p past)))
 
 -- the step is a put of r at p and j of the known value, answered `Done`
 abbrev pub is_known_put : List ℕ → ℕ → ℕ → ℕ → ℕ → Verb → Answer → Bool
-is_known_put values r p j by (Verb.PutSlot q i b v) Answer.Done = (by == r) && ((q == p) && ((i == j) && is_value (slice_get values j) v))
+is_known_put values r p j by (Verb.PutSlot q i b v) Answer.Done =
+    (by == r) && ((q == p) && ((i == j) && is_value (slice_get values j) v))
 is_known_put values r p j by _ _ = false
 
--- p has what is known of j: a FUO of p above it was read in the leadership, or the known value was put there in it
+-- p has what is known of j: a FUO of p above it was read in the leadership, or the known value was
+-- put there in it
 abbrev pub is_caught_up_at : Config → ℕ → ℕ → List Event → ℕ → Bool
 is_caught_up_at c r p past j =
     nat_lt j (greatest_fuo_read r p (leadership r past))
@@ -49,7 +56,8 @@ is_caught_up_at c r p past j =
 
 -- the FUO of p that the step of r read or raised
 abbrev pub fuo_read_or_raised : ℕ → ℕ → ℕ → Verb → Answer → Option ℕ
-fuo_read_or_raised r p by (Verb.Fuo q) (Answer.Number x) = if (by == r) && (q == p) then Some x else None
+fuo_read_or_raised r p by (Verb.Fuo q) (Answer.Number x) =
+    if (by == r) && (q == p) then Some x else None
 fuo_read_or_raised r p by (Verb.RaiseFuo q u) a = if (by == r) && (q == p) then Some u else None
 fuo_read_or_raised r p by _ _ = None
 
@@ -68,12 +76,21 @@ pub record IsNew (c : Config) (r : ℕ) (past : List Event) (i v : ℕ) : Type 0
   pub next : i ≡ length (known c r past)
   pub room : has_room c r past i 0 ≡ true
   pub reserve_kept : is_fresh_batch c r past i v ≡ true → has_room c r past i (reserve c) ≡ true
-  pub none_past : all_below c.replicas (λ p. not (is_member r p past && has (λ e. is_past_look (look_answer r p i e.by e.verb e.answer)) (leadership r past))) ≡ true
+  pub none_past :
+      all_below c.replicas
+      (λ p. not
+      (is_member r p past
+      && has (λ e. is_past_look (look_answer r p i e.by e.verb e.answer)) (leadership r past)))
+      ≡ true
   pub value : may_propose c r past i v (first_value r i past) ≡ true
 
 -- r may put v at position i of region p under the number b
 pub record MayPutSlot (c : Config) (r : ℕ) (past : List Event) (p i b v : ℕ) : Type 0 where
-  pub within_ring : c.version ≡ 2 → has (λ e. is_within_ring i c.ring (fuo_read_or_raised r p e.by e.verb e.answer)) (leadership r past) ≡ true
+  pub within_ring :
+      c.version ≡ 2
+      → has (λ e. is_within_ring i c.ring (fuo_read_or_raised r p e.by e.verb e.answer))
+      (leadership r past)
+      ≡ true
   pub not_over : is_over r past ≡ false
   pub carried : has_quorum c r past ≡ true
   pub member : is_member r p past ≡ true

@@ -1,4 +1,5 @@
--- What a region holds after a history: its fence, minimum, log, FUO, head, beat and asks, and the rows of a replica.
+-- What a region holds after a history: its fence, minimum, log, FUO, head, beat and asks, and the
+-- rows of a replica.
 use Rattle.std.specs.Prelude.{Bool, List, None, Some, [], false, if◌then◌else◌, length, set, ℕ, ◌%◌, ◌&&◌, ◌++◌, ◌/◌, ◌==◌, ◌∷◌}
 use Rattle.std.specs.declared.option.Option.{Option}
 use Rattle.mu_model.specs.declared.event.Answer.{Answer}
@@ -64,15 +65,23 @@ fence_closing p past = has (is_close_of p) (since (is_grant_of p) past)
 
 -- the target of p: that of the last `Enter` answered `Entered` since the last `Grant`
 abbrev pub fence_target : ℕ → List Event → Target
-fence_target p past = or_no_target (newest (λ e. target_entered p e.verb e.answer) (since (is_grant_of p) past))
+fence_target p past =
+    or_no_target (newest (λ e. target_entered p e.verb e.answer) (since (is_grant_of p) past))
 
 -- the fence of p
 abbrev pub fence : ℕ → List Event → Fence
-fence p past = record { owner = fence_owner p past; grant = fence_grant p past; closing = fence_closing p past; target = fence_target p past }
+fence p past =
+    record {
+      owner = fence_owner p past;
+      grant = fence_grant p past;
+      closing = fence_closing p past;
+      target = fence_target p past;
+    }
 
 -- a log after one step: a put at p that landed sets its position, or lengthens the log by one
 abbrev pub log_with : ℕ → Verb → Answer → List (ℕ × ℕ) → List (ℕ × ℕ)
-log_with p (Verb.PutSlot q i b v) Answer.Done log = if q == p then (if i == length log then log ++ (b, v) ∷ [] else set log i (b, v)) else log
+log_with p (Verb.PutSlot q i b v) Answer.Done log =
+    if q == p then (if i == length log then log ++ (b, v) ∷ [] else set log i (b, v)) else log
 log_with p _ _ log = log
 
 -- the entries of the region p: number and value, by position
@@ -127,7 +136,8 @@ asks w p past = how_many (λ e. is_ask_by w p e.by e.verb) past
 
 -- what the step writes into word k of row j of replica r
 abbrev pub word_written : ℕ → ℕ → ℕ → ℕ → Verb → Option ℕ
-word_written r j k by (Verb.WriteRow row word x) = if (by == r) && ((row == j) && (word == k)) then Some x else None
+word_written r j k by (Verb.WriteRow row word x) =
+    if (by == r) && ((row == j) && (word == k)) then Some x else None
 word_written r j k by _ = None
 
 -- word k of the row of the payload number v

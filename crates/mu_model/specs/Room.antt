@@ -24,9 +24,12 @@ last_head r q past = or_zero (newest (λ e. head_read r q e.by e.verb e.answer) 
 abbrev pub reserve : Config → ℕ
 reserve c = if c.version == 2 then c.replicas else 0
 
--- the last head read of every replica without a known mark leaves room for position i and for so many more
+-- the last head read of every replica without a known mark leaves room for position i and for so
+-- many more
 abbrev pub has_room : Config → ℕ → List Event → ℕ → ℕ → Bool
-has_room c r past i free = all_below c.replicas (λ q. marked c q (known c r past) || nat_lt (i + free) (last_head r q past + c.ring))
+has_room c r past i free =
+    all_below c.replicas
+    (λ q. marked c q (known c r past) || nat_lt (i + free) (last_head r q past + c.ring))
 
 -- the head, where there is one, and the ring do not reach above the limit
 abbrev pub lacks_room : Config → ℕ → Option ℕ → Bool
@@ -36,4 +39,7 @@ lacks_room c limit (Some h) = nat_le (h + c.ring) limit
 -- in the leadership a head of q was read that leaves no room, and q was failed right after it
 abbrev pub is_mark_candidate : Config → ℕ → ℕ → ℕ → List Event → Bool
 is_mark_candidate c r q limit [] = false
-is_mark_candidate c r q limit (e ∷ past) = if begins_leadership r e then false else ((lacks_room c limit (head_read r q e.by e.verb e.answer) && is_failed r q (e ∷ past)) || is_mark_candidate c r q limit past)
+is_mark_candidate c r q limit (e ∷ past) =
+    if begins_leadership r e then false
+    else ((lacks_room c limit (head_read r q e.by e.verb e.answer) && is_failed r q (e ∷ past))
+    || is_mark_candidate c r q limit past)

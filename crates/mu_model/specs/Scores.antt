@@ -9,7 +9,8 @@ use Rattle.mu_model.specs.Histories.{newest, or_zero}
 
 -- the answer of a `ReadBeat(q)` of r
 abbrev pub beat_read : ℕ → ℕ → ℕ → Verb → Answer → Option ℕ
-beat_read r q by (Verb.ReadBeat p) (Answer.Number x) = if (by == r) && (p == q) then Some x else None
+beat_read r q by (Verb.ReadBeat p) (Answer.Number x) =
+    if (by == r) && (p == q) then Some x else None
 beat_read r q by _ _ = None
 
 -- below 2 a replica is failed, above 6 it is alive, and otherwise it stays what it was
@@ -22,7 +23,8 @@ points_after points changed = if changed then min 15 (points + 1) else points - 
 
 -- the score after one read of a count
 abbrev pub next_score : ℕ → Bool → Bool → ℕ × Bool
-next_score points was changed = (points_after points changed, alive_after (points_after points changed) was)
+next_score points was changed =
+    (points_after points changed, alive_after (points_after points changed) was)
 
 -- the score after a read of a count, where the step is one, with the count read before
 abbrev pub score_after_read : ℕ × Bool → ℕ → Option ℕ → ℕ × Bool
@@ -32,7 +34,10 @@ score_after_read s last (Some x) = next_score s.0 s.1 (not (x == last))
 -- the score of q, from 0 to 15, and whether q is alive: 15 and alive at first
 abbrev pub score : ℕ → ℕ → List Event → ℕ × Bool
 score r q [] = (15, true)
-score r q (e ∷ past) = score_after_read (score r q past) (or_zero (newest (λ f. beat_read r q f.by f.verb f.answer) past)) (beat_read r q e.by e.verb e.answer)
+score r q (e ∷ past) =
+    score_after_read (score r q past)
+    (or_zero (newest (λ f. beat_read r q f.by f.verb f.answer) past))
+    (beat_read r q e.by e.verb e.answer)
 
 -- r holds q to be failed
 abbrev pub is_failed : ℕ → ℕ → List Event → Bool
@@ -41,7 +46,8 @@ is_failed r q past = not (score r q past).1
 -- the least number below n that passes, else n
 abbrev pub least_below : ℕ → (ℕ → Bool) → ℕ
 least_below zero test = 0
-least_below (suc n) test = if least_below n test == n then (if test n then n else n + 1) else least_below n test
+least_below (suc n) test =
+    if least_below n test == n then (if test n then n else n + 1) else least_below n test
 
 -- whom the scores of r name: the least of r and the others that are alive
 abbrev pub leader : Config → ℕ → List Event → ℕ

@@ -30,13 +30,16 @@ served_by_grant r w past = seen_asks r w (before (λ e. is_grant_to r w e.by e.v
 
 -- a `ReadAsk(w)` answer that came while w was owner and no `Close` was pending
 abbrev pub read_while_owner : ℕ → ℕ → List Event → ℕ → Verb → Answer → Option ℕ
-read_while_owner r w past by (Verb.ReadAsk q) (Answer.Number x) = if (by == r) && ((q == w) && (owner_is w (fence_owner r past) && not (fence_closing r past))) then Some x else None
+read_while_owner r w past by (Verb.ReadAsk q) (Answer.Number x) =
+    if (by == r) && ((q == w) && (owner_is w (fence_owner r past) && not (fence_closing r past)))
+    then Some x else None
 read_while_owner r w past by _ _ = None
 
 -- the last `ReadAsk(w)` answer that came while w was owner and no `Close` was pending
 abbrev pub served_as_owner : ℕ → ℕ → List Event → Option ℕ
 served_as_owner r w [] = None
-served_as_owner r w (e ∷ past) = newer_or (read_while_owner r w past e.by e.verb e.answer) (served_as_owner r w past)
+served_as_owner r w (e ∷ past) =
+    newer_or (read_while_owner r w past e.by e.verb e.answer) (served_as_owner r w past)
 
 -- the asks of w that r has served: the greater of these two
 abbrev pub served : ℕ → ℕ → List Event → ℕ
@@ -44,11 +47,13 @@ served r w past = max (served_by_grant r w past) (or_zero (served_as_owner r w p
 
 -- w is not the owner and has an ask that was not served
 abbrev pub has_unserved_ask : ℕ → List Event → ℕ → Bool
-has_unserved_ask r past w = not (owner_is w (fence_owner r past)) && nat_lt (served r w past) (seen_asks r w past)
+has_unserved_ask r past w =
+    not (owner_is w (fence_owner r past)) && nat_lt (served r w past) (seen_asks r w past)
 
 -- w is the least replica with an unserved ask
 abbrev pub is_least_waiting : ℕ → List Event → ℕ → Bool
-is_least_waiting r past w = has_unserved_ask r past w && all_below w (λ q. not (has_unserved_ask r past q))
+is_least_waiting r past w =
+    has_unserved_ask r past w && all_below w (λ q. not (has_unserved_ask r past q))
 
 -- the fence that a `Close` of r found
 abbrev pub close_seen : ℕ → ℕ → Verb → Answer → Option Fence
@@ -68,7 +73,8 @@ names_target (Some f) = has_target f.target
 
 -- a `Close` is pending whose answer has a target
 abbrev pub must_drain : ℕ → List Event → Bool
-must_drain r past = fence_closing r past && names_target (newest (λ e. close_seen r e.by e.verb e.answer) past)
+must_drain r past =
+    fence_closing r past && names_target (newest (λ e. close_seen r e.by e.verb e.answer) past)
 
 -- the step is a `LookTarget` of r
 abbrev pub is_target_look : ℕ → ℕ → Verb → Bool

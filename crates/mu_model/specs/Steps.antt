@@ -157,15 +157,18 @@ is_named c r past = leader c r past == r
 
 -- r was named before each replication event of the stretch
 abbrev pub named_throughout : Config → ℕ → List Event → List Event → Bool
-named_throughout c r window older = each_step (λ past e. not (is_replication past e) || is_named c r past) window older
+named_throughout c r window older =
+    each_step (λ past e. not (is_replication past e) || is_named c r past) window older
 
 -- another was named before each replication event of the stretch
 abbrev pub unnamed_throughout : Config → ℕ → List Event → List Event → Bool
-unnamed_throughout c r window older = each_step (λ past e. not (is_replication past e) || not (is_named c r past)) window older
+unnamed_throughout c r window older =
+    each_step (λ past e. not (is_replication past e) || not (is_named c r past)) window older
 
 -- a replication event of the stretch passes
 abbrev pub replicates : (List Event → Event → Bool) → List Event → List Event → Bool
-replicates test window older = some_step (λ past e. is_replication past e && test past e) window older
+replicates test window older =
+    some_step (λ past e. is_replication past e && test past e) window older
 
 -- the event commits
 abbrev pub commits_more : Config → ℕ → List Event → Event → Bool
@@ -181,4 +184,10 @@ is_over_after r past e = is_over r (e ∷ past)
 
 -- a `Head(q)` answer that leaves no room, where no mark of q is known
 abbrev pub is_lagging : Config → ℕ → List Event → Event → Bool
-is_lagging c r past e = not (all_below c.replicas (λ q. not (not (marked c q (known c r past)) && lacks_room c (length (known c r past) + reserve c) (head_read r q e.by e.verb e.answer))))
+is_lagging c r past e =
+    not
+    (all_below c.replicas
+    (λ q. not
+    (not (marked c q (known c r past))
+    && lacks_room c (length (known c r past) + reserve c)
+    (head_read r q e.by e.verb e.answer))))

@@ -10,17 +10,20 @@ pub record IsStretch (past window older : List Event) : Type 0 where
 -- some event of the stretch passes a test that sees what came before it
 abbrev pub some_step : (List Event → Event → Bool) → List Event → List Event → Bool
 some_step test [] older = false
-some_step test (e ∷ window) older = if test (window ++ older) e then true else some_step test window older
+some_step test (e ∷ window) older =
+    if test (window ++ older) e then true else some_step test window older
 
 -- each event of the stretch passes such a test
 abbrev pub each_step : (List Event → Event → Bool) → List Event → List Event → Bool
 each_step test [] older = true
-each_step test (e ∷ window) older = if test (window ++ older) e then each_step test window older else false
+each_step test (e ∷ window) older =
+    if test (window ++ older) e then each_step test window older else false
 
 -- how many events of the stretch pass such a test
 abbrev pub steps : (List Event → Event → Bool) → List Event → List Event → ℕ
 steps test [] older = 0
-steps test (e ∷ window) older = if test (window ++ older) e then steps test window older + 1 else steps test window older
+steps test (e ∷ window) older =
+    if test (window ++ older) e then steps test window older + 1 else steps test window older
 
 -- n is odd
 abbrev pub is_odd : ℕ → Bool

@@ -1,6 +1,6 @@
 //! The rows of a configuration, its positions, and what payload numbers stand for.
-ghost use Rattle.std.specs.Prelude.{◌+◌, ◌<◌, ◌≡◌, ◌≤◌};
-ghost use Rattle.mu_model.specs.Contents.{begins_batch, client_of, config_word, is_batch, is_mark, number_of, rest_of, row_count};
+ghost use Rattle.std.specs.Prelude.{length, ◌+◌, ◌<◌, ◌≡◌, ◌≤◌};
+ghost use Rattle.mu_model.specs.Contents.{begins_batch, client_of, config_word, is_batch, is_mark, number_of, numbers_in, rest_of, row_count, rows_from, rows_of};
 ghost use Rattle.mu_model.specs.Room.{reserve};
 
 use crate::config::Config;
@@ -98,4 +98,34 @@ pub fn stands_for_mark(config: &Config, q: u8, v: u16) -> bool
         && config.version == 2
         && q < config.replicas
         && v % 4096 == 4080 + u16::from(q)
+}
+
+/// How many of some rows of a batch are the client's.
+#[tactic(auto, using(crate::proofs::Scans::rows_after))]
+fn rows_of_client(config: &Config, client: u64, n: u64, j: u16) -> u64
+    requires rows { n ≤ 256 }
+    requires row { j < 4096 }
+    ensures is { result ≡ length (numbers_in config.now client (rows_from n j)) }
+    ensures few { result ≤ n }
+{
+    let mut count: u64 = 0;
+    for t in 0..n {
+        if u64::from(row_client(config, j + t as u16)) == client {
+            count += 1;
+        }
+    }
+    count
+}
+
+/// How many commands of the client the entry `v` holds.
+pub fn commands_of(config: &Config, client: u64, v: u16) -> u64
+    ensures is { result ≡ length (numbers_in config.now client (rows_of config.now v)) }
+    ensures few { result ≤ 256 }
+{
+    if stands_for_batch(config, v) {
+        let rows = u64::from(row_rest(config, v % 4096)) + 1;
+        rows_of_client(config, client, rows, v % 4096)
+    } else {
+        0
+    }
 }

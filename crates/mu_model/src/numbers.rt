@@ -9,8 +9,8 @@ pub fn majority(n: u8) -> u8
     n / 2 + 1
 }
 
-/// The least proposal number of the replica `id` above `above`: a number is a round, counted from 1, times
-/// 8, and the id.
+/// The least proposal number of the replica `id` above `above`: a number is a round, counted from
+/// 1, times 8, and the id.
 pub fn next_number(id: u8, above: u32) -> u32
     requires small { id < 7 }
     requires room { above < 8000000 }

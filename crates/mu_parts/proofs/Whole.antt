@@ -8,17 +8,14 @@ use Rattle.mu_model.specs.declared.event.Event.{Event}
 use Rattle.mu_model.specs.Histories.{part}
 use Rattle.mu_model.specs.Legal.{IsLegalHistory}
 use Rattle.mu_model.specs.Parts.{IsPossible}
-use Rattle.mu_parts.specs.declared.mover.Mover.{Mover}
-use Rattle.mu_parts.specs.Parts.{HoldsPart}
+use Rattle.mu_parts.specs.declared.replica.Replica.{Replica}
+use Rattle.mu_parts.specs.Parts.{StandsForReplica}
 use Rattle.mu_model.proofs.Lists.{set_get}
+use Rattle.mu_known.proofs.Placed.{is_possible}
 
 -- each state of the list, counted from 0, stands for the part of its replica
-abbrev pub HoldsEach : Config → List Event → List Mover → Type 0
-HoldsEach c past movers = (r : ℕ) (state : Mover) → slice_get movers r ≡ Some state → HoldsPart c r (part r past) state
-
--- the part of a replica is a possible one
-pub is_possible : (c : Config) (r : ℕ) (past : List Event) → IsLegalHistory c past → IsPossible c r (part r past)
-is_possible c r past legal = record { past = past; legal = legal; is = refl }
+abbrev pub HoldsEach : Config → List Event → List Replica → Type 0
+HoldsEach c past replicas = (r : ℕ) (state : Replica) → slice_get replicas r ≡ Some state → StandsForReplica c r (part r past) state
 
 own_part : (e : Event) (past : List Event) → part e.by (e ∷ past) ≡ e ∷ part e.by past
 own_part e past = rw (same_number e.by) refl
@@ -27,14 +24,14 @@ other_part : (r : ℕ) (e : Event) (past : List Event) → r ≢ e.by → part r
 other_part r e past differ = elim (eqb_tells e.by r) [ inl same ↦ absurd (differ (sym same.1)) | inr off ↦ rw off.0 refl ]
 
 -- the states after an event, which its own replica's state has taken
-pub each_next : (c : Config) (past : List Event) (e : Event) (k : ℕ) (movers : List Mover) (was new : Mover) → k ≡ e.by → slice_get movers k ≡ Some was → IsLegalHistory c (e ∷ past)
-    → (IsPossible c e.by (e ∷ part e.by past) → HoldsPart c e.by (part e.by past) was → HoldsPart c e.by (e ∷ part e.by past) new) → HoldsEach c past movers → HoldsEach c (e ∷ past) (set movers k new)
-each_next c past e k movers was new by at legal step held r state there = elim (set_get movers k new r state there) [
+pub each_next : (c : Config) (past : List Event) (e : Event) (k : ℕ) (replicas : List Replica) (was new : Replica) → k ≡ e.by → slice_get replicas k ≡ Some was → IsLegalHistory c (e ∷ past)
+    → (IsPossible c e.by (e ∷ part e.by past) → StandsForReplica c e.by (part e.by past) was → StandsForReplica c e.by (e ∷ part e.by past) new) → HoldsEach c past replicas → HoldsEach c (e ∷ past) (set replicas k new)
+each_next c past e k replicas was new by at legal step held r state there = elim (set_get replicas k new r state there) [
   | inl here ↦
       let own = own_part e past in
       let possible = subst (λ l. IsPossible c e.by l) own (is_possible c e.by (e ∷ past) legal) in
-      let taken = step possible (held e.by was (subst (λ q. slice_get movers q ≡ Some was) by at)) in
-      let mine = subst (λ l. HoldsPart c e.by l new) (sym own) taken in
-      subst (λ q. HoldsPart c q (part q (e ∷ past)) state) (sym (here.0 ∙ by)) (subst (λ s. HoldsPart c e.by (part e.by (e ∷ past)) s) here.1 mine)
-  | inr other ↦ subst (λ l. HoldsPart c r l state) (sym (other_part r e past (λ is. other.0 (is ∙ sym by)))) (held r state other.1)
+      let taken = step possible (held e.by was (subst (λ q. slice_get replicas q ≡ Some was) by at)) in
+      let mine = subst (λ l. StandsForReplica c e.by l new) (sym own) taken in
+      subst (λ q. StandsForReplica c q (part q (e ∷ past)) state) (sym (here.0 ∙ by)) (subst (λ s. StandsForReplica c e.by (part e.by (e ∷ past)) s) here.1 mine)
+  | inr other ↦ subst (λ l. StandsForReplica c r l state) (sym (other_part r e past (λ is. other.0 (is ∙ sym by)))) (held r state other.1)
 ]

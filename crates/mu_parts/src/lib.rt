@@ -4,8 +4,9 @@
 //! come from a running state, so that they cost about the same however many events there were.
 #![tactic(auto)]
 
-mod mover;
-mod movers;
 mod putting;
+mod replica;
+mod replicas;
 
-pub use movers::Movers;
+pub use replica::Replica;
+pub use replicas::Replicas;

@@ -49,5 +49,7 @@ pub record HasCauses (c : Config) (r : ℕ) (past : List Event) (verb : Verb) (a
 
 -- so do the answers to a step after a list that the port tells
 abbrev pub CausesOfAnswers : Type 0
-CausesOfAnswers = (c : Config) (r : ℕ) (events : List Event) (after : Option (List Event)) (verb : Verb) (answer : Answer)
+CausesOfAnswers =
+    (c : Config) (r : ℕ) (events : List Event) (after : Option (List Event)) (verb : Verb)
+    (answer : Answer)
     → Tells c r (Some events) after verb answer → HasCauses c r (history events) verb answer

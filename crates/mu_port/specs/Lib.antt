@@ -1,2 +1,3 @@
 pub mod Causes
+pub mod Keeping
 pub mod Telling

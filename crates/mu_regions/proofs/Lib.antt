@@ -2,3 +2,4 @@ pub mod Counts
 pub mod Each
 pub mod Elsewhere
 pub mod Range
+pub mod Quiet

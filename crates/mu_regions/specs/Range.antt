@@ -1,5 +1,5 @@
 -- Which steps are in range, and which region a step reads.
-use Rattle.std.specs.Prelude.{ℕ, Bool, false, ◌==◌, ◌%◌, ◌+◌, ◌/◌, ◌<◌, ◌≤◌}
+use Rattle.std.specs.Prelude.{ℕ, Bool, false, true, ◌==◌, ◌%◌, ◌+◌, ◌/◌, ◌<◌, ◌≤◌}
 use Rattle.mu_model.specs.declared.config.Config.{Config}
 use Rattle.mu_model.specs.declared.event.Verb.{Verb}
 use Rattle.mu_model.specs.Contents.{row_count}
@@ -26,7 +26,8 @@ abbrev pub is_first : Verb → Bool
 is_first (Verb.Ask p) = p == 0
 is_first _ = false
 
--- the positions, rows and words that a verb names are there, and so is the replica whose asks it reads
+-- the positions, rows and words that a verb names are there, and so is the replica whose asks it
+-- reads
 abbrev pub IsNear : Config → Verb → Type 0
 IsNear c (Verb.PutSlot p i b v) = i ≤ row_count c + reserve c
 IsNear c (Verb.WriteRow j k x) = (j < row_count c) × (k < 12)
@@ -39,3 +40,20 @@ pub record InRange (c : Config) (r : ℕ) (verb : Verb) : Type 0 where
   pub replica : r < c.replicas
   pub read : read_at r verb < c.replicas
   pub near : IsNear c verb
+
+-- the verb only reads: it changes no region, and nothing that a replica noted
+abbrev pub is_read_alone : Verb → Bool
+is_read_alone (Verb.Min p) = true
+is_read_alone (Verb.Look p i) = true
+is_read_alone (Verb.Fuo p) = true
+is_read_alone (Verb.Head q) = true
+is_read_alone (Verb.ReadBeat q) = true
+is_read_alone (Verb.ReadRow v k) = true
+is_read_alone (Verb.ReadAsk w) = true
+is_read_alone Verb.LookTarget = true
+is_read_alone _ = false
+
+-- the verb is a beat
+abbrev pub is_beat_verb : Verb → Bool
+is_beat_verb Verb.Beat = true
+is_beat_verb _ = false

@@ -26,7 +26,9 @@ MarksDrains p past marks = (r : ℕ) → r < 7 → slice_get marks r ≡ Some (d
 
 -- the words of the rows of p, in the order of the rows
 abbrev pub HoldsRows : Config → ℕ → List Event → List ℕ → Type 0
-HoldsRows c p past words = (v k : ℕ) → v / 4096 ≡ p → v % 4096 < row_count c → k < 12 → slice_get words (v % 4096 * 12 + k) ≡ Some (row_word v k past)
+HoldsRows c p past words =
+    (v k : ℕ) → v / 4096 ≡ p → v % 4096 < row_count c → k < 12
+    → slice_get words (v % 4096 * 12 + k) ≡ Some (row_word v k past)
 
 -- the state of the region p, and of the rows of its replica, stands for the history
 pub record Holds (c : Config) (p : ℕ) (past : List Event) (region : Region) : Type 0 where
@@ -45,7 +47,8 @@ pub record Holds (c : Config) (p : ℕ) (past : List Event) (region : Region) : 
 
 -- each region of the list, counted from 0, stands for the history
 abbrev pub HoldsEach : Config → List Event → List Region → Type 0
-HoldsEach c past regions = (p : ℕ) (region : Region) → slice_get regions p ≡ Some region → Holds c p past region
+HoldsEach c past regions =
+    (p : ℕ) (region : Region) → slice_get regions p ≡ Some region → Holds c p past region
 
 -- the state stands for the history: there are as many regions as replicas, and each does
 pub record Stands (c : Config) (past : List Event) (state : Regions) : Type 0 where

@@ -14,7 +14,8 @@ use mu_model::{Answer, Event, Fence, Target, Verb};
 /// The fence of `p` after the event.
 #[tactic(auto, using(crate::proofs::Counts::few_grants))]
 pub fn fence_after(held: Fence, p: u8, event: &Event) -> Fence
-    ensures { (past : List Event) → length past < 2 ^ 20 → held ≡ fence p past → result ≡ fence p (event.now ∷ past) }
+    ensures { (past : List Event) → length past < 2 ^ 20 → held ≡ fence p past
+        → result ≡ fence p (event.now ∷ past) }
 {
     match (event.verb, event.answer) {
         (Verb::Grant(w), _) => {
@@ -77,7 +78,8 @@ pub fn head_after(held: u16, p: u8, event: &Event) -> u16
 /// The beats of `p` after the event.
 #[tactic(auto, using(crate::proofs::Counts::few_beats))]
 pub fn beats_after(held: u64, p: u8, event: &Event) -> u64
-    ensures { (past : List Event) → length past < 2 ^ 20 → held ≡ beats p past → result ≡ beats p (event.now ∷ past) }
+    ensures { (past : List Event) → length past < 2 ^ 20 → held ≡ beats p past
+        → result ≡ beats p (event.now ∷ past) }
 {
     match event.verb {
         Verb::Beat => {
@@ -92,9 +94,12 @@ pub fn beats_after(held: u64, p: u8, event: &Event) -> u64
 }
 
 /// Puts an entry into a log, at a position that it has or at its end. Takes no memory.
-#[tactic(auto, using(mu_model::proofs::Entries::set_past))]
+#[tactic(auto, using(std::proofs::lemmas::List::set_past))]
 fn put(log: &mut Vec<(u32, u16)>, i: usize, entry: (u32, u16))
-    ensures items { i < vec_capacity log.old → log.new.items ≡ (if i == length log.old.items then log.old.items ++ entry ∷ [] else set log.old.items i entry) }
+    ensures items { i < vec_capacity log.old
+        → log.new.items
+        ≡ (if i == length log.old.items then log.old.items ++ entry ∷ []
+        else set log.old.items i entry) }
     ensures room { vec_capacity log.new ≡ vec_capacity log.old }
 {
     if i < log.len() {
@@ -108,7 +113,9 @@ fn put(log: &mut Vec<(u32, u16)>, i: usize, entry: (u32, u16))
 
 /// Adds to the log of `p` what the event puts there. Takes no memory.
 pub fn note_put(log: &mut Vec<(u32, u16)>, p: u8, event: &Event)
-    ensures items { (c : Config) → IsNear c event.now.verb → (past : List Event) → row_count c + reserve c < vec_capacity log.old → log.old.items ≡ region_log p past → log.new.items ≡ region_log p (event.now ∷ past) }
+    ensures items { (c : Config) → IsNear c event.now.verb → (past : List Event)
+        → row_count c + reserve c < vec_capacity log.old → log.old.items ≡ region_log p past
+        → log.new.items ≡ region_log p (event.now ∷ past) }
     ensures room { vec_capacity log.new ≡ vec_capacity log.old }
 {
     if let (Verb::PutSlot(q, i, b, v), Answer::Done) = (event.verb, event.answer) {
@@ -121,7 +128,8 @@ pub fn note_put(log: &mut Vec<(u32, u16)>, p: u8, event: &Event)
 /// Counts the event where it asks `p`.
 #[tactic(auto, using(crate::proofs::Counts::few_asks))]
 pub fn note_ask(asks: &mut [u64; 7], p: u8, event: &Event)
-    ensures { (past : List Event) → length past < 2 ^ 20 → CountsAsks p past asks.old → CountsAsks p (event.now ∷ past) asks.new }
+    ensures { (past : List Event) → length past < 2 ^ 20 → CountsAsks p past asks.old
+        → CountsAsks p (event.now ∷ past) asks.new }
 {
     if let Verb::Ask(q) = event.verb {
         let w = usize::from(event.by);
@@ -144,7 +152,8 @@ fn grant_in(fence: Fence, r: u8) -> Option<u32>
 
 /// Notes the grant of `p` that the event shows, or that a leadership begins.
 pub fn note_grant(noted: &mut [Option<u32>; 7], p: u8, event: &Event)
-    ensures { (past : List Event) → NotesGrants p past noted.old → NotesGrants p (event.now ∷ past) noted.new }
+    ensures { (past : List Event) → NotesGrants p past noted.old
+        → NotesGrants p (event.now ∷ past) noted.new }
 {
     let r = usize::from(event.by);
     if r < 7 {
@@ -166,7 +175,8 @@ pub fn note_grant(noted: &mut [Option<u32>; 7], p: u8, event: &Event)
 
 /// Marks `p` as drained for all replicas, or as entered by one.
 pub fn note_drain(drained: &mut [bool; 7], p: u8, event: &Event)
-    ensures { (past : List Event) → MarksDrains p past drained.old → MarksDrains p (event.now ∷ past) drained.new }
+    ensures { (past : List Event) → MarksDrains p past drained.old
+        → MarksDrains p (event.now ∷ past) drained.new }
 {
     match event.verb {
         Verb::Drain => {
@@ -186,7 +196,8 @@ pub fn note_drain(drained: &mut [bool; 7], p: u8, event: &Event)
 
 /// Writes into the rows of `p` the word that the event writes.
 pub fn note_word(words: &mut [u64], p: u8, event: &Event)
-    ensures { (c : Config) → IsNear c event.now.verb → (past : List Event) → HoldsRows c p past words.old → HoldsRows c p (event.now ∷ past) words.new }
+    ensures { (c : Config) → IsNear c event.now.verb → (past : List Event) → HoldsRows c p past words.old
+        → HoldsRows c p (event.now ∷ past) words.new }
 {
     if let Verb::WriteRow(row, word, x) = event.verb {
         let at = usize::from(row) * 12 + usize::from(word);

@@ -7,7 +7,7 @@ ghost use Rattle.mu_model.specs.Answers.{answer_of, drained, entered_or_lost, pu
 ghost use Rattle.mu_model.specs.Contents.{row_count};
 ghost use Rattle.mu_model.specs.Leaderships.{noted_grant};
 ghost use Rattle.mu_model.specs.Regions.{asks, fence, region_log, row_word};
-ghost use Rattle.mu_regions.specs.Range.{InRange, IsNear, read_at};
+ghost use Rattle.mu_regions.specs.Range.{InRange, IsNear, is_beat_verb, is_read_alone, read_at};
 ghost use Rattle.mu_regions.specs.Stands.{Holds};
 
 use crate::effects::{
@@ -31,6 +31,33 @@ pub struct Region {
     noted: [Option<u32>; 7],
     drained: [bool; 7],
     words: Vec<u64>,
+}
+
+/// Whether the verb only reads: no region changes.
+fn is_read(verb: &Verb) -> bool
+    ensures { result ≡ is_read_alone verb.now }
+{
+    match *verb {
+        Verb::Min(_)
+        | Verb::Look(_, _)
+        | Verb::Fuo(_)
+        | Verb::Head(_)
+        | Verb::ReadBeat(_)
+        | Verb::ReadRow(_, _)
+        | Verb::ReadAsk(_)
+        | Verb::LookTarget => true,
+        _ => false,
+    }
+}
+
+/// Whether the verb is a beat.
+fn is_beat(verb: &Verb) -> bool
+    ensures { result ≡ is_beat_verb verb.now }
+{
+    match *verb {
+        Verb::Beat => true,
+        _ => false,
+    }
 }
 
 impl Region {
@@ -61,7 +88,34 @@ impl Region {
 
     /// Takes the next event of the history.
     pub fn take(&mut self, event: &Event)
-        ensures { (c : Config) → (p : ℕ) → (past : List Event) → length past < 2 ^ 20 → IsNear c event.now.verb → Holds c p past self.old → Holds c p (event.now ∷ past) self.new }
+        ensures { (c : Config) → (p : ℕ) → (past : List Event) → length past < 2 ^ 20
+            → IsNear c event.now.verb → Holds c p past self.old
+            → Holds c p (event.now ∷ past) self.new }
+    {
+        if is_read(&event.verb) {
+            return;
+        }
+        self.take_change(event);
+    }
+
+    /// Takes an event that is no read: a beat changes the count of beats alone.
+    fn take_change(&mut self, event: &Event)
+        ensures { (c : Config) → (p : ℕ) → (past : List Event) → length past < 2 ^ 20
+            → IsNear c event.now.verb → Holds c p past self.old
+            → Holds c p (event.now ∷ past) self.new }
+    {
+        if is_beat(&event.verb) {
+            self.beats = beats_after(self.beats, self.id, event);
+            return;
+        }
+        self.take_other(event);
+    }
+
+    /// Takes an event of any kind.
+    fn take_other(&mut self, event: &Event)
+        ensures { (c : Config) → (p : ℕ) → (past : List Event) → length past < 2 ^ 20
+            → IsNear c event.now.verb → Holds c p past self.old
+            → Holds c p (event.now ∷ past) self.new }
     {
         let p = self.id;
         self.fence = fence_after(self.fence, p, event);
@@ -78,7 +132,9 @@ impl Region {
 
     /// What `by` is answered to a step that reads this region.
     pub fn answer(&self, ring: u16, by: u8, verb: &Verb) -> Answer
-        ensures { (c : Config) → (past : List Event) → ring ≡ c.ring → c.replicas ≤ 7 → InRange c by verb.now → Holds c (read_at by verb.now) past self.now → result ≡ answer_of c by past verb.now }
+        ensures { (c : Config) → (past : List Event) → ring ≡ c.ring → c.replicas ≤ 7
+            → InRange c by verb.now → Holds c (read_at by verb.now) past self.now
+            → result ≡ answer_of c by past verb.now }
     {
         match *verb {
             Verb::Fence(_) | Verb::Close => Answer::Seen(self.fence),
@@ -104,7 +160,8 @@ impl Region {
 
     /// Whether `by` finds the grant that it noted.
     fn enter_answer(&self, by: u8) -> Answer
-        ensures { (c : Config) → (p : ℕ) → (past : List Event) → by < 7 → Holds c p past self.now → result ≡ entered_or_lost (noted_grant by p past) (fence p past) }
+        ensures { (c : Config) → (p : ℕ) → (past : List Event) → by < 7 → Holds c p past self.now
+            → result ≡ entered_or_lost (noted_grant by p past) (fence p past) }
     {
         match self.noted.get(usize::from(by)) {
             Some(Some(grant)) if !self.fence.closing && self.fence.grant == *grant =>
@@ -115,7 +172,8 @@ impl Region {
 
     /// Whether a put of `by` lands.
     fn put_answer(&self, by: u8) -> Answer
-        ensures { (c : Config) → (p : ℕ) → (past : List Event) → by < 7 → Holds c p past self.now → result ≡ put_answer (drained by p past) }
+        ensures { (c : Config) → (p : ℕ) → (past : List Event) → by < 7 → Holds c p past self.now
+            → result ≡ put_answer (drained by p past) }
     {
         match self.drained.get(usize::from(by)) {
             Some(true) => Answer::Missed,
@@ -125,7 +183,10 @@ impl Region {
 
     /// What a look at position `i` shows.
     fn look_answer(&self, ring: u16, i: u16) -> Answer
-        ensures { (c : Config) → (p : ℕ) → (past : List Event) → Holds c p past self.now → result ≡ (if nat_lt (i + ring) (length (region_log p past)) then Answer.Past else shown (slice_get (region_log p past) i)) }
+        ensures { (c : Config) → (p : ℕ) → (past : List Event) → Holds c p past self.now
+            → result
+            ≡ (if nat_lt (i + ring) (length (region_log p past)) then Answer.Past
+            else shown (slice_get (region_log p past) i)) }
     {
         if usize::from(i) + usize::from(ring) < self.log.len() {
             return Answer::Past;
@@ -138,7 +199,8 @@ impl Region {
 
     /// Word `k` of the row of the payload number `v`.
     fn word_at(&self, v: u16, k: u8) -> u64
-        ensures { (c : Config) → (past : List Event) → v % 4096 < row_count c → k < 12 → Holds c (v / 4096) past self.now → result ≡ row_word v k past }
+        ensures { (c : Config) → (past : List Event) → v % 4096 < row_count c → k < 12
+            → Holds c (v / 4096) past self.now → result ≡ row_word v k past }
     {
         let at = usize::from(v % 4096) * 12 + usize::from(k);
         self.words.get(at).copied().unwrap_or(0)
@@ -146,7 +208,8 @@ impl Region {
 
     /// How often `w` asked.
     fn asks_of(&self, w: u8) -> u64
-        ensures { (c : Config) → (p : ℕ) → (past : List Event) → w < 7 → Holds c p past self.now → result ≡ asks w p past }
+        ensures { (c : Config) → (p : ℕ) → (past : List Event) → w < 7 → Holds c p past self.now
+            → result ≡ asks w p past }
     {
         if w < 7 { self.asks[usize::from(w)] } else { 0 }
     }

@@ -59,7 +59,8 @@ fn is_first(verb: &Verb) -> bool
 
 /// Takes the event at each region.
 fn take_at_each(regions: &mut [Region], event: &Event)
-    ensures { (c : Config) → (past : List Event) → length past < 2 ^ 20 → IsNear c event.now.verb → HoldsEach c past regions.old → HoldsEach c (event.now ∷ past) regions.new }
+    ensures { (c : Config) → (past : List Event) → length past < 2 ^ 20 → IsNear c event.now.verb
+        → HoldsEach c past regions.old → HoldsEach c (event.now ∷ past) regions.new }
 {
     for region in regions.iter_mut() {
         region.take(event);
@@ -68,7 +69,7 @@ fn take_at_each(regions: &mut [Region], event: &Event)
 
 impl Regions {
     /// The state before any event. Takes all memory that it ever needs.
-    pub fn start(alloc: Global, config: &Config) -> Result<Regions, NoMemory>
+    pub fn new(alloc: Global, config: &Config) -> Result<Regions, NoMemory>
         requires { IsConfig config.now }
         ensures { IfOk result (λ state. Stands config.now [] state) }
     {
@@ -82,10 +83,12 @@ impl Regions {
         })
     }
 
-    /// What `by` is answered to `verb` after the history that the state stands for, on condition that
+    /// What `by` is answered to `verb` after the history that the state stands for, on condition
+    /// that
     /// `by` and all that the verb names are there. Takes no memory.
     pub fn answer(&self, by: u8, verb: &Verb) -> Answer
-        ensures { (c : Config) → (past : List Event) → InRange c by verb.now → Stands c past self.now → result ≡ answer_of c by past verb.now }
+        ensures { (c : Config) → (past : List Event) → InRange c by verb.now → Stands c past self.now
+            → result ≡ answer_of c by past verb.now }
     {
         match self.regions.get(usize::from(region_read(by, verb))) {
             Some(region) => region.answer(self.ring, by, verb),
@@ -93,10 +96,11 @@ impl Regions {
         }
     }
 
-    /// Takes the next event of the history that the state stands for, whatever it answers, on condition
-    /// that its position, row and word are there. Takes no memory.
+    /// Takes the next event of the history that the state stands for, whatever it answers, on
+    /// condition that its position, row and word are there. Takes no memory.
     pub fn take(&mut self, event: &Event)
-        ensures { (c : Config) → (past : List Event) → length past < 2 ^ 20 → IsNear c event.now.verb → Stands c past self.old → Stands c (event.now ∷ past) self.new }
+        ensures { (c : Config) → (past : List Event) → length past < 2 ^ 20 → IsNear c event.now.verb
+            → Stands c past self.old → Stands c (event.now ∷ past) self.new }
     {
         if is_first(&event.verb) {
             take_at_each(&mut self.regions, event);

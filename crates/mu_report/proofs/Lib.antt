@@ -1,4 +1,6 @@
-pub mod Digits
+pub mod BookLines
 pub mod Lists
 pub mod Prints
 pub mod Sizes
+pub mod Summaries
+pub mod Traces

@@ -1,29 +1,41 @@
 -- The lines of lists, taken from the front, and the longest log.
-use Rattle.std.proofs.Common.{◌≡◌, ℕ, zero, suc, ◌+◌, ◌-◌, ◌<◌, ◌≤◌, cond, List, [], ◌∷◌, ◌++◌, refl, sym, ap, ◌∙◌, length, take, drop, map, min, get_or, arith}
+use Rattle.std.proofs.Common.{◌≡◌, ℕ, zero, suc, ◌+◌, ◌-◌, ◌%◌, ◌<◌, ◌≤◌, true, false, cond, subst, List, [], ◌∷◌, ◌++◌, refl, sym, ap, ◌∙◌, length, take, drop, map, min, get_or, arith}
 use Rattle.std.specs.Fmt.{decimal}
 use Rattle.std.specs.Prelude.{codes, nat_lt}
 use Rattle.std.proofs.lemmas.Bool.Decides.{nat_tests}
 use Rattle.std.proofs.lemmas.List.{drop_all, drop_min, drop_more, take_rest}
 use Rattle.kv_store.specs.Commands.{Request}
 use Rattle.kv_store.specs.declared.store.Reply.{Reply}
+use Rattle.mu_model.specs.Contents.{is_mark}
 use Rattle.mu_input.specs.declared.job.Job.{Job}
-use Rattle.mu_cluster.specs.declared.outcome.Outcome.{Outcome}
-use Rattle.mu_cluster.specs.Entries.{commands_of, commands_in, longest}
-use Rattle.mu_cluster.specs.Outcomes.{log_of, status_of}
-use Rattle.mu_report.specs.Report.{entry_line, entry_lines, log_line, log_lines, logs_lines, answer_line, answer_lines, replies_lines, report_lines}
+use Rattle.mu_outcome.specs.declared.outcome.Outcome.{Outcome}
+use Rattle.mu_outcome.specs.Entries.{commands_of, commands_in, longest}
+use Rattle.mu_outcome.specs.Outcomes.{log_of, status_of}
+use Rattle.mu_report.specs.Report.{entry_line, entry_lines, log_line, log_lines, logs_lines, answer_line, answer_lines, replies_lines, report_lines, gone_line, lines_of_entry}
 
--- the line of the next command, and those of the others
-pub map-drop : (f : Request → List ℕ) (commands : List Request) (i : ℕ) (command : Request) (line : List ℕ) → i < length commands
+-- the line of the next element, and those of the others
+pub map-drop : {A : Type 0} (f : A → List ℕ) (commands : List A) (i : ℕ) (command : A) (line : List ℕ) → i < length commands
     → command ≡ get_or commands i command → line ≡ f command → map f (drop i commands) ≡ (line ∷ []) ++ map f (drop (i + 1) commands)
-map-drop f commands i command line within is spelled =
+map-drop {A} f commands i command line within is spelled =
     ap (map f) (drop_more commands i command within) ∙ ap (λ c. f c ∷ map f (drop (i + 1) commands)) (sym is)
     ∙ ap (λ l. l ∷ map f (drop (i + 1) commands)) (sym spelled)
 
+pub map-drop-or : {A : Type 0} (f : A → List ℕ) (xs : List A) (i : ℕ) (x : A) (line : List ℕ) → i < length xs
+    → line ≡ f (get_or xs i x) → map f (drop i xs) ≡ (line ∷ []) ++ map f (drop (i + 1) xs)
+map-drop-or {A} f xs i x line within spelled =
+    ap (map f) (drop_more xs i x within) ∙ ap (λ l. l ∷ map f (drop (i + 1) xs)) (sym spelled)
+
 -- the lines of the next entry, and those of the others
-pub entry_lines-drop : (job : Job) (log : List ℕ) (i : ℕ) (commands : List Request) → i < length log → commands ≡ commands_of job (get_or log i 0)
-    → entry_lines job i (drop i log) ≡ map (entry_line i) commands ++ entry_lines job (i + 1) (drop (i + 1) log)
-entry_lines-drop job log i commands within is =
-    ap (entry_lines job i) (drop_more log i 0 within) ∙ ap (λ cs. map (entry_line i) cs ++ entry_lines job (i + 1) (drop (i + 1) log)) (sym is)
+pub entry_lines-drop : (job : Job) (log : List ℕ) (i : ℕ) → i < length log
+    → entry_lines job i (drop i log) ≡ lines_of_entry job i (get_or log i 0) ++ entry_lines job (i + 1) (drop (i + 1) log)
+entry_lines-drop job log i within = ap (entry_lines job i) (drop_more log i 0 within)
+
+-- the lines of an entry that is a mark, and of another
+pub gone_lines : (job : Job) (i v q : ℕ) (line : List ℕ) → is_mark job.config q v ≡ true → q ≡ v % 4096 - 4080 → line ≡ gone_line i q → line ∷ [] ≡ lines_of_entry job i v
+gone_lines job i v q line mark is spelled = let here = subst (λ n. is_mark job.config n v ≡ true) is mark in ap (λ l. l ∷ []) (spelled ∙ ap (gone_line i) is) ∙ sym (rw here refl)
+
+pub command_lines : (job : Job) (i v q : ℕ) (commands : List Request) → is_mark job.config q v ≡ false → q ≡ v % 4096 - 4080 → commands ≡ commands_of job v → map (entry_line i) commands ≡ lines_of_entry job i v
+command_lines job i v q commands mark is same = let here = subst (λ n. is_mark job.config n v ≡ false) is mark in ap (map (entry_line i)) same ∙ sym (rw here refl)
 
 -- the lines of the next log, and those of the others
 pub logs_lines-next : (o : Outcome) (r replicas : ℕ) → r < replicas → logs_lines o r (replicas - r) ≡ log_lines o r ++ logs_lines o (r + 1) (replicas - (r + 1))

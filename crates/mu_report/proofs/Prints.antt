@@ -103,6 +103,15 @@ print_fits a b f g t n lines rest piece more p e fits =
     let count : n ≡ t + length (ended p.done) = p.all.count in
     omega arith
 
+-- where the count of all lines fits, so does that of the last piece
+pub print_last_fits : (a b : Option (List ℕ)) (f g t n : ℕ) (lines rest : List (List ℕ))
+    → PrintsUpTo a b f g t lines rest n → t + LINE_BYTES * length lines < 2 ^ 64 → n + LINE_BYTES * length rest < 2 ^ 64
+print_last_fits a b f g t n lines rest p fits = print_fits a b f g t n lines rest rest [] p (sym (append-nil rest)) fits
+
+-- no line was printed
+pub print_none : (a : Option (List ℕ)) (f t : ℕ) → PrintsAll a a f f t [] t
+print_none a f t = record { appended = Appends-nil a; same_faults = refl; count = omega arith; bound = omega arith }
+
 -- the last piece decides the result
 pub print_last : (a b c : Option (List ℕ)) (f g h t n : ℕ) (lines rest : List (List ℕ)) (r : Result ℕ WriteFault)
     → PrintsUpTo a b f g t lines rest n → IfOk r (PrintsAll b c g h n rest) → IfOk r (PrintsAll a c f h t lines)

@@ -1,5 +1,5 @@
 -- How many lines a report has at most.
-use Rattle.std.proofs.Common.{◌≡◌, ℕ, zero, suc, ◌+◌, ◌*◌, ◌%◌, ◌<◌, ◌≤◌, ◌^◌, Bool, true, false, cond, List, [], ◌∷◌, ◌++◌, ap, ◌∙◌, length, drop, map, slice_get, arith, length-append, All}
+use Rattle.std.proofs.Common.{◌≡◌, ℕ, zero, suc, ◌+◌, ◌*◌, ◌%◌, ◌-◌, ◌<◌, ◌≤◌, ◌^◌, Bool, true, false, cond, List, [], ◌∷◌, ◌++◌, ap, ◌∙◌, length, drop, map, slice_get, arith, length-append, All}
 use Rattle.std.specs.Fmt.{decimal}
 use Rattle.std.specs.Prelude.{codes, nat_lt}
 use Rattle.std.proofs.lemmas.List.{length-drop, length-map, length-take}
@@ -7,12 +7,12 @@ use Rattle.std.proofs.Math.Nat.{mul-le-mul_left}
 use Rattle.kv_store.specs.Commands.{Request}
 use Rattle.kv_store.specs.declared.store.Reply.{Reply}
 use Rattle.mu_input.specs.declared.job.Job.{Job}
-use Rattle.mu_model.specs.Contents.{is_batch, rest_of}
-use Rattle.mu_cluster.specs.declared.outcome.Outcome.{Outcome}
-use Rattle.mu_cluster.specs.Entries.{commands_of, commands_in, longest}
-use Rattle.mu_cluster.specs.Outcomes.{log_of, or_empty, status_of}
+use Rattle.mu_model.specs.Contents.{is_batch, is_mark, rest_of}
+use Rattle.mu_outcome.specs.declared.outcome.Outcome.{Outcome}
+use Rattle.mu_outcome.specs.Entries.{commands_of, commands_in, longest}
+use Rattle.mu_outcome.specs.Outcomes.{log_of, or_empty, status_of}
 use Rattle.mu_report.specs.declared.line.TheConstants.{LINE_BYTES}
-use Rattle.mu_report.specs.Report.{entry_line, entry_lines, log_lines, logs_lines, answer_lines, replies_lines, report_lines, HasShortLists}
+use Rattle.mu_report.specs.Report.{entry_line, entry_lines, gone_line, lines_of_entry, log_lines, logs_lines, answer_lines, replies_lines, report_lines, HasShortLists}
 
 chosen : (b : Bool) (xs : List Request) (most : ℕ) → length xs ≤ most → length (cond b xs []) ≤ most
 chosen true xs most bound = bound
@@ -28,15 +28,21 @@ length-commands_in job [] = omega arith
 length-commands_in job (v ∷ vs) =
     omega (arith, length-commands_in job vs, length-commands_of job v, length-append (commands_of job v) (commands_in job vs))
 
-length-entry_lines : (job : Job) (i : ℕ) (log : List ℕ) → length (entry_lines job i log) ≤ length log * length job.commands
-length-entry_lines job i [] = omega arith
-length-entry_lines job i (v ∷ vs) =
+length-of_entry : (job : Job) (i v m : ℕ) → length job.commands + 1 ≤ m → length (lines_of_entry job i v) ≤ m
+length-of_entry job i v m most = go (is_mark job.config (v % 4096 - 4080) v)
+  where
+    go : (t : Bool) → length (cond t (gone_line i (v % 4096 - 4080) ∷ []) (map (entry_line i) (commands_of job v))) ≤ m
+    go true = omega (arith, most)
+    go false = omega (arith, most, length-commands_of job v, length-map (commands_of job v) (entry_line i))
+
+length-entry_lines : (job : Job) (i m : ℕ) (log : List ℕ) → length job.commands + 1 ≤ m → length (entry_lines job i log) ≤ length log * m
+length-entry_lines job i m [] most = omega arith
+length-entry_lines job i m (v ∷ vs) most =
     omega (
       arith,
-      length-entry_lines job (i + 1) vs,
-      length-commands_of job v,
-      length-map (commands_of job v) (entry_line i),
-      length-append (map (entry_line i) (commands_of job v)) (entry_lines job (i + 1) vs),
+      length-entry_lines job (i + 1) m vs most,
+      length-of_entry job i v m most,
+      length-append (lines_of_entry job i v) (entry_lines job (i + 1) vs),
     )
 
 length-answer_lines : (commands : List Request) (replies : List Reply) → length (answer_lines commands replies) ≤ length commands
@@ -69,11 +75,11 @@ short_longest (log ∷ logs) short =
 -- the longest log stands for few commands
 pub few_answers : (o : Outcome) → HasShortLists o → length (commands_in o.job (longest o.logs)) ≤ 2 ^ 48
 few_answers o short =
-    omega (arith, length-commands_in o.job (longest o.logs), product (length (longest o.logs)) (length o.job.commands) (short_longest o.logs short.1) short.0)
+    omega (arith, length-commands_in o.job (longest o.logs), product (length (longest o.logs)) (length o.job.commands) (short_longest o.logs short.1) (let few = short.0 in omega (arith, few)))
 
 length-log_lines : (o : Outcome) (r : ℕ) → HasShortLists o → length (log_lines o r) ≤ 2 ^ 48 + 1
 length-log_lines o r short =
-    omega (arith, length-entry_lines o.job 0 (log_of o r), product (length (log_of o r)) (length o.job.commands) (short_at o.logs r short.1) short.0)
+    omega (arith, length-entry_lines o.job 0 (length o.job.commands + 1) (log_of o r) (omega arith), product (length (log_of o r)) (length o.job.commands + 1) (short_at o.logs r short.1) (let few = short.0 in omega (arith, few)))
 
 length-logs_lines : (o : Outcome) (r replicas : ℕ) → HasShortLists o → length (logs_lines o r replicas) ≤ replicas * (2 ^ 48 + 1)
 length-logs_lines o r zero short = omega arith

@@ -1,6 +1,8 @@
 pub mod Answers
-pub mod Judged
+pub mod Books
 pub mod Printing
 pub mod Report
 pub mod Said
+pub mod Summary
+pub mod Trace
 pub mod Words

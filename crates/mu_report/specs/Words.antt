@@ -1,10 +1,9 @@
--- How commands, replies and ends are spelled.
+-- How the names of commands, replies and ends are spelled; operations are as in the input.
 use Rattle.std.specs.Prelude.{ℕ, List, [], ◌++◌, None, Some, codes}
 use Rattle.std.specs.declared.option.Option.{Option}
 use Rattle.std.specs.Fmt.{decimal}
 use Rattle.kv_store.specs.Commands.{Request}
-use Rattle.kv_store.specs.declared.command.Op.{Op}
-use Rattle.kv_store.specs.declared.command.Op.TheVariants.{Put, Get, Del, Swap, Cas}
+pub use Rattle.mu_input.specs.JobLines.{op_words}
 use Rattle.kv_store.specs.declared.store.Reply.{Reply}
 use Rattle.kv_store.specs.declared.store.Reply.TheVariants as reply
 use Rattle.mu_model.specs.declared.script.End.{End}
@@ -13,14 +12,6 @@ use Rattle.mu_model.specs.declared.script.End.TheVariants.{Stopped, Budget, Outr
 -- the client and the number of a command
 abbrev pub name_of : Request → List ℕ
 name_of command = decimal command.client ++ codes "." ++ decimal command.number
-
--- an operation, as in the input
-abbrev pub op_words : Op → List ℕ
-op_words (Put key text) = codes "put " ++ key ++ codes " " ++ text
-op_words (Get key) = codes "get " ++ key
-op_words (Del key) = codes "del " ++ key
-op_words (Swap key text) = codes "swap " ++ key ++ codes " " ++ text
-op_words (Cas key old new) = codes "cas " ++ key ++ codes " " ++ old ++ codes " " ++ new
 
 -- a reply
 abbrev pub reply_words : Reply → List ℕ
@@ -34,5 +25,6 @@ abbrev pub end_words : Option End → List ℕ
 end_words None = []
 end_words (Some Stopped) = codes "stopped"
 end_words (Some Budget) = codes "budget"
-end_words (Some (Outrun region position)) = codes "outrun " ++ decimal region ++ codes " " ++ decimal position
+end_words (Some (Outrun region position)) =
+    codes "outrun " ++ decimal region ++ codes " " ++ decimal position
 end_words (Some (Finished heads)) = codes "finished"

@@ -1,15 +1,16 @@
-//! What the program says: its report of a run, and its other answers, written line by line to a sink.
+//! What the program says: its report of a run, and its other answers, written line by line to a
+//! sink.
 #![tactic(auto)]
 
 mod answers;
-mod judging;
+mod book;
 mod line;
 mod report;
 mod said;
-#[cfg(test)]
-mod tests;
+mod summary;
+mod trace;
 mod words;
 
-pub use judging::judged;
 pub use report::status;
 pub use said::{Said, print, printed};
+pub use trace::is_countable;

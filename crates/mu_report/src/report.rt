@@ -1,36 +1,37 @@
 //! The report of a run, and the status of the program after it.
-ghost use Rattle.std.specs.Prelude.{◌≡◌, ◌+◌, ◌*◌, ◌<◌, ◌≤◌, ◌^◌, ◌==◌, ◌++◌, length, map, slice_get, codes, IfErr, IfOk};
+ghost use Rattle.std.specs.Prelude.{◌≡◌, ◌+◌, ◌-◌, ◌*◌, ◌%◌, ◌<◌, ◌≤◌, ◌^◌, ◌==◌, ◌++◌, length, map, slice_get, codes, IfErr, IfOk};
 ghost use Rattle.std.specs.Fmt.{decimal};
-ghost use Rattle.mu_cluster.specs.Entries.{commands_in, longest as longest_of};
-ghost use Rattle.mu_cluster.specs.Outcomes.{log_of, commits_of, status_of};
+ghost use Rattle.mu_outcome.specs.Entries.{commands_in, longest as longest_of};
+ghost use Rattle.mu_outcome.specs.Outcomes.{log_of, commits_of, status_after, status_of};
 ghost use Rattle.mu_report.specs.declared.line.TheConstants.{LINE_BYTES};
 ghost use Rattle.mu_report.specs.Printing.{PrintsAll, PrintsPart};
-ghost use Rattle.mu_report.specs.Report.{entry_line as entry_line_of, entry_lines, log_line as log_line_of, log_lines, logs_lines, answer_line as answer_line_of, answer_lines, replies_lines, report_lines, HasShortLists};
+ghost use Rattle.mu_report.specs.Report.{entry_line as entry_line_of, entry_lines, gone_line as gone_line_of, lines_of_entry, log_line as log_line_of, log_lines, logs_lines, answer_line as answer_line_of, answer_lines, replies_lines, report_lines, HasShortLists};
 
 use crate::line::{Line, print_line};
 use crate::words::{push_end, push_name, push_op, push_reply};
 use kv_store::{Command, Reply};
-use mu_cluster::{Log, Outcome, commands_of};
 use mu_input::Job;
 use mu_io::{Sink, WriteFault};
-use mu_model::End;
+use mu_model::{End, stands_for_mark};
+use mu_outcome::{Outcome, Status, commands_of, longest};
 
-/// The status after a run whose longest log has all commands of its job.
-const COMPLETE: u8 = 0;
-
-/// The status after any other run.
-const INCOMPLETE: u8 = 3;
-
-/// The status of the program after a run: 0 where all commands of the job are in the longest log,
-/// else 3. Takes no memory.
-pub fn status(outcome: &Outcome) -> u8
-    ensures { result ≡ status_of outcome.now }
+/// The status of the program after a run: done where all commands of the job are in the longest log,
+/// else unfinished. Takes no memory.
+pub fn status(outcome: &Outcome) -> Status
+    ensures { result ≡ status_after outcome.now }
 {
     if has_all_commands(&outcome.job, longest(outcome.logs.as_slice())) {
-        COMPLETE
+        Status::Done
     } else {
-        INCOMPLETE
+        Status::Unfinished
     }
+}
+
+/// The number of that status.
+pub fn status_code(outcome: &Outcome) -> u8
+    ensures { result ≡ status_of outcome.now }
+{
+    status(outcome).code()
 }
 
 /// Writes the report. Takes no memory.
@@ -48,7 +49,7 @@ pub fn print_report<K: Sink>(sink: &mut K, outcome: &Outcome) -> Result<usize, W
     print_line(
         sink,
         taken,
-        numbered_line(b"status ", u64::from(status(outcome))),
+        numbered_line(b"status ", u64::from(status_code(outcome))),
     )
 }
 
@@ -104,13 +105,53 @@ fn print_entries<K: Sink>(
 {
     let mut total = taken;
     for (position, value) in log.iter().enumerate() {
-        total = print_entry(sink, total, position, commands_of(job, *value))?;
+        total = print_entry(sink, total, position, job, *value)?;
     }
     Ok(total)
 }
 
-/// Writes the commands of one entry.
+/// Writes one entry: its commands, or the mark that it is.
 fn print_entry<K: Sink>(
+    sink: &mut K,
+    taken: usize,
+    position: usize,
+    job: &Job,
+    value: u16,
+) -> Result<usize, WriteFault>
+    requires { taken + LINE_BYTES * length (lines_of_entry job.now position value) < 2 ^ 64 }
+    ensures all { IfOk result (PrintsAll (K.written sink.old) (K.written sink.new)
+        (K.faults sink.old) (K.faults sink.new) taken (lines_of_entry job.now position value)) }
+    ensures part { IfErr result (λ fault. PrintsPart (K.written sink.old) (K.written sink.new)
+        (K.faults sink.old) (K.faults sink.new) taken (lines_of_entry job.now position value) fault.taken) }
+{
+    if stands_for_mark(&job.config, gone_in(value), value) {
+        print_line(sink, taken, gone_line(position, gone_in(value)))
+    } else {
+        print_commands(sink, taken, position, commands_of(job, value))
+    }
+}
+
+/// The replica that the entry would be a mark of.
+fn gone_in(value: u16) -> u8
+    ensures { result ≡ value % 4096 - 4080 }
+{
+    (value % 4096).saturating_sub(4080) as u8
+}
+
+/// A replica that is gone from this position on.
+fn gone_line(position: usize, q: u8) -> Line
+    ensures bytes { result ≡ gone_line_of position q }
+    ensures room { length result < LINE_BYTES }
+{
+    let mut line = Line::new();
+    line.push_number(position as u64);
+    line.push(b" gone ");
+    line.push_number(u64::from(q));
+    line
+}
+
+/// Writes the commands of one entry.
+fn print_commands<K: Sink>(
     sink: &mut K,
     taken: usize,
     position: usize,
@@ -156,7 +197,8 @@ fn print_answers<K: Sink>(
     log: &[u16],
     replies: &[Reply],
 ) -> Result<usize, WriteFault>
-    requires { taken + LINE_BYTES * length (answer_lines (commands_in job.now log.now) replies.now) < 2 ^ 64 }
+    requires { taken + LINE_BYTES * length (answer_lines (commands_in job.now log.now) replies.now)
+        < 2 ^ 64 }
     ensures all { IfOk result (PrintsAll (K.written sink.old) (K.written sink.new)
         (K.faults sink.old) (K.faults sink.new) taken
         (answer_lines (commands_in job.now log.now) replies.now)) }
@@ -196,7 +238,7 @@ fn print_answered<K: Sink>(
 }
 
 /// A line of words and a number.
-fn numbered_line(words: &[u8], number: u64) -> Line
+pub fn numbered_line(words: &[u8], number: u64) -> Line
     requires { length words.now ≤ 100 }
     ensures bytes { result ≡ words.now ++ decimal number }
     ensures room { length result < LINE_BYTES }
@@ -208,7 +250,7 @@ fn numbered_line(words: &[u8], number: u64) -> Line
 }
 
 /// What is told of the log of a replica as a whole.
-fn log_line(outcome: &Outcome, replica: u8) -> Line
+pub fn log_line(outcome: &Outcome, replica: u8) -> Line
     ensures bytes { result ≡ log_line_of outcome.now replica }
     ensures room { length result < LINE_BYTES }
 {
@@ -275,19 +317,6 @@ fn end_of(outcome: &Outcome, replica: u8) -> Option<End>
     ensures { result ≡ slice_get outcome.now.ends replica }
 {
     outcome.ends.as_slice().get(usize::from(replica)).copied()
-}
-
-/// The longest log, the first at a tie, and the empty one where there is none.
-fn longest(logs: &[Log]) -> &[u16]
-    ensures { result.now ≡ longest_of logs.now }
-{
-    let mut best: &[u16] = &[];
-    for log in logs {
-        if log.len() > best.len() {
-            best = log.as_slice();
-        }
-    }
-    best
 }
 
 /// Whether the entries of a log stand for as many commands as the job has.

@@ -8,11 +8,14 @@ ghost use Rattle.mu_report.specs.Printing.{PrintsAll, PrintsPart};
 ghost use Rattle.mu_report.specs.Said.{text, lines_of, IsShort};
 
 use crate::answers::verdict_line;
-use crate::line::{Line, print_line};
+use crate::book::print_book;
+use crate::line::{Line, print_line, print_words};
 use crate::report::print_report;
-use mu_check::Verdict;
-use mu_cluster::Outcome;
+use crate::summary::print_summary;
+use crate::trace::print_trace;
+use match_book::Book;
 use mu_io::{Sink, WriteFault};
+use mu_outcome::{Outcome, Verdict};
 
 /// What the program says at its end.
 #[derive(Drop)]
@@ -28,6 +31,12 @@ pub enum Said {
     },
     /// What a run left.
     Ran(Outcome),
+    /// What a run did, event by event.
+    Traced(Outcome),
+    /// What a run of the stated large job came to.
+    Summed(Outcome),
+    /// What a run left, and the book of orders after the commands of its longest log.
+    Booked(Outcome, Book),
     /// Whether a list of events is legal.
     Judged {
         /// How many events it has.
@@ -43,11 +52,13 @@ pub enum Said {
     TooLong,
 }
 
-/// Writes the text of what is said, each line in one call where the sink takes it whole. Takes no memory.
+/// Writes the text of what is said, each line in one call where the sink takes it whole. Takes no
+/// memory.
 ///
 /// # Errors
 ///
-/// `WriteFault` where the sink counted a fault, with the number of bytes of the text that it had taken.
+/// `WriteFault` where the sink counted a fault, with the number of bytes of the text that it had
+/// taken.
 pub fn print<K: Sink>(sink: &mut K, said: &Said) -> Result<(), WriteFault>
     requires { IsShort said.now }
     ensures whole { OnOk result (Appends (K.written sink.old) (K.written sink.new) (text said.now)) }
@@ -92,29 +103,20 @@ fn print_said<K: Sink>(sink: &mut K, said: &Said) -> Result<usize, WriteFault>
         Said::Usage => {
             print_words(
                 sink,
-                b"usage: mu replay, mu run, mu check, mu trace, mu bulk N",
+                0,
+                b"usage: mu replay, mu run, mu check, mu trace, mu bulk N, mu desk, mu book",
             )
         }
         Said::Refused { line, cause } => print_line(sink, 0, refusal(*line, *cause)),
         Said::Ran(outcome) => print_report(sink, outcome),
+        Said::Traced(outcome) => print_trace(sink, outcome),
+        Said::Summed(outcome) => print_summary(sink, outcome),
+        Said::Booked(outcome, book) => print_book(sink, outcome, book),
         Said::Judged { events, verdict } => print_line(sink, 0, verdict_line(*events, verdict)),
-        Said::ReadFault => print_words(sink, b"read fault"),
-        Said::NoMemory => print_words(sink, b"no memory"),
-        Said::TooLong => print_words(sink, b"too long"),
+        Said::ReadFault => print_words(sink, 0, b"read fault"),
+        Said::NoMemory => print_words(sink, 0, b"no memory"),
+        Said::TooLong => print_words(sink, 0, b"too long"),
     }
-}
-
-/// Writes a line of these words.
-fn print_words<K: Sink>(sink: &mut K, words: &[u8]) -> Result<usize, WriteFault>
-    requires { length words.now < LINE_BYTES }
-    ensures all { IfOk result (PrintsAll (K.written sink.old) (K.written sink.new)
-        (K.faults sink.old) (K.faults sink.new) 0 (words.now ∷ [])) }
-    ensures part { IfErr result (λ fault. PrintsPart (K.written sink.old) (K.written sink.new)
-        (K.faults sink.old) (K.faults sink.new) 0 (words.now ∷ []) fault.taken) }
-{
-    let mut line = Line::new();
-    line.push(words);
-    print_line(sink, 0, line)
 }
 
 /// The line for an input that isn't in the grammar.

@@ -45,12 +45,14 @@ second_text (Del key) = []
 second_text (Swap key text) = []
 second_text (Cas key old new) = new
 
--- the word that says what the others are: the operation, the client, the number, the lengths of the key and the texts, and
--- how many rows of the same batch follow, at the places of 2 ^ 0, 2 ^ 8, 2 ^ 16, 2 ^ 32, 2 ^ 40, 2 ^ 48 and 2 ^ 56
+-- the word that says what the others are: the operation, the client, the number, the lengths of the
+-- key and the texts, and how many rows of the same batch follow, at the places of 2 ^ 0, 2 ^ 8, 2 ^
+-- 16, 2 ^ 32, 2 ^ 40, 2 ^ 48 and 2 ^ 56
 abbrev pub head_word : Request → ℕ → ℕ
 head_word request rest =
     code_of request.op + 256 * request.client + 65536 * request.number
-    + 4294967296 * length (key_of request.op) + 1099511627776 * length (first_text request.op) + 281474976710656 * length (second_text request.op)
+    + 4294967296 * length (key_of request.op) + 1099511627776 * length (first_text request.op)
+    + 281474976710656 * length (second_text request.op)
     + 72057594037927936 * rest
 
 -- one of the eight words of the texts, by its index: those of a cas have four each
@@ -59,15 +61,18 @@ text_word (Put key text) index = word_of text index
 text_word (Get key) index = 0
 text_word (Del key) index = 0
 text_word (Swap key text) index = word_of text index
-text_word (Cas key old new) index = if nat_lt index 4 then word_of old index else word_of new (index - 4)
+text_word (Cas key old new) index =
+    if nat_lt index 4 then word_of old index else word_of new (index - 4)
 
 -- the words of a row: the head, three of the key and eight of the texts
 abbrev pub spelled : Request → ℕ → List ℕ
 spelled request rest =
     head_word request rest
     ∷ word_of (key_of request.op) 0 ∷ word_of (key_of request.op) 1 ∷ word_of (key_of request.op) 2
-    ∷ text_word request.op 0 ∷ text_word request.op 1 ∷ text_word request.op 2 ∷ text_word request.op 3
-    ∷ text_word request.op 4 ∷ text_word request.op 5 ∷ text_word request.op 6 ∷ text_word request.op 7 ∷ []
+    ∷ text_word request.op 0 ∷ text_word request.op 1 ∷ text_word request.op 2
+    ∷ text_word request.op 3
+    ∷ text_word request.op 4 ∷ text_word request.op 5 ∷ text_word request.op 6
+    ∷ text_word request.op 7 ∷ []
 
 -- what an operation has is a key and texts
 abbrev pub HasWords : Op → Type 0

@@ -2,7 +2,7 @@
 #![tactic(auto)]
 
 ghost use Rattle.std.specs.Prelude.{◌≡◌, ◌<◌, ◌≤◌, ◌/◌, ◌%◌, ◌^◌, length, slice_index, slice_index_or};
-ghost use Rattle.mu_rows.specs.Rows.{word_of, code_of, key_of, first_text, second_text, head_word, text_word, spelled};
+ghost use Rattle.mu_rows.specs.Rows.{word_of, code_of, key_of, first_text, second_text, head_word, text_word, spelled, HasWords, IsCommand};
 
 mod read;
 
@@ -25,10 +25,11 @@ const REST: u64 = 72_057_594_037_927_936;
 
 /// The row of a command, after which so many rows of the same batch follow: 0 to 3.
 ///
-/// The head word has, from the low bits: the operation (1 put, 2 get, 3 del, 4 swap, 5 cas) 8 bits, the client 8, the number
-/// 16, the lengths of the key, the first and the second text 8 each, and the rows that follow 8. Words 1 to 3 are the key, and
-/// words 4 to 11 the text; for a cas words 4 to 7 are the old text and 8 to 11 the new one. Bytes stand eight to a word, the
-/// first in the lowest place.
+/// The head word has, from the low bits: the operation (1 put, 2 get, 3 del, 4 swap, 5 cas) 8 bits,
+/// the client 8, the number 16, the lengths of the key, the first and the second text 8 each, and
+/// the rows that follow 8. Words 1 to 3 are the key, and words 4 to 11 the text; for a cas words 4
+/// to 7 are the old text and 8 to 11 the new one. Bytes stand eight to a word, the first in the
+/// lowest place.
 pub fn encode(command: &Command, rest: u8) -> Row
     requires { rest ≤ 3 }
     ensures words { result.words ≡ spelled command.now rest }
@@ -53,6 +54,33 @@ pub fn encode(command: &Command, rest: u8) -> Row
             text_word(op, 6),
             text_word(op, 7),
         ],
+    }
+}
+
+/// Each command is one that a row spells. It does nothing.
+pub fn is_command(command: &Command)
+    ensures { IsCommand command.now }
+{
+    has_words(&command.op);
+}
+
+/// What an operation has is a key and texts. It does nothing.
+fn has_words(op: &Op)
+    ensures { HasWords op.now }
+{
+    match op {
+        Op::Put(key, text) | Op::Swap(key, text) => {
+            key.as_bytes();
+            text.as_bytes();
+        }
+        Op::Get(key) | Op::Del(key) => {
+            key.as_bytes();
+        }
+        Op::Cas(key, old, new) => {
+            key.as_bytes();
+            old.as_bytes();
+            new.as_bytes();
+        }
     }
 }
 
@@ -153,6 +181,3 @@ fn byte_at(bytes: &[u8], index: usize) -> u8
 {
     bytes.get(index).copied().unwrap_or(0)
 }
-
-#[cfg(test)]
-mod tests;

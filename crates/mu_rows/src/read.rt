@@ -18,8 +18,8 @@ const BYTES: u64 = 256;
 // How many rows of the same batch follow at most.
 const MOST_REST: u8 = 3;
 
-/// The command of a row, and how many rows of the same batch follow: 0 to 3. `None` where no command
-/// has this row. What `encode` answers is read back, and nothing else is.
+/// The command of a row, and how many rows of the same batch follow: 0 to 3. `None` where no
+/// command has this row. What `encode` answers is read back, and nothing else is.
 pub fn decode(row: &Row) -> Option<(Command, u8)>
     ensures some { IfSome result (λ r. IsCommand r.0 × (r.1 ≤ 3) × (row.now.words ≡ spelled r.0 r.1)) }
     ensures none { result ≡ None → (c : Request) (k : ℕ) → IsCommand c → k ≤ 3 → row.now.words ≢ spelled c k }

@@ -19,7 +19,7 @@ parts byte = byte == SPACE
 lines-cons : (byte : ℕ) (bytes : List ℕ) → ends byte ≡ false → lines (byte ∷ bytes) ≡ onto_first byte (lines bytes)
 lines-cons byte bytes e = ap (λ b. cond b ([] ∷ lines bytes) (onto_first byte (lines bytes))) e
 
-lines-at : (line rest : List ℕ) → All (λ byte. ends byte ≡ false) line → lines (line ++ LINE_FEED ∷ rest) ≡ line ∷ lines rest
+pub lines-at : (line rest : List ℕ) → All (λ byte. ends byte ≡ false) line → lines (line ++ LINE_FEED ∷ rest) ≡ line ∷ lines rest
 lines-at [] rest none = refl
 lines-at (byte ∷ line) rest none = lines-cons byte (line ++ LINE_FEED ∷ rest) (All-head (λ b. ends b ≡ false) byte line none) ∙ ap (onto_first byte) (lines-at line rest (All-tail (λ b. ends b ≡ false) byte line none))
 

@@ -7,7 +7,7 @@ use Rattle.mu_text.specs.Numbers.{is_digit, value_of}
 use Rattle.mu_text.specs.declared.TheConstants.{ZERO}
 
 -- one more digit
-value_of-push : (digits : List ℕ) (digit : ℕ) → value_of (digits ++ digit ∷ []) ≡ value_of digits * 10 + (digit - ZERO)
+pub value_of-push : (digits : List ℕ) (digit : ℕ) → value_of (digits ++ digit ∷ []) ≡ value_of digits * 10 + (digit - ZERO)
 value_of-push [] digit = omega arith
 value_of-push (first ∷ digits) digit =
     let longer : length (digits ++ digit ∷ []) ≡ length digits + 1 = grind (arith, common_steps) in

@@ -1,3 +1,6 @@
 pub mod Cutting
+pub mod Decimals
 pub mod Digits
 pub mod FirstWords
+pub mod LastDigits
+pub mod SpelledWords

@@ -1,5 +1,5 @@
 -- The lines of a file, and the words of a line.
-use Rattle.std.specs.Prelude.{ℕ, Bool, false, if◌then◌else◌, ◌==◌, List, [], ◌∷◌}
+use Rattle.std.specs.Prelude.{ℕ, Bool, false, if◌then◌else◌, ◌==◌, List, [], ◌∷◌, ◌++◌}
 use Rattle.std.specs.Str.{bytes_eq}
 use Rattle.std.specs.List.{slice_split, onto_first}
 use Rattle.mu_text.specs.declared.TheConstants.{LINE_FEED, SPACE}
@@ -8,6 +8,11 @@ use Rattle.mu_text.specs.declared.TheConstants.{LINE_FEED, SPACE}
 abbrev pub lines : List ℕ → List (List ℕ)
 lines [] = []
 lines (byte ∷ bytes) = if byte == LINE_FEED then [] ∷ lines bytes else onto_first byte (lines bytes)
+
+-- lines, each ended by one line feed
+abbrev pub ended : List (List ℕ) → List ℕ
+ended [] = []
+ended (line ∷ lines) = line ++ LINE_FEED ∷ ended lines
 
 -- the words of a line: what stands between single spaces
 abbrev pub words : List ℕ → List (List ℕ)

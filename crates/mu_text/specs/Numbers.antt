@@ -21,7 +21,9 @@ has_leading_zero (digit ∷ next ∷ digits) = digit == ZERO
 
 -- one to `most` digits, without a leading zero
 abbrev pub is_decimal : ℕ → List ℕ → Bool
-is_decimal most word = (nat_le 1 (length word) && nat_le (length word) most) && (list_all is_digit word && not (has_leading_zero word))
+is_decimal most word =
+    (nat_le 1 (length word) && nat_le (length word) most)
+    && (list_all is_digit word && not (has_leading_zero word))
 
 -- the number that a word spells, if it spells one
 abbrev pub number_of : List ℕ → Option ℕ
@@ -34,7 +36,8 @@ wide_number_of word = if is_decimal MOST_WIDE_DIGITS word then Some (value_of wo
 -- the number, where there is one from `low` to `high`
 abbrev pub within : ℕ → ℕ → Option ℕ → Option ℕ
 within low high None = None
-within low high (Some number) = if nat_le low number && nat_le number high then Some number else None
+within low high (Some number) =
+    if nat_le low number && nat_le number high then Some number else None
 
 -- the number, where there is one below the limit
 abbrev pub below : ℕ → Option ℕ → Option ℕ

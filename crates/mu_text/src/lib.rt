@@ -1,14 +1,18 @@
 //! A text as lines, words and decimal numbers.
 #![tactic(auto)]
 
+ghost use Rattle.std.specs.Prelude.{◌≡◌};
+
 mod line_reader;
+mod line_text;
 mod line_words;
 mod lines;
 mod numbers;
 
 pub use line_reader::LineReader;
+pub use line_text::{LINE_BYTES, Line};
 pub use line_words::{Words, is_alone, is_first};
-pub use lines::{next_line, three_words, two_words};
+pub use lines::two_words;
 pub use numbers::{limited, number, of_8, of_16, of_32, of_64};
 
 /// The byte that ends a line.
@@ -31,3 +35,10 @@ pub const MOST_WIDE_DIGITS: usize = 20;
 
 /// One more than the most words of a line of a job or of an event list.
 pub const MANY_WORDS: usize = 14;
+
+/// Each byte and each limit is this number.
+pub fn limits_are_stated()
+    ensures bytes { (LINE_FEED ≡ 10) × (SPACE ≡ 32) × (ZERO ≡ 48) × (NINE ≡ 57) }
+    ensures limits { (MOST_DIGITS ≡ 7) × (MOST_WIDE_DIGITS ≡ 20) × (MANY_WORDS ≡ 14)
+        × (LINE_BYTES ≡ 192) }
+{}

@@ -27,7 +27,8 @@ pub fn next_line(bytes: &[u8]) -> Option<(&[u8], &[u8])>
 
 /// The first word of a line, and what stands after the space behind it, if there is one.
 pub fn split_word(line: &[u8]) -> (&[u8], Option<&[u8]>)
-    ensures { MatchOption result.1 (words line.now ≡ result.0.now ∷ []) (λ rest. words line.now ≡ result.0.now ∷ words rest.now) }
+    ensures { MatchOption result.1 (words line.now ≡ result.0.now ∷ [])
+        (λ rest. words line.now ≡ result.0.now ∷ words rest.now) }
 {
     match place_of(line, SPACE) {
         Some(end) => (&line[..end], Some(&line[end + 1..])),
@@ -37,7 +38,8 @@ pub fn split_word(line: &[u8]) -> (&[u8], Option<&[u8]>)
 
 /// The words of a line of two words.
 pub fn two_words(line: &[u8]) -> Option<(&[u8], &[u8])>
-    ensures { MatchOption result (length (words line.now) ≢ 2) (λ r. words line.now ≡ r.0.now ∷ r.1.now ∷ []) }
+    ensures { MatchOption result (length (words line.now) ≢ 2)
+        (λ r. words line.now ≡ r.0.now ∷ r.1.now ∷ []) }
 {
     let (first, rest) = split_word(line);
     let (second, more) = split_word(rest?);
@@ -45,13 +47,4 @@ pub fn two_words(line: &[u8]) -> Option<(&[u8], &[u8])>
         None => Some((first, second)),
         Some(_) => None,
     }
-}
-
-/// The words of a line of three words.
-pub fn three_words(line: &[u8]) -> Option<(&[u8], &[u8], &[u8])>
-    ensures { MatchOption result (length (words line.now) ≢ 3) (λ r. words line.now ≡ r.0.now ∷ r.1.now ∷ r.2.now ∷ []) }
-{
-    let (first, rest) = split_word(line);
-    let (second, third) = two_words(rest?)?;
-    Some((first, second, third))
 }

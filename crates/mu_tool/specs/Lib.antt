@@ -1,1 +1,4 @@
 pub mod Answers
+pub mod Commands
+pub mod Desks
+pub mod Words

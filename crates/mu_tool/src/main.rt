@@ -3,48 +3,56 @@
 
 mod asking;
 #[cfg(test)]
+mod book_tests;
+mod booking;
+#[cfg(test)]
+mod desk_tests;
+mod replaying;
+#[cfg(test)]
+mod run_tests;
+mod running;
+mod serving;
+mod statuses;
+mod summing;
+#[cfg(test)]
 mod tests;
 mod top;
+mod tracing;
 
-pub use asking::{INPUT_LIMIT, Task};
+pub use asking::{Asked, INPUT_LIMIT, Task, limits_are_stated, said_unread};
 use mu_cluster::OpenGate;
 use mu_io::{StdSink, StdSource};
-use mu_report::Said;
-use std::alloc::{AllocError, Global};
+use std::env;
+use std::io::ErrorKind;
 use std::process::ExitCode;
 use std::rt::Env;
-use std::{env, io};
 pub use top::{Answered, answer, mu};
 
-/// The words of the command line after the program's own name. Words that are no text are no
-/// command, and so are none at all.
-fn words_after_name<R: Env + AllocGlobal>(rt: &R) -> Result<Vec<String>, AllocError> {
+/// The words of the command line after the program's own name.
+///
+/// # Errors
+///
+/// `InvalidData` where a word is no text, and another kind for want of memory.
+fn words_after_name<R: Env + AllocGlobal>(rt: &R) -> Result<Vec<String>, ErrorKind> {
+    let args = env::args(rt).map_err(|error| error.kind())?;
     let mut words = Vec::new(rt.alloc());
-    match env::args(rt) {
-        Ok(args) => {
-            for word in args.skip(1) {
-                words.push(word)?;
-            }
-            Ok(words)
+    for word in args.skip(1) {
+        if words.push(word).is_err() {
+            return Err(ErrorKind::OutOfMemory);
         }
-        Err(error) if error.kind() == io::ErrorKind::InvalidData => Ok(words),
-        Err(_) => Err(AllocError),
     }
+    Ok(words)
 }
 
 fn main(rt: HostRuntime) -> ExitCode {
     let mut source = StdSource::new(rt.stdin());
     let mut sink = StdSink::new(rt.stdout());
-    let Ok(words) = words_after_name(&rt) else {
-        return ExitCode::from(answer(&mut sink, Said::NoMemory).status);
+    let status = match words_after_name(&rt) {
+        Ok(words) => {
+            let words = words.as_slice();
+            mu(&rt, rt.alloc(), words, &mut source, &mut sink, &OpenGate).status
+        }
+        Err(kind) => answer(&mut sink, said_unread(kind)).status,
     };
-    let answered = mu(
-        &rt,
-        rt.alloc(),
-        words.as_slice(),
-        &mut source,
-        &mut sink,
-        &OpenGate,
-    );
-    ExitCode::from(answered.status)
+    ExitCode::from(status)
 }

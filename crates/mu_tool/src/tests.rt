@@ -30,7 +30,7 @@ status 0
 ";
 
 /// What is said where the words ask for nothing.
-const USAGE: &str = "usage: mu replay, mu run, mu check, mu trace, mu bulk N\n";
+const USAGE: &str = "usage: mu replay, mu run, mu check, mu trace, mu bulk N, mu desk, mu book\n";
 
 /// The job of the lists of events below.
 const ONE_PUT: &str = "mu 1\nreplicas 3\nring 8\nbudget 100\nclient 0\nput a 5\nend\n";
@@ -73,8 +73,8 @@ struct Call {
     sink: MemSink,
 }
 
-/// Calls the top call with one word, over a source in pieces that fails at one read, and over a sink
-/// in pieces that fails at one write (0 for none).
+/// Calls the top call with one word, over a source in pieces that fails at one read, and over a
+/// sink in pieces that fails at one write (0 for none).
 fn told<R: Threads + Wait + Sync>(
     rt: &R,
     alloc: Global,
@@ -106,6 +106,56 @@ fn told<R: Threads + Wait + Sync>(
     Ok(Call { answered, sink })
 }
 
+/// Calls the top call with these words, over a source without bytes.
+fn told_of_words<R: Threads + Wait + Sync>(
+    rt: &R,
+    alloc: Global,
+    asked: &[&str],
+) -> Result<Call, AllocError> {
+    let mut words = Vec::new(alloc);
+    for word in asked {
+        words.push(String::from_str(alloc, word)?)?;
+    }
+    let mut source = MemSource::new(Vec::new(alloc), 16, Vec::new(alloc));
+    let mut sink = MemSink::new(vec![in alloc; 0; 4096]?, 4096, Vec::new(alloc));
+    let answered = mu(
+        rt,
+        alloc,
+        words.as_slice(),
+        &mut source,
+        &mut sink,
+        &OpenGate,
+    );
+    Ok(Call { answered, sink })
+}
+
+/// What is said of the stated large job of ten commands.
+const TEN_SAID: &str = "bulk 10
+log 0 entries 10 commits 10 finished
+log 1 entries 10 commits 0 finished
+log 2 entries 10 commits 0 finished
+replies done 4 value 1 none 4 kept 1
+status 0
+";
+
+#[test]
+fn sums_up_large_jobs(rt: HostRuntime) -> Result<(), Fail> {
+    let rows = [
+        ("10", 0, TEN_SAID),
+        ("1501", 1, USAGE),
+        ("07", 1, USAGE),
+        ("", 1, USAGE),
+    ];
+    for (count, status, text) in rows {
+        let told = told_of_words(&rt, rt.alloc(), &["bulk", count])?;
+        assert_eq!(rt; told.answered.status, status, "{count}");
+        assert_eq!(rt; told.sink.written(), text.as_bytes(), "{count}");
+    }
+    let told = told_of_words(&rt, rt.alloc(), &["bulk"])?;
+    assert_eq!(rt; told.answered.status, 1);
+    Ok(())
+}
+
 #[test]
 fn answers_jobs_and_refusals(rt: HostRuntime) -> Result<(), Fail> {
     let rows = [
@@ -119,21 +169,27 @@ fn answers_jobs_and_refusals(rt: HostRuntime) -> Result<(), Fail> {
         (
             "replay",
             "mu 1\nreplicas 2\nring 8\nbudget 1000\nend\n",
-            2,
-            "refused line 2 cause 14\n",
+            0,
+            "report 1\nlog 0 entries 0 commits 0 finished\nlog 1 entries 0 commits 0 finished\nreplies 0\nstatus 0\n",
         ),
-        ("replay", "", 2, "refused line 1 cause 14\n"),
+        ("replay", "", 2, "refused line 1 cause 11\n"),
+        (
+            "replay",
+            "mu 1\nreplicas 3\nring 8\nbudget 500\nclient 0\nput a 5\nscript\nstop 1 0\nstop 2 0\nend\n",
+            3,
+            "report 1\nlog 0 entries 0 commits 0 budget\nlog 1 entries 0 commits 0 stopped\nlog 2 entries 0 commits 0 stopped\nreplies 0\nstatus 3\n",
+        ),
         (
             "replay",
             "mu 1\nreplicas 3\nring 8\nbudget 1000\n",
             2,
-            "refused line 5 cause 14\n",
+            "refused line 5 cause 11\n",
         ),
         (
             "replay",
             "mu 1\nreplicas 3\nring 8\nbudget 1000\nend\nx\n",
             2,
-            "refused line 6 cause 14\n",
+            "refused line 6 cause 12\n",
         ),
         ("replays", PUT_AND_GET, 1, USAGE),
         ("checks", PUT_AND_GET, 1, USAGE),
@@ -147,7 +203,71 @@ fn answers_jobs_and_refusals(rt: HostRuntime) -> Result<(), Fail> {
     Ok(())
 }
 
-/// A trace of these lines after the job of one put, with another line in place of the one at an index.
+/// What is said of twelve puts on a ring of eight where replica 2 never takes a step.
+const GONE_SAID: &str = "report 2
+log 0 entries 13 commits 13 finished
+0 0.1 put a 1
+1 0.2 put a 1
+2 0.3 put a 1
+3 0.4 put a 1
+4 0.5 put a 1
+5 gone 2
+6 0.6 put a 1
+7 0.7 put a 1
+8 0.8 put a 1
+9 0.9 put a 1
+10 0.10 put a 1
+11 0.11 put a 1
+12 0.12 put a 1
+log 1 entries 13 commits 0 finished
+0 0.1 put a 1
+1 0.2 put a 1
+2 0.3 put a 1
+3 0.4 put a 1
+4 0.5 put a 1
+5 gone 2
+6 0.6 put a 1
+7 0.7 put a 1
+8 0.8 put a 1
+9 0.9 put a 1
+10 0.10 put a 1
+11 0.11 put a 1
+12 0.12 put a 1
+log 2 entries 0 commits 0 stopped
+replies 12
+0.1 done
+0.2 done
+0.3 done
+0.4 done
+0.5 done
+0.6 done
+0.7 done
+0.8 done
+0.9 done
+0.10 done
+0.11 done
+0.12 done
+status 0
+";
+
+#[test]
+fn gone_replica(rt: HostRuntime) -> Result<(), Fail> {
+    let mut job = String::from_str(
+        rt.alloc(),
+        "mu 2\nreplicas 3\nring 8\nbudget 20000\nbatch 1\nclient 0\n",
+    )?;
+    for _ in 0..12 {
+        job.push_str("put a 1\n")?;
+    }
+    job.push_str("script\nstop 2 0\nend\n")?;
+    let told = told(&rt, rt.alloc(), "replay", job.as_str(), 0, 0)?;
+    assert_eq!(rt; told.answered.status, 0);
+    assert_eq!(rt; told.sink.written(), GONE_SAID.as_bytes());
+    Ok(())
+}
+
+/// A trace of these lines after the job of one put, with another line in place of the one at an
+/// index.
 fn trace(alloc: Global, lines: &[&str], changed: usize, other: &str) -> Result<String, AllocError> {
     let mut text = String::from_str(alloc, ONE_PUT)?;
     for (index, line) in lines.iter().enumerate() {

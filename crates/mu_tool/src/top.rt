@@ -1,28 +1,26 @@
 //! The top call: from the words of the command line and the bytes of the input to the bytes of the
 //! output.
-ghost use Rattle.std.specs.Prelude.{◌≡◌, ◌≤◌, length};
+ghost use Rattle.std.specs.Prelude.{◌≡◌, ◌≤◌, length, IfSome};
 ghost use Rattle.mu_report.specs.Said.{IsShort};
-ghost use Rattle.mu_tool.specs.Answers.{task_of as task_of_words, Replays, Tells, Wrote, verdict_code, code_of as code_of_said};
-ghost use Rattle.mu_tool.specs.declared.asking.TheConstants.{INPUT_LIMIT};
+ghost use Rattle.mu_tool.specs.Answers.{Does, Tells, TellsOf, Wrote};
+ghost use Rattle.mu_tool.specs.Words.{asked_of as asked_of_words, limit_of, IsInReach};
 
-use crate::asking::{Task, task_of};
-use mu_check::Verdict;
-use mu_cluster::{Gate, replay};
-use mu_input::{InputEnd, read_first};
+use crate::asking::{Asked, Task, asked_of};
+use crate::booking::told_of_book;
+use crate::replaying::told_of_replay;
+use crate::running::told_of_run;
+use crate::serving::told_of_desk;
+use crate::statuses::status_for;
+use crate::summing::told_of_bulk;
+use crate::tracing::told_of_trace;
+use mu_cluster::Gate;
 use mu_io::{ReadEnd, Sink, Source, WriteFault, read_all};
-use mu_report::{Said, judged, printed, status};
+use mu_judging::judged;
+use mu_outcome::Status;
+use mu_report::{Said, printed};
 use std::alloc::Global;
 use std::sync::Wait;
 use std::thread::Threads;
-
-/// The status of a run whose output couldn't be written.
-const WRITE_FAULT: u8 = 5;
-
-/// The status of a check of a legal list of events.
-const LEGAL: u8 = 0;
-
-/// The status of a check of another list.
-const ILLEGAL: u8 = 7;
 
 /// What the top call answers.
 #[derive(Drop)]
@@ -36,38 +34,27 @@ pub struct Answered {
     pub taken: usize,
 }
 
-/// Does what the words ask for: reads all of the source where they need input, runs the job or judges
-/// the trace, and writes what there is to say. Memory is wanted before the first step of a replica
-/// and before the first event is judged alone.
+/// Does what the words ask for: reads all of the source where they need input, runs the job or
+/// judges the trace, and writes what there is to say. Memory is wanted before the first step of a
+/// replica and before the first event is judged alone. Before each turn of `run`, and
+/// before each command that comes to a `desk`, the gate is called.
 ///
-/// This stage knows the words `replay` and `check`, each alone, and replays jobs of the first form.
+/// The words are `replay`, `run`, `trace`, `check`, `desk` or `book`, each alone, or `bulk` with a
+/// number.
 pub fn mu<R: Threads + Wait + Sync, S: Source, K: Sink, G: Gate + Sync>(
-    _rt: &R,
+    rt: &R,
     alloc: Global,
     words: &[String],
     source: &mut S,
     sink: &mut K,
-    _gate: &G,
+    gate: &G,
 ) -> Answered
-    ensures said { Tells (task_of_words words.now) (S.left source.old) (S.faults source.old) (S.faults source.new) result.said }
+    ensures said { Tells (asked_of_words words.now) (S.left source.old) (S.left source.new)
+        (S.faults source.old) (S.faults source.new) result.said }
     ensures wrote { Wrote (K.written sink.old) (K.written sink.new) (K.faults sink.old) (K.faults sink.new)
         result.said result.status result.taken }
 {
-    answer_words(alloc, words, source, sink)
-}
-
-/// The top call without threads.
-fn answer_words<S: Source, K: Sink>(
-    alloc: Global,
-    words: &[String],
-    source: &mut S,
-    sink: &mut K,
-) -> Answered
-    ensures said { Tells (task_of_words words.now) (S.left source.old) (S.faults source.old) (S.faults source.new) result.said }
-    ensures wrote { Wrote (K.written sink.old) (K.written sink.new) (K.faults sink.old) (K.faults sink.new)
-        result.said result.status result.taken }
-{
-    answer(sink, told(alloc, task_of(words), source))
+    answer(sink, told(rt, alloc, asked_of(words), source, gate))
 }
 
 /// Writes what there is to say, and answers how that went.
@@ -79,12 +66,12 @@ pub fn answer<K: Sink>(sink: &mut K, said: Said) -> Answered
 {
     match printed(sink, &said) {
         Ok(taken) => Answered {
-            status: code_of(&said),
+            status: status_for(&said).code(),
             said,
             taken,
         },
         Err(WriteFault { taken }) => Answered {
-            status: WRITE_FAULT,
+            status: Status::WriteFault.code(),
             said,
             taken,
         },
@@ -92,63 +79,64 @@ pub fn answer<K: Sink>(sink: &mut K, said: Said) -> Answered
 }
 
 /// What there is to say where this is asked of the source.
-fn told<S: Source>(alloc: Global, asked: Option<Task>, source: &mut S) -> Said
-    ensures said { Tells asked (S.left source.old) (S.faults source.old) (S.faults source.new) result }
+fn told<R: Threads + Wait + Sync, S: Source, G: Gate + Sync>(
+    rt: &R,
+    alloc: Global,
+    asked: Option<Asked>,
+    source: &mut S,
+    gate: &G,
+) -> Said
+    requires { IfSome asked IsInReach }
+    ensures said { Tells asked (S.left source.old) (S.left source.new)
+        (S.faults source.old) (S.faults source.new) result }
     ensures short { IsShort result }
 {
-    let Some(task) = asked else {
-        return Said::Usage;
-    };
+    match asked {
+        None => Said::Usage,
+        Some(Asked::Bulk(count)) => told_of_bulk(alloc, count),
+        Some(Asked::Input(task)) => told_of_input(rt, alloc, task, source, gate),
+    }
+}
+
+/// What there is to say where this is asked of all that the source has left.
+fn told_of_input<R: Threads + Wait + Sync, S: Source, G: Gate + Sync>(
+    rt: &R,
+    alloc: Global,
+    task: Task,
+    source: &mut S,
+    gate: &G,
+) -> Said
+    ensures said { TellsOf task (S.left source.old) (S.left source.new)
+        (S.faults source.old) (S.faults source.new) result }
+    ensures short { IsShort result }
+{
     let bytes = match read_all(alloc, source, task.limit()) {
         Ok(bytes) => bytes,
         Err(ReadEnd::Fault) => return Said::ReadFault,
         Err(ReadEnd::TooLong) => return Said::TooLong,
         Err(ReadEnd::NoMemory) => return Said::NoMemory,
     };
-    match task {
-        Task::Replay => replayed(alloc, bytes.as_slice()),
-        Task::Check => judged(alloc, bytes.as_slice()),
-    }
+    told_of_bytes(rt, alloc, task, bytes.as_slice(), gate)
 }
 
-/// What there is to say of a replay of the job of these bytes.
-fn replayed(alloc: Global, bytes: &[u8]) -> Said
-    requires { length bytes.now ≤ INPUT_LIMIT }
-    ensures said { Replays bytes.now result }
+/// What there is to say where this is asked of these bytes.
+fn told_of_bytes<R: Threads + Wait + Sync, G: Gate + Sync>(
+    rt: &R,
+    alloc: Global,
+    task: Task,
+    bytes: &[u8],
+    gate: &G,
+) -> Said
+    requires { length bytes.now ≤ limit_of task }
+    ensures said { Does task bytes.now result }
     ensures short { IsShort result }
 {
-    let job = match read_first(alloc, bytes) {
-        Ok(job) => job,
-        Err(InputEnd::Refused { line, cause }) => return Said::Refused { line, cause },
-        Err(InputEnd::NoMemory) => return Said::NoMemory,
-    };
-    match replay(alloc, job) {
-        Ok(outcome) => Said::Ran(outcome),
-        Err(_) => Said::NoMemory,
-    }
-}
-
-/// The status of what is said, once it is written.
-fn code_of(said: &Said) -> u8
-    ensures { result ≡ code_of_said said.now }
-{
-    match said {
-        Said::Usage => 1,
-        Said::Refused { .. } => 2,
-        Said::Ran(outcome) => status(outcome),
-        Said::Judged { verdict, .. } => verdict_status(verdict),
-        Said::ReadFault => 4,
-        Said::NoMemory => 6,
-        Said::TooLong => 8,
-    }
-}
-
-/// The status of a verdict.
-fn verdict_status(verdict: &Verdict) -> u8
-    ensures { result ≡ verdict_code verdict.now }
-{
-    match verdict {
-        Verdict::Legal => LEGAL,
-        Verdict::Illegal { .. } => ILLEGAL,
+    match task {
+        Task::Replay => told_of_replay(alloc, bytes),
+        Task::Run => told_of_run(rt, alloc, bytes, gate),
+        Task::Trace => told_of_trace(alloc, bytes),
+        Task::Check => judged(alloc, bytes),
+        Task::Desk => told_of_desk(rt, alloc, bytes, gate),
+        Task::Book => told_of_book(alloc, bytes),
     }
 }

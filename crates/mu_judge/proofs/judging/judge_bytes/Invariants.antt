@@ -5,7 +5,7 @@ use Rattle.mu_judge.proofs.judging.judge_bytes.Given as goal
 
 abbrev pub invariant-loop-trace : goal.invariant-loop-trace
 invariant-loop-trace g l = record {
-  before : JudgedUpTo l.bytes l.rest (g.K.Sink.written l.initial.sink) (g.K.Sink.written l.sink);
+  before : JudgedUpTo l.bytes l.rest (g.K.Sink.written l.initial.sink) (g.K.Sink.written l.sink) l.legal;
   faults : g.K.Sink.faults l.sink ≡ g.K.Sink.faults l.initial.sink;
   within : length l.rest ≤ length l.bytes;
 }

@@ -1,6 +1,6 @@
 use Rattle.std.proofs.Common.{◌∙◌, sym}
 use Rattle.mu_law.proofs.Found.{choice_is}
-use Rattle.mu_law.proofs.Lists.{chosen_once, fuos_hold, minimums_rise, numbers_are_own, owners_put, slots_rise}
+use Rattle.mu_law.proofs.Lists.{chosen_once, fuos_hold, fuos_last, minimums_rise, numbers_are_own, owners_put, slots_rise}
 use Rattle.mu_law.proofs.choosing.chosen_at.Goals as goal
 
 pub returns-clause-is : goal.returns-clause-is
@@ -26,3 +26,6 @@ returns-clause-slots c = slots_rise c.args.config.now c.args.events.now c.requir
 
 pub returns-clause-numbers : goal.returns-clause-numbers
 returns-clause-numbers c = numbers_are_own c.args.config.now c.args.events.now c.requires.legal
+
+pub returns-clause-lasting : goal.returns-clause-lasting
+returns-clause-lasting c = fuos_last c.args.config.now c.args.events.now

@@ -1,17 +1,22 @@
-use Rattle.std.proofs.Common.{◌∙◌, ap, arith}
-use Rattle.mu_model.specs.Contents.{command_count}
-use Rattle.mu_law.proofs.Rows.{few_commands, numbers_counted}
+use Rattle.std.proofs.Common.{sym, ap}
+use Rattle.mu_model.specs.Contents.{command_count, session}
+use Rattle.mu_model.specs.Histories.{history, part}
+use Rattle.mu_model.specs.Knowledge.{known}
+use Rattle.mu_law.proofs.Lists.{numbers_counted}
+use Rattle.mu_law.proofs.Stepping.{nothing_made}
 use Rattle.mu_law.proofs.sessions.session_of.Goals as goal
 
-pub overflow_cast-result : goal.overflow_cast-result
-overflow_cast-result c =
-    let few = few_commands c.args.config.now c.args.events.now c.args.r c.args.client c.requires.config c.requires.legal in
-    let values = c.in_ok-values.ensures.is in
-    let count = c.commands_in.ensures ∙ ap (command_count c.args.config.now c.args.client) (c.as_slice.ensures.value ∙ values) in
-    omega arith
+pub returns-then-config-r-clause-count : goal.returns-then-config-r-clause-count
+returns-then-config-r-clause-count c =
+    let none = nothing_made c.args.config.now c.args.r (history c.args.events.now) c.requires.legal c.if-config-r.true in
+    sym (ap (λ mine. command_count c.args.config.now c.args.client (known c.args.config.now c.args.r mine)) none)
+
+pub returns-then-config-r-clause-numbers : goal.returns-then-config-r-clause-numbers
+returns-then-config-r-clause-numbers c =
+    let none = nothing_made c.args.config.now c.args.r (history c.args.events.now) c.requires.legal c.if-config-r.true in
+    ap (λ mine. session c.args.config.now c.args.client (known c.args.config.now c.args.r mine)) none
 
 pub returns-clause-numbers : goal.returns-clause-numbers
 returns-clause-numbers c =
-    let values = c.in_ok-values.ensures.is in
-    let count = c.commands_in.ensures ∙ ap (command_count c.args.config.now c.args.client) (c.as_slice.ensures.value ∙ values) in
-    numbers_counted c.args.config.now c.args.events.now c.args.r c.args.client c.commands_in.result c.requires.config c.requires.legal count
+    let count = c.count_of.ensures c.args.config.now c.args.r (part c.args.r (history c.args.events.now)) c.in_ok-state.ensures.known_log in
+    numbers_counted c.args.config.now c.args.events.now c.args.r c.args.client c.count_of.result c.requires.config c.requires.legal count

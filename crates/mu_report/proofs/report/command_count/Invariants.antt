@@ -1,6 +1,6 @@
 -- The commands so far, and those of the entries that are left, are those of the log.
 use Rattle.std.proofs.Common.{◌≡◌, ◌+◌, drop, length}
-use Rattle.mu_cluster.specs.Entries.{commands_in}
+use Rattle.mu_outcome.specs.Entries.{commands_in}
 use Rattle.mu_report.proofs.report.command_count.Given as goal
 
 abbrev pub invariant-loop-value : goal.invariant-loop-value

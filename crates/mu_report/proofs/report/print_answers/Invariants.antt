@@ -1,6 +1,6 @@
 -- The commands of the entries before this one were printed with their replies, and the others' replies are left.
 use Rattle.std.proofs.Common.{drop}
-use Rattle.mu_cluster.specs.Entries.{commands_in}
+use Rattle.mu_outcome.specs.Entries.{commands_in}
 use Rattle.mu_report.specs.Report.{answer_lines}
 use Rattle.mu_report.proofs.Prints.{PrintsUpTo}
 use Rattle.mu_report.proofs.report.print_answers.Given as goal

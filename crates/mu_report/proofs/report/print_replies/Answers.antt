@@ -1,6 +1,6 @@
 use Rattle.std.proofs.Common.{refl, ap, ◌∙◌, arith}
 use Rattle.std.proofs.lemmas.Result.{err_from_is_err_and}
-use Rattle.mu_cluster.specs.Entries.{longest}
+use Rattle.mu_outcome.specs.Entries.{longest}
 use Rattle.mu_report.proofs.Lists.{replies_lines-parts}
 use Rattle.mu_report.proofs.Prints.{print_fault, print_last, print_last_fault, print_start, print_step}
 use Rattle.mu_report.proofs.Sizes.{few_answers}

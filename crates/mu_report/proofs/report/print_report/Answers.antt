@@ -1,6 +1,6 @@
 use Rattle.std.proofs.Common.{◌∷◌, [], refl, ◌∙◌, arith}
 use Rattle.std.proofs.lemmas.Result.{err_from_is_err_and}
-use Rattle.mu_cluster.specs.Outcomes.{status_of}
+use Rattle.mu_outcome.specs.Outcomes.{status_of}
 use Rattle.mu_report.specs.Report.{replies_lines}
 use Rattle.mu_report.proofs.Lists.{report_lines-parts}
 use Rattle.mu_report.proofs.Prints.{print_fault, print_fits, print_last, print_last_fault, print_start, print_step}
@@ -57,7 +57,7 @@ print_line-requires-2-clause-fits g c =
     (print_step _ _ _ _ _ _ _ _ _ _ _ _ _
     (print_step _ _ _ _ _ _ _ _ _ _ _ _ _
     (print_step _ _ _ _ _ _ _ _ _ _ _ _ _ (print_start _ _ _ _)
-    (report_lines-parts c.args.outcome.now _ _ _ _ c.from-version.ensures c.numbered_line.ensures.bytes (c.from.ensures ∙ c.status.ensures) c.numbered_line-2.ensures.bytes) c.in_ok-taken.ensures.all)
+    (report_lines-parts c.args.outcome.now _ _ _ _ c.from-version.ensures c.numbered_line.ensures.bytes (c.from.ensures ∙ c.status_code.ensures) c.numbered_line-2.ensures.bytes) c.in_ok-taken.ensures.all)
     refl c.in_ok-taken-2.ensures.all)
     refl c.in_ok-taken-3.ensures.all)
     refl (report_fits c.args.outcome.now c.requires (omega arith)) in
@@ -69,7 +69,7 @@ returns-clause-all g c =
     (print_step _ _ _ _ _ _ _ _ _ _ _ _ _
     (print_step _ _ _ _ _ _ _ _ _ _ _ _ _
     (print_step _ _ _ _ _ _ _ _ _ _ _ _ _ (print_start _ _ _ _)
-    (report_lines-parts c.args.outcome.now _ _ _ _ c.from-version.ensures c.numbered_line.ensures.bytes (c.from.ensures ∙ c.status.ensures) c.numbered_line-2.ensures.bytes) c.in_ok-taken.ensures.all)
+    (report_lines-parts c.args.outcome.now _ _ _ _ c.from-version.ensures c.numbered_line.ensures.bytes (c.from.ensures ∙ c.status_code.ensures) c.numbered_line-2.ensures.bytes) c.in_ok-taken.ensures.all)
     refl c.in_ok-taken-2.ensures.all)
     refl c.in_ok-taken-3.ensures.all)
     c.print_line-2.ensures.all
@@ -80,7 +80,7 @@ returns-clause-part g c =
     (print_step _ _ _ _ _ _ _ _ _ _ _ _ _
     (print_step _ _ _ _ _ _ _ _ _ _ _ _ _
     (print_step _ _ _ _ _ _ _ _ _ _ _ _ _ (print_start _ _ _ _)
-    (report_lines-parts c.args.outcome.now _ _ _ _ c.from-version.ensures c.numbered_line.ensures.bytes (c.from.ensures ∙ c.status.ensures) c.numbered_line-2.ensures.bytes) c.in_ok-taken.ensures.all)
+    (report_lines-parts c.args.outcome.now _ _ _ _ c.from-version.ensures c.numbered_line.ensures.bytes (c.from.ensures ∙ c.status_code.ensures) c.numbered_line-2.ensures.bytes) c.in_ok-taken.ensures.all)
     refl c.in_ok-taken-2.ensures.all)
     refl c.in_ok-taken-3.ensures.all)
     c.print_line-2.ensures.part

@@ -1,0 +1,4 @@
+pub mod Arrivals
+pub mod Line
+pub mod Sendings
+pub mod Collected

@@ -1,6 +1,0 @@
-use Rattle.std.proofs.Common.{◌≡◌, take}
-use Rattle.mu_model.specs.Histories.{part}
-use Rattle.list_fabric.proofs.tests.part_of.Given as goal
-
-abbrev pub invariant-loop-e : goal.invariant-loop-e
-invariant-loop-e l = l.mine.items ≡ part l.by (take l.e-index l.events)

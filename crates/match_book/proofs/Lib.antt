@@ -1,0 +1,15 @@
+pub mod Parting
+pub mod Placing
+pub mod Arranging
+pub mod Filling
+pub mod Trading
+pub mod Ledgers
+pub mod Remaining
+pub mod Sound
+pub mod Naming
+pub mod Steps
+pub mod Standing
+pub mod Crossing
+pub mod Adding
+pub mod Session
+pub mod Fronts

@@ -1,5 +1,0 @@
-use Rattle.mu_check.proofs.Deciding.{one_verdict}
-use Rattle.mu_check.proofs.verdict.at_most_one_verdict.Goals as goal
-
-pub returns : goal.returns
-returns c = one_verdict

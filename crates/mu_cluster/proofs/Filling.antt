@@ -1,0 +1,247 @@
+-- What each replica leaves stands in the lists of an outcome, and the outcome is a run.
+use Rattle.std.proofs.Common.{◌≡◌, ◌≢◌, ◌∙◌, ℕ, suc, zero, ◌+◌, ◌*◌, ◌%◌, ◌<◌, ◌≤◌, Bool, true, false, cond, List, [], ◌∷◌, ◌++◌, None, Some, ap, append-nil, arith, inl, inr, length, map, refl, subst, sym, take, drop}
+use Rattle.std.specs.declared.option.Option.{Option}
+use Rattle.std.specs.Prelude.{nat_lt, not, slice_index}
+use Rattle.std.specs.List.{slice_get}
+use Rattle.std.proofs.lemmas.Bool.{cases_lt}
+use Rattle.std.proofs.lemmas.List.{length_push, length-append, length-map, length-reverse, length-take, reverse-reverse}
+use Rattle.std.proofs.lemmas.Option.{slice_get_within}
+use mathlib.Core.List.{reverse}
+use Rattle.kv_store.specs.Tables.{replies}
+use Rattle.mu_input.specs.declared.job.Job.{Job}
+use Rattle.mu_model.specs.declared.config.Config.{Config}
+use Rattle.mu_model.specs.declared.event.Event.{Event}
+use Rattle.mu_model.specs.declared.script.End.{End}
+use Rattle.mu_model.specs.declared.script.Script.{Script}
+use Rattle.mu_model.specs.Contents.{IsConfig, is_batch, rest_of, row_count}
+use Rattle.mu_model.specs.Ends.{EndsBy, Obeys}
+use Rattle.mu_model.specs.Histories.{has, history, part}
+use Rattle.mu_model.specs.Journals.{Record}
+use Rattle.mu_model.specs.Knowledge.{applied, commits, has_entry, known}
+use Rattle.mu_model.specs.Legal.{IsLegal}
+use Rattle.mu_model.specs.Parts.{HasParts, IsPossible}
+use Rattle.mu_model.specs.Room.{reserve}
+use Rattle.mu_model.proofs.Basics.{same_some}
+use Rattle.mu_model.proofs.Lists.{get_front, get_push_here}
+use Rattle.mu_model.proofs.Parts.{history-part}
+use Rattle.mu_agree.proofs.Readings.{known_within}
+use Rattle.mu_known.proofs.Fetched.{batch_there, front_fits}
+use Rattle.mu_known.proofs.Placed.{is_possible}
+use Rattle.mu_known.specs.declared.commit.Commit.{Commit}
+use Rattle.mu_known.specs.Commits.{pair_of}
+use Rattle.mu_node.specs.declared.result.NodeResult.{NodeResult}
+use Rattle.mu_node.specs.Turns.{IsResult, TellsEnd}
+use Rattle.mu_cluster.specs.declared.lists.Lists.{Lists}
+use Rattle.mu_outcome.specs.declared.outcome.Outcome.{Outcome}
+use Rattle.mu_cluster.specs.declared.rounds.Seat.{Seat}
+use Rattle.mu_outcome.specs.Entries.{commands_in, commands_of, longest}
+use Rattle.mu_cluster.specs.Lists.{Adds, HasRoom, HoldsLists, Leaves}
+use Rattle.mu_outcome.specs.Outcomes.{IsRun, commits_of, events_of, journal_of, log_of, or_empty}
+use Rattle.mu_outcome.specs.Runs.{IsRunOver}
+use Rattle.mu_cluster.specs.Rounds.{EndsNowhereBefore, MayTake, Played, Sits, id_of, part_of}
+use Rattle.mu_outcome.specs.Turns.{IsTurns, ids_after, pace}
+
+-- an end that is told where there is one
+end_told : (c : Config) (script : Script) (r : ℕ) (mine : List Event) (o : Option End) → TellsEnd c script r mine o → (end : End) × EndsBy c script r mine end → (e : End) × ((o ≡ Some e) × EndsBy c script r mine e)
+end_told c script r mine None none ends = absurd (none ends.0 ends.1)
+end_told c script r mine (Some e) told ends = (e, (refl, told))
+
+-- longer lists still hold it
+leaves_front : (c : Config) (script : Script) (r : ℕ) (mine : List Event) (js ks : List Record) (ls ms : List (List ℕ)) (cs ds : List (List Commit)) (es fs : List End)
+    → Leaves c script r mine js ls cs es → Leaves c script r mine (js ++ ks) (ls ++ ms) (cs ++ ds) (es ++ fs)
+leaves_front c script r mine js ks ls ms cs ds es fs was = record {
+  journal = was.journal;
+  journal_at = get_front js ks r was.journal was.journal_at;
+  journal_is = was.journal_is;
+  log_at = get_front ls ms r (applied c r mine) was.log_at;
+  made = was.made;
+  made_at = get_front cs ds r was.made was.made_at;
+  made_is = was.made_is;
+  end = was.end;
+  end_at = get_front es fs r was.end was.end_at;
+  obeys = was.obeys;
+}
+
+-- the same of lists that are equal to these
+leaves_in : (c : Config) (script : Script) (r : ℕ) (mine : List Event) (js ks : List Record) (ls ms : List (List ℕ)) (cs ds : List (List Commit)) (es fs : List End)
+    → ks ≡ js → ms ≡ ls → ds ≡ cs → fs ≡ es → Leaves c script r mine js ls cs es → Leaves c script r mine ks ms ds fs
+leaves_in c script r mine js ks ls ms cs ds es fs a b d e was =
+    subst (λ x. Leaves c script r mine ks ms ds x) (sym e) (subst (λ x. Leaves c script r mine ks ms x es) (sym d) (subst (λ x. Leaves c script r mine ks x cs es) (sym b) (subst (λ x. Leaves c script r mine x ls cs es) (sym a) was)))
+
+-- one more replica
+pub held_left : (c : Config) (script : Script) (events : List Event) (n : ℕ) (old new : Lists) (result : NodeResult) → HoldsLists c script events n old → Adds old new result → EndsNowhereBefore c script n (part_of n events)
+    → (end : End) × EndsBy c script n (part_of n events) end → IsResult c n (part_of n events) result → TellsEnd c script n (part_of n events) result.end → HoldsLists c script events (n + 1) new
+held_left c script events n old new result was adds before ends is told = record { room = room; each = each }
+  where
+    end : (e : End) × ((result.end ≡ Some e) × EndsBy c script n (part_of n events) e)
+    end = end_told c script n (part_of n events) result.end told ends
+
+    ends_are : new.ends.items ≡ old.ends.items ++ end.0 ∷ []
+    ends_are = adds.ends.0 end.0 end.1.0
+
+    room : HasRoom c.replicas (n + 1) new
+    room = record {
+      journals = (ap length adds.journals.0 ∙ (length_push old.journals.items result.journal ∙ ap (λ m. m + 1) was.room.journals.0), (let a = was.room.journals.1 in let b = adds.journals.1 in omega (arith, a, b)));
+      logs = (ap length adds.logs.0 ∙ (length_push old.logs.items result.log ∙ ap (λ m. m + 1) was.room.logs.0), (let a = was.room.logs.1 in let b = adds.logs.1 in omega (arith, a, b)));
+      commits = (ap length adds.commits.0 ∙ (length_push old.commits.items result.commits ∙ ap (λ m. m + 1) was.room.commits.0), (let a = was.room.commits.1 in let b = adds.commits.1 in omega (arith, a, b)));
+      ends = (ap length ends_are ∙ (length_push old.ends.items end.0 ∙ ap (λ m. m + 1) was.room.ends.0), (let a = was.room.ends.1 in let b = adds.ends.1 in omega (arith, a, b)));
+    }
+
+    here : Leaves c script n (part_of n events) (old.journals.items ++ result.journal ∷ []) (old.logs.items ++ result.log ∷ []) (old.commits.items ++ result.commits ∷ []) (old.ends.items ++ end.0 ∷ [])
+    here = record {
+      journal = result.journal;
+      journal_at = get_push_here old.journals.items n result.journal (sym was.room.journals.0);
+      journal_is = is.journal;
+      log_at = get_push_here old.logs.items n result.log (sym was.room.logs.0) ∙ ap (λ l. Some l) is.log;
+      made = result.commits;
+      made_at = get_push_here old.commits.items n result.commits (sym was.room.commits.0);
+      made_is = is.commits;
+      end = end.0;
+      end_at = get_push_here old.ends.items n end.0 (sym was.room.ends.0);
+      obeys = record { ends = end.1.1; first = λ newer older other same some there. before newer older other same some there };
+    }
+
+    both : (r : ℕ) → Leaves c script r (part_of r events) (old.journals.items ++ result.journal ∷ []) (old.logs.items ++ result.log ∷ []) (old.commits.items ++ result.commits ∷ []) (old.ends.items ++ end.0 ∷ [])
+        → Leaves c script r (part_of r events) new.journals.items new.logs.items new.commits.items new.ends.items
+    both r leaves =
+        leaves_in c script r (part_of r events) (old.journals.items ++ result.journal ∷ []) new.journals.items (old.logs.items ++ result.log ∷ []) new.logs.items (old.commits.items ++ result.commits ∷ []) new.commits.items (old.ends.items ++ end.0 ∷ []) new.ends.items
+        adds.journals.0 adds.logs.0 adds.commits.0 ends_are leaves
+
+    each : (r : ℕ) → r < n + 1 → Leaves c script r (part_of r events) new.journals.items new.logs.items new.commits.items new.ends.items
+    each r low = both r (elim (cases_lt r n) [
+      | inl below ↦ leaves_front c script r (part_of r events) old.journals.items (result.journal ∷ []) old.logs.items (result.log ∷ []) old.commits.items (result.commits ∷ []) old.ends.items (end.0 ∷ []) (was.each r below)
+      | inr above ↦
+          let same : n ≡ r = omega (arith, low, above) in
+          subst (λ i. Leaves c script i (part_of i events) (old.journals.items ++ result.journal ∷ []) (old.logs.items ++ result.log ∷ []) (old.commits.items ++ result.commits ∷ []) (old.ends.items ++ end.0 ∷ [])) same here
+    ])
+
+-- the same where the replica sits in rounds
+pub held_next : (c : Config) (script : Script) (events : List Event) (n rounds : ℕ) (old new : Lists) (result : NodeResult) (seat : Seat) → HoldsLists c script events n old → Adds old new result
+    → Sits c script n (part_of n events) seat rounds → seat.ended ≡ true → IsResult c n (part_of n events) result → TellsEnd c script n (part_of n events) result.end → HoldsLists c script events (n + 1) new
+held_next c script events n rounds old new result seat was adds sits ended is told = held_left c script events n old new result was adds sits.before (sits.ended ended) is told
+
+-- a journal whose history is the part is the part itself
+journal_part : (r : ℕ) (journal events : List Event) → history journal ≡ part_of r events → journal ≡ part r events
+journal_part r journal events is = sym (reverse-reverse journal) ∙ (ap reverse (is ∙ sym (history-part r events)) ∙ reverse-reverse (part r events))
+
+pub get_map : {A : Type 0} {B : Type 0} (f : A → B) (xs : List A) (i : ℕ) (x : A) → slice_get xs i ≡ Some x → slice_get (map f xs) i ≡ Some (f x)
+get_map f [] i x at = cc
+get_map f (y ∷ ys) zero x at = ap (λ v. Some (f v)) (same_some y x at)
+get_map f (y ∷ ys) (suc i) x at = get_map f ys i x at
+
+index_of : (xs : List ℕ) (i x : ℕ) → slice_get xs i ≡ Some x → slice_index xs i ≡ x
+index_of [] i x at = cc
+index_of (y ∷ ys) zero x at = same_some y x at
+index_of (y ∷ ys) (suc i) x at = index_of ys i x at
+
+pub has_item : {A : Type 0} (xs : List A) (i : ℕ) → i < length xs → (x : A) × (slice_get xs i ≡ Some x)
+has_item [] i low = absurd (omega (arith, low))
+has_item (x ∷ xs) zero low = (x, refl)
+has_item (x ∷ xs) (suc i) low = has_item xs i (omega (arith, low))
+
+-- what a run leaves is what the definitions give of the parts of its list
+pub run_over : (o : Outcome) (events : List Event) (lists : Lists) → IsLegal o.job.config events → o.journals ≡ lists.journals.items → o.logs ≡ lists.logs.items → o.commits ≡ lists.commits.items → o.ends ≡ lists.ends.items
+    → HoldsLists o.job.config o.job.script events o.job.config.replicas lists → has (λ e. not (nat_lt e.by o.job.config.replicas)) (history events) ≡ false → o.replies ≡ replies (commands_in o.job (longest o.logs)) → IsRunOver events o
+run_over o events lists legal js ls cs es held whole answered = record {
+  legal = legal;
+  parts = record { count = count; each = λ r low. part_at r low; whole = whole };
+  counts = (ap length ls ∙ held.room.logs.0, ap length cs ∙ held.room.commits.0, ap length es ∙ held.room.ends.0);
+  ended = λ r low. let l = left r low in (l.end, l.end_at, subst (λ h. Obeys o.job.config o.job.script r h l.end) (sym (own r low)) l.obeys);
+  logs = λ r low. let l = left r low in ap or_empty l.log_at ∙ ap (applied o.job.config r) (sym (own r low));
+  commits = λ r low. let l = left r low in ap or_empty (get_map (map pair_of) o.commits r l.made l.made_at) ∙ (l.made_is ∙ ap (commits o.job.config r) (sym (own r low)));
+  replies = answered;
+}
+  where
+    left : (r : ℕ) → r < o.job.config.replicas → Leaves o.job.config o.job.script r (part_of r events) o.journals o.logs o.commits o.ends
+    left r low = leaves_in o.job.config o.job.script r (part_of r events) lists.journals.items o.journals lists.logs.items o.logs lists.commits.items o.commits lists.ends.items o.ends js ls cs es (held.each r low)
+
+    own : (r : ℕ) → r < o.job.config.replicas → history (journal_of o r) ≡ part_of r events
+    own r low = let l = left r low in ap (λ x. history (or_empty x)) (get_map events_of o.journals r l.journal l.journal_at) ∙ l.journal_is
+
+    count : length (map events_of o.journals) ≡ o.job.config.replicas
+    count = length-map o.journals events_of ∙ (ap length js ∙ held.room.journals.0)
+
+    part_at : (r : ℕ) → r < o.job.config.replicas → slice_get (map events_of o.journals) r ≡ Some (part r events)
+    part_at r low = let l = left r low in get_map events_of o.journals r l.journal l.journal_at ∙ ap (λ x. Some x) (journal_part r l.journal.events events l.journal_is)
+
+-- what a replay leaves is a run of its job
+pub run_of : (o : Outcome) (order : Record) (lists : Lists) (seats : List Seat) (rounds : ℕ) → o.order ≡ Some order → IsLegal o.job.config order.events → o.journals ≡ lists.journals.items → o.logs ≡ lists.logs.items
+    → o.commits ≡ lists.commits.items → o.ends ≡ lists.ends.items → HoldsLists o.job.config o.job.script order.events o.job.config.replicas lists
+    → Played o.job.config o.job.script order.events seats rounds 0 → ((r : ℕ) (seat : Seat) → slice_get seats r ≡ Some seat → seat.ended ≡ true) → o.replies ≡ replies (commands_in o.job (longest o.logs)) → IsRun o
+run_of o order lists seats rounds given legal js ls cs es held played ended answered = record {
+  order = order;
+  given = given;
+  legal = legal;
+  parts = over.parts;
+  turns = record {
+    rounds = rounds;
+    all = λ r low. turn_at r low;
+    is = played.ids lengths may ∙ append-nil (ids_after o.job.script.pauses lengths rounds);
+  };
+  counts = over.counts;
+  ended = over.ended;
+  logs = over.logs;
+  commits = over.commits;
+  replies = answered;
+}
+  where
+    over : IsRunOver order.events o
+    over = run_over o order.events lists legal js ls cs es held played.own answered
+
+    lengths : List ℕ
+    lengths = map (λ journal. length (events_of journal)) o.journals
+
+    many : length lengths ≡ o.job.config.replicas
+    many = length-map o.journals (λ journal. length (events_of journal)) ∙ (ap length js ∙ held.room.journals.0)
+
+    long : (r : ℕ) → r < o.job.config.replicas → slice_index lengths r ≡ length (part_of r order.events)
+    long r low =
+        let l = leaves_in o.job.config o.job.script r (part_of r order.events) lists.journals.items o.journals lists.logs.items o.logs lists.commits.items o.commits lists.ends.items o.ends js ls cs es (held.each r low) in
+        index_of lengths r (length l.journal.events) (get_map (λ journal. length (events_of journal)) o.journals r l.journal l.journal_at) ∙ (sym (length-reverse l.journal.events) ∙ ap length l.journal_is)
+
+    may : MayTake order.events seats lengths
+    may = record {
+      count = many ∙ sym played.count;
+      each = λ r seat at.
+          let low = slice_get_within seats r seat at in let count = played.count in
+          let is = long r (omega (arith, low, count)) in
+          (omega (arith, is), λ _. is);
+    }
+
+    turn_at : (r : ℕ) → r < length lengths → (pace o.job.script.pauses r (slice_index lengths r) rounds).taken ≡ slice_index lengths r
+    turn_at r low =
+        let count = played.count in
+        let inside : r < length seats = omega (arith, low, many, count) in
+        let found = has_item seats r inside in
+        let sits = played.waits r found.0 found.1 (omega arith) in
+        let is = long r (omega (arith, low, many)) in
+        (sits.keeps (slice_index lengths r) (omega (arith, is)) (λ _. is)).0 ∙ sym is
+
+-- no log is longer than there are positions
+pub logs_within : (c : Config) (script : Script) (events : List Event) (lists : Lists) → IsLegal c events → HoldsLists c script events c.replicas lists
+    → (r : ℕ) (log : List ℕ) → slice_get lists.logs.items r ≡ Some log → length log ≤ row_count c + reserve c + 1
+logs_within c script events lists legal held r log at =
+    let low = slice_get_within lists.logs.items r log at in
+    let count = held.room.logs.0 in
+    let leaves = held.each r (omega (arith, low, count)) in
+    let is = ap length (same_some log (applied c r (part_of r events)) (sym at ∙ leaves.log_at)) in
+    let fits = front_fits (λ v. has_entry c r v (part_of r events)) (known c r (part_of r events)) in
+    let within = known_within c r (part_of r events) (is_possible c r (history events) legal) in
+    omega (arith, is, fits, within)
+
+few_of : (job : Job) (v : ℕ) → IsConfig job.config → length (commands_of job v) ≤ 4
+few_of job v good = go (is_batch job.config v) refl
+  where
+    go : (t : Bool) → is_batch job.config v ≡ t → length (cond t (take (rest_of job.config (v % 4096) + 1) (drop (v % 4096) job.commands)) []) ≤ 4
+    go true batch =
+        let low = (batch_there job.config v good batch).1 in
+        let few = good.rests (v % 4096) (omega (arith, low)) in
+        let wide = good.widths in
+        let long = length-take (rest_of job.config (v % 4096) + 1) (drop (v % 4096) job.commands) in
+        omega (arith, few, wide, long)
+    go false batch = omega arith
+
+-- an entry has at most four commands
+pub few_commands_in : (job : Job) (values : List ℕ) → IsConfig job.config → length (commands_in job values) ≤ 4 * length values
+few_commands_in job [] good = omega arith
+few_commands_in job (v ∷ vs) good = let rest = few_commands_in job vs good in let few = few_of job v good in let both = length-append (commands_of job v) (commands_in job vs) in omega (arith, rest, few, both)

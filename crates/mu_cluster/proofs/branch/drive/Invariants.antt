@@ -1,0 +1,9 @@
+use Rattle.shared_fabric.specs.Gathering.{IsSamePort}
+use Rattle.mu_cluster.specs.Branches.{Drives}
+use Rattle.mu_cluster.proofs.branch.drive.Given as goal
+
+abbrev pub invariant-loop : goal.invariant-loop
+invariant-loop g l =
+    (goal.iterator-loop g).can_next l.iterator' × (goal.iterator-loop g).is_finite l.iterator'
+    × Drives l.script (record { node = l.node; port = l.port })
+    × IsSamePort l.initial.port l.port

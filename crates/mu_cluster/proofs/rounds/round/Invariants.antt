@@ -1,0 +1,16 @@
+use Rattle.std.proofs.Common.{◌≡◌, ◌<◌, ◌≤◌, ℕ, Some, false, length}
+use Rattle.std.specs.List.{slice_get}
+use Rattle.mu_model.specs.declared.script.Script.{Script}
+use Rattle.mu_cluster.specs.declared.rounds.Seat.{Seat}
+use Rattle.mu_cluster.specs.Rounds.{Played, all_left}
+use Rattle.mu_cluster.proofs.rounds.round.Given as goal
+
+abbrev pub invariant-loop-k : goal.invariant-loop-k
+invariant-loop-k g l = record {
+  config : (g.M.Memory.config l.memory) ≡ (g.M.Memory.config l.fn.memory);
+  count : length l.seats ≡ length l.fn.seats;
+  ahead : (r : ℕ) → l.k ≤ r → slice_get l.seats r ≡ slice_get l.fn.seats r;
+  played : (script : Script) (rounds : ℕ) → l.pauses ≡ script.pauses → Played (g.M.Memory.config l.fn.memory) script (g.M.Memory.events l.fn.memory) l.fn.seats rounds 0 → Played (g.M.Memory.config l.fn.memory) script (g.M.Memory.events l.memory) l.seats rounds l.k;
+  left : all_left l.seats ≤ all_left l.fn.seats;
+  less : (k : ℕ) (seat : Seat) → slice_get l.fn.seats k ≡ Some seat → seat.ended ≡ false → k < l.k → all_left l.seats < all_left l.fn.seats;
+}

@@ -1,0 +1,69 @@
+-- The lists of an outcome on their way.
+use Rattle.std.specs.Prelude.{List, Some, [], length, map, vec_capacity, ℕ, ◌*◌, ◌++◌, ◌+◌, ◌<◌, ◌∷◌, ◌≡◌, ◌≤◌}
+use Rattle.std.specs.List.{slice_get}
+use Rattle.mu_model.specs.declared.config.Config.{Config}
+use Rattle.mu_model.specs.declared.event.Event.{Event}
+use Rattle.mu_model.specs.declared.script.End.{End}
+use Rattle.mu_model.specs.declared.script.Script.{Script}
+use Rattle.mu_model.specs.Contents.{row_count}
+use Rattle.mu_model.specs.Ends.{Obeys}
+use Rattle.mu_model.specs.Histories.{history}
+use Rattle.mu_model.specs.Journals.{Record}
+use Rattle.mu_model.specs.Knowledge.{applied, commits}
+use Rattle.mu_model.specs.Room.{reserve}
+use Rattle.mu_known.specs.declared.commit.Commit.{Commit}
+use Rattle.mu_known.specs.Commits.{pair_of}
+use Rattle.mu_node.specs.declared.result.NodeResult.{NodeResult}
+use Rattle.mu_cluster.specs.declared.lists.Lists.{Lists}
+use Rattle.mu_cluster.specs.declared.lists.OutcomeRoom.{OutcomeRoom}
+use Rattle.mu_cluster.specs.Rooms.{IsAnswerRoom}
+use Rattle.mu_cluster.specs.Rounds.{part_of}
+
+-- each list has k items, and room for n
+pub record HasRoom (n k : ℕ) (lists : Lists) : Type 0 where
+  pub journals : (length lists.journals.items ≡ k) × (n ≤ vec_capacity lists.journals)
+  pub logs : (length lists.logs.items ≡ k) × (n ≤ vec_capacity lists.logs)
+  pub commits : (length lists.commits.items ≡ k) × (n ≤ vec_capacity lists.commits)
+  pub ends : (length lists.ends.items ≡ k) × (n ≤ vec_capacity lists.ends)
+
+-- what a replica leaves is added
+pub record Adds (old new : Lists) (result : NodeResult) : Type 0 where
+  pub journals :
+      (new.journals.items ≡ old.journals.items ++ result.journal ∷ [])
+      × (vec_capacity new.journals ≡ vec_capacity old.journals)
+  pub logs :
+      (new.logs.items ≡ old.logs.items ++ result.log ∷ [])
+      × (vec_capacity new.logs ≡ vec_capacity old.logs)
+  pub commits :
+      (new.commits.items ≡ old.commits.items ++ result.commits ∷ [])
+      × (vec_capacity new.commits ≡ vec_capacity old.commits)
+  pub ends :
+      ((e : End) → result.end ≡ Some e → new.ends.items ≡ old.ends.items ++ e ∷ [])
+      × (vec_capacity new.ends ≡ vec_capacity old.ends)
+
+-- what replica r left stands in the lists
+pub record Leaves (c : Config) (script : Script) (r : ℕ) (mine : List Event) (journals : List Record) (logs : List (List ℕ)) (commits_made : List (List Commit)) (ends : List End) : Type 0 where
+  pub journal : Record
+  pub journal_at : slice_get journals r ≡ Some journal
+  pub journal_is : history journal.events ≡ mine
+  pub log_at : slice_get logs r ≡ Some (applied c r mine)
+  pub made : List Commit
+  pub made_at : slice_get commits_made r ≡ Some made
+  pub made_is : map pair_of made ≡ commits c r mine
+  pub end : End
+  pub end_at : slice_get ends r ≡ Some end
+  pub obeys : Obeys c script r mine end
+
+-- the lists hold what the first n replicas left
+pub record HoldsLists (c : Config) (script : Script) (events : List Event) (n : ℕ) (lists : Lists) : Type 0 where
+  pub room : HasRoom c.replicas n lists
+  pub each :
+      (r : ℕ) → r < n
+      → Leaves c script r (part_of r events) lists.journals.items lists.logs.items
+      lists.commits.items lists.ends.items
+
+-- the lists are empty, with room for all replicas, and so are the replies, with room for four
+-- commands at each position
+pub record IsOutcomeRoom (c : Config) (room : OutcomeRoom) : Type 0 where
+  pub lists : HasRoom c.replicas 0 room.lists
+  pub answers : IsAnswerRoom ((row_count c + reserve c + 1) * 4) room.answers

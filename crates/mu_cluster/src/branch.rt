@@ -1,0 +1,130 @@
+//! Replicas in threads of their own: each takes its turns over a port of its own.
+ghost use Rattle.std.specs.Prelude.{All, IfOk, Some, [], length, map, slice_index_or, vec_capacity, vec_len, ℕ, ◌<◌, ◌≡◌, ◌≤◌};
+ghost use Rattle.std.specs.List.{slice_get};
+ghost use Rattle.mu_model.specs.Contents.{IsConfig};
+ghost use Rattle.shared_fabric.specs.Gathering.{PortValue};
+ghost use Rattle.mu_cluster.specs.declared.branch.Branch.{Branch as SomeBranch};
+ghost use Rattle.mu_cluster.specs.Branches.{Drives, IsDriven, IsFreshPort};
+
+use crate::rounds::rounds_paused;
+use mu_gate::Gate;
+use mu_input::Job;
+use mu_model::{NoMemory, Script};
+use mu_node::{Node, Turn};
+use mu_port::Port;
+use shared_fabric::SharedPort;
+use std::alloc::Global;
+use std::sync::Wait;
+use std::thread;
+use std::thread::Threads;
+
+/// A replica with a port of its own.
+#[derive(Drop)]
+pub(crate) struct Branch {
+    node: Node,
+    port: SharedPort,
+}
+
+/// Lets the other threads on, so many times.
+fn rest(times: u32) {
+    for _ in 0..times {
+        thread::yield_now();
+    }
+}
+
+/// Turns of one replica until its journal has an end. It lets the others on at a pause and after a
+/// heartbeat; nothing here waits for another replica.
+fn drive<R: Wait, G: Gate>(rt: &R, branch: &mut Branch, script: &Script, gate: &G)
+    requires { Drives script.now branch.old }
+    ensures { IsDriven script.now branch.old branch.new }
+{
+    let Branch { node, port } = branch;
+    for _ in rt.forever() {
+        let steps = node.steps();
+        rest(rounds_paused(script.pauses.as_slice(), node.id(), steps));
+        gate.pass(node.id(), steps);
+        match node.turn(port) {
+            Turn::Took(_) => rest(u32::from(node.has_beaten())),
+            Turn::Ended(_) => break,
+        }
+    }
+}
+
+/// The turns of all replicas, each in a thread of its own.
+fn drive_all<R: Threads + Wait + Sync, G: Gate + Sync>(
+    rt: &R,
+    branches: &mut [Branch],
+    script: &Script,
+    gate: &G,
+)
+    requires { All (Drives script.now) branches.old }
+    ensures { (i : ℕ) (d : SomeBranch) → i < length branches.old
+        → IsDriven script.now (slice_index_or branches.old i d) (slice_index_or branches.new i d) }
+{
+    let count = branches.len();
+    if count == 0 {
+        return;
+    }
+    thread::for_each_mut(
+        rt,
+        branches,
+        count,
+        &|_, branch| { drive(rt, branch, script, gate) },
+    );
+}
+
+/// The replicas after all their turns.
+pub(crate) fn driven<R: Threads + Wait + Sync, G: Gate + Sync>(
+    rt: &R,
+    mut branches: Vec<Branch>,
+    script: &Script,
+    gate: &G,
+) -> Vec<Branch>
+    requires { All (Drives script.now) branches.items }
+    ensures count { length result.items ≡ length branches.items }
+    ensures each { (i : ℕ) (d : SomeBranch) → i < length branches.items
+        → IsDriven script.now (slice_index_or branches.items i d) (slice_index_or result.items i d) }
+{
+    drive_all(rt, branches.as_mut_slice(), script, gate);
+    branches
+}
+
+/// The replicas of a job before any step, each with its port. Takes all memory of theirs.
+pub(crate) fn branches(
+    alloc: Global,
+    job: &Job,
+    ports: Vec<SharedPort>,
+) -> Result<Vec<Branch>, NoMemory>
+    requires good { IsConfig job.now.config }
+    requires count { vec_len ports ≡ job.now.config.replicas }
+    requires fresh { (r : ℕ) (p : PortValue) → slice_get ports.items r ≡ Some p
+        → IsFreshPort job.now.config r p }
+    ensures ready { IfOk result (λ branches. All (Drives job.now.script) branches.items) }
+    ensures ports { IfOk result (λ branches. map (λ b. b.port) branches.items ≡ ports.items) }
+{
+    let mut branches = Vec::with_capacity(alloc, ports.len())?;
+    for port in ports {
+        let node = Node::new(alloc, job, port.id())?;
+        branches.push_reserved(Branch { node, port });
+    }
+    Ok(branches)
+}
+
+/// The nodes and the ports apart. Takes no memory.
+pub(crate) fn parted(
+    branches: Vec<Branch>,
+    mut nodes: Vec<Node>,
+    mut ports: Vec<SharedPort>,
+) -> (Vec<Node>, Vec<SharedPort>)
+    requires nodes { (nodes.items ≡ []) × (vec_len branches ≤ vec_capacity nodes) }
+    requires ports { (ports.items ≡ []) × (vec_len branches ≤ vec_capacity ports) }
+    ensures nodes { result.0.items ≡ map (λ b. b.node) branches.items }
+    ensures ports { result.1.items ≡ map (λ b. b.port) branches.items }
+{
+    for branch in branches {
+        let Branch { node, port } = branch;
+        nodes.push_reserved(node);
+        ports.push_reserved(port);
+    }
+    (nodes, ports)
+}

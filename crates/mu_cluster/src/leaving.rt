@@ -1,0 +1,68 @@
+//! What replicas that ran in threads leave.
+ghost use Rattle.std.specs.Prelude.{List, map, ℕ, ◌≡◌};
+ghost use Rattle.mu_model.specs.declared.event.Event.{Event};
+ghost use Rattle.mu_model.specs.Contents.{IsConfig};
+ghost use Rattle.mu_model.specs.Legal.{IsLegal};
+ghost use Rattle.mu_model.specs.Parts.{HasParts};
+ghost use Rattle.mu_cluster.specs.Branches.{AreLeft};
+ghost use Rattle.mu_cluster.specs.Lists.{HasRoom, HoldsLists, IsOutcomeRoom};
+ghost use Rattle.mu_outcome.specs.Runs.{IsThreadRun};
+
+use crate::lists::{Lists, OutcomeRoom};
+use mu_input::Job;
+use mu_model::Sequence;
+use mu_node::Node;
+use mu_outcome::{Outcome, longest};
+use shared_fabric::{Gathered, Parts};
+
+/// What a run of threads leaves in which every replica has an end. Takes no memory.
+pub(crate) fn gathered_outcome(
+    room: OutcomeRoom,
+    job: Job,
+    gathered: Gathered,
+    nodes: Vec<Node>,
+) -> Outcome
+    requires good { IsConfig job.config }
+    requires room { IsOutcomeRoom job.config room }
+    requires config { gathered.config ≡ job.config }
+    requires left { AreLeft job.config job.script gathered.parts nodes.items }
+    ensures job { result.job ≡ job }
+    ensures run { IsThreadRun result }
+{
+    let OutcomeRoom { answers, lists } = room;
+    let Lists {
+        journals,
+        logs,
+        commits,
+        ends,
+    } = left_by(lists, &job, gathered.parts(), nodes);
+    let replies = answers.answered(&job, longest(logs.as_slice()));
+    Outcome {
+        job,
+        journals: Sequence::from_vec(journals),
+        logs: Sequence::from_vec(logs),
+        commits: Sequence::from_vec(commits),
+        replies,
+        ends: Sequence::from_vec(ends),
+        order: None,
+        gathered: Some(gathered),
+    }
+}
+
+/// The lists with what each replica leaves. The job and the parts are for the clauses alone.
+fn left_by(mut lists: Lists, _job: &Job, _parts: &Parts, nodes: Vec<Node>) -> Lists
+    requires good { IsConfig _job.now.config }
+    requires room { HasRoom _job.now.config.replicas 0 lists }
+    requires list { (events : List Event)
+        × (IsLegal _job.now.config events
+        × HasParts _job.now.config events (map (λ j. j.events) _parts.now)) }
+    requires left { AreLeft _job.now.config _job.now.script (map (λ j. j.events) _parts.now) nodes.items }
+    ensures { (events : List Event) → IsLegal _job.now.config events
+        → HasParts _job.now.config events (map (λ j. j.events) _parts.now)
+        → HoldsLists _job.now.config _job.now.script events _job.now.config.replicas result }
+{
+    for node in nodes {
+        lists.add(node.into_result());
+    }
+    lists
+}

@@ -1,0 +1,144 @@
+-- How an event is spelled as a line, and which events a line spells.
+use Rattle.std.specs.Prelude.{ℕ, ◌<◌, ◌^◌, Bool, false, true, List, ◌++◌, None, Some, codes, ⊤}
+use Rattle.std.specs.declared.option.Option.{Option}
+use Rattle.std.specs.Fmt.{decimal}
+use Rattle.mu_model.specs.declared.event.Answer.{Answer}
+use Rattle.mu_model.specs.declared.event.Event.{Event}
+use Rattle.mu_model.specs.declared.event.Fence.{Fence}
+use Rattle.mu_model.specs.declared.event.Target.{Target}
+use Rattle.mu_model.specs.declared.event.Target.TheVariants as target
+use Rattle.mu_model.specs.declared.event.Verb.{Verb}
+use Rattle.mu_model.specs.declared.event.Verb.TheVariants as verb
+
+-- what a fence names, or what a writer is about to write
+abbrev pub target_words : Target → List ℕ
+target_words target.None = codes "none"
+target_words target.Min = codes "min"
+target_words (target.Place place) = codes "place " ++ decimal place
+
+-- whom a fence lets write
+abbrev pub owner_words : Option ℕ → List ℕ
+owner_words None = codes "none"
+owner_words (Some owner) = decimal owner
+
+-- whether a fence is closing
+abbrev pub state_words : Bool → List ℕ
+state_words false = codes "open"
+state_words true = codes "closing"
+
+-- a fence: the owner, the grant, the state and what it names
+abbrev pub fence_words : Fence → List ℕ
+fence_words fence =
+    owner_words fence.owner ++ codes " " ++ decimal fence.grant ++ codes " "
+    ++ state_words fence.closing ++ codes " " ++ target_words fence.target
+
+-- an answer
+abbrev pub answer_words : Answer → List ℕ
+answer_words Answer.Done = codes "done"
+answer_words Answer.Missed = codes "missed"
+answer_words Answer.Entered = codes "entered"
+answer_words (Answer.Lost fence) = codes "lost " ++ fence_words fence
+answer_words (Answer.Seen fence) = codes "fence " ++ fence_words fence
+answer_words (Answer.Number number) = decimal number
+answer_words Answer.Empty = codes "empty"
+answer_words (Answer.Entry number value) =
+    codes "entry " ++ decimal number ++ codes " " ++ decimal value
+answer_words Answer.Past = codes "past"
+
+-- a step
+abbrev pub verb_words : Verb → List ℕ
+verb_words (verb.Ask p) = codes "ask " ++ decimal p
+verb_words (verb.Fence p) = codes "fence " ++ decimal p
+verb_words (verb.Min p) = codes "min " ++ decimal p
+verb_words (verb.Enter p target) = codes "enter " ++ decimal p ++ codes " " ++ target_words target
+verb_words (verb.PutMin p number) = codes "putmin " ++ decimal p ++ codes " " ++ decimal number
+verb_words (verb.Look p i) = codes "look " ++ decimal p ++ codes " " ++ decimal i
+verb_words (verb.PutSlot p i number value) =
+    codes "putslot " ++ decimal p ++ codes " " ++ decimal i ++ codes " " ++ decimal number
+    ++ codes " " ++ decimal value
+verb_words (verb.Fuo p) = codes "fuo " ++ decimal p
+verb_words (verb.RaiseFuo p fuo) = codes "raisefuo " ++ decimal p ++ codes " " ++ decimal fuo
+verb_words (verb.Head q) = codes "head " ++ decimal q
+verb_words (verb.ReadBeat q) = codes "readbeat " ++ decimal q
+verb_words (verb.WriteRow row word value) =
+    codes "writerow " ++ decimal row ++ codes " " ++ decimal word ++ codes " " ++ decimal value
+verb_words (verb.ReadRow value word) =
+    codes "readrow " ++ decimal value ++ codes " " ++ decimal word
+verb_words (verb.RaiseHead head) = codes "raisehead " ++ decimal head
+verb_words verb.Beat = codes "beat"
+verb_words (verb.ReadAsk w) = codes "readask " ++ decimal w
+verb_words verb.Close = codes "close"
+verb_words verb.LookTarget = codes "looktarget"
+verb_words verb.Drain = codes "drain"
+verb_words (verb.Grant w) = codes "grant " ++ decimal w
+
+-- an event: the replica, its step and the answer
+abbrev pub event_line : Event → List ℕ
+event_line event =
+    decimal event.by ++ codes " " ++ verb_words event.verb ++ codes " = "
+    ++ answer_words event.answer
+
+-- the numbers of what a writer is about to write fit their types
+abbrev pub FitsTarget : Target → Type 0
+FitsTarget (target.Place place) = place < 2 ^ 16
+FitsTarget _ = ⊤
+
+-- the numbers of a step fit their types: replicas, regions and places of words have 8 bits,
+-- positions, rows, payload numbers and heads 16, proposal numbers 32 and words 64
+abbrev pub FitsVerb : Verb → Type 0
+FitsVerb (verb.Ask p) = p < 2 ^ 8
+FitsVerb (verb.Fence p) = p < 2 ^ 8
+FitsVerb (verb.Min p) = p < 2 ^ 8
+FitsVerb (verb.Enter p target) = (p < 2 ^ 8) × FitsTarget target
+FitsVerb (verb.PutMin p number) = (p < 2 ^ 8) × (number < 2 ^ 32)
+FitsVerb (verb.Look p i) = (p < 2 ^ 8) × (i < 2 ^ 16)
+FitsVerb (verb.PutSlot p i number value) =
+    (p < 2 ^ 8) × (i < 2 ^ 16) × (number < 2 ^ 32) × (value < 2 ^ 16)
+FitsVerb (verb.Fuo p) = p < 2 ^ 8
+FitsVerb (verb.RaiseFuo p fuo) = (p < 2 ^ 8) × (fuo < 2 ^ 16)
+FitsVerb (verb.Head q) = q < 2 ^ 8
+FitsVerb (verb.ReadBeat q) = q < 2 ^ 8
+FitsVerb (verb.WriteRow row word value) = (row < 2 ^ 16) × (word < 2 ^ 8) × (value < 2 ^ 64)
+FitsVerb (verb.ReadRow value word) = (value < 2 ^ 16) × (word < 2 ^ 8)
+FitsVerb (verb.RaiseHead head) = head < 2 ^ 16
+FitsVerb verb.Beat = ⊤
+FitsVerb (verb.ReadAsk w) = w < 2 ^ 8
+FitsVerb verb.Close = ⊤
+FitsVerb verb.LookTarget = ⊤
+FitsVerb verb.Drain = ⊤
+FitsVerb (verb.Grant w) = w < 2 ^ 8
+
+-- the numbers of a fence fit their types
+abbrev pub FitsOwner : Option ℕ → Type 0
+FitsOwner None = ⊤
+FitsOwner (Some owner) = owner < 2 ^ 8
+
+pub record FitsFence (fence : Fence) : Type 0 where
+  pub owner : FitsOwner fence.owner
+  pub grant : fence.grant < 2 ^ 32
+  pub target : FitsTarget fence.target
+
+-- the numbers of an answer fit their types
+abbrev pub FitsAnswer : Answer → Type 0
+FitsAnswer (Answer.Lost fence) = FitsFence fence
+FitsAnswer (Answer.Seen fence) = FitsFence fence
+FitsAnswer (Answer.Number number) = number < 2 ^ 64
+FitsAnswer (Answer.Entry number value) = (number < 2 ^ 32) × (value < 2 ^ 16)
+FitsAnswer _ = ⊤
+
+-- the numbers of an event fit their types
+pub record FitsEvent (event : Event) : Type 0 where
+  pub by : event.by < 2 ^ 8
+  pub verb : FitsVerb event.verb
+  pub answer : FitsAnswer event.answer
+
+-- a writer enters for a word, and no line spells one that enters for nothing
+abbrev pub EntersForWord : Verb → Type 0
+EntersForWord (verb.Enter p target.None) = ⊥
+EntersForWord _ = ⊤
+
+-- an event of one of so many replicas, as a line spells it
+pub record IsSpelled (replicas : ℕ) (event : Event) : Type 0 where
+  pub known : event.by < replicas
+  pub fits : FitsEvent event
+  pub enters : EntersForWord event.verb

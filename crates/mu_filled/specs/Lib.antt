@@ -1,0 +1,2 @@
+pub mod FilledLogs
+pub mod LandedPuts

@@ -1,0 +1,19 @@
+use Rattle.std.proofs.Common.{ap, map, refl, arith}
+use Rattle.mu_known.specs.Commits.{pair_of}
+use Rattle.mu_follow.proofs.follow.Follow.new.Goals as goal
+
+pub returns-clause-stands : goal.returns-clause-stands
+returns-clause-stands c = record {
+  config = c.in_ok-copied.ensures;
+  inside = c.requires.inside;
+  replica = refl;
+  steps = refl;
+  knowing = c.in_ok-new.ensures c.args.id;
+  rows = c.in_ok-new-2.ensures c.args.id;
+  own_log = c.in_ok-new-3.ensures c.args.id c.args.id;
+  heads = c.none.ensures c.args.id;
+  completion = c.in_ok-new-4.ensures;
+  commits = record { are = ap (map pair_of) c.in_ok-with_capacity.ensures.items; room = omega (arith, c.in_ok-with_capacity.ensures.capacity, c.positions_in.ensures.count) };
+  outrun = refl;
+  progress = record { fuo = c.none-2.ensures.fuo c.args.id; row = c.none-2.ensures.row; handed = omega (arith, c.none-2.ensures.handed) };
+}

@@ -1,0 +1,29 @@
+-- From where on a log holds every command, and when the state of that stands for a log.
+use Rattle.std.specs.Prelude.{Bool, List, Some, false, length, take, true, ℕ, ◌+◌, ◌<◌, ◌≡◌, ◌≤◌}
+use Rattle.std.specs.List.{slice_get}
+use Rattle.mu_model.specs.declared.config.Config.{Config}
+use Rattle.mu_model.specs.Contents.{holds_all, includes, row_count, rows_in}
+use Rattle.mu_model.specs.Scores.{least_below}
+use Rattle.mu_follow.specs.declared.completion.Completion.{Completion}
+
+-- how many of the values hold every command, or one more than there are
+abbrev pub full_of : Config → List ℕ → ℕ
+full_of c values = least_below (length values + 1) (λ k. holds_all c (take k values))
+
+-- each of the job's rows has a mark that tells whether it is there
+abbrev pub MarksRows : Config → (ℕ → Bool) → List Bool → Type 0
+MarksRows c is_there marks = (j : ℕ) → j < row_count c → slice_get marks j ≡ Some (is_there j)
+
+-- all rows below this one are there, and it isn't
+pub record IsFirstMissing (c : Config) (is_there : ℕ → Bool) (first : ℕ) : Type 0 where
+  pub within : first ≤ row_count c
+  pub below : (j : ℕ) → j < first → is_there j ≡ true
+  pub missing : first < row_count c → is_there first ≡ false
+
+-- the state stands for the values that were counted
+pub record HoldsCompletion (c : Config) (values : List ℕ) (state : Completion) : Type 0 where
+  pub counted : state.counted ≡ length values
+  pub rows : length state.held.items ≡ row_count c
+  pub held : MarksRows c (λ j. includes j (rows_in c values)) state.held.items
+  pub first : IsFirstMissing c (λ j. includes j (rows_in c values)) state.held_to
+  pub full : state.full ≡ full_of c values

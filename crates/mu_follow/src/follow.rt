@@ -1,0 +1,421 @@
+//! What one replica knows and does as a replayer.
+ghost use Rattle.std.specs.Prelude.{IfOk, IfSome, List, None, Some, [], if◌then◌else◌, length, map, nat_le, not, ℕ, ◌%◌, ◌*◌, ◌+◌, ◌-◌, ◌/◌, ◌<◌, ◌==◌, ◌≡◌, ◌≤◌};
+ghost use Rattle.std.specs.List.{slice_get};
+ghost use Rattle.mu_model.specs.declared.config.Config.{Config};
+ghost use Rattle.mu_model.specs.declared.event.Event.{Event};
+ghost use Rattle.mu_model.specs.Allowed.{Allowed};
+ghost use Rattle.mu_model.specs.Contents.{IsConfig, row_count};
+ghost use Rattle.mu_model.specs.Ends.{full_length, is_full, outrun};
+ghost use Rattle.mu_model.specs.Knowledge.{applied, commits, has_row, known};
+ghost use Rattle.mu_model.specs.Parts.{IsPossible};
+ghost use Rattle.mu_model.specs.Regions.{region_head};
+ghost use Rattle.mu_model.specs.Scores.{least_below};
+ghost use Rattle.mu_known.specs.HeldRows.{StandsForHeldRows};
+ghost use Rattle.mu_known.specs.Commits.{pair_of};
+ghost use Rattle.mu_follow.specs.Due.{IsReplay, ahead_due, first_word_of, fuo_due, head_due, look_due, next_due, next_word_of, other_head_due, other_of, raise_due, replay_due, row_under_way, word_due};
+ghost use Rattle.mu_follow.specs.Follow.{HoldsFollow, StandsForFollow};
+ghost use Rattle.mu_follow.specs.Published.{head_heard};
+
+use crate::completion::Completion;
+use crate::progress::Progress;
+use crate::published::Published;
+use mu_filled::FilledLog;
+use mu_known::{Commit, HeldRows, KnownLog};
+use mu_model::{Config, NoMemory, Verb, positions_in, row_rest, stands_for_batch};
+use std::alloc::Global;
+
+/// How many places a cycle has beside two for each replica.
+const PLACES: u32 = 22;
+
+/// What one replica has come to by its own events, and how far it is as a replayer.
+#[derive(Drop)]
+pub struct Follow {
+    /// The configuration.
+    pub(crate) config: Config,
+    /// The replica.
+    pub(crate) replica: u8,
+    /// How many events there were.
+    pub(crate) steps: u32,
+    /// What it knows.
+    pub(crate) knowing: KnownLog,
+    /// Which rows it has.
+    pub(crate) rows: HeldRows,
+    /// Up to where its own log is filled.
+    pub(crate) own_log: FilledLog,
+    /// The heads.
+    pub(crate) heads: Published,
+    /// From where on the log holds every command.
+    pub(crate) completion: Completion,
+    /// What it committed.
+    pub(crate) commits: Vec<Commit>,
+    /// Where it was outrun.
+    pub(crate) outrun: Option<(u8, u16)>,
+    /// How far it is.
+    pub(crate) progress: Progress,
+}
+
+/// A number as a position: positions are few.
+fn as_position(number: u64) -> u16
+    ensures { number < 65536 → result ≡ number }
+{
+    match u16::try_from(number) {
+        Ok(position) => position,
+        Err(_) => u16::MAX,
+    }
+}
+
+/// The other replica with this place among them, counted from 0.
+fn other(r: u8, place: u8) -> u8
+    ensures { place < 7 → result ≡ other_of r place }
+{
+    if place < r {
+        place
+    } else {
+        place.saturating_add(1)
+    }
+}
+
+/// Whose head is read in the cycle, by its place among the others.
+fn turn_of_head(n: u8, steps: u32) -> u8
+    ensures { 2 ≤ n → n ≤ 7 → result ≡ steps / 2 / (2 * n + 22) % (n - 1) }
+{
+    let others = u32::from(n).saturating_sub(1);
+    let cycle = u32::from(n) * 2 + PLACES;
+    if others == 0 {
+        0
+    } else {
+        (steps / 2 / cycle % others) as u8
+    }
+}
+
+/// How many rows are had before the first that is not, with one more that is had or not.
+fn had_after(had: u16, t: u16, one: bool) -> u16
+    requires { t < 65535 }
+    ensures { result ≡ (if had == t then (if not one then t else t + 1) else had) }
+{
+    if had == t && one {
+        t.saturating_add(1)
+    } else {
+        had
+    }
+}
+
+/// How many rows of the batch the replica has before the first that it has not.
+fn rows_had(fetching: &HeldRows, v: u16, n: u16) -> u16
+    ensures { (c : Config) → (r : ℕ) → (mine : List Event) → v / 4096 < 7 → v % 4096 + n ≤ row_count c
+        → row_count c ≤ 1500 → StandsForHeldRows c r mine fetching.now
+        → result ≡ least_below n (λ t. not (has_row r (v + t) mine)) }
+{
+    let mut had = 0;
+    for t in 0..n {
+        let one = fetching.has_row(usize::from(v) + usize::from(t));
+        had = had_after(had, t, one);
+    }
+    had
+}
+
+/// The read of the first word of the first row of the entry that the replica doesn't have.
+fn missing_row(config: &Config, fetching: &HeldRows, v: u16) -> Option<Verb>
+    ensures { (r : ℕ) → (mine : List Event) → IsConfig config.now
+        → StandsForHeldRows config.now r mine fetching.now
+        → result ≡ first_word_of config.now r mine (Some v) }
+{
+    if stands_for_batch(config, v) {
+        let rows = u16::from(row_rest(config, v % 4096)) + 1;
+        let had = rows_had(fetching, v, rows);
+        if had < rows {
+            return Some(Verb::ReadRow(v.saturating_add(had), 0));
+        }
+    }
+    None
+}
+
+impl Follow {
+    /// The replayer of a replica before any event. Takes all memory that it ever needs.
+    pub fn new(alloc: Global, config: &Config, id: u8) -> Result<Follow, NoMemory>
+        requires config { IsConfig config.now }
+        requires inside { id < config.now.replicas }
+        ensures stands { IfOk result (λ state. StandsForFollow config.now id [] state) }
+        ensures handed { IfOk result (λ state. state.progress.handed ≡ 0) }
+    {
+        Ok(Follow {
+            config: config.copied(alloc)?,
+            replica: id,
+            steps: 0,
+            knowing: KnownLog::new(alloc, config)?,
+            rows: HeldRows::new(alloc, config)?,
+            own_log: FilledLog::new(alloc, config)?,
+            heads: Published::none(),
+            completion: Completion::new(alloc, config)?,
+            commits: Vec::with_capacity(alloc, positions_in(config))?,
+            outrun: None,
+            progress: Progress::none(),
+        })
+    }
+
+    /// The configuration.
+    pub fn config(&self) -> &Config
+        ensures { result.now ≡ self.now.config }
+    {
+        &self.config
+    }
+
+    /// How many events there were.
+    pub fn steps(&self) -> u32
+        ensures { (c : Config) → (r : ℕ) → (mine : List Event) → StandsForFollow c r mine self.now
+            → result ≡ length mine }
+    {
+        self.steps
+    }
+
+    /// What the replica knows, in order.
+    pub fn known(&self) -> &[u16]
+        ensures { (c : Config) → (r : ℕ) → (mine : List Event) → (count : ℕ)
+            → HoldsFollow c r mine count self.now → result.now ≡ known c r mine }
+    {
+        self.knowing.known()
+    }
+
+    /// How many of the values that are known the replica has in full, before the first that it has
+    /// not.
+    pub fn applied_count(&self) -> usize
+        ensures { (c : Config) → (r : ℕ) → (mine : List Event) → StandsForFollow c r mine self.now
+            → result ≡ length (applied c r mine) }
+    {
+        self.rows.applied_length()
+    }
+
+    /// What the replica committed, in order.
+    pub fn commits(&self) -> &[Commit]
+        ensures { (c : Config) → (r : ℕ) → (mine : List Event) → StandsForFollow c r mine self.now
+            → map pair_of result.now ≡ commits c r mine }
+    {
+        self.commits.as_slice()
+    }
+
+    /// How many of the applied entries hold every command, where they do.
+    pub fn full_count(&self) -> Option<usize>
+        ensures { (c : Config) → (r : ℕ) → (mine : List Event) → StandsForFollow c r mine self.now
+            → result ≡ (if is_full c r mine then Some (full_length c r mine) else None) }
+    {
+        self.completion.full()
+    }
+
+    /// The own head.
+    pub fn own_head(&self) -> u16
+        ensures { (c : Config) → (r : ℕ) → (mine : List Event) → StandsForFollow c r mine self.now
+            → result ≡ region_head r mine }
+    {
+        self.heads.own()
+    }
+
+    /// The head of `q` that was read last.
+    pub fn head_of(&self, q: u8) -> Option<u64>
+        ensures { (c : Config) → (r : ℕ) → (mine : List Event) → q < 7 → StandsForFollow c r mine self.now
+            → result ≡ head_heard r q mine }
+    {
+        self.heads.of(q)
+    }
+
+    /// The region and the position of the first look at what the replica still had to read that
+    /// found the place used again.
+    pub fn outrun(&self) -> Option<(u8, u16)>
+        ensures { (c : Config) → (r : ℕ) → (mine : List Event) → StandsForFollow c r mine self.now
+            → result ≡ outrun c r mine }
+    {
+        self.outrun
+    }
+
+    /// Hands on every entry that the replica has in full.
+    pub fn hand_on(&mut self)
+        ensures stands { (c : Config) → (r : ℕ) → (mine : List Event) → StandsForFollow c r mine self.old
+            → StandsForFollow c r mine self.new }
+        ensures config { self.new.config ≡ self.old.config }
+        ensures all { (c : Config) → (r : ℕ) → (mine : List Event) → StandsForFollow c r mine self.old
+            → self.new.progress.handed ≡ length (applied c r mine) }
+    {
+        self.progress.handed = self.rows.applied_length();
+    }
+
+    /// The verb of a place of the replayer, 0 to 17, where one is due: the first three are left to
+    /// the leader while the replica leads.
+    pub fn due(&self, place: u8, leading: bool) -> Option<Verb>
+        requires config { IsConfig self.now.config }
+        ensures exact { (c : Config) → (r : ℕ) → (mine : List Event) → IsPossible c r mine
+            → StandsForFollow c r mine self.now
+            → result ≡ replay_due c r mine self.now.progress.handed place leading }
+        ensures allowed { (c : Config) → (r : ℕ) → (mine : List Event) → IsPossible c r mine
+            → length mine < c.budget → StandsForFollow c r mine self.now
+            → IfSome result (λ verb. Allowed c r mine verb × IsReplay leading verb) }
+    {
+        self.planned(place, leading)
+    }
+
+    /// The same, part by part.
+    fn planned(&self, place: u8, leading: bool) -> Option<Verb>
+        requires config { IsConfig self.now.config }
+        ensures { (c : Config) → (r : ℕ) → (mine : List Event) → IsPossible c r mine
+            → StandsForFollow c r mine self.now
+            → result ≡ replay_due c r mine self.now.progress.handed place leading }
+    {
+        if place < 3 {
+            if leading { None } else { self.look(place) }
+        } else if place < 15 {
+            self.word(place - 3)
+        } else {
+            self.raise_or_read(place)
+        }
+    }
+
+    /// The verb of the first three places: the own FUO is read, and the own log is looked at.
+    fn look(&self, place: u8) -> Option<Verb>
+        requires config { IsConfig self.now.config }
+        ensures { (c : Config) → (r : ℕ) → (mine : List Event) → IsPossible c r mine
+            → StandsForFollow c r mine self.now → result ≡ look_due c r mine place }
+    {
+        if place == 0 {
+            Some(Verb::Fuo(self.replica))
+        } else if place == 1 {
+            self.look_ahead()
+        } else {
+            self.look_next()
+        }
+    }
+
+    /// The verb of the next twelve places: a row is read, word by word.
+    fn word(&self, k: u8) -> Option<Verb>
+        requires config { IsConfig self.now.config }
+        ensures { (c : Config) → (r : ℕ) → (mine : List Event) → IsPossible c r mine
+            → StandsForFollow c r mine self.now
+            → result ≡ word_due c r mine self.now.progress.handed k }
+    {
+        if k == 0 {
+            self.first_word()
+        } else {
+            self.next_word(k)
+        }
+    }
+
+    /// The verb of the last three places: the own FUO and head are raised, and a head is read.
+    fn raise_or_read(&self, place: u8) -> Option<Verb>
+        requires config { IsConfig self.now.config }
+        ensures { (c : Config) → (r : ℕ) → (mine : List Event) → IsPossible c r mine
+            → StandsForFollow c r mine self.now
+            → result ≡ raise_due c r mine self.now.progress.handed place }
+    {
+        if place == 15 {
+            self.raise_of_fuo()
+        } else if place == 16 {
+            self.raise_of_head()
+        } else if place == 17 {
+            self.read_of_head()
+        } else {
+            None
+        }
+    }
+
+    /// The first position that isn't known.
+    fn end(&self) -> u16
+        requires config { IsConfig self.now.config }
+        ensures { (c : Config) → (r : ℕ) → (mine : List Event) → IsPossible c r mine
+            → StandsForFollow c r mine self.now → result ≡ length (known c r mine) }
+    {
+        as_position(self.knowing.known().len() as u64)
+    }
+
+    /// The look at the own log one position after the next.
+    fn look_ahead(&self) -> Option<Verb>
+        requires config { IsConfig self.now.config }
+        ensures { (c : Config) → (r : ℕ) → (mine : List Event) → IsPossible c r mine
+            → StandsForFollow c r mine self.now → result ≡ ahead_due c r mine }
+    {
+        let end = self.end();
+        if usize::from(end) + 2 < positions_in(&self.config) {
+            Some(Verb::Look(self.replica, end.saturating_add(1)))
+        } else {
+            None
+        }
+    }
+
+    /// The look at the next position of the own log, where it is decided.
+    fn look_next(&self) -> Option<Verb>
+        requires config { IsConfig self.now.config }
+        ensures { (c : Config) → (r : ℕ) → (mine : List Event) → IsPossible c r mine
+            → StandsForFollow c r mine self.now → result ≡ next_due c r mine }
+    {
+        let r = self.replica;
+        let end = self.end();
+        if self.knowing.trusts(r, r, end) {
+            Some(Verb::Look(r, end))
+        } else {
+            None
+        }
+    }
+
+    /// The first word of a row of the first entry that wasn't handed on.
+    fn first_word(&self) -> Option<Verb>
+        requires config { IsConfig self.now.config }
+        ensures { (c : Config) → (r : ℕ) → (mine : List Event) → IsPossible c r mine
+            → StandsForFollow c r mine self.now
+            → result ≡ first_word_of c r mine (slice_get (known c r mine) self.now.progress.handed) }
+    {
+        match self.knowing.known().get(self.progress.handed) {
+            Some(v) => missing_row(&self.config, &self.rows, *v),
+            None => None,
+        }
+    }
+
+    /// The next word of the row that is being read.
+    fn next_word(&self, k: u8) -> Option<Verb>
+        ensures { (c : Config) → (r : ℕ) → (mine : List Event) → StandsForFollow c r mine self.now
+            → result ≡ next_word_of k (row_under_way mine) }
+    {
+        match self.progress.row {
+            Some(row) => Some(Verb::ReadRow(row, k)),
+            None => None,
+        }
+    }
+
+    /// The raise of the own FUO to where the log is filled and known.
+    fn raise_of_fuo(&self) -> Option<Verb>
+        requires config { IsConfig self.now.config }
+        ensures { (c : Config) → (r : ℕ) → (mine : List Event) → IsPossible c r mine
+            → StandsForFollow c r mine self.now → result ≡ fuo_due c r mine }
+    {
+        let r = self.replica;
+        let filled = self.own_log.filled_to().min(u64::from(self.end()));
+        if self.progress.fuo < filled {
+            Some(Verb::RaiseFuo(r, as_position(filled)))
+        } else {
+            None
+        }
+    }
+
+    /// The raise of the own head to what is handed on and decided.
+    fn raise_of_head(&self) -> Option<Verb>
+        requires config { IsConfig self.now.config }
+        ensures { (c : Config) → (r : ℕ) → (mine : List Event) → IsPossible c r mine
+            → StandsForFollow c r mine self.now → result ≡ head_due r mine self.now.progress.handed }
+    {
+        let head = (self.progress.handed as u64).min(self.progress.fuo);
+        if u64::from(self.heads.own()) < head {
+            Some(Verb::RaiseHead(as_position(head)))
+        } else {
+            None
+        }
+    }
+
+    /// The read of another's head: one in each cycle, ascending and round.
+    fn read_of_head(&self) -> Option<Verb>
+        requires config { IsConfig self.now.config }
+        ensures { (c : Config) → (r : ℕ) → (mine : List Event) → IsPossible c r mine
+            → StandsForFollow c r mine self.now → result ≡ other_head_due c r mine }
+    {
+        let n = self.config.replicas;
+        if n == 1 {
+            return None;
+        }
+        let turn = turn_of_head(n, self.steps);
+        Some(Verb::Head(other(self.replica, turn)))
+    }
+}

@@ -1,0 +1,17 @@
+//! The replayer: what a replica knows, has and has applied by its own events, and which step it
+//! makes next to get the rest.
+#![tactic(auto)]
+
+mod commits;
+mod completion;
+mod follow;
+mod groups;
+mod kind;
+mod noting;
+mod outrunning;
+mod progress;
+mod published;
+
+pub use follow::Follow;
+pub use groups::Ready;
+pub use mu_known::Commit;

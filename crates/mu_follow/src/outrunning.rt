@@ -1,0 +1,40 @@
+//! Whether a replica found a place used again that it still had to read.
+ghost use Rattle.std.specs.Prelude.{List, length, ℕ, ◌∷◌, ◌≡◌};
+ghost use Rattle.mu_model.specs.declared.config.Config.{Config};
+ghost use Rattle.mu_model.specs.declared.event.Event.{Event};
+ghost use Rattle.mu_model.specs.Ends.{outrun, outrun_by};
+ghost use Rattle.mu_model.specs.Knowledge.{known as known_of};
+
+use mu_model::{Answer, Event, Verb};
+
+/// The region and the position that the event finds so, where so many values were known before it.
+fn outrun_in(r: u8, known: usize, event: &Event) -> Option<(u8, u16)>
+    ensures { result ≡ outrun_by r known event.now.by event.now.verb event.now.answer }
+{
+    match (event.verb, event.answer) {
+        (Verb::Look(p, i), Answer::Past) => {
+            if event.by == r && known <= usize::from(i) {
+                Some((p, i))
+            } else {
+                None
+            }
+        }
+        _ => None,
+    }
+}
+
+/// The first such look, after the event.
+pub(crate) fn outrun_after(
+    held: Option<(u8, u16)>,
+    r: u8,
+    known: usize,
+    event: &Event,
+) -> Option<(u8, u16)>
+    ensures { (c : Config) → (mine : List Event) → known ≡ length (known_of c r mine)
+        → held ≡ outrun c r mine → result ≡ outrun c r (event.now ∷ mine) }
+{
+    match held {
+        Some(look) => Some(look),
+        None => outrun_in(r, known, event),
+    }
+}

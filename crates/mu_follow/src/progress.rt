@@ -1,0 +1,78 @@
+//! What a replayer remembers of its own plan.
+ghost use Rattle.std.specs.Prelude.{List, Some, [], if◌then◌else◌, ℕ, ◌==◌, ◌∷◌, ◌≡◌};
+ghost use Rattle.mu_model.specs.declared.event.Event.{Event as SomeEvent};
+ghost use Rattle.mu_model.specs.Histories.{max_with};
+ghost use Rattle.mu_follow.specs.Due.{own_fuo, row_under_way};
+
+use mu_model::{Answer, Event, Verb};
+
+/// The last word of a row.
+const LAST_WORD: u8 = 11;
+
+/// How far the replayer is.
+#[derive(Drop)]
+pub struct Progress {
+    /// The greatest own FUO read or raised.
+    pub(crate) fuo: u64,
+    /// How many entries were handed on to be applied.
+    pub(crate) handed: usize,
+    /// The payload number of the row that is being read.
+    pub(crate) row: Option<u16>,
+}
+
+/// The greater FUO.
+fn greater(held: u64, own: bool, fuo: u64) -> u64
+    ensures { result ≡ (if own then max_with (Some fuo) held else held) }
+{
+    if own { held.max(fuo) } else { held }
+}
+
+/// The greatest own FUO read or raised, after the event.
+fn fuo_after(held: u64, r: u8, event: &Event) -> u64
+    ensures { (mine : List SomeEvent) → event.now.by ≡ r → held ≡ own_fuo r mine
+        → result ≡ own_fuo r (event.now ∷ mine) }
+{
+    match (event.verb, event.answer) {
+        (Verb::Fuo(p), Answer::Number(fuo)) => greater(held, event.by == r && p == r, fuo),
+        (Verb::RaiseFuo(p, fuo), _) => greater(held, event.by == r && p == r, u64::from(fuo)),
+        _ => held,
+    }
+}
+
+/// The row that is being read, after the event.
+fn row_after(held: Option<u16>, event: &Event) -> Option<u16>
+    ensures { (mine : List SomeEvent) → held ≡ row_under_way mine
+        → result ≡ row_under_way (event.now ∷ mine) }
+{
+    match event.verb {
+        Verb::ReadRow(v, word) => { if word < LAST_WORD { Some(v) } else { None } }
+        _ => held,
+    }
+}
+
+impl Progress {
+    /// Nothing done.
+    pub fn none() -> Progress
+        ensures fuo { (r : ℕ) → result.fuo ≡ own_fuo r [] }
+        ensures row { result.row ≡ row_under_way [] }
+        ensures handed { result.handed ≡ 0 }
+    {
+        Progress {
+            fuo: 0,
+            handed: 0,
+            row: None,
+        }
+    }
+
+    /// Takes the next event of `r`.
+    pub fn note(&mut self, r: u8, event: &Event)
+        ensures fuo { (mine : List SomeEvent) → event.now.by ≡ r → self.old.fuo ≡ own_fuo r mine
+            → self.new.fuo ≡ own_fuo r (event.now ∷ mine) }
+        ensures row { (mine : List SomeEvent) → self.old.row ≡ row_under_way mine
+            → self.new.row ≡ row_under_way (event.now ∷ mine) }
+        ensures handed { self.new.handed ≡ self.old.handed }
+    {
+        self.fuo = fuo_after(self.fuo, r, event);
+        self.row = row_after(self.row, event);
+    }
+}

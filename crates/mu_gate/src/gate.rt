@@ -1,0 +1,16 @@
+//! A place where running threads can be held.
+
+/// Called by each thread of a run before each of its steps, with the number of the thread and how
+/// many steps it has made. What it does changes no answer.
+pub trait Gate {
+    /// Lets the thread on when it likes.
+    fn pass(&self, thread: u8, step: u32);
+}
+
+/// A gate that does nothing.
+#[derive(Clone, Copy, Debug, PartialEq, Eq)]
+pub struct OpenGate;
+
+impl Gate for OpenGate {
+    fn pass(&self, _thread: u8, _step: u32) {}
+}

@@ -1,0 +1,4 @@
+pub mod Fetched
+pub mod Learning
+pub mod Placed
+pub mod Untouched

@@ -1,0 +1,7 @@
+-- A commit as a pair.
+use Rattle.std.specs.Prelude.{ℕ}
+use Rattle.mu_known.specs.declared.commit.Commit.{Commit}
+
+-- its position and its value
+abbrev pub pair_of : Commit → ℕ × ℕ
+pair_of commit = (commit.position, commit.value)

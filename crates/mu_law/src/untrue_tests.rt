@@ -1,0 +1,286 @@
+//! Statements on legal lists that look right and are false, each shown by a list.
+ghost use Rattle.std.specs.Prelude.{IfOk, ◌<◌, ◌≤◌};
+ghost use Rattle.mu_model.specs.Contents.{IsConfig};
+
+use crate::{chosen_at, is_legal};
+use mu_model::{Answer, Config, Event, NoMemory, Row, Sequence, Target, Verb};
+use mu_regions::Regions;
+use std::alloc::Global;
+use std::test::Fail;
+
+/// The row of `put a 5` of client 0, number 1.
+const WORDS: [u64; 12] = [1_103_806_660_609, 97, 0, 0, 53, 0, 0, 0, 0, 0, 0, 0];
+
+/// What replica 0, 1 and 2 put as their own: the command of the job, in their own row.
+const FIRST: u16 = 0;
+
+const SECOND: u16 = 4096;
+
+const THIRD: u16 = 8192;
+
+/// A job of one command for so many replicas.
+fn one_command(alloc: Global, replicas: u8) -> Result<Config, NoMemory>
+    requires few { replicas ≤ 7 }
+    requires some { 0 < replicas }
+    ensures { IfOk result IsConfig }
+{
+    let mut rows = Vec::new(alloc);
+    rows.push(Row { words: WORDS })?;
+    Ok(Config {
+        version: 1,
+        width: 1,
+        replicas,
+        ring: 8,
+        budget: 1_000,
+        rows: Sequence::from_vec(rows),
+    })
+}
+
+/// A stretch of steps of one replica.
+#[derive(Clone, Copy)]
+enum Stretch {
+    /// It asks, is granted these regions, puts its number at each and looks there.
+    Lead(u8, &'static [u8], u32),
+    /// It writes its row.
+    Write(u8),
+    /// It enters the first slot of the region, and puts the value there under the number.
+    Fill(u8, u8, u32, u16),
+    /// One step.
+    Step(u8, Verb),
+}
+
+/// A list that is written down step by step.
+#[derive(Drop)]
+struct Course {
+    replicas: u8,
+    regions: Regions,
+    events: Vec<Event>,
+}
+
+impl Course {
+    fn new(alloc: Global, config: &Config) -> Result<Course, NoMemory>
+        requires { IsConfig config.now }
+    {
+        Ok(Course {
+            replicas: config.replicas,
+            regions: Regions::new(alloc, config)?,
+            events: Vec::new(alloc),
+        })
+    }
+
+    /// A step with the answer that the regions give it.
+    fn step(&mut self, by: u8, verb: Verb) -> Result<Answer, NoMemory> {
+        let answer = self.regions.answer(by, &verb);
+        let event = Event { by, verb, answer };
+        self.regions.take(&event);
+        self.events.push(event)?;
+        Ok(answer)
+    }
+
+    /// The host drains what the owner may still write, and grants its region.
+    fn hand_over(&mut self, host: u8, to: u8) -> Result<(), NoMemory> {
+        self.step(host, Verb::ReadAsk(to))?;
+        if let Answer::Seen(fence) = self.step(host, Verb::Close)? {
+            if fence.target != Target::None {
+                self.step(host, Verb::LookTarget)?;
+                self.step(host, Verb::Drain)?;
+            }
+        }
+        self.step(host, Verb::Grant(to))?;
+        Ok(())
+    }
+
+    /// The replica asks for all regions, is granted these, puts its number at each and looks there.
+    fn lead(&mut self, by: u8, members: &[u8], number: u32) -> Result<(), NoMemory> {
+        for p in 0..self.replicas {
+            self.step(by, Verb::Ask(p))?;
+        }
+        for p in members {
+            self.hand_over(*p, by)?;
+            self.step(by, Verb::Fence(*p))?;
+        }
+        for p in members {
+            self.step(by, Verb::Min(*p))?;
+        }
+        for p in members {
+            self.step(by, Verb::Enter(*p, Target::Min))?;
+            self.step(by, Verb::PutMin(*p, number))?;
+        }
+        for p in members {
+            self.step(by, Verb::Look(*p, 0))?;
+        }
+        Ok(())
+    }
+
+    /// The replica writes its row.
+    fn write(&mut self, by: u8) -> Result<(), NoMemory> {
+        for k in 0u8..12 {
+            self.step(by, Verb::WriteRow(0, k, WORDS[usize::from(k)]))?;
+        }
+        Ok(())
+    }
+
+    /// The replica enters the first slot of the region, and puts the entry there.
+    fn fill(&mut self, by: u8, p: u8, number: u32, value: u16) -> Result<(), NoMemory> {
+        self.step(by, Verb::Enter(p, Target::Place(0)))?;
+        self.step(by, Verb::PutSlot(p, 0, number, value))?;
+        Ok(())
+    }
+
+    fn follow(&mut self, stretches: &[Stretch]) -> Result<(), NoMemory> {
+        for stretch in stretches {
+            match *stretch {
+                Stretch::Lead(by, members, number) => self.lead(by, members, number)?,
+                Stretch::Write(by) => self.write(by)?,
+                Stretch::Fill(by, p, number, value) => self.fill(by, p, number, value)?,
+                Stretch::Step(by, verb) => {
+                    self.step(by, verb)?;
+                }
+            }
+        }
+        Ok(())
+    }
+}
+
+/// The list of these stretches.
+fn events_of(alloc: Global, config: &Config, stretches: &[Stretch]) -> Result<Vec<Event>, NoMemory>
+    requires { IsConfig config.now }
+{
+    let mut course = Course::new(alloc, config)?;
+    course.follow(stretches)?;
+    Ok(course.events)
+}
+
+/// Whether the host of `p` once found this entry in its first slot.
+fn was_shown(events: &[Event], p: u8, number: u32, value: u16) -> bool {
+    let entry = Answer::Entry { number, value };
+    let mut shown = false;
+    for e in events {
+        if e.by == p && e.verb == Verb::Look(p, 0) && e.answer == entry {
+            shown = true;
+        }
+    }
+    shown
+}
+
+/// False: a leadership ends when its replica grants its own region away. And false: after the
+/// choice every put that lands has the chosen value.
+#[test]
+fn leader_goes_on_elsewhere(rt: HostRuntime) -> Result<(), Fail> {
+    let config = one_command(rt.alloc(), 3)?;
+    let events = events_of(
+        rt.alloc(),
+        &config,
+        &[
+            Stretch::Lead(0, &[0, 2], 8),
+            Stretch::Write(0),
+            Stretch::Step(0, Verb::Enter(2, Target::Place(0))),
+            Stretch::Lead(1, &[1, 0], 9),
+            Stretch::Write(1),
+            Stretch::Fill(1, 1, 9, SECOND),
+            Stretch::Fill(1, 0, 9, SECOND),
+            Stretch::Step(0, Verb::PutSlot(2, 0, 8, FIRST)),
+            Stretch::Step(2, Verb::Look(2, 0)),
+        ],
+    )?;
+    let events = events.as_slice();
+    assert!(rt; is_legal(rt.alloc(), &config, events)?);
+    assert_eq!(rt; chosen_at(rt.alloc(), &config, events, 0)?, Some(SECOND));
+    assert!(rt; was_shown(events, 2, 8, FIRST));
+    Ok(())
+}
+
+/// False: the number of the first choice is the least under which the value is chosen.
+#[test]
+fn chosen_again_under_a_smaller_number(rt: HostRuntime) -> Result<(), Fail> {
+    let config = one_command(rt.alloc(), 3)?;
+    let events = events_of(
+        rt.alloc(),
+        &config,
+        &[
+            Stretch::Lead(0, &[0, 1], 8),
+            Stretch::Write(0),
+            Stretch::Fill(0, 1, 8, FIRST),
+            Stretch::Step(1, Verb::Look(1, 0)),
+            Stretch::Step(0, Verb::Enter(0, Target::Place(0))),
+            Stretch::Lead(1, &[1, 2], 9),
+            Stretch::Fill(1, 1, 9, FIRST),
+            Stretch::Fill(1, 2, 9, FIRST),
+            Stretch::Step(1, Verb::Look(1, 0)),
+            Stretch::Step(2, Verb::Look(2, 0)),
+            Stretch::Step(0, Verb::PutSlot(0, 0, 8, FIRST)),
+            Stretch::Step(0, Verb::Look(0, 0)),
+        ],
+    )?;
+    let events = events.as_slice();
+    assert!(rt; is_legal(rt.alloc(), &config, events)?);
+    for (p, number) in [(1, 9), (2, 9), (1, 8), (0, 8)] {
+        assert!(rt; was_shown(events, p, number, FIRST));
+    }
+    Ok(())
+}
+
+/// False: a number has one value at each position.
+#[test]
+fn number_with_two_values(rt: HostRuntime) -> Result<(), Fail> {
+    let config = one_command(rt.alloc(), 3)?;
+    let events = events_of(
+        rt.alloc(),
+        &config,
+        &[
+            Stretch::Lead(0, &[0, 1], 8),
+            Stretch::Write(0),
+            Stretch::Fill(0, 0, 8, FIRST),
+            Stretch::Step(0, Verb::Look(0, 0)),
+            Stretch::Lead(1, &[1, 2], 9),
+            Stretch::Write(1),
+            Stretch::Fill(1, 1, 9, SECOND),
+            Stretch::Fill(1, 2, 9, SECOND),
+            Stretch::Step(1, Verb::RaiseFuo(1, 1)),
+            Stretch::Step(0, Verb::Fuo(1)),
+            Stretch::Step(0, Verb::Look(1, 0)),
+            Stretch::Fill(0, 0, 8, SECOND),
+            Stretch::Step(0, Verb::Look(0, 0)),
+        ],
+    )?;
+    let events = events.as_slice();
+    assert!(rt; is_legal(rt.alloc(), &config, events)?);
+    for value in [FIRST, SECOND] {
+        assert!(rt; was_shown(events, 0, 8, value));
+    }
+    Ok(())
+}
+
+/// False: once the chosen value stands in a log, it stays.
+#[test]
+fn chosen_value_is_overwritten(rt: HostRuntime) -> Result<(), Fail> {
+    let config = one_command(rt.alloc(), 5)?;
+    let events = events_of(
+        rt.alloc(),
+        &config,
+        &[
+            Stretch::Lead(0, &[0, 1, 2], 8),
+            Stretch::Write(0),
+            Stretch::Fill(0, 0, 8, FIRST),
+            Stretch::Fill(0, 1, 8, FIRST),
+            Stretch::Lead(2, &[2, 3, 4], 10),
+            Stretch::Write(2),
+            Stretch::Fill(2, 2, 10, THIRD),
+            Stretch::Lead(3, &[3, 0, 2], 11),
+            Stretch::Step(3, Verb::Enter(0, Target::Place(0))),
+            Stretch::Lead(1, &[1, 3, 4], 17),
+            Stretch::Fill(1, 1, 17, FIRST),
+            Stretch::Fill(1, 3, 17, FIRST),
+            Stretch::Fill(1, 4, 17, FIRST),
+            Stretch::Step(0, Verb::Look(0, 0)),
+            Stretch::Step(3, Verb::PutSlot(0, 0, 11, THIRD)),
+            Stretch::Step(0, Verb::Look(0, 0)),
+        ],
+    )?;
+    let events = events.as_slice();
+    assert!(rt; is_legal(rt.alloc(), &config, events)?);
+    assert_eq!(rt; chosen_at(rt.alloc(), &config, events, 0)?, Some(FIRST));
+    assert!(rt; was_shown(events, 0, 8, FIRST));
+    assert!(rt; was_shown(events, 0, 11, THIRD));
+    Ok(())
+}

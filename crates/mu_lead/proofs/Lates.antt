@@ -1,0 +1,264 @@
+-- Late followers that join.
+use Rattle.std.proofs.Common.{Bool, List, None, Some, ap, arith, false, get_or, inl, inr, is_some, refl, subst, sym, true, true≢false, ℕ, ◌&&◌, ◌<◌, ◌==◌, ◌||◌, ◌∙◌, ◌∷◌, ◌≡◌, ◌≢◌, ◌≤◌}
+use Rattle.std.specs.Prelude.{nat_le, nat_lt, not}
+use Rattle.std.specs.declared.option.Option.{Option}
+use Rattle.std.proofs.lemmas.Bool.{and_from, and_parts, cases_eq, le-leb, le-ltb, leb-true, ne_eqb}
+use Rattle.std.proofs.Common.{eqb-true}
+use Rattle.mu_model.specs.Parts.{IsPossible}
+use Rattle.mu_agree.proofs.Readings.{parts_hold_law}
+use Rattle.mu_model.specs.declared.config.Config.{Config}
+use Rattle.mu_model.specs.declared.event.Answer.{Answer}
+use Rattle.mu_model.specs.declared.event.Event.{Event}
+use Rattle.mu_model.specs.declared.event.Fence.{Fence}
+use Rattle.mu_model.specs.declared.event.Target.{Target}
+use Rattle.mu_model.specs.declared.event.Verb.{Verb}
+use Rattle.mu_model.specs.Histories.{count_below, earlier_or}
+use Rattle.mu_model.specs.Leaderships.{grant_at_joining, grant_for, is_above, is_changed, is_member, is_over, majority_of, noted_grant, proposal_number}
+use Rattle.mu_model.proofs.Basics.{event_by, none_some, same_number, same_some}
+use Rattle.mu_agree.proofs.Counting.{count_more}
+use Rattle.mu_lead.specs.declared.place.Then.{Then}
+use Rattle.mu_lead.specs.Confirming.{HasGrant}
+use Rattle.mu_lead.specs.Leading.{AtLateEnter, AtLateFuo, AtLateMin, AtLatePut, AtWiden, IsRaised, Late, Leads, Level, Near, end_of}
+use Rattle.mu_lead.proofs.Keeping.{fuo_event, leads_kept, raised_other}
+use Rattle.mu_lead.proofs.Numbering.{held_joined, joining_other, landed_min, member_now, member_still, read_now}
+
+-- the event of a fence that was read
+abbrev pub fence_event : ℕ → ℕ → Fence → Event
+fence_event r p f = event_by r (Verb.Fence p) (Answer.Seen f)
+
+is_quiet : (o : Option (Option ℕ)) (f : Fence) (by over : Bool) → is_some o ≡ false → over ≡ false → (by && is_changed o f || over) ≡ false
+is_quiet None f true over none on = on
+is_quiet None f false over none on = on
+is_quiet (Some g) f by over none on = absurd (true≢false none)
+
+-- the fence of a region that is no member ends nothing
+leads_fenced : (c : Config) (r b p : ℕ) (f : Fence) (mine : List Event) → is_member r p mine ≡ false → Leads c r b mine → Leads c r b (fence_event r p f ∷ mine)
+leads_fenced c r b p f mine stranger l = record {
+  begun = l.begun;
+  goes_on = is_quiet (grant_at_joining r p mine) f (r == r) (is_over r mine) stranger l.goes_on;
+  numbered = l.numbered;
+  carried = l.carried;
+  held = λ q region member. (let h = l.held q region member in record { grant = h.grant; noted = noted_still q (ne_eqb p q (λ same. true≢false (sym member ∙ subst (λ x. is_member r x mine ≡ false) same stranger))) ∙ h.noted; joined = h.joined });
+  unput = l.unput;
+}
+  where
+    noted_still : (q : ℕ) → (p == q) ≡ false → noted_grant r q (fence_event r p f ∷ mine) ≡ noted_grant r q mine
+    noted_still q other = rw (same_number r, other) refl
+
+pub level_fenced : (c : Config) (r b p : ℕ) (f : Fence) (mine : List Event) (up : List ℕ) (reach : List (Option ℕ)) → is_member r p mine ≡ false → Level c r b mine up reach → Level c r b (fence_event r p f ∷ mine) up reach
+level_fenced c r b p f mine up reach stranger l = record { leads = leads_fenced c r b p f mine stranger l.leads; have = l.have; raised = l.raised }
+
+-- the late follower names the leader
+pub late_noted : (c : Config) (r b p : ℕ) (f : Fence) (mine : List Event) (up : List ℕ) (reach : List (Option ℕ)) → Late c r b mine up reach p → is_some (noted_grant r p (fence_event r p f ∷ mine)) ≡ true → AtLateMin c r b (fence_event r p f ∷ mine) up reach p
+late_noted c r b p f mine up reach at noted = record {
+  late = record { region = at.region; stranger = at.stranger; level = level_fenced c r b p f mine up reach at.stranger at.level };
+  granted = noted;
+}
+
+-- the event of a minimum that was read
+abbrev pub min_event : ℕ → ℕ → ℕ → Event
+min_event r p m = event_by r (Verb.Min p) (Answer.Number m)
+
+not_above : (m b : ℕ) (o : Option ℕ) (by over : Bool) → o ≡ Some b → m ≤ b → over ≡ false → (by && is_above o m || over) ≡ false
+not_above m b None by over is low on = absurd (none_some b is)
+not_above m b (Some x) by over is low on = go by (le-ltb x m (let same = same_some x b is in omega (arith, same, low)))
+  where
+    go : (t : Bool) → nat_lt x m ≡ false → (t && nat_lt x m || over) ≡ false
+    go true none = rw none on
+    go false none = on
+
+leads_told : (c : Config) (r b p m : ℕ) (mine : List Event) → m ≤ b → Leads c r b mine → Leads c r b (min_event r p m ∷ mine)
+leads_told c r b p m mine low l = record {
+  begun = l.begun;
+  goes_on = not_above m b (proposal_number r mine) (r == r) (is_over r mine) l.numbered low l.goes_on;
+  numbered = l.numbered;
+  carried = l.carried;
+  held = λ q region member. (let h = l.held q region member in record { grant = h.grant; noted = h.noted; joined = h.joined });
+  unput = l.unput;
+}
+
+-- the late follower holds no higher minimum
+pub late_told : (c : Config) (r b p m : ℕ) (mine : List Event) (up : List ℕ) (reach : List (Option ℕ)) → m ≤ b → AtLateMin c r b mine up reach p → AtLateFuo c r b (min_event r p m ∷ mine) up reach p
+late_told c r b p m mine up reach low at =
+    let l = at.late.level in
+    record {
+      late = record { region = at.late.region; stranger = at.late.stranger; level = record { leads = leads_told c r b p m mine low l.leads; have = l.have; raised = l.raised } };
+      granted = at.granted;
+      told = read_now r p m mine at.granted;
+      low = rw (same_number r, same_number p) low;
+    }
+
+level_read : (c : Config) (r b p u : ℕ) (mine : List Event) (up up' : List ℕ) (reach reach' : List (Option ℕ)) → is_member r p mine ≡ false → ((k : ℕ) → k ≢ p → get_or up' k 0 ≡ get_or up k 0)
+    → ((k : ℕ) → k ≢ p → get_or reach' k None ≡ get_or reach k None) → Level c r b mine up reach → Level c r b (fuo_event r p u ∷ mine) up' reach'
+level_read c r b p u mine up up' reach reach' stranger ups reaches l = record {
+  leads = leads_kept c r b r (Verb.Fuo p) (Answer.Number u) mine refl l.leads;
+  have = λ k region member. subst (λ x. end_of c r mine ≤ x) (sym (ups k (other k member))) (l.have k region member);
+  raised = λ k region member. raised_other p k up up' reach reach' (other k member) ups reaches (l.raised k region member);
+}
+  where
+    other : (k : ℕ) → is_member r k mine ≡ true → k ≢ p
+    other k member same = true≢false (sym member ∙ subst (λ x. is_member r x mine ≡ false) (sym same) stranger)
+
+-- the late follower is left for a later time
+pub late_left : (c : Config) (r b p u : ℕ) (mine : List Event) (up : List ℕ) (reach reach' : List (Option ℕ)) → ((k : ℕ) → k ≢ p → get_or reach' k None ≡ get_or reach k None) → AtLateFuo c r b mine up reach p → Level c r b (fuo_event r p u ∷ mine) up reach'
+late_left c r b p u mine up reach reach' reaches at = level_read c r b p u mine up up reach reach' at.late.stranger (λ k differs. refl) reaches at.late.level
+
+-- its FUO is no higher than what is known
+pub late_read : (c : Config) (r b p u : ℕ) (mine : List Event) (up up' : List ℕ) (reach reach' : List (Option ℕ)) → ((k : ℕ) → k ≢ p → get_or up' k 0 ≡ get_or up k 0)
+    → ((k : ℕ) → k ≢ p → get_or reach' k None ≡ get_or reach k None) → get_or up' p 0 ≡ u → u ≤ end_of c r mine → IsRaised up' reach' p → AtLateFuo c r b mine up reach p → AtLateEnter c r b (fuo_event r p u ∷ mine) up' reach' p
+late_read c r b p u mine up up' reach reach' ups reaches here low raised at = record {
+  told = record {
+    late = record { region = at.late.region; stranger = at.late.stranger; level = level_read c r b p u mine up up' reach reach' at.late.stranger ups reaches at.late.level };
+    granted = at.granted;
+    told = at.told;
+    low = at.low;
+  };
+  short = omega (arith, here, low);
+  raised = raised;
+}
+
+-- the event of an `Enter` for the minimum
+abbrev pub enter_min_event : ℕ → ℕ → Event
+enter_min_event r p = event_by r (Verb.Enter p Target.Min) Answer.Entered
+
+pub late_entered : (c : Config) (r b p : ℕ) (mine : List Event) (up : List ℕ) (reach : List (Option ℕ)) → AtLateEnter c r b mine up reach p → AtLatePut c r b (enter_min_event r p ∷ mine) up reach p
+late_entered c r b p mine up reach at =
+    let t = at.told in
+    let l = t.late.level in
+    let leads = l.leads in
+    record {
+      entering = record {
+        told = record {
+          late = record {
+            region = t.late.region;
+            stranger = t.late.stranger;
+            level = record {
+              leads = record {
+                begun = leads.begun;
+                goes_on = leads.goes_on;
+                numbered = leads.numbered;
+                carried = leads.carried;
+                held = λ q region member. (let h = leads.held q region member in record { grant = h.grant; noted = h.noted; joined = h.joined });
+                unput = leads.unput;
+              };
+              have = l.have;
+              raised = l.raised;
+            };
+          };
+          granted = t.granted;
+          told = t.told;
+          low = t.low;
+        };
+        short = at.short;
+        raised = at.raised;
+      };
+      entered = rw (same_number r, same_number p) refl;
+      under = rw (same_number r, same_number p) refl;
+    }
+
+first_stays : (b : ℕ) (o : Option ℕ) → o ≡ Some b → earlier_or (Some b) o ≡ Some b
+first_stays b None is = refl
+first_stays b (Some x) is = is
+
+pub leads_joined : (c : Config) (r b p : ℕ) (mine : List Event) → p < c.replicas → is_some (noted_grant r p mine) ≡ true → Leads c r b mine → Leads c r b (landed_min r p b ∷ mine)
+leads_joined c r b p mine region noted l =
+    let parts = and_parts (is_member r r mine) (nat_le (majority_of c.replicas) (count_below c.replicas (λ q. is_member r q mine))) l.carried in
+    let more = count_more c.replicas (λ q. is_member r q mine) (λ q. is_member r q (landed_min r p b ∷ mine)) (λ q low member. member_still r p q b mine member) in
+    let many = leb-true (majority_of c.replicas) (count_below c.replicas (λ q. is_member r q mine)) parts.1 in
+    record {
+      begun = l.begun;
+      goes_on = l.goes_on;
+      numbered = rw (same_number r) (first_stays b (proposal_number r mine) l.numbered);
+      carried = and_from (is_member r r (landed_min r p b ∷ mine)) (nat_le (majority_of c.replicas) (count_below c.replicas (λ q. is_member r q (landed_min r p b ∷ mine)))) (member_still r p r b mine parts.0)
+          (le-leb (majority_of c.replicas) (count_below c.replicas (λ q. is_member r q (landed_min r p b ∷ mine))) (omega (arith, many, more)));
+      held = held_joined c r p b mine region noted l.held;
+      unput = l.unput;
+    }
+
+was_member : (r p q b : ℕ) (mine : List Event) → q ≢ p → is_member r q (landed_min r p b ∷ mine) ≡ true → is_member r q mine ≡ true
+was_member r p q b mine other member = sym (ap is_some (joining_other r p q b mine (λ same. other (sym same)))) ∙ member
+
+-- the late follower joined, and is behind
+pub late_behind : (c : Config) (r b p : ℕ) (mine : List Event) (up : List ℕ) (reach : List (Option ℕ)) → AtLatePut c r b mine up reach p → get_or up p 0 < end_of c r mine → AtWiden c r b (landed_min r p b ∷ mine) up reach p Then.Joined
+late_behind c r b p mine up reach at lacks =
+    let t = at.entering.told in
+    let l = t.late.level in
+    record {
+      behind = record {
+        region = t.late.region;
+        member = member_now r p b mine;
+        leads = leads_joined c r b p mine t.late.region t.granted l.leads;
+        raised = λ k region other member. l.raised k region (was_member r p k b mine other member);
+        have = λ k region other member done. l.have k region (was_member r p k b mine other member);
+      };
+      lacks = lacks;
+    }
+
+-- the late follower joined, and has what is known
+pub late_level : (c : Config) (r b p : ℕ) (mine : List Event) (up : List ℕ) (reach : List (Option ℕ)) → AtLatePut c r b mine up reach p → end_of c r mine ≤ get_or up p 0 → Level c r b (landed_min r p b ∷ mine) up reach
+late_level c r b p mine up reach at has =
+    let t = at.entering.told in
+    let l = t.late.level in
+    record {
+      leads = leads_joined c r b p mine t.late.region t.granted l.leads;
+      have = λ k region member. elim (cases_eq k p) [
+        | inl same ↦ subst (λ x. end_of c r mine ≤ get_or up x 0) (sym same) has
+        | inr other ↦ l.have k region (was_member r p k b mine other member)
+      ];
+      raised = λ k region member. elim (cases_eq k p) [
+        | inl same ↦ subst (λ x. IsRaised up reach x) (sym same) at.entering.raised
+        | inr other ↦ l.raised k region (was_member r p k b mine other member)
+      ];
+    }
+
+changed_not : (g : ℕ) (f : Fence) → (f.closing || not (f.grant == g)) ≡ false → (f.closing ≡ false) × (f.grant ≡ g)
+changed_not g f is = go f.closing (f.grant == g) refl is
+  where
+    go : (x y : Bool) → (f.grant == g) ≡ y → (x || not y) ≡ false → (x ≡ false) × (f.grant ≡ g)
+    go true y same none = absurd (true≢false none)
+    go false true same none = (refl, eqb-true f.grant g same)
+    go false false same none = absurd (true≢false none)
+
+not_changed : (t s : Bool) → (t || s) ≡ false → t ≡ false
+not_changed true s none = absurd (true≢false none)
+not_changed false s none = refl
+
+-- the fence of a member that ends nothing shows the grant of its joining
+held_fenced : (c : Config) (r p : ℕ) (f : Fence) (mine : List Event) → IsPossible c r (fence_event r p f ∷ mine) → is_over r (fence_event r p f ∷ mine) ≡ false → HasGrant r p mine → HasGrant r p (fence_event r p f ∷ mine)
+held_fenced c r p f mine possible goes_on h =
+    let quiet = not_changed ((r == r) && is_changed (grant_at_joining r p mine) f) (is_over r mine) goes_on in
+    let same = changed_not h.grant f (here (same_number r) h.joined quiet) in
+    let owner = parts_hold_law c r p h.grant f mine (fence_event r p f) possible h.noted refl refl same.1 in
+    record { grant = h.grant; noted = rw (same_number r, same_number p) (noted_of owner same.0 same.1); joined = h.joined }
+  where
+    here : (r == r) ≡ true → grant_at_joining r p mine ≡ Some (Some h.grant) → ((r == r) && is_changed (grant_at_joining r p mine) f) ≡ false → (f.closing || not (f.grant == h.grant)) ≡ false
+    here own joined quiet = sym (ap (λ t. t && is_changed (Some (Some h.grant)) f) own) ∙ sym (ap (λ o. (r == r) && is_changed o f) joined) ∙ quiet
+
+    noted_of : f.owner ≡ Some r → f.closing ≡ false → f.grant ≡ h.grant → grant_for r (Some f) ≡ Some h.grant
+    noted_of owner unclosed same = rw (owner, unclosed, same_number r) (ap Some same)
+
+-- the fence of a member that ends nothing keeps the leadership
+pub leads_held : (c : Config) (r b p : ℕ) (f : Fence) (mine : List Event) → IsPossible c r (fence_event r p f ∷ mine) → is_over r (fence_event r p f ∷ mine) ≡ false → Leads c r b mine → Leads c r b (fence_event r p f ∷ mine)
+leads_held c r b p f mine possible goes_on l = record {
+  begun = l.begun;
+  goes_on = goes_on;
+  numbered = l.numbered;
+  carried = l.carried;
+  held = λ q region member. elim (cases_eq p q) [
+    | inl same ↦ subst (λ x. HasGrant r x (fence_event r p f ∷ mine)) same (held_fenced c r p f mine possible goes_on (subst (λ x. HasGrant r x mine) (sym same) (l.held q region member)))
+    | inr other ↦ other_held q (ne_eqb p q other) (l.held q region member)
+  ];
+  unput = l.unput;
+}
+  where
+    other_held : (q : ℕ) → (p == q) ≡ false → HasGrant r q mine → HasGrant r q (fence_event r p f ∷ mine)
+    other_held q other h = record { grant = h.grant; noted = rw (same_number r, other) h.noted; joined = h.joined }
+
+pub near_held : (c : Config) (r b p : ℕ) (f : Fence) (mine : List Event) (up : List ℕ) (reach : List (Option ℕ)) (on : Then) → IsPossible c r (fence_event r p f ∷ mine) → is_over r (fence_event r p f ∷ mine) ≡ false → Near c r b mine up reach p on → Near c r b (fence_event r p f ∷ mine) up reach p on
+near_held c r b p f mine up reach on possible goes_on n =
+    let h = n.behind in
+    record {
+      behind = record { region = h.region; member = h.member; leads = leads_held c r b p f mine possible goes_on h.leads; raised = h.raised; have = h.have };
+      lacks = n.lacks;
+      near = n.near;
+    }

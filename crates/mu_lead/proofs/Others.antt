@@ -1,0 +1,258 @@
+-- What other machines of the replica do keeps what its leader stands for.
+use Rattle.std.proofs.Common.{Bool, List, None, Some, ap, arith, false, inl, inr, is_some, length, refl, subst, sym, true, true≢false, ℕ, ◌&&◌, ◌+◌, ◌-◌, ◌/◌, ◌==◌, ◌||◌, ◌∙◌, ◌∷◌, ◌≡◌}
+use Rattle.std.specs.Prelude.{nat_lt, not}
+use Rattle.std.specs.declared.option.Option.{Option}
+use Rattle.std.proofs.lemmas.Bool.{and_from, and_parts}
+use Rattle.mu_model.specs.declared.config.Config.{Config}
+use Rattle.mu_model.specs.declared.event.Answer.{Answer}
+use Rattle.mu_model.specs.declared.event.Event.{Event}
+use Rattle.mu_model.specs.declared.event.Verb.{Verb}
+use Rattle.mu_model.specs.Allowed.{last_ask}
+use Rattle.mu_model.specs.Contents.{holds_all, is_mark, marked}
+use Rattle.mu_model.specs.Entering.{number_allowed}
+use Rattle.mu_model.specs.Histories.{all_below, newest}
+use Rattle.mu_model.specs.Knowledge.{known}
+use Rattle.mu_model.specs.Leaderships.{begins_leadership, is_member, proposal_number}
+use Rattle.mu_model.specs.Parts.{IsPossible}
+use Rattle.mu_model.specs.Picks.{first_value, highest_accepted, is_mark_offer, is_offer, last_look, may_pick_at, may_propose, pick}
+use Rattle.mu_model.specs.Placing.{IsNew}
+use Rattle.mu_model.specs.Room.{head_read, is_mark_candidate, lacks_room, last_head, reserve}
+use Rattle.mu_model.specs.Scores.{is_failed}
+use Rattle.mu_model.proofs.Basics.{event_by, or_true}
+use Rattle.mu_model.proofs.Scans.{all_at, each_all}
+use Rattle.mu_lead.specs.declared.place.Place.{Place}
+use Rattle.mu_lead.specs.Beside.{OthersKeep, is_beside, leads_at}
+use Rattle.mu_lead.specs.Confirming.{AtEvidence, Fresh}
+use Rattle.mu_lead.specs.Leading.{end_of}
+use Rattle.mu_lead.specs.Offering.{MayBeMarked, Roomy, leaves_room}
+use Rattle.mu_lead.specs.Standing.{At}
+use Rattle.mu_lead.proofs.Keeping.{is_calm, leading_calm, leads_kept, source_calm}
+use Rattle.mu_lead.proofs.Looks.{head_event}
+use Rattle.mu_lead.proofs.Sights.{keeps_looks, shows_kept}
+use Rattle.mu_lead.proofs.Rooms.{higher}
+use Rattle.mu_lead.proofs.Tables.{head_kept, is_write, tables_kept}
+
+-- who may be marked still may
+marks_more : (c : Config) (r : ℕ) (e : Event) (mine : List Event) (candidate : Option ℕ) → begins_leadership r e ≡ false → known c r (e ∷ mine) ≡ known c r mine → MayBeMarked c r mine candidate → MayBeMarked c r (e ∷ mine) candidate
+marks_more c r e mine None goes_on same m = tt
+marks_more c r e mine (Some k) goes_on same m = record {
+  region = m.region;
+  other = m.other;
+  version = m.version;
+  unmarked = subst (λ values. marked c k values ≡ false) (sym same) m.unmarked;
+  stuck = subst (λ values. is_mark_candidate c r k (length values + reserve c) (e ∷ mine) ≡ true) (sym same)
+      (rw goes_on (or_true (lacks_room c (end_of c r mine + reserve c) (head_read r k e.by e.verb e.answer) && is_failed r k (e ∷ mine)) (is_mark_candidate c r k (end_of c r mine + reserve c) mine) m.stuck));
+}
+
+-- heads that leave room still do, since they never fall
+room_more : (c : Config) (r i free k : ℕ) (e : Event) (mine : List Event) → IsPossible c r (e ∷ mine) → known c r (e ∷ mine) ≡ known c r mine → leaves_room c r mine i free k ≡ true → leaves_room c r (e ∷ mine) i free k ≡ true
+room_more c r i free k e mine possible same is =
+    subst (λ values. (marked c k values || nat_lt (i + free) (last_head r k (e ∷ mine) + c.ring)) ≡ true) (sym same)
+    (higher (marked c k (known c r mine)) i free (last_head r k mine) (last_head r k (e ∷ mine)) c.ring (head_kept c r k e mine possible) is)
+
+roomy_more : (c : Config) (r n : ℕ) (e : Event) (mine : List Event) (candidate : Option ℕ) → IsPossible c r (e ∷ mine) → begins_leadership r e ≡ false → known c r (e ∷ mine) ≡ known c r mine → Roomy c r mine n candidate → Roomy c r (e ∷ mine) n candidate
+roomy_more c r n e mine candidate possible goes_on same l =
+    let long = ap length same in
+    record {
+      within = (let low = l.within in omega (arith, low, long));
+      lacks = subst (λ values. holds_all c values ≡ false) (sym same) l.lacks;
+      room = λ k low. subst (λ i. leaves_room c r (e ∷ mine) i 0 k ≡ true) (sym long) (room_more c r (end_of c r mine) 0 k e mine possible same (l.room k low));
+      free = λ none k low. subst (λ i. leaves_room c r (e ∷ mine) i (reserve c) k ≡ true) (sym long) (room_more c r (end_of c r mine) (reserve c) k e mine possible same (l.free none k low));
+      marks = marks_more c r e mine candidate goes_on same l.marks;
+    }
+
+-- a mark that may be offered still may
+not_all : (n : ℕ) (f g : ℕ → Bool) → ((q : ℕ) → g q ≡ true → f q ≡ true) → not (all_below n f) ≡ true → not (all_below n g) ≡ true
+not_all n f g less is = go (all_below n g) refl
+  where
+    go : (t : Bool) → all_below n g ≡ t → not t ≡ true
+    go true all = absurd (true≢false (sym is ∙ ap not (each_all n f (λ q low. less q (all_at n g all q low)))))
+    go false all = refl
+
+mark_less : (a b d x y : Bool) → (y ≡ true → x ≡ true) → not (a && (b && (d && x))) ≡ true → not (a && (b && (d && y))) ≡ true
+mark_less true true true true y up is = absurd (true≢false (sym is))
+mark_less true true true false true up is = absurd (true≢false (sym (up refl)))
+mark_less true true true false false up is = refl
+mark_less true true false x y up is = refl
+mark_less true false d x y up is = refl
+mark_less false b d x y up is = refl
+
+picked_head : (c : Config) (r q h v : ℕ) (mine : List Event) (o : Option (ℕ × ℕ)) → pick c r mine v o ≡ true → pick c r (head_event r q h ∷ mine) v o ≡ true
+picked_head c r q h v mine (Some entry) is = is
+picked_head c r q h v mine None is = go (is_offer c r mine v) is
+  where
+    marked_more : is_mark_offer c r mine v ≡ true → is_mark_offer c r (head_event r q h ∷ mine) v ≡ true
+    marked_more is =
+        let parts = and_parts (v / 4096 == r) (not (all_below c.replicas (λ k. not (is_mark c k v && (not (k == r) && (not (marked c k (known c r mine)) && is_mark_candidate c r k (end_of c r mine + reserve c) mine)))))) is in
+        and_from (v / 4096 == r) (not (all_below c.replicas (λ k. not (is_mark c k v && (not (k == r) && (not (marked c k (known c r mine)) && is_mark_candidate c r k (end_of c r mine + reserve c) (head_event r q h ∷ mine))))))) parts.0
+        (not_all c.replicas (λ k. not (is_mark c k v && (not (k == r) && (not (marked c k (known c r mine)) && is_mark_candidate c r k (end_of c r mine + reserve c) mine)))) (λ k. not (is_mark c k v && (not (k == r) && (not (marked c k (known c r mine)) && is_mark_candidate c r k (end_of c r mine + reserve c) (head_event r q h ∷ mine)))))
+        (λ k none. mark_less (is_mark c k v) (not (k == r)) (not (marked c k (known c r mine))) (is_mark_candidate c r k (end_of c r mine + reserve c) (head_event r q h ∷ mine)) (is_mark_candidate c r k (end_of c r mine + reserve c) mine)
+        (λ old. or_true (lacks_room c (end_of c r mine + reserve c) (head_read r k r (Verb.Head q) (Answer.Number h)) && is_failed r k (head_event r q h ∷ mine)) (is_mark_candidate c r k (end_of c r mine + reserve c) mine) old) none) parts.1)
+
+    go : (t : Bool) → (t || is_mark_offer c r mine v) ≡ true → (t || is_mark_offer c r (head_event r q h ∷ mine) v) ≡ true
+    go true is = refl
+    go false is = marked_more is
+
+proposed_head : (c : Config) (r q h i v : ℕ) (mine : List Event) (o : Option ℕ) → may_propose c r mine i v o ≡ true → may_propose c r (head_event r q h ∷ mine) i v o ≡ true
+proposed_head c r q h i v mine (Some first) is = is
+proposed_head c r q h i v mine None is =
+    let parts = and_parts (all_below c.replicas (λ p. not (is_member r p mine) || is_some (last_look r p i mine))) (may_pick_at c r mine i v) is in
+    and_from (all_below c.replicas (λ p. not (is_member r p mine) || is_some (last_look r p i mine))) (may_pick_at c r (head_event r q h ∷ mine) i v) parts.0 (picked_head c r q h v mine (highest_accepted r i mine c.replicas) parts.1)
+
+-- a new value may be put after a head that was read in between
+new_head : (c : Config) (r q h i v : ℕ) (mine : List Event) → IsPossible c r (head_event r q h ∷ mine) → IsNew c r mine i v → IsNew c r (head_event r q h ∷ mine) i v
+new_head c r q h i v mine possible n = record {
+  next = n.next;
+  room = each_all c.replicas (leaves_room c r (head_event r q h ∷ mine) i 0) (λ k low. room_more c r i 0 k (head_event r q h) mine possible refl (all_at c.replicas (leaves_room c r mine i 0) n.room k low));
+  reserve_kept = λ fresh. each_all c.replicas (leaves_room c r (head_event r q h ∷ mine) i (reserve c)) (λ k low. room_more c r i (reserve c) k (head_event r q h) mine possible refl (all_at c.replicas (leaves_room c r mine i (reserve c)) (n.reserve_kept fresh) k low));
+  none_past = n.none_past;
+  value = proposed_head c r q h i v mine (first_value r i mine) n.value;
+}
+
+fresh_beside : (c : Config) (r : ℕ) (verb : Verb) (answer : Answer) (mine : List Event) → is_beside false verb ≡ true → Fresh r mine → Fresh r (event_by r verb answer ∷ mine)
+fresh_beside c r (Verb.Ask q) answer mine beside h = absurd (true≢false (sym beside))
+fresh_beside c r (Verb.Fence q) answer mine beside h = absurd (true≢false (sym beside))
+fresh_beside c r (Verb.Min q) answer mine beside h = absurd (true≢false (sym beside))
+fresh_beside c r (Verb.Enter q t) answer mine beside h = absurd (true≢false (sym beside))
+fresh_beside c r (Verb.PutMin q n) answer mine beside h = absurd (true≢false (sym beside))
+fresh_beside c r (Verb.PutSlot q i n v) answer mine beside h = absurd (true≢false (sym beside))
+fresh_beside c r (Verb.WriteRow j k x) answer mine beside h = absurd (true≢false (sym beside))
+fresh_beside c r verb answer mine beside h = record { begun = h.begun; goes_on = h.goes_on; unnumbered = h.unnumbered; alone = h.alone; unput = h.unput }
+
+begun_beside : (c : Config) (r : ℕ) (verb : Verb) (answer : Answer) (mine : List Event) (p : ℕ) → is_beside false verb ≡ true → AtEvidence c r mine p → AtEvidence c r (event_by r verb answer ∷ mine) p
+begun_beside c r (Verb.Ask q) answer mine p beside h = absurd (true≢false (sym beside))
+begun_beside c r (Verb.Fence q) answer mine p beside h = absurd (true≢false (sym beside))
+begun_beside c r (Verb.Min q) answer mine p beside h = absurd (true≢false (sym beside))
+begun_beside c r (Verb.Enter q t) answer mine p beside h = absurd (true≢false (sym beside))
+begun_beside c r (Verb.PutMin q n) answer mine p beside h = absurd (true≢false (sym beside))
+begun_beside c r (Verb.PutSlot q i n v) answer mine p beside h = absurd (true≢false (sym beside))
+begun_beside c r (Verb.WriteRow j k x) answer mine p beside h = absurd (true≢false (sym beside))
+begun_beside c r verb answer mine p beside h =
+    let m = h.missed in
+    record {
+      region = h.region;
+      begun = h.begun;
+      missed = record { since = event_by r verb answer ∷ m.since; put = m.put; before = m.before; is = ap (λ past. event_by r verb answer ∷ past) m.is; missed = m.missed; under = m.under };
+    }
+
+asked_beside : (c : Config) (r : ℕ) (verb : Verb) (answer : Answer) (mine : List Event) (p : ℕ) → is_beside false verb ≡ true → (newest (λ e. last_ask r e.by e.verb) mine ≡ Some p) → (newest (λ e. last_ask r e.by e.verb) (event_by r verb answer ∷ mine) ≡ Some p)
+asked_beside c r (Verb.Ask q) answer mine p beside h = absurd (true≢false (sym beside))
+asked_beside c r (Verb.Fence q) answer mine p beside h = absurd (true≢false (sym beside))
+asked_beside c r (Verb.Min q) answer mine p beside h = absurd (true≢false (sym beside))
+asked_beside c r (Verb.Enter q t) answer mine p beside h = absurd (true≢false (sym beside))
+asked_beside c r (Verb.PutMin q n) answer mine p beside h = absurd (true≢false (sym beside))
+asked_beside c r (Verb.PutSlot q i n v) answer mine p beside h = absurd (true≢false (sym beside))
+asked_beside c r (Verb.WriteRow j k x) answer mine p beside h = absurd (true≢false (sym beside))
+asked_beside c r verb answer mine p beside h = h
+
+number_beside : (c : Config) (r : ℕ) (verb : Verb) (answer : Answer) (mine : List Event) (b : ℕ) (o : Option ℕ) → is_beside true verb ≡ true → number_allowed r mine b o → number_allowed r (event_by r verb answer ∷ mine) b o
+number_beside c r (Verb.Ask q) answer mine b o beside h = absurd (true≢false (sym beside))
+number_beside c r (Verb.Fence q) answer mine b o beside h = absurd (true≢false (sym beside))
+number_beside c r (Verb.Min q) answer mine b o beside h = absurd (true≢false (sym beside))
+number_beside c r (Verb.Enter q t) answer mine b o beside h = absurd (true≢false (sym beside))
+number_beside c r (Verb.PutMin q n) answer mine b o beside h = absurd (true≢false (sym beside))
+number_beside c r (Verb.PutSlot q i n v) answer mine b o beside h = absurd (true≢false (sym beside))
+number_beside c r (Verb.WriteRow j k x) answer mine b o beside h = absurd (true≢false (sym beside))
+number_beside c r (Verb.Fuo q) answer mine b o beside h = absurd (true≢false (sym beside))
+number_beside c r (Verb.Look q i) answer mine b o beside h = absurd (true≢false (sym beside))
+number_beside c r verb answer mine b None beside h = h
+number_beside c r verb answer mine b (Some x) beside h = h
+
+new_beside : (c : Config) (r : ℕ) (verb : Verb) (answer : Answer) (mine : List Event) (i v : ℕ) → is_beside true verb ≡ true → IsPossible c r (event_by r verb answer ∷ mine) → IsNew c r mine i v → IsNew c r (event_by r verb answer ∷ mine) i v
+new_beside c r (Verb.Ask q) answer mine i v beside possible n = absurd (true≢false (sym beside))
+new_beside c r (Verb.Fence q) answer mine i v beside possible n = absurd (true≢false (sym beside))
+new_beside c r (Verb.Min q) answer mine i v beside possible n = absurd (true≢false (sym beside))
+new_beside c r (Verb.Enter q t) answer mine i v beside possible n = absurd (true≢false (sym beside))
+new_beside c r (Verb.PutMin q m) answer mine i v beside possible n = absurd (true≢false (sym beside))
+new_beside c r (Verb.PutSlot q u m w) answer mine i v beside possible n = absurd (true≢false (sym beside))
+new_beside c r (Verb.WriteRow j k x) answer mine i v beside possible n = absurd (true≢false (sym beside))
+new_beside c r (Verb.Fuo q) answer mine i v beside possible n = absurd (true≢false (sym beside))
+new_beside c r (Verb.Look q u) answer mine i v beside possible n = absurd (true≢false (sym beside))
+new_beside c r (Verb.Head q) (Answer.Number h) mine i v beside possible n = new_head c r q h i v mine possible n
+new_beside c r verb answer mine i v beside possible n = record { next = n.next; room = n.room; reserve_kept = n.reserve_kept; none_past = n.none_past; value = n.value }
+
+keeps_beside : (verb : Verb) → is_beside true verb ≡ true → keeps_looks verb ≡ true
+keeps_beside (Verb.Ask q) beside = absurd (true≢false (sym beside))
+keeps_beside (Verb.PutMin q n) beside = absurd (true≢false (sym beside))
+keeps_beside (Verb.Look q i) beside = absurd (true≢false (sym beside))
+keeps_beside verb beside = refl
+
+-- while the replica leads
+at_on : (c : Config) (r b : ℕ) (verb : Verb) (answer : Answer) (mine : List Event) (up : List ℕ) (reach : List (Option ℕ)) (written : List ℕ) (place : Place) → leads_at place ≡ true → is_beside true verb ≡ true → IsPossible c r (event_by r verb answer ∷ mine) → At c r b mine up reach written place → At c r b (event_by r verb answer ∷ mine) up reach written place
+at_on c r b (Verb.Ask q) answer mine up reach written place leading beside possible at = absurd (true≢false (sym beside))
+at_on c r b (Verb.Fence q) answer mine up reach written place leading beside possible at = absurd (true≢false (sym beside))
+at_on c r b (Verb.Min q) answer mine up reach written place leading beside possible at = absurd (true≢false (sym beside))
+at_on c r b (Verb.Enter q t) answer mine up reach written place leading beside possible at = absurd (true≢false (sym beside))
+at_on c r b (Verb.PutMin q n) answer mine up reach written place leading beside possible at = absurd (true≢false (sym beside))
+at_on c r b (Verb.PutSlot q i n v) answer mine up reach written place leading beside possible at = absurd (true≢false (sym beside))
+at_on c r b (Verb.WriteRow j k x) answer mine up reach written place leading beside possible at = absurd (true≢false (sym beside))
+at_on c r b (Verb.Fuo q) answer mine up reach written place leading beside possible at = absurd (true≢false (sym beside))
+at_on c r b (Verb.Look q i) answer mine up reach written place leading beside possible at = absurd (true≢false (sym beside))
+at_on c r b verb answer mine up reach written (Place.ReadMin p) leading beside possible at = record { region = at.region; granted = at.granted; telling = record { fresh = record { begun = at.telling.fresh.begun; goes_on = at.telling.fresh.goes_on; unnumbered = at.telling.fresh.unnumbered; alone = at.telling.fresh.alone; unput = at.telling.fresh.unput }; confirmed = record { own = at.telling.confirmed.own; many = at.telling.confirmed.many }; told = at.telling.told; low = at.telling.low } }
+at_on c r b verb answer mine up reach written (Place.EnterMin p) leading beside possible at = record { region = at.region; granted = at.granted; numbered = record { begun = at.numbered.begun; goes_on = at.numbered.goes_on; allowed = number_beside c r verb answer mine b (proposal_number r mine) beside at.numbered.allowed; confirmed = record { own = at.numbered.confirmed.own; many = at.numbered.confirmed.many }; told = at.numbered.told; low = at.numbered.low; unput = at.numbered.unput }; below = record { joined = at.below.joined; held = λ q region member. (let h = at.below.held q region member in record { grant = h.grant; noted = h.noted; joined = h.joined }) } }
+at_on c r b verb answer mine up reach written (Place.PutMin p) leading beside possible at = record { entering = record { region = at.entering.region; granted = at.entering.granted; numbered = record { begun = at.entering.numbered.begun; goes_on = at.entering.numbered.goes_on; allowed = number_beside c r verb answer mine b (proposal_number r mine) beside at.entering.numbered.allowed; confirmed = record { own = at.entering.numbered.confirmed.own; many = at.entering.numbered.confirmed.many }; told = at.entering.numbered.told; low = at.entering.numbered.low; unput = at.entering.numbered.unput }; below = record { joined = at.entering.below.joined; held = λ q region member. (let h = at.entering.below.held q region member in record { grant = h.grant; noted = h.noted; joined = h.joined }) } }; entered = at.entered; under = at.under }
+at_on c r b verb answer mine up reach written (Place.ReadFuo p source) leading beside possible at = record { region = at.region; member = at.member; leads = leads_kept c r b r verb answer mine refl at.leads; raised = at.raised; from = source_calm c r r verb answer mine source refl at.from }
+at_on c r b verb answer mine up reach written (Place.Learn p) leading beside possible at = record { region = at.region; member = at.member; leads = leads_kept c r b r verb answer mine refl at.leads; raised = at.raised; lacks = at.lacks }
+at_on c r b verb answer mine up reach written (Place.WidenBehind p on) leading beside possible at = record { behind = record { region = at.behind.region; member = at.behind.member; leads = leads_kept c r b r verb answer mine refl at.behind.leads; raised = at.behind.raised; have = at.behind.have }; lacks = at.lacks }
+at_on c r b verb answer mine up reach written (Place.LookBehind p on) leading beside possible at = record { behind = record { region = at.behind.region; member = at.behind.member; leads = leads_kept c r b r verb answer mine refl at.behind.leads; raised = at.behind.raised; have = at.behind.have }; lacks = at.lacks; near = at.near }
+at_on c r b verb answer mine up reach written (Place.EnterBehind p on) leading beside possible at = record { near = record { behind = record { region = at.near.behind.region; member = at.near.behind.member; leads = leads_kept c r b r verb answer mine refl at.near.behind.leads; raised = at.near.behind.raised; have = at.near.behind.have }; lacks = at.near.lacks; near = at.near.near }; looked = rw at.near.behind.member at.looked }
+at_on c r b verb answer mine up reach written (Place.PutBehind p on) leading beside possible at = record { near = record { behind = record { region = at.near.behind.region; member = at.near.behind.member; leads = leads_kept c r b r verb answer mine refl at.near.behind.leads; raised = at.near.behind.raised; have = at.near.behind.have }; lacks = at.near.lacks; near = at.near.near }; entered = at.entered; under = at.under; looked = rw at.near.behind.member at.looked }
+at_on c r b verb answer mine up reach written (Place.RaiseBehind p on) leading beside possible at = record { behind = record { region = at.behind.region; member = at.behind.member; leads = leads_kept c r b r verb answer mine refl at.behind.leads; raised = at.behind.raised; have = at.behind.have }; done = at.done }
+at_on c r b verb answer mine up reach written (Place.FenceBehind p on) leading beside possible at = record { behind = record { region = at.behind.region; member = at.behind.member; leads = leads_kept c r b r verb answer mine refl at.behind.leads; raised = at.behind.raised; have = at.behind.have }; lacks = at.lacks; near = at.near }
+at_on c r b verb answer mine up reach written (Place.LateFence p) leading beside possible at = record { region = at.region; stranger = at.stranger; level = record { leads = leads_kept c r b r verb answer mine refl at.level.leads; have = at.level.have; raised = at.level.raised } }
+at_on c r b verb answer mine up reach written (Place.LateMin p) leading beside possible at = record { late = record { region = at.late.region; stranger = at.late.stranger; level = record { leads = leads_kept c r b r verb answer mine refl at.late.level.leads; have = at.late.level.have; raised = at.late.level.raised } }; granted = at.granted }
+at_on c r b verb answer mine up reach written (Place.LateFuo p) leading beside possible at = record { late = record { region = at.late.region; stranger = at.late.stranger; level = record { leads = leads_kept c r b r verb answer mine refl at.late.level.leads; have = at.late.level.have; raised = at.late.level.raised } }; granted = at.granted; told = at.told; low = at.low }
+at_on c r b verb answer mine up reach written (Place.LateEnter p) leading beside possible at = record { told = record { late = record { region = at.told.late.region; stranger = at.told.late.stranger; level = record { leads = leads_kept c r b r verb answer mine refl at.told.late.level.leads; have = at.told.late.level.have; raised = at.told.late.level.raised } }; granted = at.told.granted; told = at.told.told; low = at.told.low }; short = at.short; raised = at.raised }
+at_on c r b verb answer mine up reach written (Place.LatePut p) leading beside possible at = record { entering = record { told = record { late = record { region = at.entering.told.late.region; stranger = at.entering.told.late.stranger; level = record { leads = leads_kept c r b r verb answer mine refl at.entering.told.late.level.leads; have = at.entering.told.late.level.have; raised = at.entering.told.late.level.raised } }; granted = at.entering.told.granted; told = at.entering.told.told; low = at.entering.told.low }; short = at.entering.short; raised = at.entering.raised }; entered = at.entered; under = at.under }
+at_on c r b verb answer mine up reach written (Place.ReadHead p candidate) leading beside possible at = record { region = at.region; unmarked = at.unmarked; level = record { leads = leads_kept c r b r verb answer mine refl at.level.leads; have = at.level.have; raised = at.level.raised }; roomy = roomy_more c r p (event_by r verb answer) mine candidate possible refl refl at.roomy }
+at_on c r b verb answer mine up reach written (Place.Look p u candidate best) leading beside possible at = record { region = at.region; member = at.member; position = at.position; looking = record { level = record { leads = leads_kept c r b r verb answer mine refl at.looking.level.leads; have = at.looking.level.have; raised = at.looking.level.raised }; roomy = roomy_more c r c.replicas (event_by r verb answer) mine candidate possible refl refl at.looking.roomy; looked = λ q low member. (let d = at.looking.looked q low member in record { good = rw member d.good; last = d.last; clear = d.clear; empty = d.empty }); shows = at.looking.shows } }
+at_on c r b verb answer mine up reach written (Place.Write u last offer) leading beside possible at = (let w = at.0.writing in (record { writing = record { looking = record { level = record { leads = leads_kept c r b r verb answer mine refl w.looking.level.leads; have = w.looking.level.have; raised = w.looking.level.raised }; roomy = roomy_more c r c.replicas (event_by r verb answer) mine None possible refl refl w.looking.roomy; looked = λ q low member. (let d = w.looking.looked q low member in record { good = rw member d.good; last = d.last; clear = d.clear; empty = d.empty }); shows = w.looking.shows }; first = w.first; value = w.value; own = w.own; batch = record { batch = w.batch.batch; row = w.batch.row; next = w.batch.next }; last_row = w.last_row; from = w.from; to = w.to; below = w.below }; inside = at.0.inside }, at.1))
+at_on c r b verb answer mine up reach written (Place.Enter p offer) leading beside possible at = (record { region = at.0.region; member = at.0.member; offering = record { begun = at.0.offering.begun; goes_on = at.0.offering.goes_on; numbered = at.0.offering.numbered; carried = at.0.offering.carried; held = λ q region member. (let h = at.0.offering.held q region member in record { grant = h.grant; noted = h.noted; joined = h.joined }); have = at.0.offering.have; raised = at.0.offering.raised; within = at.0.offering.within; new = new_beside c r verb answer mine (end_of c r mine) offer.value beside possible at.0.offering.new; below = at.0.offering.below; above = at.0.offering.above; unput = at.0.offering.unput }; looked = λ q more region member. rw member (at.0.looked q more region member) }, shows_kept c r (end_of c r mine) r verb answer mine offer.adopted (keeps_beside verb beside) at.1)
+at_on c r b verb answer mine up reach written (Place.Put p offer) leading beside possible at = (record { entering = record { region = at.0.entering.region; member = at.0.entering.member; offering = record { begun = at.0.entering.offering.begun; goes_on = at.0.entering.offering.goes_on; numbered = at.0.entering.offering.numbered; carried = at.0.entering.offering.carried; held = λ q region member. (let h = at.0.entering.offering.held q region member in record { grant = h.grant; noted = h.noted; joined = h.joined }); have = at.0.entering.offering.have; raised = at.0.entering.offering.raised; within = at.0.entering.offering.within; new = new_beside c r verb answer mine (end_of c r mine) offer.value beside possible at.0.entering.offering.new; below = at.0.entering.offering.below; above = at.0.entering.offering.above; unput = at.0.entering.offering.unput }; looked = λ q more region member. rw member (at.0.entering.looked q more region member) }; entered = at.0.entered; under = at.0.under; looked_before = rw at.0.entering.member at.0.looked_before }, shows_kept c r (end_of c r mine) r verb answer mine offer.adopted (keeps_beside verb beside) at.1)
+at_on c r b verb answer mine up reach written (Place.Raise p) leading beside possible at = record { region = at.region; member = at.member; leads = leads_kept c r b r verb answer mine refl at.leads; have = at.have; raised = at.raised }
+at_on c r b verb answer mine up reach written Place.Outrun leading beside possible at = record { region = at.region; within = at.within; member = at.member; past = at.past }
+at_on c r b verb answer mine up reach written Place.Rest leading beside possible at = record { all = at.all; members = at.members }
+at_on c r b verb answer mine up reach written (Place.Ask p) leading beside possible at = absurd (true≢false (sym leading))
+at_on c r b verb answer mine up reach written (Place.Confirm round p) leading beside possible at = absurd (true≢false (sym leading))
+at_on c r b verb answer mine up reach written (Place.Evidence p) leading beside possible at = absurd (true≢false (sym leading))
+
+-- while it does not
+at_off : (c : Config) (r b : ℕ) (verb : Verb) (answer : Answer) (mine : List Event) (up : List ℕ) (reach : List (Option ℕ)) (written : List ℕ) (place : Place) → leads_at place ≡ false → is_beside false verb ≡ true → At c r b mine up reach written place → At c r b (event_by r verb answer ∷ mine) up reach written place
+at_off c r b verb answer mine up reach written (Place.Ask p) leading beside at = record {
+  region = at.region;
+  asked = elim at.asked [ inl first ↦ inl first | inr asked ↦ inr (asked_beside c r verb answer mine (p - 1) beside asked.0, fresh_beside c r verb answer mine beside asked.1) ];
+}
+at_off c r b verb answer mine up reach written (Place.Confirm round p) leading beside at = (at.0, record { region = at.1.region; fresh = fresh_beside c r verb answer mine beside at.1.fresh })
+at_off c r b verb answer mine up reach written (Place.Evidence p) leading beside at = begun_beside c r verb answer mine p beside at
+at_off c r b verb answer mine up reach written place leading beside at = absurd (true≢false leading)
+
+calm_beside : (leading : Bool) (verb : Verb) → is_beside leading verb ≡ true → is_calm verb ≡ true
+calm_beside leading (Verb.Ask q) beside = absurd (true≢false (sym beside))
+calm_beside leading (Verb.Fence q) beside = absurd (true≢false (sym beside))
+calm_beside leading (Verb.Min q) beside = absurd (true≢false (sym beside))
+calm_beside leading (Verb.Enter q t) beside = absurd (true≢false (sym beside))
+calm_beside leading (Verb.PutMin q n) beside = absurd (true≢false (sym beside))
+calm_beside leading (Verb.PutSlot q i n v) beside = absurd (true≢false (sym beside))
+calm_beside leading (Verb.WriteRow j k x) beside = absurd (true≢false (sym beside))
+calm_beside leading verb beside = refl
+
+begins_none : (leading : Bool) (r : ℕ) (verb : Verb) (answer : Answer) → is_beside leading verb ≡ true → begins_leadership r (event_by r verb answer) ≡ false
+begins_none leading r (Verb.Ask q) answer beside = absurd (true≢false (sym beside))
+begins_none leading r verb answer beside = refl
+
+writes_none : (leading : Bool) (verb : Verb) → is_beside leading verb ≡ true → is_write verb ≡ false
+writes_none leading (Verb.WriteRow j k x) beside = absurd (true≢false (sym beside))
+writes_none leading verb beside = refl
+
+pub others_keep_law : OthersKeep
+others_keep_law mine lead verb answer beside possible s = record {
+  config = s.config;
+  inside = s.inside;
+  leading = leading_calm lead.id lead.id verb answer mine lead.leading (calm_beside (leads_at lead.place) verb beside) s.leading;
+  tables = tables_kept lead.config lead.id (event_by lead.id verb answer) mine lead.up lead.reach lead.heads lead.written.items possible (begins_none (leads_at lead.place) lead.id verb answer beside) (writes_none (leads_at lead.place) verb beside) s.tables;
+  at = go (leads_at lead.place) refl beside;
+}
+  where
+    go : (t : Bool) → leads_at lead.place ≡ t → is_beside t verb ≡ true → At lead.config lead.id lead.number (event_by lead.id verb answer ∷ mine) lead.up lead.reach lead.written.items lead.place
+    go true leading beside = at_on lead.config lead.id lead.number verb answer mine lead.up lead.reach lead.written.items lead.place leading beside possible s.at
+    go false leading beside = at_off lead.config lead.id lead.number verb answer mine lead.up lead.reach lead.written.items lead.place leading beside s.at

@@ -1,0 +1,422 @@
+-- When each note comes, place by place.
+use Rattle.std.proofs.Common.{Bool, List, None, Some, [], ap, arith, false, get_or, inl, cond, inr, length, length-append, min, refl, subst, sym, true, true≢false, ℕ, ◌%◌, ◌&&◌, ◌++◌, ◌+◌, ◌-◌, ◌<◌, ◌==◌, ◌∙◌, ◌∷◌, ◌≡◌, ◌≤◌}
+use Rattle.std.specs.Prelude.{if◌then◌else◌, nat_lt, not, ◌⊎◌}
+use Rattle.std.specs.declared.option.Option.{Option}
+use Rattle.std.proofs.lemmas.Bool.{eqb-true, le-ltb, lt-ltb, ltb-false, ltb-true}
+use Rattle.std.proofs.lemmas.Option.{slice_get_past}
+use Rattle.std.specs.List.{slice_get}
+use Rattle.mu_agree.proofs.Landings.{greatest_since}
+use Rattle.mu_agree.proofs.Readings.{parts_count_law}
+use Rattle.mu_model.specs.declared.config.Config.{Config}
+use Rattle.mu_model.specs.declared.event.Answer.{Answer}
+use Rattle.mu_model.specs.declared.event.Event.{Event}
+use Rattle.mu_model.specs.declared.event.Fence.{Fence}
+use Rattle.mu_model.specs.declared.event.Target.{Target}
+use Rattle.mu_model.specs.declared.event.Verb.{Verb}
+use Rattle.mu_model.specs.Contents.{IsConfig, config_word, marked, row_count}
+use Rattle.mu_model.specs.Histories.{has}
+use Rattle.mu_model.specs.Knowledge.{entry_seen, fuo_read, greatest_fuo_read, grown, is_known_decided, known, learnt_by}
+use Rattle.mu_model.specs.Leaderships.{begins_leadership, is_above, leadership, proposal_number}
+use Rattle.mu_model.specs.Parts.{IsPossible}
+use Rattle.mu_model.specs.Picks.{is_past}
+use Rattle.mu_model.specs.Placing.{is_caught_up_at, is_known_put}
+use Rattle.mu_model.specs.Room.{reserve}
+use Rattle.mu_model.specs.Scores.{is_failed}
+use Rattle.mu_model.proofs.Basics.{event_by, none_some, same_number, same_some, true_or}
+use Rattle.mu_model.proofs.Lists.{get_push_here}
+use Rattle.mu_lead.specs.declared.lead.Lead.{Lead}
+use Rattle.mu_lead.specs.declared.note.AbortCause.{AbortCause}
+use Rattle.mu_lead.specs.declared.note.Note.{Note}
+use Rattle.mu_lead.specs.declared.place.Place.{Place}
+use Rattle.mu_lead.specs.declared.place.Then.{Then}
+use Rattle.mu_lead.specs.Leading.{end_of}
+use Rattle.mu_lead.specs.Notes.{note_of_head}
+use Rattle.mu_lead.specs.Saying.{EndsJoining, MayMark, NotesAt, NotesDue, NotesHead, NotesJoin, SaysReads, Teaches, is_working, is_working_or_lost, note_of_learning, note_of_look, value_seen}
+use Rattle.mu_lead.specs.Standing.{HasHeeded, HoldsAt, StandsFor, known_told, verb_at, verb_of}
+use Rattle.mu_leading.proofs.Within.{known_few}
+use Rattle.mu_agree.proofs.Possible.{parts_shorten_law}
+use Rattle.mu_lead.proofs.Bringing.{config_small, look_known}
+use Rattle.mu_lead.proofs.NoteKinds.{apart, is_head, is_higher, is_joined, is_learnt, is_look, is_min, is_no_room, lost_apart, may_join, none_higher, none_joined, none_learnt, none_room, not_head, not_join, not_look, not_min, put_apart, round_apart, says_none, says_working}
+use Rattle.mu_lead.proofs.Replies.{enters_or, puts_min_or, sees_fence, tells_head, tells_min}
+
+-- an `Enter` is noted as a lost region at most
+pub enter_apart : (c : Config) (r p : ℕ) (t : Target) (answer : Answer) (mine : List Event) (note : Note) → IsPossible c r (event_by r (Verb.Enter p t) answer ∷ mine) → (answer ≡ Answer.Entered → note ≡ Note.Working) × ((f : Fence) → answer ≡ Answer.Lost f → note ≡ Note.Aborted (AbortCause.Lost p f))
+    → is_working_or_lost note ≡ true
+enter_apart c r p t answer mine note possible notes = elim (enters_or c r p t answer mine possible) [
+  | inl entered ↦ ap is_working_or_lost (notes.0 entered)
+  | inr lost ↦ ap is_working_or_lost (notes.1 lost.0 lost.1)
+]
+
+-- a minimum that is read is small
+pub min_small : (c : Config) (r p x : ℕ) (mine : List Event) → IsConfig c → IsPossible c r (event_by r (Verb.Min p) (Answer.Number x) ∷ mine) → x < 4294967296
+min_small c r p x mine config possible = let counts = (parts_count_law c r _ config possible).0 in let low = rw (same_number r) at counts in omega (arith, low)
+
+same_asked : (p q : ℕ) → Verb.Min p ≡ Verb.Min q → p ≡ q
+same_asked p q is = cc
+
+same_read : (p q : ℕ) → Verb.Head p ≡ Verb.Head q → p ≡ q
+same_read p q is = cc
+
+same_told : (x y : ℕ) → Answer.Number x ≡ Answer.Number y → x ≡ y
+same_told x y is = cc
+
+same_higher : (p q x y : ℕ) → Note.Aborted (AbortCause.Higher p x) ≡ Note.Aborted (AbortCause.Higher q y) → (p ≡ q) × (x ≡ y)
+same_higher p q x y is = (cc, cc)
+
+same_room : (p q x y i j : ℕ) → Note.NoRoom p x i ≡ Note.NoRoom q y j → (p ≡ q) × (x ≡ y) × (i ≡ j)
+same_room p q x y i j is = (cc, cc, cc)
+
+same_joined : (p q : ℕ) → Note.Joined p ≡ Note.Joined q → p ≡ q
+same_joined p q is = cc
+
+-- a minimum read before the number is picked is above no number
+says_first_min : (c : Config) (r q : ℕ) (mine : List Event) (up : List ℕ) (place : Place) (answer : Answer) (note : Note) → proposal_number r mine ≡ None → may_join place ≡ false → note ≡ Note.Working → SaysReads c r mine up place (Verb.Min q) answer note
+says_first_min c r q mine up place answer note none join is = record {
+  higher = none_higher r mine (Verb.Min q) answer note (ap is_higher is) (λ p m shows. true≢false (sym shows.above ∙ ap (λ o. is_above o m) none));
+  no_room = none_room c r mine (Verb.Min q) answer note (ap is_no_room is) (not_head c r mine (Verb.Min q) answer refl);
+  learnt = none_learnt c r mine (Verb.Min q) answer note (ap is_learnt is) (not_look c r mine (Verb.Min q) answer refl);
+  joined = none_joined c r mine up place answer note (ap is_joined is) (not_join c r mine up place answer join);
+}
+
+-- a late follower's minimum
+says_late_min : (c : Config) (r b q x : ℕ) (mine : List Event) (up : List ℕ) (place : Place) (answer : Answer) (note : Note) → answer ≡ Answer.Number x → proposal_number r mine ≡ Some b → may_join place ≡ false → (t : Bool) → nat_lt b x ≡ t → note ≡ (if t then Note.Aborted (AbortCause.Higher q x) else Note.Working) → SaysReads c r mine up place (Verb.Min q) answer note
+says_late_min c r b q x mine up place answer note told number join true above is = record {
+  higher = λ p m. (
+    (λ shows. let same = same_higher q p x m (sym is ∙ shows) in record { asked = ap Verb.Min same.0; told = told ∙ ap Answer.Number same.1; above = ap (λ o. is_above o m) number ∙ ap (nat_lt b) (sym same.1) ∙ above }),
+    (λ shows. is ∙ ap (λ k. Note.Aborted (AbortCause.Higher k x)) (same_asked q p shows.asked) ∙ ap (λ k. Note.Aborted (AbortCause.Higher p k)) (same_told x m (sym told ∙ shows.told))),
+  );
+  no_room = none_room c r mine (Verb.Min q) answer note (ap is_no_room is) (not_head c r mine (Verb.Min q) answer refl);
+  learnt = none_learnt c r mine (Verb.Min q) answer note (ap is_learnt is) (not_look c r mine (Verb.Min q) answer refl);
+  joined = none_joined c r mine up place answer note (ap is_joined is) (not_join c r mine up place answer join);
+}
+says_late_min c r b q x mine up place answer note told number join false above is = record {
+  higher = none_higher r mine (Verb.Min q) answer note (ap is_higher is) (λ p m shows. true≢false (sym shows.above ∙ ap (λ o. is_above o m) number ∙ ap (nat_lt b) (sym (same_told x m (sym told ∙ shows.told))) ∙ above));
+  no_room = none_room c r mine (Verb.Min q) answer note (ap is_no_room is) (not_head c r mine (Verb.Min q) answer refl);
+  learnt = none_learnt c r mine (Verb.Min q) answer note (ap is_learnt is) (not_look c r mine (Verb.Min q) answer refl);
+  joined = none_joined c r mine up place answer note (ap is_joined is) (not_join c r mine up place answer join);
+}
+
+-- whether a replica may be marked, as it is computed
+marks_not : (c : Config) (r q x : ℕ) (mine : List Event) (failed : Bool) → failed ≡ is_failed r q mine → (not (q == r) && (failed && nat_lt (end_of c r mine + 0) (x + c.ring))) ≡ false → MayMark c r mine q x → ⊥
+marks_not c r q x mine failed same out may = true≢false (sym (all (q == r) failed (nat_lt (end_of c r mine + 0) (x + c.ring)) (ne (q == r) refl) (same ∙ may.failed) (lt-ltb (end_of c r mine + 0) (x + c.ring) (let low = may.above in omega (arith, low)))) ∙ out)
+  where
+    all : (a b d : Bool) → a ≡ false → b ≡ true → d ≡ true → (not a && (b && d)) ≡ true
+    all a b d x y z = rw (x, y, z) refl
+
+    ne : (t : Bool) → (q == r) ≡ t → (q == r) ≡ false
+    ne false is = is
+    ne true is = absurd (may.other (eqb-true q r is))
+
+marks_so : (c : Config) (r q x : ℕ) (mine : List Event) (failed : Bool) → failed ≡ is_failed r q mine → (not (q == r) && (failed && nat_lt (end_of c r mine + 0) (x + c.ring))) ≡ true → MayMark c r mine q x
+marks_so c r q x mine failed same holds = let a = all (q == r) failed (nat_lt (end_of c r mine + 0) (x + c.ring)) holds in record {
+  other = λ is. true≢false (sym (same_number r) ∙ ap (λ k. k == r) (sym is) ∙ a.0);
+  failed = sym same ∙ a.1;
+  above = let low = ltb-true (end_of c r mine + 0) (x + c.ring) a.2 in omega (arith, low);
+}
+  where
+    all : (a b d : Bool) → (not a && (b && d)) ≡ true → (a ≡ false) × (b ≡ true) × (d ≡ true)
+    all false true true is = (refl, refl, refl)
+    all true b d is = absurd (true≢false (sym is))
+    all false false d is = absurd (true≢false (sym is))
+    all false true false is = absurd (true≢false (sym is))
+
+-- a head
+says_head : (c : Config) (r q x : ℕ) (mine : List Event) (up : List ℕ) (place : Place) (answer : Answer) (note : Note) (failed : Bool) → answer ≡ Answer.Number x → failed ≡ is_failed r q mine → marked c q (known c r mine) ≡ false → end_of c r mine + reserve c < 65536 → may_join place ≡ false
+    → (room marks : Bool) → nat_lt (end_of c r mine + reserve c) (x + c.ring) ≡ room → (not (q == r) && (failed && nat_lt (end_of c r mine + 0) (x + c.ring))) ≡ marks → note ≡ note_of_head q (min x 65535) (end_of c r mine) room marks → SaysReads c r mine up place (Verb.Head q) answer note
+says_head c r q x mine up place answer note failed told same unmarked small join true marks room mark is = record {
+  higher = none_higher r mine (Verb.Head q) answer note (ap is_higher is) (not_min r mine (Verb.Head q) answer refl);
+  no_room = none_room c r mine (Verb.Head q) answer note (ap is_no_room is) (λ p h i shows. let low = shows.low in let high = ltb-true (end_of c r mine + reserve c) (x + c.ring) room in let here = same_told x h (sym told ∙ shows.told) in omega (arith, low, high, here));
+  learnt = none_learnt c r mine (Verb.Head q) answer note (ap is_learnt is) (not_look c r mine (Verb.Head q) answer refl);
+  joined = none_joined c r mine up place answer note (ap is_joined is) (not_join c r mine up place answer join);
+}
+says_head c r q x mine up place answer note failed told same unmarked small join false true room mark is = record {
+  higher = none_higher r mine (Verb.Head q) answer note (ap is_higher is) (not_min r mine (Verb.Head q) answer refl);
+  no_room = none_room c r mine (Verb.Head q) answer note (ap is_no_room is) (λ p h i shows. shows.unfit (subst (λ k. MayMark c r mine k h) (same_read q p shows.asked) (subst (MayMark c r mine q) (same_told x h (sym told ∙ shows.told)) (marks_so c r q x mine failed same mark))));
+  learnt = none_learnt c r mine (Verb.Head q) answer note (ap is_learnt is) (not_look c r mine (Verb.Head q) answer refl);
+  joined = none_joined c r mine up place answer note (ap is_joined is) (not_join c r mine up place answer join);
+}
+says_head c r q x mine up place answer note failed told same unmarked small join false false room mark is =
+    let low = ltb-false (end_of c r mine + reserve c) (x + c.ring) room in
+    let fits : min x 65535 ≡ x = omega (arith, low, small) in
+    let now : note ≡ Note.NoRoom q x (end_of c r mine) = is ∙ ap (λ h. Note.NoRoom q h (end_of c r mine)) fits in
+    record {
+      higher = none_higher r mine (Verb.Head q) answer note (ap is_higher is) (not_min r mine (Verb.Head q) answer refl);
+      no_room = λ p h i. (
+        (λ shows. let s = same_room q p x h (end_of c r mine) i (sym now ∙ shows) in record {
+          asked = ap Verb.Head s.0;
+          told = told ∙ ap Answer.Number s.1;
+          position = sym s.2;
+          unmarked = subst (λ k. marked c k (known c r mine) ≡ false) s.0 unmarked;
+          low = subst (λ k. k + c.ring ≤ end_of c r mine + reserve c) s.1 low;
+          unfit = subst (λ k. MayMark c r mine k h → ⊥) s.0 (subst (λ k. MayMark c r mine q k → ⊥) s.1 (marks_not c r q x mine failed same mark));
+        }),
+        (λ shows. now ∙ ap (λ k. Note.NoRoom k x (end_of c r mine)) (same_read q p shows.asked) ∙ ap (λ k. Note.NoRoom p k (end_of c r mine)) (same_told x h (sym told ∙ shows.told)) ∙ ap (Note.NoRoom p h) (sym shows.position)),
+      );
+      learnt = none_learnt c r mine (Verb.Head q) answer note (ap is_learnt is) (not_look c r mine (Verb.Head q) answer refl);
+      joined = none_joined c r mine up place answer note (ap is_joined is) (not_join c r mine up place answer join);
+    }
+
+same_raise : (p q : ℕ) (s t : Then) → Place.RaiseBehind p s ≡ Place.RaiseBehind q t → p ≡ q
+same_raise p q s t is = cc
+
+same_put : (p q : ℕ) → Place.LatePut p ≡ Place.LatePut q → p ≡ q
+same_put p q is = cc
+
+abbrev is_put : Place → Bool
+is_put (Place.LatePut p) = true
+is_put place = false
+
+-- the last step for a late follower
+says_raised : (c : Config) (r q u : ℕ) (mine : List Event) (up : List ℕ) (answer : Answer) (note : Note) → note ≡ Note.Joined q → SaysReads c r mine up (Place.RaiseBehind q Then.Joined) (Verb.RaiseFuo q u) answer note
+says_raised c r q u mine up answer note is = record {
+  higher = none_higher r mine (Verb.RaiseFuo q u) answer note (ap is_higher is) (not_min r mine (Verb.RaiseFuo q u) answer refl);
+  no_room = none_room c r mine (Verb.RaiseFuo q u) answer note (ap is_no_room is) (not_head c r mine (Verb.RaiseFuo q u) answer refl);
+  learnt = none_learnt c r mine (Verb.RaiseFuo q u) answer note (ap is_learnt is) (not_look c r mine (Verb.RaiseFuo q u) answer refl);
+  joined = λ p. ((λ same. inl (ap (λ k. Place.RaiseBehind k Then.Joined) (same_joined q p (sym is ∙ same)))), (λ ends. is ∙ ap Note.Joined (go p ends)));
+}
+  where
+    go : (p : ℕ) → EndsJoining c r mine up (Place.RaiseBehind q Then.Joined) answer p → q ≡ p
+    go p (inl raised) = same_raise q p Then.Joined Then.Joined raised
+    go p (inr put) = absurd (apart is_put (Place.RaiseBehind q Then.Joined) (Place.LatePut p) refl refl put.0)
+
+abbrev is_done : Answer → Bool
+is_done Answer.Done = true
+is_done answer = false
+
+-- the put that makes a late follower a member
+says_put : (c : Config) (r q b : ℕ) (mine : List Event) (up : List ℕ) (answer : Answer) (note : Note) → ((answer ≡ Answer.Done) ⊎ (answer ≡ Answer.Missed)) → (t : Bool) → nat_lt (get_or up q 0) (end_of c r mine) ≡ t → NotesJoin q t answer note → SaysReads c r mine up (Place.LatePut q) (Verb.PutMin q b) answer note
+says_put c r q b mine up answer note (inr missed) t lacks notes =
+    let is = notes.1 missed in
+    record {
+      higher = none_higher r mine (Verb.PutMin q b) answer note (ap is_higher is) (not_min r mine (Verb.PutMin q b) answer refl);
+      no_room = none_room c r mine (Verb.PutMin q b) answer note (ap is_no_room is) (not_head c r mine (Verb.PutMin q b) answer refl);
+      learnt = none_learnt c r mine (Verb.PutMin q b) answer note (ap is_learnt is) (not_look c r mine (Verb.PutMin q b) answer refl);
+      joined = none_joined c r mine up (Place.LatePut q) answer note (ap is_joined is) go;
+    }
+  where
+    go : (p : ℕ) → EndsJoining c r mine up (Place.LatePut q) answer p → ⊥
+    go p (inl raised) = apart is_put (Place.RaiseBehind p Then.Joined) (Place.LatePut q) refl refl (sym raised)
+    go p (inr put) = apart is_done answer Answer.Done (ap is_done missed) refl put.1
+says_put c r q b mine up answer note (inl done) true lacks notes =
+    let is = notes.0 done in
+    record {
+      higher = none_higher r mine (Verb.PutMin q b) answer note (ap is_higher is) (not_min r mine (Verb.PutMin q b) answer refl);
+      no_room = none_room c r mine (Verb.PutMin q b) answer note (ap is_no_room is) (not_head c r mine (Verb.PutMin q b) answer refl);
+      learnt = none_learnt c r mine (Verb.PutMin q b) answer note (ap is_learnt is) (not_look c r mine (Verb.PutMin q b) answer refl);
+      joined = none_joined c r mine up (Place.LatePut q) answer note (ap is_joined is) go;
+    }
+  where
+    go : (p : ℕ) → EndsJoining c r mine up (Place.LatePut q) answer p → ⊥
+    go p (inl raised) = apart is_put (Place.RaiseBehind p Then.Joined) (Place.LatePut q) refl refl (sym raised)
+    go p (inr put) = let all = put.2 in let few = ltb-true (get_or up q 0) (end_of c r mine) lacks in let here = ap (λ k. get_or up k 0) (same_put q p put.0) in omega (arith, all, few, here)
+says_put c r q b mine up answer note (inl done) false lacks notes =
+    let is = notes.0 done in
+    record {
+      higher = none_higher r mine (Verb.PutMin q b) answer note (ap is_higher is) (not_min r mine (Verb.PutMin q b) answer refl);
+      no_room = none_room c r mine (Verb.PutMin q b) answer note (ap is_no_room is) (not_head c r mine (Verb.PutMin q b) answer refl);
+      learnt = none_learnt c r mine (Verb.PutMin q b) answer note (ap is_learnt is) (not_look c r mine (Verb.PutMin q b) answer refl);
+      joined = λ p. ((λ same. let here = same_joined q p (sym is ∙ same) in inr (ap Place.LatePut here, done, subst (λ k. end_of c r mine ≤ get_or up k 0) here (ltb-false (get_or up q 0) (end_of c r mine) lacks))), (λ ends. is ∙ ap Note.Joined (go p ends)));
+    }
+  where
+    go : (p : ℕ) → EndsJoining c r mine up (Place.LatePut q) answer p → q ≡ p
+    go p (inl raised) = absurd (apart is_put (Place.RaiseBehind p Then.Joined) (Place.LatePut q) refl refl (sym raised))
+    go p (inr put) = same_put q p put.0
+
+-- an `Enter` says nothing of these
+says_enter : (c : Config) (r p : ℕ) (t : Target) (mine : List Event) (up : List ℕ) (place : Place) (answer : Answer) (note : Note) → IsPossible c r (event_by r (Verb.Enter p t) answer ∷ mine) → (answer ≡ Answer.Entered → note ≡ Note.Working) × ((f : Fence) → answer ≡ Answer.Lost f → note ≡ Note.Aborted (AbortCause.Lost p f))
+    → may_join place ≡ false → SaysReads c r mine up place (Verb.Enter p t) answer note
+says_enter c r p t mine up place answer note possible notes join = let a = lost_apart note (enter_apart c r p t answer mine note possible notes) in says_none c r mine up place (Verb.Enter p t) answer note a.0 a.1 a.2 a.3 refl refl refl join
+
+-- positions with the reserve fit 16 bits
+pub spare : (c : Config) (r : ℕ) (mine : List Event) → IsConfig c → end_of c r mine < row_count c + reserve c → end_of c r mine + reserve c < 65536
+spare c r mine config within = let rows = config.few in let few = config.replicas.1 in let spare = at_most (c.version == 2) c.replicas in omega (arith, rows, few, spare, within)
+  where
+    at_most : (t : Bool) (n : ℕ) → (cond t n 0) ≤ n
+    at_most true n = omega arith
+    at_most false n = omega arith
+
+-- a list is not the same with one more
+pub grows_not : (xs : List ℕ) (v : ℕ) → xs ≡ xs ++ v ∷ [] → ⊥
+grows_not xs v is = let long = ap length is in let more = length-append xs (v ∷ []) in omega (arith, long, more)
+
+-- where nothing more is known, no look taught anything
+not_grown : (c : Config) (r : ℕ) (mine : List Event) (verb : Verb) (answer : Answer) → known c r (event_by r verb answer ∷ mine) ≡ known c r mine → (i v : ℕ) → Teaches c r mine verb answer i v → ⊥
+not_grown c r mine verb answer same i v teaches = grows_not (known c r mine) v (sym same ∙ teaches.grew)
+
+pub same_last : (xs : List ℕ) (v w : ℕ) → xs ++ v ∷ [] ≡ xs ++ w ∷ [] → v ≡ w
+same_last xs v w is = same_some v w (sym (get_push_here xs (length xs) v refl) ∙ ap (λ l. slice_get l (length xs)) is ∙ get_push_here xs (length xs) w refl)
+
+same_learnt : (i j v w : ℕ) → Note.Learnt i v ≡ Note.Learnt j w → (i ≡ j) × (v ≡ w)
+same_learnt i j v w is = (cc, cc)
+
+-- a look that taught nothing
+look_idle : (c : Config) (r p i : ℕ) (mine : List Event) (up : List ℕ) (place : Place) (answer : Answer) (note : Note) → may_join place ≡ false → note ≡ Note.Working → known c r (event_by r (Verb.Look p i) answer ∷ mine) ≡ known c r mine → SaysReads c r mine up place (Verb.Look p i) answer note
+look_idle c r p i mine up place answer note join is same = record {
+  higher = none_higher r mine (Verb.Look p i) answer note (ap is_higher is) (not_min r mine (Verb.Look p i) answer refl);
+  no_room = none_room c r mine (Verb.Look p i) answer note (ap is_no_room is) (not_head c r mine (Verb.Look p i) answer refl);
+  learnt = none_learnt c r mine (Verb.Look p i) answer note (ap is_learnt is) (not_grown c r mine (Verb.Look p i) answer same);
+  joined = none_joined c r mine up place answer note (ap is_joined is) (not_join c r mine up place answer join);
+}
+
+-- a look that taught a value
+look_taught : (c : Config) (r p i v : ℕ) (mine : List Event) (up : List ℕ) (place : Place) (answer : Answer) (note : Note) → may_join place ≡ false → i ≡ end_of c r mine → note ≡ Note.Learnt i v → known c r (event_by r (Verb.Look p i) answer ∷ mine) ≡ known c r mine ++ v ∷ [] → SaysReads c r mine up place (Verb.Look p i) answer note
+look_taught c r p i v mine up place answer note join here is grew = record {
+  higher = none_higher r mine (Verb.Look p i) answer note (ap is_higher is) (not_min r mine (Verb.Look p i) answer refl);
+  no_room = none_room c r mine (Verb.Look p i) answer note (ap is_no_room is) (not_head c r mine (Verb.Look p i) answer refl);
+  learnt = λ j w. (
+    (λ same. let s = same_learnt i j v w (sym is ∙ same) in record { region = p; looked = ap (Verb.Look p) s.0; position = sym s.0 ∙ here; grew = subst (λ x. known c r (event_by r (Verb.Look p i) answer ∷ mine) ≡ known c r mine ++ x ∷ []) s.1 grew }),
+    (λ teaches. is ∙ ap (λ k. Note.Learnt k v) (here ∙ sym teaches.position) ∙ ap (Note.Learnt j) (same_last (known c r mine) v w (sym grew ∙ teaches.grew))),
+  );
+  joined = none_joined c r mine up place answer note (ap is_joined is) (not_join c r mine up place answer join);
+}
+
+ands : (a b d : Bool) → (a && (b && (d && false))) ≡ false
+ands true true true = refl
+ands true true false = refl
+ands true false d = refl
+ands false b d = refl
+
+-- nothing known is put where nothing is known
+puts_nothing : (values : List ℕ) (r p j by : ℕ) (verb : Verb) (answer : Answer) → slice_get values j ≡ None → is_known_put values r p j by verb answer ≡ false
+puts_nothing values r p j by (Verb.PutSlot q i b v) Answer.Done none = rw none (ands (by == r) (q == p) (i == j))
+puts_nothing values r p j by verb answer none = refl
+
+none_put : (values : List ℕ) (r p j : ℕ) (xs : List Event) → slice_get values j ≡ None → has (λ e. is_known_put values r p j e.by e.verb e.answer) xs ≡ false
+none_put values r p j [] none = refl
+none_put values r p j (e ∷ xs) none = rw (puts_nothing values r p j e.by e.verb e.answer none) (none_put values r p j xs none)
+
+-- a region that is caught up beyond what is known told so by its FUO
+caught_decided : (c : Config) (r p : ℕ) (mine : List Event) → is_caught_up_at c r p mine (end_of c r mine) ≡ true → is_known_decided r mine p (end_of c r mine) ≡ true
+caught_decided c r p mine caught = true_or (nat_lt (end_of c r mine) (greatest_fuo_read r p mine)) ((p == r) && has (entry_seen r r (end_of c r mine + 1)) mine) (go (nat_lt (end_of c r mine) (greatest_fuo_read r p (leadership r mine))) refl)
+  where
+    more : nat_lt (end_of c r mine) (greatest_fuo_read r p (leadership r mine)) ≡ true → nat_lt (end_of c r mine) (greatest_fuo_read r p mine) ≡ true
+    more high = lt-ltb (end_of c r mine) (greatest_fuo_read r p mine) (let low = ltb-true (end_of c r mine) (greatest_fuo_read r p (leadership r mine)) high in let all = greatest_since (λ e. fuo_read r p e.by e.verb e.answer) (begins_leadership r) mine in omega (arith, low, all))
+
+    go : (t : Bool) → nat_lt (end_of c r mine) (greatest_fuo_read r p (leadership r mine)) ≡ t → nat_lt (end_of c r mine) (greatest_fuo_read r p mine) ≡ true
+    go true high = more high
+    go false low = absurd (true≢false (sym caught ∙ both low (none_put (known c r mine) r p (end_of c r mine) (leadership r mine) (slice_get_past (known c r mine) (end_of c r mine) (omega arith)))))
+      where
+        both : nat_lt (end_of c r mine) (greatest_fuo_read r p (leadership r mine)) ≡ false → has (λ e. is_known_put (known c r mine) r p (end_of c r mine) e.by e.verb e.answer) (leadership r mine) ≡ false → is_caught_up_at c r p mine (end_of c r mine) ≡ false
+        both x y = rw (x, y) refl
+
+-- an entry that is decided is learnt
+entry_taught : (c : Config) (r p b v : ℕ) (mine : List Event) → is_known_decided r mine p (end_of c r mine) ≡ true → known c r (event_by r (Verb.Look p (end_of c r mine)) (Answer.Entry b v) ∷ mine) ≡ known c r mine ++ v ∷ []
+entry_taught c r p b v mine decided = rw (same_number r, same_number (end_of c r mine), decided) refl
+
+one_more : (c : Config) (r : ℕ) (mine values : List ℕ) (v : ℕ) → values ≡ mine ++ v ∷ [] → length values - 1 ≡ length mine
+one_more c r mine values v is = let long = ap length is in let more = length-append mine (v ∷ []) in omega (arith, long, more)
+
+-- a look of the catching up
+learning : (c : Config) (r p : ℕ) (mine : List Event) (up values : List ℕ) (answer : Answer) (note : Note) → is_caught_up_at c r p mine (end_of c r mine) ≡ true → values ≡ known c r (event_by r (Verb.Look p (end_of c r mine)) answer ∷ mine) → note ≡ note_of_learning (length values) answer → SaysReads c r mine up (Place.Learn p) (Verb.Look p (end_of c r mine)) answer note
+learning c r p mine up values (Answer.Entry b v) note caught told is = let grew = entry_taught c r p b v mine (caught_decided c r p mine caught) in
+    look_taught c r p (end_of c r mine) v mine up (Place.Learn p) (Answer.Entry b v) note refl refl (is ∙ ap (λ n. Note.Learnt n v) (one_more c r (known c r mine) values v (told ∙ grew))) grew
+learning c r p mine up values Answer.Done note caught told is = look_idle c r p (end_of c r mine) mine up (Place.Learn p) Answer.Done note refl is refl
+learning c r p mine up values Answer.Missed note caught told is = look_idle c r p (end_of c r mine) mine up (Place.Learn p) Answer.Missed note refl is refl
+learning c r p mine up values Answer.Entered note caught told is = look_idle c r p (end_of c r mine) mine up (Place.Learn p) Answer.Entered note refl is refl
+learning c r p mine up values (Answer.Lost f) note caught told is = look_idle c r p (end_of c r mine) mine up (Place.Learn p) (Answer.Lost f) note refl is refl
+learning c r p mine up values (Answer.Seen f) note caught told is = look_idle c r p (end_of c r mine) mine up (Place.Learn p) (Answer.Seen f) note refl is refl
+learning c r p mine up values (Answer.Number x) note caught told is = look_idle c r p (end_of c r mine) mine up (Place.Learn p) (Answer.Number x) note refl is refl
+learning c r p mine up values Answer.Empty note caught told is = look_idle c r p (end_of c r mine) mine up (Place.Learn p) Answer.Empty note refl is refl
+learning c r p mine up values Answer.Past note caught told is = look_idle c r p (end_of c r mine) mine up (Place.Learn p) Answer.Past note refl is refl
+
+-- what a look teaches is the entry that it showed
+learnt_value : (c : Config) (r p i n w : ℕ) (past now : List Event) (answer : Answer) → learnt_by c r past n r (Verb.Look p i) answer now ≡ Some w → (is_past answer ≡ false) × (value_seen answer ≡ w)
+learnt_value c r p i n w past now (Answer.Entry b v) is = (refl, go ((r == r) && ((i == n) && is_known_decided r past p i)) is)
+  where
+    go : (t : Bool) → cond t (Some v) None ≡ Some w → v ≡ w
+    go true is = same_some v w is
+    go false is = cc
+learnt_value c r p i n w past now answer is = absurd (none_some w is)
+
+-- a look at a new position
+looking : (c : Config) (r p i : ℕ) (mine : List Event) (up : List ℕ) (place : Place) (values : List ℕ) (answer : Answer) (note : Note) → may_join place ≡ false → i ≡ end_of c r mine → values ≡ known c r (event_by r (Verb.Look p i) answer ∷ mine) → note ≡ note_of_look i (length values) answer → SaysReads c r mine up place (Verb.Look p i) answer note
+looking c r p i mine up place values answer note join here told is = go (learnt_by c r mine (end_of c r mine) r (Verb.Look p i) answer (event_by r (Verb.Look p i) answer ∷ mine)) refl
+  where
+    go : (o : Option ℕ) → learnt_by c r mine (end_of c r mine) r (Verb.Look p i) answer (event_by r (Verb.Look p i) answer ∷ mine) ≡ o → SaysReads c r mine up place (Verb.Look p i) answer note
+    go None nothing = look_idle c r p i mine up place answer note join (working (is_past answer) (nat_lt i (length values)) (let long = ap length (told ∙ ap (grown (known c r mine)) nothing) in le-ltb i (length values) (omega (arith, long, here))) is) (ap (grown (known c r mine)) nothing)
+      where
+        working : (s t : Bool) → t ≡ false → note ≡ (if s then Note.Working else (if t then Note.Learnt i (value_seen answer) else Note.Working)) → note ≡ Note.Working
+        working true t low is = is
+        working false true low is = absurd (true≢false low)
+        working false false low is = is
+    go (Some w) taught = let v = learnt_value c r p i (end_of c r mine) w mine (event_by r (Verb.Look p i) answer ∷ mine) answer taught in let grew = ap (grown (known c r mine)) taught in
+        look_taught c r p i w mine up place answer note join here (shown (is_past answer) (nat_lt i (length values)) v.0 (let long = ap length (told ∙ grew) in let more = length-append (known c r mine) (w ∷ []) in lt-ltb i (length values) (omega (arith, long, here, more))) is ∙ ap (Note.Learnt i) v.1) grew
+      where
+        shown : (s t : Bool) → s ≡ false → t ≡ true → note ≡ (if s then Note.Working else (if t then Note.Learnt i (value_seen answer) else Note.Working)) → note ≡ Note.Learnt i (value_seen answer)
+        shown true t out high is = absurd (true≢false out)
+        shown false true out high is = is
+        shown false false out high is = absurd (true≢false (sym high))
+
+-- each place
+says_at : (mine : List Event) (old : Lead) (values : List ℕ) (answer : Answer) (note : Note) (place : Place) (verb : Verb) → HasHeeded mine old → StandsFor mine old → HoldsAt mine old place → NotesAt old values answer note place
+    → verb_at old.config old.number (known old.config old.id mine) old.up old.written.items place ≡ Some verb → IsPossible old.config old.id (event_by old.id verb answer ∷ mine) → values ≡ known_told old.config old.id mine old.id verb answer
+    → SaysReads old.config old.id mine old.up place verb answer note
+says_at mine old values answer note place verb heeded s at notes due = go place at notes due
+  where
+    Tells : Place → Verb → Type 0
+    Tells place verb = IsPossible old.config old.id (event_by old.id verb answer ∷ mine) → values ≡ known_told old.config old.id mine old.id verb answer → SaysReads old.config old.id mine old.up place verb answer note
+
+    turn : (place : Place) (w : Verb) → Some w ≡ Some verb → Tells place w → Tells place verb
+    turn place w is tells = subst (Tells place) (same_some w verb is) tells
+
+    none : (place : Place) (w : Verb) → note ≡ Note.Working → is_min w ≡ false → is_head w ≡ false → is_look w ≡ false → may_join place ≡ false → Tells place w
+    none place w is min head look join = λ possible told. says_working old.config old.id mine old.up place w answer note is min head look join
+
+    go : (place : Place) → HoldsAt mine old place → NotesAt old values answer note place → verb_at old.config old.number (known old.config old.id mine) old.up old.written.items place ≡ Some verb → Tells place verb
+    go (Place.Ask p) at is due = turn (Place.Ask p) (Verb.Ask p) due (none (Place.Ask p) (Verb.Ask p) is refl refl refl refl)
+    go (Place.Confirm round p) at is due = turn (Place.Confirm round p) (Verb.Fence p) due (λ possible told. let a = round_apart (p + 1 == old.config.replicas) old.config old.id (event_by old.id (Verb.Fence p) answer ∷ mine) note (is mine s at.1.region possible) in says_none old.config old.id mine old.up (Place.Confirm round p) (Verb.Fence p) answer note a.0 a.1 a.2 a.3 refl refl refl refl)
+    go (Place.ReadMin p) at is due = turn (Place.ReadMin p) (Verb.Min p) due (λ possible told. says_first_min old.config old.id p mine old.up (Place.ReadMin p) answer note at.telling.fresh.unnumbered refl is)
+    go (Place.EnterMin p) at is due = turn (Place.EnterMin p) (Verb.Enter p Target.Min) due (λ possible told. says_enter old.config old.id p Target.Min mine old.up (Place.EnterMin p) answer note possible is refl)
+    go (Place.PutMin p) at is due = turn (Place.PutMin p) (Verb.PutMin p old.number) due (none (Place.PutMin p) (Verb.PutMin p old.number) is refl refl refl refl)
+    go (Place.ReadFuo p source) at is due = turn (Place.ReadFuo p source) (Verb.Fuo p) due (none (Place.ReadFuo p source) (Verb.Fuo p) is refl refl refl refl)
+    go (Place.Learn p) at is due = turn (Place.Learn p) (Verb.Look p (end_of old.config old.id mine)) due (λ possible told. learning old.config old.id p mine old.up values answer note ((s.tables.brought p).caught_up (end_of old.config old.id mine) at.lacks) told (is (subst (λ xs. length xs < 65536) (sym told) (known_few old.config old.id _ s.config possible))))
+    go (Place.WidenBehind p on) at is due = turn (Place.WidenBehind p on) (Verb.RaiseFuo p (get_or old.up p 0)) due (none (Place.WidenBehind p on) (Verb.RaiseFuo p (get_or old.up p 0)) is refl refl refl refl)
+    go (Place.LookBehind p on) at is due = turn (Place.LookBehind p on) (Verb.Look p (get_or old.up p 0)) due (λ possible told. look_idle old.config old.id p (get_or old.up p 0) mine old.up (Place.LookBehind p on) answer note refl is (look_known old.config old.id p (get_or old.up p 0) answer mine (λ same. let low = at.lacks in omega (arith, low, same))))
+    go (Place.EnterBehind p on) at is due = turn (Place.EnterBehind p on) (Verb.Enter p (Target.Place (get_or old.up p 0 % old.config.ring))) due (λ possible told. says_enter old.config old.id p (Target.Place (get_or old.up p 0 % old.config.ring)) mine old.up (Place.EnterBehind p on) answer note possible is refl)
+    go (Place.PutBehind p on) at is due = turn (Place.PutBehind p on) (Verb.PutSlot p (get_or old.up p 0) old.number (get_or (known old.config old.id mine) (get_or old.up p 0) 0)) due (none (Place.PutBehind p on) (Verb.PutSlot p (get_or old.up p 0) old.number (get_or (known old.config old.id mine) (get_or old.up p 0) 0)) is refl refl refl refl)
+    go (Place.RaiseBehind p Then.Joined) at is due = turn (Place.RaiseBehind p Then.Joined) (Verb.RaiseFuo p (get_or old.up p 0)) due (λ possible told. says_raised old.config old.id p (get_or old.up p 0) mine old.up answer note is)
+    go (Place.RaiseBehind p Then.Late) at is due = turn (Place.RaiseBehind p Then.Late) (Verb.RaiseFuo p (get_or old.up p 0)) due (none (Place.RaiseBehind p Then.Late) (Verb.RaiseFuo p (get_or old.up p 0)) is refl refl refl refl)
+    go (Place.RaiseBehind p Then.Position) at is due = turn (Place.RaiseBehind p Then.Position) (Verb.RaiseFuo p (get_or old.up p 0)) due (none (Place.RaiseBehind p Then.Position) (Verb.RaiseFuo p (get_or old.up p 0)) is refl refl refl refl)
+    go (Place.FenceBehind p on) at is due = turn (Place.FenceBehind p on) (Verb.Fence p) due (λ possible told. let a = lost_apart note is.0 in says_none old.config old.id mine old.up (Place.FenceBehind p on) (Verb.Fence p) answer note a.0 a.1 a.2 a.3 refl refl refl refl)
+    go (Place.LateFence p) at is due = turn (Place.LateFence p) (Verb.Fence p) due (none (Place.LateFence p) (Verb.Fence p) is refl refl refl refl)
+    go (Place.LateMin p) at is due = turn (Place.LateMin p) (Verb.Min p) due (λ possible told. let x = tells_min old.config old.id p answer mine possible in
+        let small = min_small old.config old.id p x.0 mine s.config (subst (λ a. IsPossible old.config old.id (event_by old.id (Verb.Min p) a ∷ mine)) x.1 possible) in
+        says_late_min old.config old.id old.number p x.0 mine old.up (Place.LateMin p) answer note x.1 at.late.level.leads.numbered refl (nat_lt old.number x.0) refl (is x.0 x.1 small))
+    go (Place.LateFuo p) at is due = turn (Place.LateFuo p) (Verb.Fuo p) due (none (Place.LateFuo p) (Verb.Fuo p) is refl refl refl refl)
+    go (Place.LateEnter p) at is due = turn (Place.LateEnter p) (Verb.Enter p Target.Min) due (λ possible told. says_enter old.config old.id p Target.Min mine old.up (Place.LateEnter p) answer note possible is refl)
+    go (Place.LatePut p) at is due = turn (Place.LatePut p) (Verb.PutMin p old.number) due (λ possible told. says_put old.config old.id p old.number mine old.up answer note (puts_min_or old.config old.id p old.number answer mine possible) (nat_lt (get_or old.up p 0) (end_of old.config old.id mine)) refl (subst (λ xs. NotesJoin p (nat_lt (get_or old.up p 0) (length xs)) answer note) told (is s.tables.ups)))
+    go (Place.ReadHead q candidate) at is due = turn (Place.ReadHead q candidate) (Verb.Head q) due (λ possible told. let x = tells_head old.config old.id q answer mine possible in
+        let small = config_small old.config s.config in let within = at.roomy.within in
+        let known_is : values ≡ known old.config old.id mine = told in
+        let notes = subst (λ xs. NotesHead old q xs answer note) known_is is in
+        says_head old.config old.id q x.0 mine old.up (Place.ReadHead q candidate) answer note (get_or old.failed q false) x.1 (heeded.1 q at.region) at.unmarked (spare old.config old.id mine s.config within) refl
+        (nat_lt (end_of old.config old.id mine + reserve old.config) (x.0 + old.config.ring)) (not (q == old.id) && (get_or old.failed q false && nat_lt (end_of old.config old.id mine + 0) (x.0 + old.config.ring))) refl refl
+        (notes x.0 x.1 (omega (arith, small, within)) heeded.0))
+    go (Place.Look p i candidate best) at is due = turn (Place.Look p i candidate best) (Verb.Look p i) due (λ possible told. looking old.config old.id p i mine old.up (Place.Look p i candidate best) values answer note refl at.position told is)
+    go (Place.Write j last offer) at is due = turn (Place.Write j last offer) (Verb.WriteRow j (get_or old.written.items j 12) (config_word old.config j (get_or old.written.items j 12))) due (none (Place.Write j last offer) (Verb.WriteRow j (get_or old.written.items j 12) (config_word old.config j (get_or old.written.items j 12))) is refl refl refl refl)
+    go (Place.Enter p offer) at is due = turn (Place.Enter p offer) (Verb.Enter p (Target.Place (end_of old.config old.id mine % old.config.ring))) due (λ possible told. says_enter old.config old.id p (Target.Place (end_of old.config old.id mine % old.config.ring)) mine old.up (Place.Enter p offer) answer note possible is refl)
+    go (Place.Put p offer) at is due = turn (Place.Put p offer) (Verb.PutSlot p (end_of old.config old.id mine) old.number offer.value) due (λ possible told. let known_is : values ≡ known old.config old.id mine = told in let a = put_apart (length values) offer note (is (subst (λ xs. length xs < 65536) (sym known_is) (known_few old.config old.id mine s.config (parts_shorten_law old.config old.id mine _ possible).before))) in says_none old.config old.id mine old.up (Place.Put p offer) (Verb.PutSlot p (end_of old.config old.id mine) old.number offer.value) answer note a.0 a.1 a.2 a.3 refl refl refl refl)
+    go (Place.Raise p) at is due = turn (Place.Raise p) (Verb.RaiseFuo p (end_of old.config old.id mine)) due (none (Place.Raise p) (Verb.RaiseFuo p (end_of old.config old.id mine)) is refl refl refl refl)
+    go (Place.Evidence p) at is due = turn (Place.Evidence p) (Verb.Fence p) due (λ possible told. let x = sees_fence old.config old.id p answer mine possible in let a = lost_apart note (ap is_working_or_lost (is x.0 x.1)) in says_none old.config old.id mine old.up (Place.Evidence p) (Verb.Fence p) answer note a.0 a.1 a.2 a.3 refl refl refl refl)
+    go Place.Outrun at is due = cc
+    go Place.Rest at is due = cc
+
+-- of what was read, the note of `take_answer` comes exactly where its row holds
+pub reads_next : (mine : List Event) (old : Lead) (values : List ℕ) (answer : Answer) (note : Note) (verb : Verb) → HasHeeded mine old → StandsFor mine old → NotesDue old values answer note
+    → verb_of old (known old.config old.id mine) ≡ Some verb → IsPossible old.config old.id (event_by old.id verb answer ∷ mine) → values ≡ known_told old.config old.id mine old.id verb answer
+    → SaysReads old.config old.id mine old.up old.place verb answer note
+reads_next mine old values answer note verb heeded s notes due possible told = says_at mine old values answer note old.place verb heeded s s.at notes due possible told
+
+-- the note that says nothing is `Working`
+pub working_is : (note : Note) → is_working note ≡ true → note ≡ Note.Working
+working_is Note.Working is = refl
+working_is (Note.Confirmed followers) is = absurd (true≢false (sym is))
+working_is (Note.NotConfirmed named) is = absurd (true≢false (sym is))
+working_is (Note.Learnt i v) is = absurd (true≢false (sym is))
+working_is (Note.Committed i v) is = absurd (true≢false (sym is))
+working_is (Note.Adopted i v) is = absurd (true≢false (sym is))
+working_is (Note.Joined p) is = absurd (true≢false (sym is))
+working_is (Note.Aborted cause) is = absurd (true≢false (sym is))
+working_is (Note.NoRoom q h i) is = absurd (true≢false (sym is))
+working_is (Note.Resigned to) is = absurd (true≢false (sym is))
+working_is Note.Idle is = absurd (true≢false (sym is))

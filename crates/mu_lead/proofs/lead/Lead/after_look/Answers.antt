@@ -1,0 +1,29 @@
+use Rattle.std.proofs.Common.{ap, arith, length, subst, sym, ◌+◌, ◌<◌, ◌∙◌, ◌≡◌}
+use Rattle.mu_leading.proofs.Within.{known_few}
+use Rattle.mu_lead.proofs.Looks.{looking_to}
+use Rattle.mu_lead.proofs.lead.Lead.after_look.Goals as goal
+
+pub returns-in-Some : goal.returns-in-Some
+returns-in-Some c = λ mine s same region looking.
+    let l = c.args.self.now in
+    let few = s.config.replicas.1 in
+    let few_known = known_few l.config l.id mine s.config s.possible in
+    let more = c.saturating_add.ensures in
+    let next : c.saturating_add.result ≡ c.args.p + 1 = omega (arith, more, region, few) in
+    let first = c.in-Some.ensures l.id mine few s.leading in
+    let low = first.0 in
+    record {
+      region = first.1;
+      member = first.2;
+      position = c.end_of.ensures (subst (λ values. length values < 65536) (sym same) few_known) ∙ ap length same;
+      looking = looking_to l.config l.id l.number (c.args.p + 1) c.in-Some.q mine l.up l.reach c.args.candidate c.args.best (omega (arith, low, next)) (λ k more less. first.3 k (omega (arith, more, next)) less) looking;
+    }
+
+pub returns-in-None : goal.returns-in-None
+returns-in-None c = λ mine s same region looking.
+    let l = c.args.self.now in
+    let few = s.config.replicas.1 in
+    let more = c.saturating_add.ensures in
+    let next : c.saturating_add.result ≡ c.args.p + 1 = omega (arith, more, region, few) in
+    let none = c.in-None.ensures l.id mine few s.leading in
+    c.pick.ensures mine s same (looking_to l.config l.id l.number (c.args.p + 1) l.config.replicas mine l.up l.reach c.args.candidate c.args.best (omega (arith, region)) (λ k more less. none k (omega (arith, more, next)) less) looking)

@@ -1,0 +1,13 @@
+use Rattle.std.proofs.Common.{subst, sym}
+use Rattle.mu_lead.specs.Saying.{NotesRound}
+use Rattle.mu_lead.proofs.Replies.{sees_fence}
+use Rattle.mu_lead.proofs.lead.Lead.at_confirm.Goals as goal
+
+pub returns-in-None-clause-stands : goal.returns-in-None-clause-stands
+returns-in-None-clause-stands c = λ values mine s is possible told. let l = c.args.self.now in let x = sees_fence l.config l.id c.args.p c.args.answer mine possible in absurd (c.in-None.ensures x.0 x.1)
+
+pub returns-in-None-clause-note : goal.returns-in-None-clause-note
+returns-in-None-clause-note c = λ mine s region possible. let l = c.args.self.now in let x = sees_fence l.config l.id c.args.p c.args.answer mine possible in absurd (c.in-None.ensures x.0 x.1)
+
+pub returns-in-Some-clause-note : goal.returns-in-Some-clause-note
+returns-in-Some-clause-note c = subst (λ a. NotesRound c.args.self.now c.args.p a c.took_fence.result) (sym c.in-Some.ensures) c.took_fence.ensures.note

@@ -1,0 +1,36 @@
+use Rattle.mu_model.specs.declared.event.Target.{Target}
+use Rattle.mu_model.specs.Parts.{IsPossible}
+use Rattle.std.proofs.Common.{arith, get_or, inl, subst, sym, ◌%◌, ◌<◌, ◌∷◌}
+use Rattle.mu_model.specs.declared.event.Verb.{Verb}
+use Rattle.mu_model.specs.declared.event.Answer.{Answer}
+use Rattle.mu_model.proofs.Basics.{event_by}
+use Rattle.mu_lead.specs.Standing.{StandsFor}
+use Rattle.mu_lead.proofs.Replies.{enters_or}
+use Rattle.std.proofs.Common.{inr}
+use Rattle.mu_lead.proofs.Saying.{notes_entered, notes_lost}
+use Rattle.mu_lead.proofs.lead.Lead.at_enter_behind.Goals as goal
+
+pub returns-in-None-clause-stands : goal.returns-in-None-clause-stands
+returns-in-None-clause-stands c = λ values mine s is possible told.
+    let l = c.args.self.now in
+    let t = Target.Place (get_or l.up c.args.p 0 % l.config.ring) in
+    elim (enters_or l.config l.id c.args.p t c.args.answer mine possible) [
+      | inl entered ↦ subst (λ a. StandsFor (event_by l.id (Verb.Enter c.args.p t) a ∷ mine) c.entered_behind.new.self) (sym entered) (c.entered_behind.ensures.stands values mine s is (subst (λ a. IsPossible l.config l.id (event_by l.id (Verb.Enter c.args.p t) a ∷ mine)) entered possible) told)
+      | inr lost ↦ absurd (c.in-None.ensures lost.0 lost.1)
+    ]
+
+pub returns-in-Some-clause-stands : goal.returns-in-Some-clause-stands
+returns-in-Some-clause-stands c = λ values mine s is possible told.
+    let l = c.args.self.now in
+    let t = Target.Place (get_or l.up c.args.p 0 % l.config.ring) in
+    let lost = c.in-Some.ensures in
+    let now = subst (λ a. IsPossible l.config l.id (event_by l.id (Verb.Enter c.args.p t) a ∷ mine)) lost possible in
+    subst (λ a. StandsFor (event_by l.id (Verb.Enter c.args.p t) a ∷ mine) c.lost_place.new.self) (sym lost) ((let ring : 0 < l.config.ring = (let low = s.config.ring.0 in omega (arith, low)) in (let up_is = c.up_of.ensures s.tables.ups in
+    subst (λ u. StandsFor (event_by l.id (Verb.Enter c.args.p (Target.Place (u % l.config.ring))) (Answer.Lost c.in-Some.fence) ∷ mine) c.lost_place.new.self) up_is
+    (c.lost_place.ensures.stands ring mine s (subst (λ u. IsPossible l.config l.id (event_by l.id (Verb.Enter c.args.p (Target.Place (u % l.config.ring))) (Answer.Lost c.in-Some.fence) ∷ mine)) (sym up_is) now)))))
+
+pub returns-in-Some-clause-note : goal.returns-in-Some-clause-note
+returns-in-Some-clause-note c = notes_lost c.args.p c.args.answer c.in-Some.fence c.lost_place.result c.in-Some.ensures c.lost_place.ensures.note
+
+pub returns-in-None-clause-note : goal.returns-in-None-clause-note
+returns-in-None-clause-note c = notes_entered c.args.p c.args.answer c.entered_behind.result c.in-None.ensures c.entered_behind.ensures.note

@@ -1,0 +1,5 @@
+use Rattle.mu_lead.proofs.Replies.{sees_fence}
+use Rattle.mu_lead.proofs.lead.Lead.at_evidence.Goals as goal
+
+pub returns-in-None-clause-stands : goal.returns-in-None-clause-stands
+returns-in-None-clause-stands c = λ values mine s is possible told. let l = c.args.self.now in let x = sees_fence l.config l.id c.args.p c.args.answer mine possible in absurd (c.in-None.ensures x.0 x.1)

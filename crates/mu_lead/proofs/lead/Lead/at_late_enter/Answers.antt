@@ -1,0 +1,33 @@
+use Rattle.mu_model.specs.declared.event.Target.{Target}
+use Rattle.mu_model.specs.Parts.{IsPossible}
+use Rattle.std.proofs.Common.{inl, subst, sym, ◌∷◌}
+use Rattle.mu_model.specs.declared.event.Verb.{Verb}
+use Rattle.mu_model.proofs.Basics.{event_by}
+use Rattle.mu_lead.specs.Standing.{StandsFor}
+use Rattle.mu_lead.proofs.Replies.{enters_or}
+use Rattle.std.proofs.Common.{inr}
+use Rattle.mu_lead.proofs.Saying.{notes_entered, notes_lost}
+use Rattle.mu_lead.proofs.lead.Lead.at_late_enter.Goals as goal
+
+pub returns-in-None-clause-stands : goal.returns-in-None-clause-stands
+returns-in-None-clause-stands c = λ values mine s is possible told.
+    let l = c.args.self.now in
+    let t = Target.Min in
+    elim (enters_or l.config l.id c.args.p t c.args.answer mine possible) [
+      | inl entered ↦ subst (λ a. StandsFor (event_by l.id (Verb.Enter c.args.p t) a ∷ mine) c.entered_late.new.self) (sym entered) (c.entered_late.ensures.stands values mine s is (subst (λ a. IsPossible l.config l.id (event_by l.id (Verb.Enter c.args.p t) a ∷ mine)) entered possible) told)
+      | inr lost ↦ absurd (c.in-None.ensures lost.0 lost.1)
+    ]
+
+pub returns-in-Some-clause-stands : goal.returns-in-Some-clause-stands
+returns-in-Some-clause-stands c = λ values mine s is possible told.
+    let l = c.args.self.now in
+    let t = Target.Min in
+    let lost = c.in-Some.ensures in
+    let now = subst (λ a. IsPossible l.config l.id (event_by l.id (Verb.Enter c.args.p t) a ∷ mine)) lost possible in
+    subst (λ a. StandsFor (event_by l.id (Verb.Enter c.args.p t) a ∷ mine) c.lost_min.new.self) (sym lost) (c.lost_min.ensures.stands mine s now)
+
+pub returns-in-Some-clause-note : goal.returns-in-Some-clause-note
+returns-in-Some-clause-note c = notes_lost c.args.p c.args.answer c.in-Some.fence c.lost_min.result c.in-Some.ensures c.lost_min.ensures.note
+
+pub returns-in-None-clause-note : goal.returns-in-None-clause-note
+returns-in-None-clause-note c = notes_entered c.args.p c.args.answer c.entered_late.result c.in-None.ensures c.entered_late.ensures.note

@@ -1,0 +1,38 @@
+use Rattle.std.proofs.Common.{ap, false, subst, sym, true, true≢false, ◌||◌, ◌∙◌, ◌≡◌}
+use Rattle.mu_model.specs.Contents.{IsConfig, IsInSession, holds_all}
+use Rattle.mu_lead.specs.Going.{begins_at}
+use Rattle.mu_lead.specs.Saying.{is_working}
+use Rattle.mu_lead.proofs.Going.{goes_idle}
+use Rattle.mu_lead.proofs.Rows.{working_is}
+use Rattle.mu_lead.proofs.Says.{says_idle, says_next}
+use Rattle.mu_lead.proofs.lead.Lead.take.Goals.{else-is_working-via-then-is_working+else-knows_all, else-is_working-via-else-is_working}
+use Rattle.mu_lead.proofs.lead.Lead.take.Goals as goal
+
+pub returns-then-knows_all-clause-says : goal.returns-then-knows_all-clause-says
+returns-then-knows_all-clause-says g c =
+    let l = c.args.self.now in
+    let note = c.take_answer-note.result in
+    let values = c.args.known.now in
+    let same = c.take_answer-note.ensures.config in
+    says_idle g.mine l values c.args.answer note c.requires.1 c.requires.0 c.take_answer-note.ensures.note c.take_answer-note.ensures.tells (working_is note (sym c.is_working.ensures ∙ c.if-is_working.true))
+    (λ few in_session. subst (λ k. holds_all k values ≡ true) same
+    (sym (c.knows_all.ensures few (subst IsConfig (sym same) c.requires.0.config) (subst (λ k. IsInSession k values) (sym same) in_session)) ∙ c.if-knows_all.true))
+
+pub returns-else-is_working-clause-says : goal.returns-else-is_working-clause-says
+returns-else-is_working-clause-says g c =
+    let l = c.args.self.now in
+    let note = c.take_answer-note.result in
+    let values = c.args.known.now in
+    let same = c.take_answer-note.ensures.config in
+    says_next g.mine l values c.args.answer note c.requires.1 c.requires.0 c.take_answer-note.ensures.note c.take_answer-note.ensures.tells
+    (λ is few in_session. elim c.else-is_working.branch [
+      | else-is_working-via-then-is_working+else-knows_all w ↦ subst (λ k. holds_all k values ≡ false) same
+          (sym (w.knows_all.ensures few (subst IsConfig (sym same) c.requires.0.config) (subst (λ k. IsInSession k values) (sym same) in_session)) ∙ w.if-knows_all.false)
+      | else-is_working-via-else-is_working w ↦ absurd (true≢false (sym (c.is_working.ensures ∙ ap is_working is) ∙ w.if-is_working.false))
+    ])
+
+pub returns-then-knows_all-clause-going : goal.returns-then-knows_all-clause-going
+returns-then-knows_all-clause-going g c =
+    let l = c.args.self.now in
+    let note = c.take_answer-note.result in
+    goes_idle (begins_at l.place || l.under_way) c.take_answer-note.new.self.under_way note (working_is note (sym c.is_working.ensures ∙ c.if-is_working.true)) c.take_answer-note.ensures.going

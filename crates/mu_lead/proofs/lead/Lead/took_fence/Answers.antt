@@ -1,0 +1,53 @@
+use Rattle.std.proofs.Common.{arith, refl, sym, ◌∷◌}
+use Rattle.mu_model.specs.declared.event.Answer.{Answer}
+use Rattle.mu_lead.proofs.Asking.{fresh_fenced}
+use Rattle.mu_lead.proofs.Tables.{tables_kept}
+use Rattle.mu_model.specs.declared.event.Verb.{Verb}
+use Rattle.mu_model.proofs.Basics.{event_by}
+use Rattle.mu_lead.proofs.Rounds.{at_last, not_yet}
+use Rattle.mu_lead.proofs.lead.Lead.took_fence.Goals as goal
+
+pub returns-then-next-self-clause-stands : goal.returns-then-next-self-clause-stands
+returns-then-next-self-clause-stands c = λ values mine s is possible told.
+    let l = c.args.self.now in
+    let here = rw is at s.at in
+    let leading = c.take.ensures l.config mine s.config.replicas.1 possible s.leading in
+    record {
+      config = s.config;
+      inside = s.inside;
+      leading = leading;
+      tables = tables_kept l.config l.id _ mine l.up l.reach l.heads l.written.items possible refl refl s.tables;
+      at = (here.0, record { region = c.if-next-self.true; fresh = fresh_fenced l.id c.args.p c.args.fence mine here.1.fresh });
+    }
+
+pub returns-else-next-self-clause-stands : goal.returns-else-next-self-clause-stands
+returns-else-next-self-clause-stands c = λ values mine s is possible told.
+    let l = c.args.self.now in
+    let here = rw is at s.at in
+    let leading = c.take.ensures l.config mine s.config.replicas.1 possible s.leading in
+    record {
+      config = s.config;
+      inside = s.inside;
+      leading = leading;
+      tables = tables_kept l.config l.id _ mine l.up l.reach l.heads l.written.items possible refl refl s.tables;
+      at = c.after_round-self.ensures l.number _ l.up l.reach l.written.items s.config.replicas.1 s.inside here.0 leading (fresh_fenced l.id c.args.p c.args.fence mine here.1.fresh);
+    }
+
+pub returns-then-next-self-clause-note : goal.returns-then-next-self-clause-note
+returns-then-next-self-clause-note c = λ mine s region possible.
+    let l = c.args.self.now in
+    let few = s.config.replicas.1 in
+    let low = c.if-next-self.true in
+    let next = c.saturating_add-next.ensures in
+    not_yet l.config l.id c.args.p (event_by l.id (Verb.Fence c.args.p) (Answer.Seen c.args.fence) ∷ mine) (omega (arith, low, next, region, few))
+
+pub returns-else-next-self-clause-note : goal.returns-else-next-self-clause-note
+returns-else-next-self-clause-note c = λ mine s region possible.
+    let l = c.args.self.now in
+    let few = s.config.replicas.1 in
+    let high = c.if-next-self.false in
+    let next = c.saturating_add-next.ensures in
+    at_last l.config l.id c.args.p (event_by l.id (Verb.Fence c.args.p) (Answer.Seen c.args.fence) ∷ mine) c.note_of_round.result (omega (arith, high, next, region, few)) (c.note_of_round.ensures.tells (event_by l.id (Verb.Fence c.args.p) (Answer.Seen c.args.fence) ∷ mine) few s.inside (c.take.ensures l.config mine few possible s.leading))
+
+pub returns-else-next-self-clause-going : goal.returns-else-next-self-clause-going
+returns-else-next-self-clause-going c = sym (c.note_of_round.ensures.going c.args.self.now.under_way)

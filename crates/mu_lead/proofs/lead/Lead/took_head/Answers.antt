@@ -1,0 +1,97 @@
+use Rattle.mu_lead.specs.Leading.{end_of}
+use Rattle.std.proofs.Common.{ap, arith, length, refl, subst, sym, ◌+◌, ◌<◌, ◌∙◌, ◌∷◌, ◌≡◌}
+use Rattle.mu_model.specs.declared.event.Verb.{Verb}
+use Rattle.mu_model.specs.declared.event.Answer.{Answer}
+use Rattle.mu_leading.proofs.Within.{known_few}
+use Rattle.mu_lead.proofs.Keeping.{leading_calm}
+use Rattle.mu_lead.proofs.Tables.{tables_kept}
+use Rattle.std.proofs.Common.{true}
+use Rattle.mu_lead.proofs.Looks.{head_event, head_now, level_head, marks_now, marks_head, roomy_marked, roomy_read, tables_head}
+use Rattle.std.specs.Prelude.{nat_lt}
+use Rattle.mu_lead.proofs.lead.Lead.took_head.Goals as goal
+
+pub returns-then-leaves_room-clause-stands : goal.returns-then-leaves_room-clause-stands
+returns-then-leaves_room-clause-stands c = λ mine heeded s is possible told.
+    let l = c.args.self.now in
+    let here = rw is at s.at in
+    let few = s.config.replicas.1 in
+    let q = c.args.q in
+    let h = c.args.head in
+    let e = head_event l.id q h in
+    let region = here.region in
+    let few_known = known_few l.config l.id (e ∷ mine) s.config possible in
+    let short = subst (λ values. length values < 65536) (sym told) few_known in
+    let all = s.tables.all_heads in
+    let low : q < length l.heads = omega (arith, region, few, all) in
+    let kept = tables_kept l.config l.id e mine l.up l.reach l.heads l.written.items possible refl refl s.tables in
+    let tables = tables_head l.config l.id q h (e ∷ mine) l.up l.reach l.heads c.with_number-self.result l.written.items kept (c.with_number-self.ensures.long ∙ all) (c.with_number-self.ensures.here low) c.with_number-self.ensures.others (let now = head_now l.id q h mine in omega (arith, now)) in
+    let leading = leading_calm l.id l.id (Verb.Head q) (Answer.Number h) mine l.leading refl s.leading in
+    let level = level_head l.config l.id l.number q h mine l.up l.reach here.level in
+    let high = subst (λ values. c.leaves_room.result ≡ nat_lt (length values + c.reserve_of.result) (h + l.config.ring)) told (c.leaves_room.ensures short) ∙ ap (λ free. nat_lt (end_of l.config l.id mine + free) (h + l.config.ring)) c.reserve_of.ensures in
+    let more = c.saturating_add.ensures in
+    let next : c.saturating_add.result ≡ q + 1 = omega (arith, more, region, few) in
+    record {
+      config = s.config;
+      inside = s.inside;
+      leading = leading;
+      tables = tables;
+      at = c.heads_from-self.ensures (e ∷ mine) (record { possible = possible; config = s.config; inside = s.inside; leading = leading; tables = tables }) told level (roomy_read l.config l.id q h c.saturating_add.result mine c.args.candidate next here.roomy (sym high ∙ c.if-leaves_room.true));
+    }
+
+pub returns-then-may_mark-clause-stands : goal.returns-then-may_mark-clause-stands
+returns-then-may_mark-clause-stands c = λ mine heeded s is possible told.
+    let l = c.args.self.now in
+    let here = rw is at s.at in
+    let few = s.config.replicas.1 in
+    let q = c.args.q in
+    let h = c.args.head in
+    let e = head_event l.id q h in
+    let region = here.region in
+    let few_known = known_few l.config l.id (e ∷ mine) s.config possible in
+    let short = subst (λ values. length values < 65536) (sym told) few_known in
+    let all = s.tables.all_heads in
+    let low : q < length l.heads = omega (arith, region, few, all) in
+    let kept = tables_kept l.config l.id e mine l.up l.reach l.heads l.written.items possible refl refl s.tables in
+    let tables = tables_head l.config l.id q h (e ∷ mine) l.up l.reach l.heads c.with_number-self.result l.written.items kept (c.with_number-self.ensures.long ∙ all) (c.with_number-self.ensures.here low) c.with_number-self.ensures.others (let now = head_now l.id q h mine in omega (arith, now)) in
+    let leading = leading_calm l.id l.id (Verb.Head q) (Answer.Number h) mine l.leading refl s.leading in
+    let level = level_head l.config l.id l.number q h mine l.up l.reach here.level in
+    let high = subst (λ values. c.leaves_room.result ≡ nat_lt (length values + c.reserve_of.result) (h + l.config.ring)) told (c.leaves_room.ensures short) ∙ ap (λ free. nat_lt (end_of l.config l.id mine + free) (h + l.config.ring)) c.reserve_of.ensures in
+    let more = c.saturating_add-then-may_mark.ensures in
+    let next : c.saturating_add-then-may_mark.result ≡ q + 1 = omega (arith, more, region, few) in
+    let may = (c.may_mark.ensures.may short heeded.0).0 c.if-may_mark.true in
+    let room = subst (λ values. nat_lt (length values + 0) (h + l.config.ring) ≡ true) told may.2 in
+    let mark = marks_now l.config l.id q h mine region may.0 here.unmarked (sym (heeded.1 q region) ∙ may.1) (sym high ∙ c.if-leaves_room.false) room in
+    let marks = c.first_of.ensures l.config l.id (e ∷ mine) (marks_head l.config l.id q h mine c.args.candidate here.roomy.marks) mark in
+    record {
+      config = s.config;
+      inside = s.inside;
+      leading = leading;
+      tables = tables;
+      at = c.heads_from-self-then-may_mark.ensures (e ∷ mine) (record { possible = possible; config = s.config; inside = s.inside; leading = leading; tables = tables }) told level (roomy_marked l.config l.id q h c.saturating_add-then-may_mark.result c.first_of.result mine c.args.candidate next here.roomy room marks);
+    }
+
+pub returns-else-may_mark-clause-stands : goal.returns-else-may_mark-clause-stands
+returns-else-may_mark-clause-stands c = λ mine heeded s is possible told.
+    let l = c.args.self.now in
+    let here = rw is at s.at in
+    let few = s.config.replicas.1 in
+    let q = c.args.q in
+    let h = c.args.head in
+    let e = head_event l.id q h in
+    let region = here.region in
+    let few_known = known_few l.config l.id (e ∷ mine) s.config possible in
+    let short = subst (λ values. length values < 65536) (sym told) few_known in
+    let all = s.tables.all_heads in
+    let low : q < length l.heads = omega (arith, region, few, all) in
+    let kept = tables_kept l.config l.id e mine l.up l.reach l.heads l.written.items possible refl refl s.tables in
+    let tables = tables_head l.config l.id q h (e ∷ mine) l.up l.reach l.heads c.with_number-self.result l.written.items kept (c.with_number-self.ensures.long ∙ all) (c.with_number-self.ensures.here low) c.with_number-self.ensures.others (let now = head_now l.id q h mine in omega (arith, now)) in
+    let leading = leading_calm l.id l.id (Verb.Head q) (Answer.Number h) mine l.leading refl s.leading in
+    let level = level_head l.config l.id l.number q h mine l.up l.reach here.level in
+    let high = subst (λ values. c.leaves_room.result ≡ nat_lt (length values + c.reserve_of.result) (h + l.config.ring)) told (c.leaves_room.ensures short) ∙ ap (λ free. nat_lt (end_of l.config l.id mine + free) (h + l.config.ring)) c.reserve_of.ensures in
+    record {
+      config = s.config;
+      inside = s.inside;
+      leading = leading;
+      tables = tables;
+      at = c.late_from-self.ensures (e ∷ mine) (record { possible = possible; config = s.config; inside = s.inside; leading = leading; tables = tables }) told level;
+    }

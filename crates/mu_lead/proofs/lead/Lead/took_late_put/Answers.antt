@@ -1,0 +1,42 @@
+use Rattle.mu_lead.specs.Leading.{end_of}
+use Rattle.std.proofs.Common.{ap, arith, get_or, length, refl, ◌<◌, ◌≤◌, ◌∷◌}
+use Rattle.mu_lead.proofs.Tables.{tables_kept}
+use Rattle.mu_lead.proofs.Lates.{late_behind, late_level}
+use Rattle.mu_lead.proofs.Numbering.{landed_min}
+use Rattle.mu_lead.proofs.lead.Lead.took_late_put.Goals as goal
+
+pub returns-then-up_of-known-clause-stands : goal.returns-then-up_of-known-clause-stands
+returns-then-up_of-known-clause-stands c = λ mine s is possible told.
+    let l = c.args.self.now in
+    let here = rw is at s.at in
+    let few = s.config.replicas.1 in
+    let p = c.args.p in
+    let e = landed_min l.id p l.number in
+    let leading = c.take.ensures l.config mine few possible s.leading in
+    let tables = tables_kept l.config l.id e mine l.up l.reach l.heads l.written.items possible refl refl s.tables in
+    let lacks : get_or l.up p 0 < end_of l.config l.id mine = (let less = c.if-up_of-known.true in let same = ap length told in let up_is = c.up_of.ensures s.tables.ups in omega (arith, less, same, up_is)) in
+    record {
+      config = s.config;
+      inside = s.inside;
+      leading = leading;
+      tables = tables;
+      at = c.bring_up-self.ensures (e ∷ mine) (record { possible = possible; config = s.config; inside = s.inside; leading = leading; tables = tables }) (late_behind l.config l.id l.number p mine l.up l.reach here lacks);
+    }
+
+pub returns-else-up_of-known-clause-stands : goal.returns-else-up_of-known-clause-stands
+returns-else-up_of-known-clause-stands c = λ mine s is possible told.
+    let l = c.args.self.now in
+    let here = rw is at s.at in
+    let few = s.config.replicas.1 in
+    let p = c.args.p in
+    let e = landed_min l.id p l.number in
+    let leading = c.take.ensures l.config mine few possible s.leading in
+    let tables = tables_kept l.config l.id e mine l.up l.reach l.heads l.written.items possible refl refl s.tables in
+    let has : end_of l.config l.id mine ≤ get_or l.up p 0 = (let less = c.if-up_of-known.false in let same = ap length told in let up_is = c.up_of.ensures s.tables.ups in omega (arith, less, same, up_is)) in
+    record {
+      config = s.config;
+      inside = s.inside;
+      leading = leading;
+      tables = tables;
+      at = c.late_from-self.ensures (e ∷ mine) (record { possible = possible; config = s.config; inside = s.inside; leading = leading; tables = tables }) told (late_level l.config l.id l.number p mine l.up l.reach here has);
+    }

@@ -1,0 +1,48 @@
+use Rattle.std.proofs.Common.{refl, sym, ◌∙◌, ◌∷◌}
+use Rattle.mu_model.specs.declared.event.Verb.{Verb}
+use Rattle.mu_lead.proofs.Keeping.{leading_calm, leads_kept}
+use Rattle.mu_lead.proofs.Bringing.{look_event}
+use Rattle.mu_lead.proofs.Sights.{outrun_by}
+use Rattle.mu_lead.proofs.Tables.{tables_kept}
+use Rattle.mu_lead.proofs.lead.Lead.took_learning.Goals as goal
+
+pub returns-then-is_past-clause-stands : goal.returns-then-is_past-clause-stands
+returns-then-is_past-clause-stands c = λ i mine s is position possible told.
+    let l = c.args.self.now in
+    let here = rw is at s.at in
+    let few = s.config.replicas.1 in
+    let p = c.args.source in
+    let i = i in
+    let e = look_event l.id p i c.args.answer in
+    let leading = leading_calm l.id l.id (Verb.Look p i) c.args.answer mine l.leading refl s.leading in
+    let tables = tables_kept l.config l.id e mine l.up l.reach l.heads l.written.items possible refl refl s.tables in
+    let leads = leads_kept l.config l.id l.number l.id (Verb.Look p i) c.args.answer mine refl here.leads in
+    record {
+      config = s.config;
+      inside = s.inside;
+      leading = leading;
+      tables = tables;
+      at = outrun_by l.config l.id p i c.args.answer mine here.region here.member (sym c.is_past.ensures ∙ c.if-is_past.true) position;
+    }
+
+pub returns-else-is_past-clause-stands : goal.returns-else-is_past-clause-stands
+returns-else-is_past-clause-stands c = λ i mine s is position possible told.
+    let l = c.args.self.now in
+    let here = rw is at s.at in
+    let few = s.config.replicas.1 in
+    let p = c.args.source in
+    let i = i in
+    let e = look_event l.id p i c.args.answer in
+    let leading = leading_calm l.id l.id (Verb.Look p i) c.args.answer mine l.leading refl s.leading in
+    let tables = tables_kept l.config l.id e mine l.up l.reach l.heads l.written.items possible refl refl s.tables in
+    let leads = leads_kept l.config l.id l.number l.id (Verb.Look p i) c.args.answer mine refl here.leads in
+    record {
+      config = s.config;
+      inside = s.inside;
+      leading = leading;
+      tables = tables;
+      at = c.learn_from-self.ensures (e ∷ mine) (record { possible = possible; config = s.config; inside = s.inside; leading = leading; tables = tables }) told leads here.raised (here.region, here.member);
+    }
+
+pub returns-else-is_past-clause-going : goal.returns-else-is_past-clause-going
+returns-else-is_past-clause-going c = sym (c.learnt.ensures.going c.args.self.now.under_way)

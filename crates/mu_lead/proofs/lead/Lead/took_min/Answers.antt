@@ -1,0 +1,38 @@
+use Rattle.std.proofs.Common.{arith, refl}
+use Rattle.mu_agree.proofs.Readings.{parts_count_law}
+use Rattle.mu_lead.proofs.Numbering.{numbered_now, reads_next, told_all}
+use Rattle.mu_lead.proofs.Tables.{tables_kept}
+use Rattle.mu_lead.proofs.lead.Lead.took_min.Goals as goal
+
+pub returns-in-Some-clause-stands : goal.returns-in-Some-clause-stands
+returns-in-Some-clause-stands c = λ values mine s is possible told.
+    let l = c.args.self.now in
+    let here = rw is at s.at in
+    let leading = c.take.ensures l.config mine s.config.replicas.1 possible s.leading in
+    record {
+      config = s.config;
+      inside = s.inside;
+      leading = leading;
+      tables = tables_kept l.config l.id _ mine l.up l.reach l.heads l.written.items possible refl refl s.tables;
+      at = reads_next l.config l.id c.args.p c.in-Some.q c.saturating_add.result c.args.min mine here (let next = c.saturating_add.ensures in let low = here.region in let few = s.config.replicas.1 in omega (arith, next, low, few)) (c.in-Some.ensures l.id _ s.config.replicas.1 leading);
+    }
+
+pub returns-in-None-clause-stands : goal.returns-in-None-clause-stands
+returns-in-None-clause-stands c = λ values mine s is possible told.
+    let l = c.args.self.now in
+    let here = rw is at s.at in
+    let few = s.config.replicas.1 in
+    let low = here.region in
+    let inside = s.inside in
+    let next = c.saturating_add.ensures in
+    let leading = c.take.ensures l.config mine s.config.replicas.1 possible s.leading in
+    let telling = told_all l.config l.id c.args.p c.saturating_add.result c.args.min mine here (omega (arith, next, low, few)) (c.in-None.ensures l.id _ few leading) in
+    let counts = parts_count_law l.config l.id _ s.config possible in
+    let number = c.next_number-self.ensures l.id _ (omega (arith, few, inside)) counts.0 counts.1 leading in
+    record {
+      config = s.config;
+      inside = s.inside;
+      leading = leading;
+      tables = tables_kept l.config l.id _ mine l.up l.reach l.heads l.written.items possible refl refl s.tables;
+      at = c.first_to_enter-self.ensures _ l.up l.reach l.written.items s.config.replicas.1 s.inside leading telling (numbered_now l.config l.id c.next_number-self.result _ telling number);
+    }

@@ -1,0 +1,145 @@
+use Rattle.mu_model.specs.Parts.{IsPossible}
+use Rattle.mu_leading.specs.Leadership.{StandsForLeadership}
+use Rattle.mu_lead.specs.Leading.{AtRaise, HoldsTables, end_of}
+use Rattle.mu_model.specs.Contents.{row_count}
+use Rattle.mu_model.specs.Room.{reserve}
+use Rattle.mu_agree.proofs.Possible.{parts_shorten_law}
+use Rattle.std.proofs.Common.{ap, arith, get_or, inl, length, refl, subst, sym, ℕ, ◌+◌, ◌<◌, ◌≤◌, ◌∙◌, ◌∷◌, ◌≡◌}
+use Rattle.mu_agree.proofs.Readings.{known_within}
+use Rattle.mu_model.specs.Knowledge.{known}
+use Rattle.mu_leading.proofs.Within.{known_few}
+use Rattle.mu_lead.proofs.Bringing.{put_event}
+use Rattle.mu_lead.proofs.Tables.{tables_kept}
+use Rattle.std.proofs.Common.{inr}
+use Rattle.mu_lead.specs.Notes.{note_of_commit}
+use Rattle.mu_lead.proofs.Puts.{known_same, brought_committed, brought_less, enters_next, member_within, known_more, raises_first, tables_committed, took_all}
+use Rattle.mu_model.specs.declared.event.Answer.{Answer}
+use Rattle.mu_model.specs.declared.event.Verb.{Verb}
+use Rattle.mu_lead.proofs.Sights.{shows_kept}
+use Rattle.mu_lead.specs.Offering.{AtEnter, LooksShow}
+use Rattle.std.proofs.Common.{[], length-append, true, ◌++◌}
+use Rattle.mu_model.specs.Leaderships.{is_member}
+use Rattle.mu_lead.proofs.lead.Lead.took_put.Goals as goal
+
+pub returns-in-Some-clause-stands : goal.returns-in-Some-clause-stands
+returns-in-Some-clause-stands c = λ mine s is possible told.
+    let l = c.args.self.now in
+    let here = rw is at s.at in
+    let few = s.config.replicas.1 in
+    let p = c.args.p in
+    let v = c.args.offer.value in
+    let b = l.number in
+    let i = length c.args.known.now in
+    let region = here.0.entering.region in
+    let few_known = known_few l.config l.id mine s.config (parts_shorten_law l.config l.id mine (put_event l.id p i b v) possible).before in
+    let position = c.end_of-position.ensures (subst (λ values. length values < 65536) (sym told) few_known) in
+    let e = put_event l.id p i b v in
+    let leading = subst (λ j. IsPossible l.config l.id (put_event l.id p j b v ∷ mine) → StandsForLeadership l.id (put_event l.id p j b v ∷ mine) c.take.new.self) position (λ may. c.take.ensures l.config mine few may s.leading) possible in
+    let kept = tables_kept l.config l.id e mine l.up l.reach l.heads l.written.items possible refl refl s.tables in
+    let more = c.saturating_add.ensures in
+    let next : c.saturating_add.result ≡ p + 1 = omega (arith, more, region, few) in
+    let first = c.in-Some.ensures l.id (e ∷ mine) few leading in
+    let low = first.0 in
+    let same : known l.config l.id (e ∷ mine) ≡ known l.config l.id mine = subst (λ values. known l.config l.id (put_event l.id p (length values) b v ∷ mine) ≡ known l.config l.id mine) (sym told)
+    (known_same l.config l.id p c.in-Some.q (end_of l.config l.id mine) b v mine first.1 first.2 (λ x. (omega (arith, low, next, x))) (here.0.entering.offering.above c.in-Some.q (omega (arith, low, next)))) in
+    record {
+      config = s.config;
+      inside = s.inside;
+      leading = leading;
+      tables = kept;
+      at = (
+        subst (λ values. AtEnter l.config l.id b v (put_event l.id p (length values) b v ∷ mine) l.up l.reach c.in-Some.q) (sym told)
+            (enters_next l.config l.id b v p c.in-Some.q c.saturating_add.result mine l.up l.reach here.0 next first),
+        subst (λ n. LooksShow l.config l.id (e ∷ mine) n c.args.offer.adopted) (sym (ap length same)) (shows_kept l.config l.id (end_of l.config l.id mine) l.id (Verb.PutSlot p i b v) Answer.Done mine c.args.offer.adopted refl here.1),
+      );
+    }
+
+pub returns-in-None-clause-stands : goal.returns-in-None-clause-stands
+returns-in-None-clause-stands c = λ mine s is possible told.
+    let l = c.args.self.now in
+    let here = rw is at s.at in
+    let few = s.config.replicas.1 in
+    let p = c.args.p in
+    let v = c.args.offer.value in
+    let b = l.number in
+    let i = length c.args.known.now in
+    let region = here.0.entering.region in
+    let few_known = known_few l.config l.id mine s.config (parts_shorten_law l.config l.id mine (put_event l.id p i b v) possible).before in
+    let position = c.end_of-position.ensures (subst (λ values. length values < 65536) (sym told) few_known) in
+    let e = put_event l.id p i b v in
+    let leading = subst (λ j. IsPossible l.config l.id (put_event l.id p j b v ∷ mine) → StandsForLeadership l.id (put_event l.id p j b v ∷ mine) c.take.new.self) position (λ may. c.take.ensures l.config mine few may s.leading) possible in
+    let kept = tables_kept l.config l.id e mine l.up l.reach l.heads l.written.items possible refl refl s.tables in
+    let more = c.saturating_add.ensures in
+    let next : c.saturating_add.result ≡ p + 1 = omega (arith, more, region, few) in
+    let end = end_of l.config l.id mine in
+    let o = here.0.entering.offering in
+    let now = put_event l.id p end b v ∷ mine in
+    let now_possible = subst (λ values. IsPossible l.config l.id (put_event l.id p (length values) b v ∷ mine)) told possible in
+    let now_leading = subst (λ values. StandsForLeadership l.id (put_event l.id p (length values) b v ∷ mine) c.take.new.self) told leading in
+    let now_kept = tables_kept l.config l.id (put_event l.id p end b v) mine l.up l.reach l.heads l.written.items now_possible refl refl s.tables in
+    let all = took_all l.config l.id b v p c.saturating_add.result mine l.up l.reach here.0 next (c.in-None.ensures l.id now few now_leading) in
+    let grows = known_more l.config l.id b v p mine l.up l.reach o all in
+    let most = known_within l.config l.id now now_possible in
+    let long = ap length grows ∙ length-append (known l.config l.id mine) (v ∷ []) in
+    let low : end + 1 ≤ row_count l.config + reserve l.config + 1 = omega (arith, most, long) in
+    let from = c.from.ensures in
+    let same = ap length told in
+    let len = c.end_of.ensures (subst (λ values. length values < 65536) (sym told) few_known) in
+    let u : c.from.result + 1 ≡ end + 1 = omega (arith, from, len, same) in
+    let ups = s.tables.ups in
+    let here_up : (q : ℕ) → q < l.config.replicas → is_member l.id q mine ≡ true → get_or c.brought_to-self.result q 0 ≡ end + 1 = λ q low_q member. c.brought_to-self.ensures.members now q (omega (arith, low_q, few)) ups now_leading member ∙ u in
+    record {
+      config = s.config;
+      inside = s.inside;
+      leading = leading;
+      tables = subst (λ values. HoldsTables l.config l.id (put_event l.id p (length values) b v ∷ mine) c.brought_to-self.result l.reach l.heads l.written.items) (sym told) (tables_committed l.config l.id (end + 1) now l.up c.brought_to-self.result l.reach l.heads l.written.items now_kept (c.brought_to-self.ensures.long ∙ ups) (λ q stranger. c.brought_to-self.ensures.others now q now_leading stranger)
+          (λ q member. (let low_q = member_within l.config l.id q now now_possible member in
+          (here_up q low_q member, brought_committed l.config l.id b v p q mine grows (brought_less l.config l.id q end (get_or l.up q 0) mine (o.have q low_q member) (s.tables.brought q)) (all q low_q member)))) low);
+      at = subst (λ values. AtRaise l.config l.id b (put_event l.id p (length values) b v ∷ mine) c.brought_to-self.result l.reach c.first_member.result) (sym told) (raises_first l.config l.id b v p c.first_member.result mine l.up c.brought_to-self.result l.reach here.0 grows here_up (c.first_member.ensures now p few now_leading region here.0.entering.member));
+    }
+
+pub returns-in-Some-clause-tells : goal.returns-in-Some-clause-tells
+returns-in-Some-clause-tells c = λ mine s is possible told.
+    let l = c.args.self.now in
+    let here = rw is at s.at in
+    let few = s.config.replicas.1 in
+    let p = c.args.p in
+    let v = c.args.offer.value in
+    let b = l.number in
+    let region = here.0.entering.region in
+    let now_possible = subst (λ values. IsPossible l.config l.id (put_event l.id p (length values) b v ∷ mine)) told possible in
+    let few_known = known_few l.config l.id mine s.config (parts_shorten_law l.config l.id mine (put_event l.id p (end_of l.config l.id mine) b v) now_possible).before in
+    let position = c.end_of-position.ensures (subst (λ values. length values < 65536) (sym told) few_known) ∙ ap length told in
+    let leading = subst (λ j. IsPossible l.config l.id (put_event l.id p j b v ∷ mine) → StandsForLeadership l.id (put_event l.id p j b v ∷ mine) c.take.new.self) position (λ may. c.take.ensures l.config mine few may s.leading) now_possible in
+    let more = c.saturating_add.ensures in
+    let next : c.saturating_add.result ≡ p + 1 = omega (arith, more, region, few) in
+    let first = c.in-Some.ensures l.id (put_event l.id p (end_of l.config l.id mine) b v ∷ mine) few leading in
+    let low = first.0 in
+    let same = known_same l.config l.id p c.in-Some.q (end_of l.config l.id mine) b v mine first.1 first.2 (λ e. (omega (arith, low, next, e))) (here.0.entering.offering.above c.in-Some.q (omega (arith, low, next))) in
+    inl (refl, subst (λ values. known l.config l.id (put_event l.id p (length values) b v ∷ mine) ≡ values) (sym told) same)
+
+pub returns-in-None-clause-tells : goal.returns-in-None-clause-tells
+returns-in-None-clause-tells c = λ mine s is possible told.
+    let l = c.args.self.now in
+    let here = rw is at s.at in
+    let few = s.config.replicas.1 in
+    let p = c.args.p in
+    let v = c.args.offer.value in
+    let b = l.number in
+    let region = here.0.entering.region in
+    let now_possible = subst (λ values. IsPossible l.config l.id (put_event l.id p (length values) b v ∷ mine)) told possible in
+    let few_known = known_few l.config l.id mine s.config (parts_shorten_law l.config l.id mine (put_event l.id p (end_of l.config l.id mine) b v) now_possible).before in
+    let short = c.end_of-position.ensures (subst (λ values. length values < 65536) (sym told) few_known) in
+    let position = short ∙ ap length told in
+    let leading = subst (λ j. IsPossible l.config l.id (put_event l.id p j b v ∷ mine) → StandsForLeadership l.id (put_event l.id p j b v ∷ mine) c.take.new.self) position (λ may. c.take.ensures l.config mine few may s.leading) now_possible in
+    let more = c.saturating_add.ensures in
+    let next : c.saturating_add.result ≡ p + 1 = omega (arith, more, region, few) in
+    let all = took_all l.config l.id b v p c.saturating_add.result mine l.up l.reach here.0 next (c.in-None.ensures l.id (put_event l.id p (end_of l.config l.id mine) b v ∷ mine) few leading) in
+    let grows = known_more l.config l.id b v p mine l.up l.reach here.0.entering.offering all in
+    inr (c.committed.ensures.is ∙ ap (λ i. note_of_commit i c.args.offer) short, subst (λ values. known l.config l.id (put_event l.id p (length values) b v ∷ mine) ≡ values ++ v ∷ []) (sym told) grows)
+
+pub returns-in-Some-clause-note : goal.returns-in-Some-clause-note
+returns-in-Some-clause-note c = λ small. inl refl
+
+pub returns-in-None-clause-note : goal.returns-in-None-clause-note
+returns-in-None-clause-note c = λ small. inr (c.committed.ensures.is ∙ ap (λ i. note_of_commit i c.args.offer) (c.end_of-position.ensures small))

@@ -1,0 +1,39 @@
+use Rattle.std.proofs.Common.{arith, get_or, length, refl, sym, ◌+◌, ◌<◌, ◌∙◌, ◌∷◌, ◌≡◌}
+use Rattle.mu_model.specs.declared.event.Verb.{Verb}
+use Rattle.mu_model.specs.declared.event.Answer.{Answer}
+use Rattle.mu_lead.proofs.Keeping.{leading_calm}
+use Rattle.mu_lead.proofs.Offers.{row_event, tables_row, writing_row}
+use Rattle.mu_lead.proofs.Due.{default_is, last_there}
+use Rattle.mu_model.specs.Contents.{rest_of}
+use Rattle.mu_model.specs.Contents.{config_word}
+use Rattle.mu_lead.proofs.lead.Lead.took_write.Goals as goal
+
+pub returns-clause-stands : goal.returns-clause-stands
+returns-clause-stands c = λ values mine s is possible told.
+    let l = c.args.self.now in
+    let here = rw is at s.at in
+    let few = s.config.replicas.1 in
+    let j = c.args.j in
+    let k = get_or l.written.items j 12 in
+    let x = config_word l.config j k in
+    let e = row_event l.id j k x in
+    let w = here.0.writing in
+    let end = last_there l.config w.first (rest_of l.config w.first) s.config w.batch.row refl in
+    let inside = here.0.inside in
+    let last_is = w.last_row in
+    let rows = s.tables.rows in
+    let there : j < length l.written.items = omega (arith, end, inside, last_is, rows) in
+    let same = default_is l.written.items j there in
+    let small = here.1 in
+    let word = c.next_word.ensures in
+    let more = c.saturating_add-count.ensures in
+    let count : c.saturating_add-count.result ≡ k + 1 = omega (arith, word, more, small) in
+    let leading = leading_calm l.id l.id (Verb.WriteRow j k x) Answer.Done mine l.leading refl s.leading in
+    let tables = tables_row l.config l.id j k x mine l.up l.reach l.heads l.written.items c.note_words.new.written.items possible s.tables (sym same) c.note_words.ensures.long (c.note_words.ensures.here there ∙ count) c.note_words.ensures.others in
+    record {
+      config = s.config;
+      inside = s.inside;
+      leading = leading;
+      tables = tables;
+      at = c.write_from-self.ensures (e ∷ mine) (record { possible = possible; config = s.config; inside = s.inside; leading = leading; tables = tables }) (writing_row l.config l.id l.number j k x j c.args.last c.args.offer mine l.up l.reach w);
+    }

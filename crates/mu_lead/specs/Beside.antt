@@ -1,0 +1,39 @@
+-- What the other machines of a replica do beside its leader.
+use Rattle.std.specs.Prelude.{Bool, List, false, not, true, ◌∷◌, ◌≡◌}
+use Rattle.mu_model.specs.declared.event.Answer.{Answer}
+use Rattle.mu_model.specs.declared.event.Event.{Event}
+use Rattle.mu_model.specs.declared.event.Verb.{Verb}
+use Rattle.mu_model.specs.Parts.{IsPossible}
+use Rattle.mu_lead.specs.declared.lead.Lead.{Lead}
+use Rattle.mu_lead.specs.declared.place.Place.{Place}
+use Rattle.mu_lead.specs.Standing.{StandsFor}
+
+-- a leadership was confirmed, and isn't over or given up
+abbrev pub leads_at : Place → Bool
+leads_at (Place.Ask p) = false
+leads_at (Place.Confirm round p) = false
+leads_at (Place.Evidence p) = false
+leads_at _ = true
+
+-- a verb of another machine: those of a host, of a replayer and of the scores; FUOs are read and
+-- logs looked at only while the replica does not lead
+abbrev pub is_beside : Bool → Verb → Bool
+is_beside leading (Verb.Ask p) = false
+is_beside leading (Verb.Fence p) = false
+is_beside leading (Verb.Min p) = false
+is_beside leading (Verb.Enter p t) = false
+is_beside leading (Verb.PutMin p b) = false
+is_beside leading (Verb.PutSlot p i b v) = false
+is_beside leading (Verb.WriteRow j k x) = false
+is_beside leading (Verb.Fuo p) = not leading
+is_beside leading (Verb.Look p i) = not leading
+is_beside leading _ = true
+
+-- what the other machines do keeps what the leader stands for
+abbrev pub OthersKeep : Type 0
+OthersKeep =
+    (mine : List Event) (lead : Lead) (verb : Verb) (answer : Answer)
+    → is_beside (leads_at lead.place) verb ≡ true
+    → IsPossible lead.config lead.id (record { by = lead.id; verb = verb; answer = answer } ∷ mine)
+    → StandsFor mine lead
+    → StandsFor (record { by = lead.id; verb = verb; answer = answer } ∷ mine) lead

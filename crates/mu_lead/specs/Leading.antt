@@ -1,0 +1,177 @@
+-- What holds once the number is put at a majority: what each region has, and what is brought to
+-- those that are behind.
+use Rattle.std.specs.Prelude.{Bool, List, None, Some, false, get_or, is_some, length, nat_lt, true, ℕ, ◌%◌, ◌+◌, ◌<◌, ◌≡◌, ◌≢◌, ◌≤◌}
+use Rattle.std.specs.declared.option.Option.{Option}
+use Rattle.mu_model.specs.declared.config.Config.{Config}
+use Rattle.mu_model.specs.declared.event.Event.{Event}
+use Rattle.mu_model.specs.declared.event.Target.{Target}
+use Rattle.mu_model.specs.Contents.{row_count}
+use Rattle.mu_model.specs.Entering.{has_read_min, last_opened, open_target}
+use Rattle.mu_model.specs.Histories.{has, since}
+use Rattle.mu_model.specs.Knowledge.{is_filled, known, wrote}
+use Rattle.mu_model.specs.Leaderships.{has_begun, has_quorum, is_member, is_over, leadership, noted_grant, proposal_number}
+use Rattle.mu_model.specs.Picks.{first_value, look_answer}
+use Rattle.mu_model.specs.Placing.{fuo_read_or_raised, is_caught_up_at, is_good_look, is_slot_put_at, is_within_ring, looked_before_entering, reaches_head, since_joining}
+use Rattle.mu_model.specs.Room.{last_head, reserve}
+use Rattle.mu_lead.specs.declared.place.Then.{Then}
+use Rattle.mu_lead.specs.Confirming.{HoldsGrants, IsEnteredNow, last_min}
+
+-- the first position that r does not know
+abbrev pub end_of : Config → ℕ → List Event → ℕ
+end_of c r mine = length (known c r mine)
+
+-- the region p has what is known below u, and r knows that it is filled
+pub record Brought (c : Config) (r : ℕ) (mine : List Event) (p u : ℕ) : Type 0 where
+  pub caught_up : (j : ℕ) → j < u → is_caught_up_at c r p mine j ≡ true
+  pub filled : (j : ℕ) → j < u → is_filled c r p mine j ≡ true
+
+-- wherever the FUO, where there is one, reaches, one that was read or raised of p in the leadership
+-- does
+abbrev pub IsReached : ℕ → List Event → ℕ → Option ℕ → Type 0
+IsReached r mine p reach =
+    (i ring : ℕ) → is_within_ring i ring reach ≡ true
+    → has (λ e. is_within_ring i ring (fuo_read_or_raised r p e.by e.verb e.answer))
+    (leadership r mine)
+    ≡ true
+
+-- what a leader keeps of regions and rows: up to where each has what is known, its FUO, the heads
+-- read last, and how many words of each own row are written
+pub record HoldsTables (c : Config) (r : ℕ) (mine : List Event) (up : List ℕ) (reach : List (Option ℕ)) (heads written : List ℕ) : Type 0 where
+  pub ups : length up ≡ 7
+  pub reaches : length reach ≡ 7
+  pub all_heads : length heads ≡ 7
+  pub rows : length written ≡ row_count c
+  pub brought : (p : ℕ) → Brought c r mine p (get_or up p 0)
+  pub within : (p : ℕ) → get_or up p 0 ≤ row_count c + reserve c + 1
+  pub reached : (p : ℕ) → IsReached r mine p (get_or reach p None)
+  pub read : (q : ℕ) → get_or heads q 0 ≤ last_head r q mine
+  pub words :
+      (j k : ℕ) → j < row_count c → k < 12 → wrote r j k mine ≡ nat_lt k (get_or written j 0)
+
+-- members carry the leadership, which is not over, under the number b; nothing was put at what is
+-- not known
+pub record Leads (c : Config) (r b : ℕ) (mine : List Event) : Type 0 where
+  pub begun : has_begun r mine ≡ true
+  pub goes_on : is_over r mine ≡ false
+  pub numbered : proposal_number r mine ≡ Some b
+  pub carried : has_quorum c r mine ≡ true
+  pub held : HoldsGrants c r mine
+  pub unput : (i : ℕ) → end_of c r mine ≤ i → first_value r i mine ≡ None
+
+-- the FUO of p is read or raised as far as p has what is known
+abbrev pub IsRaised : List ℕ → List (Option ℕ) → ℕ → Type 0
+IsRaised up reach p = reaches_head (get_or up p 0) (get_or reach p None) ≡ true
+
+-- the members below p are raised
+abbrev pub RaisedBelow : ℕ → List Event → List ℕ → List (Option ℕ) → ℕ → Type 0
+RaisedBelow r mine up reach p = (q : ℕ) → q < p → is_member r q mine ≡ true → IsRaised up reach q
+
+-- the members below p have all below u
+abbrev pub HaveBelow : ℕ → List Event → List ℕ → ℕ → ℕ → Type 0
+HaveBelow r mine up p u = (q : ℕ) → q < p → is_member r q mine ≡ true → u ≤ get_or up q 0
+
+-- every member has what is known, and its FUO
+pub record Level (c : Config) (r b : ℕ) (mine : List Event) (up : List ℕ) (reach : List (Option ℕ)) : Type 0 where
+  pub leads : Leads c r b mine
+  pub have : HaveBelow r mine up c.replicas (end_of c r mine)
+  pub raised : RaisedBelow r mine up reach c.replicas
+
+-- the region, where there is one, is a member
+abbrev pub IsMember : Config → ℕ → List Event → Option ℕ → Type 0
+IsMember c r mine None = Unit {0}
+IsMember c r mine (Some q) = (q < c.replicas) × (is_member r q mine ≡ true)
+
+pub record AtReadFuo (c : Config) (r b : ℕ) (mine : List Event) (up : List ℕ) (reach : List (Option ℕ)) (p : ℕ) (source : Option ℕ) : Type 0 where
+  pub region : p < c.replicas
+  pub member : is_member r p mine ≡ true
+  pub leads : Leads c r b mine
+  pub raised : RaisedBelow r mine up reach p
+  pub from : IsMember c r mine source
+
+pub record AtLearn (c : Config) (r b : ℕ) (mine : List Event) (up : List ℕ) (reach : List (Option ℕ)) (p : ℕ) : Type 0 where
+  pub region : p < c.replicas
+  pub member : is_member r p mine ≡ true
+  pub leads : Leads c r b mine
+  pub raised : RaisedBelow r mine up reach c.replicas
+  pub lacks : end_of c r mine < get_or up p 0
+
+-- the member q has what is known, where that has to be so before p is brought up
+abbrev pub IsDone : Then → ℕ → ℕ → Type 0
+IsDone Then.Joined q p = Unit {0}
+IsDone _ q p = q < p
+
+-- the member p is brought up
+pub record Behind (c : Config) (r b : ℕ) (mine : List Event) (up : List ℕ) (reach : List (Option ℕ)) (p : ℕ) (then : Then) : Type 0 where
+  pub region : p < c.replicas
+  pub member : is_member r p mine ≡ true
+  pub leads : Leads c r b mine
+  pub raised : (q : ℕ) → q < c.replicas → q ≢ p → is_member r q mine ≡ true → IsRaised up reach q
+  pub have :
+      (q : ℕ) → q < c.replicas → q ≢ p → is_member r q mine ≡ true → IsDone then q p
+      → end_of c r mine ≤ get_or up q 0
+
+-- it lacks an entry
+pub record AtWiden (c : Config) (r b : ℕ) (mine : List Event) (up : List ℕ) (reach : List (Option ℕ)) (p : ℕ) (then : Then) : Type 0 where
+  pub behind : Behind c r b mine up reach p then
+  pub lacks : get_or up p 0 < end_of c r mine
+
+-- a FUO of p that was read or raised reaches what it lacks
+pub record Near (c : Config) (r b : ℕ) (mine : List Event) (up : List ℕ) (reach : List (Option ℕ)) (p : ℕ) (then : Then) : Type 0 where
+  pub behind : Behind c r b mine up reach p then
+  pub lacks : get_or up p 0 < end_of c r mine
+  pub near : c.version ≡ 2 → is_within_ring (get_or up p 0) c.ring (get_or reach p None) ≡ true
+
+-- p was looked at in position i since it joined, and no put came there since
+abbrev pub looked_at : Config → ℕ → ℕ → ℕ → List Event → Bool
+looked_at c r p i mine =
+    has (λ e. is_good_look (look_answer r p i e.by e.verb e.answer))
+    (since (λ e. is_slot_put_at r p c.ring i e.by e.verb) (since_joining r p mine))
+
+pub record AtEnterBehind (c : Config) (r b : ℕ) (mine : List Event) (up : List ℕ) (reach : List (Option ℕ)) (p : ℕ) (then : Then) : Type 0 where
+  pub near : Near c r b mine up reach p then
+  pub looked : looked_at c r p (get_or up p 0) mine ≡ true
+
+pub record AtPutBehind (c : Config) (r b : ℕ) (mine : List Event) (up : List ℕ) (reach : List (Option ℕ)) (p : ℕ) (then : Then) : Type 0 where
+  pub near : Near c r b mine up reach p then
+  pub entered : last_opened r p mine ≡ Some (Target.Place (get_or up p 0 % c.ring))
+  pub under : IsEnteredNow r p mine
+  pub looked : looked_before_entering c r p (get_or up p 0) mine ≡ true
+
+-- p has all that is known
+pub record AtRaiseBehind (c : Config) (r b : ℕ) (mine : List Event) (up : List ℕ) (reach : List (Option ℕ)) (p : ℕ) (then : Then) : Type 0 where
+  pub behind : Behind c r b mine up reach p then
+  pub done : get_or up p 0 ≡ end_of c r mine
+
+-- p is no member, and every member has what is known
+pub record Late (c : Config) (r b : ℕ) (mine : List Event) (up : List ℕ) (reach : List (Option ℕ)) (p : ℕ) : Type 0 where
+  pub region : p < c.replicas
+  pub stranger : is_member r p mine ≡ false
+  pub level : Level c r b mine up reach
+
+pub record AtLateMin (c : Config) (r b : ℕ) (mine : List Event) (up : List ℕ) (reach : List (Option ℕ)) (p : ℕ) : Type 0 where
+  pub late : Late c r b mine up reach p
+  pub granted : is_some (noted_grant r p mine) ≡ true
+
+pub record AtLateFuo (c : Config) (r b : ℕ) (mine : List Event) (up : List ℕ) (reach : List (Option ℕ)) (p : ℕ) : Type 0 where
+  pub late : Late c r b mine up reach p
+  pub granted : is_some (noted_grant r p mine) ≡ true
+  pub told : has_read_min r p mine ≡ true
+  pub low : last_min r p mine ≤ b
+
+pub record AtLateEnter (c : Config) (r b : ℕ) (mine : List Event) (up : List ℕ) (reach : List (Option ℕ)) (p : ℕ) : Type 0 where
+  pub told : AtLateFuo c r b mine up reach p
+  pub short : get_or up p 0 ≤ end_of c r mine
+  pub raised : IsRaised up reach p
+
+pub record AtLatePut (c : Config) (r b : ℕ) (mine : List Event) (up : List ℕ) (reach : List (Option ℕ)) (p : ℕ) : Type 0 where
+  pub entering : AtLateEnter c r b mine up reach p
+  pub entered : open_target r p mine ≡ Some Target.Min
+  pub under : IsEnteredNow r p mine
+
+-- what was committed is raised at the members below p
+pub record AtRaise (c : Config) (r b : ℕ) (mine : List Event) (up : List ℕ) (reach : List (Option ℕ)) (p : ℕ) : Type 0 where
+  pub region : p < c.replicas
+  pub member : is_member r p mine ≡ true
+  pub leads : Leads c r b mine
+  pub have : (q : ℕ) → q < c.replicas → is_member r q mine ≡ true → get_or up q 0 ≡ end_of c r mine
+  pub raised : RaisedBelow r mine up reach p

@@ -1,0 +1,10 @@
+pub mod Beside
+pub mod Confirming
+pub mod Going
+pub mod Leading
+pub mod Losses
+pub mod Notes
+pub mod Offering
+pub mod Saying
+pub mod Sets
+pub mod Standing

@@ -1,0 +1,48 @@
+-- What the notes say.
+use Rattle.std.specs.Prelude.{Bool, List, None, Some, [], if◌then◌else◌, is_some, length, min, nat_lt, ℕ, ◌++◌, ◌∷◌, ◌≡◌, ◌⊎◌}
+use Rattle.std.specs.declared.option.Option.{Option}
+use Rattle.mu_model.specs.declared.config.Config.{Config}
+use Rattle.mu_model.specs.declared.event.Event.{Event}
+use Rattle.mu_model.specs.Knowledge.{known}
+use Rattle.mu_model.specs.Leaderships.{noted_grant}
+use Rattle.mu_lead.specs.declared.note.AbortCause.{AbortCause}
+use Rattle.mu_lead.specs.declared.note.Note.{Note}
+use Rattle.mu_lead.specs.declared.place.Offer.{Offer}
+use Rattle.mu_lead.specs.Confirming.{Confirmed}
+use Rattle.mu_lead.specs.Sets.{bits}
+
+-- a round of fences that just ended named r in these regions: a majority with its own, or not
+abbrev pub TellsRound : Config → ℕ → List Event → Note → Type 0
+TellsRound c r mine (Note.Confirmed followers) =
+    Confirmed c r mine × (followers ≡ bits (λ p. is_some (noted_grant r p mine)))
+TellsRound c r mine (Note.NotConfirmed named) =
+    (Confirmed c r mine → ⊥) × (named ≡ bits (λ p. is_some (noted_grant r p mine)))
+TellsRound c r mine note = ⊥
+
+-- the note of an entry that the put made known: a look had shown it, or none had
+abbrev pub note_of_commit : ℕ → Offer → Note
+note_of_commit i offer =
+    if offer.adopted then Note.Adopted i offer.value else Note.Committed i offer.value
+
+-- the put of the offer made its entry known, and is noted so; or nothing is, and there is nothing
+-- to note
+abbrev pub TellsPut : Config → ℕ → List Event → Event → List ℕ → Offer → Note → Type 0
+TellsPut c r mine e values offer note =
+    ((note ≡ Note.Working) × (known c r (e ∷ mine) ≡ values))
+    ⊎ ((note ≡ note_of_commit (length values) offer)
+    × (known c r (e ∷ mine) ≡ values ++ offer.value ∷ []))
+
+-- the note of a late follower's minimum, under the number b
+abbrev pub note_of_min : ℕ → ℕ → ℕ → Note
+note_of_min p b min = if nat_lt b min then Note.Aborted (AbortCause.Higher p min) else Note.Working
+
+-- the note of a head of q, where it leaves room with so many places free, or may be marked
+abbrev pub note_of_head : ℕ → ℕ → ℕ → Bool → Bool → Note
+note_of_head q head position room marks =
+    if room then Note.Working else (if marks then Note.Working else Note.NoRoom q head position)
+
+-- the value of the entry that the note says the put made known
+abbrev pub value_committed : Note → Option ℕ
+value_committed (Note.Committed i v) = Some v
+value_committed (Note.Adopted i v) = Some v
+value_committed note = None

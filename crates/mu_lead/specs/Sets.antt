@@ -1,0 +1,42 @@
+-- The first region, counted upwards, that passes a test.
+use Rattle.std.specs.Prelude.{Bool, None, Some, false, suc, true, zero, ℕ, ◌%◌, ◌*◌, ◌+◌, ◌/◌, ◌<◌, ◌==◌, ◌≡◌, ◌≤◌}
+use Rattle.std.specs.declared.option.Option.{Option}
+use Rattle.mu_model.specs.declared.event.Answer.{Answer}
+use Rattle.mu_model.specs.declared.event.Fence.{Fence}
+
+-- q is the first number from `from` on, below n, that passes; or there is none
+abbrev pub IsFirst : (ℕ → Bool) → ℕ → ℕ → Option ℕ → Type 0
+IsFirst test from n None = (k : ℕ) → from ≤ k → k < n → test k ≡ false
+IsFirst test from n (Some q) =
+    (from ≤ q) × (q < n) × (test q ≡ true) × ((k : ℕ) → from ≤ k → k < q → test k ≡ false)
+
+-- 1 for what is so, else 0
+abbrev pub bit : Bool → ℕ
+bit true = 1
+bit false = 0
+
+-- the numbers below 7 that pass, as the bits of a number
+abbrev pub bits : (ℕ → Bool) → ℕ
+bits test =
+    bit (test 0) + 2 * bit (test 1) + 4 * bit (test 2) + 8 * bit (test 3) + 16 * bit (test 4)
+    + 32 * bit (test 5) + 64 * bit (test 6)
+
+-- the fence that an answer shows, where it shows one
+abbrev pub NamesFence : Answer → Option Fence → Type 0
+NamesFence answer None = (f : Fence) → answer ≡ Answer.Seen f → ⊥
+NamesFence answer (Some f) = answer ≡ Answer.Seen f
+
+-- the fence by which an `Enter` was lost, where it was
+abbrev pub NamesLost : Answer → Option Fence → Type 0
+NamesLost answer None = (f : Fence) → answer ≡ Answer.Lost f → ⊥
+NamesLost answer (Some f) = answer ≡ Answer.Lost f
+
+-- the number that an answer tells, where it tells one
+abbrev pub NamesNumber : Answer → Option ℕ → Type 0
+NamesNumber answer None = (x : ℕ) → answer ≡ Answer.Number x → ⊥
+NamesNumber answer (Some x) = answer ≡ Answer.Number x
+
+-- bit q of a number is set
+abbrev pub is_bit : ℕ → ℕ → Bool
+is_bit zero set = set % 2 == 1
+is_bit (suc q) set = is_bit q (set / 2)

@@ -1,0 +1,327 @@
+//! The leader, at its place in the listing.
+ghost use Rattle.std.specs.Prelude.{IfOk, IfSome, List, None, Some, [], false, get_or, if◌then◌else◌, length, nat_lt, not, ℕ, ◌%◌, ◌&&◌, ◌<◌, ◌==◌, ◌||◌, ◌∷◌, ◌≡◌, ◌≤◌};
+ghost use Rattle.mu_model.specs.declared.event.Event.{Event};
+ghost use Rattle.mu_model.specs.declared.event.Target.{Target as SomeTarget};
+ghost use Rattle.mu_model.specs.declared.event.Verb.{Verb as SomeVerb};
+ghost use Rattle.mu_model.specs.Allowed.{Allowed};
+ghost use Rattle.mu_model.specs.Contents.{IsConfig, config_word};
+ghost use Rattle.mu_model.specs.Knowledge.{known as known_of};
+ghost use Rattle.mu_model.specs.Parts.{IsPossible};
+ghost use Rattle.mu_leading.specs.Leadership.{StandsForLeadership};
+ghost use Rattle.mu_lead.specs.Beside.{leads_at};
+ghost use Rattle.mu_lead.specs.declared.note.Note.{Note as SomeNote};
+ghost use Rattle.mu_lead.specs.Sets.{is_bit};
+ghost use Rattle.mu_lead.specs.Standing.{HasHeeded, StandsFor, TakesDue, TakesNext, TellsDue, TellsFailed, TellsNext, verb_of};
+ghost use Rattle.mu_lead.specs.Going.{begins_at, going_after};
+ghost use Rattle.mu_lead.specs.Saying.{NotesDue, SaysNext, is_working as is_working_note};
+
+use crate::batches::knows_all;
+use crate::note::Note;
+use crate::place::{Offer, Place};
+use crate::positions::{end_of, narrow};
+use mu_leading::Leadership;
+use mu_model::{Answer, Config, Event, Fence, NoMemory, Target, Verb, count_of_rows, row_word};
+use std::alloc::Global;
+
+/// What a replica does as a leader: its place in the listing, and what it read and did on the way.
+#[derive(Drop)]
+pub struct Lead {
+    /// What all replicas know at the start.
+    pub config: Config,
+    /// The replica.
+    pub id: u8,
+    /// Whether the scores name the replica itself.
+    pub named: bool,
+    /// Whom the scores hold to be failed.
+    pub failed: [bool; 7],
+    /// Whether a leadership began and was neither aborted nor given up.
+    pub under_way: bool,
+    /// The place in the listing.
+    pub place: Place,
+    /// What the replica's leaderships have come to.
+    pub leading: Leadership,
+    /// The number of the leadership, once it is picked.
+    pub number: u32,
+    /// Up to where each region has what is known.
+    pub up: [u64; 7],
+    /// The greatest FUO of each region that was read or raised in the leadership.
+    pub reach: [Option<u64>; 7],
+    /// The head of each replica that was read last, over all leaderships.
+    pub heads: [u64; 7],
+    /// How many words of each own row are written.
+    pub written: Vec<u8>,
+}
+
+impl Lead {
+    /// A leader before any leadership. Takes all memory that it ever needs.
+    pub fn new(alloc: Global, config: &Config, id: u8) -> Result<Lead, NoMemory>
+        requires config { IsConfig config.now }
+        requires inside { id < config.now.replicas }
+        ensures stands { IfOk result (λ lead. StandsFor [] lead) }
+        ensures config { IfOk result (λ lead. lead.config ≡ config.now) }
+        ensures id { IfOk result (λ lead. lead.id ≡ id) }
+    {
+        Ok(Lead {
+            config: config.copied(alloc)?,
+            id,
+            named: false,
+            failed: [false; 7],
+            under_way: false,
+            place: Place::Ask(0),
+            leading: Leadership::none(id),
+            number: 0,
+            up: [0; 7],
+            reach: [None; 7],
+            heads: [0; 7],
+            written: vec![in alloc; 0; count_of_rows(config)]?,
+        })
+    }
+
+    /// Tells whom the scores name, and of whom they say that it is failed: bit q for replica q.
+    pub fn heed(&mut self, leader: u8, failed: u8) -> Note
+        ghost mine: { List Event }
+        requires { StandsFor mine self.old }
+        ensures stands { StandsFor mine self.new }
+        ensures named { self.new.named ≡ (leader == self.old.id) }
+        ensures heeded { TellsFailed self.old.config self.old.id mine failed → HasHeeded mine self.new }
+        ensures resigned { result
+            ≡ (if self.old.under_way && nat_lt leader self.old.id then SomeNote.Resigned leader
+            else SomeNote.Working) }
+        ensures config { self.new.config ≡ self.old.config }
+        ensures id { self.new.id ≡ self.old.id }
+        ensures due { nat_lt leader self.old.id ≡ false → (values : List ℕ)
+            → verb_of self.new values ≡ verb_of self.old values }
+        ensures going { self.new.under_way ≡ (self.old.under_way && not (nat_lt leader self.old.id)) }
+    {
+        self.named = leader == self.id;
+        self.failed = bits_of(failed);
+        if self.under_way && leader < self.id {
+            self.under_way = false;
+            self.place = Place::Ask(0);
+            Note::Resigned { to: leader }
+        } else {
+            Note::Working
+        }
+    }
+
+    /// Whether the replica leads: a leadership was confirmed, and isn't over or given up.
+    pub fn is_leading(&self) -> bool
+        ensures { result ≡ leads_at self.now.place }
+    {
+        match self.place {
+            Place::Ask(_) | Place::Confirm(_, _) | Place::Evidence(_) => false,
+            _ => true,
+        }
+    }
+
+    /// The verb that is due: none where another replica is named, or where the listing has none.
+    #[tactic(auto, using(crate::proofs::Due::due_allowed, crate::proofs::Tables::tables_kept, crate::proofs::Bringing::done_behind, crate::proofs::Rooms::looks_first, crate::proofs::Lates::late_level, crate::proofs::Puts::raised_all, crate::proofs::Looks::may_offer_own))]
+    pub fn due(&self, known: &[u16]) -> Option<Verb>
+        ghost mine: { List Event }
+        requires stands { StandsFor mine self.now }
+        requires possible { IsPossible self.now.config self.now.id mine }
+        requires known { known.now ≡ known_of self.now.config self.now.id mine }
+        requires short { length mine < self.now.config.budget }
+        ensures exact { result ≡ (if self.now.named then verb_of self.now known.now else None) }
+        ensures allowed { IfSome result (λ verb. Allowed self.now.config self.now.id mine verb) }
+    {
+        if self.named { self.verb(known) } else { None }
+    }
+
+    /// The place of the ring that holds the position.
+    pub fn place_of(&self, position: u64) -> Target
+        ensures { 0 < self.now.config.ring → result ≡ SomeTarget.Place (position % self.now.config.ring) }
+    {
+        if self.config.ring == 0 {
+            Target::Place(0)
+        } else {
+            Target::Place(narrow(position % u64::from(self.config.ring)))
+        }
+    }
+
+    /// Up to where the region has what is known.
+    pub fn up_of(&self, p: u8) -> u64
+        ensures { length self.now.up ≡ 7 → result ≡ get_or self.now.up p 0 }
+    {
+        if p < 7 { self.up[usize::from(p)] } else { 0 }
+    }
+
+    /// The word of row `j` that is to be written next.
+    pub fn next_word(&self, j: u16) -> u8
+        ensures { result ≡ get_or self.now.written.items j 12 }
+    {
+        match self.written.get(usize::from(j)) {
+            Some(k) => *k,
+            None => 12,
+        }
+    }
+
+    /// The verb of the place.
+    fn verb(&self, known: &[u16]) -> Option<Verb>
+        ensures { (mine : List Event) → StandsFor mine self.now → length known.now < 65536
+            → result ≡ verb_of self.now known.now }
+    {
+        let end = end_of(known);
+        match self.place {
+            Place::Ask(p) => Some(Verb::Ask(p)),
+            Place::Confirm(_, p) => Some(Verb::Fence(p)),
+            Place::ReadMin(p) => Some(Verb::Min(p)),
+            Place::EnterMin(p) => Some(Verb::Enter(p, Target::Min)),
+            Place::PutMin(p) => Some(Verb::PutMin(p, self.number)),
+            Place::ReadFuo(p, _) => Some(Verb::Fuo(p)),
+            Place::Learn(p) => Some(Verb::Look(p, end)),
+            Place::WidenBehind(p, _) => Some(Verb::RaiseFuo(p, narrow(self.up_of(p)))),
+            Place::LookBehind(p, _) => Some(Verb::Look(p, narrow(self.up_of(p)))),
+            Place::EnterBehind(p, _) => Some(Verb::Enter(p, self.place_of(self.up_of(p)))),
+            Place::PutBehind(p, _) => Some(self.put_behind(p, known)),
+            Place::RaiseBehind(p, _) => Some(Verb::RaiseFuo(p, narrow(self.up_of(p)))),
+            Place::FenceBehind(p, _) => Some(Verb::Fence(p)),
+            Place::LateFence(p) => Some(Verb::Fence(p)),
+            Place::LateMin(p) => Some(Verb::Min(p)),
+            Place::LateFuo(p) => Some(Verb::Fuo(p)),
+            Place::LateEnter(p) => Some(Verb::Enter(p, Target::Min)),
+            Place::LatePut(p) => Some(Verb::PutMin(p, self.number)),
+            Place::ReadHead(q, _) => Some(Verb::Head(q)),
+            Place::Look(p, position, _, _) => Some(Verb::Look(p, position)),
+            Place::Write(j, _, _) => Some(self.write_next(j)),
+            Place::Enter(p, _) => Some(Verb::Enter(p, self.place_of(u64::from(end)))),
+            Place::Put(p, offer) => Some(Verb::PutSlot(p, end, self.number, offer.value)),
+            Place::Raise(p) => Some(Verb::RaiseFuo(p, end)),
+            Place::Evidence(p) => Some(Verb::Fence(p)),
+            Place::Outrun | Place::Rest => None,
+        }
+    }
+
+    /// The value that the region lacks next.
+    pub fn lacked(&self, p: u8, known: &[u16]) -> u16
+        ensures { length self.now.up ≡ 7 → get_or self.now.up p 0 < 65536
+            → result ≡ get_or known.now (get_or self.now.up p 0) 0 }
+    {
+        match known.get(usize::from(narrow(self.up_of(p)))) {
+            Some(v) => *v,
+            None => 0,
+        }
+    }
+
+    /// The put of what the region lacks.
+    pub fn put_behind(&self, p: u8, known: &[u16]) -> Verb
+        ensures { length self.now.up ≡ 7 → get_or self.now.up p 0 < 65536
+            → result
+            ≡ SomeVerb.PutSlot p (get_or self.now.up p 0) self.now.number
+            (get_or known.now (get_or self.now.up p 0) 0) }
+    {
+        Verb::PutSlot(p, narrow(self.up_of(p)), self.number, self.lacked(p, known))
+    }
+
+    /// The write of the next word of row `j`.
+    fn write_next(&self, j: u16) -> Verb
+        ensures { get_or self.now.written.items j 12 < 12
+            → result
+            ≡ SomeVerb.WriteRow j (get_or self.now.written.items j 12)
+            (config_word self.now.config j (get_or self.now.written.items j 12)) }
+    {
+        let k = self.next_word(j);
+        let word = if k < 12 {
+            row_word(&self.config, j, k)
+        } else {
+            0
+        };
+        Verb::WriteRow(j, k, word)
+    }
+
+    /// Takes the answer of the verb that was due.
+    #[tactic(auto, using(crate::proofs::Says::says_next, crate::proofs::Says::says_idle))]
+    pub fn take(&mut self, answer: Answer, known: &[u16]) -> Note
+        ghost mine: { List Event }
+        requires stands { StandsFor mine self.old }
+        requires heeded { HasHeeded mine self.old }
+        ensures stands { TakesNext mine self.old known.now answer self.new }
+        ensures tells { TellsNext mine self.old known.now answer result }
+        ensures config { self.new.config ≡ self.old.config }
+        ensures id { self.new.id ≡ self.old.id }
+        ensures says { SaysNext mine self.old known.now answer result }
+        ensures going { self.new.under_way ≡ going_after (begins_at self.old.place || self.old.under_way) result }
+    {
+        let note = self.take_answer(answer, known);
+        if is_working(note) && knows_all(&self.config, known) {
+            Note::Idle
+        } else {
+            note
+        }
+    }
+
+    /// Takes the answer, by the place that asked.
+    #[tactic(auto, using(crate::proofs::Taking::takes_head))]
+    fn take_answer(&mut self, answer: Answer, known: &[u16]) -> Note
+        ensures stands { TakesDue self.old known.now answer self.new }
+        ensures tells { TellsDue self.old known.now answer result }
+        ensures config { self.new.config ≡ self.old.config }
+        ensures id { self.new.id ≡ self.old.id }
+        ensures note { NotesDue self.old known.now answer result }
+        ensures going { self.new.under_way ≡ going_after (begins_at self.old.place || self.old.under_way) result }
+    {
+        match self.place {
+            Place::Ask(p) => self.took_ask(p),
+            Place::Confirm(round, p) => self.at_confirm(round, p, answer),
+            Place::ReadMin(p) => self.at_read_min(p, answer),
+            Place::EnterMin(p) => self.at_enter_min(p, answer),
+            Place::PutMin(p) => self.at_put_min(p, answer),
+            Place::ReadFuo(p, source) => self.at_read_fuo(p, source, answer, known),
+            Place::Learn(p) => self.took_learning(p, answer, known),
+            Place::WidenBehind(p, then) => self.took_widening(p, then),
+            Place::LookBehind(p, then) => self.took_look_behind(p, then, answer),
+            Place::EnterBehind(p, then) => self.at_enter_behind(p, then, answer),
+            Place::PutBehind(p, then) => self.at_put_behind(p, then, answer, known),
+            Place::RaiseBehind(p, then) => self.took_raise_behind(p, then, known),
+            Place::FenceBehind(p, then) => self.at_fence_behind(p, then, answer),
+            Place::LateFence(p) => self.at_late_fence(p, answer, known),
+            Place::LateMin(p) => self.at_late_min(p, answer),
+            Place::LateFuo(p) => self.at_late_fuo(p, answer, known),
+            Place::LateEnter(p) => self.at_late_enter(p, answer),
+            Place::LatePut(p) => self.at_late_put(p, answer, known),
+            Place::ReadHead(q, candidate) => self.at_read_head(q, candidate, answer, known),
+            Place::Look(p, i, candidate, best) => {
+                self.took_look(p, i, candidate, best, answer, known)
+            }
+            Place::Write(j, last, offer) => self.took_write(j, last, offer),
+            Place::Enter(p, offer) => self.at_enter(p, offer, answer, known),
+            Place::Put(p, offer) => self.at_put(p, offer, answer, known),
+            Place::Raise(p) => self.took_raise(p, known),
+            Place::Evidence(p) => self.at_evidence(p, answer),
+            Place::Outrun | Place::Rest => Note::Working,
+        }
+    }
+}
+
+/// Whether the note says nothing.
+fn is_working(note: Note) -> bool
+    ensures { result ≡ is_working_note note }
+{
+    match note {
+        Note::Working => true,
+        _ => false,
+    }
+}
+
+/// The bits of a number, bit p at place p.
+#[tactic(auto, using(crate::proofs::Bits::bits_are))]
+fn bits_of(set: u8) -> [bool; 7]
+    ensures long { length result ≡ 7 }
+    ensures bits { (q : ℕ) → q < 7 → get_or result q false ≡ is_bit q set }
+{
+    let one = set / 2;
+    let two = one / 2;
+    let three = two / 2;
+    let four = three / 2;
+    let five = four / 2;
+    let six = five / 2;
+    [
+        set % 2 == 1,
+        one % 2 == 1,
+        two % 2 == 1,
+        three % 2 == 1,
+        four % 2 == 1,
+        five % 2 == 1,
+        six % 2 == 1,
+    ]
+}

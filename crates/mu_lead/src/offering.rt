@@ -1,0 +1,455 @@
+//! New positions: room, looks, the value, puts and FUOs.
+ghost use Rattle.std.specs.Prelude.{IsTrue, List, None, Some, false, get_or, if◌then◌else◌, length, min, nat_lt, not, true, ℕ, ◌%◌, ◌&&◌, ◌+◌, ◌<◌, ◌==◌, ◌∷◌, ◌||◌, ◌≡◌, ◌≢◌, ◌≤◌, ◌↔◌};
+ghost use Rattle.std.specs.declared.option.Option.{Option};
+ghost use Rattle.mu_model.specs.declared.event.Answer.{Answer as SomeAnswer};
+ghost use Rattle.mu_model.specs.declared.event.Event.{Event as SomeEvent};
+ghost use Rattle.mu_model.specs.declared.event.Target.{Target as SomeTarget};
+ghost use Rattle.mu_model.specs.declared.event.Verb.{Verb as SomeVerb};
+ghost use Rattle.mu_model.specs.Contents.{config_word, marked, row_count};
+ghost use Rattle.mu_model.specs.Knowledge.{known as known_of};
+ghost use Rattle.mu_model.specs.Leaderships.{is_member};
+ghost use Rattle.mu_model.specs.Parts.{IsPossible};
+ghost use Rattle.mu_model.specs.Picks.{entry_of, larger as larger_entry};
+ghost use Rattle.mu_model.specs.Room.{reserve};
+ghost use Rattle.mu_leading.specs.Leadership.{StandsForLeadership};
+ghost use Rattle.mu_model.specs.declared.config.Config.{Config};
+ghost use Rattle.mu_lead.specs.declared.place.Sight.{Sight as SomeSight};
+ghost use Rattle.mu_lead.specs.declared.place.Place.{Place as SomePlace};
+ghost use Rattle.mu_lead.specs.Leading.{Level, end_of as end_of_known};
+ghost use Rattle.mu_lead.specs.Notes.{TellsPut, note_of_commit, note_of_head, value_committed};
+ghost use Rattle.mu_lead.specs.Offering.{Looking, LooksShow, MayBeMarked, MayOffer, Roomy, Writing, entry_in};
+ghost use Rattle.mu_lead.specs.Sets.{IsFirst};
+ghost use Rattle.mu_lead.specs.Standing.{HasHeeded, HoldsAt, Stands, StandsFor, Takes, TakesLook};
+ghost use Rattle.mu_lead.specs.Saying.{NotesPut, note_of_look};
+ghost use Rattle.mu_lead.specs.declared.note.Note.{Note as SomeNote};
+ghost use Rattle.mu_lead.specs.Going.{going_after};
+
+use crate::arrays::{with_fuo, with_number};
+use crate::batches::{is_marked, knows_all, next_offer, own_value};
+use crate::behind::{is_past, value_in};
+use crate::lead::Lead;
+use crate::note::Note;
+use crate::place::{Offer, Place, Sight, Then};
+use crate::positions::{end_of, narrow};
+use crate::regions::{next_member, next_stranger};
+use mu_model::{Answer, Event, Verb, count_of_rows, reserve_of, row_rest};
+
+impl Lead {
+    /// Goes on with the next position, or with late followers where all commands are known.
+    pub fn next_position(&self, known: &[u16]) -> Place
+        ensures { (mine : List SomeEvent) → Stands mine self.now
+            → known.now ≡ known_of self.now.config self.now.id mine
+            → Level self.now.config self.now.id self.now.number mine self.now.up self.now.reach
+            → HoldsAt mine self.now result }
+    {
+        if knows_all(&self.config, known) {
+            match next_stranger(&self.leading, 0, self.config.replicas) {
+                Some(q) => Place::LateFence(q),
+                None => Place::Rest,
+            }
+        } else if known.len() < self.count_of_places() {
+            self.heads_from(0, None, known)
+        } else {
+            Place::Rest
+        }
+    }
+
+    /// How many positions there are for commands and marks.
+    fn count_of_places(&self) -> usize
+        ensures { row_count self.now.config < 65536
+            → result ≡ row_count self.now.config + reserve self.now.config }
+    {
+        count_of_rows(&self.config).saturating_add(usize::from(reserve_of(&self.config)))
+    }
+
+    /// The head of `q` that was read last.
+    fn head_of(&self, q: u8) -> u64
+        ensures { length self.now.heads ≡ 7 → result ≡ get_or self.now.heads q 0 }
+    {
+        if q < 7 { self.heads[usize::from(q)] } else { 0 }
+    }
+
+    /// Whether the head leaves room for the next position and for so many more.
+    fn leaves_room(&self, head: u64, free: u8, known: &[u16]) -> bool
+        ensures { length known.now < 65536
+            → result ≡ nat_lt (length known.now + free) (head + self.now.config.ring) }
+    {
+        let last = u64::from(end_of(known)) + u64::from(free);
+        last < head || last - head < u64::from(self.config.ring)
+    }
+
+    /// The first replica from `from` on whose head, as it was read last, is too low.
+    fn next_low(&self, from: u8, known: &[u16]) -> Option<u8>
+        ensures { length known.now < 65536 → length self.now.heads ≡ 7
+            → IsFirst
+            (λ k. not
+            (marked self.now.config k known.now
+            || nat_lt (length known.now + reserve self.now.config)
+            (get_or self.now.heads k 0 + self.now.config.ring)))
+            from self.now.config.replicas result }
+    {
+        for p in from..self.config.replicas {
+            if !is_marked(&self.config, p, known)
+                && !self.leaves_room(self.head_of(p), reserve_of(&self.config), known)
+            {
+                return Some(p);
+            }
+        }
+        None
+    }
+
+    /// Reads the next head from `q` on that is too low, or goes on with the looks.
+    fn heads_from(&self, q: u8, candidate: Option<u8>, known: &[u16]) -> Place
+        ensures { (mine : List SomeEvent) → Stands mine self.now
+            → known.now ≡ known_of self.now.config self.now.id mine
+            → Level self.now.config self.now.id self.now.number mine self.now.up self.now.reach
+            → Roomy self.now.config self.now.id mine q candidate → HoldsAt mine self.now result }
+    {
+        match self.next_low(q, known) {
+            Some(p) => Place::ReadHead(p, candidate),
+            None => Place::Look(self.first_member(), end_of(known), candidate, None),
+        }
+    }
+
+    /// Whether the scores hold `q` to be failed.
+    fn is_failed(&self, q: u8) -> bool
+        ensures { length self.now.failed ≡ 7 → result ≡ get_or self.now.failed q false }
+    {
+        q < 7 && self.failed[usize::from(q)]
+    }
+
+    /// The head of `q`.
+    pub fn took_head(&mut self, q: u8, candidate: Option<u8>, head: u64, known: &[u16]) -> Note
+        ensures stands { (mine : List SomeEvent) → HasHeeded mine self.old → StandsFor mine self.old
+            → self.old.place ≡ SomePlace.ReadHead q candidate
+            → IsPossible self.old.config self.old.id
+            (record
+            { by = self.old.id; verb = SomeVerb.Head q; answer = SomeAnswer.Number head }
+            ∷ mine)
+            → known.now ≡ known_of self.old.config self.old.id mine
+            → StandsFor
+            (record
+            { by = self.old.id; verb = SomeVerb.Head q; answer = SomeAnswer.Number head }
+            ∷ mine)
+            self.new }
+        ensures tells { length known.now < 65536 → head < 65536 → length self.old.failed ≡ 7
+            → result
+            ≡ note_of_head q head (length known.now)
+            (nat_lt (length known.now + reserve self.old.config)
+            (head + self.old.config.ring))
+            (not (q == self.old.id)
+            && (get_or self.old.failed q false
+            && nat_lt (length known.now + 0) (head + self.old.config.ring))) }
+        ensures quiet { value_committed result ≡ None }
+        ensures config { self.new.config ≡ self.old.config }
+        ensures id { self.new.id ≡ self.old.id }
+        ensures note { length known.now < 65536 → length self.old.failed ≡ 7
+            → result
+            ≡ note_of_head q (min head 65535) (length known.now)
+            (nat_lt (length known.now + reserve self.old.config)
+            (head + self.old.config.ring))
+            (not (q == self.old.id)
+            && (get_or self.old.failed q false
+            && nat_lt (length known.now + 0) (head + self.old.config.ring))) }
+        ensures going { self.new.under_way ≡ going_after self.old.under_way result }
+    {
+        self.heads = with_number(self.heads, q, head);
+        if self.leaves_room(head, reserve_of(&self.config), known) {
+            self.place = self.heads_from(q.saturating_add(1), candidate, known);
+            Note::Working
+        } else if self.may_mark(q, head, known) {
+            self.place = self.heads_from(q.saturating_add(1), Some(first_of(candidate, q)), known);
+            Note::Working
+        } else {
+            self.place = self.late_from(0, known);
+            Note::NoRoom {
+                replica: q,
+                head: narrow(head),
+                position: end_of(known),
+            }
+        }
+    }
+
+    /// Whether `q`, whose head leaves too little room, may be marked.
+    fn may_mark(&self, q: u8, head: u64, known: &[u16]) -> bool
+        ensures may { length known.now < 65536 → length self.now.failed ≡ 7
+            → (IsTrue result
+            ↔ ((q ≢ self.now.id) × (get_or self.now.failed q false ≡ true)
+            × (nat_lt (length known.now + 0) (head + self.now.config.ring) ≡ true))) }
+        ensures is { length known.now < 65536 → length self.now.failed ≡ 7
+            → result
+            ≡ (not (q == self.now.id)
+            && (get_or self.now.failed q false
+            && nat_lt (length known.now + 0) (head + self.now.config.ring))) }
+    {
+        q != self.id && self.is_failed(q) && self.leaves_room(head, 0, known)
+    }
+
+    /// A look at the new position of `p`.
+    pub fn took_look(
+        &mut self,
+        p: u8,
+        position: u16,
+        candidate: Option<u8>,
+        best: Option<Sight>,
+        answer: Answer,
+        known: &[u16],
+    ) -> Note
+        ensures stands { TakesLook self.old (SomePlace.Look p position candidate best) known.now p position
+            answer self.new }
+        ensures quiet { value_committed result ≡ None }
+        ensures config { self.new.config ≡ self.old.config }
+        ensures id { self.new.id ≡ self.old.id }
+        ensures note { result ≡ note_of_look position (length known.now) answer }
+        ensures going { self.new.under_way ≡ going_after self.old.under_way result }
+    {
+        if is_past(answer) {
+            self.place = Place::Outrun;
+            Note::Working
+        } else if usize::from(position) < known.len() {
+            self.place = self.bring_up_from(0, Then::Position, known);
+            Note::Learnt {
+                position,
+                value: value_in(answer),
+            }
+        } else {
+            let shown = larger(best, sight_in(answer));
+            self.place = self.after_look(p, candidate, shown, known);
+            Note::Working
+        }
+    }
+
+    /// Looks at the next member, or picks the value.
+    fn after_look(&self, p: u8, candidate: Option<u8>, best: Option<Sight>, known: &[u16]) -> Place
+        ensures { (mine : List SomeEvent) → Stands mine self.now
+            → known.now ≡ known_of self.now.config self.now.id mine → p < self.now.config.replicas
+            → Looking self.now.config self.now.id self.now.number mine self.now.up self.now.reach
+            (p + 1) candidate best
+            → HoldsAt mine self.now result }
+    {
+        match next_member(&self.leading, p.saturating_add(1), self.config.replicas) {
+            Some(q) => Place::Look(q, end_of(known), candidate, best),
+            None => self.pick(candidate, best, known),
+        }
+    }
+
+    /// Picks the value: the entry of the largest number, else a mark, else an own batch.
+    fn pick(&self, candidate: Option<u8>, best: Option<Sight>, known: &[u16]) -> Place
+        ensures { (mine : List SomeEvent) → Stands mine self.now
+            → known.now ≡ known_of self.now.config self.now.id mine
+            → Looking self.now.config self.now.id self.now.number mine self.now.up self.now.reach
+            self.now.config.replicas candidate best
+            → HoldsAt mine self.now result }
+    {
+        match best {
+            Some(sight) => self.offer(Offer {
+                value: sight.value,
+                adopted: true,
+            }),
+            None => match candidate {
+                Some(q) => self.offer(Offer {
+                    value: own_value(self.id, 4080 + u16::from(q % 8)),
+                    adopted: false,
+                }),
+                None => self.offer_own(known),
+            },
+        }
+    }
+
+    /// Begins with the next own batch, where there is one.
+    fn offer_own(&self, known: &[u16]) -> Place
+        ensures { (mine : List SomeEvent) → Stands mine self.now
+            → known.now ≡ known_of self.now.config self.now.id mine
+            → Looking self.now.config self.now.id self.now.number mine self.now.up self.now.reach
+            self.now.config.replicas None None
+            → HoldsAt mine self.now result }
+    {
+        match next_offer(&self.config, self.id, known) {
+            None => Place::Rest,
+            Some(j) => self.write_from(
+                j,
+                j.saturating_add(u16::from(row_rest(&self.config, j))),
+                Offer {
+                    value: own_value(self.id, j),
+                    adopted: false,
+                },
+            ),
+        }
+    }
+
+    /// Begins to put the value.
+    pub fn offer(&self, offer: Offer) -> Place
+        ensures { (mine : List SomeEvent) → (candidate : Option ℕ) → (best : Option SomeSight)
+            → Stands mine self.now
+            → Looking self.now.config self.now.id self.now.number mine self.now.up self.now.reach
+            self.now.config.replicas candidate best
+            → MayOffer self.now.config self.now.id mine candidate offer.value
+            → LooksShow self.now.config self.now.id mine
+            (end_of_known self.now.config self.now.id mine) offer.adopted
+            → HoldsAt mine self.now result }
+    {
+        Place::Enter(self.first_member(), offer)
+    }
+
+    /// The region `p` was entered for the offer.
+    pub fn entered_new(&mut self, p: u8, offer: Offer, known: &[u16]) -> Note
+        ensures stands { Takes self.old (SomePlace.Enter p offer) known.now
+            (SomeVerb.Enter p (SomeTarget.Place (length known.now % self.old.config.ring)))
+            SomeAnswer.Entered self.new }
+        ensures quiet { value_committed result ≡ None }
+        ensures config { self.new.config ≡ self.old.config }
+        ensures id { self.new.id ≡ self.old.id }
+        ensures note { result ≡ SomeNote.Working }
+        ensures going { self.new.under_way ≡ going_after self.old.under_way result }
+    {
+        let event = Event {
+            by: self.id,
+            verb: Verb::Enter(p, self.place_of(known.len() as u64)),
+            answer: Answer::Entered,
+        };
+        self.leading.take(self.id, &event);
+        self.place = Place::Put(p, offer);
+        Note::Working
+    }
+
+    /// The offer was put at `p`.
+    pub fn took_put(&mut self, p: u8, offer: Offer, known: &[u16]) -> Note
+        ensures stands { Takes self.old (SomePlace.Put p offer) known.now
+            (SomeVerb.PutSlot p (length known.now) self.old.number offer.value) SomeAnswer.Done
+            self.new }
+        ensures tells { (mine : List SomeEvent) → StandsFor mine self.old
+            → self.old.place ≡ SomePlace.Put p offer
+            → IsPossible self.old.config self.old.id
+            (record {
+              by = self.old.id;
+              verb = SomeVerb.PutSlot p (length known.now) self.old.number
+                  offer.value;
+              answer = SomeAnswer.Done;
+            }
+            ∷ mine)
+            → known.now ≡ known_of self.old.config self.old.id mine
+            → TellsPut self.old.config self.old.id mine
+            (record {
+              by = self.old.id;
+              verb = SomeVerb.PutSlot p (length known.now) self.old.number
+                  offer.value;
+              answer = SomeAnswer.Done;
+            })
+            known.now offer result }
+        ensures config { self.new.config ≡ self.old.config }
+        ensures id { self.new.id ≡ self.old.id }
+        ensures note { NotesPut (length known.now) offer result }
+        ensures going { self.new.under_way ≡ going_after self.old.under_way result }
+    {
+        let position = end_of(known);
+        let event = Event {
+            by: self.id,
+            verb: Verb::PutSlot(p, position, self.number, offer.value),
+            answer: Answer::Done,
+        };
+        self.leading.take(self.id, &event);
+        match next_member(&self.leading, p.saturating_add(1), self.config.replicas) {
+            Some(q) => {
+                self.place = Place::Enter(q, offer);
+                Note::Working
+            }
+            None => {
+                self.up = self.brought_to(u64::from(end_of(known)) + 1);
+                self.place = Place::Raise(self.first_member());
+                committed(position, offer)
+            }
+        }
+    }
+
+    /// Up to where each region has what is known, where the members have all below `u`.
+    fn brought_to(&self, u: u64) -> [u64; 7]
+        ensures long { length result ≡ length self.now.up }
+        ensures members { (mine : List SomeEvent) → (p : ℕ) → p < 7 → length self.now.up ≡ 7
+            → StandsForLeadership self.now.id mine self.now.leading
+            → is_member self.now.id p mine ≡ true → get_or result p 0 ≡ u }
+        ensures others { (mine : List SomeEvent) → (p : ℕ)
+            → StandsForLeadership self.now.id mine self.now.leading
+            → is_member self.now.id p mine ≡ false → get_or result p 0 ≡ get_or self.now.up p 0 }
+    {
+        let mut up = self.up;
+        for p in 0..7u8 {
+            if self.leading.is_member(p) {
+                up[usize::from(p)] = u;
+            }
+        }
+        up
+    }
+
+    /// The FUO of `p` was raised over what was committed.
+    pub fn took_raise(&mut self, p: u8, known: &[u16]) -> Note
+        ensures stands { Takes self.old (SomePlace.Raise p) known.now (SomeVerb.RaiseFuo p (length known.now))
+            SomeAnswer.Done self.new }
+        ensures quiet { value_committed result ≡ None }
+        ensures config { self.new.config ≡ self.old.config }
+        ensures id { self.new.id ≡ self.old.id }
+        ensures note { result ≡ SomeNote.Working }
+        ensures going { self.new.under_way ≡ going_after self.old.under_way result }
+    {
+        self.reach = with_fuo(self.reach, p, known.len() as u64);
+        match next_member(&self.leading, p.saturating_add(1), self.config.replicas) {
+            Some(q) => {
+                self.place = Place::Raise(q);
+                Note::Working
+            }
+            None => {
+                self.place = self.late_from(0, known);
+                Note::Working
+            }
+        }
+    }
+}
+
+/// The first of the replicas that may be marked.
+fn first_of(candidate: Option<u8>, q: u8) -> u8
+    ensures { (c : Config) → (r : ℕ) → (mine : List SomeEvent) → MayBeMarked c r mine candidate
+        → MayBeMarked c r mine (Some q) → MayBeMarked c r mine (Some result) }
+{
+    match candidate {
+        Some(k) => k,
+        None => q,
+    }
+}
+
+/// The entry that a look showed.
+fn sight_in(answer: Answer) -> Option<Sight>
+    ensures { entry_in result ≡ entry_of (Some answer) }
+{
+    match answer {
+        Answer::Entry { number, value } => Some(Sight { number, value }),
+        _ => None,
+    }
+}
+
+/// The entry of the larger number, the earlier one at a tie.
+fn larger(best: Option<Sight>, next: Option<Sight>) -> Option<Sight>
+    ensures { entry_in result ≡ larger_entry (entry_in best) (entry_in next) }
+{
+    match (best, next) {
+        (None, other) => other,
+        (Some(sight), None) => Some(sight),
+        (Some(sight), Some(other)) => {
+            if sight.number < other.number {
+                Some(other)
+            } else {
+                Some(sight)
+            }
+        }
+    }
+}
+
+/// The note of a commit.
+fn committed(position: u16, offer: Offer) -> Note
+    ensures is { result ≡ note_of_commit position offer }
+{
+    let value = offer.value;
+    if offer.adopted {
+        Note::Adopted { position, value }
+    } else {
+        Note::Committed { position, value }
+    }
+}

@@ -1,0 +1,87 @@
+//! The rows of a batch that is offered.
+ghost use Rattle.std.specs.Prelude.{IsTrue, List, None, Some, false, get_or, if◌then◌else◌, length, min, nat_lt, not, true, ℕ, ◌%◌, ◌&&◌, ◌+◌, ◌<◌, ◌==◌, ◌∷◌, ◌||◌, ◌≡◌, ◌≢◌, ◌≤◌, ◌↔◌};
+ghost use Rattle.std.specs.declared.option.Option.{Option};
+ghost use Rattle.mu_model.specs.declared.event.Answer.{Answer as SomeAnswer};
+ghost use Rattle.mu_model.specs.declared.event.Event.{Event as SomeEvent};
+ghost use Rattle.mu_model.specs.declared.event.Target.{Target as SomeTarget};
+ghost use Rattle.mu_model.specs.declared.event.Verb.{Verb as SomeVerb};
+ghost use Rattle.mu_model.specs.Contents.{config_word, marked, row_count};
+ghost use Rattle.mu_model.specs.Knowledge.{known as known_of};
+ghost use Rattle.mu_model.specs.Leaderships.{is_member};
+ghost use Rattle.mu_model.specs.Parts.{IsPossible};
+ghost use Rattle.mu_model.specs.Picks.{entry_of, larger as larger_entry};
+ghost use Rattle.mu_model.specs.Room.{reserve};
+ghost use Rattle.mu_leading.specs.Leadership.{StandsForLeadership};
+ghost use Rattle.mu_model.specs.declared.config.Config.{Config};
+ghost use Rattle.mu_lead.specs.declared.place.Sight.{Sight as SomeSight};
+ghost use Rattle.mu_lead.specs.declared.place.Place.{Place as SomePlace};
+ghost use Rattle.mu_lead.specs.Leading.{Level, end_of as end_of_known};
+ghost use Rattle.mu_lead.specs.Notes.{TellsPut, note_of_commit, note_of_head, value_committed};
+ghost use Rattle.mu_lead.specs.Offering.{Looking, LooksShow, MayBeMarked, MayOffer, Roomy, Writing, entry_in};
+ghost use Rattle.mu_lead.specs.Sets.{IsFirst};
+ghost use Rattle.mu_lead.specs.Standing.{HasHeeded, HoldsAt, Stands, StandsFor, Takes, TakesLook};
+ghost use Rattle.mu_lead.specs.Saying.{NotesPut, note_of_look};
+ghost use Rattle.mu_lead.specs.declared.note.Note.{Note as SomeNote};
+ghost use Rattle.mu_lead.specs.Going.{going_after};
+
+use crate::lead::Lead;
+use crate::note::Note;
+use crate::place::{Offer, Place};
+
+impl Lead {
+    /// The first row from `first` to `last` that isn't written.
+    fn next_unwritten(&self, first: u16, last: u16) -> Option<u16>
+        ensures { last < 65535
+            → IsFirst (λ j. nat_lt (get_or self.now.written.items j 12) 12) first (last + 1) result }
+    {
+        for j in first..last.saturating_add(1) {
+            if self.next_word(j) < 12 {
+                return Some(j);
+            }
+        }
+        None
+    }
+
+    /// Writes what isn't written yet of the rows up to the last one, or begins to put.
+    pub fn write_from(&self, first: u16, last: u16, offer: Offer) -> Place
+        ensures { (mine : List SomeEvent) → Stands mine self.now
+            → Writing self.now.config self.now.id self.now.number mine self.now.up self.now.reach
+            first last offer
+            → HoldsAt mine self.now result }
+    {
+        match self.next_unwritten(first, last) {
+            Some(j) => Place::Write(j, last, offer),
+            None => self.offer(offer),
+        }
+    }
+
+    /// A word of row `j` was written.
+    pub fn took_write(&mut self, j: u16, last: u16, offer: Offer) -> Note
+        ensures stands { (values : List ℕ)
+            → Takes self.old (SomePlace.Write j last offer) values
+            (SomeVerb.WriteRow j (get_or self.old.written.items j 12)
+            (config_word self.old.config j (get_or self.old.written.items j 12)))
+            SomeAnswer.Done self.new }
+        ensures quiet { value_committed result ≡ None }
+        ensures config { self.new.config ≡ self.old.config }
+        ensures id { self.new.id ≡ self.old.id }
+        ensures note { result ≡ SomeNote.Working }
+        ensures going { self.new.under_way ≡ going_after self.old.under_way result }
+    {
+        let count = self.next_word(j).saturating_add(1);
+        note_words(&mut self.written, j, count);
+        self.place = self.write_from(j, last, offer);
+        Note::Working
+    }
+}
+
+/// Notes how many words of row `j` are written.
+fn note_words(written: &mut Vec<u8>, j: u16, count: u8)
+    ensures long { length written.new.items ≡ length written.old.items }
+    ensures here { j < length written.old.items → get_or written.new.items j 0 ≡ count }
+    ensures others { (i : ℕ) → i ≢ j → get_or written.new.items i 0 ≡ get_or written.old.items i 0 }
+{
+    if usize::from(j) < written.len() {
+        written[usize::from(j)] = count;
+    }
+}

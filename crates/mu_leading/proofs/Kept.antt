@@ -1,0 +1,51 @@
+-- An event whose verb isn't a leader's changes nothing of a leadership, and one that tells nothing of the others
+-- nothing of what was read of them.
+use Rattle.std.proofs.Common.{◌≡◌, ℕ, false, List, ◌∷◌}
+use Rattle.mu_model.specs.declared.event.Answer.{Answer}
+use Rattle.mu_model.specs.declared.event.Event.{Event}
+use Rattle.mu_model.specs.declared.event.Verb.{Verb}
+use Rattle.mu_model.specs.declared.config.Config.{Config}
+use Rattle.mu_leading.specs.Bearing.{is_leader_verb, tells_of_peers}
+use Rattle.mu_leading.specs.Heads.{StandsForHeads}
+use Rattle.mu_leading.specs.Leadership.{StandsForLeadership}
+use Rattle.mu_leading.specs.declared.heads.Heads.{Heads}
+use Rattle.mu_leading.specs.declared.leadership.Leadership.{Leadership}
+use Rattle.mu_model.proofs.Basics.{event_by}
+
+kept_by : (r by : ℕ) (verb : Verb) (answer : Answer) (mine : List Event) (state : Leadership) → is_leader_verb verb ≡ false → StandsForLeadership r mine state → StandsForLeadership r (event_by by verb answer ∷ mine) state
+kept_by r by (Verb.Ask p) answer mine state other held = cc
+kept_by r by (Verb.Fence p) answer mine state other held = cc
+kept_by r by (Verb.Min p) answer mine state other held = cc
+kept_by r by (Verb.Enter p t) answer mine state other held = cc
+kept_by r by (Verb.PutMin p b) answer mine state other held = cc
+kept_by r by (Verb.Look p i) answer mine state other held = cc
+kept_by r by (Verb.PutSlot p i b v) answer mine state other held = cc
+kept_by r by (Verb.Fuo p) answer mine state other held = cc
+kept_by r by (Verb.RaiseFuo p u) answer mine state other held = cc
+kept_by r by verb answer mine state other held = record {
+  replica = held.replica;
+  begun = held.begun;
+  asked = held.asked;
+  over = held.over;
+  number = held.number;
+  read = held.read;
+  put = held.put;
+  dealings = λ p dealing there. let d = held.dealings p dealing there in record { noted = d.noted; joined = d.joined; entered = d.entered; opened = d.opened; minimum = d.minimum; shown = d.shown; has_read = d.has_read };
+}
+
+pub leading_kept : (r : ℕ) (e : Event) (mine : List Event) (state : Leadership) → is_leader_verb e.verb ≡ false → StandsForLeadership r mine state → StandsForLeadership r (e ∷ mine) state
+leading_kept r e mine state other held = kept_by r e.by e.verb e.answer mine state other held
+
+told_by : (c : Config) (r by : ℕ) (verb : Verb) (answer : Answer) (mine : List Event) (state : Heads) → tells_of_peers verb ≡ false → StandsForHeads c r mine state → StandsForHeads c r (event_by by verb answer ∷ mine) state
+told_by c r by (Verb.Ask p) answer mine state none held = cc
+told_by c r by (Verb.Head q) answer mine state none held = cc
+told_by c r by (Verb.ReadBeat q) answer mine state none held = cc
+told_by c r by verb answer mine state none held =
+    let s = held.scores in
+    record {
+      scores = record { few = s.few; inside = s.inside; replicas = s.replicas; id = s.id; peers = λ q peer low there. let p = s.peers q peer low there in record { count = p.count; points = p.points; alive = p.alive } };
+      peers = λ q peer low there. let p = held.peers q peer low there in record { head = p.head; stuck = p.stuck };
+    }
+
+pub heads_kept : (c : Config) (r : ℕ) (e : Event) (mine : List Event) (state : Heads) → tells_of_peers e.verb ≡ false → StandsForHeads c r mine state → StandsForHeads c r (e ∷ mine) state
+heads_kept c r e mine state none held = told_by c r e.by e.verb e.answer mine state none held

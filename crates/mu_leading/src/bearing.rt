@@ -1,0 +1,35 @@
+//! Which verbs bear on what a replica does as a leader, and on what it has read of the others.
+ghost use Rattle.std.specs.Prelude.{◌≡◌};
+ghost use Rattle.mu_leading.specs.Bearing.{is_leader_verb, tells_of_peers};
+
+use mu_model::Verb;
+
+/// Whether the verb is one of a leader's. Beats, rows, heads and what a host does change nothing of
+/// its leadership.
+pub fn is_leader_verb(verb: &Verb) -> bool
+    ensures { result ≡ is_leader_verb verb.now }
+{
+    match verb {
+        Verb::Ask(_)
+        | Verb::Fence(_)
+        | Verb::Min(_)
+        | Verb::Enter(_, _)
+        | Verb::PutMin(_, _)
+        | Verb::Look(_, _)
+        | Verb::PutSlot(_, _, _, _)
+        | Verb::Fuo(_)
+        | Verb::RaiseFuo(_, _) => true,
+        _ => false,
+    }
+}
+
+/// Whether the verb bears on what a replica has read of the others: it reads a head or a count of
+/// beats, or may begin a leadership.
+pub fn tells_of_peers(verb: &Verb) -> bool
+    ensures { result ≡ tells_of_peers verb.now }
+{
+    match verb {
+        Verb::Ask(_) | Verb::Head(_) | Verb::ReadBeat(_) => true,
+        _ => false,
+    }
+}

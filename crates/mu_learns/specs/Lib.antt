@@ -1,4 +1,0 @@
-pub mod Covering
-pub mod Fetching
-pub mod Knowing
-pub mod Landings

@@ -1,0 +1,181 @@
+-- What a node has due follows the cycle's order, and what was handed on.
+use Rattle.std.proofs.Common.{◌≡◌, ◌∙◌, ◌==◌, ◌&&◌, ◌*◌, ◌+◌, ◌-◌, ◌<◌, ◌≤◌, ℕ, Bool, true, false, List, ◌∷◌, None, Some, ap, arith, inl, inr, length, refl, subst, sym}
+use Rattle.std.specs.Prelude.{IfSome, if◌then◌else◌, nat_lt, not}
+use Rattle.std.specs.declared.option.Option.{Option}
+use Rattle.std.proofs.lemmas.Bool.{cases_lt, ltb-false, true≢false}
+use Rattle.mu_model.specs.declared.config.Config.{Config}
+use Rattle.mu_model.specs.declared.event.Answer.{Answer}
+use Rattle.mu_model.specs.declared.event.Event.{Event}
+use Rattle.mu_model.specs.declared.event.Verb.{Verb}
+use Rattle.mu_model.specs.Allowed.{Allowed}
+use Rattle.mu_model.specs.Contents.{IsConfig}
+use Rattle.mu_model.specs.Knowledge.{applied, known}
+use Rattle.mu_model.specs.Parts.{IsPossible}
+use Rattle.mu_model.specs.Scores.{leader}
+use Rattle.mu_model.specs.Stretches.{is_odd}
+use Rattle.mu_model.proofs.Basics.{event_by}
+use Rattle.mu_grant.specs.Pace.{FollowsCycle, host_place, is_host_verb}
+use Rattle.mu_grant.specs.Stands.{is_host_step}
+use Rattle.mu_grant.proofs.Onward.{due_is_next, other_is_next}
+use Rattle.mu_follow.specs.Due.{IsReplay, is_replay, replay_due}
+use Rattle.mu_follow.proofs.Due.{replay_allowed}
+use Rattle.mu_lead.specs.declared.note.Note.{Note}
+use Rattle.mu_lead.specs.declared.lead.Lead.{Lead}
+use Rattle.mu_lead.specs.declared.place.Place.{Place}
+use Rattle.mu_lead.specs.Standing.{verb_at, verb_of}
+use Rattle.mu_node.specs.declared.node.Node.{Node}
+use Rattle.mu_node.specs.Cycle.{IsBackgroundDue, handed, handed_before, other_at, place_now, read_at}
+use Rattle.mu_node.specs.Due.{lead_due, verb_or_beat}
+use Rattle.mu_node.specs.Node.{HasPlanned, StandsForNode}
+use Rattle.mu_node.specs.Notes.{TellsNote, TellsTook, heed_note, note_before}
+use Rattle.mu_node.proofs.Leads.{due_unresigned}
+
+-- the verb neither reads asks nor is one of the host
+abbrev pub IsPlain : Verb → Type 0
+IsPlain verb = is_host_step verb ≡ false
+
+-- such a verb is none of the host's, and reads no asks
+plain_verb : (verb : Verb) → IsPlain verb → (is_host_verb verb ≡ false) × ((w : ℕ) → verb ≡ Verb.ReadAsk w → ⊥)
+plain_verb (Verb.ReadAsk w) plain = absurd (true≢false plain)
+plain_verb Verb.Close plain = absurd (true≢false plain)
+plain_verb Verb.LookTarget plain = absurd (true≢false plain)
+plain_verb Verb.Drain plain = absurd (true≢false plain)
+plain_verb (Verb.Grant w) plain = absurd (true≢false plain)
+plain_verb verb plain = (refl, λ w is. true≢false (sym (ap is_host_step is) ∙ plain))
+
+-- the verbs of the leader are such
+abbrev plain_due : Option Verb → Bool
+plain_due None = true
+plain_due (Some verb) = not (is_host_step verb)
+
+plain_at : (c : Config) (b : ℕ) (values up written : List ℕ) (place : Place) → plain_due (verb_at c b values up written place) ≡ true
+plain_at c b values up written Place.Rest = refl
+plain_at c b values up written place = refl
+
+not_true : (t : Bool) → not t ≡ true → t ≡ false
+not_true false is = refl
+not_true true is = absurd (true≢false (sym is))
+
+-- so is what is made in its turn
+led_plain : (c : Config) (r : ℕ) (mine : List Event) (lead : Lead) → IsPlain (verb_or_beat (lead_due c r mine lead))
+led_plain c r mine lead = go (leader c r mine == r)
+  where
+    whole : (due : Option Verb) → plain_due due ≡ true → IsPlain (verb_or_beat due)
+    whole None is = refl
+    whole (Some verb) is = not_true (is_host_step verb) is
+
+    go : (t : Bool) → IsPlain (verb_or_beat (if t then verb_of lead (known c r mine) else None))
+    go true = whole (verb_of lead (known c r mine)) (plain_at lead.config lead.number (known c r mine) lead.up lead.written.items lead.place)
+    go false = refl
+
+-- and what the replayer has due
+replay_plain : (leading : Bool) (verb : Verb) → is_replay leading verb ≡ true → IsPlain verb
+replay_plain leading (Verb.Fuo p) is = refl
+replay_plain leading (Verb.Look p i) is = refl
+replay_plain leading (Verb.ReadRow v k) is = refl
+replay_plain leading (Verb.RaiseFuo p u) is = refl
+replay_plain leading (Verb.RaiseHead h) is = refl
+replay_plain leading (Verb.Head q) is = refl
+replay_plain leading verb is = absurd (true≢false (sym is))
+
+due_plain : (leading : Bool) (due : Option Verb) → IfSome due (λ verb. IsReplay leading verb) → IsPlain (verb_or_beat due)
+due_plain leading None is = refl
+due_plain leading (Some verb) is = replay_plain leading verb is
+
+-- what is made where this was due
+made_as : (due : Option Verb) (wanted : Verb) → due ≡ Some wanted → verb_or_beat due ≡ wanted
+made_as due wanted is = ap verb_or_beat is
+
+-- a read at its place follows the cycle
+read_follows : (c : Config) (r : ℕ) (mine : List Event) (answer : Answer) → is_odd (length mine) ≡ false → place_now c mine < host_place c 0 → FollowsCycle c r mine (event_by r (read_at c.replicas r (place_now c mine)) answer)
+read_follows c r mine answer even low = go (place_now c mine == 0) refl (nat_lt (place_now c mine) c.replicas) refl
+  where
+    place : ℕ
+    place = place_now c mine
+
+    go : (s : Bool) → (place == 0) ≡ s → (t : Bool) → nat_lt place c.replicas ≡ t
+        → FollowsCycle c r mine (event_by r (if s then Verb.Beat else if t then Verb.ReadBeat (other_at r place) else Verb.ReadAsk (place - c.replicas)) answer)
+    go true first t is = other_is_next c r mine (event_by r Verb.Beat answer) refl (inr (inl low)) refl (λ w e. absurd ((plain_verb Verb.Beat refl).1 w e))
+    go false first true is = other_is_next c r mine (event_by r (Verb.ReadBeat (other_at r place)) answer) refl (inr (inl low)) refl (λ w e. absurd ((plain_verb (Verb.ReadBeat (other_at r place)) refl).1 w e))
+    go false first false is =
+        let high = ltb-false place c.replicas is in
+        other_is_next c r mine (event_by r (Verb.ReadAsk (place - c.replicas)) answer) refl (inr (inl low)) refl
+        (λ w e. (let same : place - c.replicas ≡ w = asked (place - c.replicas) w e in (omega (arith, same, high, low), record { background = even; place_is = omega (arith, same, high) })))
+      where
+        asked : (x y : ℕ) → Verb.ReadAsk x ≡ Verb.ReadAsk y → x ≡ y
+        asked x y e = cc
+
+-- what is made as it is due follows the cycle
+pub made_follows : (c : Config) (r : ℕ) (mine : List Event) (lead : Lead) (leading : Bool) (due : Option Verb) (answer : Answer)
+    → (is_odd (length mine) ≡ true → due ≡ lead_due c r mine lead) → (is_odd (length mine) ≡ false → IsBackgroundDue c r mine leading due)
+    → ((f : ℕ) → IfSome (replay_due c r mine (handed c r mine) f leading) (λ verb. IsReplay leading verb))
+    → FollowsCycle c r mine (event_by r (verb_or_beat due) answer)
+made_follows c r mine lead leading due answer led cycle replays = go (is_odd (length mine)) refl
+  where
+    e : Event
+    e = event_by r (verb_or_beat due) answer
+
+    place : ℕ
+    place = place_now c mine
+
+    idle_beat : due ≡ None → (is_host_verb (verb_or_beat due) ≡ false) × ((w : ℕ) → verb_or_beat due ≡ Verb.ReadAsk w → ⊥)
+    idle_beat none = subst (λ d. (is_host_verb (verb_or_beat d) ≡ false) × ((w : ℕ) → verb_or_beat d ≡ Verb.ReadAsk w → ⊥)) (sym none) (plain_verb Verb.Beat refl)
+
+    go : (t : Bool) → is_odd (length mine) ≡ t → FollowsCycle c r mine e
+    go true odd =
+        let plain = plain_verb (verb_or_beat due) (subst (λ d. IsPlain (verb_or_beat d)) (sym (led odd)) (led_plain c r mine lead)) in
+        other_is_next c r mine e refl (inl odd) plain.0 (λ w is. absurd (plain.1 w is))
+    go false even = elim (cases_lt place (host_place c 0)) [
+      | inl low ↦ subst (λ v. FollowsCycle c r mine (event_by r v answer)) (sym (made_as due (read_at c.replicas r place) ((cycle even).read low))) (read_follows c r mine answer even low)
+      | inr high ↦ (elim (cases_lt place (host_place c 4)) [
+        | inl near ↦ (let at : place ≡ host_place c (place - host_place c 0) = omega (arith, high) in
+            due_is_next c r (place - host_place c 0) mine e due refl (omega (arith, near, high)) (record { background = even; place_is = at }) ((cycle even).host (place - host_place c 0) (omega (arith, near, high)) at) (λ wanted is. made_as due wanted is) idle_beat)
+        | inr far ↦ (let is = (cycle even).replay (place - host_place c 4) (omega (arith, far)) in
+            let plain = plain_verb (verb_or_beat due) (subst (λ d. IsPlain (verb_or_beat d)) (sym is) (due_plain leading (replay_due c r mine (handed c r mine) (place - host_place c 4) leading) (replays (place - host_place c 4)))) in
+            other_is_next c r mine e refl (inr (inr far)) plain.0 (λ w same. absurd (plain.1 w same)))
+      ])
+    ]
+
+-- in a turn of the leader nothing is handed on
+pub odd_planned : (c : Config) (r : ℕ) (mine : List Event) (node : Node) → is_odd (length mine) ≡ true → StandsForNode c r mine node → HasPlanned c r mine node
+odd_planned c r mine node odd held = record {
+  beside = held.beside;
+  lead = held.lead;
+  handed = held.handed ∙ sym (ap (λ t. if (not t && (place_now c mine == 2 * c.replicas + 20)) then length (applied c r mine) else handed_before c r mine) odd);
+  cycle = held.cycle;
+}
+
+-- nor in a background turn at another place
+pub handed_elsewhere : (c : Config) (r : ℕ) (mine : List Event) → (place_now c mine == 2 * c.replicas + 20) ≡ false → handed c r mine ≡ handed_before c r mine
+handed_elsewhere c r mine other = go (is_odd (length mine)) (place_now c mine == 2 * c.replicas + 20) other
+  where
+    go : (s t : Bool) → t ≡ false → (if (not s && t) then length (applied c r mine) else handed_before c r mine) ≡ handed_before c r mine
+    go true t is = refl
+    go false false is = refl
+    go false true is = absurd (true≢false is)
+
+-- at that of the head all that is applied is
+pub handed_here : (c : Config) (r : ℕ) (mine : List Event) → is_odd (length mine) ≡ false → (place_now c mine == 2 * c.replicas + 20) ≡ true → handed c r mine ≡ length (applied c r mine)
+handed_here c r mine even here =
+    ap (λ s. if (not s && (place_now c mine == 2 * c.replicas + 20)) then length (applied c r mine) else handed_before c r mine) even
+    ∙ ap (λ t. if t then length (applied c r mine) else handed_before c r mine) here
+
+-- what the replayer has due is a verb of it
+pub replays : (c : Config) (r : ℕ) (mine : List Event) (leading : Bool) → IsConfig c → IsPossible c r mine → r < c.replicas → length mine < c.budget → handed c r mine ≤ length (applied c r mine)
+    → (f : ℕ) → IfSome (replay_due c r mine (handed c r mine) f leading) (λ verb. IsReplay leading verb)
+replays c r mine leading good possible inside short few f = go (replay_due c r mine (handed c r mine) f leading) (replay_allowed c r (handed c r mine) f mine leading good possible inside short few)
+  where
+    go : (due : Option Verb) → IfSome due (λ verb. Allowed c r mine verb × IsReplay leading verb) → IfSome due (λ verb. IsReplay leading verb)
+    go None may = tt
+    go (Some verb) may = may.1
+
+-- what a turn is noted as
+pub note_told : (c : Config) (r : ℕ) (mine : List Event) (lead : Lead) (leads : Bool) (due : Option Verb) (heeded : Note) (answer : Answer) (note : Note) → leads ≡ is_odd (length mine) → (is_odd (length mine) ≡ true → due ≡ lead_due c r mine lead)
+    → heeded ≡ note_before c r mine lead → IsPossible c r (event_by r (verb_or_beat due) answer ∷ mine) → TellsTook c r mine leads due heeded answer note → TellsNote c r mine lead answer note
+note_told c r mine lead leads due heeded answer note turn led before possible took = record {
+  background = λ even. took.beside (turn ∙ even) ∙ (before ∙ ap (λ t. if t then heed_note c r mine lead else Note.Working) even);
+  idle = λ odd none. took.idle (led odd ∙ none) ∙ (before ∙ ap (λ t. if t then heed_note c r mine lead else Note.Working) odd);
+  taken = λ verb odd some.
+      took.taken verb (turn ∙ odd) (led odd ∙ some) (before ∙ (ap (λ t. if t then heed_note c r mine lead else Note.Working) odd ∙ due_unresigned c r mine lead verb some))
+      (subst (λ v. IsPossible c r (event_by r v answer ∷ mine)) (ap verb_or_beat (led odd ∙ some)) possible);
+}

@@ -1,0 +1,41 @@
+use Rattle.std.proofs.Common.{◌≡◌, ◌∙◌, ◌==◌, ◌+◌, ◌*◌, arith, false, subst, sym, true}
+use Rattle.std.proofs.lemmas.Bool.{eq-eqb, ne_eqb}
+use Rattle.mu_model.specs.Contents.{IsConfig}
+use Rattle.mu_node.specs.Cycle.{place_now}
+use Rattle.mu_node.proofs.Turning.{handed_elsewhere, handed_here}
+use Rattle.mu_node.proofs.node.Node.hand_on.Goals as goal
+
+pub returns-then-place-saturating_add-clause-stands : goal.returns-then-place-saturating_add-clause-stands
+returns-then-place-saturating_add-clause-stands c k r mine even at held =
+    let good = subst (λ x. IsConfig x) held.beside.follow.config c.requires.config in
+    let few = good.replicas.1 in
+    let n = held.beside.replicas in
+    let here : (place_now k mine == 2 * k.replicas + 20) ≡ true = eq-eqb (place_now k mine) (2 * k.replicas + 20) (omega (arith, at, few, n, c.if-place-saturating_add.true, c.saturating_add.ensures, c.saturating_mul.ensures)) in
+    let b = held.beside in
+    record {
+      beside = record {
+        id = b.id;
+        replicas = b.replicas;
+        budget = b.budget;
+        journal = b.journal;
+        journal_room = b.journal_room;
+        grants = b.grants;
+        watch = b.watch;
+        follow = c.hand_on.ensures.stands k r mine b.follow;
+        no_log = b.no_log;
+        log_room = b.log_room;
+        no_commits = b.no_commits;
+        commit_room = b.commit_room;
+      };
+      lead = held.lead;
+      handed = c.hand_on.ensures.all k r mine b.follow ∙ sym (handed_here k r mine even here);
+      cycle = held.cycle;
+    }
+
+pub returns-else-place-saturating_add-clause-stands : goal.returns-else-place-saturating_add-clause-stands
+returns-else-place-saturating_add-clause-stands c k r mine even at held =
+    let good = subst (λ x. IsConfig x) held.beside.follow.config c.requires.config in
+    let few = good.replicas.1 in
+    let n = held.beside.replicas in
+    let other : (place_now k mine == 2 * k.replicas + 20) ≡ false = ne_eqb (place_now k mine) (2 * k.replicas + 20) (λ e. absurd (c.if-place-saturating_add.false (omega (arith, at, e, few, n, c.saturating_add.ensures, c.saturating_mul.ensures)))) in
+    record { beside = held.beside; lead = held.lead; handed = held.handed ∙ sym (handed_elsewhere k r mine other); cycle = held.cycle }

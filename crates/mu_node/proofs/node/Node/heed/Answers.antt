@@ -1,0 +1,51 @@
+use Rattle.std.proofs.Common.{◌≡◌, ◌∙◌, ◌==◌, ◌&&◌, ap, refl}
+use Rattle.std.specs.Prelude.{if◌then◌else◌, nat_lt}
+use Rattle.mu_model.specs.Scores.{leader}
+use Rattle.mu_follow.specs.Follow.{StandsForFollow}
+use Rattle.mu_lead.specs.declared.note.Note.{Note}
+use Rattle.mu_lead.specs.Standing.{TellsFailed}
+use Rattle.mu_node.proofs.Leads.{beside_lead, heed_due}
+use Rattle.mu_node.proofs.Moving.{to_own}
+use Rattle.mu_node.proofs.node.Node.heed.Goals as goal
+
+pub returns-clause-stands : goal.returns-clause-stands
+returns-clause-stands g c =
+    let node = c.args.self.now in
+    let held = c.requires in
+    record {
+      beside = beside_lead (StandsForFollow node.follow.config node.id g.mine) node.follow.config node.id g.mine node c.heed.new.self held.beside;
+      lead = record { config = c.heed.ensures.config ∙ held.lead.config; id = c.heed.ensures.id ∙ held.lead.id; stands = c.heed.ensures.stands };
+      handed = held.handed;
+      cycle = held.cycle;
+    }
+
+pub returns-clause-named : goal.returns-clause-named
+returns-clause-named g c =
+    let node = c.args.self.now in
+    let held = c.requires in
+    let named = c.leader-leader.ensures node.follow.config node.id g.mine held.beside.watch in
+    c.heed.ensures.named ∙ (ap (λ l. l == node.lead.id) named ∙ ap (λ i. leader node.follow.config node.id g.mine == i) held.lead.id)
+
+pub returns-clause-heeded : goal.returns-clause-heeded
+returns-clause-heeded g c =
+    let node = c.args.self.now in
+    let held = c.requires in
+    c.heed.ensures.heeded (to_own (λ k r l. TellsFailed k r l c.failed-failed.result) node.follow.config node.lead.config node.id node.lead.id g.mine g.mine held.lead.config held.lead.id refl
+    (c.failed-failed.ensures node.follow.config node.id g.mine held.beside.watch))
+
+pub returns-clause-due : goal.returns-clause-due
+returns-clause-due g c =
+    let node = c.args.self.now in
+    let held = c.requires in
+    let named = c.leader-leader.ensures node.follow.config node.id g.mine held.beside.watch in
+    let same : nat_lt c.leader-leader.result node.lead.id ≡ nat_lt (leader node.follow.config node.id g.mine) node.id = ap (λ l. nat_lt l node.lead.id) named ∙ ap (λ i. nat_lt (leader node.follow.config node.id g.mine) i) held.lead.id in
+    heed_due node.follow.config node.id g.mine node.lead c.heed.new.self (λ low. c.heed.ensures.due (same ∙ low))
+
+pub returns-clause-note : goal.returns-clause-note
+returns-clause-note g c =
+    let node = c.args.self.now in
+    let held = c.requires in
+    let named = c.leader-leader.ensures node.follow.config node.id g.mine held.beside.watch in
+    c.heed.ensures.resigned
+    ∙ (ap (λ l. if (node.lead.under_way && nat_lt l node.lead.id) then Note.Resigned l else Note.Working) named
+    ∙ ap (λ i. if (node.lead.under_way && nat_lt (leader node.follow.config node.id g.mine) i) then Note.Resigned (leader node.follow.config node.id g.mine) else Note.Working) held.lead.id)

@@ -1,0 +1,24 @@
+use Rattle.std.proofs.Common.{ap, arith, refl}
+use Rattle.mu_model.specs.Histories.{history}
+use Rattle.mu_node.proofs.node.Node.new.Goals as goal
+
+pub returns-clause-stands : goal.returns-clause-stands
+returns-clause-stands c = record {
+  beside = record {
+    id = refl;
+    replicas = refl;
+    budget = refl;
+    journal = ap history c.in_ok-with_room.ensures.empty;
+    journal_room = omega (arith, c.in_ok-with_room.ensures.room);
+    grants = c.new.ensures;
+    watch = c.new-2.ensures c.args.job.now.config refl;
+    follow = c.in_ok-new-2.ensures.stands;
+    no_log = c.in_ok-with_capacity.ensures.items;
+    log_room = omega (arith, c.in_ok-with_capacity.ensures.capacity, c.positions_in.ensures.count);
+    no_commits = c.in_ok-with_capacity-2.ensures.items;
+    commit_room = omega (arith, c.in_ok-with_capacity-2.ensures.capacity, c.positions_in-2.ensures.count);
+  };
+  lead = record { config = c.in_ok-new.ensures.config; id = c.in_ok-new.ensures.id; stands = c.in_ok-new.ensures.stands };
+  handed = c.in_ok-new-2.ensures.handed;
+  cycle = tt;
+}

@@ -1,0 +1,18 @@
+use Rattle.std.proofs.Common.{◌∙◌, ◌∷◌, subst, sym}
+use Rattle.mu_lead.specs.Beside.{leads_at}
+use Rattle.mu_node.specs.Node.{StandsForLead}
+use Rattle.mu_node.proofs.Leads.{beside_commits_none, lead_stays}
+use Rattle.mu_node.proofs.Moving.{event_by}
+use Rattle.mu_node.proofs.node.Node.note_other.Goals as goal
+
+pub returns-clause-stands : goal.returns-clause-stands
+returns-clause-stands c mine beside follows possible held =
+    let k = c.args.self.now.follow.config in
+    let r = c.args.by in
+    let lead = c.args.self.now.lead in
+    record {
+      beside = c.note.ensures.stands mine possible held.beside (beside_commits_none k r mine (leads_at lead.place) c.args.verb c.args.answer beside);
+      lead = subst (λ l. StandsForLead k r (event_by r c.args.verb c.args.answer ∷ mine) l) (sym c.note.ensures.lead) (lead_stays k r mine lead c.args.verb c.args.answer beside possible held.lead);
+      handed = c.note.ensures.handed ∙ held.handed;
+      cycle = (held.cycle, follows);
+    }

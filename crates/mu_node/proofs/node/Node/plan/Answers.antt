@@ -1,0 +1,87 @@
+use Rattle.std.proofs.Common.{◌≡◌, ◌∙◌, ap, false, length, subst, sym, true}
+use Rattle.std.specs.Prelude.{if◌then◌else◌}
+use Rattle.std.proofs.lemmas.Bool.{true≢false}
+use Rattle.mu_model.specs.Stretches.{is_odd}
+use Rattle.mu_lead.specs.declared.note.Note.{Note}
+use Rattle.mu_node.specs.Due.{FitsLead}
+use Rattle.mu_node.specs.Notes.{heed_note}
+use Rattle.mu_node.proofs.Turning.{odd_planned}
+use Rattle.mu_node.proofs.node.Node.plan.Goals as goal
+
+pub plan_cycle-requires : goal.plan_cycle-requires
+plan_cycle-requires g c =
+    let node = c.args.self.now in
+    let held = c.requires.1.1.1 in
+    let steps = c.steps.ensures node.follow.config node.id g.mine held.beside.follow in
+    let even : is_odd (length g.mine) ≡ false = sym (ap is_odd steps) ∙ (sym c.is_turn_of_leader.ensures ∙ c.if-is_turn_of_leader.false) in
+    (c.requires.0, (c.requires.1.0, (c.requires.1.1.0, (even, held))))
+
+pub returns-then-is_turn_of_leader-clause-planned : goal.returns-then-is_turn_of_leader-clause-planned
+returns-then-is_turn_of_leader-clause-planned g c =
+    let node = c.args.self.now in
+    let held = c.requires.1.1.1 in
+    let steps = c.steps.ensures node.follow.config node.id g.mine held.beside.follow in
+    let odd : is_odd (length g.mine) ≡ true = sym (ap is_odd steps) ∙ (sym c.is_turn_of_leader.ensures ∙ c.if-is_turn_of_leader.true) in
+    odd_planned node.follow.config node.id g.mine c.plan_led.new.self odd c.plan_led.ensures.stands
+
+pub returns-then-is_turn_of_leader-clause-fits : goal.returns-then-is_turn_of_leader-clause-fits
+returns-then-is_turn_of_leader-clause-fits g c =
+    let node = c.args.self.now in
+    subst (λ t. FitsLead node.follow.config node.id g.mine c.plan_led.new.self.lead t c.plan_led.result.due) (sym c.plan_led.ensures.leads) c.plan_led.ensures.fits
+
+pub returns-then-is_turn_of_leader-clause-leads : goal.returns-then-is_turn_of_leader-clause-leads
+returns-then-is_turn_of_leader-clause-leads g c =
+    let node = c.args.self.now in
+    let held = c.requires.1.1.1 in
+    let steps = c.steps.ensures node.follow.config node.id g.mine held.beside.follow in
+    c.plan_led.ensures.leads ∙ (sym c.if-is_turn_of_leader.true ∙ (c.is_turn_of_leader.ensures ∙ ap is_odd steps))
+
+pub returns-then-is_turn_of_leader-clause-led : goal.returns-then-is_turn_of_leader-clause-led
+returns-then-is_turn_of_leader-clause-led g c odd = c.plan_led.ensures.led
+
+pub returns-then-is_turn_of_leader-clause-cycle : goal.returns-then-is_turn_of_leader-clause-cycle
+returns-then-is_turn_of_leader-clause-cycle g c even =
+    let node = c.args.self.now in
+    let held = c.requires.1.1.1 in
+    let steps = c.steps.ensures node.follow.config node.id g.mine held.beside.follow in
+    let odd : is_odd (length g.mine) ≡ true = sym (ap is_odd steps) ∙ (sym c.is_turn_of_leader.ensures ∙ c.if-is_turn_of_leader.true) in
+    absurd (true≢false (sym odd ∙ even))
+
+pub returns-then-is_turn_of_leader-clause-heeded : goal.returns-then-is_turn_of_leader-clause-heeded
+returns-then-is_turn_of_leader-clause-heeded g c =
+    let node = c.args.self.now in
+    let held = c.requires.1.1.1 in
+    let steps = c.steps.ensures node.follow.config node.id g.mine held.beside.follow in
+    let odd : is_odd (length g.mine) ≡ true = sym (ap is_odd steps) ∙ (sym c.is_turn_of_leader.ensures ∙ c.if-is_turn_of_leader.true) in
+    c.plan_led.ensures.heeded ∙ sym (ap (λ t. if t then heed_note node.follow.config node.id g.mine node.lead else Note.Working) odd)
+
+pub returns-else-is_turn_of_leader-clause-fits : goal.returns-else-is_turn_of_leader-clause-fits
+returns-else-is_turn_of_leader-clause-fits g c =
+    let node = c.args.self.now in
+    subst (λ t. FitsLead node.follow.config node.id g.mine c.plan_cycle.new.self.lead t c.plan_cycle.result.due) (sym c.plan_cycle.ensures.leads) c.plan_cycle.ensures.fits
+
+pub returns-else-is_turn_of_leader-clause-leads : goal.returns-else-is_turn_of_leader-clause-leads
+returns-else-is_turn_of_leader-clause-leads g c =
+    let node = c.args.self.now in
+    let held = c.requires.1.1.1 in
+    let steps = c.steps.ensures node.follow.config node.id g.mine held.beside.follow in
+    c.plan_cycle.ensures.leads ∙ (sym c.if-is_turn_of_leader.false ∙ (c.is_turn_of_leader.ensures ∙ ap is_odd steps))
+
+pub returns-else-is_turn_of_leader-clause-led : goal.returns-else-is_turn_of_leader-clause-led
+returns-else-is_turn_of_leader-clause-led g c odd =
+    let node = c.args.self.now in
+    let held = c.requires.1.1.1 in
+    let steps = c.steps.ensures node.follow.config node.id g.mine held.beside.follow in
+    let even : is_odd (length g.mine) ≡ false = sym (ap is_odd steps) ∙ (sym c.is_turn_of_leader.ensures ∙ c.if-is_turn_of_leader.false) in
+    absurd (true≢false (sym odd ∙ even))
+
+pub returns-else-is_turn_of_leader-clause-cycle : goal.returns-else-is_turn_of_leader-clause-cycle
+returns-else-is_turn_of_leader-clause-cycle g c even = c.plan_cycle.ensures.cycle
+
+pub returns-else-is_turn_of_leader-clause-heeded : goal.returns-else-is_turn_of_leader-clause-heeded
+returns-else-is_turn_of_leader-clause-heeded g c =
+    let node = c.args.self.now in
+    let held = c.requires.1.1.1 in
+    let steps = c.steps.ensures node.follow.config node.id g.mine held.beside.follow in
+    let even : is_odd (length g.mine) ≡ false = sym (ap is_odd steps) ∙ (sym c.is_turn_of_leader.ensures ∙ c.if-is_turn_of_leader.false) in
+    c.plan_cycle.ensures.heeded ∙ sym (ap (λ t. if t then heed_note node.follow.config node.id g.mine node.lead else Note.Working) even)

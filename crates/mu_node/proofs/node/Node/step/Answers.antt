@@ -1,0 +1,128 @@
+use Rattle.std.proofs.Common.{◌≡◌, ◌∙◌, ◌<◌, ap, arith, false, length, refl, subst, sym, true, List, ℕ}
+use Rattle.std.specs.declared.option.Option.{Option}
+use Rattle.mu_model.specs.declared.config.Config.{Config}
+use Rattle.mu_model.specs.declared.event.Answer.{Answer}
+use Rattle.mu_model.specs.declared.event.Event.{Event}
+use Rattle.mu_model.specs.declared.event.Verb.{Verb}
+use Rattle.mu_model.specs.Allowed.{Allowed}
+use Rattle.mu_model.specs.Contents.{IsConfig}
+use Rattle.mu_model.specs.Parts.{IsPossible}
+use Rattle.mu_model.specs.Stretches.{is_odd}
+use Rattle.mu_grant.specs.Pace.{FollowsCycle}
+use Rattle.mu_lead.specs.Beside.{leads_at}
+use Rattle.mu_node.specs.declared.node.Node.{Node}
+use Rattle.mu_node.specs.Cycle.{IsBackgroundDue, IsMade}
+use Rattle.mu_node.specs.Due.{FitsLead, lead_due, verb_or_beat}
+use Rattle.mu_node.specs.Node.{HasPlanned, StandsForNode}
+use Rattle.mu_node.specs.Notes.{TellsNote, TellsTook}
+use Rattle.mu_node.proofs.Moving.{event_by, moved, possible_own, to_own, to_port}
+use Rattle.mu_node.proofs.Turning.{made_follows, note_told, replays}
+use Rattle.mu_node.proofs.node.Node.step.Goals as goal
+
+pub plan-plan-requires : goal.plan-plan-requires
+plan-plan-requires g c =
+    let k = g.P.Port.config c.args.port.now in
+    let r = g.P.Port.number c.args.port.now in
+    let mine = g.P.Port.part c.args.port.now in
+    let node = c.args.self.now in
+    let held = c.requires.1.1.1.1.1.1 in
+    let own = held.beside.follow.config in
+    let id = held.beside.id in (
+      subst (λ x. IsConfig x) (sym own) c.requires.1.1.1.0,
+      (
+        to_own IsPossible k node.follow.config r node.id mine g.mine own id c.requires.1.0 c.requires.1.1.1.1.0,
+        (
+          to_own (λ x i l. length l < x.budget) k node.follow.config r node.id mine g.mine own id c.requires.1.0 c.requires.1.1.1.1.1.0,
+          to_own (λ x i l. StandsForNode x i l node) k node.follow.config r node.id mine g.mine own id c.requires.1.0 held,
+        ),
+      ),
+    )
+
+pub step-answer-requires : goal.step-answer-requires
+step-answer-requires g c =
+    let k = g.P.Port.config c.args.port.now in
+    let r = g.P.Port.number c.args.port.now in
+    let mine = g.P.Port.part c.args.port.now in
+    let node = c.args.self.now in
+    let held = c.requires.1.1.1.1.1.1 in
+    to_port (λ x i l. Allowed x i l c.or_beat-verb.result) k node.follow.config r node.id mine g.mine held.beside.follow.config held.beside.id c.requires.1.0
+    (subst (λ v. Allowed node.follow.config node.id g.mine v) (sym c.or_beat-verb.ensures) c.plan-plan.ensures.allowed)
+
+pub took-requires : goal.took-requires
+took-requires g c =
+    let k = g.P.Port.config c.args.port.now in
+    let node = c.args.self.now in
+    let new = c.plan-plan.new.self in
+    let plan = c.plan-plan.ensures in
+    let held = c.requires.1.1.1.1.1.1 in
+    let own = plan.config ∙ held.beside.follow.config in
+    let short = to_own (λ x i l. length l < x.budget) k node.follow.config (g.P.Port.number c.args.port.now) node.id (g.P.Port.part c.args.port.now) g.mine held.beside.follow.config held.beside.id c.requires.1.0 c.requires.1.1.1.1.1.0 in
+    let room = plan.planned.beside.journal_room in (
+      c.requires.1.1.0 ∙ sym (plan.id ∙ held.beside.id),
+      (
+        subst (λ x. IsConfig x) (sym own) c.requires.1.1.1.0,
+        (
+          omega (arith, short, room),
+          (
+            to_own (λ x i l. FitsLead x i l new.lead c.plan-plan.result.leads c.plan-plan.result.due) node.follow.config new.follow.config node.id new.id g.mine g.mine plan.config plan.id refl plan.fits,
+            to_own (λ x i l. HasPlanned x i l new) node.follow.config new.follow.config node.id new.id g.mine g.mine plan.config plan.id refl plan.planned,
+          ),
+        ),
+      ),
+    )
+
+follows_of : (c : Config) (r : ℕ) (mine : List Event) (old planned : Node) (due : Option Verb) (answer : Answer) → IsConfig c → IsPossible c r mine → length mine < c.budget → HasPlanned c r mine planned
+    → (is_odd (length mine) ≡ true → due ≡ lead_due c r mine old.lead) → (is_odd (length mine) ≡ false → IsBackgroundDue c r mine (leads_at old.lead.place) due)
+    → FollowsCycle c r mine (event_by r (verb_or_beat due) answer)
+follows_of c r mine old planned due answer good possible short held led cycle =
+    made_follows c r mine old.lead (leads_at old.lead.place) due answer led cycle (replays c r mine (leads_at old.lead.place) good possible held.beside.follow.inside short (omega (arith, held.handed, held.beside.follow.progress.handed)))
+
+pub returns-clause-stands : goal.returns-clause-stands
+returns-clause-stands g c =
+    let old = c.args.port.now in
+    let now = c.step-answer.new.self in
+    let plan = c.plan-plan.ensures in
+    let node = c.args.self.now in
+    let new = c.plan-plan.new.self in
+    let held = c.requires.1.1.1.1.1.1 in
+    let own = held.beside.follow.config in
+    let id = held.beside.id in
+    let good = subst (λ x. IsConfig x) (sym own) c.requires.1.1.1.0 in
+    let possible = to_own IsPossible (g.P.Port.config old) node.follow.config (g.P.Port.number old) node.id (g.P.Port.part old) g.mine own id c.requires.1.0 c.requires.1.1.1.1.0 in
+    let short = to_own (λ x i l. length l < x.budget) (g.P.Port.config old) node.follow.config (g.P.Port.number old) node.id (g.P.Port.part old) g.mine own id c.requires.1.0 c.requires.1.1.1.1.1.0 in
+    let due = c.plan-plan.result.due in
+    let answer = c.step-answer.result in
+    let follows = to_own (λ x i l. FollowsCycle x i l (event_by i (verb_or_beat due) answer)) node.follow.config new.follow.config node.id c.args.id g.mine g.mine plan.config (c.requires.1.1.0 ∙ sym id) refl
+    (follows_of node.follow.config node.id g.mine node new due answer good possible short plan.planned plan.led plan.cycle) in
+    moved (g.P.Port.config old) (g.P.Port.config now) new.follow.config (g.P.Port.number old) (g.P.Port.number now) c.args.id (g.P.Port.part old) g.mine (g.P.Port.part now) c.or_beat-verb.result (verb_or_beat due) answer c.took.new.self
+    (g.met.P.Port.same_config old now c.step-answer.ensures.same) (g.met.P.Port.same_number old now c.step-answer.ensures.same)
+    (plan.config ∙ own) c.requires.1.1.0 c.requires.1.0 c.or_beat-verb.ensures c.step-answer.ensures.part c.step-answer.ensures.possible (c.took.ensures.stands follows)
+
+pub returns-clause-made : goal.returns-clause-made
+returns-clause-made g c =
+    let old = c.args.port.now in
+    let now = c.step-answer.new.self in
+    let k = g.P.Port.config old in
+    let r = g.P.Port.number old in
+    let mine = g.P.Port.part old in
+    let plan = c.plan-plan.ensures in
+    let node = c.args.self.now in
+    let new = c.plan-plan.new.self in
+    let held = c.requires.1.1.1.1.1.1 in
+    let own = held.beside.follow.config in
+    let id = held.beside.id in
+    let due = c.plan-plan.result.due in
+    let answer = c.step-answer.result in
+    let possible = possible_own k (g.P.Port.config now) node.follow.config r (g.P.Port.number now) node.id mine g.mine (g.P.Port.part now) c.or_beat-verb.result (verb_or_beat due) answer
+    (g.met.P.Port.same_config old now c.step-answer.ensures.same) (g.met.P.Port.same_number old now c.step-answer.ensures.same)
+    own id c.requires.1.0 c.or_beat-verb.ensures c.step-answer.ensures.part c.step-answer.ensures.possible in
+    let took = to_own (λ x i l. TellsTook x i l c.plan-plan.result.leads due c.plan-plan.result.heeded answer c.took.result) new.follow.config node.follow.config c.args.id node.id g.mine g.mine (sym plan.config) (id ∙ sym c.requires.1.1.0) refl c.took.ensures.note in
+    record {
+      verb = c.or_beat-verb.result;
+      answer = answer;
+      part = c.step-answer.ensures.part;
+      made = to_port (λ x i l. IsMade x i l node.lead c.or_beat-verb.result) k node.follow.config r node.id mine g.mine own id c.requires.1.0
+          (subst (λ v. IsMade node.follow.config node.id g.mine node.lead v) (sym c.or_beat-verb.ensures) (record { replication = λ odd. ap verb_or_beat (plan.led odd); background = λ even. (due, plan.cycle even, refl) }));
+      tells = to_port (λ x i l. TellsNote x i l node.lead answer c.took.result) k node.follow.config r node.id mine g.mine own id c.requires.1.0
+          (note_told node.follow.config node.id g.mine node.lead c.plan-plan.result.leads due c.plan-plan.result.heeded answer c.took.result plan.leads plan.led plan.heeded possible took);
+    }

@@ -1,0 +1,66 @@
+use Rattle.std.proofs.Common.{◌≡◌, ◌∙◌, ◌∷◌, Some, length, refl, subst, sym}
+use Rattle.std.proofs.lemmas.Bool.{true≢false}
+use Rattle.mu_model.specs.Contents.{IsConfig}
+use Rattle.mu_model.specs.Knowledge.{grown, known}
+use Rattle.mu_model.specs.Parts.{IsPossible}
+use Rattle.mu_model.proofs.Basics.{none_some, same_some}
+use Rattle.mu_lead.specs.Notes.{value_committed}
+use Rattle.mu_lead.specs.Standing.{known_told}
+use Rattle.mu_node.specs.Due.{lead_due}
+use Rattle.mu_node.specs.Node.{StandsForLead}
+use Rattle.mu_node.proofs.Leads.{lead_takes, lead_tells, led_beside, led_told}
+use Rattle.mu_node.proofs.Moving.{event_by}
+use Rattle.mu_node.proofs.node.Node.took_led.Goals as goal
+
+pub learn-requires : goal.learn-requires
+learn-requires g c = record { config = subst (λ x. IsConfig x) (sym c.note.ensures.config) c.requires.0 }
+
+pub returns-clause-stands : goal.returns-clause-stands
+returns-clause-stands g c follows possible =
+    let k = c.args.self.now.follow.config in
+    let r = c.args.by in
+    let verb = c.args.verb in
+    let mine = g.mine in
+    let held = c.requires.1.1.1.1 in
+    let values = c.known-known.result.now in
+    let old = c.note.new.self.lead in
+    let lead = subst (λ l. StandsForLead k r mine l) (sym c.note.ensures.lead) held.lead in
+    let due = subst (λ l. lead_due k r mine l ≡ Some verb) (sym c.note.ensures.lead) c.requires.1.1.1.0 in
+    let told = led_told k r mine verb c.args.answer c.note.new.self values (λ none. c.note.ensures.stands mine possible held.beside none) (λ entry some. c.note.ensures.awaits mine entry possible held.beside some) (λ l n h. c.known-known.ensures k r l n h) in
+    record {
+      beside = led_beside k r mine verb c.args.answer c.note.new.self c.learn.new.self c.take-note.new.self values (length values) c.take-note.result c.requires.0 possible
+          (λ none. c.note.ensures.stands mine possible held.beside none)
+          (λ entry some. c.note.ensures.awaits mine entry possible held.beside some)
+          (λ l n h. c.known-known.ensures k r l n h)
+          refl
+          (lead_tells k r mine old verb c.args.answer values c.take-note.result lead c.take-note.ensures.tells due possible told)
+          (λ none. c.learn.ensures.none none)
+          (λ value is few committed waits. c.learn.ensures.stands k r mine (event_by r verb c.args.answer) value is few possible committed waits);
+      lead = subst (λ l. StandsForLead k r (event_by r verb c.args.answer ∷ mine) l) (sym c.learn.ensures.lead)
+          (lead_takes k r mine old c.take-note.new.self verb c.args.answer values lead c.take-note.ensures.config c.take-note.ensures.id c.take-note.ensures.stands due possible told);
+      handed = c.learn.ensures.handed ∙ (c.note.ensures.handed ∙ held.handed);
+      cycle = (held.cycle, follows);
+    }
+
+pub returns-clause-note : goal.returns-clause-note
+returns-clause-note g c =
+    let k = c.args.self.now.follow.config in
+    let r = c.args.by in
+    let mine = g.mine in
+    let held = c.requires.1.1.1.1 in
+    let values = c.known-known.result.now in
+    let old = c.note.new.self.lead in
+    let lead = subst (λ l. StandsForLead k r mine l) (sym c.note.ensures.lead) held.lead in
+    let due = subst (λ l. lead_due k r mine l ≡ Some c.args.verb) (sym c.note.ensures.lead) c.requires.1.1.1.0 in
+    record {
+      idle = λ none. absurd (none_some c.args.verb (sym none));
+      beside = λ off. absurd (true≢false off);
+      taken = λ verb on some working possible.
+          let same = same_some c.args.verb verb some in
+          subst (λ v. known k r (event_by r v c.args.answer ∷ mine) ≡ grown (known_told k r mine r v c.args.answer) (value_committed c.told.result)) same
+          (let may = subst (λ v. IsPossible k r (event_by r v c.args.answer ∷ mine)) (sym same) possible in
+          let told = led_told k r mine c.args.verb c.args.answer c.note.new.self values (λ none. c.note.ensures.stands mine may held.beside none) (λ entry is. c.note.ensures.awaits mine entry may held.beside is) (λ l n h. c.known-known.ensures k r l n h) in
+          subst (λ l. known k r (event_by r c.args.verb c.args.answer ∷ mine) ≡ grown l (value_committed c.told.result)) told
+          (subst (λ n. known k r (event_by r c.args.verb c.args.answer ∷ mine) ≡ grown values (value_committed n)) (sym (c.told.ensures working))
+          (lead_tells k r mine old c.args.verb c.args.answer values c.take-note.result lead c.take-note.ensures.tells due may told)));
+    }

@@ -1,0 +1,32 @@
+use Rattle.std.proofs.Common.{[], refl, subst}
+use Rattle.mu_model.specs.declared.script.Script.{Script}
+use Rattle.mu_node.specs.Turns.{TellsEnd}
+use Rattle.mu_grant.proofs.Rounds.{cycles}
+use Rattle.mu_node.proofs.Left.{is_left, steps_within}
+use Rattle.mu_node.proofs.node.Node.turn.Goals as goal
+
+pub step-requires : goal.step-requires
+step-requires g c =
+    let k = g.P.Port.config c.args.port.now in
+    let r = g.P.Port.number c.args.port.now in
+    let mine = g.P.Port.part c.args.port.now in
+    let script : Script = record { stops = c.args.self.now.stops.items; pauses = [] } in
+    let possible = c.id-id.ensures.possible in
+    let told = c.end.ensures k script r mine refl c.requires.config possible c.requires.stands in
+    let left = is_left k script r mine possible (subst (λ o. TellsEnd k script r mine o) c.in-None.is told) in
+    λ κs lives. (lives, (refl, (c.id-id.ensures.number, (c.requires.config, (possible, (left, c.requires.stands))))))
+
+pub returns-in-Some-clause-grants : goal.returns-in-Some-clause-grants
+returns-in-Some-clause-grants g c =
+    let k = g.P.Port.config c.args.port.now in
+    let r = g.P.Port.number c.args.port.now in
+    let mine = g.P.Port.part c.args.port.now in
+    cycles k r mine c.requires.stands.beside.follow.inside (steps_within k r mine c.id-id.ensures.possible) c.requires.stands.cycle
+
+pub returns-in-None-clause-grants : goal.returns-in-None-clause-grants
+returns-in-None-clause-grants g c =
+    let now = c.step.new.port in
+    let k = g.P.Port.config now in
+    let r = g.P.Port.number now in
+    let mine = g.P.Port.part now in
+    cycles k r mine c.step.ensures.stands.beside.follow.inside (steps_within k r mine c.step.ensures.possible) c.step.ensures.stands.cycle

@@ -1,0 +1,31 @@
+-- The step that is due in a turn.
+use Rattle.std.specs.Prelude.{Bool, List, None, Some, false, if◌then◌else◌, true, ℕ, ◌==◌, ◌≡◌}
+use Rattle.std.specs.declared.option.Option.{Option}
+use Rattle.mu_model.specs.declared.config.Config.{Config}
+use Rattle.mu_model.specs.declared.event.Event.{Event}
+use Rattle.mu_model.specs.declared.event.Verb.{Verb}
+use Rattle.mu_model.specs.Allowed.{Allowed}
+use Rattle.mu_model.specs.Knowledge.{known}
+use Rattle.mu_model.specs.Scores.{leader}
+use Rattle.mu_lead.specs.declared.lead.Lead.{Lead}
+use Rattle.mu_lead.specs.Beside.{is_beside, leads_at}
+use Rattle.mu_lead.specs.Standing.{HasHeeded, verb_of}
+
+-- the step that is made: a beat where nothing is due
+abbrev pub verb_or_beat : Option Verb → Verb
+verb_or_beat None = Verb.Beat
+verb_or_beat (Some verb) = verb
+
+-- r may make the verb, and it is not of the leader
+pub record MayBeside (c : Config) (r : ℕ) (mine : List Event) (lead : Lead) (verb : Verb) : Type 0 where
+  pub allowed : Allowed c r mine verb
+  pub beside : is_beside (leads_at lead.place) verb ≡ true
+
+-- the verb that the leader has due, in a turn of its own: of its place where the scores name r
+abbrev pub lead_due : Config → ℕ → List Event → Lead → Option Verb
+lead_due c r mine lead = if leader c r mine == r then verb_of lead (known c r mine) else None
+
+-- the leader's verb is what it has due, and it heeded the scores; any other is not of the leader
+abbrev pub FitsLead : Config → ℕ → List Event → Lead → Bool → Option Verb → Type 0
+FitsLead c r mine lead true due = HasHeeded mine lead × (due ≡ lead_due c r mine lead)
+FitsLead c r mine lead false due = is_beside (leads_at lead.place) (verb_or_beat due) ≡ true

@@ -1,0 +1,18 @@
+//! One replica: its turns, its journal and its end.
+//!
+//! A turn makes the step that the leader, the host, the failure detector or the replayer has due,
+//! which the replica may make by its own events; where none is due it beats.
+#![tactic(auto)]
+
+mod cycle;
+mod ending;
+mod node;
+mod planning;
+mod result;
+mod turn;
+mod watch;
+
+pub use mu_known::{Commit, Commits, Log};
+pub use node::Node;
+pub use result::NodeResult;
+pub use turn::Turn;

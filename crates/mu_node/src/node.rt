@@ -1,0 +1,239 @@
+//! One replica and its turns.
+ghost use Rattle.std.specs.Prelude.{IfOk, List, Some, [], false, length, take, true, vec_capacity, ℕ, ◌<◌, ◌≡◌, ◌≤◌};
+ghost use Rattle.mu_model.specs.declared.config.Config.{Config};
+ghost use Rattle.mu_model.specs.declared.event.Event.{Event as SomeEvent};
+ghost use Rattle.mu_model.specs.declared.script.Script.{Script};
+ghost use Rattle.mu_model.specs.Contents.{IsConfig};
+ghost use Rattle.mu_model.specs.Diligence.{GrantsInTime};
+ghost use Rattle.mu_model.specs.Parts.{IsPossible};
+ghost use Rattle.mu_node.specs.Node.{StandsForNode};
+ghost use Rattle.mu_node.specs.Notes.{HasMade, TellsTurn};
+ghost use Rattle.mu_node.specs.Beats.{ends_by_beat, is_beat_verb};
+ghost use Rattle.mu_node.specs.Turns.{IsOneStep, IsResult, IsTurn, TellsEnd};
+
+use crate::ending::{end_of_going, is_stop};
+use crate::planning::or_beat;
+use crate::result::NodeResult;
+use crate::turn::Turn;
+use crate::watch::Watch;
+use mu_follow::Follow;
+use mu_grant::Grants;
+use mu_input::Job;
+use mu_known::Commit;
+use mu_lead::{Lead, Note};
+use mu_model::{End, Journal, NoMemory, Sequence, Stop, Verb, positions_in};
+use mu_port::Port;
+use std::alloc::Global;
+
+/// One replica.
+#[derive(Drop)]
+pub struct Node {
+    /// Its id.
+    pub(crate) id: u8,
+    /// How many replicas there are.
+    pub(crate) replicas: u8,
+    /// How many steps it may take.
+    pub(crate) budget: u32,
+    /// The stops of the script.
+    pub(crate) stops: Vec<Stop>,
+    /// Its events.
+    pub(crate) journal: Journal,
+    /// What it does as the host of its region.
+    pub(crate) grants: Grants,
+    /// Whom it holds to be failed, and whom it names leader.
+    pub(crate) watch: Watch,
+    /// What it does as a leader.
+    pub(crate) lead: Lead,
+    /// What it knows, and does as a replayer.
+    pub(crate) follow: Follow,
+    /// Room for its log.
+    pub(crate) log: Vec<u16>,
+    /// Room for what it committed.
+    pub(crate) commits: Vec<Commit>,
+}
+
+/// Whether the verb is a beat.
+fn is_beat(verb: &Verb) -> bool
+    ensures { result ≡ is_beat_verb verb.now }
+{
+    match *verb {
+        Verb::Beat => true,
+        _ => false,
+    }
+}
+
+/// The first values, or all where there are fewer.
+fn first_of(values: &[u16], count: usize) -> &[u16]
+    ensures { count ≤ length values.now → result.now ≡ take count values.now }
+{
+    &values[..count.min(values.len())]
+}
+
+/// Adds the values, where there is room, as there is for all.
+fn fill_log(log: &mut Vec<u16>, values: &[u16])
+    ensures { log.old.items ≡ [] → length values.now ≤ vec_capacity log.old → log.new.items ≡ values.now }
+{
+    for value in values {
+        if log.len() < log.capacity() {
+            log.push_reserved(*value);
+        }
+    }
+}
+
+/// Adds the commits, where there is room, as there is for all.
+fn fill_commits(list: &mut Vec<Commit>, commits: &[Commit])
+    ensures { list.old.items ≡ [] → length commits.now ≤ vec_capacity list.old
+        → list.new.items ≡ commits.now }
+{
+    for commit in commits {
+        if list.len() < list.capacity() {
+            list.push_reserved(*commit);
+        }
+    }
+}
+
+impl Node {
+    /// The replica `id` of a job before any event. Takes all memory that it ever needs.
+    pub fn new(alloc: Global, job: &Job, id: u8) -> Result<Node, NoMemory>
+        requires config { IsConfig job.now.config }
+        requires inside { id < job.now.config.replicas }
+        ensures stands { IfOk result (λ node. StandsForNode job.now.config id [] node) }
+        ensures stops { IfOk result (λ node. node.stops.items ≡ job.now.script.stops) }
+    {
+        let config = &job.config;
+        Ok(Node {
+            id,
+            replicas: config.replicas,
+            budget: config.budget,
+            stops: Vec::from_slice(alloc, job.script.stops.as_slice())?,
+            journal: Journal::with_room(alloc, config.budget as usize)?,
+            grants: Grants::new(config.replicas, id),
+            watch: Watch::new(config.replicas, id),
+            lead: Lead::new(alloc, config, id)?,
+            follow: Follow::new(alloc, config, id)?,
+            log: Vec::with_capacity(alloc, positions_in(config))?,
+            commits: Vec::with_capacity(alloc, positions_in(config))?,
+        })
+    }
+
+    /// Its id.
+    pub fn id(&self) -> u8
+        ensures { result ≡ self.now.id }
+    {
+        self.id
+    }
+
+    /// How many steps it has taken.
+    pub fn steps(&self) -> u32
+        ensures { (c : Config) → (r : ℕ) → (mine : List SomeEvent) → StandsForNode c r mine self.now
+            → result ≡ length mine }
+    {
+        self.follow.steps()
+    }
+
+    /// Whether its last step was a beat.
+    pub fn has_beaten(&self) -> bool
+        ensures { (c : Config) → (r : ℕ) → (mine : List SomeEvent) → StandsForNode c r mine self.now
+            → result ≡ ends_by_beat mine }
+    {
+        match self.journal.as_slice().last() {
+            Some(event) => is_beat(&event.verb),
+            None => false,
+        }
+    }
+
+    /// The end of its journal, where it has one: by the script, by the budget, because it was
+    /// outrun, or because all is applied.
+    pub fn end(&self) -> Option<End>
+        ensures { (c : Config) → (script : Script) → (r : ℕ) → (mine : List SomeEvent)
+            → script.stops ≡ self.now.stops.items → IsConfig c → IsPossible c r mine
+            → StandsForNode c r mine self.now → TellsEnd c script r mine result }
+    {
+        let steps = self.follow.steps();
+        if is_stop(self.stops.as_slice(), self.id, steps) {
+            Some(End::Stopped)
+        } else if steps == self.budget {
+            Some(End::Budget)
+        } else {
+            end_of_going(&self.follow, &self.watch, self.id, self.replicas)
+        }
+    }
+
+    /// One turn: one step through the port, or none where the journal has an end. Takes no memory.
+    pub fn turn<P: Port>(&mut self, port: &mut P) -> Turn
+        requires config { IsConfig (P.config port.old) }
+        requires stands { StandsForNode (P.config port.old) (P.number port.old) (P.part port.old) self.old }
+        ensures stands { StandsForNode (P.config port.new) (P.number port.new) (P.part port.new) self.new }
+        ensures same { P.same port.old port.new }
+        ensures stops { self.new.stops ≡ self.old.stops }
+        ensures possible { IsPossible (P.config port.new) (P.number port.new) (P.part port.new) }
+        ensures turn { (script : Script) → script.stops ≡ self.old.stops.items
+            → IsTurn (P.config port.old) script (P.number port.old) (P.part port.old)
+            (P.part port.new) (P.whole port.old) (P.whole port.new) result }
+        ensures made { TellsTurn (P.config port.old) (P.number port.old) (P.part port.old)
+            (P.part port.new) self.old.lead result }
+        ensures grants { GrantsInTime (P.config port.new) (P.number port.new) (P.part port.new) }
+    {
+        let id = port.id();
+        match self.end() {
+            Some(end) => Turn::Ended(end),
+            None => Turn::Took(self.step(port, id)),
+        }
+    }
+
+    /// One step: what is due, else a beat.
+    fn step<P: Port>(&mut self, port: &mut P, id: u8) -> Note
+        ghost mine: { List SomeEvent }
+        requires mine { P.part port.old ≡ mine }
+        requires id { id ≡ P.number port.old }
+        requires config { IsConfig (P.config port.old) }
+        requires possible { IsPossible (P.config port.old) (P.number port.old) (P.part port.old) }
+        requires left { length (P.part port.old) < (P.config port.old).budget }
+        requires stands { StandsForNode (P.config port.old) (P.number port.old) (P.part port.old) self.old }
+        ensures stands { StandsForNode (P.config port.new) (P.number port.new) (P.part port.new) self.new }
+        ensures same { P.same port.old port.new }
+        ensures stops { self.new.stops ≡ self.old.stops }
+        ensures possible { IsPossible (P.config port.new) (P.number port.new) (P.part port.new) }
+        ensures step { IsOneStep (P.config port.old) (P.number port.old) (P.part port.old) (P.part port.new)
+            (P.whole port.old) (P.whole port.new) }
+        ensures made { HasMade (P.config port.old) (P.number port.old) (P.part port.old) (P.part port.new)
+            self.old.lead result }
+    {
+        let plan = self.plan();
+        let verb = or_beat(plan.due);
+        let answer = port.step(verb);
+        self.took(plan, id, answer)
+    }
+
+    /// What the replica leaves. Takes no memory.
+    pub fn into_result(self) -> NodeResult
+        ensures is { (c : Config) → (r : ℕ) → (mine : List SomeEvent) → IsConfig c → IsPossible c r mine
+            → StandsForNode c r mine self → IsResult c r mine result }
+        ensures end { (c : Config) → (script : Script) → (r : ℕ) → (mine : List SomeEvent)
+            → script.stops ≡ self.stops.items → IsConfig c → IsPossible c r mine
+            → StandsForNode c r mine self → TellsEnd c script r mine result.end }
+    {
+        let end = self.end();
+        let Node {
+            id: _,
+            replicas: _,
+            budget: _,
+            stops: _,
+            journal,
+            grants: _,
+            watch: _,
+            lead: _,
+            follow,
+            mut log,
+            mut commits,
+        } = self;
+        fill_log(&mut log, first_of(follow.known(), follow.applied_count()));
+        fill_commits(&mut commits, follow.commits());
+        NodeResult {
+            journal,
+            log: Sequence::from_vec(log),
+            commits: Sequence::from_vec(commits),
+            end,
+        }
+    }
+}

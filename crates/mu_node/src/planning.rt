@@ -1,0 +1,308 @@
+//! What a replica plans for a turn, and how its parts take the event that the step is.
+ghost use Rattle.std.specs.Prelude.{List, None, Some, false, if◌then◌else◌, length, nat_lt, true, ℕ, ◌&&◌, ◌<◌, ◌==◌, ◌∷◌, ◌≡◌};
+ghost use Rattle.mu_model.specs.declared.config.Config.{Config};
+ghost use Rattle.mu_model.specs.declared.event.Event.{Event as SomeEvent};
+ghost use Rattle.mu_model.specs.Allowed.{Allowed};
+ghost use Rattle.mu_model.specs.Contents.{IsConfig};
+ghost use Rattle.mu_model.specs.Parts.{IsPossible};
+ghost use Rattle.mu_model.specs.Scores.{leader};
+ghost use Rattle.mu_model.specs.Stretches.{is_odd};
+ghost use Rattle.mu_follow.specs.Follow.{commit_of};
+ghost use Rattle.mu_grant.specs.Pace.{FollowsCycle};
+ghost use Rattle.mu_lead.specs.declared.note.Note.{Note as SomeNote};
+ghost use Rattle.mu_lead.specs.Beside.{is_beside, leads_at};
+ghost use Rattle.mu_lead.specs.Notes.{value_committed};
+ghost use Rattle.mu_lead.specs.Standing.{HasHeeded, TellsNext};
+ghost use Rattle.mu_node.specs.Cycle.{IsBackgroundDue};
+ghost use Rattle.mu_node.specs.Due.{FitsLead, lead_due, verb_or_beat};
+ghost use Rattle.mu_node.specs.Node.{AwaitsBeside, HasPlanned, HoldsBeside, StandsForNode};
+ghost use Rattle.mu_node.specs.Notes.{TellsTook, heed_note, note_before};
+
+use crate::ending::as_head;
+use crate::node::Node;
+use mu_lead::Note;
+use mu_model::{Answer, Event, Verb};
+
+/// What is due in a turn.
+#[derive(Drop)]
+pub(crate) struct Plan {
+    /// The verb, where one is due.
+    pub(crate) due: Option<Verb>,
+    /// Whether it is of the leader.
+    pub(crate) leads: bool,
+    /// What the leader noted when it was told whom the scores name.
+    pub(crate) heeded: Note,
+}
+
+/// Whether the turn after so many steps is one of the leader: turns are counted from 0, and these
+/// are the odd ones.
+fn is_turn_of_leader(steps: u32) -> bool
+    ensures { result ≡ is_odd steps }
+{
+    steps % 2 == 1
+}
+
+/// The step that is made where this one is due, if any.
+pub(crate) fn or_beat(due: Option<Verb>) -> Verb
+    ensures { result ≡ verb_or_beat due }
+{
+    match due {
+        Some(verb) => verb,
+        None => Verb::Beat,
+    }
+}
+
+/// The value that the note says a put made known.
+fn committed_in(note: Note) -> Option<u16>
+    ensures { result ≡ value_committed note }
+{
+    match note {
+        Note::Committed { position: _, value } => Some(value),
+        Note::Adopted { position: _, value } => Some(value),
+        _ => None,
+    }
+}
+
+/// A resignation, else the other note.
+fn told(heeded: Note, note: Note) -> Note
+    ensures { heeded ≡ SomeNote.Working → result ≡ note }
+{
+    match heeded {
+        Note::Resigned { to } => Note::Resigned { to },
+        _ => note,
+    }
+}
+
+impl Node {
+    /// What is due in this turn: of the leader in odd ones, once it was told whom the scores name,
+    /// else of the cycle of the background.
+    pub(crate) fn plan(&mut self) -> Plan
+        ghost mine: { List SomeEvent }
+        requires config { IsConfig self.old.follow.config }
+        requires possible { IsPossible self.old.follow.config self.old.id mine }
+        requires short { length mine < self.old.follow.config.budget }
+        requires stands { StandsForNode self.old.follow.config self.old.id mine self.old }
+        ensures planned { HasPlanned self.old.follow.config self.old.id mine self.new }
+        ensures config { self.new.follow.config ≡ self.old.follow.config }
+        ensures id { self.new.id ≡ self.old.id }
+        ensures stops { self.new.stops ≡ self.old.stops }
+        ensures allowed { Allowed self.old.follow.config self.old.id mine (verb_or_beat result.due) }
+        ensures fits { FitsLead self.old.follow.config self.old.id mine self.new.lead result.leads result.due }
+        ensures leads { result.leads ≡ is_odd (length mine) }
+        ensures led { is_odd (length mine) ≡ true
+            → result.due ≡ lead_due self.old.follow.config self.old.id mine self.old.lead }
+        ensures cycle { is_odd (length mine) ≡ false
+            → IsBackgroundDue self.old.follow.config self.old.id mine
+            (leads_at self.old.lead.place) result.due }
+        ensures heeded { result.heeded
+            ≡ note_before self.old.follow.config self.old.id mine self.old.lead }
+    {
+        if is_turn_of_leader(self.follow.steps()) {
+            self.plan_led()
+        } else {
+            self.plan_cycle()
+        }
+    }
+
+    /// What is due in a turn of the leader.
+    fn plan_led(&mut self) -> Plan
+        ghost mine: { List SomeEvent }
+        requires config { IsConfig self.old.follow.config }
+        requires possible { IsPossible self.old.follow.config self.old.id mine }
+        requires short { length mine < self.old.follow.config.budget }
+        requires stands { StandsForNode self.old.follow.config self.old.id mine self.old }
+        ensures stands { StandsForNode self.old.follow.config self.old.id mine self.new }
+        ensures config { self.new.follow.config ≡ self.old.follow.config }
+        ensures id { self.new.id ≡ self.old.id }
+        ensures stops { self.new.stops ≡ self.old.stops }
+        ensures allowed { Allowed self.old.follow.config self.old.id mine (verb_or_beat result.due) }
+        ensures fits { FitsLead self.old.follow.config self.old.id mine self.new.lead true result.due }
+        ensures leads { result.leads ≡ true }
+        ensures led { result.due ≡ lead_due self.old.follow.config self.old.id mine self.old.lead }
+        ensures heeded { result.heeded ≡ heed_note self.old.follow.config self.old.id mine self.old.lead }
+    {
+        let heeded = self.heed();
+        Plan {
+            due: self.lead.due(self.follow.known()),
+            leads: true,
+            heeded,
+        }
+    }
+
+    /// What is due in a background turn.
+    fn plan_cycle(&mut self) -> Plan
+        ghost mine: { List SomeEvent }
+        requires config { IsConfig self.old.follow.config }
+        requires possible { IsPossible self.old.follow.config self.old.id mine }
+        requires short { length mine < self.old.follow.config.budget }
+        requires even { is_odd (length mine) ≡ false }
+        requires stands { StandsForNode self.old.follow.config self.old.id mine self.old }
+        ensures planned { HasPlanned self.old.follow.config self.old.id mine self.new }
+        ensures config { self.new.follow.config ≡ self.old.follow.config }
+        ensures id { self.new.id ≡ self.old.id }
+        ensures stops { self.new.stops ≡ self.old.stops }
+        ensures allowed { Allowed self.old.follow.config self.old.id mine (verb_or_beat result.due) }
+        ensures fits { FitsLead self.old.follow.config self.old.id mine self.new.lead false result.due }
+        ensures leads { result.leads ≡ false }
+        ensures cycle { IsBackgroundDue self.old.follow.config self.old.id mine
+            (leads_at self.old.lead.place) result.due }
+        ensures heeded { result.heeded ≡ SomeNote.Working }
+    {
+        Plan {
+            due: self.background(),
+            leads: false,
+            heeded: Note::Working,
+        }
+    }
+
+    /// Tells the leader whom the scores name, before a step of its own.
+    fn heed(&mut self) -> Note
+        ghost mine: { List SomeEvent }
+        requires stands { StandsForNode self.old.follow.config self.old.id mine self.old }
+        ensures stands { StandsForNode self.old.follow.config self.old.id mine self.new }
+        ensures follow { self.new.follow ≡ self.old.follow }
+        ensures id { self.new.id ≡ self.old.id }
+        ensures stops { self.new.stops ≡ self.old.stops }
+        ensures named { self.new.lead.named ≡ (leader self.old.follow.config self.old.id mine == self.old.id) }
+        ensures heeded { HasHeeded mine self.new.lead }
+        ensures due { lead_due self.old.follow.config self.old.id mine self.new.lead
+            ≡ lead_due self.old.follow.config self.old.id mine self.old.lead }
+        ensures note { result ≡ heed_note self.old.follow.config self.old.id mine self.old.lead }
+    {
+        let leader = self.watch.leader();
+        let failed = self.watch.failed();
+        self.lead.heed(leader, failed)
+    }
+
+    /// Takes the event that the step is, in all parts but the leader. The entry that a put made
+    /// known is told next.
+    fn note(&mut self, by: u8, verb: Verb, answer: Answer)
+        requires config { IsConfig self.old.follow.config }
+        requires room { 0 < self.old.journal.room }
+        ensures stands { (mine : List SomeEvent)
+            → IsPossible self.old.follow.config by
+            (record { by = by; verb = verb; answer = answer } ∷ mine)
+            → HoldsBeside self.old.follow.config by mine self.old
+            → commit_of self.old.follow.config by mine
+            (record { by = by; verb = verb; answer = answer })
+            ≡ None
+            → HoldsBeside self.old.follow.config by
+            (record { by = by; verb = verb; answer = answer } ∷ mine) self.new }
+        ensures awaits { (mine : List SomeEvent) → (entry : ℕ × ℕ)
+            → IsPossible self.old.follow.config by
+            (record { by = by; verb = verb; answer = answer } ∷ mine)
+            → HoldsBeside self.old.follow.config by mine self.old
+            → commit_of self.old.follow.config by mine
+            (record { by = by; verb = verb; answer = answer })
+            ≡ Some entry
+            → AwaitsBeside self.old.follow.config by mine
+            (record { by = by; verb = verb; answer = answer }) self.new }
+        ensures lead { self.new.lead ≡ self.old.lead }
+        ensures stops { self.new.stops ≡ self.old.stops }
+        ensures config { self.new.follow.config ≡ self.old.follow.config }
+        ensures handed { self.new.follow.progress.handed ≡ self.old.follow.progress.handed }
+    {
+        let event = Event { by, verb, answer };
+        self.journal.push(event);
+        self.grants.note(&event);
+        self.watch.note(self.replicas, &event);
+        self.follow.note(&event);
+    }
+
+    /// Tells the replayer the entry that a put of the leader made known, where its note says so.
+    fn learn(&mut self, position: usize, note: Note)
+        requires config { IsConfig self.old.follow.config }
+        ensures none { value_committed note ≡ None → self.new ≡ self.old }
+        ensures stands { (c : Config) → (r : ℕ) → (mine : List SomeEvent) → (event : SomeEvent)
+            → (value : ℕ) → value_committed note ≡ Some value → position < 65536
+            → IsPossible c r (event ∷ mine)
+            → commit_of c r mine event ≡ Some (position, value)
+            → AwaitsBeside c r mine event self.old → HoldsBeside c r (event ∷ mine) self.new }
+        ensures lead { self.new.lead ≡ self.old.lead }
+        ensures stops { self.new.stops ≡ self.old.stops }
+        ensures handed { self.new.follow.progress.handed ≡ self.old.follow.progress.handed }
+    {
+        match committed_in(note) {
+            Some(value) => self.follow.learn(as_head(position as u64), value),
+            None => {}
+        }
+    }
+
+    /// Takes the event that the step is, and tells the leader the answer of a step of its own. A
+    /// resignation is told before all else.
+    pub(crate) fn took(&mut self, plan: Plan, id: u8, answer: Answer) -> Note
+        ghost mine: { List SomeEvent }
+        requires id { id ≡ self.old.id }
+        requires config { IsConfig self.old.follow.config }
+        requires room { 0 < self.old.journal.room }
+        requires fits { FitsLead self.old.follow.config self.old.id mine self.old.lead plan.leads plan.due }
+        requires planned { HasPlanned self.old.follow.config self.old.id mine self.old }
+        ensures stands { FollowsCycle self.old.follow.config id mine
+            (record { by = id; verb = verb_or_beat plan.due; answer = answer })
+            → IsPossible self.old.follow.config id
+            (record { by = id; verb = verb_or_beat plan.due; answer = answer } ∷ mine)
+            → StandsForNode self.old.follow.config id
+            (record { by = id; verb = verb_or_beat plan.due; answer = answer } ∷ mine) self.new }
+        ensures stops { self.new.stops ≡ self.old.stops }
+        ensures note { TellsTook self.old.follow.config id mine plan.leads plan.due plan.heeded answer
+            result }
+    {
+        match plan.due {
+            Some(verb) => {
+                if plan.leads {
+                    self.took_led(verb, id, answer, plan.heeded)
+                } else {
+                    self.note_other(id, verb, answer);
+                    plan.heeded
+                }
+            }
+            None => {
+                self.note_other(id, Verb::Beat, answer);
+                plan.heeded
+            }
+        }
+    }
+
+    /// Takes an event that is not of the leader.
+    fn note_other(&mut self, by: u8, verb: Verb, answer: Answer)
+        requires config { IsConfig self.old.follow.config }
+        requires room { 0 < self.old.journal.room }
+        ensures stands { (mine : List SomeEvent) → is_beside (leads_at self.old.lead.place) verb ≡ true
+            → FollowsCycle self.old.follow.config by mine
+            (record { by = by; verb = verb; answer = answer })
+            → IsPossible self.old.follow.config by
+            (record { by = by; verb = verb; answer = answer } ∷ mine)
+            → HasPlanned self.old.follow.config by mine self.old
+            → StandsForNode self.old.follow.config by
+            (record { by = by; verb = verb; answer = answer } ∷ mine) self.new }
+        ensures stops { self.new.stops ≡ self.old.stops }
+    {
+        self.note(by, verb, answer);
+    }
+
+    /// Takes an event of the leader, and tells it the answer. A resignation is told before all
+    /// else.
+    fn took_led(&mut self, verb: Verb, by: u8, answer: Answer, heeded: Note) -> Note
+        ghost mine: { List SomeEvent }
+        requires config { IsConfig self.old.follow.config }
+        requires room { 0 < self.old.journal.room }
+        requires heeded { HasHeeded mine self.old.lead }
+        requires due { lead_due self.old.follow.config by mine self.old.lead ≡ Some verb }
+        requires planned { HasPlanned self.old.follow.config by mine self.old }
+        ensures stands { FollowsCycle self.old.follow.config by mine
+            (record { by = by; verb = verb; answer = answer })
+            → IsPossible self.old.follow.config by
+            (record { by = by; verb = verb; answer = answer } ∷ mine)
+            → StandsForNode self.old.follow.config by
+            (record { by = by; verb = verb; answer = answer } ∷ mine) self.new }
+        ensures stops { self.new.stops ≡ self.old.stops }
+        ensures note { TellsTook self.old.follow.config by mine true (Some verb) heeded answer result }
+    {
+        self.note(by, verb, answer);
+        let known = self.follow.known();
+        let position = known.len();
+        let note = self.lead.take(answer, known);
+        self.learn(position, note);
+        told(heeded, note)
+    }
+}

@@ -1,0 +1,8 @@
+use Rattle.std.proofs.Common.{◌≡◌, ◌≤◌, length, take}
+use Rattle.mu_model.specs.Contents.{marked}
+use Rattle.mu_model.specs.Histories.{history}
+use Rattle.mu_model.specs.Knowledge.{known}
+use Rattle.mu_oracle.proofs.knowledge.knows_mark.Given as goal
+
+abbrev pub invariant-loop-i : goal.invariant-loop-i
+invariant-loop-i l = record { so_far : l.count ≡ length (known l.config l.r (history (take l.i l.part))); few : l.count ≤ l.i; at : l.found ≡ marked l.config l.q (known l.config l.r (history (take l.i l.part))) }

@@ -1,0 +1,262 @@
+//! What a step answers, computed from the list of events so far.
+ghost use Rattle.std.specs.List.{slice_get};
+ghost use Rattle.std.specs.Prelude.{List, [], if◌then◌else◌, length, set, ℕ, ◌++◌, ◌<◌, ◌==◌, ◌^◌, ◌∷◌, ◌≡◌};
+ghost use Rattle.mu_model.specs.Answers.{answer_of, drained};
+ghost use Rattle.mu_model.specs.Histories.{history};
+ghost use Rattle.mu_model.specs.Regions.{asks, beats, fence, fence_grant, region_fuo, region_head, region_log, region_min, row_word};
+
+use crate::leadership::grant_noted;
+use mu_model::{Answer, Config, Event, Fence, Target, Verb};
+
+/// The fence of `p`.
+fn fence_of(p: u8, events: &[Event]) -> Fence
+    requires { fence_grant p (history events.now) < 2 ^ 32 }
+    ensures { result ≡ fence p (history events.now) }
+{
+    let mut fence = Fence {
+        owner: None,
+        grant: 0,
+        closing: false,
+        target: Target::None,
+    };
+    for e in events {
+        match (e.verb, e.answer) {
+            (Verb::Grant(w), _) => {
+                if e.by == p {
+                    fence.owner = Some(w);
+                    fence.grant = fence.grant.saturating_add(1);
+                    fence.closing = false;
+                    fence.target = Target::None;
+                }
+            }
+            (Verb::Close, _) => {
+                if e.by == p {
+                    fence.closing = true;
+                }
+            }
+            (Verb::Enter(q, t), Answer::Entered) => {
+                if q == p {
+                    fence.target = t;
+                }
+            }
+            _ => {}
+        }
+    }
+    fence
+}
+
+/// The minimum of `p`.
+fn minimum_of(p: u8, events: &[Event]) -> u32
+    ensures { result ≡ region_min p (history events.now) }
+{
+    let mut minimum = 0;
+    for e in events {
+        if let (Verb::PutMin(q, b), Answer::Done) = (e.verb, e.answer) {
+            if q == p {
+                minimum = b;
+            }
+        }
+    }
+    minimum
+}
+
+/// The FUO of `p`.
+fn fuo_of(p: u8, events: &[Event]) -> u16
+    ensures { result ≡ region_fuo p (history events.now) }
+{
+    let mut fuo: u16 = 0;
+    for e in events {
+        if let Verb::RaiseFuo(q, u) = e.verb {
+            if q == p {
+                fuo = fuo.max(u);
+            }
+        }
+    }
+    fuo
+}
+
+/// The head of `p`.
+fn head_of(p: u8, events: &[Event]) -> u16
+    ensures { result ≡ region_head p (history events.now) }
+{
+    let mut head: u16 = 0;
+    for e in events {
+        if let Verb::RaiseHead(h) = e.verb {
+            if e.by == p {
+                head = head.max(h);
+            }
+        }
+    }
+    head
+}
+
+/// How many beats `q` made.
+fn beats_of(q: u8, events: &[Event]) -> u64
+    ensures { result ≡ beats q (history events.now) }
+{
+    let mut count: u64 = 0;
+    for e in events {
+        if let Verb::Beat = e.verb {
+            if e.by == q {
+                count += 1;
+            }
+        }
+    }
+    count
+}
+
+/// How often `w` asked `p`.
+fn asks_of(w: u8, p: u8, events: &[Event]) -> u64
+    ensures { result ≡ asks w p (history events.now) }
+{
+    let mut count: u64 = 0;
+    for e in events {
+        if let Verb::Ask(q) = e.verb {
+            if e.by == w && q == p {
+                count += 1;
+            }
+        }
+    }
+    count
+}
+
+/// Word `k` of the row of the payload number `v`.
+fn word_of(v: u16, k: u8, events: &[Event]) -> u64
+    ensures { result ≡ row_word v k (history events.now) }
+{
+    let mut word = 0;
+    for e in events {
+        if let Verb::WriteRow(row, l, x) = e.verb {
+            if u16::from(e.by) == v / 4096 && row == v % 4096 && l == k {
+                word = x;
+            }
+        }
+    }
+    word
+}
+
+/// How long the log of `p` is.
+fn log_length(p: u8, events: &[Event]) -> u64
+    ensures { result ≡ length (region_log p (history events.now)) }
+{
+    let mut count: u64 = 0;
+    for e in events {
+        if let (Verb::PutSlot(q, j, _, _), Answer::Done) = (e.verb, e.answer) {
+            if q == p && u64::from(j) == count {
+                count += 1;
+            }
+        }
+    }
+    count
+}
+
+/// The entry at `i` of a log of `count` entries after a put at `j`.
+#[tactic(auto, using(crate::proofs::Entries::get_after))]
+fn entry_after(
+    entry: Option<(u32, u16)>,
+    count: u64,
+    i: u16,
+    j: u16,
+    put: (u32, u16),
+) -> Option<(u32, u16)>
+    ensures { (log : List (ℕ × ℕ)) → length log ≡ count → slice_get log i ≡ entry
+        → result ≡ slice_get (if j == length log then log ++ put ∷ [] else set log j put) i }
+{
+    if j == i && u64::from(j) <= count {
+        Some(put)
+    } else {
+        entry
+    }
+}
+
+/// What stands in the log of `p` at `i`.
+fn entry_at(p: u8, i: u16, events: &[Event]) -> Option<(u32, u16)>
+    ensures { result ≡ slice_get (region_log p (history events.now)) i }
+{
+    let mut entry: Option<(u32, u16)> = None;
+    let mut count: u64 = 0;
+    for e in events {
+        if let (Verb::PutSlot(q, j, b, v), Answer::Done) = (e.verb, e.answer) {
+            if q == p {
+                entry = entry_after(entry, count, i, j, (b, v));
+                if u64::from(j) == count {
+                    count += 1;
+                }
+            }
+        }
+    }
+    entry
+}
+
+/// Whether `p` was drained since the last `Enter` of `r` there.
+fn is_drained(r: u8, p: u8, events: &[Event]) -> bool
+    ensures { result ≡ drained r p (history events.now) }
+{
+    let mut drained = false;
+    for e in events {
+        match e.verb {
+            Verb::Enter(q, _) => {
+                if e.by == r && q == p {
+                    drained = false;
+                }
+            }
+            Verb::Drain => {
+                if e.by == p {
+                    drained = true;
+                }
+            }
+            _ => {}
+        }
+    }
+    drained
+}
+
+/// What the replica `by` is answered to `verb` after `events`, on condition that each region was
+/// granted fewer than 2^32 times. Takes no memory, and the time of a walk over the events.
+pub fn answers(config: &Config, events: &[Event], by: u8, verb: &Verb) -> Answer
+    requires few { (p : ℕ) → fence_grant p (history events.now) < 2 ^ 32 }
+    ensures { result ≡ answer_of config.now by (history events.now) verb.now }
+{
+    match *verb {
+        Verb::Fence(p) => Answer::Seen(fence_of(p, events)),
+        Verb::Min(p) => Answer::Number(u64::from(minimum_of(p, events))),
+        Verb::Enter(p, _) => {
+            let fence = fence_of(p, events);
+            match grant_noted(by, p, events) {
+                Some(g) if !fence.closing && fence.grant == g => Answer::Entered,
+                _ => Answer::Lost(fence),
+            }
+        }
+        Verb::PutMin(p, _) | Verb::PutSlot(p, _, _, _) => {
+            if is_drained(by, p, events) {
+                Answer::Missed
+            } else {
+                Answer::Done
+            }
+        }
+        Verb::Look(p, i) => {
+            if u64::from(i) + u64::from(config.ring) < log_length(p, events) {
+                Answer::Past
+            } else {
+                match entry_at(p, i, events) {
+                    None => Answer::Empty,
+                    Some((number, value)) => Answer::Entry { number, value },
+                }
+            }
+        }
+        Verb::Fuo(p) => Answer::Number(u64::from(fuo_of(p, events))),
+        Verb::Head(q) => Answer::Number(u64::from(head_of(q, events))),
+        Verb::ReadBeat(q) => Answer::Number(beats_of(q, events)),
+        Verb::ReadRow(v, k) => Answer::Number(word_of(v, k, events)),
+        Verb::ReadAsk(w) => Answer::Number(asks_of(w, by, events)),
+        Verb::Close => Answer::Seen(fence_of(by, events)),
+        Verb::Ask(_)
+        | Verb::RaiseFuo(_, _)
+        | Verb::WriteRow(_, _, _)
+        | Verb::RaiseHead(_)
+        | Verb::Beat
+        | Verb::LookTarget
+        | Verb::Drain
+        | Verb::Grant(_) => Answer::Done,
+    }
+}

@@ -1,0 +1,143 @@
+//! Which rows a replica has written or read, and what it has applied.
+ghost use Rattle.std.specs.Prelude.{List, [], length, ℕ, ◌%◌, ◌&&◌, ◌++◌, ◌+◌, ◌/◌, ◌<◌, ◌==◌, ◌^◌, ◌||◌, ◌∷◌, ◌≡◌, ◌≤◌};
+ghost use Rattle.mu_model.specs.Histories.{all_below, has, history};
+ghost use Rattle.mu_model.specs.Knowledge.{applied, fetched_prefix, front, has_entry, has_row, is_read, wrote, wrote_batch};
+
+use crate::knowledge::learnt;
+use mu_model::{Config, Event, Verb, row_rest, stands_for_batch};
+
+/// Whether `r` wrote word `k` of its row `j`.
+pub fn has_written(r: u8, j: u64, k: u8, part: &[Event]) -> bool
+    ensures { result ≡ wrote r j k (history part.now) }
+{
+    let mut written = false;
+    for e in part {
+        if let Verb::WriteRow(row, word, _) = e.verb {
+            if e.by == r && u64::from(row) == j && word == k {
+                written = true;
+            }
+        }
+    }
+    written
+}
+
+/// Whether `r` read word `k` of the row of `v`.
+fn has_read(r: u8, v: u64, k: u8, part: &[Event]) -> bool
+    ensures { result ≡ has (λ e. is_read r v k e.by e.verb) (history part.now) }
+{
+    let mut read = false;
+    for e in part {
+        if let Verb::ReadRow(w, word) = e.verb {
+            if e.by == r && u64::from(w) == v && word == k {
+                read = true;
+            }
+        }
+    }
+    read
+}
+
+/// Whether `r` wrote all words of its row `j`.
+fn wrote_row(r: u8, j: u64, part: &[Event]) -> bool
+    ensures { result ≡ all_below 12 (λ k. wrote r j k (history part.now)) }
+{
+    let mut all = true;
+    for k in 0..12 {
+        all = has_written(r, j, k, part) && all;
+    }
+    all
+}
+
+/// Whether `r` wrote or read so many words of the row of `v`.
+fn has_words_below(n: u8, r: u8, v: u64, part: &[Event]) -> bool
+    requires { n ≤ 12 }
+    ensures { result
+        ≡ all_below n
+        (λ k. (v / 4096 == r) && wrote r (v % 4096) k (history part.now)
+        || has (λ e. is_read r v k e.by e.verb) (history part.now)) }
+{
+    let mut all = true;
+    for k in 0..n {
+        all = ((v / 4096 == u64::from(r) && has_written(r, v % 4096, k, part))
+            || has_read(r, v, k, part))
+            && all;
+    }
+    all
+}
+
+/// Whether `r` wrote or read all words of the row of `v`.
+fn has_whole_row(r: u8, v: u64, part: &[Event]) -> bool
+    ensures { result ≡ has_row r v (history part.now) }
+{
+    has_words_below(12, r, v, part)
+}
+
+/// Whether `r` has so many rows from that of `v` on.
+#[tactic(auto, using(mu_model::proofs::Scans::all_more))]
+fn has_rows(n: u64, r: u8, v: u16, part: &[Event]) -> bool
+    requires { n ≤ 256 }
+    ensures { result ≡ all_below n (λ t. has_row r (v + t) (history part.now)) }
+{
+    let mut all = true;
+    for t in 0..n {
+        all = has_whole_row(r, u64::from(v) + t, part) && all;
+    }
+    all
+}
+
+/// Whether `r` has all rows of the entry `v`.
+fn has_whole_entry(config: &Config, r: u8, v: u16, part: &[Event]) -> bool
+    ensures { result ≡ has_entry config.now r v (history part.now) }
+{
+    !stands_for_batch(config, v) || has_rows(u64::from(row_rest(config, v % 4096)) + 1, r, v, part)
+}
+
+/// Whether `r` wrote so many of its rows from row `j` on.
+fn wrote_rows(n: u64, r: u8, j: u16, part: &[Event]) -> bool
+    requires { n ≤ 256 }
+    ensures { result ≡ all_below n (λ t. all_below 12 (λ k. wrote r (j + t) k (history part.now))) }
+{
+    let mut all = true;
+    for t in 0..n {
+        all = wrote_row(r, u64::from(j) + t, part) && all;
+    }
+    all
+}
+
+/// Whether `r` wrote all rows of the batch that begins with its row `j`.
+pub fn has_written_batch(config: &Config, r: u8, j: u16, part: &[Event]) -> bool
+    ensures { result ≡ wrote_batch config.now r j (history part.now) }
+{
+    wrote_rows(u64::from(row_rest(config, j)) + 1, r, j, part)
+}
+
+/// How many of the first values `r` has after `v` was added.
+#[tactic(auto, using(crate::proofs::Fronts::front_after))]
+fn front_added(config: &Config, r: u8, part: &[Event], front: u64, count: u64, v: u16) -> u64
+    requires { front < 2 ^ 32 }
+    ensures is { (values : List ℕ) → length values ≡ count
+        → length (fetched_prefix config.now r (history part.now) values) ≡ front
+        → result ≡ length (fetched_prefix config.now r (history part.now) (values ++ v ∷ [])) }
+    ensures few { result ≤ front + 1 }
+{
+    if front == count && has_whole_entry(config, r, v, part) {
+        front + 1
+    } else {
+        front
+    }
+}
+
+/// How many entries `r` applied.
+pub fn applied_length(config: &Config, r: u8, part: &[Event]) -> u64
+    requires short { length part.now < 2 ^ 32 }
+    ensures { result ≡ length (applied config.now r (history part.now)) }
+{
+    let mut count: u64 = 0;
+    let mut front: u64 = 0;
+    for (i, e) in part.iter().enumerate() {
+        if let Some(v) = learnt(config, r, &part[..i], count, e, &part[..i + 1]) {
+            front = front_added(config, r, part, front, count, v);
+            count += 1;
+        }
+    }
+    front
+}

@@ -1,0 +1,193 @@
+//! What a leadership of a replica comes to.
+ghost use Rattle.std.specs.Prelude.{◌≡◌};
+ghost use Rattle.mu_model.specs.Histories.{count_below, history};
+ghost use Rattle.mu_model.specs.Leaderships.{begins_leadership, ends_leadership, fence_seen, grant_at_joining, grant_for, has_begun, has_quorum, is_changed, is_member, is_over, lands_min, noted_grant, number_put, proposal_number};
+
+use mu_model::{Answer, Config, Event, Fence, Verb, majority};
+
+/// Whether the event begins a leadership of `r`.
+pub fn starts_leadership(r: u8, e: &Event) -> bool
+    ensures { result ≡ begins_leadership r e.now }
+{
+    match e.verb {
+        Verb::Ask(p) => e.by == r && p == 0,
+        _ => false,
+    }
+}
+
+/// What `r` saw of the fence of `p`.
+fn seen_fence(r: u8, p: u8, e: &Event) -> Option<Fence>
+    ensures { result ≡ fence_seen r p e.now.by e.now.verb e.now.answer }
+{
+    match (e.verb, e.answer) {
+        (Verb::Fence(q), Answer::Seen(f)) => { if e.by == r && q == p { Some(f) } else { None } }
+        _ => None,
+    }
+}
+
+/// The grant of a fence that names `r` and isn't closing.
+fn named_grant(r: u8, seen: Option<Fence>) -> Option<u32>
+    ensures { result ≡ grant_for r seen }
+{
+    match seen {
+        None => None,
+        Some(f) => {
+            if !f.closing && f.owner == Some(r) {
+                Some(f.grant)
+            } else {
+                None
+            }
+        }
+    }
+}
+
+/// The grant of `p` that `r` has noted.
+pub fn grant_noted(r: u8, p: u8, part: &[Event]) -> Option<u32>
+    ensures { result ≡ noted_grant r p (history part.now) }
+{
+    let mut seen: Option<Fence> = None;
+    for e in part {
+        if starts_leadership(r, e) {
+            seen = None;
+        } else if let Some(f) = seen_fence(r, p, e) {
+            seen = Some(f);
+        }
+    }
+    named_grant(r, seen)
+}
+
+/// The number of the leadership of `r` under way.
+pub fn proposal_of(r: u8, part: &[Event]) -> Option<u32>
+    ensures { result ≡ proposal_number r (history part.now) }
+{
+    let mut number: Option<u32> = None;
+    for e in part {
+        if starts_leadership(r, e) {
+            number = None;
+        } else if number.is_none() {
+            number = number_in(r, e);
+        }
+    }
+    number
+}
+
+/// The number that the event puts.
+fn number_in(r: u8, e: &Event) -> Option<u32>
+    ensures { result ≡ number_put r e.now.by e.now.verb }
+{
+    match e.verb {
+        Verb::PutMin(_, b) => { if e.by == r { Some(b) } else { None } }
+        _ => None,
+    }
+}
+
+/// Whether the event is a minimum of `r` that landed at `p`.
+fn minimum_landed(r: u8, p: u8, e: &Event) -> bool
+    ensures { result ≡ lands_min r p e.now.by e.now.verb e.now.answer }
+{
+    match (e.verb, e.answer) {
+        (Verb::PutMin(q, _), Answer::Done) => e.by == r && q == p,
+        _ => false,
+    }
+}
+
+/// What was noted of `p` when it became a member, if it is one.
+fn joined(r: u8, p: u8, part: &[Event]) -> Option<Option<u32>>
+    ensures { result ≡ grant_at_joining r p (history part.now) }
+{
+    let mut joined: Option<Option<u32>> = None;
+    for (i, e) in part.iter().enumerate() {
+        if starts_leadership(r, e) {
+            joined = None;
+        } else if joined.is_none() && minimum_landed(r, p, e) {
+            joined = Some(grant_noted(r, p, &part[..i]));
+        }
+    }
+    joined
+}
+
+/// Whether the fence isn't the one under which a member joined.
+fn fence_changed(joined: Option<Option<u32>>, f: Fence) -> bool
+    ensures { result ≡ is_changed joined f }
+{
+    match joined {
+        None => false,
+        Some(None) => true,
+        Some(Some(g)) => f.closing || f.grant != g,
+    }
+}
+
+/// Whether the event, made after `part`, ends the leadership.
+fn is_ended_by(r: u8, part: &[Event], e: &Event) -> bool
+    ensures { result ≡ ends_leadership r (history part.now) e.now.by e.now.verb e.now.answer }
+{
+    match (e.verb, e.answer) {
+        (Verb::Enter(_, _), Answer::Lost(_)) => e.by == r,
+        (Verb::PutMin(_, _), Answer::Missed) => e.by == r,
+        (Verb::PutSlot(_, _, _, _), Answer::Missed) => e.by == r,
+        (Verb::Min(_), Answer::Number(x)) => {
+            e.by == r
+                && match proposal_of(r, part) {
+                    None => false,
+                    Some(b) => u64::from(b) < x,
+                }
+        }
+        (Verb::Fence(p), Answer::Seen(f)) => e.by == r && fence_changed(joined(r, p, part), f),
+        _ => false,
+    }
+}
+
+/// Whether the leadership of `r` is over.
+pub fn has_ended(r: u8, part: &[Event]) -> bool
+    ensures { result ≡ is_over r (history part.now) }
+{
+    let mut over = false;
+    for (i, e) in part.iter().enumerate() {
+        if starts_leadership(r, e) {
+            over = false;
+        } else if is_ended_by(r, &part[..i], e) {
+            over = true;
+        }
+    }
+    over
+}
+
+/// Whether `p` is a member.
+pub fn is_in(r: u8, p: u8, part: &[Event]) -> bool
+    ensures { result ≡ is_member r p (history part.now) }
+{
+    joined(r, p, part).is_some()
+}
+
+/// How many regions below `n` are members.
+fn members_below(n: u8, r: u8, part: &[Event]) -> u8
+    ensures { result ≡ count_below n (λ p. is_member r p (history part.now)) }
+{
+    let mut count: u8 = 0;
+    for p in 0..n {
+        if is_in(r, p, part) {
+            count += 1;
+        }
+    }
+    count
+}
+
+/// Whether the members are a majority with `r`.
+pub fn is_carried(config: &Config, r: u8, part: &[Event]) -> bool
+    ensures { result ≡ has_quorum config.now r (history part.now) }
+{
+    is_in(r, r, part) && majority(config.replicas) <= members_below(config.replicas, r, part)
+}
+
+/// Whether a leadership has begun.
+pub fn has_asked(r: u8, part: &[Event]) -> bool
+    ensures { result ≡ has_begun r (history part.now) }
+{
+    let mut begun = false;
+    for e in part {
+        if starts_leadership(r, e) {
+            begun = true;
+        }
+    }
+    begun
+}

@@ -1,0 +1,6 @@
+pub mod Completing
+mod Deciding
+pub mod LongestLogs
+pub mod Places
+mod RowsOnce
+mod Spelled

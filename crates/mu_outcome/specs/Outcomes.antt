@@ -1,0 +1,108 @@
+-- What an outcome says.
+use Rattle.std.specs.Prelude.{ℕ, ◌+◌, ◌≡◌, ◌<◌, ◌≤◌, ◌⊎◌, ◌==◌, if◌then◌else◌, List, [], ◌++◌, length, slice_get, map, Some, None, All}
+use Rattle.std.specs.declared.option.Option.{Option}
+use Rattle.kv_store.specs.Tables.{replies}
+use Rattle.kv_store.specs.Sessions.{IsInSession}
+use Rattle.mu_model.specs.declared.event.Event.{Event}
+use Rattle.mu_model.specs.declared.script.End.{End}
+use Rattle.mu_model.specs.Journals.{Record}
+use Rattle.mu_model.specs.Histories.{history}
+use Rattle.mu_model.specs.Contents.{StandsForEntry, row_count}
+use Rattle.mu_model.specs.Ends.{Obeys}
+use Rattle.mu_model.specs.Knowledge.{applied, commits}
+use Rattle.mu_model.specs.Legal.{IsLegal}
+use Rattle.mu_model.specs.Parts.{HasParts}
+use Rattle.mu_model.specs.Room.{reserve}
+use Rattle.mu_outcome.specs.declared.outcome.Outcome.{Outcome}
+use Rattle.mu_outcome.specs.declared.status.Status.{Status}
+use Rattle.mu_known.specs.Commits.{pair_of}
+use Rattle.mu_outcome.specs.Entries.{commands_in, longest}
+use Rattle.mu_outcome.specs.Statuses.{code_of}
+use Rattle.mu_outcome.specs.Turns.{IsTurns}
+
+-- the list where there is one
+abbrev pub or_empty : {A : Type 0} → Option (List A) → List A
+or_empty None = []
+or_empty (Some xs) = xs
+
+abbrev pub events_of : Record → List Event
+events_of journal = journal.events
+
+-- the events of replica r
+abbrev pub journal_of : Outcome → ℕ → List Event
+journal_of o r = or_empty (slice_get (map events_of o.journals) r)
+
+-- what replica r applied
+abbrev pub log_of : Outcome → ℕ → List ℕ
+log_of o r = or_empty (slice_get o.logs r)
+
+-- what replica r committed: positions and values
+abbrev pub commits_of : Outcome → ℕ → List (ℕ × ℕ)
+commits_of o r = or_empty (slice_get (map (map pair_of) o.commits) r)
+
+-- one list begins the other
+abbrev pub IsPrefixOf : {A : Type 0} → List A → List A → Type 0
+IsPrefixOf {A} xs ys = (rest : List A) × (ys ≡ xs ++ rest)
+
+-- the agreement of the replicas, and the replies over what they agreed on
+pub record Agrees (o : Outcome) : Type 0 where
+  -- of any two logs one is a prefix of the other
+  pub prefixes :
+      (r s : ℕ) → r < o.job.config.replicas → s < o.job.config.replicas
+      → IsPrefixOf (log_of o r) (log_of o s) ⊎ IsPrefixOf (log_of o s) (log_of o r)
+  -- every entry is a batch of the job's commands, or a mark
+  pub entries :
+      (r i v : ℕ) → r < o.job.config.replicas → slice_get (log_of o r) i ≡ Some v
+      → StandsForEntry o.job.config v
+  -- each client's commands stand in order and once
+  pub sessions : (r : ℕ) → r < o.job.config.replicas → IsInSession (commands_in o.job (log_of o r))
+  -- what a replica committed at a position stands there in every log that reaches it
+  pub committed :
+      (r s k i v : ℕ) → r < o.job.config.replicas → s < o.job.config.replicas
+      → slice_get (commits_of o r) k ≡ Some (i, v) → i < length (log_of o s)
+      → slice_get (log_of o s) i ≡ Some v
+  -- the replies are those of the store over the commands of the longest log
+  pub answered : o.replies ≡ replies (commands_in o.job (longest o.logs))
+
+-- the outcome is a run of its job: one legal list of events has the journals as its parts, in the
+-- order of turns; each journal has its end there and not before; the logs, commits and ends are
+-- those that the definitions give of the journals
+pub record IsRun (o : Outcome) : Type 0 where
+  pub order : Record
+  pub given : o.order ≡ Some order
+  pub legal : IsLegal o.job.config order.events
+  pub parts : HasParts o.job.config order.events (map events_of o.journals)
+  pub turns :
+      IsTurns o.job.script (map (λ journal. length (events_of journal)) o.journals)
+      (map (λ e. e.by) order.events)
+  pub counts :
+      (length o.logs ≡ o.job.config.replicas) × (length o.commits ≡ o.job.config.replicas)
+      × (length o.ends ≡ o.job.config.replicas)
+  pub ended :
+      (r : ℕ) → r < o.job.config.replicas
+      → (end : End) × (slice_get o.ends r ≡ Some end)
+      × Obeys o.job.config o.job.script r (history (journal_of o r)) end
+  pub logs :
+      (r : ℕ) → r < o.job.config.replicas
+      → log_of o r ≡ applied o.job.config r (history (journal_of o r))
+  pub commits :
+      (r : ℕ) → r < o.job.config.replicas
+      → commits_of o r ≡ commits o.job.config r (history (journal_of o r))
+  pub replies : o.replies ≡ replies (commands_in o.job (longest o.logs))
+
+-- the job has few commands, and no log is longer than its positions
+abbrev pub IsWithinJob : Outcome → Type 0
+IsWithinJob o =
+    (length o.job.commands ≤ 1500)
+    × All (λ log. length log ≤ row_count o.job.config + reserve o.job.config + 1) o.logs
+    × (row_count o.job.config + reserve o.job.config ≤ 1507)
+
+-- done where all commands of the job are in the longest log, else unfinished
+abbrev pub status_after : Outcome → Status
+status_after o =
+    if length (commands_in o.job (longest o.logs)) == length o.job.commands then Status.Done
+    else Status.Unfinished
+
+-- the number of that status
+abbrev pub status_of : Outcome → ℕ
+status_of o = code_of (status_after o)

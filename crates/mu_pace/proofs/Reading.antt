@@ -1,0 +1,111 @@
+-- What a replica reads of the others never falls.
+use Rattle.std.proofs.Common.{◌≡◌, ℕ, ◌+◌, ◌<◌, ◌≤◌, Bool, true, false, cond, ◌==◌, ◌&&◌, List, [], ◌∷◌, ◌++◌, length, refl, sym, ◌∙◌, ap, arith, Some, None, subst, eqb-true, true≢false, set, ◌⊎◌, inl, inr}
+use Rattle.std.specs.declared.option.Option.{Option}
+use Rattle.std.specs.Prelude.{nat_lt, if◌then◌else◌}
+use Rattle.std.specs.List.{slice_get}
+use Rattle.std.proofs.lemmas.Bool.{and_parts, lt-ltb, ltb-true}
+use Rattle.std.proofs.lemmas.Option.{slice_get_within}
+use Rattle.mu_model.specs.declared.config.Config.{Config}
+use Rattle.mu_model.specs.declared.event.Answer.{Answer}
+use Rattle.mu_model.specs.declared.event.Event.{Event}
+use Rattle.mu_model.specs.declared.event.Verb.{Verb}
+use Rattle.mu_model.specs.Allowed.{Allowed}
+use Rattle.mu_model.specs.Answers.{answer_of, shown}
+use Rattle.mu_model.specs.Entering.{min_read}
+use Rattle.mu_model.specs.Histories.{greatest, has, max_with, newer_or, newest, or_zero, part}
+use Rattle.mu_model.specs.Knowledge.{entry_seen, is_entry_seen}
+use Rattle.mu_model.specs.Leaderships.{noted_grant}
+use Rattle.mu_model.specs.Legal.{IsLegalHistory}
+use Rattle.mu_model.specs.Parts.{IsPossible}
+use Rattle.mu_model.specs.Picks.{is_past, is_past_look, look_answer}
+use Rattle.mu_model.specs.Placing.{fuo_read_or_raised}
+use Rattle.mu_model.specs.Regions.{fence, fence_grant, log_with, region_fuo, region_head, region_log, region_min}
+use Rattle.mu_model.specs.Room.{last_head}
+use Rattle.mu_model.proofs.Owned.{noted-part}
+use Rattle.mu_agree.proofs.Access.{noting}
+use Rattle.mu_agree.proofs.Landings.{at_part, length_put}
+use Rattle.mu_agree.proofs.Legal.{legal_induction, made}
+use Rattle.mu_agree.proofs.Minimum.{rises_step}
+use Rattle.mu_agree.proofs.Possible.{answered, at_event, same_fence}
+use Rattle.mu_agree.proofs.Prefixes.{get_below}
+use Rattle.mu_agree.proofs.Readings.{log_grows, number_is}
+use Rattle.mu_agree.proofs.Room.{heads_read}
+use Rattle.mu_pace.specs.Possible.{FuosRise, GrantsRise, MinimaRise}
+
+-- FUOs that r read or raised
+abbrev FuoKnown : ℕ → ℕ → List Event → Type 0
+FuoKnown r p past = greatest (λ f. fuo_read_or_raised r p f.by f.verb f.answer) (part r past) ≤ region_fuo p past
+
+within : (t u : Bool) (x n : ℕ) → n ≤ x → max_with (cond (t && u) (Some x) None) n ≤ x
+within true true x n l = omega arith
+within true false x n l = l
+within false u x n l = l
+
+raised : (t u : Bool) (x n m : ℕ) → n ≤ m → max_with (cond (t && u) (Some x) None) n ≤ max_with (cond u (Some x) None) m
+raised true true x n m l = omega arith
+raised true false x n m l = l
+raised false true x n m l = omega arith
+raised false false x n m l = l
+
+rise : (u : Bool) (x n m : ℕ) → n ≤ m → n ≤ max_with (cond u (Some x) None) m
+rise true x n m l = omega arith
+rise false x n m l = l
+
+fuo_step : (c : Config) (r p by : ℕ) (v : Verb) (past : List Event) → FuoKnown r p past → FuoKnown r p (made c past by v ∷ past)
+fuo_step c r p by (Verb.Fuo q) past s =
+    at_part (λ J. greatest (λ f. fuo_read_or_raised r p f.by f.verb f.answer) J ≤ region_fuo p past) r (made c past by (Verb.Fuo q)) past s (λ _. at_p (q == p) refl)
+  where
+    at_p : (u : Bool) → (q == p) ≡ u → max_with (cond ((by == r) && u) (Some (region_fuo q past)) None) (greatest (λ f. fuo_read_or_raised r p f.by f.verb f.answer) (part r past)) ≤ region_fuo p past
+    at_p true k = let e : region_fuo q past ≡ region_fuo p past = ap (λ z. region_fuo z past) (eqb-true q p k) in
+        subst (λ z. max_with (cond ((by == r) && true) (Some z) None) (greatest (λ f. fuo_read_or_raised r p f.by f.verb f.answer) (part r past)) ≤ region_fuo p past) (sym e) (within (by == r) true (region_fuo p past) _ s)
+    at_p false k = none (by == r)
+      where
+        none : (t : Bool) → max_with (cond (t && false) (Some (region_fuo q past)) None) (greatest (λ f. fuo_read_or_raised r p f.by f.verb f.answer) (part r past)) ≤ region_fuo p past
+        none true = s
+        none false = s
+fuo_step c r p by (Verb.RaiseFuo q u) past s =
+    at_part (λ J. greatest (λ f. fuo_read_or_raised r p f.by f.verb f.answer) J ≤ region_fuo p (made c past by (Verb.RaiseFuo q u) ∷ past)) r (made c past by (Verb.RaiseFuo q u)) past
+    (rise (q == p) u _ (region_fuo p past) s) (λ _. raised (by == r) (q == p) u _ (region_fuo p past) s)
+fuo_step c r p by v past s = at_part (λ J. greatest (λ f. fuo_read_or_raised r p f.by f.verb f.answer) J ≤ region_fuo p past) r (made c past by v) past s (λ _. s)
+
+pub fuo_known : (c : Config) (r p : ℕ) (past : List Event) → IsLegalHistory c past → FuoKnown r p past
+fuo_known c r p = legal_induction c (FuoKnown r p) (omega arith) (λ past by v h may s. fuo_step c r p by v past s)
+
+pub fuos_rise : FuosRise
+fuos_rise c r p u mine e poss v a =
+    let s = at_event c r mine e poss in
+    let is : u ≡ region_fuo p s.older = number_is u (region_fuo p s.older) (sym a ∙ answered c r mine e (Verb.Fuo p) poss v) in
+    let low : greatest (λ f. fuo_read_or_raised r p f.by f.verb f.answer) mine ≤ region_fuo p s.older = subst (λ z. greatest (λ f. fuo_read_or_raised r p f.by f.verb f.answer) z ≤ region_fuo p s.older) s.part_is (fuo_known c r p s.older s.legal) in omega arith
+
+-- minima that r read
+abbrev last_min : ℕ → ℕ → List Event → ℕ
+last_min r p past = or_zero (newest (λ f. min_read r p f.by f.verb f.answer) past)
+
+abbrev MinRead : ℕ → ℕ → List Event → Type 0
+MinRead r p past = last_min r p (part r past) ≤ region_min p past
+
+min_step : (c : Config) (r p by : ℕ) (v : Verb) (past : List Event) → IsLegalHistory c past → Allowed c by (part by past) v → MinRead r p past → MinRead r p (made c past by v ∷ past)
+min_step c r p by (Verb.Min q) past h may s = at_part (λ J. last_min r p J ≤ region_min p past) r (made c past by (Verb.Min q)) past s (λ _. here ((by == r) && (q == p)) refl)
+  where
+    here : (t : Bool) → ((by == r) && (q == p)) ≡ t → or_zero (newer_or (cond t (Some (region_min q past)) None) (newest (λ f. min_read r p f.by f.verb f.answer) (part r past))) ≤ region_min p past
+    here true k = let e : region_min q past ≡ region_min p past = ap (λ z. region_min z past) (eqb-true q p (and_parts (by == r) (q == p) k).1) in omega arith
+    here false k = s
+min_step c r p by v past h may s =
+    let up = rises_step c p by (last_min r p (part r past)) v past h may.may s in
+    at_part (λ J. last_min r p J ≤ region_min p (made c past by v ∷ past)) r (made c past by v) past up (λ _. up)
+
+min_reads : (c : Config) (r p : ℕ) (past : List Event) → IsLegalHistory c past → MinRead r p past
+min_reads c r p = legal_induction c (MinRead r p) (omega arith) (λ past by v h may s. min_step c r p by v past h may s)
+
+pub minima_rise : MinimaRise
+minima_rise c r p x mine e poss v a =
+    let s = at_event c r mine e poss in
+    let is : x ≡ region_min p s.older = number_is x (region_min p s.older) (sym a ∙ answered c r mine e (Verb.Min p) poss v) in
+    let low : last_min r p mine ≤ region_min p s.older = subst (λ z. last_min r p z ≤ region_min p s.older) s.part_is (min_reads c r p s.older s.legal) in omega arith
+
+pub grants_rise : GrantsRise
+grants_rise c r p g mine e x poss n v a =
+    let s = at_event c r mine e poss in
+    let seen : Answer.Seen x ≡ Answer.Seen (fence p s.older) = sym a ∙ answered c r mine e (Verb.Fence p) poss v in
+    let is : x.grant ≡ fence_grant p s.older = ap (λ z. z.grant) (same_fence x (fence p s.older) seen) in
+    let low = (noting c r p s.older s.legal g (sym (noted-part r p s.older) ∙ ap (noted_grant r p) s.part_is ∙ n)).0 in omega arith

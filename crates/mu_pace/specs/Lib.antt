@@ -1,0 +1,15 @@
+pub mod Counters
+pub mod Watches
+pub mod Keeping
+pub mod Paces
+pub mod Rooms
+pub mod Possible
+pub mod Weights
+pub mod Members
+pub mod Placed
+pub mod Away
+pub mod Countdowns
+pub mod Rounds
+pub mod Collecting
+pub mod Asking
+pub mod Beside

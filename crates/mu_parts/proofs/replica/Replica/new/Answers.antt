@@ -1,0 +1,16 @@
+use Rattle.std.proofs.Common.{refl}
+use Rattle.mu_parts.proofs.replica.Replica.new.Goals as goal
+
+pub returns : goal.returns
+returns c = record {
+  replica = refl;
+  steps = refl;
+  leadership = c.none.ensures;
+  grants = c.new.ensures;
+  heads = c.none-2.ensures;
+  known_log = c.in_ok-new.ensures c.args.replica;
+  held_rows = c.in_ok-new-2.ensures c.args.replica;
+  landed_puts = c.in_ok-new-3.ensures c.args.replica;
+  filled_logs = c.in_ok-new-4.ensures c.args.replica;
+  looks = c.in_ok-new-5.ensures;
+}

@@ -1,0 +1,130 @@
+-- The lines of a trace, taken from the front.
+use Rattle.std.proofs.Common.{◌≡◌, ℕ, zero, suc, ◌+◌, ◌*◌, ◌-◌, ◌<◌, ◌≤◌, ◌^◌, ◌==◌, Bool, true, false, cond, List, [], ◌∷◌, ◌++◌, sym, ap, ◌∙◌, length, drop, map, get_or, arith, length-append}
+use Rattle.std.specs.Fmt.{decimal}
+use Rattle.std.specs.Prelude.{codes, nat_lt}
+use Rattle.std.proofs.lemmas.Bool.{ltb-true}
+use Rattle.std.proofs.lemmas.List.{drop_more, length-map}
+use Rattle.std.proofs.Math.Nat.{mul-le-mul_left}
+use Rattle.kv_store.specs.Commands.{Request}
+use Rattle.mu_model.specs.declared.config.Config.{Config}
+use Rattle.mu_model.specs.declared.event.Event.{Event}
+use Rattle.mu_model.specs.declared.script.Pause.{Pause}
+use Rattle.mu_model.specs.declared.script.Script.{Script}
+use Rattle.mu_model.specs.declared.script.Stop.{Stop}
+use Rattle.mu_outcome.specs.declared.outcome.Outcome.{Outcome}
+use Rattle.mu_report.specs.declared.line.TheConstants.{LINE_BYTES}
+use Rattle.mu_report.specs.Words.{op_words}
+use Rattle.mu_report.specs.Trace.{has_lines, event_line, batch_lines, setting_lines, client_count, client_lines, command_lines, commands_lines, stop_line, pause_line, script_lines, events_of, trace_lines, IsCountable}
+
+pub countable : (o : Outcome) → IsCountable o → 0 + LINE_BYTES * length (trace_lines o) < 2 ^ 64
+countable o fits = omega (arith, fits)
+
+-- the lines of a trace, as they are printed
+pub trace_lines-parts : (o : Outcome) (commands : List Request) (count : ℕ) (events : List Event) → commands ≡ o.job.commands → count ≡ client_count 0 commands → events ≡ events_of o.order
+    → trace_lines o ≡ setting_lines o.job.config ++ (client_lines commands 0 count ++ (script_lines o.job.script ++ ((codes "end" ∷ []) ++ (map event_line events ++ (codes "end" ∷ [])))))
+trace_lines-parts o commands count events asked counted given =
+    ap (λ l. setting_lines o.job.config ++ (client_lines l 0 (client_count 0 l) ++ (script_lines o.job.script ++ (codes "end" ∷ (map event_line (events_of o.order) ++ codes "end" ∷ []))))) (sym asked)
+    ∙ ap (λ n. setting_lines o.job.config ++ (client_lines commands 0 n ++ (script_lines o.job.script ++ (codes "end" ∷ (map event_line (events_of o.order) ++ codes "end" ∷ []))))) (sym counted)
+    ∙ ap (λ l. setting_lines o.job.config ++ (client_lines commands 0 count ++ (script_lines o.job.script ++ (codes "end" ∷ (map event_line l ++ codes "end" ∷ []))))) (sym given)
+
+numbered : (words : List ℕ) (wanted n : ℕ) (line : List ℕ) → n ≡ wanted → line ≡ words ++ decimal n → words ++ decimal wanted ≡ line
+numbered words wanted n line is spelled = ap (λ m. words ++ decimal m) (sym is) ∙ sym spelled
+
+-- the first lines of a job, as they are printed
+pub setting_lines-parts : (c : Config) (version replicas ring budget : ℕ) (first second third fourth : List ℕ)
+    → version ≡ c.version → replicas ≡ c.replicas → ring ≡ c.ring → budget ≡ c.budget
+    → first ≡ codes "mu " ++ decimal version → second ≡ codes "replicas " ++ decimal replicas → third ≡ codes "ring " ++ decimal ring → fourth ≡ codes "budget " ++ decimal budget
+    → setting_lines c ≡ (first ∷ []) ++ ((second ∷ []) ++ ((third ∷ []) ++ ((fourth ∷ []) ++ batch_lines c)))
+setting_lines-parts c version replicas ring budget first second third fourth v r k b one two three four =
+    ap (λ l. l ∷ (codes "replicas " ++ decimal c.replicas) ∷ (codes "ring " ++ decimal c.ring) ∷ (codes "budget " ++ decimal c.budget) ∷ batch_lines c) (numbered (codes "mu ") c.version version first v one)
+    ∙ ap (λ l. first ∷ l ∷ (codes "ring " ++ decimal c.ring) ∷ (codes "budget " ++ decimal c.budget) ∷ batch_lines c) (numbered (codes "replicas ") c.replicas replicas second r two)
+    ∙ ap (λ l. first ∷ second ∷ l ∷ (codes "budget " ++ decimal c.budget) ∷ batch_lines c) (numbered (codes "ring ") c.ring ring third k three)
+    ∙ ap (λ l. first ∷ second ∷ third ∷ l ∷ batch_lines c) (numbered (codes "budget ") c.budget budget fourth b four)
+
+-- the line of a client, and its commands
+pub client_parts : (client n : ℕ) (line : List ℕ) (more : List (List ℕ)) → n ≡ client → line ≡ codes "client " ++ decimal n → (codes "client " ++ decimal client) ∷ more ≡ (line ∷ []) ++ more
+client_parts client n line more is spelled = ap (λ l. l ∷ more) (numbered (codes "client ") client n line is spelled)
+
+-- the lines of the next client, and those of the others
+pub client_lines-next : (commands : List Request) (client count : ℕ) → client < count
+    → client_lines commands client (count - client) ≡ ((codes "client " ++ decimal client) ∷ commands_lines client commands) ++ client_lines commands (client + 1) (count - (client + 1))
+client_lines-next commands client count below =
+    let next : count - client ≡ suc (count - (client + 1)) = omega arith in
+    ap (client_lines commands client) next
+
+-- the next command, where it is of this client, and the others
+pub commands_lines-drop : (client : ℕ) (commands : List Request) (i : ℕ) (command : Request) → i < length commands → command ≡ get_or commands i command
+    → commands_lines client (drop i commands) ≡ command_lines client command ++ commands_lines client (drop (i + 1) commands)
+commands_lines-drop client commands i command within is =
+    ap (commands_lines client) (drop_more commands i command within) ∙ ap (λ c. command_lines client c ++ commands_lines client (drop (i + 1) commands)) (sym is)
+
+-- the head line of a script, its stops and its pauses
+pub script_parts : (script : Script) (stops : List Stop) (pauses : List Pause) → stops ≡ script.stops → pauses ≡ script.pauses
+    → codes "script" ∷ (map stop_line script.stops ++ map pause_line script.pauses) ≡ (codes "script" ∷ []) ++ (map stop_line stops ++ map pause_line pauses)
+script_parts script stops pauses is are =
+    ap (λ l. codes "script" ∷ (map stop_line l ++ map pause_line script.pauses)) (sym is) ∙ ap (λ l. codes "script" ∷ (map stop_line stops ++ map pause_line l)) (sym are)
+
+length-one : (b : Bool) (line : List ℕ) → length (cond b (line ∷ []) []) ≤ 1
+length-one true line = omega arith
+length-one false line = omega arith
+
+-- the bytes of the first lines can be counted
+pub settings_fit : (o : Outcome) → 0 + LINE_BYTES * length (setting_lines o.job.config) < 2 ^ 64
+settings_fit o = omega (arith, length-one (o.job.config.version == 2) (codes "batch " ++ decimal o.job.config.width))
+
+length-commands_lines : (client : ℕ) (commands : List Request) → length (commands_lines client commands) ≤ length commands
+length-commands_lines client [] = omega arith
+length-commands_lines client (command ∷ commands) =
+    omega (arith, length-one (command.client == client) (op_words command.op), length-commands_lines client commands, length-append (command_lines client command) (commands_lines client commands))
+
+length-client_lines : (commands : List Request) (client count : ℕ) → length (client_lines commands client count) ≤ count * (length commands + 1)
+length-client_lines commands client zero = omega arith
+length-client_lines commands client (suc count) =
+    omega (
+      arith,
+      length-client_lines commands (client + 1) count,
+      length-commands_lines client commands,
+      length-append ((codes "client " ++ decimal client) ∷ commands_lines client commands) (client_lines commands (client + 1) count),
+    )
+
+length-script_lines : (script : Script) → length (script_lines script) ≤ length script.stops + length script.pauses + 1
+length-script_lines script = go (has_lines script)
+  where
+    both : length (map stop_line script.stops ++ map pause_line script.pauses) ≡ length script.stops + length script.pauses
+    both = omega (arith, length-append (map stop_line script.stops) (map pause_line script.pauses), length-map script.stops stop_line, length-map script.pauses pause_line)
+
+    go : (b : Bool) → length (cond b (codes "script" ∷ (map stop_line script.stops ++ map pause_line script.pauses)) []) ≤ length script.stops + length script.pauses + 1
+    go true = omega (arith, both)
+    go false = omega arith
+
+clients_few : (clients commands : ℕ) → clients < 2 ^ 16 → commands < 2 ^ 15 → clients * (commands + 1) ≤ 2 ^ 32
+clients_few clients commands few short =
+    let bound : clients * (commands + 1) ≤ clients * 2 ^ 15 = mul-le-mul_left clients (omega arith) in
+    omega arith
+
+-- where the lists are short, the bytes of the trace can be counted
+pub trace_fits : (o : Outcome) → length o.job.commands < 2 ^ 15 → client_count 0 o.job.commands < 2 ^ 16
+    → length o.job.script.stops < 2 ^ 16 → length o.job.script.pauses < 2 ^ 16 → length (events_of o.order) < 2 ^ 32 → IsCountable o
+trace_fits o commands clients stops pauses events =
+    let head : List (List ℕ) = setting_lines o.job.config in
+    let asked : List (List ℕ) = client_lines o.job.commands 0 (client_count 0 o.job.commands) in
+    let script : List (List ℕ) = script_lines o.job.script in
+    let told : List (List ℕ) = map event_line (events_of o.order) in
+    let last : List (List ℕ) = codes "end" ∷ (told ++ codes "end" ∷ []) in
+    let first : length head ≤ 5 = omega (arith, length-one (o.job.config.version == 2) (codes "batch " ++ decimal o.job.config.width)) in
+    let second : length asked ≤ 2 ^ 32 = omega (arith, length-client_lines o.job.commands 0 (client_count 0 o.job.commands), clients_few (client_count 0 o.job.commands) (length o.job.commands) clients commands) in
+    let third : length script ≤ 2 ^ 17 = omega (arith, length-script_lines o.job.script, stops, pauses) in
+    let fourth : length last ≤ 2 ^ 32 + 2 = omega (arith, length-append told (codes "end" ∷ []), length-map (events_of o.order) event_line, events) in
+    let whole : length (trace_lines o) ≡ length head + (length asked + (length script + length last)) =
+    length-append head (asked ++ (script ++ last)) ∙ ap (λ n. length head + n) (length-append asked (script ++ last) ∙ ap (λ n. length asked + n) (length-append script last)) in
+    omega (arith, first, second, third, fourth, whole)
+
+-- the same, of the numbers that were counted
+pub counts_fit : (o : Outcome) (asked : List Request) (clients commands stops pauses : ℕ) (events : List Event) → asked ≡ o.job.commands → clients ≡ client_count 0 asked → clients ≤ 256
+    → commands ≡ length o.job.commands → commands < 32768 → stops ≡ length o.job.script.stops → stops < 65536 → pauses ≡ length o.job.script.pauses → pauses < 65536
+    → events ≡ events_of o.order → nat_lt (length events) 4294967296 ≡ true → IsCountable o
+counts_fit o asked clients commands stops pauses events is counted few told short stopped halts paused waits given less =
+    let all : clients ≡ client_count 0 o.job.commands = counted ∙ ap (client_count 0) is in
+    let many : length events ≡ length (events_of o.order) = ap length given in
+    let below : length events < 4294967296 = ltb-true (length events) 4294967296 less in
+    trace_fits o (omega (arith, told, short)) (omega (arith, all, few)) (omega (arith, stopped, halts)) (omega (arith, paused, waits)) (omega (arith, many, below))

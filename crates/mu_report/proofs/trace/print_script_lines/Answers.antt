@@ -1,0 +1,46 @@
+use Rattle.std.proofs.Common.{refl}
+use Rattle.std.proofs.lemmas.Result.{err_from_is_err_and}
+use Rattle.mu_report.proofs.Traces.{script_parts}
+use Rattle.mu_report.proofs.Prints.{print_fault, print_fits, print_last, print_last_fault, print_last_fits, print_start, print_step}
+use Rattle.mu_report.proofs.trace.print_script_lines.Goals as goal
+
+pub returns-in_err-taken-clause-part : goal.returns-in_err-taken-clause-part
+returns-in_err-taken-clause-part g c =
+    let failed = err_from_is_err_and c.from_residual.result c.from_residual.ensures.1 in
+    rw (failed.1, failed.2)
+    (print_fault _ _ _ _ _ _ _ _ _ _ _ _ _ (print_start _ _ _ _)
+    (script_parts c.args.script.now _ _ c.as_slice-stops.ensures c.as_slice-pauses.ensures) c.in_err-taken.ensures.part)
+
+pub print_stops-requires : goal.print_stops-requires
+print_stops-requires g c =
+    print_fits _ _ _ _ _ _ _ _ _ _ (print_step _ _ _ _ _ _ _ _ _ _ _ _ _ (print_start _ _ _ _)
+    (script_parts c.args.script.now _ _ c.as_slice-stops.ensures c.as_slice-pauses.ensures) c.in_ok-taken.ensures.all)
+    refl c.requires
+
+pub returns-in_err-taken-2-clause-part : goal.returns-in_err-taken-2-clause-part
+returns-in_err-taken-2-clause-part g c =
+    let failed = err_from_is_err_and c.from_residual-in_err-taken-2.result c.from_residual-in_err-taken-2.ensures.1 in
+    rw (failed.1, failed.2)
+    (print_fault _ _ _ _ _ _ _ _ _ _ _ _ _ (print_step _ _ _ _ _ _ _ _ _ _ _ _ _ (print_start _ _ _ _)
+    (script_parts c.args.script.now _ _ c.as_slice-stops.ensures c.as_slice-pauses.ensures) c.in_ok-taken.ensures.all)
+    refl c.in_err-taken-2.ensures.part)
+
+pub print_pauses-requires : goal.print_pauses-requires
+print_pauses-requires g c =
+    print_last_fits _ _ _ _ _ _ _ _ (print_step _ _ _ _ _ _ _ _ _ _ _ _ _ (print_step _ _ _ _ _ _ _ _ _ _ _ _ _ (print_start _ _ _ _)
+    (script_parts c.args.script.now _ _ c.as_slice-stops.ensures c.as_slice-pauses.ensures) c.in_ok-taken.ensures.all)
+    refl c.in_ok-taken-2.ensures.all) c.requires
+
+pub returns-clause-all : goal.returns-clause-all
+returns-clause-all g c =
+    print_last _ _ _ _ _ _ _ _ _ _ _ (print_step _ _ _ _ _ _ _ _ _ _ _ _ _ (print_step _ _ _ _ _ _ _ _ _ _ _ _ _ (print_start _ _ _ _)
+    (script_parts c.args.script.now _ _ c.as_slice-stops.ensures c.as_slice-pauses.ensures) c.in_ok-taken.ensures.all)
+    refl c.in_ok-taken-2.ensures.all)
+    c.print_pauses.ensures.all
+
+pub returns-clause-part : goal.returns-clause-part
+returns-clause-part g c =
+    print_last_fault _ _ _ _ _ _ _ _ _ _ _ (print_step _ _ _ _ _ _ _ _ _ _ _ _ _ (print_step _ _ _ _ _ _ _ _ _ _ _ _ _ (print_start _ _ _ _)
+    (script_parts c.args.script.now _ _ c.as_slice-stops.ensures c.as_slice-pauses.ensures) c.in_ok-taken.ensures.all)
+    refl c.in_ok-taken-2.ensures.all)
+    c.print_pauses.ensures.part

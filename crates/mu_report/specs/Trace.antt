@@ -1,0 +1,24 @@
+-- The trace of a replay, as lines without their ends: those of its job, and its events in their
+-- order.
+use Rattle.std.specs.Prelude.{ℕ, ◌*◌, ◌<◌, ◌^◌, List, [], length, None, Some}
+use Rattle.std.specs.declared.option.Option.{Option}
+use Rattle.mu_model.specs.declared.event.Event.{Event}
+use Rattle.mu_model.specs.Journals.{Record}
+pub use Rattle.mu_events.specs.Lines.{event_line, verb_words}
+pub use Rattle.mu_input.specs.JobLines.{batch_lines, client_count, client_lines, command_lines, commands_lines, has_lines, pause_line, script_lines, setting_lines, stop_line}
+use Rattle.mu_input.specs.JobLines.{lines_of_trace}
+use Rattle.mu_outcome.specs.declared.outcome.Outcome.{Outcome}
+use Rattle.mu_report.specs.declared.line.TheConstants.{LINE_BYTES}
+
+-- the events in their order, where it is given
+abbrev pub events_of : Option Record → List Event
+events_of None = []
+events_of (Some journal) = journal.events
+
+-- the whole trace
+abbrev pub trace_lines : Outcome → List (List ℕ)
+trace_lines o = lines_of_trace o.job (events_of o.order)
+
+-- the bytes of the trace can be counted in 64 bits
+abbrev pub IsCountable : Outcome → Type 0
+IsCountable o = LINE_BYTES * length (trace_lines o) < 2 ^ 64

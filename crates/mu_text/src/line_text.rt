@@ -1,0 +1,81 @@
+//! One line under construction.
+ghost use Rattle.std.specs.Prelude.{◌≡◌, ◌+◌, ◌<◌, ◌≤◌, ◌^◌, [], ◌++◌, length};
+ghost use Rattle.std.specs.Fmt.{decimal};
+
+use crate::ZERO;
+use std::marker::Model;
+
+/// The room for a line with its end, in bytes: more than the longest line has.
+pub const LINE_BYTES: usize = 192;
+
+/// A line so far. Contracts see its bytes.
+#[derive(Drop)]
+pub struct Line {
+    bytes: [u8; LINE_BYTES],
+    len: usize,
+}
+
+impl Model for Line {
+    ghost use Rattle.std.specs.Prelude.{ℕ, List, take, ◌≤◌};
+    ghost use Rattle.mu_text.specs.declared.line_text.TheConstants.{LINE_BYTES};
+
+    ghost Value = { List ℕ };
+
+    ghost view = { λ line. take line.len line.bytes };
+
+    ghost invariant = { λ line. line.len ≤ LINE_BYTES };
+}
+
+impl Line {
+    /// An empty line.
+    pub fn new() -> Line
+        ensures { result ≡ [] }
+    {
+        Line {
+            bytes: [0; LINE_BYTES],
+            len: 0,
+        }
+    }
+
+    /// Adds bytes at the end.
+    pub fn push(&mut self, bytes: &[u8])
+        requires { length self.old + length bytes.now ≤ LINE_BYTES }
+        ensures bytes { self.new ≡ self.old ++ bytes.now }
+        ensures len { length self.new ≡ length self.old + length bytes.now }
+    {
+        let end = self.len + bytes.len();
+        self.bytes[self.len..end].copy_from_slice(bytes);
+        self.len = end;
+    }
+
+    /// Adds a number at the end, in decimal digits: at most 20, and fewer for a type with fewer
+    /// bits.
+    pub fn push_number(&mut self, number: u64)
+        requires { length self.old + 20 ≤ LINE_BYTES }
+        ensures bytes { self.new ≡ self.old ++ decimal number }
+        ensures of_8_bits { number < 2 ^ 8 → length self.new ≤ length self.old + 3 }
+        ensures of_16_bits { number < 2 ^ 16 → length self.new ≤ length self.old + 5 }
+        ensures of_32_bits { number < 2 ^ 32 → length self.new ≤ length self.old + 10 }
+        ensures of_64_bits { length self.new ≤ length self.old + 20 }
+    {
+        self.push_digits(number);
+    }
+
+    /// Adds the digits of a number.
+    fn push_digits(&mut self, number: u64)
+        requires { length self.old + length (decimal number) ≤ LINE_BYTES }
+        ensures { self.new ≡ self.old ++ decimal number }
+    {
+        if number >= 10 {
+            self.push_digits(number / 10);
+        }
+        self.push(&[ZERO + (number % 10) as u8]);
+    }
+
+    /// The bytes so far.
+    pub fn as_slice(&self) -> &[u8]
+        ensures { result.now ≡ self.now }
+    {
+        &self.bytes[..self.len]
+    }
+}

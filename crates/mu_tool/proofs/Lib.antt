@@ -1,0 +1,4 @@
+mod Arrived
+mod BookedLogs
+mod Completed
+mod Telling

@@ -1,0 +1,74 @@
+-- What there is to say, command by command. Nothing else is said than what a relation lists.
+use Rattle.std.specs.Prelude.{ℕ, ◌≡◌, List, ⊤}
+use Rattle.match_book.specs.Stands.{StandsFor}
+use Rattle.mu_input.specs.Grammar.{job}
+use Rattle.mu_input.specs.Readings.{Fits, Leaves}
+use Rattle.mu_input.specs.Bulk.{bulk_job}
+use Rattle.mu_input.specs.declared.job.InputEnd.{InputEnd}
+use Rattle.mu_outcome.specs.declared.outcome.Outcome.{Outcome}
+use Rattle.mu_outcome.specs.Completion.{Completes}
+use Rattle.mu_outcome.specs.Entries.{commands_in, longest}
+use Rattle.mu_outcome.specs.Outcomes.{IsRun, Agrees}
+use Rattle.mu_outcome.specs.Runs.{IsThreadRun}
+use Rattle.mu_report.specs.declared.said.Said.{Said}
+
+-- the outcome is a run of its job in turns: its replicas agree, and where a command is missing each
+-- was cut short
+pub record IsReplay (o : Outcome) : Type 0 where
+  pub run : IsRun o
+  pub agrees : Agrees o
+  pub completes : Completes o
+
+-- the outcome is a run of its job by threads, and the same holds of it
+pub record IsThreaded (o : Outcome) : Type 0 where
+  pub run : IsThreadRun o
+  pub agrees : Agrees o
+  pub completes : Completes o
+
+-- the bytes leave the grammar of jobs first at this line for this cause; want of memory can come at
+-- any bytes
+abbrev pub IsEndOf : List ℕ → InputEnd → Type 0
+IsEndOf bytes (InputEnd.Refused line cause) = job bytes ≡ Leaves line cause
+IsEndOf bytes InputEnd.NoMemory = ⊤
+
+-- what is said where no job was read, or there was no memory to run it
+abbrev pub said_of : InputEnd → Said
+said_of (InputEnd.Refused line cause) = Said.Refused line cause
+said_of InputEnd.NoMemory = Said.NoMemory
+
+-- `replay`: the bytes leave the grammar first at this line for this cause, or this is the replay of
+-- their job; want of memory can come at any bytes
+abbrev pub Replays : List ℕ → Said → Type 0
+Replays bytes (Said.Refused line cause) = job bytes ≡ Leaves line cause
+Replays bytes (Said.Ran outcome) = (job bytes ≡ Fits outcome.job) × IsReplay outcome
+Replays bytes Said.NoMemory = ⊤
+Replays bytes _ = ⊥
+
+-- `run`: the same, and this is a run of their job by threads
+abbrev pub Runs : List ℕ → Said → Type 0
+Runs bytes (Said.Refused line cause) = job bytes ≡ Leaves line cause
+Runs bytes (Said.Ran outcome) = (job bytes ≡ Fits outcome.job) × IsThreaded outcome
+Runs bytes Said.NoMemory = ⊤
+Runs bytes _ = ⊥
+
+-- `trace`: the same as for `replay`, and the events of the replay are told
+abbrev pub Traces : List ℕ → Said → Type 0
+Traces bytes (Said.Refused line cause) = job bytes ≡ Leaves line cause
+Traces bytes (Said.Traced outcome) = (job bytes ≡ Fits outcome.job) × IsReplay outcome
+Traces bytes Said.NoMemory = ⊤
+Traces bytes _ = ⊥
+
+-- `bulk`: this is the replay of the stated large job of so many commands, but for want of memory
+abbrev pub Sums : ℕ → Said → Type 0
+Sums count (Said.Summed outcome) = (outcome.job ≡ bulk_job count) × IsReplay outcome
+Sums count Said.NoMemory = ⊤
+Sums count _ = ⊥
+
+-- `book`: the same as for `replay`, and the book is that of the commands of the longest log
+abbrev pub Books : List ℕ → Said → Type 0
+Books bytes (Said.Refused line cause) = job bytes ≡ Leaves line cause
+Books bytes (Said.Booked outcome book) =
+    (job bytes ≡ Fits outcome.job) × IsReplay outcome
+    × StandsFor (commands_in outcome.job (longest outcome.logs)) book
+Books bytes Said.NoMemory = ⊤
+Books bytes _ = ⊥

@@ -1,0 +1,132 @@
+-- On which word a replica makes a step, which words its loads found, and the word that its next
+-- exchange expects.
+use Rattle.std.specs.Prelude.{Bool, List, None, Some, [], false, if◌then◌else◌, true, ℕ, ◌%◌, ◌&&◌, ◌*◌, ◌+◌, ◌/◌, ◌==◌, ◌∷◌}
+use Rattle.std.specs.declared.option.Option.{Option}
+use Rattle.mu_model.specs.declared.config.Config.{Config}
+use Rattle.mu_model.specs.declared.event.Answer.{Answer}
+use Rattle.mu_model.specs.declared.event.Event.{Event}
+use Rattle.mu_model.specs.declared.event.Target.{Target}
+use Rattle.mu_model.specs.declared.event.Verb.{Verb}
+use Rattle.mu_model.specs.Histories.{newest, part}
+use Rattle.mu_model.specs.Leaderships.{noted_grant}
+use Rattle.mu_model.specs.Regions.{or_no_target}
+use Rattle.mu_words.specs.declared.layout.Name.{Name}
+use Rattle.mu_words.specs.Standing.{close_target, is_same_target, standing_word}
+use Rattle.mu_words.specs.Words.{fence_bits}
+
+-- the word that the target names at p; for none, which is never looked at, the minimum
+abbrev pub target_name : ℕ → Target → Name
+target_name p Target.None = Name.Min p
+target_name p Target.Min = Name.Min p
+target_name p (Target.Place s) = Name.Slot p s
+
+-- the word on which r makes a step, where its last `Close` found the target
+abbrev pub name_at : ℕ → ℕ → Target → Verb → Name
+name_at ring r target (Verb.Ask p) = Name.Ask p r
+name_at ring r target (Verb.Fence p) = Name.Fence p
+name_at ring r target (Verb.Min p) = Name.Min p
+name_at ring r target (Verb.Enter p t) = Name.Fence p
+name_at ring r target (Verb.PutMin p b) = Name.Min p
+name_at ring r target (Verb.Look p i) = Name.Slot p (i % ring)
+name_at ring r target (Verb.PutSlot p i b v) = Name.Slot p (i % ring)
+name_at ring r target (Verb.Fuo p) = Name.Fuo p
+name_at ring r target (Verb.RaiseFuo p u) = Name.Fuo p
+name_at ring r target (Verb.Head q) = Name.Head q
+name_at ring r target (Verb.ReadBeat q) = Name.Beat q
+name_at ring r target (Verb.WriteRow j k x) = Name.Row r j k
+name_at ring r target (Verb.ReadRow v k) = Name.Row (v / 4096) (v % 4096) k
+name_at ring r target (Verb.RaiseHead h) = Name.Head r
+name_at ring r target Verb.Beat = Name.Beat r
+name_at ring r target (Verb.ReadAsk w) = Name.Ask r w
+name_at ring r target Verb.Close = Name.Fence r
+name_at ring r target Verb.LookTarget = target_name r target
+name_at ring r target Verb.Drain = target_name r target
+name_at ring r target (Verb.Grant w) = Name.Fence r
+
+-- the word on which r makes a step after its own events
+abbrev pub name_of : Config → ℕ → List Event → Verb → Name
+name_of c r mine v = name_at c.ring r (close_target r mine) v
+
+-- the step is a load
+abbrev pub is_load : Verb → Bool
+is_load (Verb.Fence p) = true
+is_load (Verb.Min p) = true
+is_load (Verb.Look p i) = true
+is_load (Verb.Fuo p) = true
+is_load (Verb.Head q) = true
+is_load (Verb.ReadBeat q) = true
+is_load (Verb.ReadRow v k) = true
+is_load (Verb.ReadAsk w) = true
+is_load Verb.LookTarget = true
+is_load _ = false
+
+-- the word w, where the step is a load that finds it, else 0
+abbrev pub loaded_by : Verb → ℕ → ℕ
+loaded_by v w = if is_load v then w else 0
+
+-- the word that the step of r finds after the history, where it is a load, else 0
+abbrev pub found_word : Config → ℕ → List Event → Verb → ℕ
+found_word c r past v = loaded_by v (standing_word c past (name_of c r (part r past) v))
+
+-- the own events, each beside the word that its load found
+abbrev pub sights : Config → ℕ → List Event → List (Event × ℕ)
+sights c r [] = []
+sights c r (e ∷ past) =
+    if e.by == r then ((e, found_word c r past e.verb) ∷ sights c r past) else sights c r past
+
+-- the word by the same stamp with another content
+abbrev pub with_content : ℕ → ℕ → ℕ
+with_content w x = w / 140737488355328 * 140737488355328 + x
+
+-- after one more step: the word that t names at p as r saw or put it last, and as that was at r's
+-- last `Enter` at p
+abbrev pub kept_after : Config → ℕ → Target → Verb → Answer → ℕ → ℕ × ℕ → ℕ × ℕ
+kept_after c p t (Verb.Min q) a w k =
+    if is_same_target t Target.Min && (q == p) then (w, k.1) else k
+kept_after c p t (Verb.Look q i) a w k =
+    if is_same_target t (Target.Place (i % c.ring)) && (q == p) then (w, k.1) else k
+kept_after c p t (Verb.PutMin q b) Answer.Done w k =
+    if is_same_target t Target.Min && (q == p) then (with_content k.1 b, k.1) else k
+kept_after c p t (Verb.Enter q u) a w k = if q == p then (k.0, k.0) else k
+kept_after c p t _ a w k = k
+
+-- the word that t names at p as r saw it last (a minimum also as r put it last), and as that was at
+-- r's last `Enter` at p
+abbrev pub kept : Config → ℕ → Target → List (Event × ℕ) → ℕ × ℕ
+kept c p t [] = (0, 0)
+kept c p t (x ∷ seen) = kept_after c p t x.0.verb x.0.answer x.1 (kept c p t seen)
+
+-- after one more step: the word that the last `LookTarget` found
+abbrev pub loaded_after : Verb → ℕ → ℕ → ℕ
+loaded_after Verb.LookTarget w k = w
+loaded_after _ w k = k
+
+-- the word that the last `LookTarget` found
+abbrev pub loaded : List (Event × ℕ) → ℕ
+loaded [] = 0
+loaded (x ∷ seen) = loaded_after x.0.verb x.1 (loaded seen)
+
+-- the target of the fence of p as the step of r saw or wrote it
+abbrev pub target_told : ℕ → ℕ → ℕ → Verb → Answer → Option Target
+target_told r p by (Verb.Fence q) (Answer.Seen f) =
+    if (by == r) && (q == p) then Some f.target else None
+target_told r p by (Verb.Enter q t) Answer.Entered = if (by == r) && (q == p) then Some t else None
+target_told r p by _ _ = None
+
+-- the target of the fence of p as r saw or wrote it last
+abbrev pub known_target : ℕ → ℕ → List Event → Target
+known_target r p mine = or_no_target (newest (λ e. target_told r p e.by e.verb e.answer) mine)
+
+-- the word of an open fence of r with the grant and the target; 0, which never stands, where no
+-- grant is noted
+abbrev pub open_word : ℕ → Target → Option ℕ → ℕ
+open_word r t None = 0
+open_word r t (Some g) = fence_bits g false (Some r) t
+
+-- the word that the next step of r expects, where it is an exchange, else 0
+abbrev pub expected : Config → ℕ → List Event → List (Event × ℕ) → Verb → ℕ
+expected c r mine seen (Verb.Enter p t) = open_word r (known_target r p mine) (noted_grant r p mine)
+expected c r mine seen (Verb.PutMin p b) = (kept c p Target.Min seen).1
+expected c r mine seen (Verb.PutSlot p i b v) = (kept c p (Target.Place (i % c.ring)) seen).1
+expected c r mine seen Verb.Drain = loaded seen
+expected c r mine seen _ = 0

@@ -1,0 +1,7 @@
+pub mod Finding
+pub mod Founds
+pub mod Places
+pub mod Standing
+pub mod Stands
+pub mod Steps
+pub mod Words

@@ -1,0 +1,24 @@
+-- What the answer of a port that tells no list says.
+use Rattle.std.specs.Prelude.{List, ℕ, ◌∷◌, ◌≡◌}
+use Rattle.mu_model.specs.declared.config.Config.{Config}
+use Rattle.mu_model.specs.declared.event.Event.{Event}
+use Rattle.mu_model.specs.Answers.{answer_of}
+use Rattle.mu_model.specs.Histories.{part}
+use Rattle.mu_model.specs.Legal.{IsLegalHistory}
+use Rattle.mu_model.specs.Parts.{IsPossible}
+use Rattle.mu_port.specs.Causes.{HasCauses}
+
+-- some legal history has the part of r before the event; the answer is the one after that history,
+-- and where it is one of four that have causes it has its cause there
+pub record IsAnswered (c : Config) (r : ℕ) (mine : List Event) (e : Event) : Type 0 where
+  pub past : List Event
+  pub legal : IsLegalHistory c past
+  pub is : part r past ≡ mine
+  pub answer : e.answer ≡ answer_of c r past e.verb
+  pub causes : HasCauses c r past e.verb e.answer
+
+-- so is the last event of each part that is possible
+abbrev pub PossibleAreAnswered : Type 0
+PossibleAreAnswered =
+    (c : Config) (r : ℕ) (mine : List Event) (e : Event) → IsPossible c r (e ∷ mine)
+    → IsAnswered c r mine e

@@ -1,0 +1,98 @@
+//! A port that may go to another thread.
+use mu_model::{Answer, Event, Verb};
+use mu_port::Port;
+use shared_steps::{PortSeat, Words};
+use std::alloc::Global;
+use std::marker::Model;
+use std::sync::Arc;
+
+/// The access of one replica to words that all share. Each step is one atomic step on one word.
+/// Contracts see the table, the configuration, the replica and the part, newest first.
+#[derive(Drop)]
+pub struct SharedPort {
+    pub(crate) words: Arc<Words, Global>,
+    pub(crate) seat: PortSeat,
+}
+
+impl Model for SharedPort {
+    ghost use Rattle.std.specs.Arc.{arc_value};
+    ghost use Rattle.shared_fabric.specs.Gathering.{IsHeld, PortValue};
+
+    ghost Value = { PortValue };
+
+    ghost view = { λ p. record {
+      table = p.seat.table;
+      config = (arc_value p.words).key;
+      id = p.seat.id;
+      part = p.seat.part;
+    } };
+
+    ghost invariant = { λ p. IsHeld (arc_value p.words) p.seat };
+}
+
+impl SharedPort {
+    ghost use Rattle.std.specs.Prelude.{◌≡◌};
+    ghost use Rattle.mu_model.specs.Histories.{history};
+
+    /// The events of the replica so far, in true order.
+    pub fn part(&self) -> &[Event]
+        ensures { history result.now ≡ self.now.part }
+    {
+        self.seat.part()
+    }
+}
+
+impl Port for SharedPort {
+    ghost use Rattle.std.specs.Prelude.{None, refl};
+    ghost use Rattle.std.proofs.Common.{◌∙◌};
+    ghost use Rattle.shared_fabric.specs.Gathering.{IsSamePort};
+
+    ghost number = { λ p. p.id };
+
+    ghost config = { λ p. p.config };
+
+    ghost part = { λ p. p.part };
+
+    ghost whole = { λ p. None };
+
+    ghost same = { IsSamePort };
+
+    fn id(&self) -> u8 {
+        self.seat.id()
+    }
+
+    fn step(&mut self, verb: Verb) -> Answer {
+        match verb {
+            Verb::WriteRow(_, _, _) => self.seat.store(&self.words, verb),
+            Verb::RaiseFuo(_, _) | Verb::RaiseHead(_) => self.seat.raise(&self.words, verb),
+            Verb::Ask(_) | Verb::Beat => self.seat.add(&self.words, verb),
+            Verb::Enter(_, _) => self.seat.enter(&self.words, verb),
+            Verb::PutMin(_, _) => self.seat.put_min(&self.words, verb),
+            Verb::PutSlot(_, _, _, _) => self.seat.put_slot(&self.words, verb),
+            Verb::Close => self.seat.close(&self.words, verb),
+            Verb::Drain => self.seat.drain(&self.words, verb),
+            Verb::Grant(_) => self.seat.grant(&self.words, verb),
+            Verb::Fence(_)
+            | Verb::Min(_)
+            | Verb::Look(_, _)
+            | Verb::Fuo(_)
+            | Verb::Head(_)
+            | Verb::ReadBeat(_)
+            | Verb::ReadRow(_, _)
+            | Verb::ReadAsk(_)
+            | Verb::LookTarget => self.seat.load(&self.words, verb),
+        }
+    }
+
+    ghost same_refl = { λ x. record { table = refl; config = refl; id = refl } };
+
+    ghost same_trans = { λ x y z p q. record {
+      table = q.table ∙ p.table;
+      config = q.config ∙ p.config;
+      id = q.id ∙ p.id;
+    } };
+
+    ghost same_number = { λ x y p. p.id };
+
+    ghost same_config = { λ x y p. p.config };
+}

@@ -1,0 +1,43 @@
+use Rattle.std.proofs.Common.{◌∙◌, ◌∷◌, refl}
+use Rattle.mu_words.specs.Steps.{granted}
+use Rattle.shared_steps.specs.Seats.{Port}
+use Rattle.shared_steps.proofs.Effects.{grant_expects}
+use Rattle.shared_steps.proofs.Ports.{Made, Ready, allows_grant, inside, named, now_part, now_port, now_possible, plain, ready}
+use Rattle.shared_steps.proofs.seat.PortSeat.grant.Goals as goal
+
+pub word_place-place-requires-clause-named : goal.word_place-place-requires-clause-named
+word_place-place-requires-clause-named c = named _ _ _ (ready _ _ _ _ _ c.words.view_is c.self.view_is c.words.invariant c.self.invariant c.requires.of c.requires.allowed)
+
+pub swap-word-requires-clause-inside : goal.swap-word-requires-clause-inside
+swap-word-requires-clause-inside c = inside _ _ _ _ (ready _ _ c.args.verb _ _ c.words.view_is c.self.view_is c.words.invariant c.self.invariant c.requires.of c.requires.allowed) c.word_place-place.ensures
+
+pub swap-word-requires-clause-rule : goal.swap-word-requires-clause-rule
+swap-word-requires-clause-rule c =
+    allows_grant _ _ _ _ c.granted-new.result c.requires.kind (ready _ _ _ _ _ c.words.view_is c.self.view_is c.words.invariant c.self.invariant c.requires.of c.requires.allowed) c.word_place-place.ensures (c.granted-new.ensures ∙ (λ i. granted (c.close_grant.ensures i) (c.owner.ensures i)))
+
+can : (c : goal.After-note) → Ready c.words.inside c.self.inside c.args.verb
+can c = ready _ _ _ _ _ c.words.view_is c.self.view_is c.words.invariant c.self.invariant c.requires.of c.requires.allowed
+
+made : (c : goal.After-note) → Made c.words.inside c.self.inside c.args.verb (can c) record { seat = c.swap-word.new.seat; id = c.self.inside.id; journal = c.note.new.journal; found = c.note.new.found } c.swap-word.result 0 c.note.result
+made c = record {
+  table = c.swap-word.ensures.same.0;
+  id = refl;
+  told = c.swap-word.ensures.grown;
+  expects = plain _ _ _ (can c) (grant_expects c.args.verb c.requires.kind);
+  answer = c.note.ensures.answer;
+  events = c.note.ensures.events;
+  room = c.note.ensures.room;
+  found = c.note.ensures.found;
+}
+
+pub invariant_of-self : goal.invariant_of-self
+invariant_of-self c = now_port _ _ _ (can c) _ _ _ _ (made c)
+
+pub returns-clause-part : goal.returns-clause-part
+returns-clause-part c = now_part _ _ _ (can c) _ _ _ _ (made c) ∙ (λ i. after (c.self.view_is i))
+  where
+    after : Port → Port
+    after p = record { table = p.table; config = p.config; id = p.id; part = record { by = p.id; verb = c.args.verb; answer = c.note.result } ∷ p.part }
+
+pub returns-clause-possible : goal.returns-clause-possible
+returns-clause-possible c = now_possible _ _ _ (can c) _ _ _ _ _ c.words.view_is (made c)

@@ -1,0 +1,4 @@
+pub mod Rule
+pub mod Insides
+pub mod Opening
+pub mod Seats

@@ -1,0 +1,36 @@
+//! Loads.
+ghost use Rattle.std.specs.Prelude.{true, ◌≡◌};
+ghost use Rattle.mu_model.specs.Allowed.{Allowed};
+ghost use Rattle.mu_model.specs.Parts.{IsPossible};
+ghost use Rattle.mu_words.specs.Finding.{is_load};
+ghost use Rattle.shared_steps.specs.Seats.{IsOf, after_step};
+
+use crate::moves;
+use crate::seat::PortSeat;
+use crate::step::{Sight, note, word_place};
+use crate::words::Words;
+use mu_model::{Answer, Verb};
+use std::marker::Brand;
+
+impl PortSeat {
+    /// Loads the word of a verb that only reads. Takes no memory, and does not wait.
+    pub fn load(&mut self, words: &Words, verb: Verb) -> Answer
+        requires of { IsOf words.now self.old }
+        requires kind { is_load verb ≡ true }
+        requires allowed { Allowed words.now.key self.old.id self.old.part verb }
+        ensures part { self.new ≡ after_step self.old verb result }
+        ensures possible { IsPossible words.now.key self.new.id self.new.part }
+    {
+        let place = word_place(&words.layout, &self.found, self.id, &verb);
+        let word = moves::load::<Brand>(&words.table.shared, &mut self.seat, place, verb);
+        let sight = Sight { expected: 0, word };
+        note(
+            &words.layout,
+            &mut self.journal,
+            &mut self.found,
+            self.id,
+            verb,
+            sight,
+        )
+    }
+}

@@ -1,0 +1,6 @@
+use Rattle.std.proofs.Common.{◌≡◌, ◌++◌, drop}
+use Rattle.mu_outcome.specs.Entries.{commands_in}
+use Rattle.snap_reads.proofs.keys.commands_of_log.Given as goal
+
+abbrev pub invariant-loop-value : goal.invariant-loop-value
+invariant-loop-value l = l.commands.items ++ commands_in l.job (drop l.value-index l.log) ≡ commands_in l.job l.log

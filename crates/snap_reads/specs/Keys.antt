@@ -1,0 +1,38 @@
+-- The keys of commands, and the keys that a reader gets.
+use Rattle.std.specs.Prelude.{ℕ, zero, suc, ◌%◌, List, [], ◌∷◌, ◌++◌, length, filter, not, slice_index_or}
+use Rattle.std.specs.Str.{bytes_eq}
+use Rattle.kv_store.specs.Commands.{Request}
+use Rattle.kv_store.specs.declared.command.Op.{Op}
+use Rattle.kv_store.specs.declared.command.Op.TheVariants.{Put, Get, Del, Swap, Cas}
+
+-- the key that an operation is of
+abbrev pub key_of : Op → List ℕ
+key_of (Put key text) = key
+key_of (Get key) = key
+key_of (Del key) = key
+key_of (Swap key text) = key
+key_of (Cas key old new) = key
+
+-- the keys of commands, each once, in order of first use
+abbrev pub keys_of : List Request → List (List ℕ)
+keys_of [] = []
+keys_of (command ∷ commands) =
+    key_of command.op ∷ filter (λ key. not (bytes_eq (key_of command.op) key)) (keys_of commands)
+
+-- the key whose turn it is at get k, counted from 0, where gets go round the keys
+abbrev pub key_at : List (List ℕ) → ℕ → List ℕ
+key_at keys k = slice_index_or keys (k % length keys) []
+
+-- the keys of so many gets that go round the keys
+abbrev pub round : List (List ℕ) → ℕ → List (List ℕ)
+round keys zero = []
+round keys (suc k) = round keys k ++ key_at keys k ∷ []
+
+-- how many gets a reader makes beside the writer: none where there is no key
+abbrev pub gets_beside : List (List ℕ) → ℕ
+gets_beside [] = 0
+gets_beside (key ∷ keys) = 200
+
+-- the keys of all gets of a reader: round the keys beside the writer, and then each key once
+abbrev pub gets : List (List ℕ) → List (List ℕ)
+gets keys = round keys (gets_beside keys) ++ keys

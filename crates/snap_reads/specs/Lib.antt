@@ -1,0 +1,10 @@
+pub mod Published
+pub mod Steps
+pub mod Seats
+pub mod Shelves
+pub mod Writers
+pub mod Readers
+pub mod Notes
+pub mod Sights
+pub mod Keys
+pub mod Lives

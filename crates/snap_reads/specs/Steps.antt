@@ -1,0 +1,78 @@
+-- What each kind of step does to the view of its seat, and what it tells.
+use Rattle.std.specs.Prelude.{ℕ, ◌≡◌, ◌≤◌, List, [], ◌∷◌, ◌++◌, length, take, Some, ⊤}
+use Rattle.atomic_table.specs.Table.{Me, Step}
+use Rattle.kv_store.specs.Commands.{Request}
+use Rattle.mu_outcome.specs.Outcomes.{IsPrefixOf}
+use Rattle.mu_rows.specs.Rows.{IsCommand, spelled}
+use Rattle.snap_reads.specs.declared.rule.View.{View}
+
+-- each of these lists that is no longer than what was seen begins it
+abbrev pub ShortBegin : List (List Request) → List Request → Type 0
+ShortBegin [] seen = ⊤
+ShortBegin (list ∷ lists) seen =
+    (length list ≤ length seen → IsPrefixOf list seen) × ShortBegin lists seen
+
+-- each of these lists has at most so many commands
+abbrev pub AllWithin : List (List Request) → ℕ → Type 0
+AllWithin [] count = ⊤
+AllWithin (list ∷ lists) count = (length list ≤ count) × AllWithin lists count
+
+-- a load of the count, which found n
+pub record Counted (before : Me (Unit {0}) View) (n : ℕ) (after : Me (Unit {0}) View) : Type 0 where
+  pub after_is : after ≡ (record before.0 { upto = n }, before.1)
+  pub seen_within : length before.0.seen ≤ n
+  pub told_within : AllWithin before.0.told n
+  pub within : (k : ℕ) → before.0.capacity ≡ Some k → n ≤ k
+  pub told : ShortBegin before.0.told before.0.seen
+
+-- a load of a word of the next row
+pub record Loaded (before : Me (Unit {0}) View) (n : ℕ) (after : Me (Unit {0}) View) : Type 0 where
+  pub after_is : after ≡ (record before.0 { words = before.0.words ++ n ∷ [] }, before.1)
+
+-- a load of the last word of the next row, which is the row of a command
+pub record Ended (before : Me (Unit {0}) View) (n : ℕ) (after : Me (Unit {0}) View) : Type 0 where
+  pub command : Request
+  pub is_command : IsCommand command
+  pub row : before.0.words ++ n ∷ [] ≡ spelled command 0
+  pub after_is :
+      after ≡ (record before.0 { seen = before.0.seen ++ command ∷ []; words = [] }, before.1)
+  pub told : ShortBegin before.0.told (before.0.seen ++ command ∷ [])
+
+-- so many words of a row were loaded, or stored
+abbrev pub HasPart : Me (Unit {0}) View → ℕ → List ℕ → Me (Unit {0}) View → Type 0
+HasPart before k row after =
+    after ≡ (record before.0 { words = before.0.words ++ take k row }, before.1)
+
+-- the words of the next row were loaded, and it is the row of a command
+pub record HasRow (before : Me (Unit {0}) View) (row : List ℕ) (after : Me (Unit {0}) View) : Type 0 where
+  pub command : Request
+  pub is_command : IsCommand command
+  pub spells : row ≡ spelled command 0
+  pub after_is :
+      after ≡ (record before.0 { seen = before.0.seen ++ command ∷ []; words = [] }, before.1)
+  pub told : ShortBegin before.0.told (before.0.seen ++ command ∷ [])
+
+-- a store of a word past the count
+pub record Stored (before : Me (Unit {0}) View) (word : ℕ) (after : Me (Unit {0}) View) : Type 0 where
+  pub after_is : after ≡ (record before.0 { words = before.0.words ++ word ∷ [] }, before.1)
+
+-- a raising of the count, by which these commands are published
+pub record Raised (commands : List Request) (before after : Me (Unit {0}) View) : Type 0 where
+  pub after_is :
+      after ≡ (record before.0 { seen = before.0.seen ++ commands; words = [] }, before.1)
+
+abbrev pub counting : Step (Unit {0}) → Me (Unit {0}) View → ℕ → Me (Unit {0}) View → Type 0
+counting st before n after = Counted before n after
+
+abbrev pub loading : Step (Unit {0}) → Me (Unit {0}) View → ℕ → Me (Unit {0}) View → Type 0
+loading st before n after = Loaded before n after
+
+abbrev pub ending : Step (Unit {0}) → Me (Unit {0}) View → ℕ → Me (Unit {0}) View → Type 0
+ending st before n after = Ended before n after
+
+abbrev pub storing : Step (Unit {0}) → Me (Unit {0}) View → ℕ → Me (Unit {0}) View → Type 0
+storing st before n after = Stored before st.first after
+
+abbrev pub raising :
+    List Request → Step (Unit {0}) → Me (Unit {0}) View → ℕ → Me (Unit {0}) View → Type 0
+raising commands st before n after = Raised commands before after

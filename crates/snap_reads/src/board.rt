@@ -1,0 +1,148 @@
+//! The table, and its steps.
+ghost use Rattle.std.specs.Prelude.{[], IfOk, false, length, true, ◌+◌, ◌<◌, ◌≡◌, ◌≤◌};
+ghost use Rattle.snap_reads.specs.Published.{AreCommands, fresh_view, informed_view, note_view, row_place, rows_of, word_count, writer_view};
+ghost use Rattle.snap_reads.specs.Steps.{Counted, Ended, Loaded, Raised, Stored};
+
+use crate::rule::{Begin, Count, Held, Load, LoadLast, Pending, Place, Raise, Store, Tell, View};
+use atomic_table::Table;
+use kv_store::Command;
+use mu_model::NoMemory;
+use std::alloc::Global;
+use std::marker::Model;
+
+/// How many words a row has.
+pub(crate) const ROW_WORDS: usize = 12;
+
+/// Where the row stands that comes after so many: word 0 is the count.
+pub(crate) fn row_place(rows: usize) -> usize
+    requires { rows ≤ 1500 }
+    ensures { result ≡ row_place rows }
+{
+    ROW_WORDS * rows + 1
+}
+
+/// The table of one writer and its readers. Contracts see which it is, and for how many commands.
+#[derive(Drop)]
+pub(crate) struct Board {
+    table: Table<(), View, usize, Held, Global>,
+}
+
+impl Model for Board {
+    ghost use Rattle.snap_reads.specs.Shelves.{IsShelf, shelf_of};
+    ghost use Rattle.snap_reads.specs.Seats.{Shelf};
+
+    ghost Value = { Shelf };
+
+    ghost view = { shelf_of };
+
+    ghost invariant = { IsShelf };
+}
+
+impl Board {
+    /// A table for so many commands, none of which is published, and the seat of its writer.
+    pub(crate) fn start(alloc: Global, commands: usize) -> Result<(Board, Place), NoMemory>
+        requires { commands ≤ 1500 }
+        ensures capacity { IfOk result (λ t. t.0.capacity ≡ commands) }
+        ensures seat { IfOk result
+            (λ t. (t.1.table_id ≡ t.0.table) × (t.1.me ≡ (writer_view commands [] [], []))) }
+    {
+        let words = vec![in alloc; 0; row_place(commands)]?;
+        let (table, seat) = Table::of_words(alloc, words.as_slice(), &commands)?;
+        Ok((Board { table }, seat))
+    }
+
+    /// Loads the count.
+    pub(crate) fn count(&self, seat: &mut Place) -> u64
+        requires of { seat.old.table_id ≡ self.now.table }
+        requires reads { seat.old.me.0.writes ≡ false }
+        requires none { seat.old.me.0.words ≡ [] }
+        ensures same { seat.new.table_id ≡ seat.old.table_id }
+        ensures counted { Counted seat.old.me result seat.new.me }
+    {
+        self.table.shared.load::<Count>(seat, 0)
+    }
+
+    /// Loads a word of the next row that isn't its last.
+    pub(crate) fn load(&self, seat: &mut Place, place: usize) -> u64
+        requires of { seat.old.table_id ≡ self.now.table }
+        requires reads { seat.old.me.0.writes ≡ false }
+        requires next { place ≡ row_place (length seat.old.me.0.seen) + length seat.old.me.0.words }
+        requires inside { place < word_count self.now.capacity }
+        requires more { length seat.old.me.0.words < 11 }
+        requires counted { length seat.old.me.0.seen < seat.old.me.0.upto }
+        ensures same { seat.new.table_id ≡ seat.old.table_id }
+        ensures loaded { Loaded seat.old.me result seat.new.me }
+    {
+        self.table.shared.load::<Load>(seat, place)
+    }
+
+    /// Loads the last word of the next row.
+    pub(crate) fn load_last(&self, seat: &mut Place, place: usize) -> u64
+        requires of { seat.old.table_id ≡ self.now.table }
+        requires reads { seat.old.me.0.writes ≡ false }
+        requires next { place ≡ row_place (length seat.old.me.0.seen) + length seat.old.me.0.words }
+        requires inside { place < word_count self.now.capacity }
+        requires last { length seat.old.me.0.words ≡ 11 }
+        requires counted { length seat.old.me.0.seen < seat.old.me.0.upto }
+        ensures same { seat.new.table_id ≡ seat.old.table_id }
+        ensures ended { Ended seat.old.me result seat.new.me }
+    {
+        self.table.shared.load::<LoadLast>(seat, place)
+    }
+
+    /// Stores a word past the count.
+    pub(crate) fn store(&self, seat: &mut Place, place: usize, word: u64)
+        requires of { seat.old.table_id ≡ self.now.table }
+        requires writes { seat.old.me.0.writes ≡ true }
+        requires next { place ≡ row_place (length seat.old.me.0.seen) + length seat.old.me.0.words }
+        requires inside { place < word_count self.now.capacity }
+        ensures same { seat.new.table_id ≡ seat.old.table_id }
+        ensures stored { Stored seat.old.me word seat.new.me }
+    {
+        self.table.shared.store::<Store>(seat, place, word);
+    }
+
+    /// Raises the count, by which these commands are published.
+    pub(crate) fn raise<N: Pending>(&self, seat: &mut Place, count: u64, pending: &[Command])
+        requires named { pending.now ≡ N.commands }
+        requires of { seat.old.table_id ≡ self.now.table }
+        requires writes { seat.old.me.0.writes ≡ true }
+        requires rows { seat.old.me.0.words ≡ rows_of pending.now }
+        requires commands { AreCommands pending.now }
+        requires count { count ≡ length seat.old.me.0.seen + length pending.now }
+        requires room { count ≤ self.now.capacity }
+        ensures same { seat.new.table_id ≡ seat.old.table_id }
+        ensures raised { Raised pending.now seat.old.me seat.new.me }
+    {
+        self.table.shared.fetch_max::<Raise<N>>(seat, 0, count);
+    }
+
+    /// Cuts the seat of a new reader off.
+    pub(crate) fn begin(&self, seat: &mut Place) -> Place
+        requires { seat.old.table_id ≡ self.now.table }
+        ensures same { (seat.new.table_id ≡ seat.old.table_id) × (seat.new.me ≡ seat.old.me) }
+        ensures reader { (result.table_id ≡ seat.old.table_id) × (result.me ≡ (fresh_view seat.old.me.0, [])) }
+    {
+        self.table.shared.split_seat::<Begin>(seat)
+    }
+
+    /// Cuts a note of what the seat has seen off.
+    pub(crate) fn tell(&self, seat: &mut Place) -> Place
+        requires { seat.old.table_id ≡ self.now.table }
+        ensures same { (seat.new.table_id ≡ seat.old.table_id) × (seat.new.me ≡ seat.old.me) }
+        ensures note { (result.table_id ≡ seat.old.table_id) × (result.me ≡ (note_view seat.old.me.0, [])) }
+    {
+        self.table.shared.split_seat::<Tell>(seat)
+    }
+
+    /// Takes in what another seat was told of.
+    pub(crate) fn learn(&self, seat: &mut Place, note: Place)
+        requires of { seat.old.table_id ≡ self.now.table }
+        requires note { note.table_id ≡ self.now.table }
+        requires slots { note.me.1 ≡ [] }
+        ensures same { seat.new.table_id ≡ seat.old.table_id }
+        ensures told { seat.new.me ≡ (informed_view seat.old.me.0 note.me.0, seat.old.me.1) }
+    {
+        self.table.shared.join_seat::<Tell>(seat, note);
+    }
+}

@@ -1,0 +1,49 @@
+//! The commands of a log, and their keys.
+ghost use Rattle.std.specs.Prelude.{IfOk, ◌≡◌};
+ghost use Rattle.mu_outcome.specs.Entries.{commands_in};
+ghost use Rattle.snap_reads.specs.Keys.{key_of as key_of_op, keys_of as keys_of_commands};
+
+use kv_store::{Command, Key, Op};
+use mu_input::Job;
+use mu_model::NoMemory;
+use mu_outcome::commands_of;
+use std::alloc::Global;
+
+/// The commands of a log in order.
+pub(crate) fn commands_of_log(
+    alloc: Global,
+    job: &Job,
+    log: &[u16],
+) -> Result<Vec<Command>, NoMemory>
+    ensures { IfOk result (λ commands. commands.items ≡ commands_in job.now log.now) }
+{
+    let mut commands = Vec::new(alloc);
+    for value in log {
+        commands.extend_from_slice(commands_of(job, *value))?;
+    }
+    Ok(commands)
+}
+
+/// The key that an operation is of.
+fn key_of(op: &Op) -> Key
+    ensures { result ≡ key_of_op op.now }
+{
+    match op {
+        Op::Put(key, _) | Op::Get(key) | Op::Del(key) | Op::Swap(key, _) | Op::Cas(key, _, _) =>
+            *key,
+    }
+}
+
+/// The keys of commands, each once, in order of first use.
+pub(crate) fn keys_of(alloc: Global, commands: &[Command]) -> Result<Vec<Key>, NoMemory>
+    ensures { IfOk result (λ keys. keys.items ≡ keys_of_commands commands.now) }
+{
+    let mut keys = Vec::new(alloc);
+    for command in commands {
+        let key = key_of(&command.op);
+        if !keys.as_slice().contains(&key) {
+            keys.push(key)?;
+        }
+    }
+    Ok(keys)
+}

@@ -1,0 +1,88 @@
+//! The fabric of whole runs: it answers from packed words.
+ghost use Rattle.std.specs.Prelude.{◌≡◌, [], IfOk};
+
+use crate::making::{first_founds, first_words, make_step};
+use mu_model::{Answer, Config, Event, Journal, NoMemory, Verb};
+use mu_port::{Memory, MemoryPort};
+use mu_words::{Found, Layout};
+use std::alloc::Global;
+use std::marker::Model;
+
+/// The words of all regions and rows, with the kept list of events of all replicas and what each
+/// replica keeps of the words that it found. Contracts see the configuration and the list.
+#[derive(Drop)]
+pub struct WordFabric {
+    config: Config,
+    kept: Journal,
+    layout: Layout,
+    words: Vec<u64>,
+    founds: Vec<Found>,
+}
+
+impl Model for WordFabric {
+    ghost use Rattle.mu_port.specs.Keeping.{Kept};
+    ghost use Rattle.word_fabric.specs.Kept.{IsWordsKept};
+
+    ghost Value = { Kept };
+
+    ghost view = { λ f. record { config = f.config; events = f.kept.events } };
+
+    ghost invariant = { λ f. IsWordsKept f.config f.kept.events f.kept.room f.layout f.words.items f.founds.items };
+}
+
+impl WordFabric {
+    ghost use Rattle.mu_model.specs.Contents.{IsConfig};
+
+    /// No event yet. Takes memory for the budgets of all replicas, for the words and for what is
+    /// kept of them.
+    pub fn start(alloc: Global, config: &Config) -> Result<WordFabric, NoMemory>
+        requires { IsConfig config.now }
+        ensures config { IfOk result (λ f. f.config ≡ config.now) }
+        ensures empty { IfOk result (λ f. f.events ≡ []) }
+    {
+        let room = usize::from(config.replicas) * config.budget as usize;
+        let layout = Layout::new(config);
+        Ok(WordFabric {
+            config: config.copied(alloc)?,
+            kept: Journal::with_room(alloc, room)?,
+            layout,
+            words: first_words(alloc, config, &layout)?,
+            founds: first_founds(alloc, config)?,
+        })
+    }
+}
+
+impl Memory for WordFabric {
+    ghost config = { λ f. f.config };
+
+    ghost events = { λ f. f.events };
+
+    fn config(&self) -> &Config {
+        &self.config
+    }
+
+    fn step(&mut self, by: u8, verb: Verb) -> Answer {
+        let found = &mut self.founds[usize::from(by)];
+        let answer = make_step(&self.layout, &mut self.words, found, by, &verb);
+        self.kept.push(Event { by, verb, answer });
+        answer
+    }
+
+    fn events(&self) -> &[Event] {
+        self.kept.as_slice()
+    }
+
+    fn into_events(self) -> Journal {
+        let WordFabric {
+            config: _,
+            kept,
+            layout: _,
+            words: _,
+            founds: _,
+        } = self;
+        kept
+    }
+}
+
+/// The access of one replica to a fabric of words.
+pub type WordPort = MemoryPort<WordFabric>;

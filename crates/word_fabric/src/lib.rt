@@ -1,0 +1,10 @@
+//! Memory as packed words: a fabric keeps one list of words, and each step changes one of them.
+//!
+//! The contract is that of `list_fabric`: the list of all events, and the answer that it gives. The
+//! answers come from the words alone, by the law of word steps of `mu_words`.
+#![tactic(auto)]
+
+mod fabric;
+mod making;
+
+pub use fabric::{WordFabric, WordPort};

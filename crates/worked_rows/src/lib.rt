@@ -1,0 +1,40 @@
+//! The worked rows of all crates: figures, lists of events and texts from outside, compared with what
+//! the public calls make of them.
+#![tactic(auto)]
+
+#[cfg(test)]
+mod bulk_jobs;
+#[cfg(test)]
+mod event_lines;
+#[cfg(test)]
+mod event_scripts;
+#[cfg(test)]
+mod grants;
+#[cfg(test)]
+mod jobs;
+#[cfg(test)]
+mod laws;
+#[cfg(test)]
+mod memories;
+#[cfg(test)]
+mod model;
+#[cfg(test)]
+mod order_cases;
+#[cfg(test)]
+mod orders;
+#[cfg(test)]
+mod rows;
+#[cfg(test)]
+mod scores;
+#[cfg(test)]
+mod scripts;
+#[cfg(test)]
+mod shared_ports;
+#[cfg(test)]
+mod store;
+#[cfg(test)]
+mod traces;
+#[cfg(test)]
+mod verdicts;
+#[cfg(test)]
+mod words;

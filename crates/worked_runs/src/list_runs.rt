@@ -1,0 +1,41 @@
+//! Whole jobs over plain lists: the same is said as over packed words.
+ghost use Rattle.mu_report.specs.Said.{IsShort};
+
+use crate::replays::SAID;
+use list_fabric::ListFabric;
+use mu_cluster::replay_over;
+use mu_input::{InputEnd, read};
+use mu_io::MemSink;
+use mu_report::{Said, print};
+use std::alloc::Global;
+use std::test::Fail;
+
+/// What there is to say of a job over plain lists.
+fn said_over_lists(alloc: Global, text: &str) -> Said
+    ensures { IsShort result }
+{
+    let job = match read(alloc, text.as_bytes()) {
+        Ok(job) => job,
+        Err(InputEnd::Refused { line, cause }) => return Said::Refused { line, cause },
+        Err(InputEnd::NoMemory) => return Said::NoMemory,
+    };
+    let memory = match ListFabric::start(alloc, &job.config) {
+        Ok(memory) => memory,
+        Err(_) => return Said::NoMemory,
+    };
+    match replay_over(alloc, job, memory) {
+        Ok(outcome) => Said::Ran(outcome),
+        Err(_) => Said::NoMemory,
+    }
+}
+
+#[test]
+fn says_the_same_over_lists(rt: HostRuntime) -> Result<(), Fail> {
+    for (name, input, text) in SAID {
+        let mut sink = MemSink::new(vec![in rt.alloc(); 0; 4096]?, 4096, Vec::new(rt.alloc()));
+        let said = said_over_lists(rt.alloc(), input);
+        assert!(rt; print(&mut sink, &said).is_ok(), "{name}");
+        assert_eq!(rt; sink.written(), text.as_bytes(), "{name}");
+    }
+    Ok(())
+}

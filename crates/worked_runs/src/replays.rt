@@ -1,0 +1,258 @@
+//! Whole jobs, whose replicas take turns on one thread: what is said of them, and what they leave.
+ghost use Rattle.std.specs.Prelude.{IfOk};
+ghost use Rattle.mu_input.specs.Heads.{HaveHeads};
+ghost use Rattle.mu_model.specs.Contents.{IsConfig};
+ghost use Rattle.mu_report.specs.Said.{IsShort};
+
+use mu_check::{Verdict, check};
+use mu_cluster::{Outcome, replay};
+use mu_input::{InputEnd, Job, bulk, read, read_trace};
+use mu_io::MemSink;
+use mu_model::{End, Pause, Sequence, Stop, Verb};
+use mu_report::{Said, print};
+use std::alloc::{AllocError, Global};
+use std::test::Fail;
+
+/// One command of one replica.
+pub(crate) const ONE_PUT: &str = "mu 1\nreplicas 1\nring 8\nbudget 1000\nclient 0\nput a 5\nend\n";
+
+/// Six commands of two clients.
+pub(crate) const TWO_CLIENTS: &str =
+    "mu 1\nreplicas 3\nring 8\nbudget 20000\nclient 0\nput a 5\nget a\ncas a 5 6\nclient 1\nput b 7\nswap a 9\ncas a 9 1\nend\n";
+
+/// Jobs, and what is said of each.
+pub(crate) const SAID: [(&str, &str, &str); 8] = [
+    (
+        "one_put",
+        ONE_PUT,
+        "report 1\nlog 0 entries 1 commits 1 finished\n0 0.1 put a 5\nreplies 1\n0.1 done\nstatus 0\n",
+    ),
+    (
+        "no_commands",
+        "mu 1\nreplicas 3\nring 8\nbudget 1000\nend\n",
+        "report 1\nlog 0 entries 0 commits 0 finished\nlog 1 entries 0 commits 0 finished\nlog 2 entries 0 commits 0 finished\nreplies 0\nstatus 0\n",
+    ),
+    (
+        "two_clients",
+        TWO_CLIENTS,
+        "report 1\nlog 0 entries 6 commits 6 finished\n0 0.1 put a 5\n1 1.1 put b 7\n2 0.2 get a\n3 1.2 swap a 9\n4 0.3 cas a 5 6\n5 1.3 cas a 9 1\nlog 1 entries 6 commits 0 finished\n0 0.1 put a 5\n1 1.1 put b 7\n2 0.2 get a\n3 1.2 swap a 9\n4 0.3 cas a 5 6\n5 1.3 cas a 9 1\nlog 2 entries 6 commits 0 finished\n0 0.1 put a 5\n1 1.1 put b 7\n2 0.2 get a\n3 1.2 swap a 9\n4 0.3 cas a 5 6\n5 1.3 cas a 9 1\nreplies 6\n0.1 done\n1.1 done\n0.2 value 5\n1.2 value 5\n0.3 kept 9\n1.3 done\nstatus 0\n",
+    ),
+    (
+        "never_confirmed",
+        "mu 1\nreplicas 3\nring 8\nbudget 500\nclient 0\nput a 5\nscript\nstop 1 0\nstop 2 0\nend\n",
+        "report 1\nlog 0 entries 0 commits 0 budget\nlog 1 entries 0 commits 0 stopped\nlog 2 entries 0 commits 0 stopped\nreplies 0\nstatus 3\n",
+    ),
+    (
+        "no_room",
+        "mu 1\nreplicas 3\nring 8\nbudget 5000\nclient 0\nput a 1\nput a 1\nput a 1\nput a 1\nput a 1\nput a 1\nput a 1\nput a 1\nput a 1\nscript\nstop 2 0\nend\n",
+        "report 1\nlog 0 entries 8 commits 8 budget\n0 0.1 put a 1\n1 0.2 put a 1\n2 0.3 put a 1\n3 0.4 put a 1\n4 0.5 put a 1\n5 0.6 put a 1\n6 0.7 put a 1\n7 0.8 put a 1\nlog 1 entries 8 commits 0 budget\n0 0.1 put a 1\n1 0.2 put a 1\n2 0.3 put a 1\n3 0.4 put a 1\n4 0.5 put a 1\n5 0.6 put a 1\n6 0.7 put a 1\n7 0.8 put a 1\nlog 2 entries 0 commits 0 stopped\nreplies 8\n0.1 done\n0.2 done\n0.3 done\n0.4 done\n0.5 done\n0.6 done\n0.7 done\n0.8 done\nstatus 3\n",
+    ),
+    (
+        "batches",
+        "mu 2\nreplicas 3\nring 8\nbudget 20000\nbatch 4\nclient 0\nput a 5\nget a\ncas a 5 6\nclient 1\nput b 7\nswap a 9\ncas a 9 1\nend\n",
+        "report 2\nlog 0 entries 2 commits 2 finished\n0 0.1 put a 5\n0 0.2 get a\n0 0.3 cas a 5 6\n1 1.1 put b 7\n1 1.2 swap a 9\n1 1.3 cas a 9 1\nlog 1 entries 2 commits 0 finished\n0 0.1 put a 5\n0 0.2 get a\n0 0.3 cas a 5 6\n1 1.1 put b 7\n1 1.2 swap a 9\n1 1.3 cas a 9 1\nlog 2 entries 2 commits 0 finished\n0 0.1 put a 5\n0 0.2 get a\n0 0.3 cas a 5 6\n1 1.1 put b 7\n1 1.2 swap a 9\n1 1.3 cas a 9 1\nreplies 6\n0.1 done\n0.2 value 5\n0.3 done\n1.1 done\n1.2 value 6\n1.3 done\nstatus 0\n",
+    ),
+    (
+        "rests",
+        "mu 2\nreplicas 1\nring 8\nbudget 100\nbatch 5\nend\n",
+        "refused line 5 cause 15\n",
+    ),
+    (
+        "outrun_replica",
+        "mu 2\nreplicas 3\nring 8\nbudget 20000\nbatch 1\nclient 0\nput a 1\nput a 1\nput a 1\nput a 1\nput a 1\nput a 1\nput a 1\nput a 1\nput a 1\nput a 1\nput a 1\nput a 1\nscript\npause 2 60 3000\nend\n",
+        "report 2\nlog 0 entries 13 commits 13 finished\n0 0.1 put a 1\n1 0.2 put a 1\n2 0.3 put a 1\n3 0.4 put a 1\n4 0.5 put a 1\n5 gone 2\n6 0.6 put a 1\n7 0.7 put a 1\n8 0.8 put a 1\n9 0.9 put a 1\n10 0.10 put a 1\n11 0.11 put a 1\n12 0.12 put a 1\nlog 1 entries 13 commits 0 finished\n0 0.1 put a 1\n1 0.2 put a 1\n2 0.3 put a 1\n3 0.4 put a 1\n4 0.5 put a 1\n5 gone 2\n6 0.6 put a 1\n7 0.7 put a 1\n8 0.8 put a 1\n9 0.9 put a 1\n10 0.10 put a 1\n11 0.11 put a 1\n12 0.12 put a 1\nlog 2 entries 0 commits 0 outrun 2 1\nreplies 12\n0.1 done\n0.2 done\n0.3 done\n0.4 done\n0.5 done\n0.6 done\n0.7 done\n0.8 done\n0.9 done\n0.10 done\n0.11 done\n0.12 done\nstatus 0\n",
+    ),
+];
+
+/// What there is to say of a replay of the job of these bytes.
+pub(crate) fn said_of(alloc: Global, text: &str) -> Said
+    ensures { IsShort result }
+{
+    let job = match read(alloc, text.as_bytes()) {
+        Ok(job) => job,
+        Err(InputEnd::Refused { line, cause }) => return Said::Refused { line, cause },
+        Err(InputEnd::NoMemory) => return Said::NoMemory,
+    };
+    match replay(alloc, job) {
+        Ok(outcome) => Said::Ran(outcome),
+        Err(_) => Said::NoMemory,
+    }
+}
+
+/// The job that a text spells, with the commands and their rows in order.
+pub(crate) fn job_of(alloc: Global, text: &str) -> Result<Job, Fail>
+    ensures { IfOk result
+        (λ job. IsConfig job.config × HaveHeads job.config.width job.commands job.config.rows) }
+{
+    match read(alloc, text.as_bytes()) {
+        Ok(job) => Ok(job),
+        Err(_) => Err(Fail::from("no job")),
+    }
+}
+
+/// What a job leaves.
+fn replayed(alloc: Global, job: Job) -> Result<Outcome, Fail>
+    requires { IsConfig job.config × HaveHeads job.config.width job.commands job.config.rows }
+{
+    Ok(replay(alloc, job)?)
+}
+
+/// What a job leaves under another script.
+fn left(alloc: Global, text: &str, stops: &[Stop], pauses: &[Pause]) -> Result<Outcome, Fail> {
+    let mut job = job_of(alloc, text)?;
+    job.script.stops = Sequence::from_vec(Vec::from_slice(alloc, stops)?);
+    job.script.pauses = Sequence::from_vec(Vec::from_slice(alloc, pauses)?);
+    replayed(alloc, job)
+}
+
+/// The log of a replica.
+fn log(outcome: &Outcome, replica: u8) -> &[u16] {
+    outcome
+        .logs
+        .as_slice()
+        .get(usize::from(replica))
+        .map_or(&[], |log| log.as_slice())
+}
+
+/// Whether one list begins the other.
+fn is_prefix(one: &[u16], other: &[u16]) -> bool {
+    other.starts_with(one)
+}
+
+#[test]
+fn says_what_is_left(rt: HostRuntime) -> Result<(), Fail> {
+    for (name, input, text) in SAID {
+        let mut sink = MemSink::new(vec![in rt.alloc(); 0; 4096]?, 4096, Vec::new(rt.alloc()));
+        let said = said_of(rt.alloc(), input);
+        assert!(rt; print(&mut sink, &said).is_ok(), "{name}");
+        assert_eq!(rt; sink.written(), text.as_bytes(), "{name}");
+    }
+    Ok(())
+}
+
+#[test]
+fn one_put(rt: HostRuntime) -> Result<(), Fail> {
+    let outcome = left(rt.alloc(), ONE_PUT, &[], &[])?;
+    let Some(journal) = outcome.journals.as_slice().first() else {
+        return Err(Fail::from("no journal"));
+    };
+    let events = journal.as_slice();
+    assert_eq!(rt; events.len(), 93);
+    let commit = events.get(49).map(|event| event.verb);
+    assert!(rt; matches!(commit, Some(Verb::PutSlot(0, 0, _, 0))));
+    assert_eq!(rt;
+        events.last().map(|event| event.verb),
+        Some(Verb::RaiseHead(1))
+    );
+    Ok(())
+}
+
+#[test]
+fn trace_and_check(rt: HostRuntime) -> Result<(), Fail> {
+    let job = job_of(rt.alloc(), ONE_PUT)?;
+    let config = job.config.copied(rt.alloc())?;
+    let outcome = replayed(rt.alloc(), job)?;
+    let Some(order) = &outcome.order else {
+        return Err(Fail::from("no order"));
+    };
+    let verdict = check(rt.alloc(), &config, order.as_slice())?;
+    assert_eq!(rt; verdict, Verdict::Legal);
+    assert_eq!(rt; order.as_slice().len(), 93);
+    Ok(())
+}
+
+#[test]
+fn five_laps(rt: HostRuntime) -> Result<(), Fail> {
+    let alloc = rt.alloc();
+    let mut text = String::from_str(alloc, "mu 1\nreplicas 3\nring 8\nbudget 20000\nclient 0\n")?;
+    for _ in 0..40 {
+        text.push_str("put a 1\n")?;
+    }
+    text.push_str("end\n")?;
+    let outcome = left(alloc, text.as_str(), &[], &[])?;
+    for (replica, commits) in [(0, 40), (1, 0), (2, 0)] {
+        assert_eq!(rt; log(&outcome, replica).len(), 40);
+        let own = outcome
+            .commits
+            .as_slice()
+            .get(usize::from(replica))
+            .map(|commits| commits.len());
+        assert_eq!(rt; own, Some(commits));
+    }
+    Ok(())
+}
+
+/// Whether replicas 1 and 2 have all six commands, and what replica 0 has begins them.
+fn follow_on(outcome: &Outcome) -> bool {
+    log(outcome, 1).len() == 6
+        && log(outcome, 2).len() == 6
+        && is_prefix(log(outcome, 0), log(outcome, 1))
+}
+
+#[test]
+fn leader_stops_anywhere(rt: HostRuntime) -> Result<(), Fail> {
+    for steps in 0..=400 {
+        let stop = Stop { replica: 0, steps };
+        let outcome = left(rt.alloc(), TWO_CLIENTS, &[stop], &[])?;
+        assert!(rt; follow_on(&outcome), "at {steps}");
+    }
+    Ok(())
+}
+
+#[test]
+fn leader_pauses(rt: HostRuntime) -> Result<(), Fail> {
+    let pause = Pause {
+        replica: 0,
+        steps: 40,
+        rounds: 3_000,
+    };
+    let outcome = left(rt.alloc(), TWO_CLIENTS, &[], &[pause])?;
+    assert!(rt; follow_on(&outcome));
+    Ok(())
+}
+
+#[test]
+fn followers_stop_anywhere(rt: HostRuntime) -> Result<(), Fail> {
+    for steps in 0..=400 {
+        for (replica, other) in [(1, 2), (2, 1)] {
+            let stop = Stop { replica, steps };
+            let outcome = left(rt.alloc(), TWO_CLIENTS, &[stop], &[])?;
+            assert_eq!(rt; log(&outcome, 0).len(), 6, "{replica} at {steps}");
+            assert_eq!(rt; log(&outcome, other).len(), 6, "{replica} at {steps}");
+            let begins = is_prefix(log(&outcome, replica), log(&outcome, 0));
+            assert!(rt; begins, "{replica} at {steps}");
+        }
+    }
+    Ok(())
+}
+
+#[test]
+fn two_stop_at_once(rt: HostRuntime) -> Result<(), Fail> {
+    for steps in 0..=400 {
+        let stops = [0, 1].map(|replica| Stop { replica, steps });
+        let outcome = left(rt.alloc(), TWO_CLIENTS, &stops, &[])?;
+        for one in 0..3 {
+            for other in 0..3 {
+                let (one, other) = (log(&outcome, one), log(&outcome, other));
+                assert!(rt;
+                    is_prefix(one, other) || is_prefix(other, one),
+                    "at {steps}"
+                );
+            }
+        }
+    }
+    Ok(())
+}
+
+#[test]
+fn bulk_full(rt: HostRuntime) -> Result<(), Fail> {
+    let outcome = replayed(rt.alloc(), bulk(rt.alloc(), 1_500)?)?;
+    for replica in 0..3 {
+        assert_eq!(rt; log(&outcome, replica).len(), 1_500);
+    }
+    assert_eq!(rt; outcome.replies.len(), 1_500);
+    for end in outcome.ends.as_slice() {
+        assert!(rt; matches!(end, End::Finished { .. }));
+    }
+    Ok(())
+}

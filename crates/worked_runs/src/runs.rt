@@ -1,0 +1,115 @@
+//! Whole jobs, whose replicas run in threads.
+use crate::replays::{ONE_PUT, TWO_CLIENTS, job_of};
+use kv_store::Reply;
+use mu_cluster::{Gate, OpenGate, Outcome, run};
+use mu_model::End;
+use std::alloc::Global;
+use std::sync::Wait;
+use std::sync::atomic::{AtomicU64, Ordering};
+use std::test::Fail;
+use std::thread;
+use std::thread::Threads;
+
+/// Two calls of a gate, and which of them were entered.
+#[derive(Drop)]
+struct Pair {
+    one: AtomicU64,
+    other: AtomicU64,
+}
+
+/// Holds each of three pairs of calls until both calls of the pair were entered.
+#[derive(Drop)]
+struct Crossed {
+    first: Pair,
+    second: Pair,
+    third: Pair,
+    failures: AtomicU64,
+}
+
+impl Pair {
+    fn new() -> Pair {
+        Pair {
+            one: AtomicU64::new(0),
+            other: AtomicU64::new(0),
+        }
+    }
+}
+
+/// Marks that a call was entered, and waits for the other one of its pair. Whether that one came.
+fn meet(mine: &AtomicU64, other: &AtomicU64) -> bool {
+    mine.store(1, Ordering::SeqCst);
+    for _ in 0..100_000_000u64 {
+        if other.load(Ordering::SeqCst) > 0 {
+            return true;
+        }
+        thread::yield_now();
+    }
+    false
+}
+
+impl Gate for Crossed {
+    fn pass(&self, replica: u8, step: u32) {
+        let met = match (replica, step) {
+            (0, 9) => meet(&self.first.one, &self.first.other),
+            (1, 5) => meet(&self.first.other, &self.first.one),
+            (1, 20) => meet(&self.second.one, &self.second.other),
+            (2, 20) => meet(&self.second.other, &self.second.one),
+            (2, 30) => meet(&self.third.one, &self.third.other),
+            (0, 40) => meet(&self.third.other, &self.third.one),
+            _ => true,
+        };
+        if !met {
+            self.failures.fetch_add(1, Ordering::SeqCst);
+        }
+    }
+}
+
+/// What the job of a text leaves, whose replicas run in threads.
+fn ran<R: Threads + Wait + Sync, G: Gate + Sync>(
+    rt: &R,
+    alloc: Global,
+    text: &str,
+    gate: &G,
+) -> Result<Outcome, Fail> {
+    Ok(run(rt, alloc, job_of(alloc, text)?, gate)?)
+}
+
+/// Whether one list begins the other.
+fn is_prefix(one: &[u16], other: &[u16]) -> bool {
+    let both = one.len().min(other.len());
+    one[..both] == other[..both]
+}
+
+#[test]
+fn three_replicas_run_at_once(rt: HostRuntime) -> Result<(), Fail> {
+    let gate = Crossed {
+        first: Pair::new(),
+        second: Pair::new(),
+        third: Pair::new(),
+        failures: AtomicU64::new(0),
+    };
+    let outcome = ran(&rt, rt.alloc(), TWO_CLIENTS, &gate)?;
+    assert_eq!(rt; gate.failures.load(Ordering::SeqCst), 0);
+    assert!(rt; outcome.order.is_none() && outcome.gathered.is_some());
+    assert_eq!(rt; (outcome.logs.len(), outcome.journals.len()), (3, 3));
+    for one in outcome.logs.as_slice() {
+        for other in outcome.logs.as_slice() {
+            assert!(rt; is_prefix(one.as_slice(), other.as_slice()));
+        }
+    }
+    Ok(())
+}
+
+#[test]
+fn one_replica_runs(rt: HostRuntime) -> Result<(), Fail> {
+    let outcome = ran(&rt, rt.alloc(), ONE_PUT, &OpenGate)?;
+    let logs = outcome.logs.as_slice().iter().map(|log| log.len());
+    assert!(rt; logs.eq([1]));
+    let journals = outcome.journals.as_slice().iter();
+    assert!(rt; journals.map(|journal| journal.as_slice().len()).eq([93]));
+    let commits = outcome.commits.as_slice().iter();
+    assert!(rt; commits.map(|commits| commits.len()).eq([1]));
+    assert!(rt; matches!(outcome.ends.as_slice(), [End::Finished { .. }]));
+    assert!(rt; matches!(outcome.replies.as_slice(), [Reply::Done]));
+    Ok(())
+}
