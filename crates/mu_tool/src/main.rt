@@ -1,32 +1,13 @@
 //! `mu`: replicas that agree on a log of commands, run from the command line.
 #![tactic(auto)]
 
-mod asking;
-#[cfg(test)]
-mod book_tests;
-mod booking;
-#[cfg(test)]
-mod desk_tests;
-mod replaying;
-#[cfg(test)]
-mod run_tests;
-mod running;
-mod serving;
-mod statuses;
-mod summing;
-#[cfg(test)]
-mod tests;
-mod top;
-mod tracing;
-
-pub use asking::{Asked, INPUT_LIMIT, Task, limits_are_stated, said_unread};
-use mu_cluster::OpenGate;
+use mu_gate::OpenGate;
 use mu_io::{StdSink, StdSource};
+pub use mu_top::{Answered, answer, mu, said_unread};
 use std::env;
 use std::io::ErrorKind;
 use std::process::ExitCode;
 use std::rt::Env;
-pub use top::{Answered, answer, mu};
 
 /// The words of the command line after the program's own name.
 ///

@@ -1,6 +1,0 @@
-use Rattle.mu_tool.proofs.Completed.{threaded_of}
-use Rattle.mu_tool.proofs.running.ran.Goals as goal
-
-pub returns-clause-run : goal.returns-clause-run
-returns-clause-run g c =
-    threaded_of c.in_ok-run.field-0 c.in_ok-job.job c.in_ok-run.ensures.job c.in_ok-job.ensures.config c.in_ok-job.ensures.heads c.in_ok-run.ensures.run c.in_ok-run.ensures.agrees

@@ -1,0 +1,40 @@
+-- What a run of the job that was read, or that is stated, comes to.
+use Rattle.std.proofs.Common.{◌≡◌, ◌≤◌, length, subst, sym}
+use Rattle.match_book.specs.Ledgers.{HaveDifferentIds}
+use Rattle.match_book.proofs.Session.{session_differs}
+use Rattle.mu_input.specs.Heads.{HaveHeads}
+use Rattle.mu_input.specs.declared.job.Job.{Job}
+use Rattle.mu_model.specs.Contents.{IsConfig}
+use Rattle.mu_outcome.specs.declared.outcome.Outcome.{Outcome}
+use Rattle.mu_outcome.specs.Entries.{commands_in, longest}
+use Rattle.mu_outcome.specs.Outcomes.{Agrees, IsRun}
+use Rattle.mu_outcome.specs.Runs.{IsThreadRun}
+use Rattle.mu_outcome.proofs.Completing.{completes_over, few_told, session_told}
+use Rattle.mu_cluster.proofs.Agreeing.{over_order}
+use Rattle.mu_top.specs.Commands.{IsReplay, IsThreaded}
+
+pub replay_of : (o : Outcome) (job : Job) → o.job ≡ job → IsConfig job.config → HaveHeads job.config.width job.commands job.config.rows → IsRun o → Agrees o → IsReplay o
+replay_of o job same good have run agrees = record {
+  run = run;
+  agrees = agrees;
+  completes = completes_over o run.order.events (subst (λ (j : Job). IsConfig j.config) (sym same) good) (subst (λ (j : Job). HaveHeads j.config.width j.commands j.config.rows) (sym same) have) (over_order o run) agrees;
+}
+
+pub threaded_of : (o : Outcome) (job : Job) → o.job ≡ job → IsConfig job.config → HaveHeads job.config.width job.commands job.config.rows → IsThreadRun o → Agrees o → IsThreaded o
+threaded_of o job same good have run agrees = record {
+  run = run;
+  agrees = agrees;
+  completes = completes_over o run.events (subst (λ (j : Job). IsConfig j.config) (sym same) good) (subst (λ (j : Job). HaveHeads j.config.width j.commands j.config.rows) (sym same) have) run.over agrees;
+}
+
+-- the longest log of a replay has no more commands than the job
+pub few_of : (o : Outcome) (job : Job) → o.job ≡ job → IsConfig job.config → HaveHeads job.config.width job.commands job.config.rows → IsRun o → Agrees o → length (commands_in o.job (longest o.logs)) ≤ length job.commands
+few_of o job same good have run agrees =
+    subst (λ (j : Job). length (commands_in o.job (longest o.logs)) ≤ length j.commands) same
+    (few_told o run.order.events (subst (λ (j : Job). IsConfig j.config) (sym same) good) (subst (λ (j : Job). HaveHeads j.config.width j.commands j.config.rows) (sym same) have) (over_order o run) agrees)
+
+-- and their ids differ
+pub different_of : (o : Outcome) (job : Job) → o.job ≡ job → IsConfig job.config → HaveHeads job.config.width job.commands job.config.rows → IsRun o → Agrees o → HaveDifferentIds (commands_in o.job (longest o.logs))
+different_of o job same good have run agrees =
+    session_differs (commands_in o.job (longest o.logs))
+    (session_told o run.order.events (subst (λ (j : Job). IsConfig j.config) (sym same) good) (subst (λ (j : Job). HaveHeads j.config.width j.commands j.config.rows) (sym same) have) (over_order o run) agrees)

@@ -1,0 +1,20 @@
+use Rattle.std.proofs.Common.{subst, sym}
+use Rattle.mu_top.specs.Desks.{IsServed}
+use Rattle.mu_top.proofs.Arrived.{heads_collected}
+use Rattle.mu_top.proofs.Completed.{replay_of}
+use Rattle.mu_top.proofs.serving.served.Goals as goal
+
+pub replay-requires-clause-heads : goal.replay-requires-clause-heads
+replay-requires-clause-heads g c =
+    heads_collected c.in_ok-given.given c.in_ok-collected.collected c.in_ok-given.ensures.config c.in_ok-given.ensures.desk c.in_ok-given.ensures.heads c.in_ok-given.ensures.rows c.in_ok-collected.ensures.arrival c.in_ok-collected.ensures.same
+
+pub returns-clause-replay : goal.returns-clause-replay
+returns-clause-replay g c =
+    replay_of c.in_ok-replay.field-0 c.in_ok-collected.collected c.in_ok-replay.ensures.job c.in_ok-collected.ensures.config
+    (heads_collected c.in_ok-given.given c.in_ok-collected.collected c.in_ok-given.ensures.config c.in_ok-given.ensures.desk c.in_ok-given.ensures.heads c.in_ok-given.ensures.rows c.in_ok-collected.ensures.arrival c.in_ok-collected.ensures.same)
+    c.in_ok-replay.ensures.run c.in_ok-replay.ensures.agrees
+
+pub returns-clause-job : goal.returns-clause-job
+returns-clause-job g c =
+    subst (IsServed c.args.bytes.now) (sym c.in_ok-replay.ensures.job)
+    (record { given = c.in_ok-given.given; fits = c.in_ok-given.ensures.reading; arrival = c.in_ok-collected.ensures.arrival; same = c.in_ok-collected.ensures.same })

@@ -1,0 +1,59 @@
+-- What the words of the command line ask for.
+use Rattle.std.specs.Prelude.{ℕ, ◌≤◌, List, [], ◌∷◌, codes, string_bytes, None, Some, if◌then◌else◌, ⊤}
+use Rattle.std.specs.declared.option.Option.{Option}
+use Rattle.std.specs.declared.string.String.{String}
+use Rattle.std.specs.declared.alloc.Global.{Global}
+use Rattle.std.specs.Str.{bytes_eq}
+use Rattle.mu_input.specs.declared.TheConstants.{MOST_COMMANDS, TRACE_LIMIT}
+use Rattle.mu_text.specs.Numbers.{number_of, within}
+use Rattle.mu_top.specs.declared.asking.Task.{Task}
+use Rattle.mu_top.specs.declared.asking.Asked.{Asked}
+use Rattle.mu_top.specs.declared.asking.TheConstants.{INPUT_LIMIT}
+
+-- what one word asks for
+abbrev pub task_named : List ℕ → Option Task
+task_named word =
+    if bytes_eq word (codes "replay") then Some Task.Replay
+    else if bytes_eq word (codes "run") then Some Task.Run
+    else if bytes_eq word (codes "trace") then Some Task.Trace
+    else if bytes_eq word (codes "check") then Some Task.Check
+    else if bytes_eq word (codes "desk") then Some Task.Desk
+    else if bytes_eq word (codes "book") then Some Task.Book
+    else None
+
+-- a task with its input, where one is named
+abbrev pub with_input : Option Task → Option Asked
+with_input None = None
+with_input (Some task) = Some (Asked.Input task)
+
+-- the stated large job of so many commands, where there is a number
+abbrev pub of_count : Option ℕ → Option Asked
+of_count None = None
+of_count (Some count) = Some (Asked.Bulk count)
+
+-- what two words ask for: `bulk` with a number up to the most commands of a job
+abbrev pub bulk_asked : List ℕ → List ℕ → Option Asked
+bulk_asked word count =
+    if bytes_eq word (codes "bulk") then of_count (within 0 MOST_COMMANDS (number_of count))
+    else None
+
+-- what the words ask for: one word, the name of a task, or two
+abbrev pub asked_of : List (String Global) → Option Asked
+asked_of [] = None
+asked_of (word ∷ []) = with_input (task_named (string_bytes word))
+asked_of (word ∷ other ∷ []) = bulk_asked (string_bytes word) (string_bytes other)
+asked_of (word ∷ other ∷ more ∷ words) = None
+
+-- no more commands than a job may have
+abbrev pub IsInReach : Asked → Type 0
+IsInReach (Asked.Input task) = ⊤
+IsInReach (Asked.Bulk count) = count ≤ MOST_COMMANDS
+
+-- the most bytes that the input of a task may have
+abbrev pub limit_of : Task → ℕ
+limit_of Task.Replay = INPUT_LIMIT
+limit_of Task.Run = INPUT_LIMIT
+limit_of Task.Trace = INPUT_LIMIT
+limit_of Task.Check = TRACE_LIMIT
+limit_of Task.Desk = INPUT_LIMIT
+limit_of Task.Book = INPUT_LIMIT

@@ -1,0 +1,129 @@
+//! What the words of the command line ask for.
+ghost use Rattle.std.specs.Prelude.{◌≡◌, ◌≢◌, IfSome, None, Some};
+ghost use Rattle.std.specs.declared.io.ErrorKind.TheVariants.{InvalidData};
+ghost use Rattle.mu_input.specs.declared.TheConstants.{TRACE_LIMIT};
+ghost use Rattle.mu_report.specs.declared.said.Said.TheVariants.{NoMemory, Usage};
+ghost use Rattle.mu_report.specs.Said.{IsShort};
+ghost use Rattle.mu_top.specs.declared.serving.TheConstants.{SENDERS};
+ghost use Rattle.mu_top.specs.Words.{task_named, asked_of as asked_of_words, bulk_asked, limit_of, IsInReach};
+
+use mu_input::{MOST_COMMANDS, TRACE_LIMIT};
+use mu_report::Said;
+use mu_text::limited;
+use std::io::ErrorKind;
+
+/// The most bytes that the input of a job may have.
+pub const INPUT_LIMIT: usize = 1_048_576;
+
+/// The limits, and the cause of a desk, are the numbers that are stated.
+pub fn limits_are_stated()
+    ensures input { INPUT_LIMIT ≡ 1048576 }
+    ensures trace { TRACE_LIMIT ≡ 67108864 }
+    ensures senders { SENDERS ≡ 16 }
+{}
+
+/// What the program is asked to do with its input.
+#[derive(Clone, Copy, Debug, PartialEq, Eq)]
+pub enum Task {
+    /// `replay`: run a job in turns.
+    Replay,
+    /// `run`: run a job with each replica in a thread of its own.
+    Run,
+    /// `trace`: run a job in turns, and tell its events.
+    Trace,
+    /// `check`: judge a trace.
+    Check,
+    /// `desk`: run a job in turns whose commands come from clients that send at once.
+    Desk,
+    /// `book`: run a job in turns, and tell the book of orders after its commands.
+    Book,
+}
+
+/// What the program is asked.
+#[derive(Clone, Copy, Debug, PartialEq, Eq)]
+pub enum Asked {
+    /// Something with its input.
+    Input(Task),
+    /// `bulk N`: run the stated large job of so many commands in turns.
+    Bulk(u16),
+}
+
+impl Task {
+    /// The most bytes that the input may have.
+    pub fn limit(self) -> usize
+        ensures { result ≡ limit_of self }
+    {
+        match self {
+            Task::Replay => INPUT_LIMIT,
+            Task::Run => INPUT_LIMIT,
+            Task::Trace => INPUT_LIMIT,
+            Task::Check => TRACE_LIMIT,
+            Task::Desk => INPUT_LIMIT,
+            Task::Book => INPUT_LIMIT,
+        }
+    }
+}
+
+/// What the words ask for, if they ask for anything: one word that names a task, or `bulk` and a
+/// number.
+pub fn asked_of(words: &[String]) -> Option<Asked>
+    ensures exact { result ≡ asked_of_words words.now }
+    ensures reach { IfSome result IsInReach }
+{
+    match words {
+        [word] => named_task(word.as_bytes()).map(Asked::Input),
+        [word, count] => asked_bulk(word.as_bytes(), count.as_bytes()),
+        _ => None,
+    }
+}
+
+/// The stated large job of so many commands, if the first word is `bulk` and the second spells a
+/// number from 0 to 1,500.
+fn asked_bulk(word: &[u8], count: &[u8]) -> Option<Asked>
+    ensures exact { result ≡ bulk_asked word.now count.now }
+    ensures reach { IfSome result IsInReach }
+{
+    if word == b"bulk".as_slice() {
+        match limited(count, 0, MOST_COMMANDS as u32) {
+            Some(count) => Some(Asked::Bulk(count as u16)),
+            None => None,
+        }
+    } else {
+        None
+    }
+}
+
+/// The task of this name.
+fn named_task(word: &[u8]) -> Option<Task>
+    ensures { result ≡ task_named word.now }
+{
+    if word == b"replay".as_slice() {
+        Some(Task::Replay)
+    } else if word == b"run".as_slice() {
+        Some(Task::Run)
+    } else if word == b"trace".as_slice() {
+        Some(Task::Trace)
+    } else if word == b"check".as_slice() {
+        Some(Task::Check)
+    } else if word == b"desk".as_slice() {
+        Some(Task::Desk)
+    } else if word == b"book".as_slice() {
+        Some(Task::Book)
+    } else {
+        None
+    }
+}
+
+/// What is said where the words couldn't be read: the usage where one of them is no text, since no
+/// command has such a word, else want of memory.
+pub fn said_unread(kind: ErrorKind) -> Said
+    ensures no_text { kind ≡ InvalidData → result ≡ Usage }
+    ensures no_memory { kind ≢ InvalidData → result ≡ NoMemory }
+    ensures short { IsShort result }
+{
+    if kind == ErrorKind::InvalidData {
+        Said::Usage
+    } else {
+        Said::NoMemory
+    }
+}

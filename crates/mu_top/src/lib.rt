@@ -1,0 +1,17 @@
+//! The top call of `mu`: what the words of the command line ask for, done over the bytes of the input,
+//! and told to the bytes of the output.
+#![tactic(auto)]
+
+mod asking;
+mod booking;
+mod replaying;
+mod running;
+mod serving;
+mod statuses;
+mod summing;
+mod top;
+mod tracing;
+
+pub use asking::{Asked, INPUT_LIMIT, Task, limits_are_stated, said_unread};
+pub use serving::SENDERS;
+pub use top::{Answered, answer, mu};

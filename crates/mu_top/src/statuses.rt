@@ -1,0 +1,34 @@
+//! The status of the program after what it says.
+ghost use Rattle.std.specs.Prelude.{◌≡◌};
+ghost use Rattle.mu_top.specs.Answers.{status_for as status_for_said, verdict_status as status_of_verdict};
+
+use mu_outcome::{Status, Verdict};
+use mu_report::{Said, status};
+
+/// The status of what is said, once it is written.
+pub(crate) fn status_for(said: &Said) -> Status
+    ensures { result ≡ status_for_said said.now }
+{
+    match said {
+        Said::Usage => Status::Usage,
+        Said::Refused { .. } => Status::Refused,
+        Said::Ran(outcome) => status(outcome),
+        Said::Traced(outcome) => status(outcome),
+        Said::Summed(outcome) => status(outcome),
+        Said::Booked(outcome, _) => status(outcome),
+        Said::Judged { verdict, .. } => verdict_status(verdict),
+        Said::ReadFault => Status::ReadFault,
+        Said::NoMemory => Status::NoMemory,
+        Said::TooLong => Status::TooLong,
+    }
+}
+
+/// The status of a verdict.
+fn verdict_status(verdict: &Verdict) -> Status
+    ensures { result ≡ status_of_verdict verdict.now }
+{
+    match verdict {
+        Verdict::Legal => Status::Done,
+        Verdict::Illegal { .. } => Status::Illegal,
+    }
+}

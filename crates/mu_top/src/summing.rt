@@ -1,0 +1,39 @@
+//! `bulk N`: the stated large job run in turns, and summed up.
+ghost use Rattle.std.specs.Prelude.{◌≡◌, ◌≤◌, IfOk};
+ghost use Rattle.mu_input.specs.Bulk.{bulk_job};
+ghost use Rattle.mu_input.specs.declared.TheConstants.{MOST_COMMANDS};
+ghost use Rattle.mu_report.specs.Said.{IsShort};
+ghost use Rattle.mu_top.specs.Commands.{IsReplay, Sums};
+
+use mu_cluster::replay;
+use mu_input::bulk;
+use mu_model::NoMemory;
+use mu_outcome::Outcome;
+use mu_report::Said;
+use std::alloc::Global;
+
+/// What there is to say of a replay of the stated job of so many commands.
+pub(crate) fn told_of_bulk(alloc: Global, count: u16) -> Said
+    requires { count ≤ MOST_COMMANDS }
+    ensures said { Sums count result }
+    ensures short { IsShort result }
+{
+    match stated(alloc, count) {
+        Ok(outcome) => Said::Summed(outcome),
+        Err(_) => Said::NoMemory,
+    }
+}
+
+/// The replay of the stated job of so many commands.
+///
+/// # Errors
+///
+/// Want of memory alone, before the first step.
+fn stated(alloc: Global, count: u16) -> Result<Outcome, NoMemory>
+    requires { count ≤ MOST_COMMANDS }
+    ensures job { IfOk result (λ outcome. outcome.job ≡ bulk_job count) }
+    ensures replay { IfOk result IsReplay }
+{
+    let job = bulk(alloc, count)?;
+    Ok(replay(alloc, job)?)
+}

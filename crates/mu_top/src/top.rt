@@ -1,0 +1,142 @@
+//! The top call: from the words of the command line and the bytes of the input to the bytes of the
+//! output.
+ghost use Rattle.std.specs.Prelude.{◌≡◌, ◌≤◌, length, IfSome};
+ghost use Rattle.mu_report.specs.Said.{IsShort};
+ghost use Rattle.mu_top.specs.Answers.{Does, Tells, TellsOf, Wrote};
+ghost use Rattle.mu_top.specs.Words.{asked_of as asked_of_words, limit_of, IsInReach};
+
+use crate::asking::{Asked, Task, asked_of};
+use crate::booking::told_of_book;
+use crate::replaying::told_of_replay;
+use crate::running::told_of_run;
+use crate::serving::told_of_desk;
+use crate::statuses::status_for;
+use crate::summing::told_of_bulk;
+use crate::tracing::told_of_trace;
+use mu_cluster::Gate;
+use mu_io::{ReadEnd, Sink, Source, WriteFault, read_all};
+use mu_judging::judged;
+use mu_outcome::Status;
+use mu_report::{Said, printed};
+use std::alloc::Global;
+use std::sync::Wait;
+use std::thread::Threads;
+
+/// What the top call answers.
+#[derive(Drop)]
+pub struct Answered {
+    /// The status that the program ends with: 0 done or legal, 1 usage, 2 refused, 3 unfinished,
+    /// 4 read fault, 5 write fault, 6 want of memory, 7 illegal, 8 too long.
+    pub status: u8,
+    /// What was to be said.
+    pub said: Said,
+    /// How many bytes of its text were written: all of them unless the status is 5.
+    pub taken: usize,
+}
+
+/// Does what the words ask for: reads all of the source where they need input, runs the job or
+/// judges the trace, and writes what there is to say. Memory is wanted before the first step of a
+/// replica and before the first event is judged alone. Before each turn of `run`, and
+/// before each command that comes to a `desk`, the gate is called.
+///
+/// The words are `replay`, `run`, `trace`, `check`, `desk` or `book`, each alone, or `bulk` with a
+/// number.
+pub fn mu<R: Threads + Wait + Sync, S: Source, K: Sink, G: Gate + Sync>(
+    rt: &R,
+    alloc: Global,
+    words: &[String],
+    source: &mut S,
+    sink: &mut K,
+    gate: &G,
+) -> Answered
+    ensures said { Tells (asked_of_words words.now) (S.left source.old) (S.left source.new)
+        (S.faults source.old) (S.faults source.new) result.said }
+    ensures wrote { Wrote (K.written sink.old) (K.written sink.new) (K.faults sink.old) (K.faults sink.new)
+        result.said result.status result.taken }
+{
+    answer(sink, told(rt, alloc, asked_of(words), source, gate))
+}
+
+/// Writes what there is to say, and answers how that went.
+pub fn answer<K: Sink>(sink: &mut K, said: Said) -> Answered
+    requires { IsShort said }
+    ensures said { result.said ≡ said }
+    ensures wrote { Wrote (K.written sink.old) (K.written sink.new) (K.faults sink.old) (K.faults sink.new)
+        result.said result.status result.taken }
+{
+    match printed(sink, &said) {
+        Ok(taken) => Answered {
+            status: status_for(&said).code(),
+            said,
+            taken,
+        },
+        Err(WriteFault { taken }) => Answered {
+            status: Status::WriteFault.code(),
+            said,
+            taken,
+        },
+    }
+}
+
+/// What there is to say where this is asked of the source.
+fn told<R: Threads + Wait + Sync, S: Source, G: Gate + Sync>(
+    rt: &R,
+    alloc: Global,
+    asked: Option<Asked>,
+    source: &mut S,
+    gate: &G,
+) -> Said
+    requires { IfSome asked IsInReach }
+    ensures said { Tells asked (S.left source.old) (S.left source.new)
+        (S.faults source.old) (S.faults source.new) result }
+    ensures short { IsShort result }
+{
+    match asked {
+        None => Said::Usage,
+        Some(Asked::Bulk(count)) => told_of_bulk(alloc, count),
+        Some(Asked::Input(task)) => told_of_input(rt, alloc, task, source, gate),
+    }
+}
+
+/// What there is to say where this is asked of all that the source has left.
+fn told_of_input<R: Threads + Wait + Sync, S: Source, G: Gate + Sync>(
+    rt: &R,
+    alloc: Global,
+    task: Task,
+    source: &mut S,
+    gate: &G,
+) -> Said
+    ensures said { TellsOf task (S.left source.old) (S.left source.new)
+        (S.faults source.old) (S.faults source.new) result }
+    ensures short { IsShort result }
+{
+    let bytes = match read_all(alloc, source, task.limit()) {
+        Ok(bytes) => bytes,
+        Err(ReadEnd::Fault) => return Said::ReadFault,
+        Err(ReadEnd::TooLong) => return Said::TooLong,
+        Err(ReadEnd::NoMemory) => return Said::NoMemory,
+    };
+    told_of_bytes(rt, alloc, task, bytes.as_slice(), gate)
+}
+
+/// What there is to say where this is asked of these bytes.
+fn told_of_bytes<R: Threads + Wait + Sync, G: Gate + Sync>(
+    rt: &R,
+    alloc: Global,
+    task: Task,
+    bytes: &[u8],
+    gate: &G,
+) -> Said
+    requires { length bytes.now ≤ limit_of task }
+    ensures said { Does task bytes.now result }
+    ensures short { IsShort result }
+{
+    match task {
+        Task::Replay => told_of_replay(alloc, bytes),
+        Task::Run => told_of_run(rt, alloc, bytes, gate),
+        Task::Trace => told_of_trace(alloc, bytes),
+        Task::Check => judged(alloc, bytes),
+        Task::Desk => told_of_desk(rt, alloc, bytes, gate),
+        Task::Book => told_of_book(alloc, bytes),
+    }
+}

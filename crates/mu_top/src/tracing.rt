@@ -1,0 +1,27 @@
+//! `trace`: a job run in turns, and its events told.
+ghost use Rattle.std.specs.Prelude.{};
+ghost use Rattle.mu_report.specs.Said.{IsShort};
+ghost use Rattle.mu_top.specs.Commands.{Traces};
+
+use crate::replaying::{replayed, untold};
+use mu_report::{Said, is_countable};
+use std::alloc::Global;
+
+/// What there is to say of the events of a replay of the job of these bytes. No job of the grammar
+/// has so many that the bytes of its trace can't be counted; such a trace would be told as want of
+/// memory.
+pub(crate) fn told_of_trace(alloc: Global, bytes: &[u8]) -> Said
+    ensures said { Traces bytes.now result }
+    ensures short { IsShort result }
+{
+    match replayed(alloc, bytes) {
+        Ok(outcome) => {
+            if is_countable(&outcome) {
+                Said::Traced(outcome)
+            } else {
+                Said::NoMemory
+            }
+        }
+        Err(end) => untold(end),
+    }
+}

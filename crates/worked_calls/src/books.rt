@@ -1,0 +1,63 @@
+//! The order book through the top call.
+use crate::calling::told;
+use std::test::Fail;
+
+/// Two clients' orders in one symbol: two buys, of which one is cancelled too late, and two sells.
+const ORDER_BOOK: &str =
+    "mu 1\nreplicas 3\nring 8\nbudget 20000\nclient 0\nput X B100x5\nput X B101x2\nput X C1\nclient 1\nput X S102x4\nput X S100x6\nget X\nend\n";
+
+/// What is said of it.
+const ORDER_BOOK_SAID: &str = "book 1
+log 0 entries 6 commits 6 finished
+log 1 entries 6 commits 0 finished
+log 2 entries 6 commits 0 finished
+trades 2
+3 0.2 1.2 X 101x2
+3 0.1 1.2 X 100x4
+resting 1
+X S102x4 1.1
+status 0
+";
+
+/// No commands.
+const NO_COMMANDS: &str = "mu 1\nreplicas 3\nring 8\nbudget 1000\nend\n";
+
+/// What is said of it.
+const NO_COMMANDS_SAID: &str = "book 1
+log 0 entries 0 commits 0 finished
+log 1 entries 0 commits 0 finished
+log 2 entries 0 commits 0 finished
+trades 0
+resting 0
+status 0
+";
+
+/// Of two sells at one price the earlier one trades; no order has a price of 0 or a leading zero.
+const EQUAL_PRICES: &str =
+    "mu 1\nreplicas 1\nring 8\nbudget 20000\nclient 0\nput X S5x1\nput X B5x1\nput X B0x1\nclient 1\nput X S5x1\nput X B5x01\nend\n";
+
+/// What is said of it.
+const EQUAL_PRICES_SAID: &str = "book 1
+log 0 entries 5 commits 5 finished
+trades 1
+2 0.2 0.1 X 5x1
+resting 1
+X S5x1 1.1
+status 0
+";
+
+#[test]
+fn order_book(rt: HostRuntime) -> Result<(), Fail> {
+    let rows = [
+        (ORDER_BOOK, 0, ORDER_BOOK_SAID),
+        (NO_COMMANDS, 0, NO_COMMANDS_SAID),
+        (EQUAL_PRICES, 0, EQUAL_PRICES_SAID),
+        ("mu 1\nreplicas 8\n", 2, "refused line 2 cause 2\n"),
+    ];
+    for (input, status, text) in rows {
+        let told = told(&rt, rt.alloc(), "book", input)?;
+        assert_eq!(rt; told.status, status, "{text}");
+        assert_eq!(rt; told.sink.written(), text.as_bytes(), "{text}");
+    }
+    Ok(())
+}

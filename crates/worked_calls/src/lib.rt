@@ -1,0 +1,14 @@
+//! The worked rows of the top call: words and bytes in memory, and what the call answers and writes,
+//! compared with texts and figures from outside.
+#![tactic(auto)]
+
+#[cfg(test)]
+mod books;
+#[cfg(test)]
+mod calling;
+#[cfg(test)]
+mod calls;
+#[cfg(test)]
+mod desks;
+#[cfg(test)]
+mod runs;
