@@ -1,4 +1,5 @@
 pub mod BookLines
+pub mod LiveLines
 pub mod Lists
 pub mod Prints
 pub mod Sizes

@@ -11,7 +11,7 @@ use Rattle.mu_input.specs.declared.job.Job.{Job}
 use Rattle.mu_outcome.specs.declared.outcome.Outcome.{Outcome}
 use Rattle.mu_outcome.specs.Entries.{commands_of, commands_in, longest}
 use Rattle.mu_outcome.specs.Outcomes.{log_of, status_of}
-use Rattle.mu_report.specs.Report.{entry_line, entry_lines, log_line, log_lines, logs_lines, answer_line, answer_lines, replies_lines, report_lines, gone_line, lines_of_entry}
+use Rattle.mu_report.specs.Report.{entry_line, entry_lines, log_line, log_lines, logs_lines, answer_line, answer_lines, body_lines, replies_lines, report_lines, gone_line, lines_of_entry}
 
 -- the line of the next element, and those of the others
 pub map-drop : {A : Type 0} (f : A → List ℕ) (commands : List A) (i : ℕ) (command : A) (line : List ℕ) → i < length commands
@@ -110,11 +110,15 @@ nil-longer [] = refl
 nil-longer (x ∷ xs) = grind (arith, nat_tests)
 
 -- the version, and what follows
-pub report_lines-parts : (o : Outcome) (version : ℕ) (first : List ℕ) (status : ℕ) (last : List ℕ) → version ≡ o.job.config.version → first ≡ codes "report " ++ decimal version
-    → status ≡ status_of o → last ≡ codes "status " ++ decimal status
-    → report_lines o ≡ (first ∷ []) ++ (logs_lines o 0 o.job.config.replicas ++ (replies_lines o ++ last ∷ []))
-report_lines-parts o version first status last is spelled ended closed =
-    ap (λ n. (codes "report " ++ decimal n) ∷ (logs_lines o 0 o.job.config.replicas ++ (replies_lines o ++ (codes "status " ++ decimal (status_of o)) ∷ []))) (sym is)
-    ∙ ap (λ l. l ∷ (logs_lines o 0 o.job.config.replicas ++ (replies_lines o ++ (codes "status " ++ decimal (status_of o)) ∷ []))) (sym spelled)
-    ∙ ap (λ n. first ∷ (logs_lines o 0 o.job.config.replicas ++ (replies_lines o ++ (codes "status " ++ decimal n) ∷ []))) (sym ended)
-    ∙ ap (λ l. first ∷ (logs_lines o 0 o.job.config.replicas ++ (replies_lines o ++ l ∷ []))) (sym closed)
+pub body_lines-parts : (o : Outcome) (version : ℕ) (first : List ℕ) → version ≡ o.job.config.version → first ≡ codes "report " ++ decimal version
+    → body_lines o ≡ (first ∷ []) ++ (logs_lines o 0 o.job.config.replicas ++ replies_lines o)
+body_lines-parts o version first is spelled =
+    ap (λ n. (codes "report " ++ decimal n) ∷ (logs_lines o 0 o.job.config.replicas ++ replies_lines o)) (sym is)
+    ∙ ap (λ l. l ∷ (logs_lines o 0 o.job.config.replicas ++ replies_lines o)) (sym spelled)
+
+-- the status, and what was before
+pub report_lines-parts : (o : Outcome) (status : ℕ) (last : List ℕ) → status ≡ status_of o → last ≡ codes "status " ++ decimal status
+    → report_lines o ≡ body_lines o ++ (last ∷ [])
+report_lines-parts o status last ended closed =
+    ap (λ n. body_lines o ++ ((codes "status " ++ decimal n) ∷ [])) (sym ended)
+    ∙ ap (λ l. body_lines o ++ (l ∷ [])) (sym closed)

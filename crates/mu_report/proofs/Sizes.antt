@@ -12,7 +12,7 @@ use Rattle.mu_outcome.specs.declared.outcome.Outcome.{Outcome}
 use Rattle.mu_outcome.specs.Entries.{commands_of, commands_in, longest}
 use Rattle.mu_outcome.specs.Outcomes.{log_of, or_empty, status_of}
 use Rattle.mu_report.specs.declared.line.TheConstants.{LINE_BYTES}
-use Rattle.mu_report.specs.Report.{entry_line, entry_lines, gone_line, lines_of_entry, log_lines, logs_lines, answer_lines, replies_lines, report_lines, HasShortLists}
+use Rattle.mu_report.specs.Report.{entry_line, entry_lines, gone_line, lines_of_entry, log_lines, logs_lines, answer_lines, body_lines, replies_lines, report_lines, HasShortLists}
 
 chosen : (b : Bool) (xs : List Request) (most : ℕ) → length xs ≤ most → length (cond b xs []) ≤ most
 chosen true xs most bound = bound
@@ -86,16 +86,21 @@ length-logs_lines o r zero short = omega arith
 length-logs_lines o r (suc replicas) short =
     omega (arith, length-logs_lines o (r + 1) replicas short, length-log_lines o r short, length-append (log_lines o r) (logs_lines o (r + 1) replicas))
 
--- the bytes of the whole report can be counted
-pub report_fits : (o : Outcome) → HasShortLists o → o.job.config.replicas < 2 ^ 8 → 0 + LINE_BYTES * length (report_lines o) < 2 ^ 64
-report_fits o short few =
+pub length-body_lines : (o : Outcome) → HasShortLists o → length (body_lines o) ≤ o.job.config.replicas * (2 ^ 48 + 1) + 2 ^ 48 + 2
+length-body_lines o short =
     let replicas = o.job.config.replicas in
     let commands = commands_in o.job (longest o.logs) in
     let logs : length (logs_lines o 0 replicas) ≤ replicas * (2 ^ 48 + 1) = length-logs_lines o 0 replicas short in
     let answers : length (answer_lines commands o.replies) ≤ length commands = length-answer_lines commands o.replies in
     let asked : length commands ≤ 2 ^ 48 = few_answers o short in
-    let status : List (List ℕ) = (codes "status " ++ decimal (status_of o)) ∷ [] in
-    let ending : length (replies_lines o ++ status) ≡ length (replies_lines o) + 1 = length-append (replies_lines o) status in
-    let whole : length (report_lines o) ≡ 1 + (length (logs_lines o 0 replicas) + length (replies_lines o ++ status)) =
-    ap (λ n. suc n) (length-append (logs_lines o 0 replicas) (replies_lines o ++ status)) ∙ omega arith in
+    let whole : length (body_lines o) ≡ 1 + (length (logs_lines o 0 replicas) + length (replies_lines o)) = ap (λ n. suc n) (length-append (logs_lines o 0 replicas) (replies_lines o)) ∙ omega arith in
     omega arith
+
+-- the bytes of the report can be counted
+pub body_fits : (o : Outcome) → HasShortLists o → o.job.config.replicas < 2 ^ 8 → 0 + LINE_BYTES * length (body_lines o) < 2 ^ 64
+body_fits o short few = omega (arith, length-body_lines o short, few)
+
+pub report_fits : (o : Outcome) → HasShortLists o → o.job.config.replicas < 2 ^ 8 → 0 + LINE_BYTES * length (report_lines o) < 2 ^ 64
+report_fits o short few =
+    let status : List (List ℕ) = (codes "status " ++ decimal (status_of o)) ∷ [] in
+    omega (arith, length-body_lines o short, length-append (body_lines o) status, few)

@@ -1,5 +1,6 @@
 pub mod Answers
 pub mod Books
+pub mod Lives
 pub mod Printing
 pub mod Report
 pub mod Said

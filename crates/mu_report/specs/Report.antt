@@ -62,12 +62,15 @@ abbrev pub replies_lines : Outcome → List (List ℕ)
 replies_lines o = let commands = commands_in o.job (longest o.logs) in
     (codes "replies " ++ decimal (length commands)) ∷ answer_lines commands o.replies
 
+-- the report but for its last line
+abbrev pub body_lines : Outcome → List (List ℕ)
+body_lines o = (codes "report " ++ decimal o.job.config.version)
+    ∷
+    (logs_lines o 0 o.job.config.replicas ++ replies_lines o)
+
 -- the whole report
 abbrev pub report_lines : Outcome → List (List ℕ)
-report_lines o = (codes "report " ++ decimal o.job.config.version)
-    ∷
-    (logs_lines o 0 o.job.config.replicas
-    ++ (replies_lines o ++ (codes "status " ++ decimal (status_of o)) ∷ []))
+report_lines o = body_lines o ++ (codes "status " ++ decimal (status_of o)) ∷ []
 
 -- the job has fewer than 2^15 commands, and each log fewer than 2^32 entries: the bytes of the
 -- report can be counted in 64 bits

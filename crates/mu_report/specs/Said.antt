@@ -2,9 +2,10 @@
 use Rattle.std.specs.Prelude.{ℕ, List, [], ◌∷◌, ◌++◌, ⊤, codes}
 use Rattle.std.specs.Fmt.{decimal}
 use Rattle.mu_report.specs.declared.said.Said.{Said}
-use Rattle.mu_report.specs.declared.said.Said.TheVariants.{Usage, Refused, Ran, Traced, Summed, Booked, Judged, ReadFault, NoMemory, TooLong}
+use Rattle.mu_report.specs.declared.said.Said.TheVariants.{Usage, Refused, Ran, Traced, Summed, Booked, Lived, Judged, ReadFault, NoMemory, TooLong}
 use Rattle.mu_report.specs.Answers.{verdict_line}
 use Rattle.mu_report.specs.Books.{book_lines}
+use Rattle.mu_report.specs.Lives.{lived_lines, HasShortSights}
 use Rattle.mu_report.specs.Printing.{ended}
 use Rattle.mu_report.specs.Report.{report_lines, HasShortLists}
 use Rattle.mu_report.specs.Summary.{summary_lines}
@@ -12,13 +13,15 @@ use Rattle.mu_report.specs.Trace.{trace_lines, IsCountable}
 
 -- what is said, as lines without their ends
 abbrev pub lines_of : Said → List (List ℕ)
-lines_of Usage = codes "usage: mu replay, mu run, mu check, mu trace, mu bulk N, mu desk, mu book" ∷ []
+lines_of Usage =
+    codes "usage: mu replay, mu run, mu check, mu trace, mu bulk N, mu live K, mu desk, mu book" ∷ []
 lines_of (Refused line cause) =
     (codes "refused line " ++ decimal line ++ codes " cause " ++ decimal cause) ∷ []
 lines_of (Ran o) = report_lines o
 lines_of (Traced o) = trace_lines o
 lines_of (Summed o) = summary_lines o
 lines_of (Booked o book) = book_lines o book
+lines_of (Lived o lived) = lived_lines o lived.sights
 lines_of (Judged events verdict) = verdict_line events verdict ∷ []
 lines_of ReadFault = codes "read fault" ∷ []
 lines_of NoMemory = codes "no memory" ∷ []
@@ -28,7 +31,8 @@ lines_of TooLong = codes "too long" ∷ []
 abbrev pub text : Said → List ℕ
 text said = ended (lines_of said)
 
--- a run that is reported has short lists, and the bytes of a trace can be counted
+-- a run that is reported has short lists, as have its readers, and the bytes of a trace can be
+-- counted
 abbrev pub IsShort : Said → Type 0
 IsShort Usage = ⊤
 IsShort (Refused line cause) = ⊤
@@ -36,6 +40,7 @@ IsShort (Ran o) = HasShortLists o
 IsShort (Traced o) = IsCountable o
 IsShort (Summed o) = ⊤
 IsShort (Booked o book) = ⊤
+IsShort (Lived o lived) = HasShortLists o × HasShortSights lived.sights
 IsShort (Judged events verdict) = ⊤
 IsShort ReadFault = ⊤
 IsShort NoMemory = ⊤

@@ -5,6 +5,7 @@
 mod answers;
 mod book;
 mod line;
+mod lives;
 mod report;
 mod said;
 mod summary;

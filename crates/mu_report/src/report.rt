@@ -5,7 +5,7 @@ ghost use Rattle.mu_outcome.specs.Entries.{commands_in, longest as longest_of};
 ghost use Rattle.mu_outcome.specs.Outcomes.{log_of, commits_of, status_after, status_of};
 ghost use Rattle.mu_report.specs.declared.line.TheConstants.{LINE_BYTES};
 ghost use Rattle.mu_report.specs.Printing.{PrintsAll, PrintsPart};
-ghost use Rattle.mu_report.specs.Report.{entry_line as entry_line_of, entry_lines, gone_line as gone_line_of, lines_of_entry, log_line as log_line_of, log_lines, logs_lines, answer_line as answer_line_of, answer_lines, replies_lines, report_lines, HasShortLists};
+ghost use Rattle.mu_report.specs.Report.{entry_line as entry_line_of, entry_lines, gone_line as gone_line_of, lines_of_entry, log_line as log_line_of, log_lines, logs_lines, answer_line as answer_line_of, answer_lines, body_lines, replies_lines, report_lines, HasShortLists};
 
 use crate::line::{Line, print_line};
 use crate::words::{push_end, push_name, push_op, push_reply};
@@ -42,15 +42,23 @@ pub fn print_report<K: Sink>(sink: &mut K, outcome: &Outcome) -> Result<usize, W
     ensures part { IfErr result (λ fault. PrintsPart (K.written sink.old) (K.written sink.new)
         (K.faults sink.old) (K.faults sink.new) 0 (report_lines outcome.now) fault.taken) }
 {
+    let taken = print_body(sink, outcome)?;
+    let status = u64::from(status_code(outcome));
+    print_line(sink, taken, numbered_line(b"status ", status))
+}
+
+/// Writes the report but for its last line.
+pub fn print_body<K: Sink>(sink: &mut K, outcome: &Outcome) -> Result<usize, WriteFault>
+    requires { HasShortLists outcome.now }
+    ensures all { IfOk result (PrintsAll (K.written sink.old) (K.written sink.new)
+        (K.faults sink.old) (K.faults sink.new) 0 (body_lines outcome.now)) }
+    ensures part { IfErr result (λ fault. PrintsPart (K.written sink.old) (K.written sink.new)
+        (K.faults sink.old) (K.faults sink.new) 0 (body_lines outcome.now) fault.taken) }
+{
     let version = u64::from(outcome.job.config.version);
     let taken = print_line(sink, 0, numbered_line(b"report ", version))?;
     let taken = print_logs(sink, taken, outcome, outcome.job.config.replicas)?;
-    let taken = print_replies(sink, taken, outcome)?;
-    print_line(
-        sink,
-        taken,
-        numbered_line(b"status ", u64::from(status_code(outcome))),
-    )
+    print_replies(sink, taken, outcome)
 }
 
 /// Writes the logs of the first so many replicas.

@@ -9,6 +9,7 @@ ghost use Rattle.mu_report.specs.Said.{text, lines_of, IsShort};
 
 use crate::answers::verdict_line;
 use crate::book::print_book;
+use crate::lives::print_lived;
 use crate::line::{Line, print_line, print_words};
 use crate::report::print_report;
 use crate::summary::print_summary;
@@ -16,6 +17,7 @@ use crate::trace::print_trace;
 use match_book::Book;
 use mu_io::{Sink, WriteFault};
 use mu_outcome::{Outcome, Verdict};
+use snap_reads::Lived;
 
 /// What the program says at its end.
 #[derive(Drop)]
@@ -37,6 +39,8 @@ pub enum Said {
     Summed(Outcome),
     /// What a run left, and the book of orders after the commands of its longest log.
     Booked(Outcome, Book),
+    /// What a run left, and what readers saw while the commands of its longest log were published.
+    Lived(Outcome, Lived),
     /// Whether a list of events is legal.
     Judged {
         /// How many events it has.
@@ -104,7 +108,7 @@ fn print_said<K: Sink>(sink: &mut K, said: &Said) -> Result<usize, WriteFault>
             print_words(
                 sink,
                 0,
-                b"usage: mu replay, mu run, mu check, mu trace, mu bulk N, mu desk, mu book",
+                b"usage: mu replay, mu run, mu check, mu trace, mu bulk N, mu live K, mu desk, mu book",
             )
         }
         Said::Refused { line, cause } => print_line(sink, 0, refusal(*line, *cause)),
@@ -112,6 +116,7 @@ fn print_said<K: Sink>(sink: &mut K, said: &Said) -> Result<usize, WriteFault>
         Said::Traced(outcome) => print_trace(sink, outcome),
         Said::Summed(outcome) => print_summary(sink, outcome),
         Said::Booked(outcome, book) => print_book(sink, outcome, book),
+        Said::Lived(outcome, lived) => print_lived(sink, outcome, lived),
         Said::Judged { events, verdict } => print_line(sink, 0, verdict_line(*events, verdict)),
         Said::ReadFault => print_words(sink, 0, b"read fault"),
         Said::NoMemory => print_words(sink, 0, b"no memory"),

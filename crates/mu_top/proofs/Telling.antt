@@ -14,6 +14,7 @@ no_fault Task.Trace bytes says = says
 no_fault Task.Check bytes says = says
 no_fault Task.Desk bytes says = says
 no_fault Task.Book bytes says = says
+no_fault (Task.Live readers) bytes says = says
 
 -- nor that there were too many
 no_limit : (task : Task) (bytes : List ℕ) → Does task bytes Said.TooLong → ⊥
@@ -23,6 +24,7 @@ no_limit Task.Trace bytes says = says
 no_limit Task.Check bytes says = says
 no_limit Task.Desk bytes says = says
 no_limit Task.Book bytes says = says
+no_limit (Task.Live readers) bytes says = says
 
 -- all that was left is within the limit
 within_limit : (n : ℕ) (left : Option (List ℕ)) (bytes : List ℕ) → length bytes ≤ n → IfSome left (λ all. all ≡ bytes) → IfSome left (λ all. length all ≤ n)
@@ -39,4 +41,5 @@ telling task left now before after bytes (Said.Ran outcome) same within whole sa
 telling task left now before after bytes (Said.Traced outcome) same within whole says = (same, record { bytes = bytes; within = within; whole = whole; says = says })
 telling task left now before after bytes (Said.Summed outcome) same within whole says = (same, record { bytes = bytes; within = within; whole = whole; says = says })
 telling task left now before after bytes (Said.Booked outcome book) same within whole says = (same, record { bytes = bytes; within = within; whole = whole; says = says })
+telling task left now before after bytes (Said.Lived outcome lived) same within whole says = (same, record { bytes = bytes; within = within; whole = whole; says = says })
 telling task left now before after bytes (Said.Judged events verdict) same within whole says = (same, record { bytes = bytes; within = within; whole = whole; says = says })

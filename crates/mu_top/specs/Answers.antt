@@ -11,7 +11,7 @@ use Rattle.mu_outcome.specs.Outcomes.{status_after}
 use Rattle.mu_outcome.specs.Statuses.{code_of}
 use Rattle.mu_report.specs.declared.said.Said.{Said}
 use Rattle.mu_report.specs.Said.{text}
-use Rattle.mu_top.specs.Commands.{Books, Replays, Runs, Sums, Traces}
+use Rattle.mu_top.specs.Commands.{Books, Lives, Replays, Runs, Sums, Traces}
 use Rattle.mu_top.specs.Desks.{Desks}
 use Rattle.mu_top.specs.Words.{limit_of}
 use Rattle.mu_top.specs.declared.asking.Task.{Task}
@@ -25,6 +25,7 @@ Does Task.Trace bytes said = Traces bytes said
 Does Task.Check bytes said = SaysOf bytes said
 Does Task.Desk bytes said = Desks bytes said
 Does Task.Book bytes said = Books bytes said
+Does (Task.Live readers) bytes said = Lives readers bytes said
 
 -- bytes within the limit of the task were read, all that the source had left where it tells them,
 -- and this is said of them
@@ -70,6 +71,7 @@ status_for (Said.Ran outcome) = status_after outcome
 status_for (Said.Traced outcome) = status_after outcome
 status_for (Said.Summed outcome) = status_after outcome
 status_for (Said.Booked outcome book) = status_after outcome
+status_for (Said.Lived outcome lived) = status_after outcome
 status_for (Said.Judged events verdict) = verdict_status verdict
 status_for Said.ReadFault = Status.ReadFault
 status_for Said.NoMemory = Status.NoMemory

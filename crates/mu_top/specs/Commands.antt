@@ -11,6 +11,7 @@ use Rattle.mu_outcome.specs.Entries.{commands_in, longest}
 use Rattle.mu_outcome.specs.Outcomes.{IsRun, Agrees}
 use Rattle.mu_outcome.specs.Runs.{IsThreadRun}
 use Rattle.mu_report.specs.declared.said.Said.{Said}
+use Rattle.snap_reads.specs.Lives.{AreAllSights}
 
 -- the outcome is a run of its job in turns: its replicas agree, and where a command is missing each
 -- was cut short
@@ -72,3 +73,13 @@ Books bytes (Said.Booked outcome book) =
     × StandsFor (commands_in outcome.job (longest outcome.logs)) book
 Books bytes Said.NoMemory = ⊤
 Books bytes _ = ⊥
+
+-- `live K`: the same as for `replay`, and these are the sights of so many readers of the commands of
+-- the longest log
+abbrev pub Lives : ℕ → List ℕ → Said → Type 0
+Lives readers bytes (Said.Refused line cause) = job bytes ≡ Leaves line cause
+Lives readers bytes (Said.Lived outcome lived) =
+    (job bytes ≡ Fits outcome.job) × IsReplay outcome
+    × AreAllSights outcome readers lived.sights
+Lives readers bytes Said.NoMemory = ⊤
+Lives readers bytes _ = ⊥

@@ -5,6 +5,7 @@ use Rattle.std.specs.declared.string.String.{String}
 use Rattle.std.specs.declared.alloc.Global.{Global}
 use Rattle.std.specs.Str.{bytes_eq}
 use Rattle.mu_input.specs.declared.TheConstants.{MOST_COMMANDS, TRACE_LIMIT}
+use Rattle.snap_reads.specs.declared.TheConstants.{MOST_READERS}
 use Rattle.mu_text.specs.Numbers.{number_of, within}
 use Rattle.mu_top.specs.declared.asking.Task.{Task}
 use Rattle.mu_top.specs.declared.asking.Asked.{Asked}
@@ -31,22 +32,34 @@ abbrev pub of_count : Option ℕ → Option Asked
 of_count None = None
 of_count (Some count) = Some (Asked.Bulk count)
 
--- what two words ask for: `bulk` with a number up to the most commands of a job
-abbrev pub bulk_asked : List ℕ → List ℕ → Option Asked
-bulk_asked word count =
-    if bytes_eq word (codes "bulk") then of_count (within 0 MOST_COMMANDS (number_of count))
+-- so many live readers, where there is a number
+abbrev pub of_readers : Option ℕ → Option Asked
+of_readers None = None
+of_readers (Some readers) = Some (Asked.Input (Task.Live readers))
+
+-- what two words ask for: `bulk` with a number up to the most commands of a job, or `live` with one
+-- from 1 to the most readers
+abbrev pub asked_of_two : List ℕ → List ℕ → Option Asked
+asked_of_two word number =
+    if bytes_eq word (codes "bulk") then of_count (within 0 MOST_COMMANDS (number_of number))
+    else if bytes_eq word (codes "live") then of_readers (within 1 MOST_READERS (number_of number))
     else None
 
 -- what the words ask for: one word, the name of a task, or two
 abbrev pub asked_of : List (String Global) → Option Asked
 asked_of [] = None
 asked_of (word ∷ []) = with_input (task_named (string_bytes word))
-asked_of (word ∷ other ∷ []) = bulk_asked (string_bytes word) (string_bytes other)
+asked_of (word ∷ other ∷ []) = asked_of_two (string_bytes word) (string_bytes other)
 asked_of (word ∷ other ∷ more ∷ words) = None
 
--- no more commands than a job may have
+-- no more readers than there may be, and one at least
+abbrev pub HasReaders : Task → Type 0
+HasReaders (Task.Live readers) = (1 ≤ readers) × (readers ≤ MOST_READERS)
+HasReaders task = ⊤
+
+-- no more commands than a job may have, and so many readers as there may be
 abbrev pub IsInReach : Asked → Type 0
-IsInReach (Asked.Input task) = ⊤
+IsInReach (Asked.Input task) = HasReaders task
 IsInReach (Asked.Bulk count) = count ≤ MOST_COMMANDS
 
 -- the most bytes that the input of a task may have
@@ -57,3 +70,4 @@ limit_of Task.Trace = INPUT_LIMIT
 limit_of Task.Check = TRACE_LIMIT
 limit_of Task.Desk = INPUT_LIMIT
 limit_of Task.Book = INPUT_LIMIT
+limit_of (Task.Live readers) = INPUT_LIMIT

@@ -5,11 +5,12 @@ ghost use Rattle.mu_input.specs.declared.TheConstants.{TRACE_LIMIT};
 ghost use Rattle.mu_report.specs.declared.said.Said.TheVariants.{NoMemory, Usage};
 ghost use Rattle.mu_report.specs.Said.{IsShort};
 ghost use Rattle.mu_top.specs.declared.serving.TheConstants.{SENDERS};
-ghost use Rattle.mu_top.specs.Words.{task_named, asked_of as asked_of_words, bulk_asked, limit_of, IsInReach};
+ghost use Rattle.mu_top.specs.Words.{task_named, asked_of as asked_of_words, asked_of_two, limit_of, IsInReach};
 
 use mu_input::{MOST_COMMANDS, TRACE_LIMIT};
 use mu_report::Said;
 use mu_text::limited;
+use snap_reads::MOST_READERS;
 use std::io::ErrorKind;
 
 /// The most bytes that the input of a job may have.
@@ -37,6 +38,8 @@ pub enum Task {
     Desk,
     /// `book`: run a job in turns, and tell the book of orders after its commands.
     Book,
+    /// `live K`: run a job in turns, and publish the commands of its longest log to so many readers.
+    Live(u8),
 }
 
 /// What the program is asked.
@@ -60,32 +63,39 @@ impl Task {
             Task::Check => TRACE_LIMIT,
             Task::Desk => INPUT_LIMIT,
             Task::Book => INPUT_LIMIT,
+            Task::Live(_) => INPUT_LIMIT,
         }
     }
 }
 
-/// What the words ask for, if they ask for anything: one word that names a task, or `bulk` and a
-/// number.
+/// What the words ask for, if they ask for anything: one word that names a task, or `bulk` or `live`
+/// and a number.
 pub fn asked_of(words: &[String]) -> Option<Asked>
     ensures exact { result ≡ asked_of_words words.now }
     ensures reach { IfSome result IsInReach }
 {
     match words {
         [word] => named_task(word.as_bytes()).map(Asked::Input),
-        [word, count] => asked_bulk(word.as_bytes(), count.as_bytes()),
+        [word, number] => asked_with(word.as_bytes(), number.as_bytes()),
         _ => None,
     }
 }
 
 /// The stated large job of so many commands, if the first word is `bulk` and the second spells a
-/// number from 0 to 1,500.
-fn asked_bulk(word: &[u8], count: &[u8]) -> Option<Asked>
-    ensures exact { result ≡ bulk_asked word.now count.now }
+/// number from 0 to 1,500; or so many live readers, if the first is `live` and the second spells one
+/// from 1 to 4.
+fn asked_with(word: &[u8], number: &[u8]) -> Option<Asked>
+    ensures exact { result ≡ asked_of_two word.now number.now }
     ensures reach { IfSome result IsInReach }
 {
     if word == b"bulk".as_slice() {
-        match limited(count, 0, MOST_COMMANDS as u32) {
+        match limited(number, 0, MOST_COMMANDS as u32) {
             Some(count) => Some(Asked::Bulk(count as u16)),
+            None => None,
+        }
+    } else if word == b"live".as_slice() {
+        match limited(number, 1, u32::from(MOST_READERS)) {
+            Some(readers) => Some(Asked::Input(Task::Live(readers as u8))),
             None => None,
         }
     } else {

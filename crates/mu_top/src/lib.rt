@@ -4,6 +4,7 @@
 
 mod asking;
 mod booking;
+mod living;
 mod replaying;
 mod running;
 mod serving;

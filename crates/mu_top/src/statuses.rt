@@ -16,6 +16,7 @@ pub(crate) fn status_for(said: &Said) -> Status
         Said::Traced(outcome) => status(outcome),
         Said::Summed(outcome) => status(outcome),
         Said::Booked(outcome, _) => status(outcome),
+        Said::Lived(outcome, _) => status(outcome),
         Said::Judged { verdict, .. } => verdict_status(verdict),
         Said::ReadFault => Status::ReadFault,
         Said::NoMemory => Status::NoMemory,

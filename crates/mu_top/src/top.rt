@@ -3,10 +3,11 @@
 ghost use Rattle.std.specs.Prelude.{◌≡◌, ◌≤◌, length, IfSome};
 ghost use Rattle.mu_report.specs.Said.{IsShort};
 ghost use Rattle.mu_top.specs.Answers.{Does, Tells, TellsOf, Wrote};
-ghost use Rattle.mu_top.specs.Words.{asked_of as asked_of_words, limit_of, IsInReach};
+ghost use Rattle.mu_top.specs.Words.{asked_of as asked_of_words, limit_of, HasReaders, IsInReach};
 
 use crate::asking::{Asked, Task, asked_of};
 use crate::booking::told_of_book;
+use crate::living::told_of_live;
 use crate::replaying::told_of_replay;
 use crate::running::told_of_run;
 use crate::serving::told_of_desk;
@@ -36,11 +37,12 @@ pub struct Answered {
 
 /// Does what the words ask for: reads all of the source where they need input, runs the job or
 /// judges the trace, and writes what there is to say. Memory is wanted before the first step of a
-/// replica and before the first event is judged alone. Before each turn of `run`, and
-/// before each command that comes to a `desk`, the gate is called.
+/// replica and before the first event is judged alone, and for `live` once more, after the run and
+/// before the first command is published. Before each turn of `run`, before each command that comes
+/// to a `desk`, and before each publishing and get of `live` the gate is called.
 ///
-/// The words are `replay`, `run`, `trace`, `check`, `desk` or `book`, each alone, or `bulk` with a
-/// number.
+/// The words are `replay`, `run`, `trace`, `check`, `desk` or `book`, each alone, or `bulk` or `live`
+/// with a number.
 pub fn mu<R: Threads + Wait + Sync, S: Source, K: Sink, G: Gate + Sync>(
     rt: &R,
     alloc: Global,
@@ -106,6 +108,7 @@ fn told_of_input<R: Threads + Wait + Sync, S: Source, G: Gate + Sync>(
     source: &mut S,
     gate: &G,
 ) -> Said
+    requires { HasReaders task }
     ensures said { TellsOf task (S.left source.old) (S.left source.new)
         (S.faults source.old) (S.faults source.new) result }
     ensures short { IsShort result }
@@ -127,7 +130,8 @@ fn told_of_bytes<R: Threads + Wait + Sync, G: Gate + Sync>(
     bytes: &[u8],
     gate: &G,
 ) -> Said
-    requires { length bytes.now ≤ limit_of task }
+    requires limit { length bytes.now ≤ limit_of task }
+    requires readers { HasReaders task }
     ensures said { Does task bytes.now result }
     ensures short { IsShort result }
 {
@@ -138,5 +142,6 @@ fn told_of_bytes<R: Threads + Wait + Sync, G: Gate + Sync>(
         Task::Check => judged(alloc, bytes),
         Task::Desk => told_of_desk(rt, alloc, bytes, gate),
         Task::Book => told_of_book(alloc, bytes),
+        Task::Live(readers) => told_of_live(rt, alloc, bytes, readers, gate),
     }
 }

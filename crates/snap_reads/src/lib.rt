@@ -21,6 +21,7 @@ pub use rule::View;
 pub use seen::Seen;
 pub use sight::Sight;
 pub use told::Told;
+pub use watching::GETS;
 pub use writer::SnapWriter;
 
 /// The most commands that a table is for.

@@ -16,7 +16,7 @@ use std::thread;
 use std::thread::Threads;
 
 /// How many gets a reader makes beside the writer.
-const GETS: usize = 200;
+pub const GETS: usize = 200;
 
 /// A reader, by what number the gate knows it, and what it saw.
 #[derive(Drop)]

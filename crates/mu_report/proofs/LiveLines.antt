@@ -1,0 +1,52 @@
+-- The lines of readers, taken from the front, and how many they are.
+use Rattle.std.proofs.Common.{◌≡◌, ℕ, zero, suc, ◌+◌, ◌*◌, ◌<◌, ◌≤◌, ◌^◌, List, [], ◌∷◌, ◌++◌, sym, ap, ◌∙◌, length, drop, map, get_or, arith, length-append, All}
+use Rattle.std.specs.Fmt.{decimal}
+use Rattle.std.specs.Prelude.{codes}
+use Rattle.std.proofs.lemmas.List.{drop_more, length-drop, length-map}
+use Rattle.mu_outcome.specs.declared.outcome.Outcome.{Outcome}
+use Rattle.mu_outcome.specs.Outcomes.{status_of}
+use Rattle.mu_report.specs.declared.line.TheConstants.{LINE_BYTES}
+use Rattle.mu_report.specs.Lives.{lived_lines, reader_lines, readers_lines, sight_line, HasShortSights}
+use Rattle.mu_report.specs.Report.{body_lines, HasShortLists}
+use Rattle.mu_report.proofs.Sizes.{length-body_lines}
+use Rattle.snap_reads.specs.declared.sight.Sight.{Sight}
+use Rattle.snap_reads.specs.declared.watching.TheConstants.{GETS}
+
+-- the lines of the next reader, and those of the others
+pub readers_lines-drop : (lists : List (List Sight)) (i : ℕ) → i < length lists
+    → readers_lines i (drop i lists) ≡ reader_lines i (get_or lists i []) ++ readers_lines (i + 1) (drop (i + 1) lists)
+readers_lines-drop lists i within = ap (readers_lines i) (drop_more lists i [] within)
+
+-- how many sights there are, and the last of them
+pub reader_lines-parts : (reader : ℕ) (sights last : List Sight) (line : List ℕ)
+    → line ≡ codes "reader " ++ decimal reader ++ codes " sights " ++ decimal (length sights) → last ≡ drop GETS sights
+    → reader_lines reader sights ≡ (line ∷ []) ++ map sight_line last
+reader_lines-parts reader sights last line spelled is =
+    ap (λ l. l ∷ map sight_line (drop GETS sights)) (sym spelled) ∙ ap (λ ss. line ∷ map sight_line ss) (sym is)
+
+-- the report, the readers and the status
+pub lived_lines-parts : (o : Outcome) (lists others : List (List Sight)) (status : ℕ) (last : List ℕ)
+    → others ≡ lists → status ≡ status_of o → last ≡ codes "status " ++ decimal status
+    → lived_lines o lists ≡ body_lines o ++ (readers_lines 0 others ++ (last ∷ []))
+lived_lines-parts o lists others status last same ended closed =
+    ap (λ ls. body_lines o ++ (readers_lines 0 ls ++ ((codes "status " ++ decimal (status_of o)) ∷ []))) (sym same)
+    ∙ ap (λ n. body_lines o ++ (readers_lines 0 others ++ ((codes "status " ++ decimal n) ∷ []))) (sym ended)
+    ∙ ap (λ l. body_lines o ++ (readers_lines 0 others ++ (l ∷ []))) (sym closed)
+
+length-reader_lines : (reader : ℕ) (sights : List Sight) → length (reader_lines reader sights) ≤ 1 + length sights
+length-reader_lines reader sights = omega (arith, length-map (drop GETS sights) sight_line, length-drop GETS sights)
+
+length-readers_lines : (reader : ℕ) (lists : List (List Sight)) → All (λ sights. length sights < 2 ^ 32) lists → length (readers_lines reader lists) ≤ length lists * 2 ^ 32
+length-readers_lines reader [] short = omega arith
+length-readers_lines reader (sights ∷ lists) short =
+    let first : length sights < 2 ^ 32 = short 0 [] (omega arith) in
+    let rest : length (readers_lines (reader + 1) lists) ≤ length lists * 2 ^ 32 = length-readers_lines (reader + 1) lists (λ k d within. short (suc k) d (omega arith)) in
+    omega (arith, first, rest, length-reader_lines reader sights, length-append (reader_lines reader sights) (readers_lines (reader + 1) lists))
+
+-- all bytes can be counted
+pub lived_fits : (o : Outcome) (lists : List (List Sight)) → HasShortLists o → HasShortSights lists → o.job.config.replicas < 2 ^ 8 → 0 + LINE_BYTES * length (lived_lines o lists) < 2 ^ 64
+lived_fits o lists short seen few =
+    let status : List (List ℕ) = (codes "status " ++ decimal (status_of o)) ∷ [] in
+    let readers : length lists ≤ 4 = seen.0 in
+    let sights : length (readers_lines 0 lists) ≤ length lists * 2 ^ 32 = length-readers_lines 0 lists seen.1 in
+    omega (arith, length-body_lines o short, readers, sights, few, length-append (readers_lines 0 lists) status, length-append (body_lines o) (readers_lines 0 lists ++ status))
