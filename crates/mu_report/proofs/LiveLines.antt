@@ -7,15 +7,15 @@ use Rattle.mu_outcome.specs.declared.outcome.Outcome.{Outcome}
 use Rattle.mu_outcome.specs.Outcomes.{status_of}
 use Rattle.mu_report.specs.declared.line.TheConstants.{LINE_BYTES}
 use Rattle.mu_report.specs.Lives.{lived_lines, reader_lines, readers_lines, sight_line, HasShortSights}
-use Rattle.mu_report.specs.Report.{body_lines, HasShortLists}
-use Rattle.mu_report.proofs.Sizes.{length-body_lines}
+use Rattle.mu_report.specs.Report.{body_lines}
 use Rattle.snap_reads.specs.declared.sight.Sight.{Sight}
 use Rattle.snap_reads.specs.declared.watching.TheConstants.{GETS}
 
 -- the lines of the next reader, and those of the others
-pub readers_lines-drop : (lists : List (List Sight)) (i : ℕ) → i < length lists
-    → readers_lines i (drop i lists) ≡ reader_lines i (get_or lists i []) ++ readers_lines (i + 1) (drop (i + 1) lists)
-readers_lines-drop lists i within = ap (readers_lines i) (drop_more lists i [] within)
+pub readers_lines-drop : (lists : List (List Sight)) (i : ℕ) (next sights : List Sight) → i < length lists → next ≡ get_or lists i next → sights ≡ next
+    → readers_lines i (drop i lists) ≡ reader_lines i sights ++ readers_lines (i + 1) (drop (i + 1) lists)
+readers_lines-drop lists i next sights within is same =
+    ap (readers_lines i) (drop_more lists i next within) ∙ ap (λ ss. reader_lines i ss ++ readers_lines (i + 1) (drop (i + 1) lists)) (sym (same ∙ is))
 
 -- how many sights there are, and the last of them
 pub reader_lines-parts : (reader : ℕ) (sights last : List Sight) (line : List ℕ)
@@ -44,9 +44,9 @@ length-readers_lines reader (sights ∷ lists) short =
     omega (arith, first, rest, length-reader_lines reader sights, length-append (reader_lines reader sights) (readers_lines (reader + 1) lists))
 
 -- all bytes can be counted
-pub lived_fits : (o : Outcome) (lists : List (List Sight)) → HasShortLists o → HasShortSights lists → o.job.config.replicas < 2 ^ 8 → 0 + LINE_BYTES * length (lived_lines o lists) < 2 ^ 64
-lived_fits o lists short seen few =
+pub lived_fits : (o : Outcome) (lists : List (List Sight)) → length (body_lines o) < 2 ^ 56 + 2 ^ 10 → HasShortSights lists → 0 + LINE_BYTES * length (lived_lines o lists) < 2 ^ 64
+lived_fits o lists few seen =
     let status : List (List ℕ) = (codes "status " ++ decimal (status_of o)) ∷ [] in
     let readers : length lists ≤ 4 = seen.0 in
     let sights : length (readers_lines 0 lists) ≤ length lists * 2 ^ 32 = length-readers_lines 0 lists seen.1 in
-    omega (arith, length-body_lines o short, readers, sights, few, length-append (readers_lines 0 lists) status, length-append (body_lines o) (readers_lines 0 lists ++ status))
+    omega (arith, few, readers, sights, length-append (readers_lines 0 lists) status, length-append (body_lines o) (readers_lines 0 lists ++ status))

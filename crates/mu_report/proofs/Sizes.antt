@@ -86,8 +86,9 @@ length-logs_lines o r zero short = omega arith
 length-logs_lines o r (suc replicas) short =
     omega (arith, length-logs_lines o (r + 1) replicas short, length-log_lines o r short, length-append (log_lines o r) (logs_lines o (r + 1) replicas))
 
-pub length-body_lines : (o : Outcome) → HasShortLists o → length (body_lines o) ≤ o.job.config.replicas * (2 ^ 48 + 1) + 2 ^ 48 + 2
-length-body_lines o short =
+-- the lines of the report but for the last are few
+pub few_lines : (o : Outcome) → HasShortLists o → o.job.config.replicas < 2 ^ 8 → length (body_lines o) < 2 ^ 56 + 2 ^ 10
+few_lines o short low =
     let replicas = o.job.config.replicas in
     let commands = commands_in o.job (longest o.logs) in
     let logs : length (logs_lines o 0 replicas) ≤ replicas * (2 ^ 48 + 1) = length-logs_lines o 0 replicas short in
@@ -96,11 +97,11 @@ length-body_lines o short =
     let whole : length (body_lines o) ≡ 1 + (length (logs_lines o 0 replicas) + length (replies_lines o)) = ap (λ n. suc n) (length-append (logs_lines o 0 replicas) (replies_lines o)) ∙ omega arith in
     omega arith
 
--- the bytes of the report can be counted
-pub body_fits : (o : Outcome) → HasShortLists o → o.job.config.replicas < 2 ^ 8 → 0 + LINE_BYTES * length (body_lines o) < 2 ^ 64
-body_fits o short few = omega (arith, length-body_lines o short, few)
+-- the bytes of the report can be counted, and those of all its lines but the last
+pub body_fits : (o : Outcome) → length (body_lines o) < 2 ^ 56 + 2 ^ 10 → 0 + LINE_BYTES * length (body_lines o) < 2 ^ 64
+body_fits o few = omega (arith, few)
 
-pub report_fits : (o : Outcome) → HasShortLists o → o.job.config.replicas < 2 ^ 8 → 0 + LINE_BYTES * length (report_lines o) < 2 ^ 64
-report_fits o short few =
+pub report_fits : (o : Outcome) → length (body_lines o) < 2 ^ 56 + 2 ^ 10 → 0 + LINE_BYTES * length (report_lines o) < 2 ^ 64
+report_fits o few =
     let status : List (List ℕ) = (codes "status " ++ decimal (status_of o)) ∷ [] in
-    omega (arith, length-body_lines o short, length-append (body_lines o) status, few)
+    omega (arith, few, length-append (body_lines o) status)

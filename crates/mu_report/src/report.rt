@@ -54,10 +54,12 @@ pub fn print_body<K: Sink>(sink: &mut K, outcome: &Outcome) -> Result<usize, Wri
         (K.faults sink.old) (K.faults sink.new) 0 (body_lines outcome.now)) }
     ensures part { IfErr result (λ fault. PrintsPart (K.written sink.old) (K.written sink.new)
         (K.faults sink.old) (K.faults sink.new) 0 (body_lines outcome.now) fault.taken) }
+    ensures few { length (body_lines outcome.now) < 2 ^ 56 + 2 ^ 10 }
 {
+    let replicas = outcome.job.config.replicas;
     let version = u64::from(outcome.job.config.version);
     let taken = print_line(sink, 0, numbered_line(b"report ", version))?;
-    let taken = print_logs(sink, taken, outcome, outcome.job.config.replicas)?;
+    let taken = print_logs(sink, taken, outcome, replicas)?;
     print_replies(sink, taken, outcome)
 }
 

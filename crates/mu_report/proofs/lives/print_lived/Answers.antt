@@ -18,7 +18,7 @@ print_readers-requires g c =
     print_fits _ _ _ _ _ _ _ _ _ _
     (print_step _ _ _ _ _ _ _ _ _ _ _ _ _ (print_start _ _ _ _)
     (lived_lines-parts c.args.outcome.now c.args.lived.now.sights _ (status_of c.args.outcome.now) _ c.as_slice-lists.ensures refl refl) c.in_ok-taken.ensures.all)
-    refl (lived_fits c.args.outcome.now c.args.lived.now.sights c.requires.report c.requires.sights (omega arith))
+    refl (lived_fits c.args.outcome.now c.args.lived.now.sights c.in_ok-taken.ensures.few c.requires.sights)
 
 pub returns-in_err-taken-2-clause-part : goal.returns-in_err-taken-2-clause-part
 returns-in_err-taken-2-clause-part g c =
@@ -36,7 +36,7 @@ print_line-requires-clause-fits g c =
     (print_step _ _ _ _ _ _ _ _ _ _ _ _ _ (print_start _ _ _ _)
     (lived_lines-parts c.args.outcome.now c.args.lived.now.sights _ _ _ c.as_slice-lists.ensures (c.from-status.ensures ∙ c.status_code.ensures) c.numbered_line.ensures.bytes) c.in_ok-taken.ensures.all)
     refl c.in_ok-taken-2.ensures.all)
-    (lived_fits c.args.outcome.now c.args.lived.now.sights c.requires.report c.requires.sights (omega arith)) in
+    (lived_fits c.args.outcome.now c.args.lived.now.sights c.in_ok-taken.ensures.few c.requires.sights) in
     omega arith
 
 pub returns-clause-all : goal.returns-clause-all

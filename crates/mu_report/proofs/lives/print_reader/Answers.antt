@@ -9,7 +9,7 @@ returns-in_err-headed-clause-part g c =
     let failed = err_from_is_err_and c.from_residual.result c.from_residual.ensures.1 in
     rw (failed.1, failed.2)
     (print_fault _ _ _ _ _ _ _ _ _ _ _ _ _ (print_start _ _ _ _)
-    (reader_lines-parts c.args.reader c.args.sights.now _ _ c.reader_line.ensures.bytes c.last_of.ensures) c.in_err-headed.ensures.part)
+    (reader_lines-parts c.args.reader c.args.sights.now _ _ c.reader_line.ensures.bytes refl) c.in_err-headed.ensures.part)
 
 pub print_sights-requires : goal.print_sights-requires
 print_sights-requires g c =

@@ -2,7 +2,7 @@ use Rattle.std.proofs.Common.{refl, arith}
 use Rattle.std.proofs.lemmas.Result.{err_from_is_err_and}
 use Rattle.mu_report.proofs.Lists.{body_lines-parts}
 use Rattle.mu_report.proofs.Prints.{print_fault, print_fits, print_last, print_last_fault, print_last_fits, print_start, print_step}
-use Rattle.mu_report.proofs.Sizes.{body_fits}
+use Rattle.mu_report.proofs.Sizes.{body_fits, few_lines}
 use Rattle.mu_report.proofs.report.print_body.Goals as goal
 
 pub returns-in_err-taken-clause-part : goal.returns-in_err-taken-clause-part
@@ -18,7 +18,7 @@ print_logs-requires g c =
     print_fits _ _ _ _ _ _ _ _ _ _
     (print_step _ _ _ _ _ _ _ _ _ _ _ _ _ (print_start _ _ _ _)
     (body_lines-parts c.args.outcome.now _ _ c.from-version.ensures c.numbered_line.ensures.bytes) c.in_ok-taken.ensures.all)
-    refl (body_fits c.args.outcome.now c.requires (omega arith))
+    refl (body_fits c.args.outcome.now (few_lines c.args.outcome.now c.requires (omega arith)))
 
 pub returns-in_err-taken-2-clause-part : goal.returns-in_err-taken-2-clause-part
 returns-in_err-taken-2-clause-part g c =
@@ -36,7 +36,7 @@ print_replies-requires-clause-fits g c =
     (print_step _ _ _ _ _ _ _ _ _ _ _ _ _ (print_start _ _ _ _)
     (body_lines-parts c.args.outcome.now _ _ c.from-version.ensures c.numbered_line.ensures.bytes) c.in_ok-taken.ensures.all)
     refl c.in_ok-taken-2.ensures.all)
-    (body_fits c.args.outcome.now c.requires (omega arith))
+    (body_fits c.args.outcome.now (few_lines c.args.outcome.now c.requires (omega arith)))
 
 pub returns-clause-all : goal.returns-clause-all
 returns-clause-all g c =
@@ -55,3 +55,12 @@ returns-clause-part g c =
     (body_lines-parts c.args.outcome.now _ _ c.from-version.ensures c.numbered_line.ensures.bytes) c.in_ok-taken.ensures.all)
     refl c.in_ok-taken-2.ensures.all)
     c.print_replies.ensures.part
+
+pub returns-clause-few : goal.returns-clause-few
+returns-clause-few g c = few_lines c.args.outcome.now c.requires (omega arith)
+
+pub returns-in_err-taken-clause-few : goal.returns-in_err-taken-clause-few
+returns-in_err-taken-clause-few g c = few_lines c.args.outcome.now c.requires (omega arith)
+
+pub returns-in_err-taken-2-clause-few : goal.returns-in_err-taken-2-clause-few
+returns-in_err-taken-2-clause-few g c = few_lines c.args.outcome.now c.requires (omega arith)

@@ -18,7 +18,7 @@ print_line-requires-clause-fits g c =
     let fits = print_last_fits _ _ _ _ _ _ _ (c.numbered_line.result ∷ [])
     (print_step _ _ _ _ _ _ _ _ _ _ _ _ _ (print_start _ _ _ _)
     (report_lines-parts c.args.outcome.now _ _ (c.from-status.ensures ∙ c.status_code.ensures) c.numbered_line.ensures.bytes) c.in_ok-taken.ensures.all)
-    (report_fits c.args.outcome.now c.requires (omega arith)) in
+    (report_fits c.args.outcome.now c.in_ok-taken.ensures.few) in
     omega arith
 
 pub returns-clause-all : goal.returns-clause-all
