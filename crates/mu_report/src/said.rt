@@ -9,8 +9,8 @@ ghost use Rattle.mu_report.specs.Said.{text, lines_of, IsShort};
 
 use crate::answers::verdict_line;
 use crate::book::print_book;
-use crate::lives::print_lived;
 use crate::line::{Line, print_line, print_words};
+use crate::lives::print_lived;
 use crate::report::print_report;
 use crate::summary::print_summary;
 use crate::trace::print_trace;

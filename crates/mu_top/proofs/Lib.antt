@@ -1,4 +1,5 @@
 mod Arrived
 mod BookedLogs
 mod Completed
+mod Sighted
 mod Telling

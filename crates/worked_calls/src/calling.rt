@@ -35,7 +35,14 @@ pub(crate) fn ask<R: Threads + Wait + Sync>(
         ROOM,
         vec![in alloc; failing_write]?,
     );
-    let answered = mu(rt, alloc, words.as_slice(), &mut source, &mut sink, &OpenGate);
+    let answered = mu(
+        rt,
+        alloc,
+        words.as_slice(),
+        &mut source,
+        &mut sink,
+        &OpenGate,
+    );
     Ok(Call {
         status: answered.status,
         taken: answered.taken,

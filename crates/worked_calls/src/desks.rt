@@ -3,7 +3,7 @@ use crate::calling::told;
 use std::test::Fail;
 
 /// Six commands of two clients.
-const TWO_CLIENTS: &str =
+pub(crate) const TWO_CLIENTS: &str =
     "mu 1\nreplicas 3\nring 8\nbudget 20000\nclient 0\nput a 5\nget a\ncas a 5 6\nclient 1\nput b 7\nswap a 9\ncas a 9 1\nend\n";
 
 /// The same in batches.

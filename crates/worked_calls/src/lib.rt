@@ -11,4 +11,6 @@ mod calls;
 #[cfg(test)]
 mod desks;
 #[cfg(test)]
+mod lives;
+#[cfg(test)]
 mod runs;

@@ -1,0 +1,19 @@
+use Rattle.std.proofs.Common.{arith}
+use Rattle.mu_cluster.proofs.FewCommands.{few_replayed}
+use Rattle.mu_top.proofs.Completed.{replay_of}
+use Rattle.mu_top.proofs.Sighted.{short_sights}
+use Rattle.mu_top.proofs.living.lived.Goals as goal
+
+pub live-requires-clause-few : goal.live-requires-clause-few
+live-requires-clause-few g c κs within =
+    few_replayed c.in_ok-outcome.outcome c.in_ok-job.job c.in_ok-outcome.ensures.job c.in_ok-job.ensures.config c.in_ok-job.ensures.heads c.in_ok-outcome.ensures.run c.in_ok-outcome.ensures.agrees c.in_ok-outcome.ensures.reach
+
+pub returns-clause-replay : goal.returns-clause-replay
+returns-clause-replay g c =
+    replay_of c.in_ok-outcome.outcome c.in_ok-job.job c.in_ok-outcome.ensures.job c.in_ok-job.ensures.config c.in_ok-job.ensures.heads c.in_ok-outcome.ensures.run c.in_ok-outcome.ensures.agrees
+
+pub returns-clause-few : goal.returns-clause-few
+returns-clause-few g c =
+    short_sights c.in_ok-outcome.outcome c.args.readers _ c.requires.1
+    (few_replayed c.in_ok-outcome.outcome c.in_ok-job.job c.in_ok-outcome.ensures.job c.in_ok-job.ensures.config c.in_ok-job.ensures.heads c.in_ok-outcome.ensures.run c.in_ok-outcome.ensures.agrees c.in_ok-outcome.ensures.reach)
+    c.in_ok-lived.ensures
