@@ -204,6 +204,7 @@ def main():
         judged = open(os.path.join(TOP, "examples", "late-exchange.trace"), "rb").read()
         jobs = [(["replay"], TWO_CLIENTS), (["run"], TWO_CLIENTS), (["trace"], TWO_CLIENTS), (["check"], trace),
                 (["check"], judged), (["replay"], BATCHED), (["desk"], TWO_CLIENTS), (["book"], TWO_CLIENTS),
+                (["live", "2"], TWO_CLIENTS),
                 (["bulk", "10"], b"")]
         for words, given in jobs:
             if given:
