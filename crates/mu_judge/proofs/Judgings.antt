@@ -1,5 +1,5 @@
 -- What was judged trace by trace was judged as one.
-use Rattle.std.proofs.Common.{◌≡◌, ℕ, Bool, true, false, ◌&&◌, List, [], ◌∷◌, ◌++◌, Option, None, Some, MatchOption, Result, Ok, Err, IfErr, refl, sym, ap, subst, ◌∙◌, append_assoc, append-nil}
+use Rattle.std.proofs.Common.{◌≡◌, ℕ, Bool, true, false, ◌&&◌, List, [], ◌∷◌, ◌++◌, ◌<◌, length, take, Option, None, Some, MatchOption, Result, Ok, Err, IfErr, IfOk, OnOk, refl, sym, ap, subst, ◌∙◌, append_assoc, append-nil}
 use Rattle.std.specs.Io.KnownBytes.{Appends}
 use Rattle.std.specs.Option.{option_map_or}
 use Rattle.std.proofs.KnownBytes.{Appends-nil, Appends-trans}
@@ -38,6 +38,17 @@ legal-next (first ∷ saids) said = ap (λ x. is_legal first && x) (legal-next s
 
 legal-both : (saids : List Said) (said : Said) (legal one : Bool) → are_legal saids ≡ legal → is_legal said ≡ one → are_legal (saids ++ said ∷ []) ≡ (legal && one)
 legal-both saids said legal one all is = legal-next saids said ∙ (ap (λ x. x && is_legal said) all ∙ ap (λ y. legal && y) is)
+
+-- what is said of a trace was written, or a first part of it
+pub judged_one : (bytes : List ℕ) (said : Said) (a b : Option (List ℕ)) (r : Result Bool WriteFault) → SaysOf bytes said → OnOk r (Appends a b (text said))
+    → IfOk r (λ legal. legal ≡ is_legal said) → IfOk r (λ legal. JudgesOne bytes a b legal)
+judged_one bytes said a b (Ok legal) says printed is = record { said = said; says = says; printed = printed; legal_is = sym is }
+judged_one bytes said a b (Err fault) says printed is = tt
+
+pub judged_part : (bytes : List ℕ) (said : Said) (a b : Option (List ℕ)) (r : Result Bool WriteFault) → SaysOf bytes said
+    → IfErr r (λ fault. Appends a b (take fault.taken (text said))) → IfErr r (λ fault. fault.taken < length (text said)) → IfErr r (λ fault. JudgesPart bytes a b fault.taken)
+judged_part bytes said a b (Ok legal) says printed short = tt
+judged_part bytes said a b (Err fault) says printed short = record { said = said; says = says; printed = printed; short = short }
 
 pub judged_start : (bytes : List ℕ) (a : Option (List ℕ)) → JudgedUpTo bytes bytes a a true
 judged_start bytes a = record { saids = []; says = λ more all. all; first = λ more last some. some; printed = Appends-nil a; legal_is = refl }

@@ -1,7 +1,9 @@
 //! From the bytes of an input to the lines on its traces.
-ghost use Rattle.std.specs.Prelude.{◌≡◌, ◌≤◌, length, IfErr, IfOk, IfSome, OnErr, OnOk};
+ghost use Rattle.std.specs.Prelude.{◌≡◌, ◌<◌, ◌≤◌, length, take, IfErr, IfOk, IfSome, OnErr, OnOk};
+ghost use Rattle.std.specs.Io.KnownBytes.{Appends};
 ghost use Rattle.mu_io.specs.Faults.{Rose};
 ghost use Rattle.mu_input.specs.declared.TheConstants.{TRACE_LIMIT};
+ghost use Rattle.mu_report.specs.Said.{text, IsShort};
 ghost use Rattle.mu_judge.specs.Traces.{HasFault, JudgesAll, JudgesOne, JudgesPart, JudgesSome, Stops, is_legal as is_legal_said, status_of};
 
 use crate::cutting::cut;
@@ -130,6 +132,24 @@ fn judge_trace<K: Sink>(alloc: Global, bytes: &[u8], sink: &mut K) -> Result<boo
     ensures fault { OnErr result (Rose (K.faults sink.old) (K.faults sink.new)) }
 {
     let said = judged(alloc, bytes);
-    print(sink, &said)?;
-    Ok(is_legal(&said))
+    print_verdict(sink, &said)
+}
+
+/// Writes what is said of a trace. Whether the trace is legal.
+///
+/// # Errors
+///
+/// Those of `judge_trace`, which alone owns what is said: it is let go in one place so.
+fn print_verdict<K: Sink>(sink: &mut K, said: &Said) -> Result<bool, WriteFault>
+    requires { IsShort said.now }
+    ensures whole { OnOk result (Appends (K.written sink.old) (K.written sink.new) (text said.now)) }
+    ensures legal { IfOk result (λ legal. legal ≡ is_legal_said said.now) }
+    ensures part { IfErr result (λ fault.
+        Appends (K.written sink.old) (K.written sink.new) (take fault.taken (text said.now))) }
+    ensures short { IfErr result (λ fault. fault.taken < length (text said.now)) }
+    ensures same_faults { OnOk result (K.faults sink.new ≡ K.faults sink.old) }
+    ensures fault { OnErr result (Rose (K.faults sink.old) (K.faults sink.new)) }
+{
+    print(sink, said)?;
+    Ok(is_legal(said))
 }

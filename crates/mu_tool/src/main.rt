@@ -28,12 +28,16 @@ fn words_after_name<R: Env + AllocGlobal>(rt: &R) -> Result<Vec<String>, ErrorKi
 fn main(rt: HostRuntime) -> ExitCode {
     let mut source = StdSource::new(rt.stdin());
     let mut sink = StdSink::new(rt.stdout());
-    let status = match words_after_name(&rt) {
-        Ok(words) => {
-            let words = words.as_slice();
-            mu(&rt, rt.alloc(), words, &mut source, &mut sink, &OpenGate).status
-        }
-        Err(kind) => answer(&mut sink, said_unread(kind)).status,
+    let answered = match words_after_name(&rt) {
+        Ok(words) => mu(
+            &rt,
+            rt.alloc(),
+            words.as_slice(),
+            &mut source,
+            &mut sink,
+            &OpenGate,
+        ),
+        Err(kind) => answer(&mut sink, said_unread(kind)),
     };
-    ExitCode::from(status)
+    ExitCode::from(answered.into_status())
 }

@@ -35,6 +35,15 @@ pub struct Answered {
     pub taken: usize,
 }
 
+impl Answered {
+    /// The status that the program ends with. What was to be said is let go.
+    pub fn into_status(self) -> u8
+        ensures { result ≡ self.status }
+    {
+        self.status
+    }
+}
+
 /// Does what the words ask for: reads all of the source where they need input, runs the job or
 /// judges the trace, and writes what there is to say. Memory is wanted before the first step of a
 /// replica and before the first event is judged alone, and for `live` once more, after the run and
