@@ -3,10 +3,13 @@ use crate::replays::TWO_CLIENTS;
 use front_desk::collect;
 use kv_store::{Command, Key, Op, Text};
 use mu_cluster::{Gate, OpenGate};
-use mu_input::{desk_line, read};
+use mu_input::{Job, desk_line, read};
+use std::alloc::Global;
+use std::sync::Wait;
 use std::sync::atomic::{AtomicU64, Ordering};
 use std::test::Fail;
 use std::thread;
+use std::thread::Threads;
 
 /// Holds the first command of client 0 until two of client 1 were sent, and the third of client 1
 /// until client 0 sends its first.
@@ -51,6 +54,28 @@ fn text(held: &str) -> Result<Text, Fail> {
     Ok(Text::new(held.as_bytes()).ok_or("no text")?)
 }
 
+/// What a desk collects of the job of a text.
+fn collected<R: Threads + Wait + Sync, G: Gate + Sync>(
+    rt: &R,
+    alloc: Global,
+    text: &str,
+    gate: &G,
+) -> Result<Job, Fail> {
+    let Ok(job) = read(alloc, text.as_bytes()) else {
+        return Err(Fail::from("no job"));
+    };
+    if desk_line(text.as_bytes()).is_some() {
+        return Err(Fail::from("no job for a desk"));
+    }
+    Ok(collect(rt, alloc, job, gate)?)
+}
+
+/// Whether there are six commands with their rows, and these two are the first.
+fn begins(job: &Job, first: Command, second: Command) -> bool {
+    let commands = job.commands.as_slice();
+    commands.len() == 6 && job.config.rows.len() == 6 && commands.starts_with(&[first, second])
+}
+
 #[test]
 fn clients_send_at_once(rt: HostRuntime) -> Result<(), Fail> {
     let gate = Crossed {
@@ -58,35 +83,18 @@ fn clients_send_at_once(rt: HostRuntime) -> Result<(), Fail> {
         third: AtomicU64::new(0),
         failures: AtomicU64::new(0),
     };
-    let bytes = TWO_CLIENTS.as_bytes();
-    let Ok(job) = read(rt.alloc(), bytes) else {
-        return Err(Fail::from("no job"));
-    };
-    if desk_line(bytes).is_some() {
-        return Err(Fail::from("no job for a desk"));
-    }
-    let collected = collect(&rt, rt.alloc(), job, &gate)?;
-    assert_eq!(rt; gate.failures.load(Ordering::SeqCst), 0);
-    let commands = collected.commands.as_slice();
-    assert_eq!(rt; commands.len(), 6);
-    assert_eq!(rt; collected.config.rows.len(), 6);
     let first = Command::new(1, 1, Op::Put(key("b")?, text("7")?)).ok_or("no command")?;
     let second = Command::new(1, 2, Op::Swap(key("a")?, text("9")?)).ok_or("no command")?;
-    assert_eq!(rt; commands[0], first);
-    assert_eq!(rt; commands[1], second);
+    let collected = collected(&rt, rt.alloc(), TWO_CLIENTS, &gate)?;
+    let is_right = begins(&collected, first, second);
+    assert!(rt; is_right && gate.failures.load(Ordering::SeqCst) == 0);
     Ok(())
 }
 
 #[test]
 fn nothing_is_collected_of_no_commands(rt: HostRuntime) -> Result<(), Fail> {
-    let bytes = b"mu 1\nreplicas 1\nring 8\nbudget 1000\nend\n";
-    let Ok(job) = read(rt.alloc(), bytes) else {
-        return Err(Fail::from("no job"));
-    };
-    if desk_line(bytes).is_some() {
-        return Err(Fail::from("no job for a desk"));
-    }
-    let collected = collect(&rt, rt.alloc(), job, &OpenGate)?;
-    assert_eq!(rt; collected.commands.len(), 0);
+    let text = "mu 1\nreplicas 1\nring 8\nbudget 1000\nend\n";
+    let collected = collected(&rt, rt.alloc(), text, &OpenGate)?;
+    assert!(rt; collected.commands.is_empty());
     Ok(())
 }

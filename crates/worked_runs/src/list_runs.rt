@@ -1,12 +1,12 @@
 //! Whole jobs over plain lists: the same is said as over packed words.
 ghost use Rattle.mu_report.specs.Said.{IsShort};
 
+use crate::printing::text_of;
 use crate::replays::SAID;
 use list_fabric::ListFabric;
 use mu_cluster::replay_over;
 use mu_input::{InputEnd, read};
-use mu_io::MemSink;
-use mu_report::{Said, print};
+use mu_report::Said;
 use std::alloc::Global;
 use std::test::Fail;
 
@@ -29,13 +29,17 @@ fn said_over_lists(alloc: Global, text: &str) -> Said
     }
 }
 
+/// What is printed of a job over plain lists.
+fn printed_over_lists(alloc: Global, text: &str) -> Result<Vec<u8>, Fail> {
+    let said = said_over_lists(alloc, text);
+    text_of(alloc, &said)
+}
+
 #[test]
 fn says_the_same_over_lists(rt: HostRuntime) -> Result<(), Fail> {
     for (name, input, text) in SAID {
-        let mut sink = MemSink::new(vec![in rt.alloc(); 0; 4096]?, 4096, Vec::new(rt.alloc()));
-        let said = said_over_lists(rt.alloc(), input);
-        assert!(rt; print(&mut sink, &said).is_ok(), "{name}");
-        assert_eq!(rt; sink.written(), text.as_bytes(), "{name}");
+        let said = printed_over_lists(rt.alloc(), input)?;
+        assert_eq!(rt; said.as_slice(), text.as_bytes(), "{name}");
     }
     Ok(())
 }

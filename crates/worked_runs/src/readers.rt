@@ -5,11 +5,12 @@ ghost use Rattle.snap_reads.specs.Lives.{told_commands};
 use crate::replays::{TWO_CLIENTS, job_of};
 use kv_store::{Command, Key, Op, Text};
 use mu_cluster::{Gate, OpenGate, Outcome, replay};
-use snap_reads::{Sight, live, start};
+use snap_reads::{Lived, Sight, live, start};
 use std::alloc::Global;
 use std::sync::atomic::{AtomicU64, Ordering};
 use std::test::Fail;
 use std::thread;
+use std::thread::Threads;
 
 fn key(name: &str) -> Result<Key, Fail> {
     Ok(Key::new(name.as_bytes()).ok_or("no key")?)
@@ -95,6 +96,34 @@ fn last_two(sights: &[Sight]) -> Option<[(Key, Option<Text>, u16); 2]> {
     Some([first, second].map(|sight| (sight.key, sight.seen.value(), sight.seen.upto())))
 }
 
+/// What readers see of the job of a text.
+fn lived<R: Threads + Sync, G: Gate + Sync>(
+    rt: &R,
+    alloc: Global,
+    text: &str,
+    readers: u8,
+    gate: &G,
+) -> Result<Lived, Fail>
+    requires { (1 ≤ readers) × (readers ≤ 4) }
+{
+    let outcome = replayed(alloc, text)?;
+    Ok(live(rt, alloc, &outcome, readers, gate)?)
+}
+
+/// How many sights each reader had.
+fn counts(lived: &Lived, wanted: &[usize]) -> bool {
+    let lists = lived.sights.as_slice().iter();
+    lists.map(|sights| sights.len()).eq(wanted.iter().copied())
+}
+
+/// Whether each reader saw this last.
+fn saw_last(lived: &Lived, wanted: [(Key, Option<Text>, u16); 2]) -> bool {
+    let lists = lived.sights.as_slice();
+    lists
+        .iter()
+        .all(|sights| last_two(sights.as_slice()) == Some(wanted))
+}
+
 #[test]
 fn readers_go_on_beside_the_writer(rt: HostRuntime) -> Result<(), Fail> {
     let gate = Crossed {
@@ -102,26 +131,20 @@ fn readers_go_on_beside_the_writer(rt: HostRuntime) -> Result<(), Fail> {
         get: AtomicU64::new(0),
         failures: AtomicU64::new(0),
     };
-    let outcome = replayed(rt.alloc(), TWO_CLIENTS)?;
-    let lived = live(&rt, rt.alloc(), &outcome, 2, &gate)?;
-    assert_eq!(rt; gate.failures.load(Ordering::SeqCst), 0);
-    let a = (key("a")?, Some(text("1")?), 6);
-    let b = (key("b")?, Some(text("7")?), 6);
-    let wanted = [Some([a, b]); 2];
-    let counts = lived.sights.as_slice().iter().map(|sights| sights.len());
-    assert!(rt; counts.eq([202, 202]));
-    let last = lived.sights.as_slice().iter();
-    let last = last.map(|sights| last_two(sights.as_slice()));
-    assert!(rt; last.eq(wanted));
+    let wanted = [
+        (key("a")?, Some(text("1")?), 6),
+        (key("b")?, Some(text("7")?), 6),
+    ];
+    let lived = lived(&rt, rt.alloc(), TWO_CLIENTS, 2, &gate)?;
+    let are_right = counts(&lived, &[202, 202]) && saw_last(&lived, wanted);
+    assert!(rt; are_right && gate.failures.load(Ordering::SeqCst) == 0);
     Ok(())
 }
 
 #[test]
 fn no_key_is_read(rt: HostRuntime) -> Result<(), Fail> {
     let text = "mu 1\nreplicas 3\nring 8\nbudget 1000\nend\n";
-    let outcome = replayed(rt.alloc(), text)?;
-    let lived = live(&rt, rt.alloc(), &outcome, 1, &OpenGate)?;
-    let sights = lived.sights.as_slice().iter().map(|sights| sights.len());
-    assert!(rt; sights.eq([0]));
+    let lived = lived(&rt, rt.alloc(), text, 1, &OpenGate)?;
+    assert!(rt; counts(&lived, &[0]));
     Ok(())
 }

@@ -4,13 +4,13 @@ ghost use Rattle.mu_input.specs.Heads.{HaveHeads};
 ghost use Rattle.mu_model.specs.Contents.{IsConfig};
 ghost use Rattle.mu_report.specs.Said.{IsShort};
 
+use crate::printing::text_of;
 use mu_check::{Verdict, check};
 use mu_cluster::{Outcome, replay};
-use mu_input::{InputEnd, Job, bulk, read, read_trace};
-use mu_io::MemSink;
-use mu_model::{End, Pause, Sequence, Stop, Verb};
-use mu_report::{Said, print};
-use std::alloc::{AllocError, Global};
+use mu_input::{InputEnd, Job, bulk, read};
+use mu_model::{Config, End, Pause, Sequence, Stop, Verb};
+use mu_report::Said;
+use std::alloc::Global;
 use std::test::Fail;
 
 /// One command of one replica.
@@ -79,6 +79,12 @@ pub(crate) fn said_of(alloc: Global, text: &str) -> Said
     }
 }
 
+/// What is printed of a replay of the job of these bytes.
+fn printed(alloc: Global, text: &str) -> Result<Vec<u8>, Fail> {
+    let said = said_of(alloc, text);
+    text_of(alloc, &said)
+}
+
 /// The job that a text spells, with the commands and their rows in order.
 pub(crate) fn job_of(alloc: Global, text: &str) -> Result<Job, Fail>
     ensures { IfOk result
@@ -114,37 +120,63 @@ fn log(outcome: &Outcome, replica: u8) -> &[u16] {
         .map_or(&[], |log| log.as_slice())
 }
 
+/// How many entries a replica committed.
+fn commit_count(outcome: &Outcome, replica: u8) -> usize {
+    outcome
+        .commits
+        .as_slice()
+        .get(usize::from(replica))
+        .map_or(0, |commits| commits.len())
+}
+
 /// Whether one list begins the other.
 fn is_prefix(one: &[u16], other: &[u16]) -> bool {
     other.starts_with(one)
 }
 
+/// Whether of these two logs one begins the other.
+fn agree(outcome: &Outcome, one: u8, other: u8) -> bool {
+    let (one, other) = (log(outcome, one), log(outcome, other));
+    is_prefix(one, other) || is_prefix(other, one)
+}
+
 #[test]
 fn says_what_is_left(rt: HostRuntime) -> Result<(), Fail> {
     for (name, input, text) in SAID {
-        let mut sink = MemSink::new(vec![in rt.alloc(); 0; 4096]?, 4096, Vec::new(rt.alloc()));
-        let said = said_of(rt.alloc(), input);
-        assert!(rt; print(&mut sink, &said).is_ok(), "{name}");
-        assert_eq!(rt; sink.written(), text.as_bytes(), "{name}");
+        let said = printed(rt.alloc(), input)?;
+        assert_eq!(rt; said.as_slice(), text.as_bytes(), "{name}");
     }
     Ok(())
+}
+
+/// Whether these are 93 events, of which the 49th writes an entry and the last the head.
+fn are_of_one_put(outcome: &Outcome) -> bool {
+    let Some(journal) = outcome.journals.as_slice().first() else {
+        return false;
+    };
+    let events = journal.as_slice();
+    let commit = events.get(49).map(|event| event.verb);
+    let last = events.last().map(|event| event.verb);
+    events.len() == 93
+        && matches!(commit, Some(Verb::PutSlot(0, 0, _, 0)))
+        && last == Some(Verb::RaiseHead(1))
 }
 
 #[test]
 fn one_put(rt: HostRuntime) -> Result<(), Fail> {
     let outcome = left(rt.alloc(), ONE_PUT, &[], &[])?;
-    let Some(journal) = outcome.journals.as_slice().first() else {
-        return Err(Fail::from("no journal"));
-    };
-    let events = journal.as_slice();
-    assert_eq!(rt; events.len(), 93);
-    let commit = events.get(49).map(|event| event.verb);
-    assert!(rt; matches!(commit, Some(Verb::PutSlot(0, 0, _, 0))));
-    assert_eq!(rt;
-        events.last().map(|event| event.verb),
-        Some(Verb::RaiseHead(1))
-    );
+    let is_right = are_of_one_put(&outcome);
+    assert!(rt; is_right);
     Ok(())
+}
+
+/// The verdict on the events in their order, and how many there are.
+fn judged(alloc: Global, config: &Config, outcome: &Outcome) -> Result<(Verdict, usize), Fail> {
+    let Some(order) = &outcome.order else {
+        return Err(Fail::from("no order"));
+    };
+    let verdict = check(alloc, config, order.as_slice())?;
+    Ok((verdict, order.as_slice().len()))
 }
 
 #[test]
@@ -152,33 +184,28 @@ fn trace_and_check(rt: HostRuntime) -> Result<(), Fail> {
     let job = job_of(rt.alloc(), ONE_PUT)?;
     let config = job.config.copied(rt.alloc())?;
     let outcome = replayed(rt.alloc(), job)?;
-    let Some(order) = &outcome.order else {
-        return Err(Fail::from("no order"));
-    };
-    let verdict = check(rt.alloc(), &config, order.as_slice())?;
-    assert_eq!(rt; verdict, Verdict::Legal);
-    assert_eq!(rt; order.as_slice().len(), 93);
+    let verdict = judged(rt.alloc(), &config, &outcome)?;
+    assert_eq!(rt; verdict, (Verdict::Legal, 93));
     Ok(())
 }
 
-#[test]
-fn five_laps(rt: HostRuntime) -> Result<(), Fail> {
-    let alloc = rt.alloc();
+/// The job of forty puts.
+fn forty_puts(alloc: Global) -> Result<String, Fail> {
     let mut text = String::from_str(alloc, "mu 1\nreplicas 3\nring 8\nbudget 20000\nclient 0\n")?;
     for _ in 0..40 {
         text.push_str("put a 1\n")?;
     }
     text.push_str("end\n")?;
-    let outcome = left(alloc, text.as_str(), &[], &[])?;
-    for (replica, commits) in [(0, 40), (1, 0), (2, 0)] {
-        assert_eq!(rt; log(&outcome, replica).len(), 40);
-        let own = outcome
-            .commits
-            .as_slice()
-            .get(usize::from(replica))
-            .map(|commits| commits.len());
-        assert_eq!(rt; own, Some(commits));
-    }
+    Ok(text)
+}
+
+#[test]
+fn five_laps(rt: HostRuntime) -> Result<(), Fail> {
+    let text = forty_puts(rt.alloc())?;
+    let outcome = left(rt.alloc(), text.as_str(), &[], &[])?;
+    let logs = [0, 1, 2].map(|replica| log(&outcome, replica).len());
+    let commits = [0, 1, 2].map(|replica| commit_count(&outcome, replica));
+    assert_eq!(rt; (logs, commits), ([40, 40, 40], [40, 0, 0]));
     Ok(())
 }
 
@@ -189,12 +216,17 @@ fn follow_on(outcome: &Outcome) -> bool {
         && is_prefix(log(outcome, 0), log(outcome, 1))
 }
 
+/// Whether all six commands are replicated after replica 0 stopped.
+fn leader_stopped(alloc: Global, steps: u32) -> Result<bool, Fail> {
+    let outcome = left(alloc, TWO_CLIENTS, &[Stop { replica: 0, steps }], &[])?;
+    Ok(follow_on(&outcome))
+}
+
 #[test]
 fn leader_stops_anywhere(rt: HostRuntime) -> Result<(), Fail> {
     for steps in 0..=400 {
-        let stop = Stop { replica: 0, steps };
-        let outcome = left(rt.alloc(), TWO_CLIENTS, &[stop], &[])?;
-        assert!(rt; follow_on(&outcome), "at {steps}");
+        let is_right = leader_stopped(rt.alloc(), steps)?;
+        assert!(rt; is_right, "at {steps}");
     }
     Ok(())
 }
@@ -207,52 +239,61 @@ fn leader_pauses(rt: HostRuntime) -> Result<(), Fail> {
         rounds: 3_000,
     };
     let outcome = left(rt.alloc(), TWO_CLIENTS, &[], &[pause])?;
-    assert!(rt; follow_on(&outcome));
+    let is_right = follow_on(&outcome);
+    assert!(rt; is_right);
     Ok(())
+}
+
+/// Whether the leader and the other follower have all six commands after a follower stopped, and
+/// what that one has begins them.
+fn follower_stopped(alloc: Global, replica: u8, other: u8, steps: u32) -> Result<bool, Fail> {
+    let outcome = left(alloc, TWO_CLIENTS, &[Stop { replica, steps }], &[])?;
+    Ok(
+        log(&outcome, 0).len() == 6
+            && log(&outcome, other).len() == 6
+            && is_prefix(log(&outcome, replica), log(&outcome, 0)),
+    )
 }
 
 #[test]
 fn followers_stop_anywhere(rt: HostRuntime) -> Result<(), Fail> {
     for steps in 0..=400 {
         for (replica, other) in [(1, 2), (2, 1)] {
-            let stop = Stop { replica, steps };
-            let outcome = left(rt.alloc(), TWO_CLIENTS, &[stop], &[])?;
-            assert_eq!(rt; log(&outcome, 0).len(), 6, "{replica} at {steps}");
-            assert_eq!(rt; log(&outcome, other).len(), 6, "{replica} at {steps}");
-            let begins = is_prefix(log(&outcome, replica), log(&outcome, 0));
-            assert!(rt; begins, "{replica} at {steps}");
+            let is_right = follower_stopped(rt.alloc(), replica, other, steps)?;
+            assert!(rt; is_right, "{replica} at {steps}");
         }
     }
     Ok(())
+}
+
+/// Whether the logs agree after replicas 0 and 1 stopped.
+fn two_stopped(alloc: Global, steps: u32) -> Result<bool, Fail> {
+    let stops = [0, 1].map(|replica| Stop { replica, steps });
+    let outcome = left(alloc, TWO_CLIENTS, &stops, &[])?;
+    Ok(agree(&outcome, 0, 1) && agree(&outcome, 0, 2) && agree(&outcome, 1, 2))
 }
 
 #[test]
 fn two_stop_at_once(rt: HostRuntime) -> Result<(), Fail> {
     for steps in 0..=400 {
-        let stops = [0, 1].map(|replica| Stop { replica, steps });
-        let outcome = left(rt.alloc(), TWO_CLIENTS, &stops, &[])?;
-        for one in 0..3 {
-            for other in 0..3 {
-                let (one, other) = (log(&outcome, one), log(&outcome, other));
-                assert!(rt;
-                    is_prefix(one, other) || is_prefix(other, one),
-                    "at {steps}"
-                );
-            }
-        }
+        let is_right = two_stopped(rt.alloc(), steps)?;
+        assert!(rt; is_right, "at {steps}");
     }
     Ok(())
+}
+
+/// Whether each of three replicas has all commands of the stated job of 1,500, and finished.
+fn are_full(outcome: &Outcome) -> bool {
+    let ends = outcome.ends.as_slice();
+    [0, 1, 2].map(|replica| log(outcome, replica).len()) == [1_500; 3]
+        && outcome.replies.len() == 1_500
+        && ends.iter().all(|end| matches!(end, End::Finished { .. }))
 }
 
 #[test]
 fn bulk_full(rt: HostRuntime) -> Result<(), Fail> {
     let outcome = replayed(rt.alloc(), bulk(rt.alloc(), 1_500)?)?;
-    for replica in 0..3 {
-        assert_eq!(rt; log(&outcome, replica).len(), 1_500);
-    }
-    assert_eq!(rt; outcome.replies.len(), 1_500);
-    for end in outcome.ends.as_slice() {
-        assert!(rt; matches!(end, End::Finished { .. }));
-    }
+    let is_right = are_full(&outcome);
+    assert!(rt; is_right);
     Ok(())
 }

@@ -1,117 +1,19 @@
 //! Texts of whole answers, as they come out of a sink in memory.
-ghost use Rattle.std.specs.Prelude.{◌<◌, ◌↔◌, IsTrue};
-ghost use Rattle.mu_report.specs.Report.{HasShortLists};
-ghost use Rattle.mu_report.specs.Said.{IsShort};
+ghost use Rattle.std.specs.Prelude.{◌<◌};
 
-use kv_store::{Command, Key, Op, Reply, Text};
-use mu_input::Job;
-use mu_io::{MemSink, WriteFault};
-use mu_model::{Answer, Config, End, Fence, Row, Script, Sequence, Target};
-use mu_outcome::{Commit, Commits, Log, Outcome, Verdict, Wrong};
-use mu_report::{Said, print};
-use std::alloc::{AllocError, Global};
+use crate::printing::{printed, text_of};
+use crate::replays::said_of;
+use mu_io::WriteFault;
+use mu_model::{Answer, Fence, Target};
+use mu_outcome::{Verdict, Wrong};
+use mu_report::Said;
+use std::alloc::Global;
 use std::test::Fail;
 
-const FINISHED: End = End::Finished { heads: [0; 7] };
+/// A put and a get.
+const PUT_AND_GET: &str = "mu 1\nreplicas 3\nring 8\nbudget 1000\nclient 0\nput a 5\nget a\nend\n";
 
-fn key(name: &str) -> Result<Key, Fail> {
-    Ok(Key::new(name.as_bytes()).ok_or("no key")?)
-}
-
-fn text(held: &str) -> Result<Text, Fail> {
-    Ok(Text::new(held.as_bytes()).ok_or("no text")?)
-}
-
-fn command(client: u8, number: u16, op: Op) -> Result<Command, Fail> {
-    Ok(Command::new(client, number, op).ok_or("no command")?)
-}
-
-/// A job with a row for each head word.
-fn job(
-    alloc: Global,
-    version: u8,
-    replicas: u8,
-    heads: &[u64],
-    commands: &[Command],
-) -> Result<Job, AllocError> {
-    let mut rows = Vec::new(alloc);
-    for head in heads {
-        rows.push(Row {
-            words: [*head, 0, 0, 0, 0, 0, 0, 0, 0, 0, 0, 0],
-        })?;
-    }
-    Ok(Job {
-        config: Config {
-            version,
-            width: 4,
-            replicas,
-            ring: 8,
-            budget: 1000,
-            rows: Sequence::from_vec(rows),
-        },
-        commands: Sequence::from_vec(commands.to_vec(alloc)?),
-        script: Script {
-            stops: Sequence::from_vec(Vec::new(alloc)),
-            pauses: Sequence::from_vec(Vec::new(alloc)),
-        },
-    })
-}
-
-fn log(alloc: Global, values: &[u16]) -> Result<Log, AllocError> {
-    Ok(Sequence::from_vec(values.to_vec(alloc)?))
-}
-
-/// Commits of these values, at the first positions.
-fn commits(alloc: Global, values: &[u16]) -> Result<Commits, AllocError> {
-    let mut commits = Vec::new(alloc);
-    for (position, &value) in (0u16..).zip(values.iter()) {
-        commits.push(Commit { position, value })?;
-    }
-    Ok(Sequence::from_vec(commits))
-}
-
-fn outcome(
-    alloc: Global,
-    job: Job,
-    logs: Vec<Log>,
-    commits: Vec<Commits>,
-    replies: &[Reply],
-    ends: &[End],
-) -> Result<Outcome, AllocError> {
-    Ok(Outcome {
-        job,
-        journals: Sequence::from_vec(Vec::new(alloc)),
-        logs: Sequence::from_vec(logs),
-        commits: Sequence::from_vec(commits),
-        replies: Sequence::from_vec(replies.to_vec(alloc)?),
-        ends: Sequence::from_vec(ends.to_vec(alloc)?),
-        order: None,
-        gathered: None,
-    })
-}
-
-/// Three replicas apply the two commands of a client, each in an entry of its own.
-fn plain_run(alloc: Global) -> Result<Outcome, Fail> {
-    let asked = [
-        command(0, 1, Op::Put(key("a")?, text("5")?))?,
-        command(0, 2, Op::Get(key("a")?))?,
-    ];
-    let job = job(alloc, 1, 3, &[0, 0], &asked)?;
-    let entries = [0, 1];
-    let logs = vec![in alloc;
-        log(alloc, &entries)?,
-        log(alloc, &entries)?,
-        log(alloc, &entries)?,
-    ]?;
-    let committed = vec![in alloc;
-        commits(alloc, &entries)?,
-        commits(alloc, &[])?,
-        commits(alloc, &[])?,
-    ]?;
-    let replies = [Reply::Done, Reply::Value(text("5")?)];
-    Ok(outcome(alloc, job, logs, committed, &replies, &[FINISHED; 3])?)
-}
-
+/// What is said of it.
 const PLAIN_TEXT: &str = "report 1
 log 0 entries 2 commits 2 finished
 0 0.1 put a 5
@@ -128,68 +30,41 @@ replies 2
 status 0
 ";
 
-fn is_short(outcome: &Outcome) -> bool
-    ensures { IsTrue result ↔ HasShortLists outcome.now }
-{
-    outcome.job.commands.len() < 32_768
-        && outcome
-            .logs
-            .as_slice()
-            .iter()
-            .all(|log| log.len() < 4_294_967_296)
-}
-
-/// A sink whose writes take at most `piece` bytes, and which fails at a write.
-fn sink(alloc: Global, piece: usize, fails: u32) -> Result<MemSink, AllocError>
-    requires { 0 < piece }
-{
-    let room = vec![in alloc; 0; 1000]?;
-    let fails = vec![in alloc; fails]?;
-    Ok(MemSink::new(room, piece, fails))
-}
-
-/// What is printed where no write fails.
-fn printed(alloc: Global, said: &Said) -> Result<Vec<u8>, Fail>
-    requires { IsShort said.now }
-{
-    let mut sink = sink(alloc, 7, 0)?;
-    print(&mut sink, said).ok().ok_or("a fault")?;
-    Ok(sink.written().to_vec(alloc)?)
-}
-
 #[test]
 fn says_short_answers(rt: HostRuntime) -> Result<(), Fail> {
-    let said = printed(rt.alloc(), &Said::Usage)?;
+    let said = text_of(rt.alloc(), &Said::Usage)?;
     assert_eq!(rt;
         said.as_slice(),
         b"usage: mu replay, mu run, mu check, mu trace, mu bulk N, mu live K, mu desk, mu book\n".as_slice()
     );
-    let said = printed(rt.alloc(), &Said::Refused { line: 5, cause: 11 })?;
+    let said = text_of(rt.alloc(), &Said::Refused { line: 5, cause: 11 })?;
     assert_eq!(rt; said.as_slice(), b"refused line 5 cause 11\n".as_slice());
-    let said = printed(rt.alloc(), &Said::ReadFault)?;
+    let said = text_of(rt.alloc(), &Said::ReadFault)?;
     assert_eq!(rt; said.as_slice(), b"read fault\n".as_slice());
-    let said = printed(rt.alloc(), &Said::NoMemory)?;
+    let said = text_of(rt.alloc(), &Said::NoMemory)?;
     assert_eq!(rt; said.as_slice(), b"no memory\n".as_slice());
-    let said = printed(rt.alloc(), &Said::TooLong)?;
+    let said = text_of(rt.alloc(), &Said::TooLong)?;
     assert_eq!(rt; said.as_slice(), b"too long\n".as_slice());
     Ok(())
 }
 
+/// How printing ends whose third write fails, where a write takes at most so many bytes; and what
+/// was written by then.
+fn cut(alloc: Global, piece: usize) -> Result<(Result<(), WriteFault>, Vec<u8>), Fail>
+    requires { 0 < piece }
+{
+    let said = said_of(alloc, PUT_AND_GET);
+    printed(alloc, &said, piece, 3)
+}
+
 #[test]
 fn counts_what_was_taken(rt: HostRuntime) -> Result<(), Fail> {
-    // How many bytes are taken where the third write fails, for the most that a write takes.
     for (piece, taken) in [(100, 44), (7, 9), (1, 2)] {
         assert!(rt; piece > 0);
-        let outcome = plain_run(rt.alloc())?;
-        assert!(rt; is_short(&outcome));
-        let mut sink = sink(rt.alloc(), piece, 3)?;
-        let result = print(&mut sink, &Said::Ran(outcome));
+        let (result, written) = cut(rt.alloc(), piece)?;
+        let first = PLAIN_TEXT.as_bytes().get(..taken);
         assert_eq!(rt; result, Err(WriteFault { taken }), "piece {piece}");
-        assert_eq!(rt;
-            Some(sink.written()),
-            PLAIN_TEXT.as_bytes().get(..taken),
-            "piece {piece}"
-        );
+        assert_eq!(rt; Some(written.as_slice()), first, "piece {piece}");
     }
     Ok(())
 }
@@ -241,13 +116,11 @@ fn expected_answers() -> [(Answer, &'static str); 11] {
 
 /// What is said of 26 events on which this is the verdict.
 fn judged(alloc: Global, verdict: Verdict) -> Result<Vec<u8>, Fail> {
-    printed(
-        alloc,
-        &Said::Judged {
-            events: 26,
-            verdict,
-        },
-    )
+    let said = Said::Judged {
+        events: 26,
+        verdict,
+    };
+    text_of(alloc, &said)
 }
 
 #[test]

@@ -3,6 +3,7 @@ use crate::replays::{ONE_PUT, TWO_CLIENTS, job_of};
 use kv_store::Reply;
 use mu_cluster::{Gate, OpenGate, Outcome, run};
 use mu_model::End;
+use mu_outcome::Log;
 use std::alloc::Global;
 use std::sync::Wait;
 use std::sync::atomic::{AtomicU64, Ordering};
@@ -80,6 +81,19 @@ fn is_prefix(one: &[u16], other: &[u16]) -> bool {
     one[..both] == other[..both]
 }
 
+/// Whether these are three replicas' logs of a run on threads, of any two of which one begins the
+/// other.
+fn are_three(outcome: &Outcome) -> bool {
+    let logs = outcome.logs.as_slice();
+    let agree = |one: &Log| logs
+        .iter()
+        .all(|other| is_prefix(one.as_slice(), other.as_slice()));
+    outcome.order.is_none()
+        && outcome.gathered.is_some()
+        && (logs.len(), outcome.journals.len()) == (3, 3)
+        && logs.iter().all(agree)
+}
+
 #[test]
 fn three_replicas_run_at_once(rt: HostRuntime) -> Result<(), Fail> {
     let gate = Crossed {
@@ -89,27 +103,27 @@ fn three_replicas_run_at_once(rt: HostRuntime) -> Result<(), Fail> {
         failures: AtomicU64::new(0),
     };
     let outcome = ran(&rt, rt.alloc(), TWO_CLIENTS, &gate)?;
-    assert_eq!(rt; gate.failures.load(Ordering::SeqCst), 0);
-    assert!(rt; outcome.order.is_none() && outcome.gathered.is_some());
-    assert_eq!(rt; (outcome.logs.len(), outcome.journals.len()), (3, 3));
-    for one in outcome.logs.as_slice() {
-        for other in outcome.logs.as_slice() {
-            assert!(rt; is_prefix(one.as_slice(), other.as_slice()));
-        }
-    }
+    let are_right = are_three(&outcome) && gate.failures.load(Ordering::SeqCst) == 0;
+    assert!(rt; are_right);
     Ok(())
+}
+
+/// Whether this is what one replica leaves of one put.
+fn is_of_one_put(outcome: &Outcome) -> bool {
+    let logs = outcome.logs.as_slice().iter().map(|log| log.len());
+    let journals = outcome.journals.as_slice().iter();
+    let commits = outcome.commits.as_slice().iter();
+    logs.eq([1])
+        && journals.map(|journal| journal.as_slice().len()).eq([93])
+        && commits.map(|commits| commits.len()).eq([1])
+        && matches!(outcome.ends.as_slice(), [End::Finished { .. }])
+        && matches!(outcome.replies.as_slice(), [Reply::Done])
 }
 
 #[test]
 fn one_replica_runs(rt: HostRuntime) -> Result<(), Fail> {
     let outcome = ran(&rt, rt.alloc(), ONE_PUT, &OpenGate)?;
-    let logs = outcome.logs.as_slice().iter().map(|log| log.len());
-    assert!(rt; logs.eq([1]));
-    let journals = outcome.journals.as_slice().iter();
-    assert!(rt; journals.map(|journal| journal.as_slice().len()).eq([93]));
-    let commits = outcome.commits.as_slice().iter();
-    assert!(rt; commits.map(|commits| commits.len()).eq([1]));
-    assert!(rt; matches!(outcome.ends.as_slice(), [End::Finished { .. }]));
-    assert!(rt; matches!(outcome.replies.as_slice(), [Reply::Done]));
+    let is_right = is_of_one_put(&outcome);
+    assert!(rt; is_right);
     Ok(())
 }
