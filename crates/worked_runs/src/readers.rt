@@ -116,12 +116,10 @@ fn counts(lived: &Lived, wanted: &[usize]) -> bool {
     lists.map(|sights| sights.len()).eq(wanted.iter().copied())
 }
 
-/// Whether each reader saw this last.
-fn saw_last(lived: &Lived, wanted: [(Key, Option<Text>, u16); 2]) -> bool {
-    let lists = lived.sights.as_slice();
-    lists
-        .iter()
-        .all(|sights| last_two(sights.as_slice()) == Some(wanted))
+/// Whether the readers saw these last.
+fn saw_last(lived: &Lived, wanted: [Option<[(Key, Option<Text>, u16); 2]>; 2]) -> bool {
+    let lists = lived.sights.as_slice().iter();
+    lists.map(|sights| last_two(sights.as_slice())).eq(wanted)
 }
 
 #[test]
@@ -136,7 +134,7 @@ fn readers_go_on_beside_the_writer(rt: HostRuntime) -> Result<(), Fail> {
         (key("b")?, Some(text("7")?), 6),
     ];
     let lived = lived(&rt, rt.alloc(), TWO_CLIENTS, 2, &gate)?;
-    let are_right = counts(&lived, &[202, 202]) && saw_last(&lived, wanted);
+    let are_right = counts(&lived, &[202, 202]) && saw_last(&lived, [Some(wanted); 2]);
     assert!(rt; are_right && gate.failures.load(Ordering::SeqCst) == 0);
     Ok(())
 }
