@@ -171,7 +171,9 @@ fn one_put(rt: HostRuntime) -> Result<(), Fail> {
 }
 
 /// The verdict on the events in their order, and how many there are.
-fn judged(alloc: Global, config: &Config, outcome: &Outcome) -> Result<(Verdict, usize), Fail> {
+fn judged(alloc: Global, config: &Config, outcome: &Outcome) -> Result<(Verdict, usize), Fail>
+    requires { IsConfig config.now }
+{
     let Some(order) = &outcome.order else {
         return Err(Fail::from("no order"));
     };
