@@ -1,7 +1,7 @@
 #!/usr/bin/env python3
-"""Writes the table of judged books: crates/worked_rows/src/order_cases.rt.
+"""Writes the table of judged books, in two files: order_cases.rt and more_order_cases.rt.
 
-    tools/book_table.py CASES REPLAY > crates/worked_rows/src/order_cases.rt
+    tools/book_table.py CASES REPLAY crates/worked_rows/src
 
 CASES is a folder of cases: a job in a file NAME and what an independent program prints of its book in
 NAME.stdout. REPLAY is a program that prints the report of a job on its standard input, from which the
@@ -14,13 +14,20 @@ import pathlib
 import subprocess
 import sys
 
-HEAD = """//! Jobs with their books: the commands in the order of the log, and the lines that an independent program prints.
+FIRST = """//! Jobs with their books: the commands in the order of the log, and the lines that an independent
+//! program prints.
 //! `tools/book_table.py` makes this file.
 
 /// Client, number and line of each command; and the lines.
 pub(crate) type Case = (&'static [(u8, u16, &'static str)], &'static str);
 
-/// All jobs."""
+/// The first jobs; `more_order_cases` has the others."""
+
+OTHERS = """//! The other jobs with their books, as those of `order_cases`.
+//! `tools/book_table.py` makes this file.
+use crate::order_cases::Case;
+
+/// The jobs after those of `order_cases`."""
 
 
 def commands(job, replay):
@@ -40,17 +47,24 @@ def book(lines):
     return "".join(f"{line}\n" for line in lines[start:] if line and not line.startswith("status "))
 
 
+def table(name, head, cases, replay):
+    """The text of one file."""
+    lines = [head, f"pub(crate) const {name}: [Case; {len(cases)}] = ["]
+    for case in cases:
+        lines.append("    (&[")
+        for client, number, line in commands(case.with_suffix("").read_bytes(), replay):
+            lines.append(f"        ({client}, {number}, {json.dumps(line)}),")
+        lines.append(f"    ], {json.dumps(book(case.read_text().split(chr(10))))}),")
+    return "\n".join([*lines, "];", ""])
+
+
 def main():
-    folder, replay = sys.argv[1:]
-    names = sorted(pathlib.Path(folder).glob("*.stdout"))
-    print(HEAD)
-    print(f"pub(crate) const CASES: [Case; {len(names)}] = [")
-    for name in names:
-        print("    (&[")
-        for client, number, line in commands(name.with_suffix("").read_bytes(), replay):
-            print(f"        ({client}, {number}, {json.dumps(line)}),")
-        print(f"    ], {json.dumps(book(name.read_text().split(chr(10))))}),")
-    print("];")
+    folder, replay, to = sys.argv[1:]
+    cases = sorted(pathlib.Path(folder).glob("*.stdout"))
+    half = len(cases) // 2
+    to = pathlib.Path(to)
+    (to / "order_cases.rt").write_text(table("CASES", FIRST, cases[:half], replay))
+    (to / "more_order_cases.rt").write_text(table("MORE_CASES", OTHERS, cases[half:], replay))
 
 
 if __name__ == "__main__":

@@ -19,6 +19,8 @@ mod memories;
 #[cfg(test)]
 mod model;
 #[cfg(test)]
+mod more_order_cases;
+#[cfg(test)]
 mod order_cases;
 #[cfg(test)]
 mod orders;

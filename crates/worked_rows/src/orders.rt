@@ -1,4 +1,5 @@
 //! Books of whole runs, against outside values.
+use crate::more_order_cases::MORE_CASES;
 use crate::order_cases::CASES;
 use kv_store::{Command, Key, Op, Text};
 use match_book::{Book, Id, Resting, Side, Trade};
@@ -189,17 +190,25 @@ fn shown(alloc: Global, book: &Book) -> Result<String, Fail> {
     Ok(lines)
 }
 
+/// What the book shows after the commands of these lines.
+fn shown_after(alloc: Global, lines: &[(u8, u16, &'static str)]) -> Result<String, Fail> {
+    let mut commands = Vec::new(alloc);
+    for &(client, number, line) in lines {
+        let command = Command::new(client, number, op_of(line)?).ok_or("no command")?;
+        commands.push(command)?;
+    }
+    let book = book_of(alloc, commands.as_slice())?;
+    shown(alloc, &book)
+}
+
 #[test]
 fn keeps_the_books_of_the_cases(rt: HostRuntime) -> Result<(), Fail> {
     let alloc = rt.alloc();
     for &(lines, wanted) in CASES.iter() {
-        let mut commands = Vec::new(alloc);
-        for &(client, number, line) in lines {
-            let command = Command::new(client, number, op_of(line)?).ok_or("no command")?;
-            commands.push(command)?;
-        }
-        let book = book_of(alloc, commands.as_slice())?;
-        assert_eq!(rt; shown(alloc, &book)?.as_str(), wanted);
+        assert_eq!(rt; shown_after(alloc, lines)?.as_str(), wanted);
+    }
+    for &(lines, wanted) in MORE_CASES.iter() {
+        assert_eq!(rt; shown_after(alloc, lines)?.as_str(), wanted);
     }
     Ok(())
 }
