@@ -1,10 +1,10 @@
 //! The trace of a replay: its job, and its events in their order.
-ghost use Rattle.std.specs.Prelude.{◌≡◌, ◌+◌, ◌*◌, ◌<◌, ◌^◌, [], ◌∷◌, ◌++◌, length, map, codes, true, IfErr, IfOk};
+ghost use Rattle.std.specs.Prelude.{◌≡◌, ◌↔◌, ◌+◌, ◌*◌, ◌<◌, ◌^◌, [], ◌∷◌, ◌++◌, length, map, codes, true, IsTrue, IfErr, IfOk};
 ghost use Rattle.std.specs.Fmt.{decimal};
 ghost use Rattle.mu_report.specs.declared.line.TheConstants.{LINE_BYTES};
 ghost use Rattle.mu_report.specs.Printing.{PrintsAll, PrintsPart};
 ghost use Rattle.mu_report.specs.Words.{op_words};
-ghost use Rattle.mu_report.specs.Trace.{event_line as event_line_of, batch_lines, setting_lines, client_count, command_lines, commands_lines, client_lines, stop_line as stop_line_of, pause_line as pause_line_of, has_lines as has_lines_of, script_lines, events_of as events_of_order, trace_lines, IsCountable};
+ghost use Rattle.mu_report.specs.Trace.{event_line as event_line_of, batch_lines, setting_lines, client_count, command_lines, commands_lines, client_lines, stop_line as stop_line_of, pause_line as pause_line_of, has_lines as has_lines_of, script_lines, events_of as events_of_order, trace_lines, HasShortTrace, IsCountable};
 
 use crate::line::{Line, print_line, print_words};
 use crate::report::numbered_line;
@@ -37,7 +37,8 @@ pub fn print_trace<K: Sink>(sink: &mut K, outcome: &Outcome) -> Result<usize, Wr
 /// Whether the lists of a trace are so short that its bytes can be counted in 64 bits: at most 256
 /// clients, and fewer than 2^15 commands, 2^16 stops, 2^16 pauses and 2^32 events.
 pub fn is_countable(outcome: &Outcome) -> bool
-    ensures { result ≡ true → IsCountable outcome.now }
+    ensures exact { IsTrue result ↔ HasShortTrace outcome.now }
+    ensures countable { result ≡ true → IsCountable outcome.now }
 {
     let clients = count_of_clients(outcome.job.commands.as_slice());
     let events = events_of(&outcome.order);
