@@ -21,11 +21,11 @@ trace_lines o = lines_of_trace o.job (events_of o.order)
 
 -- the lists of a trace are so short that its bytes can be counted
 pub record HasShortTrace (o : Outcome) : Type 0 where
-  clients : client_count 0 o.job.commands ≤ 256
-  commands : length o.job.commands < 2 ^ 15
-  stops : length o.job.script.stops < 2 ^ 16
-  pauses : length o.job.script.pauses < 2 ^ 16
-  events : length (events_of o.order) < 2 ^ 32
+  pub clients : client_count 0 o.job.commands ≤ 256
+  pub commands : length o.job.commands < 2 ^ 15
+  pub stops : length o.job.script.stops < 2 ^ 16
+  pub pauses : length o.job.script.pauses < 2 ^ 16
+  pub events : length (events_of o.order) < 2 ^ 32
 
 -- the bytes of the trace can be counted in 64 bits
 abbrev pub IsCountable : Outcome → Type 0
