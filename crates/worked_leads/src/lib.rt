@@ -1,0 +1,9 @@
+//! The worked rows of the leader: it steps through a memory, event by event, beside replicas whose
+//! steps are made by hand, and its verbs and notes are compared with those from outside.
+#![tactic(auto)]
+
+mod driven;
+#[cfg(test)]
+mod rows;
+
+pub use driven::{Driven, Led};
