@@ -4,7 +4,7 @@ ghost use Rattle.std.specs.Fmt.{decimal};
 ghost use Rattle.mu_report.specs.declared.line.TheConstants.{LINE_BYTES};
 ghost use Rattle.mu_report.specs.Printing.{PrintsAll, PrintsPart};
 ghost use Rattle.mu_report.specs.Words.{op_words};
-ghost use Rattle.mu_report.specs.Trace.{event_line as event_line_of, batch_lines, setting_lines, client_count, command_lines, commands_lines, client_lines, stop_line as stop_line_of, pause_line as pause_line_of, has_lines as has_lines_of, script_lines, events_of as events_of_order, trace_lines, HasShortTrace, IsCountable};
+ghost use Rattle.mu_report.specs.Trace.{event_line as event_line_of, batch_lines, setting_lines, client_count, command_lines, commands_lines, client_lines, stop_line as stop_line_of, pause_line as pause_line_of, has_lines as has_lines_of, script_lines, lines_of_client, lines_of_script, events_of as events_of_order, trace_lines, HasShortTrace, IsCountable};
 
 use crate::line::{Line, print_line, print_words};
 use crate::report::numbered_line;
@@ -150,13 +150,11 @@ fn print_client<K: Sink>(
     client: u16,
     commands: &[Command],
 ) -> Result<usize, WriteFault>
-    requires { taken + LINE_BYTES * length
-        ((codes "client " ++ decimal client) ∷ commands_lines client commands.now)
-        < 2 ^ 64 }
+    requires { taken + LINE_BYTES * length (lines_of_client client commands.now) < 2 ^ 64 }
     ensures all { IfOk result (PrintsAll (K.written sink.old) (K.written sink.new)
-        (K.faults sink.old) (K.faults sink.new) taken ((codes "client " ++ decimal client) ∷ commands_lines client commands.now)) }
+        (K.faults sink.old) (K.faults sink.new) taken (lines_of_client client commands.now)) }
     ensures part { IfErr result (λ fault. PrintsPart (K.written sink.old) (K.written sink.new)
-        (K.faults sink.old) (K.faults sink.new) taken ((codes "client " ++ decimal client) ∷ commands_lines client commands.now) fault.taken) }
+        (K.faults sink.old) (K.faults sink.new) taken (lines_of_client client commands.now) fault.taken) }
 {
     let taken = print_line(sink, taken, numbered_line(b"client ", u64::from(client)))?;
     print_commands_of(sink, taken, client, commands)
@@ -240,14 +238,11 @@ fn print_script_lines<K: Sink>(
     taken: usize,
     script: &Script,
 ) -> Result<usize, WriteFault>
-    requires { taken + LINE_BYTES * length
-        (codes "script"
-        ∷ (map stop_line_of script.now.stops ++ map pause_line_of script.now.pauses))
-        < 2 ^ 64 }
+    requires { taken + LINE_BYTES * length (lines_of_script script.now) < 2 ^ 64 }
     ensures all { IfOk result (PrintsAll (K.written sink.old) (K.written sink.new)
-        (K.faults sink.old) (K.faults sink.new) taken (codes "script" ∷ (map stop_line_of script.now.stops ++ map pause_line_of script.now.pauses))) }
+        (K.faults sink.old) (K.faults sink.new) taken (lines_of_script script.now)) }
     ensures part { IfErr result (λ fault. PrintsPart (K.written sink.old) (K.written sink.new)
-        (K.faults sink.old) (K.faults sink.new) taken (codes "script" ∷ (map stop_line_of script.now.stops ++ map pause_line_of script.now.pauses)) fault.taken) }
+        (K.faults sink.old) (K.faults sink.new) taken (lines_of_script script.now) fault.taken) }
 {
     let stops = script.stops.as_slice();
     let pauses = script.pauses.as_slice();
