@@ -9,8 +9,8 @@ pub mod Held
 pub mod Keeping
 pub mod Lates
 pub mod Looks
-pub mod Marks
 pub mod Losses
+pub mod Marks
 pub mod NoteKinds
 pub mod Numbering
 pub mod Offers
@@ -20,6 +20,16 @@ pub mod Quiet
 pub mod Replies
 pub mod Rests
 pub mod Rooms
+pub mod RoomsAsking
+pub mod RoomsBeside
+pub mod RoomsBringing
+pub mod RoomsInTime
+pub mod RoomsLate
+pub mod RoomsMin
+pub mod RoomsPutting
+pub mod RoomsQuiet
+pub mod RoomsTaking
+pub mod RoomsWriting
 pub mod Rounds
 pub mod Rows
 pub mod Saying

@@ -14,6 +14,7 @@ ghost use Rattle.mu_lead.specs.Standing.{HasHeeded, StandsFor, Takes};
 ghost use Rattle.mu_lead.specs.Saying.{NotesEnter, NotesEvidence, NotesHead, NotesJoin, NotesMin, NotesOver, NotesPut, NotesRound, is_working_or_lost};
 ghost use Rattle.mu_lead.specs.declared.note.Note.{Note as SomeNote};
 ghost use Rattle.mu_lead.specs.Going.{going_after};
+ghost use Rattle.mu_lead.specs.Rooms.{KeepsRooms};
 
 use crate::lead::Lead;
 use crate::note::Note;
@@ -56,6 +57,9 @@ impl Lead {
     pub fn at_confirm(&mut self, round: u8, p: u8, answer: Answer) -> Note
         ensures stands { (values : List ℕ)
             → Takes self.old (SomePlace.Confirm round p) values (SomeVerb.Fence p) answer self.new }
+        ensures rooms { (values : List ℕ)
+            → KeepsRooms self.old (SomePlace.Confirm round p) values (SomeVerb.Fence p) answer
+            self.new }
         ensures quiet { value_committed result ≡ None }
         ensures config { self.new.config ≡ self.old.config }
         ensures id { self.new.id ≡ self.old.id }
@@ -72,6 +76,8 @@ impl Lead {
     pub fn at_read_min(&mut self, p: u8, answer: Answer) -> Note
         ensures stands { (values : List ℕ)
             → Takes self.old (SomePlace.ReadMin p) values (SomeVerb.Min p) answer self.new }
+        ensures rooms { (values : List ℕ)
+            → KeepsRooms self.old (SomePlace.ReadMin p) values (SomeVerb.Min p) answer self.new }
         ensures quiet { value_committed result ≡ None }
         ensures config { self.new.config ≡ self.old.config }
         ensures id { self.new.id ≡ self.old.id }
@@ -89,6 +95,9 @@ impl Lead {
         ensures stands { (values : List ℕ)
             → Takes self.old (SomePlace.EnterMin p) values (SomeVerb.Enter p SomeTarget.Min) answer
             self.new }
+        ensures rooms { (values : List ℕ)
+            → KeepsRooms self.old (SomePlace.EnterMin p) values (SomeVerb.Enter p SomeTarget.Min)
+            answer self.new }
         ensures quiet { value_committed result ≡ None }
         ensures config { self.new.config ≡ self.old.config }
         ensures id { self.new.id ≡ self.old.id }
@@ -106,6 +115,9 @@ impl Lead {
         ensures stands { (values : List ℕ)
             → Takes self.old (SomePlace.PutMin p) values (SomeVerb.PutMin p self.old.number) answer
             self.new }
+        ensures rooms { (values : List ℕ)
+            → KeepsRooms self.old (SomePlace.PutMin p) values (SomeVerb.PutMin p self.old.number)
+            answer self.new }
         ensures quiet { value_committed result ≡ None }
         ensures config { self.new.config ≡ self.old.config }
         ensures id { self.new.id ≡ self.old.id }
@@ -139,6 +151,10 @@ impl Lead {
             → Takes self.old (SomePlace.EnterBehind p then) values
             (SomeVerb.Enter p
             (SomeTarget.Place (get_or self.old.up p 0 % self.old.config.ring)))
+            answer self.new }
+        ensures rooms { (values : List ℕ)
+            → KeepsRooms self.old (SomePlace.EnterBehind p then) values
+            (SomeVerb.Enter p (SomeTarget.Place (get_or self.old.up p 0 % self.old.config.ring)))
             answer self.new }
         ensures quiet { value_committed result ≡ None }
         ensures config { self.new.config ≡ self.old.config }
@@ -206,6 +222,8 @@ impl Lead {
     pub fn at_late_min(&mut self, p: u8, answer: Answer) -> Note
         ensures stands { (values : List ℕ)
             → Takes self.old (SomePlace.LateMin p) values (SomeVerb.Min p) answer self.new }
+        ensures rooms { (values : List ℕ)
+            → KeepsRooms self.old (SomePlace.LateMin p) values (SomeVerb.Min p) answer self.new }
         ensures quiet { value_committed result ≡ None }
         ensures config { self.new.config ≡ self.old.config }
         ensures id { self.new.id ≡ self.old.id }
@@ -238,6 +256,9 @@ impl Lead {
         ensures stands { (values : List ℕ)
             → Takes self.old (SomePlace.LateEnter p) values (SomeVerb.Enter p SomeTarget.Min) answer
             self.new }
+        ensures rooms { (values : List ℕ)
+            → KeepsRooms self.old (SomePlace.LateEnter p) values (SomeVerb.Enter p SomeTarget.Min)
+            answer self.new }
         ensures quiet { value_committed result ≡ None }
         ensures config { self.new.config ≡ self.old.config }
         ensures id { self.new.id ≡ self.old.id }
@@ -300,6 +321,9 @@ impl Lead {
         ensures stands { Takes self.old (SomePlace.Enter p offer) known.now
             (SomeVerb.Enter p (SomeTarget.Place (length known.now % self.old.config.ring))) answer
             self.new }
+        ensures rooms { KeepsRooms self.old (SomePlace.Enter p offer) known.now
+            (SomeVerb.Enter p (SomeTarget.Place (length known.now % self.old.config.ring))) answer
+            self.new }
         ensures quiet { value_committed result ≡ None }
         ensures config { self.new.config ≡ self.old.config }
         ensures id { self.new.id ≡ self.old.id }
@@ -315,6 +339,8 @@ impl Lead {
     /// Takes the answer at this place.
     pub fn at_put(&mut self, p: u8, offer: Offer, answer: Answer, known: &[u16]) -> Note
         ensures stands { Takes self.old (SomePlace.Put p offer) known.now
+            (SomeVerb.PutSlot p (length known.now) self.old.number offer.value) answer self.new }
+        ensures rooms { KeepsRooms self.old (SomePlace.Put p offer) known.now
             (SomeVerb.PutSlot p (length known.now) self.old.number offer.value) answer self.new }
         ensures tells { (mine : List SomeEvent) → StandsFor mine self.old
             → self.old.place ≡ SomePlace.Put p offer
@@ -351,6 +377,8 @@ impl Lead {
     pub fn at_evidence(&mut self, p: u8, answer: Answer) -> Note
         ensures stands { (values : List ℕ)
             → Takes self.old (SomePlace.Evidence p) values (SomeVerb.Fence p) answer self.new }
+        ensures rooms { (values : List ℕ)
+            → KeepsRooms self.old (SomePlace.Evidence p) values (SomeVerb.Fence p) answer self.new }
         ensures quiet { value_committed result ≡ None }
         ensures config { self.new.config ≡ self.old.config }
         ensures id { self.new.id ≡ self.old.id }

@@ -19,6 +19,7 @@ ghost use Rattle.mu_lead.specs.Standing.{HoldsAt, Stands, StandsFor, Takes, Take
 ghost use Rattle.mu_lead.specs.Saying.{is_working_or_lost, note_of_fence, note_of_learning, note_of_raise, value_seen};
 ghost use Rattle.mu_lead.specs.declared.note.Note.{Note as SomeNote};
 ghost use Rattle.mu_lead.specs.Going.{going_after};
+ghost use Rattle.mu_lead.specs.Rooms.{KeepsRooms};
 
 use crate::arrays::{with_fuo, with_number};
 use crate::lead::Lead;
@@ -189,6 +190,9 @@ impl Lead {
         ensures stands { (values : List ℕ)
             → Takes self.old (SomePlace.WidenBehind p then) values
             (SomeVerb.RaiseFuo p (get_or self.old.up p 0)) SomeAnswer.Done self.new }
+        ensures rooms { (values : List ℕ)
+            → KeepsRooms self.old (SomePlace.WidenBehind p then) values
+            (SomeVerb.RaiseFuo p (get_or self.old.up p 0)) SomeAnswer.Done self.new }
         ensures quiet { value_committed result ≡ None }
         ensures config { self.new.config ≡ self.old.config }
         ensures id { self.new.id ≡ self.old.id }
@@ -204,6 +208,9 @@ impl Lead {
     pub fn took_look_behind(&mut self, p: u8, then: Then, answer: Answer) -> Note
         ensures stands { (values : List ℕ)
             → Takes self.old (SomePlace.LookBehind p then) values
+            (SomeVerb.Look p (get_or self.old.up p 0)) answer self.new }
+        ensures rooms { (values : List ℕ)
+            → KeepsRooms self.old (SomePlace.LookBehind p then) values
             (SomeVerb.Look p (get_or self.old.up p 0)) answer self.new }
         ensures quiet { value_committed result ≡ None }
         ensures config { self.new.config ≡ self.old.config }
@@ -226,6 +233,10 @@ impl Lead {
             → Takes self.old (SomePlace.EnterBehind p then) values
             (SomeVerb.Enter p
             (SomeTarget.Place (get_or self.old.up p 0 % self.old.config.ring)))
+            SomeAnswer.Entered self.new }
+        ensures rooms { (values : List ℕ)
+            → KeepsRooms self.old (SomePlace.EnterBehind p then) values
+            (SomeVerb.Enter p (SomeTarget.Place (get_or self.old.up p 0 % self.old.config.ring)))
             SomeAnswer.Entered self.new }
         ensures quiet { value_committed result ≡ None }
         ensures config { self.new.config ≡ self.old.config }

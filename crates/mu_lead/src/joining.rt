@@ -12,6 +12,7 @@ ghost use Rattle.mu_lead.specs.Standing.{HoldsAt, Stands, Takes};
 ghost use Rattle.mu_lead.specs.Saying.{note_of_join};
 ghost use Rattle.mu_lead.specs.declared.note.Note.{Note as SomeNote};
 ghost use Rattle.mu_lead.specs.Going.{going_after};
+ghost use Rattle.mu_lead.specs.Rooms.{KeepsRooms};
 
 use crate::arrays::{with_fuo, with_number};
 use crate::lead::Lead;
@@ -64,6 +65,9 @@ impl Lead {
         ensures stands { (values : List ℕ)
             → Takes self.old (SomePlace.LateMin p) values (SomeVerb.Min p) (SomeAnswer.Number min)
             self.new }
+        ensures rooms { (values : List ℕ)
+            → KeepsRooms self.old (SomePlace.LateMin p) values (SomeVerb.Min p)
+            (SomeAnswer.Number min) self.new }
         ensures tells { min < 2 ^ 32 → result ≡ note_of_min p self.old.number min }
         ensures quiet { value_committed result ≡ None }
         ensures config { self.new.config ≡ self.old.config }
@@ -114,6 +118,9 @@ impl Lead {
     pub fn entered_late(&mut self, p: u8) -> Note
         ensures stands { (values : List ℕ)
             → Takes self.old (SomePlace.LateEnter p) values (SomeVerb.Enter p SomeTarget.Min)
+            SomeAnswer.Entered self.new }
+        ensures rooms { (values : List ℕ)
+            → KeepsRooms self.old (SomePlace.LateEnter p) values (SomeVerb.Enter p SomeTarget.Min)
             SomeAnswer.Entered self.new }
         ensures quiet { value_committed result ≡ None }
         ensures config { self.new.config ≡ self.old.config }

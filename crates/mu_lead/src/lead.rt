@@ -10,6 +10,7 @@ ghost use Rattle.mu_model.specs.Parts.{IsPossible};
 ghost use Rattle.mu_leading.specs.Leadership.{StandsForLeadership};
 ghost use Rattle.mu_lead.specs.Beside.{leads_at};
 ghost use Rattle.mu_lead.specs.declared.note.Note.{Note as SomeNote};
+ghost use Rattle.mu_lead.specs.Rooms.{RoomsDue, RoomsNext};
 ghost use Rattle.mu_lead.specs.Sets.{is_bit};
 ghost use Rattle.mu_lead.specs.Standing.{HasHeeded, StandsFor, TakesDue, TakesNext, TellsDue, TellsFailed, TellsNext, verb_of};
 ghost use Rattle.mu_lead.specs.Going.{begins_at, going_after};
@@ -236,6 +237,7 @@ impl Lead {
         requires stands { StandsFor mine self.old }
         requires heeded { HasHeeded mine self.old }
         ensures stands { TakesNext mine self.old known.now answer self.new }
+        ensures rooms { RoomsNext mine self.old known.now answer self.new }
         ensures tells { TellsNext mine self.old known.now answer result }
         ensures config { self.new.config ≡ self.old.config }
         ensures id { self.new.id ≡ self.old.id }
@@ -254,6 +256,7 @@ impl Lead {
     #[tactic(auto, using(crate::proofs::Taking::takes_head))]
     fn take_answer(&mut self, answer: Answer, known: &[u16]) -> Note
         ensures stands { TakesDue self.old known.now answer self.new }
+        ensures rooms { RoomsDue self.old known.now answer self.new }
         ensures tells { TellsDue self.old known.now answer result }
         ensures config { self.new.config ≡ self.old.config }
         ensures id { self.new.id ≡ self.old.id }

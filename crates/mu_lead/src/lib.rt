@@ -2,6 +2,7 @@
 #![tactic(auto)]
 
 ghost use Rattle.mu_lead.specs.Beside.{OthersKeep};
+ghost use Rattle.mu_lead.specs.Rooms.{OthersKeepRooms, RoomsAreInTime};
 
 mod answering;
 mod arrays;
@@ -24,4 +25,14 @@ pub use note::{AbortCause, Note};
 /// What the other machines of the replica do keeps what its leader stands for.
 pub fn others_keep()
     ensures { OthersKeep }
+{}
+
+/// What they do in the background leaves the rooms of its counts of steps.
+pub fn others_keep_rooms()
+    ensures { OthersKeepRooms }
+{}
+
+/// A leader whose counts have room is in time.
+pub fn rooms_are_in_time()
+    ensures { RoomsAreInTime }
 {}

@@ -23,6 +23,9 @@ ghost use Rattle.mu_lead.specs.Standing.{HasHeeded, HoldsAt, Stands, StandsFor, 
 ghost use Rattle.mu_lead.specs.Saying.{NotesPut, note_of_look};
 ghost use Rattle.mu_lead.specs.declared.note.Note.{Note as SomeNote};
 ghost use Rattle.mu_lead.specs.Going.{going_after};
+ghost use Rattle.mu_model.specs.Bounds.{members};
+ghost use Rattle.mu_pace.specs.Weights.{Stage};
+ghost use Rattle.mu_lead.specs.Rooms.{IsLed, KeepsRooms, RoomsAt};
 
 use crate::arrays::{with_fuo, with_number};
 use crate::batches::{is_marked, knows_all, next_offer, own_value};
@@ -279,7 +282,8 @@ impl Lead {
 
     /// Begins to put the value.
     pub fn offer(&self, offer: Offer) -> Place
-        ensures { (mine : List SomeEvent) → (candidate : Option ℕ) → (best : Option SomeSight)
+        ensures stands { (mine : List SomeEvent) → (candidate : Option ℕ)
+            → (best : Option SomeSight)
             → Stands mine self.now
             → Looking self.now.config self.now.id self.now.number mine self.now.up self.now.reach
             self.now.config.replicas candidate best
@@ -287,6 +291,11 @@ impl Lead {
             → LooksShow self.now.config self.now.id mine
             (end_of_known self.now.config self.now.id mine) offer.adopted
             → HoldsAt mine self.now result }
+        ensures rooms { (mine : List SomeEvent) → Stands mine self.now
+            → is_member self.now.id self.now.id mine ≡ true
+            → ((k : ℕ) → 1 ≤ k → k ≤ members self.now.config self.now.id mine
+            → IsLed self.now.config self.now.id mine (Stage.EnterAt k))
+            → RoomsAt self.now.config self.now.id mine self.now.written.items result }
     {
         Place::Enter(self.first_member(), offer)
     }
@@ -294,6 +303,9 @@ impl Lead {
     /// The region `p` was entered for the offer.
     pub fn entered_new(&mut self, p: u8, offer: Offer, known: &[u16]) -> Note
         ensures stands { Takes self.old (SomePlace.Enter p offer) known.now
+            (SomeVerb.Enter p (SomeTarget.Place (length known.now % self.old.config.ring)))
+            SomeAnswer.Entered self.new }
+        ensures rooms { KeepsRooms self.old (SomePlace.Enter p offer) known.now
             (SomeVerb.Enter p (SomeTarget.Place (length known.now % self.old.config.ring)))
             SomeAnswer.Entered self.new }
         ensures quiet { value_committed result ≡ None }
@@ -315,6 +327,9 @@ impl Lead {
     /// The offer was put at `p`.
     pub fn took_put(&mut self, p: u8, offer: Offer, known: &[u16]) -> Note
         ensures stands { Takes self.old (SomePlace.Put p offer) known.now
+            (SomeVerb.PutSlot p (length known.now) self.old.number offer.value) SomeAnswer.Done
+            self.new }
+        ensures rooms { KeepsRooms self.old (SomePlace.Put p offer) known.now
             (SomeVerb.PutSlot p (length known.now) self.old.number offer.value) SomeAnswer.Done
             self.new }
         ensures tells { (mine : List SomeEvent) → StandsFor mine self.old

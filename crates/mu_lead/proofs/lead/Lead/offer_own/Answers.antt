@@ -25,7 +25,7 @@ returns-in-Some c = λ mine s same looking.
     let from = c.from.ensures in
     let last = c.saturating_add.ensures in
     let last_is : c.saturating_add.result ≡ j + rest_of l.config j = omega (arith, rest, from, last, end, rows) in
-    c.write_from.ensures mine s (record { looking = looking; first = j; value = value; own = refl; batch = own_batch l.config l.id j (l.id * 4096 + j) mine s.config s.inside refl row; last_row = last_is; from = omega arith; to = omega (arith, last_is); below = λ k more less. absurd (omega (arith, more, less)) })
+    c.write_from.ensures.stands mine s (record { looking = looking; first = j; value = value; own = refl; batch = own_batch l.config l.id j (l.id * 4096 + j) mine s.config s.inside refl row; last_row = last_is; from = omega arith; to = omega (arith, last_is); below = λ k more less. absurd (omega (arith, more, less)) })
 
 pub returns-in-None : goal.returns-in-None
 returns-in-None c = λ mine s same looking.

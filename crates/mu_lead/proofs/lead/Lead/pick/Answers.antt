@@ -6,7 +6,7 @@ use Rattle.std.proofs.Common.{◌*◌}
 use Rattle.mu_lead.proofs.lead.Lead.pick.Goals as goal
 
 pub returns-in-Some : goal.returns-in-Some
-returns-in-Some c = λ mine s same looking. let l = c.args.self.now in let here = subst (λ o. Looking l.config l.id l.number mine l.up l.reach l.config.replicas c.args.candidate o) c.in-Some.is looking in c.offer.ensures mine c.args.candidate (Some c.in-Some.sight) s here (may_adopt l.config l.id l.number 0 c.in-Some.sight mine l.up l.reach c.args.candidate here) (looks_shown l.config l.id l.number mine l.up l.reach c.args.candidate c.in-Some.sight here)
+returns-in-Some c = λ mine s same looking. let l = c.args.self.now in let here = subst (λ o. Looking l.config l.id l.number mine l.up l.reach l.config.replicas c.args.candidate o) c.in-Some.is looking in c.offer.ensures.stands mine c.args.candidate (Some c.in-Some.sight) s here (may_adopt l.config l.id l.number 0 c.in-Some.sight mine l.up l.reach c.args.candidate here) (looks_shown l.config l.id l.number mine l.up l.reach c.args.candidate c.in-Some.sight here)
 
 pub returns-in-Some-candidate : goal.returns-in-Some-candidate
 returns-in-Some-candidate c = λ mine s same looking.
@@ -19,4 +19,4 @@ returns-in-Some-candidate c = λ mine s same looking.
     let from = c.from.ensures in
     let value = c.own_value.ensures (omega (arith, inside, few)) (omega (arith, from, region, few)) in
     let v : c.own_value.result ≡ l.id * 4096 + (4080 + q) = omega (arith, value, from, region, few) in
-    c.offer-in-Some-candidate.ensures mine (Some q) None s here (may_mark_it l.config l.id l.number q c.own_value.result mine l.up l.reach s.config s.inside here v) (looks_empty l.config l.id l.number mine l.up l.reach (Some q) here)
+    c.offer-in-Some-candidate.ensures.stands mine (Some q) None s here (may_mark_it l.config l.id l.number q c.own_value.result mine l.up l.reach s.config s.inside here v) (looks_empty l.config l.id l.number mine l.up l.reach (Some q) here)
