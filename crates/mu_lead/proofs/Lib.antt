@@ -23,11 +23,16 @@ pub mod Rooms
 pub mod RoomsAsking
 pub mod RoomsBeside
 pub mod RoomsBringing
+pub mod RoomsBrought
+pub mod RoomsFollowers
 pub mod RoomsInTime
 pub mod RoomsLate
 pub mod RoomsMin
+pub mod RoomsOnward
 pub mod RoomsPutting
 pub mod RoomsQuiet
+pub mod RoomsRaising
+pub mod RoomsReading
 pub mod RoomsTaking
 pub mod RoomsWriting
 pub mod Rounds

@@ -154,7 +154,7 @@ pub rooms_last_min : (c : Config) (r p : ℕ) (a : Answer) (mine : List Event) (
 rooms_last_min c r p a mine written is turn begun low at = record { read = min_now r p a mine begun; placed = reads_on c r p a Stage.EnterMin mine written is turn begun at (last_min p low) (λ k. refl) refl at_entering }
 
 -- one more member
-more_sizes : (c : Config) (r : ℕ) (u : Stage) (mine now : List Event) → members c r now ≡ members c r mine + 1 → IsPlacedAt c r (joined (sizes_of c r mine)) u now → IsPlacedAt c r (sizes_of c r now) u now
+pub more_sizes : (c : Config) (r : ℕ) (u : Stage) (mine now : List Event) → members c r now ≡ members c r mine + 1 → IsPlacedAt c r (joined (sizes_of c r mine)) u now → IsPlacedAt c r (sizes_of c r now) u now
 more_sizes c r u mine now more at = subst (λ m. IsPlacedAt c r (record { replicas = c.replicas; width = c.width; members = m }) u now) (sym more) at
 
 left_joined : (r p q b : ℕ) (mine : List Event) → p < q → ((k : ℕ) → p ≤ k → is_member r k mine ≡ false) → (k : ℕ) → q ≤ k → is_member r k (event_by r (Verb.PutMin p b) Answer.Done ∷ mine) ≡ false

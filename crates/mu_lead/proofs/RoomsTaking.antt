@@ -8,19 +8,32 @@ use Rattle.mu_model.specs.Parts.{IsPossible}
 use Rattle.mu_model.proofs.Basics.{event_by}
 use Rattle.mu_lead.specs.declared.lead.Lead.{Lead}
 use Rattle.mu_lead.specs.declared.place.Place.{Place}
-use Rattle.mu_lead.specs.Rooms.{HasRooms, KeepsRooms, RoomsDue, is_kept}
+use Rattle.std.specs.Prelude.{not}
+use Rattle.mu_lead.specs.declared.place.Then.{Then}
+use Rattle.mu_lead.specs.Rooms.{HasRooms, KeepsRooms, RoomsDue, is_kept, is_one_position}
 use Rattle.mu_lead.specs.Standing.{known_told}
 use Rattle.mu_lead.proofs.Taking.{HasVerb, verb_is}
 
--- a place whose answer teaches nothing that its put does not
-pub keeps_known : (old new : Lead) (place : Place) (values : List ℕ) (vf : List ℕ → Verb) (answer : Answer) → old.place ≡ place → HasVerb old place vf
-    → ((mine : List Event) (xs : List ℕ) → known_told old.config old.id mine old.id (vf xs) answer ≡ known old.config old.id mine) → KeepsRooms old place values (vf values) answer new → RoomsDue old values answer new
-keeps_known old new place values vf answer at is quiet keeps mine verb s due possible told turn kept rooms =
+-- a place whose answer teaches nothing that its put does not, where its step is shown to keep the rooms
+pub keeps_kept : (old new : Lead) (place : Place) (values : List ℕ) (vf : List ℕ → Verb) (answer : Answer) → old.place ≡ place → HasVerb old place vf
+    → ((mine : List Event) (xs : List ℕ) → known_told old.config old.id mine old.id (vf xs) answer ≡ known old.config old.id mine) → (is_kept place ≡ true → KeepsRooms old place values (vf values) answer new) → RoomsDue old values answer new
+keeps_kept old new place values vf answer at is quiet keeps mine verb s due possible told turn kept rooms =
     let same = verb_is old place vf verb (known old.config old.id mine) at is due in
     let known_is : values ≡ known old.config old.id mine = subst (λ w. values ≡ known_told old.config old.id mine old.id w answer) (sym same) told ∙ quiet mine (known old.config old.id mine) in
     let verb_now : vf values ≡ verb = ap vf known_is ∙ same in
     subst (λ w. HasRooms (event_by old.id w answer ∷ mine) new) verb_now
-    (keeps mine s at (subst (λ w. IsPossible old.config old.id (event_by old.id w answer ∷ mine)) (sym verb_now) possible) (known_is ∙ sym (quiet mine values)) turn rooms)
+    (keeps (sym (ap is_kept at) ∙ kept) mine s at (subst (λ w. IsPossible old.config old.id (event_by old.id w answer ∷ mine)) (sym verb_now) possible) (known_is ∙ sym (quiet mine values)) turn rooms)
+
+-- the same of a place whose step always does
+pub keeps_known : (old new : Lead) (place : Place) (values : List ℕ) (vf : List ℕ → Verb) (answer : Answer) → old.place ≡ place → HasVerb old place vf
+    → ((mine : List Event) (xs : List ℕ) → known_told old.config old.id mine old.id (vf xs) answer ≡ known old.config old.id mine) → KeepsRooms old place values (vf values) answer new → RoomsDue old values answer new
+keeps_known old new place values vf answer at is quiet keeps = keeps_kept old new place values vf answer at is quiet (λ kept. keeps)
+
+-- members aren't each brought up at one position
+pub not_one : (then_what : Then) → not (is_one_position then_what) ≡ true → is_one_position then_what ≡ false
+not_one Then.Late kept = refl
+not_one Then.Position kept = absurd (true≢false (sym kept))
+not_one Then.Joined kept = refl
 
 -- a look at a position that is known already
 pub keeps_any : (old new : Lead) (place : Place) (values : List ℕ) (v : Verb) (answer : Answer) → old.place ≡ place → HasVerb old place (λ xs. v) → KeepsRooms old place values v answer new → RoomsDue old values answer new

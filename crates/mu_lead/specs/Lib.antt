@@ -5,6 +5,7 @@ pub mod Leading
 pub mod Losses
 pub mod Notes
 pub mod Offering
+pub mod Onward
 pub mod Rooms
 pub mod Saying
 pub mod Sets

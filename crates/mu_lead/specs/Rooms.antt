@@ -1,5 +1,5 @@
 -- The room that the counts of steps have at each place of a leader.
-use Rattle.std.specs.Prelude.{Bool, List, None, Some, [], false, get_or, suc, true, zero, ℕ, ◌+◌, ◌-◌, ◌∷◌, ◌≡◌, ◌≢◌, ◌≤◌}
+use Rattle.std.specs.Prelude.{Bool, List, None, Some, [], false, get_or, not, suc, true, zero, ℕ, ◌+◌, ◌-◌, ◌∷◌, ◌≡◌, ◌≢◌, ◌≤◌}
 use Rattle.mu_model.specs.declared.config.Config.{Config}
 use Rattle.mu_model.specs.declared.event.Answer.{Answer}
 use Rattle.mu_model.specs.declared.event.Event.{Event}
@@ -136,6 +136,11 @@ LeavesRooms mine old verb answer new =
     → IsPlacedAt old.config old.id (sizes_of old.config old.id mine) stage mine
     → HasRooms (record { by = old.id; verb = verb; answer = answer } ∷ mine) new
 
+-- each member is brought up at one position
+abbrev pub is_one_position : Then → Bool
+is_one_position Then.Position = true
+is_one_position _ = false
+
 -- the places whose step is shown to keep the rooms
 abbrev pub is_kept : Place → Bool
 is_kept (Place.Ask p) = true
@@ -143,14 +148,20 @@ is_kept (Place.Confirm round p) = true
 is_kept (Place.ReadMin p) = true
 is_kept (Place.EnterMin p) = true
 is_kept (Place.PutMin p) = true
+is_kept (Place.ReadFuo p source) = true
 is_kept (Place.WidenBehind p then) = true
 is_kept (Place.LookBehind p then) = true
 is_kept (Place.EnterBehind p then) = true
+is_kept (Place.RaiseBehind p then) = not (is_one_position then)
+is_kept (Place.LateFence p) = true
 is_kept (Place.LateMin p) = true
+is_kept (Place.LateFuo p) = true
 is_kept (Place.LateEnter p) = true
+is_kept (Place.LatePut p) = true
 is_kept (Place.Write j last offer) = true
 is_kept (Place.Enter p offer) = true
 is_kept (Place.Put p offer) = true
+is_kept (Place.Raise p) = true
 is_kept (Place.Evidence p) = true
 is_kept _ = false
 

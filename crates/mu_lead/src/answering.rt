@@ -133,6 +133,8 @@ impl Lead {
     /// Takes the answer at this place.
     pub fn at_read_fuo(&mut self, p: u8, source: Option<u8>, answer: Answer, known: &[u16]) -> Note
         ensures stands { Takes self.old (SomePlace.ReadFuo p source) known.now (SomeVerb.Fuo p) answer self.new }
+        ensures rooms { KeepsRooms self.old (SomePlace.ReadFuo p source) known.now (SomeVerb.Fuo p)
+            answer self.new }
         ensures quiet { value_committed result ≡ None }
         ensures config { self.new.config ≡ self.old.config }
         ensures id { self.new.id ≡ self.old.id }
@@ -206,6 +208,8 @@ impl Lead {
     /// Takes the answer at this place.
     pub fn at_late_fence(&mut self, p: u8, answer: Answer, known: &[u16]) -> Note
         ensures stands { Takes self.old (SomePlace.LateFence p) known.now (SomeVerb.Fence p) answer self.new }
+        ensures rooms { KeepsRooms self.old (SomePlace.LateFence p) known.now (SomeVerb.Fence p)
+            answer self.new }
         ensures quiet { value_committed result ≡ None }
         ensures config { self.new.config ≡ self.old.config }
         ensures id { self.new.id ≡ self.old.id }
@@ -239,6 +243,8 @@ impl Lead {
     /// Takes the answer at this place.
     pub fn at_late_fuo(&mut self, p: u8, answer: Answer, known: &[u16]) -> Note
         ensures stands { Takes self.old (SomePlace.LateFuo p) known.now (SomeVerb.Fuo p) answer self.new }
+        ensures rooms { KeepsRooms self.old (SomePlace.LateFuo p) known.now (SomeVerb.Fuo p) answer
+            self.new }
         ensures quiet { value_committed result ≡ None }
         ensures config { self.new.config ≡ self.old.config }
         ensures id { self.new.id ≡ self.old.id }
@@ -275,6 +281,8 @@ impl Lead {
     pub fn at_late_put(&mut self, p: u8, answer: Answer, known: &[u16]) -> Note
         ensures stands { Takes self.old (SomePlace.LatePut p) known.now (SomeVerb.PutMin p self.old.number)
             answer self.new }
+        ensures rooms { KeepsRooms self.old (SomePlace.LatePut p) known.now
+            (SomeVerb.PutMin p self.old.number) answer self.new }
         ensures quiet { value_committed result ≡ None }
         ensures config { self.new.config ≡ self.old.config }
         ensures id { self.new.id ≡ self.old.id }

@@ -25,6 +25,7 @@ ghost use Rattle.mu_lead.specs.declared.note.Note.{Note as SomeNote};
 ghost use Rattle.mu_lead.specs.Going.{going_after};
 ghost use Rattle.mu_model.specs.Bounds.{members};
 ghost use Rattle.mu_pace.specs.Weights.{Stage};
+ghost use Rattle.mu_lead.specs.Onward.{IsNextStranger, MayGoOn};
 ghost use Rattle.mu_lead.specs.Rooms.{IsLed, KeepsRooms, RoomsAt};
 
 use crate::arrays::{with_fuo, with_number};
@@ -40,10 +41,15 @@ use mu_model::{Answer, Event, Verb, count_of_rows, reserve_of, row_rest};
 impl Lead {
     /// Goes on with the next position, or with late followers where all commands are known.
     pub fn next_position(&self, known: &[u16]) -> Place
-        ensures { (mine : List SomeEvent) → Stands mine self.now
+        ensures stands { (mine : List SomeEvent) → Stands mine self.now
             → known.now ≡ known_of self.now.config self.now.id mine
             → Level self.now.config self.now.id self.now.number mine self.now.up self.now.reach
             → HoldsAt mine self.now result }
+        ensures rooms { (mine : List SomeEvent) → (p : ℕ) → Stands mine self.now
+            → known.now ≡ known_of self.now.config self.now.id mine
+            → IsNextStranger self.now.config self.now.id mine p None
+            → MayGoOn self.now.config self.now.id mine p
+            → RoomsAt self.now.config self.now.id mine self.now.written.items result }
     {
         if knows_all(&self.config, known) {
             match next_stranger(&self.leading, 0, self.config.replicas) {
@@ -103,10 +109,17 @@ impl Lead {
 
     /// Reads the next head from `q` on that is too low, or goes on with the looks.
     fn heads_from(&self, q: u8, candidate: Option<u8>, known: &[u16]) -> Place
-        ensures { (mine : List SomeEvent) → Stands mine self.now
+        ensures stands { (mine : List SomeEvent) → Stands mine self.now
             → known.now ≡ known_of self.now.config self.now.id mine
             → Level self.now.config self.now.id self.now.number mine self.now.up self.now.reach
             → Roomy self.now.config self.now.id mine q candidate → HoldsAt mine self.now result }
+        ensures rooms { (mine : List SomeEvent) → Stands mine self.now
+            → known.now ≡ known_of self.now.config self.now.id mine
+            → ((h : ℕ) → q ≤ h → h < self.now.config.replicas
+            → IsLed self.now.config self.now.id mine (Stage.ReadHead h))
+            → ((k : ℕ) → k ≤ members self.now.config self.now.id mine
+            → IsLed self.now.config self.now.id mine (Stage.LookAt k))
+            → RoomsAt self.now.config self.now.id mine self.now.written.items result }
     {
         match self.next_low(q, known) {
             Some(p) => Place::ReadHead(p, candidate),
@@ -399,6 +412,8 @@ impl Lead {
     pub fn took_raise(&mut self, p: u8, known: &[u16]) -> Note
         ensures stands { Takes self.old (SomePlace.Raise p) known.now (SomeVerb.RaiseFuo p (length known.now))
             SomeAnswer.Done self.new }
+        ensures rooms { KeepsRooms self.old (SomePlace.Raise p) known.now
+            (SomeVerb.RaiseFuo p (length known.now)) SomeAnswer.Done self.new }
         ensures quiet { value_committed result ≡ None }
         ensures config { self.new.config ≡ self.old.config }
         ensures id { self.new.id ≡ self.old.id }

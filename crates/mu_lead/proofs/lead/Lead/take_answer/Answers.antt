@@ -14,7 +14,7 @@ use Rattle.mu_lead.proofs.Telling.{put_any, tells_put, tells_quiet}
 use Rattle.mu_lead.proofs.Going.{goes_asked, goes_on}
 use Rattle.mu_lead.proofs.Saying.{notes_at}
 use Rattle.mu_lead.specs.Rooms.{HasRooms}
-use Rattle.mu_lead.proofs.RoomsTaking.{keeps_any, keeps_known, keeps_not}
+use Rattle.mu_lead.proofs.RoomsTaking.{keeps_any, keeps_kept, keeps_known, keeps_not, not_one}
 use Rattle.mu_lead.proofs.lead.Lead.take_answer.Goals as goal
 
 pub returns-in-Ask-clause-stands : goal.returns-in-Ask-clause-stands
@@ -357,7 +357,7 @@ pub returns-in-PutMin-clause-rooms : goal.returns-in-PutMin-clause-rooms
 returns-in-PutMin-clause-rooms c = keeps_known c.args.self.now c.at_put_min.new.self (Place.PutMin c.in-PutMin.p) c.args.known.now (λ xs. Verb.PutMin c.in-PutMin.p c.args.self.now.number) c.args.answer c.in-PutMin.is (λ xs. refl) (λ mine xs. refl) (c.at_put_min.ensures.rooms c.args.known.now)
 
 pub returns-in-ReadFuo-clause-rooms : goal.returns-in-ReadFuo-clause-rooms
-returns-in-ReadFuo-clause-rooms c = keeps_not c.args.self.now c.at_read_fuo.new.self (Place.ReadFuo c.in-ReadFuo.p c.in-ReadFuo.source) c.args.known.now c.args.answer c.in-ReadFuo.is refl
+returns-in-ReadFuo-clause-rooms c = keeps_known c.args.self.now c.at_read_fuo.new.self (Place.ReadFuo c.in-ReadFuo.p c.in-ReadFuo.source) c.args.known.now (λ xs. Verb.Fuo c.in-ReadFuo.p) c.args.answer c.in-ReadFuo.is (λ xs. refl) (λ mine xs. refl) (c.at_read_fuo.ensures.rooms)
 
 pub returns-in-Learn-clause-rooms : goal.returns-in-Learn-clause-rooms
 returns-in-Learn-clause-rooms c = keeps_not c.args.self.now c.took_learning.new.self (Place.Learn c.in-Learn.p) c.args.known.now c.args.answer c.in-Learn.is refl
@@ -379,25 +379,29 @@ pub returns-in-PutBehind-clause-rooms : goal.returns-in-PutBehind-clause-rooms
 returns-in-PutBehind-clause-rooms c = keeps_not c.args.self.now c.at_put_behind.new.self (Place.PutBehind c.in-PutBehind.p c.in-PutBehind.then) c.args.known.now c.args.answer c.in-PutBehind.is refl
 
 pub returns-in-RaiseBehind-clause-rooms : goal.returns-in-RaiseBehind-clause-rooms
-returns-in-RaiseBehind-clause-rooms c = keeps_not c.args.self.now c.took_raise_behind.new.self (Place.RaiseBehind c.in-RaiseBehind.p c.in-RaiseBehind.then) c.args.known.now c.args.answer c.in-RaiseBehind.is refl
+returns-in-RaiseBehind-clause-rooms c = λ mine verb s due possible told turn kept rooms.
+    let l = c.args.self.now in
+    keeps_kept l c.took_raise_behind.new.self (Place.RaiseBehind c.in-RaiseBehind.p c.in-RaiseBehind.then) c.args.known.now (λ xs. Verb.RaiseFuo c.in-RaiseBehind.p (get_or c.args.self.now.up c.in-RaiseBehind.p 0)) c.args.answer c.in-RaiseBehind.is (λ xs. refl) (λ mine xs. refl)
+    (λ kept mine s is possible told turn rooms. (let x = answer_is l.config l.id (Verb.RaiseFuo c.in-RaiseBehind.p (get_or c.args.self.now.up c.in-RaiseBehind.p 0)) c.args.answer mine possible in
+    subst (λ a. HasRooms (event_by l.id (Verb.RaiseFuo c.in-RaiseBehind.p (get_or c.args.self.now.up c.in-RaiseBehind.p 0)) a ∷ mine) c.took_raise_behind.new.self) (sym x.1) (c.took_raise_behind.ensures.rooms (not_one c.in-RaiseBehind.then kept) mine s is (subst (λ a. IsPossible l.config l.id (event_by l.id (Verb.RaiseFuo c.in-RaiseBehind.p (get_or c.args.self.now.up c.in-RaiseBehind.p 0)) a ∷ mine)) x.1 possible) told turn rooms))) mine verb s due possible told turn kept rooms
 
 pub returns-in-FenceBehind-clause-rooms : goal.returns-in-FenceBehind-clause-rooms
 returns-in-FenceBehind-clause-rooms c = keeps_not c.args.self.now c.at_fence_behind.new.self (Place.FenceBehind c.in-FenceBehind.p c.in-FenceBehind.then) c.args.known.now c.args.answer c.in-FenceBehind.is refl
 
 pub returns-in-LateFence-clause-rooms : goal.returns-in-LateFence-clause-rooms
-returns-in-LateFence-clause-rooms c = keeps_not c.args.self.now c.at_late_fence.new.self (Place.LateFence c.in-LateFence.p) c.args.known.now c.args.answer c.in-LateFence.is refl
+returns-in-LateFence-clause-rooms c = keeps_known c.args.self.now c.at_late_fence.new.self (Place.LateFence c.in-LateFence.p) c.args.known.now (λ xs. Verb.Fence c.in-LateFence.p) c.args.answer c.in-LateFence.is (λ xs. refl) (λ mine xs. refl) (c.at_late_fence.ensures.rooms)
 
 pub returns-in-LateMin-clause-rooms : goal.returns-in-LateMin-clause-rooms
 returns-in-LateMin-clause-rooms c = keeps_known c.args.self.now c.at_late_min.new.self (Place.LateMin c.in-LateMin.p) c.args.known.now (λ xs. Verb.Min c.in-LateMin.p) c.args.answer c.in-LateMin.is (λ xs. refl) (λ mine xs. refl) (c.at_late_min.ensures.rooms c.args.known.now)
 
 pub returns-in-LateFuo-clause-rooms : goal.returns-in-LateFuo-clause-rooms
-returns-in-LateFuo-clause-rooms c = keeps_not c.args.self.now c.at_late_fuo.new.self (Place.LateFuo c.in-LateFuo.p) c.args.known.now c.args.answer c.in-LateFuo.is refl
+returns-in-LateFuo-clause-rooms c = keeps_known c.args.self.now c.at_late_fuo.new.self (Place.LateFuo c.in-LateFuo.p) c.args.known.now (λ xs. Verb.Fuo c.in-LateFuo.p) c.args.answer c.in-LateFuo.is (λ xs. refl) (λ mine xs. refl) (c.at_late_fuo.ensures.rooms)
 
 pub returns-in-LateEnter-clause-rooms : goal.returns-in-LateEnter-clause-rooms
 returns-in-LateEnter-clause-rooms c = keeps_known c.args.self.now c.at_late_enter.new.self (Place.LateEnter c.in-LateEnter.p) c.args.known.now (λ xs. Verb.Enter c.in-LateEnter.p Target.Min) c.args.answer c.in-LateEnter.is (λ xs. refl) (λ mine xs. refl) (c.at_late_enter.ensures.rooms c.args.known.now)
 
 pub returns-in-LatePut-clause-rooms : goal.returns-in-LatePut-clause-rooms
-returns-in-LatePut-clause-rooms c = keeps_not c.args.self.now c.at_late_put.new.self (Place.LatePut c.in-LatePut.p) c.args.known.now c.args.answer c.in-LatePut.is refl
+returns-in-LatePut-clause-rooms c = keeps_known c.args.self.now c.at_late_put.new.self (Place.LatePut c.in-LatePut.p) c.args.known.now (λ xs. Verb.PutMin c.in-LatePut.p c.args.self.now.number) c.args.answer c.in-LatePut.is (λ xs. refl) (λ mine xs. refl) (c.at_late_put.ensures.rooms)
 
 pub returns-in-ReadHead-clause-rooms : goal.returns-in-ReadHead-clause-rooms
 returns-in-ReadHead-clause-rooms c = keeps_not c.args.self.now c.at_read_head.new.self (Place.ReadHead c.in-ReadHead.q c.in-ReadHead.candidate) c.args.known.now c.args.answer c.in-ReadHead.is refl
@@ -419,7 +423,11 @@ pub returns-in-Put-clause-rooms : goal.returns-in-Put-clause-rooms
 returns-in-Put-clause-rooms c = keeps_known c.args.self.now c.at_put.new.self (Place.Put c.in-Put.p c.in-Put.offer) c.args.known.now (λ xs. Verb.PutSlot c.in-Put.p (length xs) c.args.self.now.number c.in-Put.offer.value) c.args.answer c.in-Put.is (λ xs. refl) (λ mine xs. refl) (c.at_put.ensures.rooms)
 
 pub returns-in-Raise-clause-rooms : goal.returns-in-Raise-clause-rooms
-returns-in-Raise-clause-rooms c = keeps_not c.args.self.now c.took_raise.new.self (Place.Raise c.in-Raise.p) c.args.known.now c.args.answer c.in-Raise.is refl
+returns-in-Raise-clause-rooms c = λ mine verb s due possible told turn kept rooms.
+    let l = c.args.self.now in
+    keeps_known l c.took_raise.new.self (Place.Raise c.in-Raise.p) c.args.known.now (λ xs. Verb.RaiseFuo c.in-Raise.p (length xs)) c.args.answer c.in-Raise.is (λ xs. refl) (λ mine xs. refl)
+    (λ mine s is possible told turn rooms. (let x = answer_is l.config l.id (Verb.RaiseFuo c.in-Raise.p (length c.args.known.now)) c.args.answer mine possible in
+    subst (λ a. HasRooms (event_by l.id (Verb.RaiseFuo c.in-Raise.p (length c.args.known.now)) a ∷ mine) c.took_raise.new.self) (sym x.1) (c.took_raise.ensures.rooms mine s is (subst (λ a. IsPossible l.config l.id (event_by l.id (Verb.RaiseFuo c.in-Raise.p (length c.args.known.now)) a ∷ mine)) x.1 possible) told turn rooms))) mine verb s due possible told turn kept rooms
 
 pub returns-in-Evidence-clause-rooms : goal.returns-in-Evidence-clause-rooms
 returns-in-Evidence-clause-rooms c = keeps_known c.args.self.now c.at_evidence.new.self (Place.Evidence c.in-Evidence.p) c.args.known.now (λ xs. Verb.Fence c.in-Evidence.p) c.args.answer c.in-Evidence.is (λ xs. refl) (λ mine xs. refl) (c.at_evidence.ensures.rooms c.args.known.now)

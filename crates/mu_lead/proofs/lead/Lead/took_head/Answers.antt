@@ -35,7 +35,7 @@ returns-then-leaves_room-clause-stands c = λ mine heeded s is possible told.
       inside = s.inside;
       leading = leading;
       tables = tables;
-      at = c.heads_from-self.ensures (e ∷ mine) (record { possible = possible; config = s.config; inside = s.inside; leading = leading; tables = tables }) told level (roomy_read l.config l.id q h c.saturating_add.result mine c.args.candidate next here.roomy (sym high ∙ c.if-leaves_room.true));
+      at = c.heads_from-self.ensures.stands (e ∷ mine) (record { possible = possible; config = s.config; inside = s.inside; leading = leading; tables = tables }) told level (roomy_read l.config l.id q h c.saturating_add.result mine c.args.candidate next here.roomy (sym high ∙ c.if-leaves_room.true));
     }
 
 pub returns-then-may_mark-clause-stands : goal.returns-then-may_mark-clause-stands
@@ -67,7 +67,7 @@ returns-then-may_mark-clause-stands c = λ mine heeded s is possible told.
       inside = s.inside;
       leading = leading;
       tables = tables;
-      at = c.heads_from-self-then-may_mark.ensures (e ∷ mine) (record { possible = possible; config = s.config; inside = s.inside; leading = leading; tables = tables }) told level (roomy_marked l.config l.id q h c.saturating_add-then-may_mark.result c.first_of.result mine c.args.candidate next here.roomy room marks);
+      at = c.heads_from-self-then-may_mark.ensures.stands (e ∷ mine) (record { possible = possible; config = s.config; inside = s.inside; leading = leading; tables = tables }) told level (roomy_marked l.config l.id q h c.saturating_add-then-may_mark.result c.first_of.result mine c.args.candidate next here.roomy room marks);
     }
 
 pub returns-else-may_mark-clause-stands : goal.returns-else-may_mark-clause-stands
@@ -93,5 +93,5 @@ returns-else-may_mark-clause-stands c = λ mine heeded s is possible told.
       inside = s.inside;
       leading = leading;
       tables = tables;
-      at = c.late_from-self.ensures (e ∷ mine) (record { possible = possible; config = s.config; inside = s.inside; leading = leading; tables = tables }) told level;
+      at = c.late_from-self.ensures.stands (e ∷ mine) (record { possible = possible; config = s.config; inside = s.inside; leading = leading; tables = tables }) told level;
     }

@@ -44,7 +44,7 @@ returns-then-from-known-clause-stands c = λ mine s is position possible told.
       inside = s.inside;
       leading = leading;
       tables = tables;
-      at = c.bring_up_from-self.ensures (e ∷ mine) (record { possible = possible; config = s.config; inside = s.inside; leading = leading; tables = tables }) told leads here.looking.level.raised (λ k region member done. absurd (omega (arith, done)));
+      at = c.bring_up_from-self.ensures.stands (e ∷ mine) (record { possible = possible; config = s.config; inside = s.inside; leading = leading; tables = tables }) told leads here.looking.level.raised (λ k region member done. absurd (omega (arith, done)));
     }
 
 pub returns-else-from-known-clause-stands : goal.returns-else-from-known-clause-stands
