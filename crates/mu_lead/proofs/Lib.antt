@@ -25,8 +25,10 @@ pub mod RoomsBeside
 pub mod RoomsBringing
 pub mod RoomsBrought
 pub mod RoomsFollowers
+pub mod RoomsHeads
 pub mod RoomsInTime
 pub mod RoomsLate
+pub mod RoomsLooking
 pub mod RoomsMin
 pub mod RoomsOnward
 pub mod RoomsPutting

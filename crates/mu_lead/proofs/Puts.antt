@@ -69,7 +69,7 @@ puts_new c r b v p mine up reach at =
       looked_before = looked_then c r p s (end_of c r mine) mine at.member (at.looked p (omega arith) at.region at.member);
     }
 
-all_fails : (n q : ℕ) (f : ℕ → Bool) → q < n → f q ≡ false → all_below n f ≡ false
+pub all_fails : (n q : ℕ) (f : ℕ → Bool) → q < n → f q ≡ false → all_below n f ≡ false
 all_fails zero q f low fails = absurd (omega arith)
 all_fails (suc n) q f low fails = elim (cases_lt q n) [
   | inl less ↦ rw (all_fails n q f less fails) (and_none (f n))

@@ -25,7 +25,7 @@ use Rattle.mu_lead.proofs.RoomsMin.{more_sizes}
 use Rattle.mu_lead.proofs.RoomsQuiet.{IsSilent, sized, steps_on}
 
 -- what passes isn't below the first that does
-first_below : (test : ℕ → Bool) (p n q k : ℕ) → IsFirst test p n (Some q) → p ≤ k → test k ≡ true → q ≤ k
+pub first_below : (test : ℕ → Bool) (p n q k : ℕ) → IsFirst test p n (Some q) → p ≤ k → test k ≡ true → q ≤ k
 first_below test p n q k first from passes = elim (cases_lt k q) [
   | inl less ↦ absurd (true≢false (sym passes ∙ first.3 k from less))
   | inr more ↦ more
@@ -42,7 +42,13 @@ room_far s k u (heads q low) = refl
 room_far s k u (looks m few) = refl
 room_far s k u rests = refl
 
-room_place : (s : Sizes) (u : Stage) → AtRoom s u → IsPlace s u
+-- and every member has what is known there
+pub room_level : (s : Sizes) (u : Stage) → AtRoom s u → is_level u ≡ true
+room_level s u (heads q low) = refl
+room_level s u (looks m few) = refl
+room_level s u rests = refl
+
+pub room_place : (s : Sizes) (u : Stage) → AtRoom s u → IsPlace s u
 room_place s u (heads q low) = at_head q
 room_place s u (looks m few) = at_look m few
 room_place s u rests = at_rest

@@ -51,6 +51,11 @@ skip_full written (suc d) first j rows (suc all) is long full =
     let here = is_full (get_or written first 12) (full first (omega arith) (omega (arith, is))) in
     omega (arith, here, rest)
 
+-- rows have no more words than twelve each
+pub words_few : (written : List ℕ) (j rows : ℕ) → words_left written j rows ≤ 12 * rows
+words_few written j zero = omega arith
+words_few written j (suc rows) = let less = words_few written (j + 1) rows in omega (arith, less)
+
 -- a batch has no more words than its rows
 few_words : (s : Sizes) (words : ℕ) → IsPlace s (Stage.Write words) → words ≤ 12 * s.width
 few_words s words (at_writing w low high) = high

@@ -9,7 +9,7 @@ use Rattle.mu_model.specs.Contents.{IsConfig}
 use Rattle.mu_model.specs.Parts.{IsPossible}
 use Rattle.mu_model.specs.Knowledge.{known}
 use Rattle.mu_model.specs.Leaderships.{is_member, is_over}
-use Rattle.mu_model.specs.Steps.{has_min, leads}
+use Rattle.mu_model.specs.Steps.{has_min, knows_more, leads}
 use Rattle.mu_model.specs.Stretches.{is_replication}
 use Rattle.mu_pace.specs.Away.{IsAway, IsFresh}
 use Rattle.mu_pace.specs.Beside.{is_beside}
@@ -128,6 +128,17 @@ KeepsRooms old place values verb answer new =
     → is_replication mine (record { by = old.id; verb = verb; answer = answer }) ≡ true
     → HasRooms mine old → HasRooms (record { by = old.id; verb = verb; answer = answer } ∷ mine) new
 
+-- the same of a step that teaches nothing
+abbrev pub KeepsUntaught : Lead → Place → List ℕ → Verb → Answer → Lead → Type 0
+KeepsUntaught old place values verb answer new =
+    (mine : List Event) → StandsFor mine old → old.place ≡ place
+    → IsPossible old.config old.id (record { by = old.id; verb = verb; answer = answer } ∷ mine)
+    → values ≡ known_told old.config old.id mine old.id verb answer
+    → is_replication mine (record { by = old.id; verb = verb; answer = answer }) ≡ true
+    → knows_more old.config old.id mine (record { by = old.id; verb = verb; answer = answer })
+    ≡ false
+    → HasRooms mine old → HasRooms (record { by = old.id; verb = verb; answer = answer } ∷ mine) new
+
 -- the event ends the leadership, wherever in it the leader was
 abbrev pub LeavesRooms : List Event → Lead → Verb → Answer → Lead → Type 0
 LeavesRooms mine old verb answer new =
@@ -141,29 +152,14 @@ abbrev pub is_one_position : Then → Bool
 is_one_position Then.Position = true
 is_one_position _ = false
 
--- the places whose step is shown to keep the rooms
-abbrev pub is_kept : Place → Bool
-is_kept (Place.Ask p) = true
-is_kept (Place.Confirm round p) = true
-is_kept (Place.ReadMin p) = true
-is_kept (Place.EnterMin p) = true
-is_kept (Place.PutMin p) = true
-is_kept (Place.ReadFuo p source) = true
-is_kept (Place.WidenBehind p then) = true
-is_kept (Place.LookBehind p then) = true
-is_kept (Place.EnterBehind p then) = true
-is_kept (Place.RaiseBehind p then) = not (is_one_position then)
-is_kept (Place.LateFence p) = true
-is_kept (Place.LateMin p) = true
-is_kept (Place.LateFuo p) = true
-is_kept (Place.LateEnter p) = true
-is_kept (Place.LatePut p) = true
-is_kept (Place.Write j last offer) = true
-is_kept (Place.Enter p offer) = true
-is_kept (Place.Put p offer) = true
-is_kept (Place.Raise p) = true
-is_kept (Place.Evidence p) = true
-is_kept _ = false
+-- from which places a step, which teaches something or not, is shown to keep the rooms
+abbrev pub is_kept : Place → Bool → Bool
+is_kept (Place.Learn p) teaches = false
+is_kept (Place.PutBehind p then) teaches = false
+is_kept (Place.RaiseBehind p then) teaches = not (is_one_position then)
+is_kept (Place.FenceBehind p then) teaches = false
+is_kept (Place.Look p i candidate best) teaches = not teaches
+is_kept place teaches = true
 
 -- from these places, by the answer to the verb that was due, the leader comes to a place whose counts have room
 abbrev pub RoomsDue : Lead → List ℕ → Answer → Lead → Type 0
@@ -174,7 +170,10 @@ RoomsDue old values answer new =
     → IsPossible old.config old.id (record { by = old.id; verb = verb; answer = answer } ∷ mine)
     → values ≡ known_told old.config old.id mine old.id verb answer
     → is_replication mine (record { by = old.id; verb = verb; answer = answer }) ≡ true
-    → is_kept old.place ≡ true → HasRooms mine old
+    → is_kept old.place
+    (knows_more old.config old.id mine (record { by = old.id; verb = verb; answer = answer }))
+    ≡ true
+    → HasRooms mine old
     → HasRooms (record { by = old.id; verb = verb; answer = answer } ∷ mine) new
 
 -- the same after these events
@@ -184,7 +183,10 @@ RoomsNext mine old values answer new =
     → IsPossible old.config old.id (record { by = old.id; verb = verb; answer = answer } ∷ mine)
     → values ≡ known_told old.config old.id mine old.id verb answer
     → is_replication mine (record { by = old.id; verb = verb; answer = answer }) ≡ true
-    → is_kept old.place ≡ true → HasRooms mine old
+    → is_kept old.place
+    (knows_more old.config old.id mine (record { by = old.id; verb = verb; answer = answer }))
+    ≡ true
+    → HasRooms mine old
     → HasRooms (record { by = old.id; verb = verb; answer = answer } ∷ mine) new
 
 -- what the other machines do in the background, but for looks, leaves the rooms of the leader

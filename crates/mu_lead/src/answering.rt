@@ -312,6 +312,8 @@ impl Lead {
             → StandsFor
             (record { by = self.old.id; verb = SomeVerb.Head q; answer = answer } ∷ mine)
             self.new }
+        ensures rooms { KeepsRooms self.old (SomePlace.ReadHead q candidate) known.now
+            (SomeVerb.Head q) answer self.new }
         ensures quiet { value_committed result ≡ None }
         ensures config { self.new.config ≡ self.old.config }
         ensures id { self.new.id ≡ self.old.id }

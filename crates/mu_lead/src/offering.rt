@@ -1,5 +1,5 @@
 //! New positions: room, looks, the value, puts and FUOs.
-ghost use Rattle.std.specs.Prelude.{IsTrue, List, None, Some, false, get_or, if◌then◌else◌, length, min, nat_lt, not, true, ℕ, ◌%◌, ◌&&◌, ◌+◌, ◌<◌, ◌==◌, ◌∷◌, ◌||◌, ◌≡◌, ◌≢◌, ◌≤◌, ◌↔◌};
+ghost use Rattle.std.specs.Prelude.{IsTrue, List, None, Some, false, get_or, if◌then◌else◌, length, min, nat_lt, not, true, ℕ, ◌%◌, ◌&&◌, ◌*◌, ◌+◌, ◌<◌, ◌==◌, ◌∷◌, ◌||◌, ◌≡◌, ◌≢◌, ◌≤◌, ◌↔◌};
 ghost use Rattle.std.specs.declared.option.Option.{Option};
 ghost use Rattle.mu_model.specs.declared.event.Answer.{Answer as SomeAnswer};
 ghost use Rattle.mu_model.specs.declared.event.Event.{Event as SomeEvent};
@@ -26,7 +26,8 @@ ghost use Rattle.mu_lead.specs.Going.{going_after};
 ghost use Rattle.mu_model.specs.Bounds.{members};
 ghost use Rattle.mu_pace.specs.Weights.{Stage};
 ghost use Rattle.mu_lead.specs.Onward.{IsNextStranger, MayGoOn};
-ghost use Rattle.mu_lead.specs.Rooms.{IsLed, KeepsRooms, RoomsAt};
+ghost use Rattle.mu_pace.specs.Members.{IsNextMember, members_from};
+ghost use Rattle.mu_lead.specs.Rooms.{IsLed, KeepsRooms, KeepsUntaught, RoomsAt};
 
 use crate::arrays::{with_fuo, with_number};
 use crate::batches::{is_marked, knows_all, next_offer, own_value};
@@ -148,6 +149,8 @@ impl Lead {
             { by = self.old.id; verb = SomeVerb.Head q; answer = SomeAnswer.Number head }
             ∷ mine)
             self.new }
+        ensures rooms { KeepsRooms self.old (SomePlace.ReadHead q candidate) known.now
+            (SomeVerb.Head q) (SomeAnswer.Number head) self.new }
         ensures tells { length known.now < 65536 → head < 65536 → length self.old.failed ≡ 7
             → result
             ≡ note_of_head q head (length known.now)
@@ -213,6 +216,8 @@ impl Lead {
     ) -> Note
         ensures stands { TakesLook self.old (SomePlace.Look p position candidate best) known.now p position
             answer self.new }
+        ensures rooms { KeepsUntaught self.old (SomePlace.Look p position candidate best) known.now
+            (SomeVerb.Look p position) answer self.new }
         ensures quiet { value_committed result ≡ None }
         ensures config { self.new.config ≡ self.old.config }
         ensures id { self.new.id ≡ self.old.id }
@@ -237,11 +242,24 @@ impl Lead {
 
     /// Looks at the next member, or picks the value.
     fn after_look(&self, p: u8, candidate: Option<u8>, best: Option<Sight>, known: &[u16]) -> Place
-        ensures { (mine : List SomeEvent) → Stands mine self.now
+        ensures stands { (mine : List SomeEvent) → Stands mine self.now
             → known.now ≡ known_of self.now.config self.now.id mine → p < self.now.config.replicas
             → Looking self.now.config self.now.id self.now.number mine self.now.up self.now.reach
             (p + 1) candidate best
             → HoldsAt mine self.now result }
+        ensures rooms { (mine : List SomeEvent) → Stands mine self.now
+            → known.now ≡ known_of self.now.config self.now.id mine
+            → p < self.now.config.replicas → is_member self.now.id p mine ≡ true
+            → Looking self.now.config self.now.id self.now.number mine self.now.up self.now.reach
+            (p + 1) candidate best
+            → ((q : ℕ) → IsNextMember self.now.config self.now.id p q mine
+            → IsLed self.now.config self.now.id mine
+            (Stage.LookAt (members_from self.now.config self.now.id q mine)))
+            → ((words : ℕ) → 1 ≤ words → words ≤ 12 * self.now.config.width
+            → IsLed self.now.config self.now.id mine (Stage.Write words))
+            → ((k : ℕ) → 1 ≤ k → k ≤ members self.now.config self.now.id mine
+            → IsLed self.now.config self.now.id mine (Stage.EnterAt k))
+            → RoomsAt self.now.config self.now.id mine self.now.written.items result }
     {
         match next_member(&self.leading, p.saturating_add(1), self.config.replicas) {
             Some(q) => Place::Look(q, end_of(known), candidate, best),
@@ -251,11 +269,20 @@ impl Lead {
 
     /// Picks the value: the entry of the largest number, else a mark, else an own batch.
     fn pick(&self, candidate: Option<u8>, best: Option<Sight>, known: &[u16]) -> Place
-        ensures { (mine : List SomeEvent) → Stands mine self.now
+        ensures stands { (mine : List SomeEvent) → Stands mine self.now
             → known.now ≡ known_of self.now.config self.now.id mine
             → Looking self.now.config self.now.id self.now.number mine self.now.up self.now.reach
             self.now.config.replicas candidate best
             → HoldsAt mine self.now result }
+        ensures rooms { (mine : List SomeEvent) → Stands mine self.now
+            → known.now ≡ known_of self.now.config self.now.id mine
+            → Looking self.now.config self.now.id self.now.number mine self.now.up self.now.reach
+            self.now.config.replicas candidate best
+            → ((words : ℕ) → 1 ≤ words → words ≤ 12 * self.now.config.width
+            → IsLed self.now.config self.now.id mine (Stage.Write words))
+            → ((k : ℕ) → 1 ≤ k → k ≤ members self.now.config self.now.id mine
+            → IsLed self.now.config self.now.id mine (Stage.EnterAt k))
+            → RoomsAt self.now.config self.now.id mine self.now.written.items result }
     {
         match best {
             Some(sight) => self.offer(Offer {
@@ -274,11 +301,20 @@ impl Lead {
 
     /// Begins with the next own batch, where there is one.
     fn offer_own(&self, known: &[u16]) -> Place
-        ensures { (mine : List SomeEvent) → Stands mine self.now
+        ensures stands { (mine : List SomeEvent) → Stands mine self.now
             → known.now ≡ known_of self.now.config self.now.id mine
             → Looking self.now.config self.now.id self.now.number mine self.now.up self.now.reach
             self.now.config.replicas None None
             → HoldsAt mine self.now result }
+        ensures rooms { (mine : List SomeEvent) → Stands mine self.now
+            → known.now ≡ known_of self.now.config self.now.id mine
+            → Looking self.now.config self.now.id self.now.number mine self.now.up self.now.reach
+            self.now.config.replicas None None
+            → ((words : ℕ) → 1 ≤ words → words ≤ 12 * self.now.config.width
+            → IsLed self.now.config self.now.id mine (Stage.Write words))
+            → ((k : ℕ) → 1 ≤ k → k ≤ members self.now.config self.now.id mine
+            → IsLed self.now.config self.now.id mine (Stage.EnterAt k))
+            → RoomsAt self.now.config self.now.id mine self.now.written.items result }
     {
         match next_offer(&self.config, self.id, known) {
             None => Place::Rest,
