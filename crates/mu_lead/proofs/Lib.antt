@@ -28,6 +28,7 @@ pub mod RoomsFollowers
 pub mod RoomsHeads
 pub mod RoomsInTime
 pub mod RoomsLate
+pub mod RoomsLearning
 pub mod RoomsLooking
 pub mod RoomsMin
 pub mod RoomsOnward

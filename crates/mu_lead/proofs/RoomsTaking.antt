@@ -12,7 +12,8 @@ use Rattle.mu_lead.specs.declared.lead.Lead.{Lead}
 use Rattle.mu_lead.specs.declared.place.Place.{Place}
 use Rattle.std.specs.Prelude.{not}
 use Rattle.mu_lead.specs.declared.place.Then.{Then}
-use Rattle.mu_lead.specs.Rooms.{HasRooms, KeepsRooms, KeepsUntaught, RoomsDue, is_kept, is_one_position}
+use Rattle.mu_lead.specs.Rooms.{HasRooms, KeepsRooms, KeepsTaught, KeepsUntaught, RoomsDue, is_kept, is_one_position}
+use Rattle.mu_lead.specs.Leading.{end_of}
 use Rattle.mu_lead.specs.Standing.{known_told}
 use Rattle.mu_lead.proofs.Taking.{HasVerb, verb_is}
 
@@ -56,6 +57,17 @@ keeps_untaught old new place values v answer at when is keeps mine verb s due po
     let none : teaches ≡ false = not_taught teaches (sym (when teaches) ∙ subst (λ x. is_kept x teaches ≡ true) at kept) in
     subst (λ w. HasRooms (event_by old.id w answer ∷ mine) new) same
     (keeps mine s at (subst (λ w. IsPossible old.config old.id (event_by old.id w answer ∷ mine)) (sym same) possible) (subst (λ w. values ≡ known_told old.config old.id mine old.id w answer) (sym same) told) (subst (λ w. is_replication mine (event_by old.id w answer) ≡ true) (sym same) turn) (subst (λ w. knows_more old.config old.id mine (event_by old.id w answer) ≡ false) (sym same) none) rooms)
+
+-- a look at the first unknown position, where it teaches something
+pub keeps_taught : (old new : Lead) (place : Place) (values : List ℕ) (p : ℕ) (at_position : List ℕ → ℕ) (answer : Answer) → old.place ≡ place → ((teaches : Bool) → is_kept place teaches ≡ teaches) → HasVerb old place (λ xs. Verb.Look p (at_position xs))
+    → ((mine : List Event) → at_position (known old.config old.id mine) ≡ end_of old.config old.id mine) → ((i : ℕ) → KeepsTaught old place values p i answer new) → RoomsDue old values answer new
+keeps_taught old new place values p at_position answer at when is position keeps mine verb s due possible told turn kept rooms =
+    let i = at_position (known old.config old.id mine) in
+    let same = verb_is old place (λ xs. Verb.Look p (at_position xs)) verb (known old.config old.id mine) at is due in
+    let teaches = knows_more old.config old.id mine (event_by old.id verb answer) in
+    let more : teaches ≡ true = sym (when teaches) ∙ subst (λ x. is_kept x teaches ≡ true) at kept in
+    subst (λ w. HasRooms (event_by old.id w answer ∷ mine) new) same
+    (keeps i mine s at (position mine) (subst (λ w. IsPossible old.config old.id (event_by old.id w answer ∷ mine)) (sym same) possible) (subst (λ w. values ≡ known_told old.config old.id mine old.id w answer) (sym same) told) (subst (λ w. is_replication mine (event_by old.id w answer) ≡ true) (sym same) turn) (subst (λ w. knows_more old.config old.id mine (event_by old.id w answer) ≡ true) (sym same) more) rooms)
 
 -- nothing is said of the other places
 pub keeps_not : (old new : Lead) (place : Place) (values : List ℕ) (answer : Answer) → old.place ≡ place → ((teaches : Bool) → is_kept place teaches ≡ false) → RoomsDue old values answer new

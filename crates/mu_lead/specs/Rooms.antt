@@ -19,6 +19,7 @@ use Rattle.mu_pace.specs.Weights.{Bringing, Lag, Sizes, Stage}
 use Rattle.mu_lead.specs.declared.lead.Lead.{Lead}
 use Rattle.mu_lead.specs.declared.place.Place.{Place}
 use Rattle.mu_lead.specs.declared.place.Then.{Then}
+use Rattle.mu_lead.specs.Leading.{end_of}
 use Rattle.mu_lead.specs.Standing.{StandsFor, known_told, verb_at, verb_of}
 
 -- how many replicas and members there are, and how many rows a batch has at most
@@ -139,6 +140,21 @@ KeepsUntaught old place values verb answer new =
     ≡ false
     → HasRooms mine old → HasRooms (record { by = old.id; verb = verb; answer = answer } ∷ mine) new
 
+-- the same of a look at the first unknown position, where it teaches something
+abbrev pub KeepsTaught : Lead → Place → List ℕ → ℕ → ℕ → Answer → Lead → Type 0
+KeepsTaught old place values p i answer new =
+    (mine : List Event) → StandsFor mine old → old.place ≡ place → i ≡ end_of old.config old.id mine
+    → IsPossible old.config old.id
+    (record { by = old.id; verb = Verb.Look p i; answer = answer } ∷ mine)
+    → values ≡ known old.config old.id
+    (record { by = old.id; verb = Verb.Look p i; answer = answer } ∷ mine)
+    → is_replication mine (record { by = old.id; verb = Verb.Look p i; answer = answer }) ≡ true
+    → knows_more old.config old.id mine
+    (record { by = old.id; verb = Verb.Look p i; answer = answer })
+    ≡ true
+    → HasRooms mine old
+    → HasRooms (record { by = old.id; verb = Verb.Look p i; answer = answer } ∷ mine) new
+
 -- the event ends the leadership, wherever in it the leader was
 abbrev pub LeavesRooms : List Event → Lead → Verb → Answer → Lead → Type 0
 LeavesRooms mine old verb answer new =
@@ -154,7 +170,7 @@ is_one_position _ = false
 
 -- from which places a step, which teaches something or not, is shown to keep the rooms
 abbrev pub is_kept : Place → Bool → Bool
-is_kept (Place.Learn p) teaches = false
+is_kept (Place.Learn p) teaches = teaches
 is_kept (Place.PutBehind p then) teaches = false
 is_kept (Place.RaiseBehind p then) teaches = not (is_one_position then)
 is_kept (Place.FenceBehind p then) teaches = false

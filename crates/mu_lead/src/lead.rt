@@ -10,7 +10,7 @@ ghost use Rattle.mu_model.specs.Parts.{IsPossible};
 ghost use Rattle.mu_leading.specs.Leadership.{StandsForLeadership};
 ghost use Rattle.mu_lead.specs.Beside.{leads_at};
 ghost use Rattle.mu_lead.specs.declared.note.Note.{Note as SomeNote};
-ghost use Rattle.mu_lead.specs.Rooms.{RoomsDue, RoomsNext};
+ghost use Rattle.mu_lead.specs.Rooms.{HasRooms, RoomsDue, RoomsNext};
 ghost use Rattle.mu_lead.specs.Sets.{is_bit};
 ghost use Rattle.mu_lead.specs.Standing.{HasHeeded, StandsFor, TakesDue, TakesNext, TellsDue, TellsFailed, TellsNext, verb_of};
 ghost use Rattle.mu_lead.specs.Going.{begins_at, going_after};
@@ -93,6 +93,8 @@ impl Lead {
         ensures due { nat_lt leader self.old.id ≡ false → (values : List ℕ)
             → verb_of self.new values ≡ verb_of self.old values }
         ensures going { self.new.under_way ≡ (self.old.under_way && not (nat_lt leader self.old.id)) }
+        ensures rooms { (self.old.under_way && nat_lt leader self.old.id) ≡ false
+            → HasRooms mine self.old → HasRooms mine self.new }
     {
         self.named = leader == self.id;
         self.failed = bits_of(failed);
