@@ -15,6 +15,14 @@ use Rattle.mu_pace.specs.Placed.{IsPlacedAt}
 use Rattle.mu_pace.specs.Weights.{Bringing, Lag, Stage}
 use Rattle.mu_pace.proofs.Away.{away_is_in_time}
 use Rattle.mu_pace.proofs.Placed.{places_lead}
+use Rattle.std.specs.Prelude.{is_some, not}
+use Rattle.std.specs.declared.option.Option.{Option}
+use Rattle.std.proofs.Common.{inl, inr}
+use Rattle.mu_pace.specs.Away.{LooksBeside}
+use Rattle.mu_lead.specs.Beside.{is_beside as is_beside_leader, leads_at}
+use Rattle.mu_lead.specs.Confirming.{Fresh}
+use Rattle.mu_lead.specs.Standing.{At}
+use Rattle.mu_lead.proofs.NoteKinds.{is_look}
 use Rattle.mu_lead.specs.declared.place.Place.{Place}
 use Rattle.mu_lead.specs.declared.place.Then.{Then}
 use Rattle.mu_lead.specs.Rooms.{IsEnded, IsLed, IsNumbering, IsOut, IsReading, IsWaiting, OthersKeepRooms, RoomsAt, lag_of, sizes_of, stage_of}
@@ -85,6 +93,42 @@ rooms_on c r mine e written (Place.PutMin p) u at = record { left = λ q more. u
 rooms_on c r mine e written (Place.Evidence p) u at = record { over = u.over ∙ at.over; away = away_is_in_time.away_beside c r mine e at.away u.turn u.beside }
 rooms_on c r mine e written place u at = led_on c r mine e (stage_of c r mine written place) (stage_of c r (e ∷ mine) written place) u (stage_same c r mine e written place u) at
 
+-- a verb of another machine, looks aside, leaves what every leader counts
+plain_beside : (leading : Bool) (verb : Verb) → is_look verb ≡ false → is_beside_leader leading verb ≡ true → is_beside verb ≡ true
+plain_beside leading (Verb.Ask p) plain beside = absurd (true≢false (sym beside))
+plain_beside leading (Verb.Fence p) plain beside = absurd (true≢false (sym beside))
+plain_beside leading (Verb.Min p) plain beside = absurd (true≢false (sym beside))
+plain_beside leading (Verb.Enter p t) plain beside = absurd (true≢false (sym beside))
+plain_beside leading (Verb.PutMin p b) plain beside = absurd (true≢false (sym beside))
+plain_beside leading (Verb.PutSlot p i b v) plain beside = absurd (true≢false (sym beside))
+plain_beside leading (Verb.Look p i) plain beside = absurd (true≢false plain)
+plain_beside leading verb plain beside = refl
+
+-- a look in the background opens nothing but a count that is in time
+looks_beside : (r p i : ℕ) (a : Answer) (mine : List Event) → is_replication mine (event_by r (Verb.Look p i) a) ≡ false → LooksBeside mine (event_by r (Verb.Look p i) a)
+looks_beside r p i a mine turn = record { beside = turn; region = p; position = i; verb = refl }
+
+out_looked : (c : Config) (r p i : ℕ) (a : Answer) (mine : List Event) → is_replication mine (event_by r (Verb.Look p i) a) ≡ false → IsOut c r mine → IsOut c r (event_by r (Verb.Look p i) a ∷ mine)
+out_looked c r p i a mine turn at = record { not_led = at.not_led; away = away_is_in_time.away_look c r mine (event_by r (Verb.Look p i) a) at.away (looks_beside r p i a mine turn) }
+
+waiting_looked : (c : Config) (r p i : ℕ) (a : Answer) (mine : List Event) → is_replication mine (event_by r (Verb.Look p i) a) ≡ false → Fresh r mine → IsWaiting c r mine → IsWaiting c r (event_by r (Verb.Look p i) a ∷ mine)
+waiting_looked c r p i a mine turn fresh at = record { unread = at.unread; fresh = away_is_in_time.fresh_look c r mine (event_by r (Verb.Look p i) a) at.fresh (looks_beside r p i a mine turn) (ap is_some fresh.unnumbered) }
+
+-- so it leaves the rooms of a replica that doesn't lead
+rooms_looked : (c : Config) (r b p i : ℕ) (a : Answer) (mine : List Event) (up : List ℕ) (reach : List (Option ℕ)) (written : List ℕ) (place : Place) → is_replication mine (event_by r (Verb.Look p i) a) ≡ false → not (leads_at place) ≡ true
+    → At c r b mine up reach written place → RoomsAt c r mine written place → RoomsAt c r (event_by r (Verb.Look p i) a ∷ mine) written place
+rooms_looked c r b p i a mine up reach written (Place.Ask q) turn off stands at = (
+  (λ first. out_looked c r p i a mine turn (at.0 first)),
+  λ other. elim stands.asked [
+    | inl first ↦ absurd (other first)
+    | inr asked ↦ waiting_looked c r p i a mine turn asked.1 (at.1 other)
+  ],
+)
+rooms_looked c r b p i a mine up reach written (Place.Confirm round q) turn off stands at = waiting_looked c r p i a mine turn stands.1.fresh at
+rooms_looked c r b p i a mine up reach written (Place.Evidence q) turn off stands at = record { over = at.over; away = away_is_in_time.away_look c r mine (event_by r (Verb.Look p i) a) at.away (looks_beside r p i a mine turn) }
+rooms_looked c r b p i a mine up reach written place turn off stands at = absurd (true≢false (sym off))
+
 -- a background event of another machine leaves the rooms of the leader, at each place
 pub others_keep_rooms : OthersKeepRooms
-others_keep_rooms mine lead verb answer turn beside at = rooms_on lead.config lead.id mine (event_by lead.id verb answer) lead.written.items lead.place (unmoved lead.config lead.id mine lead.id verb answer turn beside) at
+others_keep_rooms mine lead (Verb.Look p i) answer turn beside s at = rooms_looked lead.config lead.id lead.number p i answer mine lead.up lead.reach lead.written.items lead.place turn beside s.at at
+others_keep_rooms mine lead verb answer turn beside s at = rooms_on lead.config lead.id mine (event_by lead.id verb answer) lead.written.items lead.place (unmoved lead.config lead.id mine lead.id verb answer turn (plain_beside (leads_at lead.place) verb refl beside)) at

@@ -12,7 +12,6 @@ use Rattle.mu_model.specs.Leaderships.{is_member, is_over}
 use Rattle.mu_model.specs.Steps.{has_min, knows_more, leads}
 use Rattle.mu_model.specs.Stretches.{is_replication}
 use Rattle.mu_pace.specs.Away.{IsAway, IsFresh}
-use Rattle.mu_pace.specs.Beside.{is_beside}
 use Rattle.mu_pace.specs.Members.{members_below, members_from}
 use Rattle.mu_pace.specs.Placed.{AreInTime, IsPlacedAt}
 use Rattle.mu_pace.specs.Weights.{Bringing, Lag, Sizes, Stage}
@@ -20,6 +19,7 @@ use Rattle.mu_lead.specs.declared.lead.Lead.{Lead}
 use Rattle.mu_lead.specs.declared.place.Place.{Place}
 use Rattle.mu_lead.specs.declared.place.Then.{Then}
 use Rattle.mu_lead.specs.Leading.{end_of}
+use Rattle.mu_lead.specs.Beside.{is_beside, leads_at}
 use Rattle.mu_lead.specs.Standing.{StandsFor, known_told, verb_at, verb_of}
 
 -- how many replicas and members there are, and how many rows a batch has at most
@@ -205,13 +205,12 @@ RoomsNext mine old values answer new =
     → HasRooms mine old
     → HasRooms (record { by = old.id; verb = verb; answer = answer } ∷ mine) new
 
--- what the other machines do in the background, but for looks, leaves the rooms of the leader
+-- what the other machines do in the background leaves the rooms of the leader
 abbrev pub OthersKeepRooms : Type 0
 OthersKeepRooms =
     (mine : List Event) (lead : Lead) (verb : Verb) (answer : Answer)
     → is_replication mine (record { by = lead.id; verb = verb; answer = answer }) ≡ false
-    → is_beside verb ≡ true
-    → HasRooms mine lead
+    → is_beside (leads_at lead.place) verb ≡ true → StandsFor mine lead → HasRooms mine lead
     → HasRooms (record { by = lead.id; verb = verb; answer = answer } ∷ mine) lead
 
 -- before any event no leadership is under way, and a leader whose counts have the room of its place is in time
