@@ -11,6 +11,7 @@ pub mod Lates
 pub mod Looks
 pub mod Losses
 pub mod Marks
+pub mod Misses
 pub mod NoteKinds
 pub mod Numbering
 pub mod Offers

@@ -1,5 +1,6 @@
 pub mod Beside
 pub mod Confirming
+pub mod Evidence
 pub mod Going
 pub mod Leading
 pub mod Losses

@@ -119,6 +119,7 @@ impl Lead {
             → KeepsRooms self.old (SomePlace.PutMin p) values (SomeVerb.PutMin p self.old.number)
             answer self.new }
         ensures quiet { value_committed result ≡ None }
+        ensures missed { answer ≡ SomeAnswer.Missed → self.new.place ≡ SomePlace.Evidence p }
         ensures config { self.new.config ≡ self.old.config }
         ensures id { self.new.id ≡ self.old.id }
         ensures note { result ≡ SomeNote.Working }
@@ -177,6 +178,7 @@ impl Lead {
             (get_or known.now (get_or self.old.up p 0) 0))
             answer self.new }
         ensures quiet { value_committed result ≡ None }
+        ensures missed { answer ≡ SomeAnswer.Missed → self.new.place ≡ SomePlace.Evidence p }
         ensures config { self.new.config ≡ self.old.config }
         ensures id { self.new.id ≡ self.old.id }
         ensures note { result ≡ SomeNote.Working }
@@ -284,6 +286,7 @@ impl Lead {
         ensures rooms { KeepsRooms self.old (SomePlace.LatePut p) known.now
             (SomeVerb.PutMin p self.old.number) answer self.new }
         ensures quiet { value_committed result ≡ None }
+        ensures missed { answer ≡ SomeAnswer.Missed → self.new.place ≡ SomePlace.Evidence p }
         ensures config { self.new.config ≡ self.old.config }
         ensures id { self.new.id ≡ self.old.id }
         ensures note { length self.old.up ≡ 7
@@ -372,6 +375,7 @@ impl Lead {
             }
             ∷ mine)
             ≡ grown known.now (value_committed result) }
+        ensures missed { answer ≡ SomeAnswer.Missed → self.new.place ≡ SomePlace.Evidence p }
         ensures config { self.new.config ≡ self.old.config }
         ensures id { self.new.id ≡ self.old.id }
         ensures note { NotesPut (length known.now) offer result }

@@ -2,6 +2,7 @@
 #![tactic(auto)]
 
 ghost use Rattle.mu_lead.specs.Beside.{OthersKeep};
+ghost use Rattle.mu_lead.specs.Evidence.{EvidenceComesInTime};
 ghost use Rattle.mu_lead.specs.Rooms.{OthersKeepRooms, RoomsAreInTime};
 
 mod answering;
@@ -9,6 +10,7 @@ mod arrays;
 mod batches;
 mod behind;
 mod confirming;
+mod entries;
 mod joining;
 mod lead;
 mod losing;
@@ -35,4 +37,9 @@ pub fn others_keep_rooms()
 /// A leader whose counts have room is in time.
 pub fn rooms_are_in_time()
     ensures { RoomsAreInTime }
+{}
+
+/// Each put that missed is explained in time, also beside what the other machines do.
+pub fn evidence_comes_in_time()
+    ensures { EvidenceComesInTime }
 {}

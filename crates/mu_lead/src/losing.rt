@@ -107,6 +107,7 @@ impl Lead {
         ensures rooms { (mine : List SomeEvent)
             → LeavesRooms mine self.old (SomeVerb.PutMin p self.old.number) SomeAnswer.Missed
             self.new }
+        ensures missed { self.new.place ≡ SomePlace.Evidence p }
         ensures quiet { value_committed result ≡ None }
         ensures config { self.new.config ≡ self.old.config }
         ensures id { self.new.id ≡ self.old.id }
@@ -132,6 +133,7 @@ impl Lead {
         ensures rooms { (mine : List SomeEvent)
             → LeavesRooms mine self.old (SomeVerb.PutSlot p i self.old.number value)
             SomeAnswer.Missed self.new }
+        ensures missed { self.new.place ≡ SomePlace.Evidence p }
         ensures quiet { value_committed result ≡ None }
         ensures config { self.new.config ≡ self.old.config }
         ensures id { self.new.id ≡ self.old.id }

@@ -9,7 +9,6 @@ ghost use Rattle.mu_model.specs.Contents.{config_word, marked, row_count};
 ghost use Rattle.mu_model.specs.Knowledge.{known as known_of};
 ghost use Rattle.mu_model.specs.Leaderships.{is_member};
 ghost use Rattle.mu_model.specs.Parts.{IsPossible};
-ghost use Rattle.mu_model.specs.Picks.{entry_of, larger as larger_entry};
 ghost use Rattle.mu_model.specs.Room.{reserve};
 ghost use Rattle.mu_leading.specs.Leadership.{StandsForLeadership};
 ghost use Rattle.mu_model.specs.declared.config.Config.{Config};
@@ -17,7 +16,7 @@ ghost use Rattle.mu_lead.specs.declared.place.Sight.{Sight as SomeSight};
 ghost use Rattle.mu_lead.specs.declared.place.Place.{Place as SomePlace};
 ghost use Rattle.mu_lead.specs.Leading.{Level, end_of as end_of_known};
 ghost use Rattle.mu_lead.specs.Notes.{TellsPut, note_of_commit, note_of_head, value_committed};
-ghost use Rattle.mu_lead.specs.Offering.{Looking, LooksShow, MayBeMarked, MayOffer, Roomy, Writing, entry_in};
+ghost use Rattle.mu_lead.specs.Offering.{Looking, LooksShow, MayBeMarked, MayOffer, Roomy, Writing};
 ghost use Rattle.mu_lead.specs.Sets.{IsFirst};
 ghost use Rattle.mu_lead.specs.Standing.{HasHeeded, HoldsAt, Stands, StandsFor, Takes, TakesLook};
 ghost use Rattle.mu_lead.specs.Saying.{NotesPut, note_of_look};
@@ -32,6 +31,7 @@ ghost use Rattle.mu_lead.specs.Rooms.{IsLed, KeepsRooms, KeepsUntaught, RoomsAt}
 use crate::arrays::{with_fuo, with_number};
 use crate::batches::{is_marked, knows_all, next_offer, own_value};
 use crate::behind::{is_past, value_in};
+use crate::entries::{larger, sight_in};
 use crate::lead::Lead;
 use crate::note::Note;
 use crate::place::{Offer, Place, Sight, Then};
@@ -478,33 +478,6 @@ fn first_of(candidate: Option<u8>, q: u8) -> u8
     match candidate {
         Some(k) => k,
         None => q,
-    }
-}
-
-/// The entry that a look showed.
-fn sight_in(answer: Answer) -> Option<Sight>
-    ensures { entry_in result ≡ entry_of (Some answer) }
-{
-    match answer {
-        Answer::Entry { number, value } => Some(Sight { number, value }),
-        _ => None,
-    }
-}
-
-/// The entry of the larger number, the earlier one at a tie.
-fn larger(best: Option<Sight>, next: Option<Sight>) -> Option<Sight>
-    ensures { entry_in result ≡ larger_entry (entry_in best) (entry_in next) }
-{
-    match (best, next) {
-        (None, other) => other,
-        (Some(sight), None) => Some(sight),
-        (Some(sight), Some(other)) => {
-            if sight.number < other.number {
-                Some(other)
-            } else {
-                Some(sight)
-            }
-        }
     }
 }
 

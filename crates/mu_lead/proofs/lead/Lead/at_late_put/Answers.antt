@@ -38,3 +38,9 @@ returns-in-Missed-clause-rooms c = λ mine s is possible told turn rooms.
     let l = c.args.self.now in
     let led = rw is at rooms in
     subst (λ a. HasRooms (event_by l.id (Verb.PutMin c.args.p l.number) a ∷ mine) c.missed_min.new.self) (sym c.in-Missed.is) (c.missed_min.ensures.rooms mine (Stage.LatePut c.args.p) s.config turn led.placed)
+
+pub returns-in-Missed-clause-missed : goal.returns-in-Missed-clause-missed
+returns-in-Missed-clause-missed c = λ missed. c.missed_min.ensures.missed
+
+pub returns-in_default-clause-missed : goal.returns-in_default-clause-missed
+returns-in_default-clause-missed c = λ missed. absurd (c.in_default.not-Missed missed)

@@ -73,3 +73,9 @@ returns-in-Missed-clause-rooms c = λ mine s is possible told turn rooms.
     subst (λ a. HasRooms (event_by l.id v a ∷ mine) c.missed_slot.new.self) (sym c.in-Missed.is)
     (subst (λ i. HasRooms (event_by l.id (Verb.PutSlot c.args.p i l.number c.args.offer.value) Answer.Missed ∷ mine) c.missed_slot.new.self) position
     (c.missed_slot.ensures.rooms mine (Stage.PutAt (members_from l.config l.id c.args.p mine)) s.config turn led.placed))
+
+pub returns-in-Missed-clause-missed : goal.returns-in-Missed-clause-missed
+returns-in-Missed-clause-missed c = λ missed. c.missed_slot.ensures.missed
+
+pub returns-in_default-clause-missed : goal.returns-in_default-clause-missed
+returns-in_default-clause-missed c = λ missed. absurd (c.in_default.not-Missed missed)

@@ -38,3 +38,9 @@ returns-in-Missed-clause-rooms c = λ values mine s is possible told turn rooms.
     let l = c.args.self.now in
     let numbering = rw is at rooms in
     subst (λ a. HasRooms (event_by l.id (Verb.PutMin c.args.p l.number) a ∷ mine) c.missed_min.new.self) (sym c.in-Missed.is) (c.missed_min.ensures.rooms mine Stage.PutMin s.config turn numbering.led.placed)
+
+pub returns-in-Missed-clause-missed : goal.returns-in-Missed-clause-missed
+returns-in-Missed-clause-missed c = λ missed. c.missed_min.ensures.missed
+
+pub returns-in_default-clause-missed : goal.returns-in_default-clause-missed
+returns-in_default-clause-missed c = λ missed. absurd (c.in_default.not-Missed missed)
