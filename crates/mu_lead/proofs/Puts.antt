@@ -69,7 +69,7 @@ puts_new c r b v p mine up reach at =
       looked_before = looked_then c r p s (end_of c r mine) mine at.member (at.looked p (omega arith) at.region at.member);
     }
 
-all_fails : (n q : ℕ) (f : ℕ → Bool) → q < n → f q ≡ false → all_below n f ≡ false
+pub all_fails : (n q : ℕ) (f : ℕ → Bool) → q < n → f q ≡ false → all_below n f ≡ false
 all_fails zero q f low fails = absurd (omega arith)
 all_fails (suc n) q f low fails = elim (cases_lt q n) [
   | inl less ↦ rw (all_fails n q f less fails) (and_none (f n))
@@ -96,7 +96,7 @@ and_three true false d e none = refl
 and_three false b d e none = refl
 
 -- a member that took nothing keeps the entry from being known
-not_accepted : (c : Config) (r p q i b v : ℕ) (mine : List Event) → q < c.replicas → is_member r q mine ≡ true → p ≢ q → took r q i b v mine ≡ false → is_accepted_by_all c r (put_event r p i b v ∷ mine) i b v ≡ false
+pub not_accepted : (c : Config) (r p q i b v : ℕ) (mine : List Event) → q < c.replicas → is_member r q mine ≡ true → p ≢ q → took r q i b v mine ≡ false → is_accepted_by_all c r (put_event r p i b v ∷ mine) i b v ≡ false
 not_accepted c r p q i b v mine region member other none =
     and_three (not (is_over r mine)) (is_number (proposal_number r mine) b) (has_quorum c r mine) (all_below c.replicas (λ k. not (is_member r k mine) || took r k i b v (put_event r p i b v ∷ mine)))
     (all_fails c.replicas q (λ k. not (is_member r k mine) || took r k i b v (put_event r p i b v ∷ mine)) region (rw (member, took_other r p q i b v mine other) none))

@@ -1,10 +1,13 @@
 pub mod Beside
 pub mod Confirming
+pub mod Evidence
 pub mod Going
 pub mod Leading
 pub mod Losses
 pub mod Notes
 pub mod Offering
+pub mod Onward
+pub mod Rooms
 pub mod Saying
 pub mod Sets
 pub mod Standing

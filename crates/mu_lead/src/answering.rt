@@ -14,6 +14,7 @@ ghost use Rattle.mu_lead.specs.Standing.{HasHeeded, StandsFor, Takes};
 ghost use Rattle.mu_lead.specs.Saying.{NotesEnter, NotesEvidence, NotesHead, NotesJoin, NotesMin, NotesOver, NotesPut, NotesRound, is_working_or_lost};
 ghost use Rattle.mu_lead.specs.declared.note.Note.{Note as SomeNote};
 ghost use Rattle.mu_lead.specs.Going.{going_after};
+ghost use Rattle.mu_lead.specs.Rooms.{KeepsRooms};
 
 use crate::lead::Lead;
 use crate::note::Note;
@@ -56,6 +57,9 @@ impl Lead {
     pub fn at_confirm(&mut self, round: u8, p: u8, answer: Answer) -> Note
         ensures stands { (values : List ℕ)
             → Takes self.old (SomePlace.Confirm round p) values (SomeVerb.Fence p) answer self.new }
+        ensures rooms { (values : List ℕ)
+            → KeepsRooms self.old (SomePlace.Confirm round p) values (SomeVerb.Fence p) answer
+            self.new }
         ensures quiet { value_committed result ≡ None }
         ensures config { self.new.config ≡ self.old.config }
         ensures id { self.new.id ≡ self.old.id }
@@ -72,6 +76,8 @@ impl Lead {
     pub fn at_read_min(&mut self, p: u8, answer: Answer) -> Note
         ensures stands { (values : List ℕ)
             → Takes self.old (SomePlace.ReadMin p) values (SomeVerb.Min p) answer self.new }
+        ensures rooms { (values : List ℕ)
+            → KeepsRooms self.old (SomePlace.ReadMin p) values (SomeVerb.Min p) answer self.new }
         ensures quiet { value_committed result ≡ None }
         ensures config { self.new.config ≡ self.old.config }
         ensures id { self.new.id ≡ self.old.id }
@@ -89,6 +95,9 @@ impl Lead {
         ensures stands { (values : List ℕ)
             → Takes self.old (SomePlace.EnterMin p) values (SomeVerb.Enter p SomeTarget.Min) answer
             self.new }
+        ensures rooms { (values : List ℕ)
+            → KeepsRooms self.old (SomePlace.EnterMin p) values (SomeVerb.Enter p SomeTarget.Min)
+            answer self.new }
         ensures quiet { value_committed result ≡ None }
         ensures config { self.new.config ≡ self.old.config }
         ensures id { self.new.id ≡ self.old.id }
@@ -106,7 +115,11 @@ impl Lead {
         ensures stands { (values : List ℕ)
             → Takes self.old (SomePlace.PutMin p) values (SomeVerb.PutMin p self.old.number) answer
             self.new }
+        ensures rooms { (values : List ℕ)
+            → KeepsRooms self.old (SomePlace.PutMin p) values (SomeVerb.PutMin p self.old.number)
+            answer self.new }
         ensures quiet { value_committed result ≡ None }
+        ensures missed { answer ≡ SomeAnswer.Missed → self.new.place ≡ SomePlace.Evidence p }
         ensures config { self.new.config ≡ self.old.config }
         ensures id { self.new.id ≡ self.old.id }
         ensures note { result ≡ SomeNote.Working }
@@ -121,6 +134,8 @@ impl Lead {
     /// Takes the answer at this place.
     pub fn at_read_fuo(&mut self, p: u8, source: Option<u8>, answer: Answer, known: &[u16]) -> Note
         ensures stands { Takes self.old (SomePlace.ReadFuo p source) known.now (SomeVerb.Fuo p) answer self.new }
+        ensures rooms { KeepsRooms self.old (SomePlace.ReadFuo p source) known.now (SomeVerb.Fuo p)
+            answer self.new }
         ensures quiet { value_committed result ≡ None }
         ensures config { self.new.config ≡ self.old.config }
         ensures id { self.new.id ≡ self.old.id }
@@ -139,6 +154,10 @@ impl Lead {
             → Takes self.old (SomePlace.EnterBehind p then) values
             (SomeVerb.Enter p
             (SomeTarget.Place (get_or self.old.up p 0 % self.old.config.ring)))
+            answer self.new }
+        ensures rooms { (values : List ℕ)
+            → KeepsRooms self.old (SomePlace.EnterBehind p then) values
+            (SomeVerb.Enter p (SomeTarget.Place (get_or self.old.up p 0 % self.old.config.ring)))
             answer self.new }
         ensures quiet { value_committed result ≡ None }
         ensures config { self.new.config ≡ self.old.config }
@@ -159,6 +178,7 @@ impl Lead {
             (get_or known.now (get_or self.old.up p 0) 0))
             answer self.new }
         ensures quiet { value_committed result ≡ None }
+        ensures missed { answer ≡ SomeAnswer.Missed → self.new.place ≡ SomePlace.Evidence p }
         ensures config { self.new.config ≡ self.old.config }
         ensures id { self.new.id ≡ self.old.id }
         ensures note { result ≡ SomeNote.Working }
@@ -190,6 +210,8 @@ impl Lead {
     /// Takes the answer at this place.
     pub fn at_late_fence(&mut self, p: u8, answer: Answer, known: &[u16]) -> Note
         ensures stands { Takes self.old (SomePlace.LateFence p) known.now (SomeVerb.Fence p) answer self.new }
+        ensures rooms { KeepsRooms self.old (SomePlace.LateFence p) known.now (SomeVerb.Fence p)
+            answer self.new }
         ensures quiet { value_committed result ≡ None }
         ensures config { self.new.config ≡ self.old.config }
         ensures id { self.new.id ≡ self.old.id }
@@ -206,6 +228,8 @@ impl Lead {
     pub fn at_late_min(&mut self, p: u8, answer: Answer) -> Note
         ensures stands { (values : List ℕ)
             → Takes self.old (SomePlace.LateMin p) values (SomeVerb.Min p) answer self.new }
+        ensures rooms { (values : List ℕ)
+            → KeepsRooms self.old (SomePlace.LateMin p) values (SomeVerb.Min p) answer self.new }
         ensures quiet { value_committed result ≡ None }
         ensures config { self.new.config ≡ self.old.config }
         ensures id { self.new.id ≡ self.old.id }
@@ -221,6 +245,8 @@ impl Lead {
     /// Takes the answer at this place.
     pub fn at_late_fuo(&mut self, p: u8, answer: Answer, known: &[u16]) -> Note
         ensures stands { Takes self.old (SomePlace.LateFuo p) known.now (SomeVerb.Fuo p) answer self.new }
+        ensures rooms { KeepsRooms self.old (SomePlace.LateFuo p) known.now (SomeVerb.Fuo p) answer
+            self.new }
         ensures quiet { value_committed result ≡ None }
         ensures config { self.new.config ≡ self.old.config }
         ensures id { self.new.id ≡ self.old.id }
@@ -238,6 +264,9 @@ impl Lead {
         ensures stands { (values : List ℕ)
             → Takes self.old (SomePlace.LateEnter p) values (SomeVerb.Enter p SomeTarget.Min) answer
             self.new }
+        ensures rooms { (values : List ℕ)
+            → KeepsRooms self.old (SomePlace.LateEnter p) values (SomeVerb.Enter p SomeTarget.Min)
+            answer self.new }
         ensures quiet { value_committed result ≡ None }
         ensures config { self.new.config ≡ self.old.config }
         ensures id { self.new.id ≡ self.old.id }
@@ -254,7 +283,10 @@ impl Lead {
     pub fn at_late_put(&mut self, p: u8, answer: Answer, known: &[u16]) -> Note
         ensures stands { Takes self.old (SomePlace.LatePut p) known.now (SomeVerb.PutMin p self.old.number)
             answer self.new }
+        ensures rooms { KeepsRooms self.old (SomePlace.LatePut p) known.now
+            (SomeVerb.PutMin p self.old.number) answer self.new }
         ensures quiet { value_committed result ≡ None }
+        ensures missed { answer ≡ SomeAnswer.Missed → self.new.place ≡ SomePlace.Evidence p }
         ensures config { self.new.config ≡ self.old.config }
         ensures id { self.new.id ≡ self.old.id }
         ensures note { length self.old.up ≡ 7
@@ -283,6 +315,8 @@ impl Lead {
             → StandsFor
             (record { by = self.old.id; verb = SomeVerb.Head q; answer = answer } ∷ mine)
             self.new }
+        ensures rooms { KeepsRooms self.old (SomePlace.ReadHead q candidate) known.now
+            (SomeVerb.Head q) answer self.new }
         ensures quiet { value_committed result ≡ None }
         ensures config { self.new.config ≡ self.old.config }
         ensures id { self.new.id ≡ self.old.id }
@@ -300,6 +334,9 @@ impl Lead {
         ensures stands { Takes self.old (SomePlace.Enter p offer) known.now
             (SomeVerb.Enter p (SomeTarget.Place (length known.now % self.old.config.ring))) answer
             self.new }
+        ensures rooms { KeepsRooms self.old (SomePlace.Enter p offer) known.now
+            (SomeVerb.Enter p (SomeTarget.Place (length known.now % self.old.config.ring))) answer
+            self.new }
         ensures quiet { value_committed result ≡ None }
         ensures config { self.new.config ≡ self.old.config }
         ensures id { self.new.id ≡ self.old.id }
@@ -315,6 +352,8 @@ impl Lead {
     /// Takes the answer at this place.
     pub fn at_put(&mut self, p: u8, offer: Offer, answer: Answer, known: &[u16]) -> Note
         ensures stands { Takes self.old (SomePlace.Put p offer) known.now
+            (SomeVerb.PutSlot p (length known.now) self.old.number offer.value) answer self.new }
+        ensures rooms { KeepsRooms self.old (SomePlace.Put p offer) known.now
             (SomeVerb.PutSlot p (length known.now) self.old.number offer.value) answer self.new }
         ensures tells { (mine : List SomeEvent) → StandsFor mine self.old
             → self.old.place ≡ SomePlace.Put p offer
@@ -336,6 +375,7 @@ impl Lead {
             }
             ∷ mine)
             ≡ grown known.now (value_committed result) }
+        ensures missed { answer ≡ SomeAnswer.Missed → self.new.place ≡ SomePlace.Evidence p }
         ensures config { self.new.config ≡ self.old.config }
         ensures id { self.new.id ≡ self.old.id }
         ensures note { NotesPut (length known.now) offer result }
@@ -351,6 +391,8 @@ impl Lead {
     pub fn at_evidence(&mut self, p: u8, answer: Answer) -> Note
         ensures stands { (values : List ℕ)
             → Takes self.old (SomePlace.Evidence p) values (SomeVerb.Fence p) answer self.new }
+        ensures rooms { (values : List ℕ)
+            → KeepsRooms self.old (SomePlace.Evidence p) values (SomeVerb.Fence p) answer self.new }
         ensures quiet { value_committed result ≡ None }
         ensures config { self.new.config ≡ self.old.config }
         ensures id { self.new.id ≡ self.old.id }

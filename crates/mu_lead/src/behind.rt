@@ -19,6 +19,11 @@ ghost use Rattle.mu_lead.specs.Standing.{HoldsAt, Stands, StandsFor, Takes, Take
 ghost use Rattle.mu_lead.specs.Saying.{is_working_or_lost, note_of_fence, note_of_learning, note_of_raise, value_seen};
 ghost use Rattle.mu_lead.specs.declared.note.Note.{Note as SomeNote};
 ghost use Rattle.mu_lead.specs.Going.{going_after};
+ghost use Rattle.mu_pace.specs.Members.{IsNextMember, members_from};
+ghost use Rattle.mu_pace.specs.Weights.{Stage};
+ghost use Rattle.mu_lead.specs.declared.place.Then.{Then as SomeThen};
+ghost use Rattle.mu_lead.specs.Onward.{IsNextBehind, MayBringUp, MayGoOn, passed_over};
+ghost use Rattle.mu_lead.specs.Rooms.{IsLed, KeepsRooms, KeepsTaught, RoomsAt, is_one_position};
 
 use crate::arrays::{with_fuo, with_number};
 use crate::lead::Lead;
@@ -45,6 +50,8 @@ impl Lead {
     pub fn took_fuo(&mut self, p: u8, source: Option<u8>, u: u64, known: &[u16]) -> Note
         ensures stands { Takes self.old (SomePlace.ReadFuo p source) known.now (SomeVerb.Fuo p)
             (SomeAnswer.Number u) self.new }
+        ensures rooms { KeepsRooms self.old (SomePlace.ReadFuo p source) known.now (SomeVerb.Fuo p)
+            (SomeAnswer.Number u) self.new }
         ensures quiet { value_committed result ≡ None }
         ensures config { self.new.config ≡ self.old.config }
         ensures id { self.new.id ≡ self.old.id }
@@ -59,12 +66,25 @@ impl Lead {
 
     /// The place after the FUO of `p` was read.
     fn after_fuo(&self, p: u8, source: Option<u8>, known: &[u16]) -> Place
-        ensures { (mine : List SomeEvent) → Stands mine self.now
+        ensures stands { (mine : List SomeEvent) → Stands mine self.now
             → known.now ≡ known_of self.now.config self.now.id mine → p < self.now.config.replicas
             → is_member self.now.id p mine ≡ true
             → Leads self.now.config self.now.id self.now.number mine
             → RaisedBelow self.now.id mine self.now.up self.now.reach (p + 1)
             → IsMember self.now.config self.now.id mine source → HoldsAt mine self.now result }
+        ensures rooms { (mine : List SomeEvent) → Stands mine self.now
+            → known.now ≡ known_of self.now.config self.now.id mine
+            → p < self.now.config.replicas → is_member self.now.id p mine ≡ true
+            → RaisedBelow self.now.id mine self.now.up self.now.reach (p + 1)
+            → ((q : ℕ) → IsNextMember self.now.config self.now.id p q mine
+            → IsLed self.now.config self.now.id mine
+            (Stage.ReadFuo (members_from self.now.config self.now.id q mine)))
+            → IsLed self.now.config self.now.id mine Stage.Learn
+            → ((q : ℕ) → MayBringUp self.now.config self.now.id mine q SomeThen.Late)
+            → (RaisedBelow self.now.id mine self.now.up self.now.reach self.now.config.replicas
+            → IsNextBehind self.now.config self.now.id mine self.now.up 0 None
+            → MayGoOn self.now.config self.now.id mine 0)
+            → RoomsAt self.now.config self.now.id mine self.now.written.items result }
     {
         let from = self.farther(source, p);
         match next_member(&self.leading, p.saturating_add(1), self.config.replicas) {
@@ -75,11 +95,18 @@ impl Lead {
 
     /// Learns on from the region, or goes on to bring up the members.
     fn learn_from(&self, source: u8, known: &[u16]) -> Place
-        ensures { (mine : List SomeEvent) → Stands mine self.now
+        ensures stands { (mine : List SomeEvent) → Stands mine self.now
             → known.now ≡ known_of self.now.config self.now.id mine
             → Leads self.now.config self.now.id self.now.number mine
             → RaisedBelow self.now.id mine self.now.up self.now.reach self.now.config.replicas
             → IsMember self.now.config self.now.id mine (Some source) → HoldsAt mine self.now result }
+        ensures rooms { (mine : List SomeEvent) → Stands mine self.now
+            → known.now ≡ known_of self.now.config self.now.id mine
+            → IsLed self.now.config self.now.id mine Stage.Learn
+            → ((q : ℕ) → MayBringUp self.now.config self.now.id mine q SomeThen.Late)
+            → (IsNextBehind self.now.config self.now.id mine self.now.up 0 None
+            → MayGoOn self.now.config self.now.id mine 0)
+            → RoomsAt self.now.config self.now.id mine self.now.written.items result }
     {
         if (known.len() as u64) < self.up_of(source) {
             Place::Learn(source)
@@ -91,6 +118,8 @@ impl Lead {
     /// A look at the first unknown position.
     pub fn took_learning(&mut self, source: u8, answer: Answer, known: &[u16]) -> Note
         ensures stands { (i : ℕ) → TakesLook self.old (SomePlace.Learn source) known.now source i answer self.new }
+        ensures rooms { (i : ℕ)
+            → KeepsTaught self.old (SomePlace.Learn source) known.now source i answer self.new }
         ensures quiet { value_committed result ≡ None }
         ensures config { self.new.config ≡ self.old.config }
         ensures id { self.new.id ≡ self.old.id }
@@ -125,7 +154,7 @@ impl Lead {
 
     /// Brings up the next member from `p` on that is behind, or goes on.
     pub fn bring_up_from(&self, p: u8, then: Then, known: &[u16]) -> Place
-        ensures { (mine : List SomeEvent) → Stands mine self.now
+        ensures stands { (mine : List SomeEvent) → Stands mine self.now
             → known.now ≡ known_of self.now.config self.now.id mine
             → Leads self.now.config self.now.id self.now.number mine
             → RaisedBelow self.now.id mine self.now.up self.now.reach self.now.config.replicas
@@ -133,6 +162,13 @@ impl Lead {
             → IsDone then k p
             → end_of_known self.now.config self.now.id mine ≤ get_or self.now.up k 0)
             → HoldsAt mine self.now result }
+        ensures rooms { (mine : List SomeEvent) → Stands mine self.now
+            → known.now ≡ known_of self.now.config self.now.id mine
+            → ((q : ℕ) → IsNextBehind self.now.config self.now.id mine self.now.up p (Some q)
+            → MayBringUp self.now.config self.now.id mine q then)
+            → (IsNextBehind self.now.config self.now.id mine self.now.up p None
+            → MayGoOn self.now.config self.now.id mine (passed_over self.now.config then))
+            → RoomsAt self.now.config self.now.id mine self.now.written.items result }
     {
         match self.next_behind(p, known) {
             Some(q) => self.bring_up(q, then),
@@ -142,10 +178,14 @@ impl Lead {
 
     /// The place after all members were brought up.
     fn after_all(&self, then: Then, known: &[u16]) -> Place
-        ensures { (mine : List SomeEvent) → Stands mine self.now
+        ensures stands { (mine : List SomeEvent) → Stands mine self.now
             → known.now ≡ known_of self.now.config self.now.id mine
             → Level self.now.config self.now.id self.now.number mine self.now.up self.now.reach
             → HoldsAt mine self.now result }
+        ensures rooms { (mine : List SomeEvent) → Stands mine self.now
+            → known.now ≡ known_of self.now.config self.now.id mine
+            → MayGoOn self.now.config self.now.id mine (passed_over self.now.config then)
+            → RoomsAt self.now.config self.now.id mine self.now.written.items result }
     {
         match then {
             Then::Late => self.late_from(0, known),
@@ -172,10 +212,12 @@ impl Lead {
 
     /// The first step towards what `p` lacks.
     pub fn bring_up(&self, p: u8, then: Then) -> Place
-        ensures { (mine : List SomeEvent) → Stands mine self.now
+        ensures stands { (mine : List SomeEvent) → Stands mine self.now
             → AtWiden self.now.config self.now.id self.now.number mine self.now.up self.now.reach p
             then
             → HoldsAt mine self.now result }
+        ensures rooms { (mine : List SomeEvent) → MayBringUp self.now.config self.now.id mine p then
+            → RoomsAt self.now.config self.now.id mine self.now.written.items result }
     {
         if self.is_near(p) {
             Place::LookBehind(p, then)
@@ -188,6 +230,9 @@ impl Lead {
     pub fn took_widening(&mut self, p: u8, then: Then) -> Note
         ensures stands { (values : List ℕ)
             → Takes self.old (SomePlace.WidenBehind p then) values
+            (SomeVerb.RaiseFuo p (get_or self.old.up p 0)) SomeAnswer.Done self.new }
+        ensures rooms { (values : List ℕ)
+            → KeepsRooms self.old (SomePlace.WidenBehind p then) values
             (SomeVerb.RaiseFuo p (get_or self.old.up p 0)) SomeAnswer.Done self.new }
         ensures quiet { value_committed result ≡ None }
         ensures config { self.new.config ≡ self.old.config }
@@ -204,6 +249,9 @@ impl Lead {
     pub fn took_look_behind(&mut self, p: u8, then: Then, answer: Answer) -> Note
         ensures stands { (values : List ℕ)
             → Takes self.old (SomePlace.LookBehind p then) values
+            (SomeVerb.Look p (get_or self.old.up p 0)) answer self.new }
+        ensures rooms { (values : List ℕ)
+            → KeepsRooms self.old (SomePlace.LookBehind p then) values
             (SomeVerb.Look p (get_or self.old.up p 0)) answer self.new }
         ensures quiet { value_committed result ≡ None }
         ensures config { self.new.config ≡ self.old.config }
@@ -226,6 +274,10 @@ impl Lead {
             → Takes self.old (SomePlace.EnterBehind p then) values
             (SomeVerb.Enter p
             (SomeTarget.Place (get_or self.old.up p 0 % self.old.config.ring)))
+            SomeAnswer.Entered self.new }
+        ensures rooms { (values : List ℕ)
+            → KeepsRooms self.old (SomePlace.EnterBehind p then) values
+            (SomeVerb.Enter p (SomeTarget.Place (get_or self.old.up p 0 % self.old.config.ring)))
             SomeAnswer.Entered self.new }
         ensures quiet { value_committed result ≡ None }
         ensures config { self.new.config ≡ self.old.config }
@@ -286,6 +338,9 @@ impl Lead {
     /// The FUO of `p` was raised over all that is known.
     pub fn took_raise_behind(&mut self, p: u8, then: Then, known: &[u16]) -> Note
         ensures stands { Takes self.old (SomePlace.RaiseBehind p then) known.now
+            (SomeVerb.RaiseFuo p (get_or self.old.up p 0)) SomeAnswer.Done self.new }
+        ensures rooms { is_one_position then ≡ false
+            → KeepsRooms self.old (SomePlace.RaiseBehind p then) known.now
             (SomeVerb.RaiseFuo p (get_or self.old.up p 0)) SomeAnswer.Done self.new }
         ensures quiet { value_committed result ≡ None }
         ensures config { self.new.config ≡ self.old.config }

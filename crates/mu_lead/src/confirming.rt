@@ -16,6 +16,8 @@ ghost use Rattle.mu_leading.specs.Leadership.{StandsForLeadership};
 ghost use Rattle.mu_lead.specs.Saying.{TellsAfter};
 ghost use Rattle.mu_lead.specs.declared.note.Note.{Note as SomeNote};
 ghost use Rattle.mu_lead.specs.Going.{going_after};
+ghost use Rattle.mu_lead.specs.Rooms.{IsLed, IsWaiting, KeepsRooms, RoomsAt};
+ghost use Rattle.mu_pace.specs.Weights.{Stage};
 
 use crate::lead::Lead;
 use crate::note::Note;
@@ -27,12 +29,16 @@ impl Lead {
     /// The place after the region `p` was asked.
     #[tactic(auto, using(crate::proofs::Asking::asked_on, crate::proofs::Asking::asked_all))]
     fn after_ask(&self, p: u8) -> Place
-        ensures { (b : ℕ) → (mine : List SomeEvent) → (up : List ℕ) → (reach : List (Option ℕ))
+        ensures stands { (b : ℕ) → (mine : List SomeEvent) → (up : List ℕ)
+            → (reach : List (Option ℕ))
             → (written : List ℕ) → AtAsk self.now.config self.now.id mine p
             → At self.now.config self.now.id b
             (record { by = self.now.id; verb = SomeVerb.Ask p; answer = SomeAnswer.Done }
             ∷ mine)
             up reach written result }
+        ensures rooms { (mine : List SomeEvent) → (written : List ℕ) → p < self.now.config.replicas
+            → self.now.config.replicas ≤ 7 → IsWaiting self.now.config self.now.id mine
+            → RoomsAt self.now.config self.now.id mine written result }
     {
         let next = p.saturating_add(1);
         if next < self.config.replicas {
@@ -46,6 +52,9 @@ impl Lead {
     pub fn took_ask(&mut self, p: u8) -> Note
         ensures stands { (values : List ℕ)
             → Takes self.old (SomePlace.Ask p) values (SomeVerb.Ask p) SomeAnswer.Done self.new }
+        ensures rooms { (values : List ℕ)
+            → KeepsRooms self.old (SomePlace.Ask p) values (SomeVerb.Ask p) SomeAnswer.Done
+            self.new }
         ensures quiet { value_committed result ≡ None }
         ensures config { self.new.config ≡ self.old.config }
         ensures id { self.new.id ≡ self.old.id }
@@ -73,6 +82,9 @@ impl Lead {
     pub fn took_fence(&mut self, round: u8, p: u8, fence: Fence) -> Note
         ensures stands { (values : List ℕ)
             → Takes self.old (SomePlace.Confirm round p) values (SomeVerb.Fence p)
+            (SomeAnswer.Seen fence) self.new }
+        ensures rooms { (values : List ℕ)
+            → KeepsRooms self.old (SomePlace.Confirm round p) values (SomeVerb.Fence p)
             (SomeAnswer.Seen fence) self.new }
         ensures quiet { value_committed result ≡ None }
         ensures config { self.new.config ≡ self.old.config }
@@ -115,11 +127,17 @@ impl Lead {
 
     /// The place after a round of fences.
     fn after_round(&self, round: u8) -> Place
-        ensures { (b : ℕ) → (mine : List SomeEvent) → (up : List ℕ) → (reach : List (Option ℕ))
+        ensures stands { (b : ℕ) → (mine : List SomeEvent) → (up : List ℕ)
+            → (reach : List (Option ℕ))
             → (written : List ℕ) → self.now.config.replicas ≤ 7
             → self.now.id < self.now.config.replicas → round < 16
             → StandsForLeadership self.now.id mine self.now.leading → Fresh self.now.id mine
             → At self.now.config self.now.id b mine up reach written result }
+        ensures rooms { (mine : List SomeEvent) → (written : List ℕ) → self.now.config.replicas ≤ 7
+            → self.now.id < self.now.config.replicas
+            → StandsForLeadership self.now.id mine self.now.leading
+            → IsWaiting self.now.config self.now.id mine
+            → RoomsAt self.now.config self.now.id mine written result }
     {
         if self.is_confirmed() {
             self.first_to_read()
@@ -149,12 +167,19 @@ impl Lead {
 
     /// Begins to read the minima.
     fn first_to_read(&self) -> Place
-        ensures { (b : ℕ) → (mine : List SomeEvent) → (up : List ℕ) → (reach : List (Option ℕ))
+        ensures stands { (b : ℕ) → (mine : List SomeEvent) → (up : List ℕ)
+            → (reach : List (Option ℕ))
             → (written : List ℕ) → self.now.config.replicas ≤ 7
             → self.now.id < self.now.config.replicas
             → StandsForLeadership self.now.id mine self.now.leading → Fresh self.now.id mine
             → Confirmed self.now.config self.now.id mine
             → At self.now.config self.now.id b mine up reach written result }
+        ensures rooms { (mine : List SomeEvent) → (written : List ℕ) → self.now.config.replicas ≤ 7
+            → self.now.id < self.now.config.replicas
+            → StandsForLeadership self.now.id mine self.now.leading
+            → Confirmed self.now.config self.now.id mine
+            → IsWaiting self.now.config self.now.id mine
+            → RoomsAt self.now.config self.now.id mine written result }
     {
         match next_noted(&self.leading, 0, self.config.replicas) {
             Some(q) => Place::ReadMin(q),
@@ -167,6 +192,9 @@ impl Lead {
         ensures stands { (values : List ℕ)
             → Takes self.old (SomePlace.ReadMin p) values (SomeVerb.Min p) (SomeAnswer.Number min)
             self.new }
+        ensures rooms { (values : List ℕ)
+            → KeepsRooms self.old (SomePlace.ReadMin p) values (SomeVerb.Min p)
+            (SomeAnswer.Number min) self.new }
         ensures quiet { value_committed result ≡ None }
         ensures config { self.new.config ≡ self.old.config }
         ensures id { self.new.id ≡ self.old.id }
@@ -194,12 +222,20 @@ impl Lead {
 
     /// Begins to put the number.
     fn first_to_enter(&self) -> Place
-        ensures { (mine : List SomeEvent) → (up : List ℕ) → (reach : List (Option ℕ)) → (written : List ℕ)
+        ensures stands { (mine : List SomeEvent) → (up : List ℕ) → (reach : List (Option ℕ))
+            → (written : List ℕ)
             → self.now.config.replicas ≤ 7 → self.now.id < self.now.config.replicas
             → StandsForLeadership self.now.id mine self.now.leading
             → Telling self.now.config self.now.id mine self.now.config.replicas
             → Numbered self.now.config self.now.id self.now.number mine
             → At self.now.config self.now.id self.now.number mine up reach written result }
+        ensures rooms { (mine : List SomeEvent) → (written : List ℕ) → self.now.config.replicas ≤ 7
+            → self.now.id < self.now.config.replicas
+            → StandsForLeadership self.now.id mine self.now.leading
+            → Confirmed self.now.config self.now.id mine
+            → ((q : ℕ) → is_member self.now.id q mine ≡ false)
+            → IsLed self.now.config self.now.id mine Stage.EnterMin
+            → RoomsAt self.now.config self.now.id mine written result }
     {
         match next_noted(&self.leading, 0, self.config.replicas) {
             Some(q) => Place::EnterMin(q),
@@ -211,6 +247,9 @@ impl Lead {
     pub fn entered_min(&mut self, p: u8) -> Note
         ensures stands { (values : List ℕ)
             → Takes self.old (SomePlace.EnterMin p) values (SomeVerb.Enter p SomeTarget.Min)
+            SomeAnswer.Entered self.new }
+        ensures rooms { (values : List ℕ)
+            → KeepsRooms self.old (SomePlace.EnterMin p) values (SomeVerb.Enter p SomeTarget.Min)
             SomeAnswer.Entered self.new }
         ensures quiet { value_committed result ≡ None }
         ensures config { self.new.config ≡ self.old.config }
@@ -232,6 +271,9 @@ impl Lead {
     pub fn took_put_min(&mut self, p: u8) -> Note
         ensures stands { (values : List ℕ)
             → Takes self.old (SomePlace.PutMin p) values (SomeVerb.PutMin p self.old.number)
+            SomeAnswer.Done self.new }
+        ensures rooms { (values : List ℕ)
+            → KeepsRooms self.old (SomePlace.PutMin p) values (SomeVerb.PutMin p self.old.number)
             SomeAnswer.Done self.new }
         ensures quiet { value_committed result ≡ None }
         ensures config { self.new.config ≡ self.old.config }

@@ -12,6 +12,8 @@ ghost use Rattle.mu_lead.specs.Standing.{HoldsAt, Stands, Takes};
 ghost use Rattle.mu_lead.specs.Saying.{note_of_join};
 ghost use Rattle.mu_lead.specs.declared.note.Note.{Note as SomeNote};
 ghost use Rattle.mu_lead.specs.Going.{going_after};
+ghost use Rattle.mu_lead.specs.Onward.{MayGoOn};
+ghost use Rattle.mu_lead.specs.Rooms.{KeepsRooms, RoomsAt};
 
 use crate::arrays::{with_fuo, with_number};
 use crate::lead::Lead;
@@ -23,10 +25,14 @@ use mu_model::{Answer, Event, Fence, Target, Verb};
 impl Lead {
     /// Goes on with the late followers from `p` on.
     pub fn late_from(&self, p: u8, known: &[u16]) -> Place
-        ensures { (mine : List SomeEvent) → Stands mine self.now
+        ensures stands { (mine : List SomeEvent) → Stands mine self.now
             → known.now ≡ known_of self.now.config self.now.id mine
             → Level self.now.config self.now.id self.now.number mine self.now.up self.now.reach
             → HoldsAt mine self.now result }
+        ensures rooms { (mine : List SomeEvent) → Stands mine self.now
+            → known.now ≡ known_of self.now.config self.now.id mine
+            → MayGoOn self.now.config self.now.id mine p
+            → RoomsAt self.now.config self.now.id mine self.now.written.items result }
     {
         match next_stranger(&self.leading, p, self.config.replicas) {
             Some(q) => Place::LateFence(q),
@@ -37,6 +43,8 @@ impl Lead {
     /// The fence of the late follower `p`.
     pub fn took_late_fence(&mut self, p: u8, fence: Fence, known: &[u16]) -> Note
         ensures stands { Takes self.old (SomePlace.LateFence p) known.now (SomeVerb.Fence p)
+            (SomeAnswer.Seen fence) self.new }
+        ensures rooms { KeepsRooms self.old (SomePlace.LateFence p) known.now (SomeVerb.Fence p)
             (SomeAnswer.Seen fence) self.new }
         ensures quiet { value_committed result ≡ None }
         ensures config { self.new.config ≡ self.old.config }
@@ -64,6 +72,9 @@ impl Lead {
         ensures stands { (values : List ℕ)
             → Takes self.old (SomePlace.LateMin p) values (SomeVerb.Min p) (SomeAnswer.Number min)
             self.new }
+        ensures rooms { (values : List ℕ)
+            → KeepsRooms self.old (SomePlace.LateMin p) values (SomeVerb.Min p)
+            (SomeAnswer.Number min) self.new }
         ensures tells { min < 2 ^ 32 → result ≡ note_of_min p self.old.number min }
         ensures quiet { value_committed result ≡ None }
         ensures config { self.new.config ≡ self.old.config }
@@ -93,6 +104,8 @@ impl Lead {
     pub fn took_late_fuo(&mut self, p: u8, u: u64, known: &[u16]) -> Note
         ensures stands { Takes self.old (SomePlace.LateFuo p) known.now (SomeVerb.Fuo p) (SomeAnswer.Number u)
             self.new }
+        ensures rooms { KeepsRooms self.old (SomePlace.LateFuo p) known.now (SomeVerb.Fuo p)
+            (SomeAnswer.Number u) self.new }
         ensures quiet { value_committed result ≡ None }
         ensures config { self.new.config ≡ self.old.config }
         ensures id { self.new.id ≡ self.old.id }
@@ -115,6 +128,9 @@ impl Lead {
         ensures stands { (values : List ℕ)
             → Takes self.old (SomePlace.LateEnter p) values (SomeVerb.Enter p SomeTarget.Min)
             SomeAnswer.Entered self.new }
+        ensures rooms { (values : List ℕ)
+            → KeepsRooms self.old (SomePlace.LateEnter p) values (SomeVerb.Enter p SomeTarget.Min)
+            SomeAnswer.Entered self.new }
         ensures quiet { value_committed result ≡ None }
         ensures config { self.new.config ≡ self.old.config }
         ensures id { self.new.id ≡ self.old.id }
@@ -135,6 +151,8 @@ impl Lead {
     pub fn took_late_put(&mut self, p: u8, known: &[u16]) -> Note
         ensures stands { Takes self.old (SomePlace.LatePut p) known.now (SomeVerb.PutMin p self.old.number)
             SomeAnswer.Done self.new }
+        ensures rooms { KeepsRooms self.old (SomePlace.LatePut p) known.now
+            (SomeVerb.PutMin p self.old.number) SomeAnswer.Done self.new }
         ensures quiet { value_committed result ≡ None }
         ensures config { self.new.config ≡ self.old.config }
         ensures id { self.new.id ≡ self.old.id }

@@ -10,6 +10,8 @@ ghost use Rattle.mu_model.specs.Parts.{IsPossible};
 ghost use Rattle.mu_leading.specs.Leadership.{StandsForLeadership};
 ghost use Rattle.mu_lead.specs.Beside.{leads_at};
 ghost use Rattle.mu_lead.specs.declared.note.Note.{Note as SomeNote};
+ghost use Rattle.mu_lead.specs.Evidence.{ExplainsAt, ExplainsDue, ExplainsNext};
+ghost use Rattle.mu_lead.specs.Rooms.{HasRooms, RoomsDue, RoomsNext};
 ghost use Rattle.mu_lead.specs.Sets.{is_bit};
 ghost use Rattle.mu_lead.specs.Standing.{HasHeeded, StandsFor, TakesDue, TakesNext, TellsDue, TellsFailed, TellsNext, verb_of};
 ghost use Rattle.mu_lead.specs.Going.{begins_at, going_after};
@@ -92,6 +94,11 @@ impl Lead {
         ensures due { nat_lt leader self.old.id ≡ false → (values : List ℕ)
             → verb_of self.new values ≡ verb_of self.old values }
         ensures going { self.new.under_way ≡ (self.old.under_way && not (nat_lt leader self.old.id)) }
+        ensures rooms { (self.old.under_way && nat_lt leader self.old.id) ≡ false
+            → HasRooms mine self.old → HasRooms mine self.new }
+        ensures evidence { (self.old.under_way && nat_lt leader self.old.id) ≡ false
+            → ExplainsAt self.old.config self.old.id mine self.old.place
+            → ExplainsAt self.new.config self.new.id mine self.new.place }
     {
         self.named = leader == self.id;
         self.failed = bits_of(failed);
@@ -236,6 +243,8 @@ impl Lead {
         requires stands { StandsFor mine self.old }
         requires heeded { HasHeeded mine self.old }
         ensures stands { TakesNext mine self.old known.now answer self.new }
+        ensures rooms { RoomsNext mine self.old known.now answer self.new }
+        ensures evidence { ExplainsNext mine self.old answer self.new }
         ensures tells { TellsNext mine self.old known.now answer result }
         ensures config { self.new.config ≡ self.old.config }
         ensures id { self.new.id ≡ self.old.id }
@@ -254,6 +263,8 @@ impl Lead {
     #[tactic(auto, using(crate::proofs::Taking::takes_head))]
     fn take_answer(&mut self, answer: Answer, known: &[u16]) -> Note
         ensures stands { TakesDue self.old known.now answer self.new }
+        ensures rooms { RoomsDue self.old known.now answer self.new }
+        ensures evidence { ExplainsDue self.old answer self.new }
         ensures tells { TellsDue self.old known.now answer result }
         ensures config { self.new.config ≡ self.old.config }
         ensures id { self.new.id ≡ self.old.id }

@@ -2,12 +2,15 @@
 #![tactic(auto)]
 
 ghost use Rattle.mu_lead.specs.Beside.{OthersKeep};
+ghost use Rattle.mu_lead.specs.Evidence.{EvidenceComesInTime};
+ghost use Rattle.mu_lead.specs.Rooms.{OthersKeepRooms, RoomsAreInTime};
 
 mod answering;
 mod arrays;
 mod batches;
 mod behind;
 mod confirming;
+mod entries;
 mod joining;
 mod lead;
 mod losing;
@@ -24,4 +27,19 @@ pub use note::{AbortCause, Note};
 /// What the other machines of the replica do keeps what its leader stands for.
 pub fn others_keep()
     ensures { OthersKeep }
+{}
+
+/// What they do in the background leaves the rooms of its counts of steps.
+pub fn others_keep_rooms()
+    ensures { OthersKeepRooms }
+{}
+
+/// A leader whose counts have room is in time.
+pub fn rooms_are_in_time()
+    ensures { RoomsAreInTime }
+{}
+
+/// Each put that missed is explained in time, also beside what the other machines do.
+pub fn evidence_comes_in_time()
+    ensures { EvidenceComesInTime }
 {}

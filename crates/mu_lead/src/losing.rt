@@ -11,6 +11,8 @@ ghost use Rattle.mu_lead.specs.Confirming.{IsEnteredNow};
 ghost use Rattle.mu_lead.specs.Notes.{value_committed};
 ghost use Rattle.mu_lead.specs.Standing.{TakesAt, TakesFrom};
 ghost use Rattle.mu_lead.specs.Going.{going_after};
+ghost use Rattle.mu_lead.specs.declared.place.Place.{Place as SomePlace};
+ghost use Rattle.mu_lead.specs.Rooms.{KeepsRooms, LeavesRooms};
 
 use crate::lead::Lead;
 use crate::note::{AbortCause, Note};
@@ -21,6 +23,9 @@ impl Lead {
     /// The fence after a put that missed.
     pub fn took_evidence(&mut self, p: u8, fence: Fence) -> Note
         ensures stands { TakesFrom self.old (SomeVerb.Fence p) (SomeAnswer.Seen fence) self.new }
+        ensures rooms { (values : List ℕ)
+            → KeepsRooms self.old (SomePlace.Evidence p) values (SomeVerb.Fence p)
+            (SomeAnswer.Seen fence) self.new }
         ensures tells { result ≡ SomeNote.Aborted (SomeCause.Lost p fence) }
         ensures quiet { value_committed result ≡ None }
         ensures config { self.new.config ≡ self.old.config }
@@ -41,6 +46,8 @@ impl Lead {
     /// The enter of `p` was lost.
     fn lost(&mut self, p: u8, target: Target, fence: Fence) -> Note
         ensures stands { TakesFrom self.old (SomeVerb.Enter p target) (SomeAnswer.Lost fence) self.new }
+        ensures rooms { (mine : List SomeEvent)
+            → LeavesRooms mine self.old (SomeVerb.Enter p target) (SomeAnswer.Lost fence) self.new }
         ensures tells { result ≡ SomeNote.Aborted (SomeCause.Lost p fence) }
         ensures quiet { value_committed result ≡ None }
         ensures config { self.new.config ≡ self.old.config }
@@ -61,6 +68,9 @@ impl Lead {
     /// The enter for the minimum of `p` was lost.
     pub fn lost_min(&mut self, p: u8, fence: Fence) -> Note
         ensures stands { TakesFrom self.old (SomeVerb.Enter p SomeTarget.Min) (SomeAnswer.Lost fence) self.new }
+        ensures rooms { (mine : List SomeEvent)
+            → LeavesRooms mine self.old (SomeVerb.Enter p SomeTarget.Min) (SomeAnswer.Lost fence)
+            self.new }
         ensures quiet { value_committed result ≡ None }
         ensures config { self.new.config ≡ self.old.config }
         ensures id { self.new.id ≡ self.old.id }
@@ -74,6 +84,10 @@ impl Lead {
     pub fn lost_place(&mut self, p: u8, position: u64, fence: Fence) -> Note
         ensures stands { 0 < self.old.config.ring
             → TakesFrom self.old
+            (SomeVerb.Enter p (SomeTarget.Place (position % self.old.config.ring)))
+            (SomeAnswer.Lost fence) self.new }
+        ensures rooms { 0 < self.old.config.ring → (mine : List SomeEvent)
+            → LeavesRooms mine self.old
             (SomeVerb.Enter p (SomeTarget.Place (position % self.old.config.ring)))
             (SomeAnswer.Lost fence) self.new }
         ensures quiet { value_committed result ≡ None }
@@ -90,6 +104,10 @@ impl Lead {
         ensures stands { (mine : List SomeEvent) → p < self.old.config.replicas
             → has_begun self.old.id mine ≡ true → IsEnteredNow self.old.id p mine
             → TakesAt mine self.old (SomeVerb.PutMin p self.old.number) SomeAnswer.Missed self.new }
+        ensures rooms { (mine : List SomeEvent)
+            → LeavesRooms mine self.old (SomeVerb.PutMin p self.old.number) SomeAnswer.Missed
+            self.new }
+        ensures missed { self.new.place ≡ SomePlace.Evidence p }
         ensures quiet { value_committed result ≡ None }
         ensures config { self.new.config ≡ self.old.config }
         ensures id { self.new.id ≡ self.old.id }
@@ -112,6 +130,10 @@ impl Lead {
             → has_begun self.old.id mine ≡ true → IsEnteredNow self.old.id p mine
             → TakesAt mine self.old (SomeVerb.PutSlot p i self.old.number value) SomeAnswer.Missed
             self.new }
+        ensures rooms { (mine : List SomeEvent)
+            → LeavesRooms mine self.old (SomeVerb.PutSlot p i self.old.number value)
+            SomeAnswer.Missed self.new }
+        ensures missed { self.new.place ≡ SomePlace.Evidence p }
         ensures quiet { value_committed result ≡ None }
         ensures config { self.new.config ≡ self.old.config }
         ensures id { self.new.id ≡ self.old.id }

@@ -1,5 +1,5 @@
 //! New positions: room, looks, the value, puts and FUOs.
-ghost use Rattle.std.specs.Prelude.{IsTrue, List, None, Some, false, get_or, if◌then◌else◌, length, min, nat_lt, not, true, ℕ, ◌%◌, ◌&&◌, ◌+◌, ◌<◌, ◌==◌, ◌∷◌, ◌||◌, ◌≡◌, ◌≢◌, ◌≤◌, ◌↔◌};
+ghost use Rattle.std.specs.Prelude.{IsTrue, List, None, Some, false, get_or, if◌then◌else◌, length, min, nat_lt, not, true, ℕ, ◌%◌, ◌&&◌, ◌*◌, ◌+◌, ◌<◌, ◌==◌, ◌∷◌, ◌||◌, ◌≡◌, ◌≢◌, ◌≤◌, ◌↔◌};
 ghost use Rattle.std.specs.declared.option.Option.{Option};
 ghost use Rattle.mu_model.specs.declared.event.Answer.{Answer as SomeAnswer};
 ghost use Rattle.mu_model.specs.declared.event.Event.{Event as SomeEvent};
@@ -9,7 +9,6 @@ ghost use Rattle.mu_model.specs.Contents.{config_word, marked, row_count};
 ghost use Rattle.mu_model.specs.Knowledge.{known as known_of};
 ghost use Rattle.mu_model.specs.Leaderships.{is_member};
 ghost use Rattle.mu_model.specs.Parts.{IsPossible};
-ghost use Rattle.mu_model.specs.Picks.{entry_of, larger as larger_entry};
 ghost use Rattle.mu_model.specs.Room.{reserve};
 ghost use Rattle.mu_leading.specs.Leadership.{StandsForLeadership};
 ghost use Rattle.mu_model.specs.declared.config.Config.{Config};
@@ -17,16 +16,22 @@ ghost use Rattle.mu_lead.specs.declared.place.Sight.{Sight as SomeSight};
 ghost use Rattle.mu_lead.specs.declared.place.Place.{Place as SomePlace};
 ghost use Rattle.mu_lead.specs.Leading.{Level, end_of as end_of_known};
 ghost use Rattle.mu_lead.specs.Notes.{TellsPut, note_of_commit, note_of_head, value_committed};
-ghost use Rattle.mu_lead.specs.Offering.{Looking, LooksShow, MayBeMarked, MayOffer, Roomy, Writing, entry_in};
+ghost use Rattle.mu_lead.specs.Offering.{Looking, LooksShow, MayBeMarked, MayOffer, Roomy, Writing};
 ghost use Rattle.mu_lead.specs.Sets.{IsFirst};
 ghost use Rattle.mu_lead.specs.Standing.{HasHeeded, HoldsAt, Stands, StandsFor, Takes, TakesLook};
 ghost use Rattle.mu_lead.specs.Saying.{NotesPut, note_of_look};
 ghost use Rattle.mu_lead.specs.declared.note.Note.{Note as SomeNote};
 ghost use Rattle.mu_lead.specs.Going.{going_after};
+ghost use Rattle.mu_model.specs.Bounds.{members};
+ghost use Rattle.mu_pace.specs.Weights.{Stage};
+ghost use Rattle.mu_lead.specs.Onward.{IsNextStranger, MayGoOn};
+ghost use Rattle.mu_pace.specs.Members.{IsNextMember, members_from};
+ghost use Rattle.mu_lead.specs.Rooms.{IsLed, KeepsRooms, KeepsUntaught, RoomsAt};
 
 use crate::arrays::{with_fuo, with_number};
 use crate::batches::{is_marked, knows_all, next_offer, own_value};
 use crate::behind::{is_past, value_in};
+use crate::entries::{larger, sight_in};
 use crate::lead::Lead;
 use crate::note::Note;
 use crate::place::{Offer, Place, Sight, Then};
@@ -37,10 +42,15 @@ use mu_model::{Answer, Event, Verb, count_of_rows, reserve_of, row_rest};
 impl Lead {
     /// Goes on with the next position, or with late followers where all commands are known.
     pub fn next_position(&self, known: &[u16]) -> Place
-        ensures { (mine : List SomeEvent) → Stands mine self.now
+        ensures stands { (mine : List SomeEvent) → Stands mine self.now
             → known.now ≡ known_of self.now.config self.now.id mine
             → Level self.now.config self.now.id self.now.number mine self.now.up self.now.reach
             → HoldsAt mine self.now result }
+        ensures rooms { (mine : List SomeEvent) → (p : ℕ) → Stands mine self.now
+            → known.now ≡ known_of self.now.config self.now.id mine
+            → IsNextStranger self.now.config self.now.id mine p None
+            → MayGoOn self.now.config self.now.id mine p
+            → RoomsAt self.now.config self.now.id mine self.now.written.items result }
     {
         if knows_all(&self.config, known) {
             match next_stranger(&self.leading, 0, self.config.replicas) {
@@ -100,10 +110,17 @@ impl Lead {
 
     /// Reads the next head from `q` on that is too low, or goes on with the looks.
     fn heads_from(&self, q: u8, candidate: Option<u8>, known: &[u16]) -> Place
-        ensures { (mine : List SomeEvent) → Stands mine self.now
+        ensures stands { (mine : List SomeEvent) → Stands mine self.now
             → known.now ≡ known_of self.now.config self.now.id mine
             → Level self.now.config self.now.id self.now.number mine self.now.up self.now.reach
             → Roomy self.now.config self.now.id mine q candidate → HoldsAt mine self.now result }
+        ensures rooms { (mine : List SomeEvent) → Stands mine self.now
+            → known.now ≡ known_of self.now.config self.now.id mine
+            → ((h : ℕ) → q ≤ h → h < self.now.config.replicas
+            → IsLed self.now.config self.now.id mine (Stage.ReadHead h))
+            → ((k : ℕ) → k ≤ members self.now.config self.now.id mine
+            → IsLed self.now.config self.now.id mine (Stage.LookAt k))
+            → RoomsAt self.now.config self.now.id mine self.now.written.items result }
     {
         match self.next_low(q, known) {
             Some(p) => Place::ReadHead(p, candidate),
@@ -132,6 +149,8 @@ impl Lead {
             { by = self.old.id; verb = SomeVerb.Head q; answer = SomeAnswer.Number head }
             ∷ mine)
             self.new }
+        ensures rooms { KeepsRooms self.old (SomePlace.ReadHead q candidate) known.now
+            (SomeVerb.Head q) (SomeAnswer.Number head) self.new }
         ensures tells { length known.now < 65536 → head < 65536 → length self.old.failed ≡ 7
             → result
             ≡ note_of_head q head (length known.now)
@@ -197,6 +216,8 @@ impl Lead {
     ) -> Note
         ensures stands { TakesLook self.old (SomePlace.Look p position candidate best) known.now p position
             answer self.new }
+        ensures rooms { KeepsUntaught self.old (SomePlace.Look p position candidate best) known.now
+            (SomeVerb.Look p position) answer self.new }
         ensures quiet { value_committed result ≡ None }
         ensures config { self.new.config ≡ self.old.config }
         ensures id { self.new.id ≡ self.old.id }
@@ -221,11 +242,24 @@ impl Lead {
 
     /// Looks at the next member, or picks the value.
     fn after_look(&self, p: u8, candidate: Option<u8>, best: Option<Sight>, known: &[u16]) -> Place
-        ensures { (mine : List SomeEvent) → Stands mine self.now
+        ensures stands { (mine : List SomeEvent) → Stands mine self.now
             → known.now ≡ known_of self.now.config self.now.id mine → p < self.now.config.replicas
             → Looking self.now.config self.now.id self.now.number mine self.now.up self.now.reach
             (p + 1) candidate best
             → HoldsAt mine self.now result }
+        ensures rooms { (mine : List SomeEvent) → Stands mine self.now
+            → known.now ≡ known_of self.now.config self.now.id mine
+            → p < self.now.config.replicas → is_member self.now.id p mine ≡ true
+            → Looking self.now.config self.now.id self.now.number mine self.now.up self.now.reach
+            (p + 1) candidate best
+            → ((q : ℕ) → IsNextMember self.now.config self.now.id p q mine
+            → IsLed self.now.config self.now.id mine
+            (Stage.LookAt (members_from self.now.config self.now.id q mine)))
+            → ((words : ℕ) → 1 ≤ words → words ≤ 12 * self.now.config.width
+            → IsLed self.now.config self.now.id mine (Stage.Write words))
+            → ((k : ℕ) → 1 ≤ k → k ≤ members self.now.config self.now.id mine
+            → IsLed self.now.config self.now.id mine (Stage.EnterAt k))
+            → RoomsAt self.now.config self.now.id mine self.now.written.items result }
     {
         match next_member(&self.leading, p.saturating_add(1), self.config.replicas) {
             Some(q) => Place::Look(q, end_of(known), candidate, best),
@@ -235,11 +269,20 @@ impl Lead {
 
     /// Picks the value: the entry of the largest number, else a mark, else an own batch.
     fn pick(&self, candidate: Option<u8>, best: Option<Sight>, known: &[u16]) -> Place
-        ensures { (mine : List SomeEvent) → Stands mine self.now
+        ensures stands { (mine : List SomeEvent) → Stands mine self.now
             → known.now ≡ known_of self.now.config self.now.id mine
             → Looking self.now.config self.now.id self.now.number mine self.now.up self.now.reach
             self.now.config.replicas candidate best
             → HoldsAt mine self.now result }
+        ensures rooms { (mine : List SomeEvent) → Stands mine self.now
+            → known.now ≡ known_of self.now.config self.now.id mine
+            → Looking self.now.config self.now.id self.now.number mine self.now.up self.now.reach
+            self.now.config.replicas candidate best
+            → ((words : ℕ) → 1 ≤ words → words ≤ 12 * self.now.config.width
+            → IsLed self.now.config self.now.id mine (Stage.Write words))
+            → ((k : ℕ) → 1 ≤ k → k ≤ members self.now.config self.now.id mine
+            → IsLed self.now.config self.now.id mine (Stage.EnterAt k))
+            → RoomsAt self.now.config self.now.id mine self.now.written.items result }
     {
         match best {
             Some(sight) => self.offer(Offer {
@@ -258,11 +301,20 @@ impl Lead {
 
     /// Begins with the next own batch, where there is one.
     fn offer_own(&self, known: &[u16]) -> Place
-        ensures { (mine : List SomeEvent) → Stands mine self.now
+        ensures stands { (mine : List SomeEvent) → Stands mine self.now
             → known.now ≡ known_of self.now.config self.now.id mine
             → Looking self.now.config self.now.id self.now.number mine self.now.up self.now.reach
             self.now.config.replicas None None
             → HoldsAt mine self.now result }
+        ensures rooms { (mine : List SomeEvent) → Stands mine self.now
+            → known.now ≡ known_of self.now.config self.now.id mine
+            → Looking self.now.config self.now.id self.now.number mine self.now.up self.now.reach
+            self.now.config.replicas None None
+            → ((words : ℕ) → 1 ≤ words → words ≤ 12 * self.now.config.width
+            → IsLed self.now.config self.now.id mine (Stage.Write words))
+            → ((k : ℕ) → 1 ≤ k → k ≤ members self.now.config self.now.id mine
+            → IsLed self.now.config self.now.id mine (Stage.EnterAt k))
+            → RoomsAt self.now.config self.now.id mine self.now.written.items result }
     {
         match next_offer(&self.config, self.id, known) {
             None => Place::Rest,
@@ -279,7 +331,8 @@ impl Lead {
 
     /// Begins to put the value.
     pub fn offer(&self, offer: Offer) -> Place
-        ensures { (mine : List SomeEvent) → (candidate : Option ℕ) → (best : Option SomeSight)
+        ensures stands { (mine : List SomeEvent) → (candidate : Option ℕ)
+            → (best : Option SomeSight)
             → Stands mine self.now
             → Looking self.now.config self.now.id self.now.number mine self.now.up self.now.reach
             self.now.config.replicas candidate best
@@ -287,6 +340,11 @@ impl Lead {
             → LooksShow self.now.config self.now.id mine
             (end_of_known self.now.config self.now.id mine) offer.adopted
             → HoldsAt mine self.now result }
+        ensures rooms { (mine : List SomeEvent) → Stands mine self.now
+            → is_member self.now.id self.now.id mine ≡ true
+            → ((k : ℕ) → 1 ≤ k → k ≤ members self.now.config self.now.id mine
+            → IsLed self.now.config self.now.id mine (Stage.EnterAt k))
+            → RoomsAt self.now.config self.now.id mine self.now.written.items result }
     {
         Place::Enter(self.first_member(), offer)
     }
@@ -294,6 +352,9 @@ impl Lead {
     /// The region `p` was entered for the offer.
     pub fn entered_new(&mut self, p: u8, offer: Offer, known: &[u16]) -> Note
         ensures stands { Takes self.old (SomePlace.Enter p offer) known.now
+            (SomeVerb.Enter p (SomeTarget.Place (length known.now % self.old.config.ring)))
+            SomeAnswer.Entered self.new }
+        ensures rooms { KeepsRooms self.old (SomePlace.Enter p offer) known.now
             (SomeVerb.Enter p (SomeTarget.Place (length known.now % self.old.config.ring)))
             SomeAnswer.Entered self.new }
         ensures quiet { value_committed result ≡ None }
@@ -315,6 +376,9 @@ impl Lead {
     /// The offer was put at `p`.
     pub fn took_put(&mut self, p: u8, offer: Offer, known: &[u16]) -> Note
         ensures stands { Takes self.old (SomePlace.Put p offer) known.now
+            (SomeVerb.PutSlot p (length known.now) self.old.number offer.value) SomeAnswer.Done
+            self.new }
+        ensures rooms { KeepsRooms self.old (SomePlace.Put p offer) known.now
             (SomeVerb.PutSlot p (length known.now) self.old.number offer.value) SomeAnswer.Done
             self.new }
         ensures tells { (mine : List SomeEvent) → StandsFor mine self.old
@@ -384,6 +448,8 @@ impl Lead {
     pub fn took_raise(&mut self, p: u8, known: &[u16]) -> Note
         ensures stands { Takes self.old (SomePlace.Raise p) known.now (SomeVerb.RaiseFuo p (length known.now))
             SomeAnswer.Done self.new }
+        ensures rooms { KeepsRooms self.old (SomePlace.Raise p) known.now
+            (SomeVerb.RaiseFuo p (length known.now)) SomeAnswer.Done self.new }
         ensures quiet { value_committed result ≡ None }
         ensures config { self.new.config ≡ self.old.config }
         ensures id { self.new.id ≡ self.old.id }
@@ -412,33 +478,6 @@ fn first_of(candidate: Option<u8>, q: u8) -> u8
     match candidate {
         Some(k) => k,
         None => q,
-    }
-}
-
-/// The entry that a look showed.
-fn sight_in(answer: Answer) -> Option<Sight>
-    ensures { entry_in result ≡ entry_of (Some answer) }
-{
-    match answer {
-        Answer::Entry { number, value } => Some(Sight { number, value }),
-        _ => None,
-    }
-}
-
-/// The entry of the larger number, the earlier one at a tie.
-fn larger(best: Option<Sight>, next: Option<Sight>) -> Option<Sight>
-    ensures { entry_in result ≡ larger_entry (entry_in best) (entry_in next) }
-{
-    match (best, next) {
-        (None, other) => other,
-        (Some(sight), None) => Some(sight),
-        (Some(sight), Some(other)) => {
-            if sight.number < other.number {
-                Some(other)
-            } else {
-                Some(sight)
-            }
-        }
     }
 }
 

@@ -1,5 +1,5 @@
 //! The rows of a batch that is offered.
-ghost use Rattle.std.specs.Prelude.{IsTrue, List, None, Some, false, get_or, if◌then◌else◌, length, min, nat_lt, not, true, ℕ, ◌%◌, ◌&&◌, ◌+◌, ◌<◌, ◌==◌, ◌∷◌, ◌||◌, ◌≡◌, ◌≢◌, ◌≤◌, ◌↔◌};
+ghost use Rattle.std.specs.Prelude.{IsTrue, List, None, Some, false, get_or, if◌then◌else◌, length, min, nat_lt, not, true, ℕ, ◌%◌, ◌&&◌, ◌+◌, ◌-◌, ◌<◌, ◌==◌, ◌∷◌, ◌||◌, ◌≡◌, ◌≢◌, ◌≤◌, ◌↔◌};
 ghost use Rattle.std.specs.declared.option.Option.{Option};
 ghost use Rattle.mu_model.specs.declared.event.Answer.{Answer as SomeAnswer};
 ghost use Rattle.mu_model.specs.declared.event.Event.{Event as SomeEvent};
@@ -23,6 +23,9 @@ ghost use Rattle.mu_lead.specs.Standing.{HasHeeded, HoldsAt, Stands, StandsFor, 
 ghost use Rattle.mu_lead.specs.Saying.{NotesPut, note_of_look};
 ghost use Rattle.mu_lead.specs.declared.note.Note.{Note as SomeNote};
 ghost use Rattle.mu_lead.specs.Going.{going_after};
+ghost use Rattle.mu_model.specs.Bounds.{members};
+ghost use Rattle.mu_pace.specs.Weights.{Stage};
+ghost use Rattle.mu_lead.specs.Rooms.{IsLed, KeepsRooms, RoomsAt, words_left};
 
 use crate::lead::Lead;
 use crate::note::Note;
@@ -44,10 +47,19 @@ impl Lead {
 
     /// Writes what isn't written yet of the rows up to the last one, or begins to put.
     pub fn write_from(&self, first: u16, last: u16, offer: Offer) -> Place
-        ensures { (mine : List SomeEvent) → Stands mine self.now
+        ensures stands { (mine : List SomeEvent) → Stands mine self.now
             → Writing self.now.config self.now.id self.now.number mine self.now.up self.now.reach
             first last offer
             → HoldsAt mine self.now result }
+        ensures rooms { (mine : List SomeEvent) → Stands mine self.now
+            → Writing self.now.config self.now.id self.now.number mine self.now.up self.now.reach
+            first last offer
+            → (1 ≤ words_left self.now.written.items first (last + 1 - first)
+            → IsLed self.now.config self.now.id mine
+            (Stage.Write (words_left self.now.written.items first (last + 1 - first))))
+            → ((k : ℕ) → 1 ≤ k → k ≤ members self.now.config self.now.id mine
+            → IsLed self.now.config self.now.id mine (Stage.EnterAt k))
+            → RoomsAt self.now.config self.now.id mine self.now.written.items result }
     {
         match self.next_unwritten(first, last) {
             Some(j) => Place::Write(j, last, offer),
@@ -62,6 +74,11 @@ impl Lead {
             (SomeVerb.WriteRow j (get_or self.old.written.items j 12)
             (config_word self.old.config j (get_or self.old.written.items j 12)))
             SomeAnswer.Done self.new }
+        ensures rooms { (values : List ℕ)
+            → KeepsRooms self.old (SomePlace.Write j last offer) values
+            (SomeVerb.WriteRow j (get_or self.old.written.items j 12)
+            (config_word self.old.config j (get_or self.old.written.items j 12))) SomeAnswer.Done
+            self.new }
         ensures quiet { value_committed result ≡ None }
         ensures config { self.new.config ≡ self.old.config }
         ensures id { self.new.id ≡ self.old.id }

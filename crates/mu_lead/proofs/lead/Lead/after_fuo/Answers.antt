@@ -2,8 +2,24 @@ use Rattle.std.proofs.Common.{arith}
 use Rattle.mu_lead.proofs.Bringing.{read_all, reads_more}
 use Rattle.mu_lead.proofs.lead.Lead.after_fuo.Goals as goal
 
-pub returns-in-Some : goal.returns-in-Some
-returns-in-Some c = λ mine s same region member leads raised source. let l = c.args.self.now in let few = s.config.replicas.1 in let next = c.saturating_add.ensures in reads_more l.config l.id l.number c.args.p c.in-Some.q c.saturating_add.result c.farther-from.result mine l.up l.reach (omega (arith, next, region, few)) leads raised (c.farther-from.ensures mine source region member) (c.in-Some.ensures l.id mine few s.leading)
+pub returns-in-Some-clause-stands : goal.returns-in-Some-clause-stands
+returns-in-Some-clause-stands c = λ mine s same region member leads raised source. let l = c.args.self.now in let few = s.config.replicas.1 in let next = c.saturating_add.ensures in reads_more l.config l.id l.number c.args.p c.in-Some.q c.saturating_add.result c.farther-from.result mine l.up l.reach (omega (arith, next, region, few)) leads raised (c.farther-from.ensures mine source region member) (c.in-Some.ensures l.id mine few s.leading)
 
-pub returns-in-None : goal.returns-in-None
-returns-in-None c = λ mine s same region member leads raised source. let l = c.args.self.now in let few = s.config.replicas.1 in let next = c.saturating_add.ensures in c.learn_from.ensures mine s same leads (read_all l.config l.id c.args.p c.saturating_add.result mine l.up l.reach (omega (arith, next, region, few)) raised (c.in-None.ensures l.id mine few s.leading)) (c.farther-from.ensures mine source region member)
+pub returns-in-None-clause-stands : goal.returns-in-None-clause-stands
+returns-in-None-clause-stands c = λ mine s same region member leads raised source. let l = c.args.self.now in let few = s.config.replicas.1 in let next = c.saturating_add.ensures in c.learn_from.ensures.stands mine s same leads (read_all l.config l.id c.args.p c.saturating_add.result mine l.up l.reach (omega (arith, next, region, few)) raised (c.in-None.ensures l.id mine few s.leading)) (c.farther-from.ensures mine source region member)
+
+pub returns-in-Some-clause-rooms : goal.returns-in-Some-clause-rooms
+returns-in-Some-clause-rooms c = λ mine s same region member raised nexts learn ups alls.
+    let l = c.args.self.now in
+    let few = s.config.replicas.1 in
+    let next = c.saturating_add.ensures in
+    let first = c.in-Some.ensures l.id mine few s.leading in
+    let from = first.0 in
+    nexts c.in-Some.q (record { there = region; member = member; above = omega (arith, next, region, few, from); between = λ k after before. first.3 k (omega (arith, next, region, few, after)) before })
+
+pub returns-in-None-clause-rooms : goal.returns-in-None-clause-rooms
+returns-in-None-clause-rooms c = λ mine s same region member raised nexts learn ups alls.
+    let l = c.args.self.now in
+    let few = s.config.replicas.1 in
+    let next = c.saturating_add.ensures in
+    c.learn_from.ensures.rooms mine s same learn ups (alls (read_all l.config l.id c.args.p c.saturating_add.result mine l.up l.reach (omega (arith, next, region, few)) raised (c.in-None.ensures l.id mine few s.leading)))

@@ -1,4 +1,11 @@
+use Rattle.mu_lead.proofs.RoomsAsking.{out_again}
 use Rattle.mu_lead.proofs.lead.Lead.after_round.Goals as goal
 
-pub returns-then-is_confirmed : goal.returns-then-is_confirmed
-returns-then-is_confirmed c = λ b mine up reach written few own low held fresh. c.first_to_read.ensures b mine up reach written few own held fresh ((c.is_confirmed.ensures mine few own held).0 c.if-is_confirmed.true)
+pub returns-then-is_confirmed-clause-stands : goal.returns-then-is_confirmed-clause-stands
+returns-then-is_confirmed-clause-stands c = λ b mine up reach written few own low held fresh. c.first_to_read.ensures.stands b mine up reach written few own held fresh ((c.is_confirmed.ensures mine few own held).0 c.if-is_confirmed.true)
+
+pub returns-then-is_confirmed-clause-rooms : goal.returns-then-is_confirmed-clause-rooms
+returns-then-is_confirmed-clause-rooms c = λ mine written few own held waiting. c.first_to_read.ensures.rooms mine written few own held ((c.is_confirmed.ensures mine few own held).0 c.if-is_confirmed.true) waiting
+
+pub returns-else-round-lt15-clause-rooms : goal.returns-else-round-lt15-clause-rooms
+returns-else-round-lt15-clause-rooms c = λ mine written few own held waiting. out_again c.args.self.now.config c.args.self.now.id 0 mine waiting

@@ -1,6 +1,11 @@
 use Rattle.std.proofs.Common.{subst, sym}
 use Rattle.mu_lead.specs.Saying.{NotesRound}
 use Rattle.mu_lead.proofs.Replies.{sees_fence}
+use Rattle.std.proofs.Common.{subst, sym, ◌∷◌}
+use Rattle.mu_model.proofs.Basics.{event_by}
+use Rattle.mu_model.specs.declared.event.Verb.{Verb}
+use Rattle.mu_model.specs.Parts.{IsPossible}
+use Rattle.mu_lead.specs.Rooms.{HasRooms}
 use Rattle.mu_lead.proofs.lead.Lead.at_confirm.Goals as goal
 
 pub returns-in-None-clause-stands : goal.returns-in-None-clause-stands
@@ -11,3 +16,11 @@ returns-in-None-clause-note c = λ mine s region possible. let l = c.args.self.n
 
 pub returns-in-Some-clause-note : goal.returns-in-Some-clause-note
 returns-in-Some-clause-note c = subst (λ a. NotesRound c.args.self.now c.args.p a c.took_fence.result) (sym c.in-Some.ensures) c.took_fence.ensures.note
+
+pub returns-in-None-clause-rooms : goal.returns-in-None-clause-rooms
+returns-in-None-clause-rooms c = λ values mine s is possible told turn rooms. let l = c.args.self.now in let x = sees_fence l.config l.id c.args.p c.args.answer mine possible in absurd (c.in-None.ensures x.0 x.1)
+
+pub returns-in-Some-clause-rooms : goal.returns-in-Some-clause-rooms
+returns-in-Some-clause-rooms c = λ values mine s is possible told turn rooms.
+    let l = c.args.self.now in
+    subst (λ a. HasRooms (event_by l.id (Verb.Fence c.args.p) a ∷ mine) c.took_fence.new.self) (sym c.in-Some.ensures) (c.took_fence.ensures.rooms values mine s is (subst (λ a. IsPossible l.config l.id (event_by l.id (Verb.Fence c.args.p) a ∷ mine)) c.in-Some.ensures possible) told turn rooms)

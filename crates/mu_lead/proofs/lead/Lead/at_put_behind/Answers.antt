@@ -36,3 +36,9 @@ returns-in-Missed-clause-stands c = λ mine s is possible told.
     subst (λ i. StandsFor (event_by l.id (Verb.PutSlot c.args.p i l.number (get_or c.args.known.now (get_or l.up c.args.p 0) 0)) Answer.Missed ∷ mine) c.missed_slot.new.self) position
     (subst (λ v. StandsFor (event_by l.id (Verb.PutSlot c.args.p c.narrow.result l.number v) Answer.Missed ∷ mine) c.missed_slot.new.self) value
     (c.missed_slot.ensures.stands mine here.near.behind.region here.near.behind.leads.begun here.under s (subst (λ v. IsPossible l.config l.id (event_by l.id (Verb.PutSlot c.args.p c.narrow.result l.number v) Answer.Missed ∷ mine)) (sym value) (subst (λ i. IsPossible l.config l.id (event_by l.id (Verb.PutSlot c.args.p i l.number (get_or c.args.known.now (get_or l.up c.args.p 0) 0)) Answer.Missed ∷ mine)) (sym position) now))))))
+
+pub returns-in-Missed-clause-missed : goal.returns-in-Missed-clause-missed
+returns-in-Missed-clause-missed c = λ missed. c.missed_slot.ensures.missed
+
+pub returns-in_default-clause-missed : goal.returns-in_default-clause-missed
+returns-in_default-clause-missed c = λ missed. absurd (c.in_default.not-Missed missed)

@@ -1,8 +1,14 @@
 use Rattle.mu_lead.proofs.Rooms.{not_so}
 use Rattle.mu_lead.proofs.lead.Lead.late_from.Goals as goal
 
-pub returns-in-Some : goal.returns-in-Some
-returns-in-Some c = λ mine s same level. let first = c.in-Some.ensures c.args.self.now.id mine s.config.replicas.1 s.leading in record { region = first.1; stranger = not_so _ first.2; level = level }
+pub returns-in-Some-clause-stands : goal.returns-in-Some-clause-stands
+returns-in-Some-clause-stands c = λ mine s same level. let first = c.in-Some.ensures c.args.self.now.id mine s.config.replicas.1 s.leading in record { region = first.1; stranger = not_so _ first.2; level = level }
 
-pub returns-in-None : goal.returns-in-None
-returns-in-None c = λ mine s same level. c.next_position.ensures mine s same level
+pub returns-in-None-clause-stands : goal.returns-in-None-clause-stands
+returns-in-None-clause-stands c = λ mine s same level. c.next_position.ensures.stands mine s same level
+
+pub returns-in-Some-clause-rooms : goal.returns-in-Some-clause-rooms
+returns-in-Some-clause-rooms c = λ mine s same may. may.asks c.in-Some.q (c.in-Some.ensures c.args.self.now.id mine s.config.replicas.1 s.leading)
+
+pub returns-in-None-clause-rooms : goal.returns-in-None-clause-rooms
+returns-in-None-clause-rooms c = λ mine s same may. c.next_position.ensures.rooms mine c.args.p s same (c.in-None.ensures c.args.self.now.id mine s.config.replicas.1 s.leading) may

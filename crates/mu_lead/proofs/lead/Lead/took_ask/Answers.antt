@@ -2,6 +2,7 @@ use Rattle.std.proofs.Common.{refl}
 use Rattle.mu_model.specs.declared.event.Answer.{Answer}
 use Rattle.mu_lead.proofs.Asking.{begins_not}
 use Rattle.mu_lead.proofs.Tables.{tables_first, tables_kept}
+use Rattle.mu_lead.proofs.RoomsAsking.{rooms_ask, rooms_first_ask}
 use Rattle.mu_lead.proofs.lead.Lead.took_ask.Goals as goal
 
 pub returns-then-p-eq0-clause-stands : goal.returns-then-p-eq0-clause-stands
@@ -12,7 +13,7 @@ returns-then-p-eq0-clause-stands c = λ values mine s is possible told.
       inside = s.inside;
       leading = c.take.ensures l.config mine s.config.replicas.1 possible s.leading;
       tables = tables_first l.config l.id c.args.p Answer.Done mine l.up l.reach l.heads l.written.items c.if-p-eq0.true possible s.tables;
-      at = c.after_ask-self.ensures l.number mine _ _ l.written.items (rw is at s.at);
+      at = c.after_ask-self.ensures.stands l.number mine _ _ l.written.items (rw is at s.at);
     }
 
 pub returns-else-p-eq0-clause-stands : goal.returns-else-p-eq0-clause-stands
@@ -23,5 +24,19 @@ returns-else-p-eq0-clause-stands c = λ values mine s is possible told.
       inside = s.inside;
       leading = c.take.ensures l.config mine s.config.replicas.1 possible s.leading;
       tables = tables_kept l.config l.id _ mine l.up l.reach l.heads l.written.items possible (begins_not l.id c.args.p Answer.Done c.if-p-eq0.false) refl s.tables;
-      at = c.after_ask-self-else-p-eq0.ensures l.number mine _ _ l.written.items (rw is at s.at);
+      at = c.after_ask-self-else-p-eq0.ensures.stands l.number mine _ _ l.written.items (rw is at s.at);
     }
+
+pub returns-then-p-eq0-clause-rooms : goal.returns-then-p-eq0-clause-rooms
+returns-then-p-eq0-clause-rooms c = λ values mine s is possible told turn rooms.
+    let l = c.args.self.now in
+    let here = rw is at s.at in
+    let out = rw is at rooms in
+    c.after_ask-self.ensures.rooms _ l.written.items here.region s.config.replicas.1 (rooms_first_ask l.config l.id c.args.p Answer.Done mine c.if-p-eq0.true turn (out.0 c.if-p-eq0.true))
+
+pub returns-else-p-eq0-clause-rooms : goal.returns-else-p-eq0-clause-rooms
+returns-else-p-eq0-clause-rooms c = λ values mine s is possible told turn rooms.
+    let l = c.args.self.now in
+    let here = rw is at s.at in
+    let waiting = rw is at rooms in
+    c.after_ask-self-else-p-eq0.ensures.rooms _ l.written.items here.region s.config.replicas.1 (rooms_ask l.config l.id c.args.p Answer.Done mine c.if-p-eq0.false turn (waiting.1 c.if-p-eq0.false))

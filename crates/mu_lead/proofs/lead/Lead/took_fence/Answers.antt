@@ -5,6 +5,7 @@ use Rattle.mu_lead.proofs.Tables.{tables_kept}
 use Rattle.mu_model.specs.declared.event.Verb.{Verb}
 use Rattle.mu_model.proofs.Basics.{event_by}
 use Rattle.mu_lead.proofs.Rounds.{at_last, not_yet}
+use Rattle.mu_lead.proofs.RoomsAsking.{rooms_fence}
 use Rattle.mu_lead.proofs.lead.Lead.took_fence.Goals as goal
 
 pub returns-then-next-self-clause-stands : goal.returns-then-next-self-clause-stands
@@ -30,7 +31,7 @@ returns-else-next-self-clause-stands c = λ values mine s is possible told.
       inside = s.inside;
       leading = leading;
       tables = tables_kept l.config l.id _ mine l.up l.reach l.heads l.written.items possible refl refl s.tables;
-      at = c.after_round-self.ensures l.number _ l.up l.reach l.written.items s.config.replicas.1 s.inside here.0 leading (fresh_fenced l.id c.args.p c.args.fence mine here.1.fresh);
+      at = c.after_round-self.ensures.stands l.number _ l.up l.reach l.written.items s.config.replicas.1 s.inside here.0 leading (fresh_fenced l.id c.args.p c.args.fence mine here.1.fresh);
     }
 
 pub returns-then-next-self-clause-note : goal.returns-then-next-self-clause-note
@@ -51,3 +52,12 @@ returns-else-next-self-clause-note c = λ mine s region possible.
 
 pub returns-else-next-self-clause-going : goal.returns-else-next-self-clause-going
 returns-else-next-self-clause-going c = sym (c.note_of_round.ensures.going c.args.self.now.under_way)
+
+pub returns-then-next-self-clause-rooms : goal.returns-then-next-self-clause-rooms
+returns-then-next-self-clause-rooms c = λ values mine s is possible told turn rooms. let l = c.args.self.now in rooms_fence l.config l.id c.args.p c.args.fence mine turn (rw is at rooms)
+
+pub returns-else-next-self-clause-rooms : goal.returns-else-next-self-clause-rooms
+returns-else-next-self-clause-rooms c = λ values mine s is possible told turn rooms.
+    let l = c.args.self.now in
+    let few = s.config.replicas.1 in
+    c.after_round-self.ensures.rooms _ l.written.items few s.inside (c.take.ensures l.config mine few possible s.leading) (rooms_fence l.config l.id c.args.p c.args.fence mine turn (rw is at rooms))

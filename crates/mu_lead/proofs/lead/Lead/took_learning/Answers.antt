@@ -4,6 +4,11 @@ use Rattle.mu_lead.proofs.Keeping.{leading_calm, leads_kept}
 use Rattle.mu_lead.proofs.Bringing.{look_event}
 use Rattle.mu_lead.proofs.Sights.{outrun_by}
 use Rattle.mu_lead.proofs.Tables.{tables_kept}
+use Rattle.std.proofs.Common.{arith, ◌<◌}
+use Rattle.mu_lead.specs.declared.place.Then.{Then}
+use Rattle.mu_lead.proofs.Bringing.{none_behind}
+use Rattle.mu_lead.proofs.RoomsBrought.{level_brought}
+use Rattle.mu_lead.proofs.RoomsLearning.{past_untaught, rooms_learnt, rooms_learnt_all, rooms_learnt_level}
 use Rattle.mu_lead.proofs.lead.Lead.took_learning.Goals as goal
 
 pub returns-then-is_past-clause-stands : goal.returns-then-is_past-clause-stands
@@ -41,8 +46,33 @@ returns-else-is_past-clause-stands c = λ i mine s is position possible told.
       inside = s.inside;
       leading = leading;
       tables = tables;
-      at = c.learn_from-self.ensures (e ∷ mine) (record { possible = possible; config = s.config; inside = s.inside; leading = leading; tables = tables }) told leads here.raised (here.region, here.member);
+      at = c.learn_from-self.ensures.stands (e ∷ mine) (record { possible = possible; config = s.config; inside = s.inside; leading = leading; tables = tables }) told leads here.raised (here.region, here.member);
     }
 
 pub returns-else-is_past-clause-going : goal.returns-else-is_past-clause-going
 returns-else-is_past-clause-going c = sym (c.learnt.ensures.going c.args.self.now.under_way)
+
+pub returns-then-is_past-clause-rooms : goal.returns-then-is_past-clause-rooms
+returns-then-is_past-clause-rooms c = λ i mine s is position possible told turn more rooms.
+    let l = c.args.self.now in
+    absurd (past_untaught l.config l.id c.args.source i c.args.answer mine (sym c.is_past.ensures ∙ c.if-is_past.true) more)
+
+pub returns-else-is_past-clause-rooms : goal.returns-else-is_past-clause-rooms
+returns-else-is_past-clause-rooms c = λ i mine s is position possible told turn more rooms.
+    let l = c.args.self.now in
+    let here = rw is at s.at in
+    let few = s.config.replicas.1 in
+    let p = c.args.source in
+    let i = i in
+    let e = look_event l.id p i c.args.answer in
+    let leading = leading_calm l.id l.id (Verb.Look p i) c.args.answer mine l.leading refl s.leading in
+    let tables = tables_kept l.config l.id e mine l.up l.reach l.heads l.written.items possible refl refl s.tables in
+    let leads = leads_kept l.config l.id l.number l.id (Verb.Look p i) c.args.answer mine refl here.leads in
+    let a = c.args.answer in
+    let led = rw is at rooms in
+    c.learn_from-self.ensures.rooms (e ∷ mine) (record { possible = possible; config = s.config; inside = s.inside; leading = leading; tables = tables }) told
+    (rooms_learnt l.config l.id p i a mine s.config turn more led)
+    (λ q. rooms_learnt_all l.config l.id p i q a mine s.config turn more led)
+    (λ none. rooms_learnt_level l.config l.id p i a mine s.config turn more led
+    (level_brought l.config l.id l.number (e ∷ mine) l.up l.reach l.heads l.written.items possible tables
+    (none_behind l.config l.id l.number 0 (e ∷ mine) l.up l.reach Then.Late leads here.raised (λ k few_members member low. absurd (omega (arith, low))) none)))

@@ -7,6 +7,7 @@ use Rattle.mu_lead.proofs.Looks.{look_same, looking_on}
 use Rattle.mu_lead.proofs.Sights.{outrun_by}
 use Rattle.mu_lead.specs.Offering.{entry_in}
 use Rattle.mu_model.specs.Picks.{larger}
+use Rattle.mu_lead.proofs.RoomsLooking.{none_longer, rooms_next_look, rooms_outrun, rooms_picks, rooms_writes}
 use Rattle.mu_lead.proofs.lead.Lead.took_look.Goals as goal
 
 pub returns-then-is_past-clause-stands : goal.returns-then-is_past-clause-stands
@@ -44,7 +45,7 @@ returns-then-from-known-clause-stands c = λ mine s is position possible told.
       inside = s.inside;
       leading = leading;
       tables = tables;
-      at = c.bring_up_from-self.ensures (e ∷ mine) (record { possible = possible; config = s.config; inside = s.inside; leading = leading; tables = tables }) told leads here.looking.level.raised (λ k region member done. absurd (omega (arith, done)));
+      at = c.bring_up_from-self.ensures.stands (e ∷ mine) (record { possible = possible; config = s.config; inside = s.inside; leading = leading; tables = tables }) told leads here.looking.level.raised (λ k region member done. absurd (omega (arith, done)));
     }
 
 pub returns-else-from-known-clause-stands : goal.returns-else-from-known-clause-stands
@@ -68,5 +69,48 @@ returns-else-from-known-clause-stands c = λ mine s is position possible told.
       inside = s.inside;
       leading = leading;
       tables = tables;
-      at = c.after_look-self.ensures (e ∷ mine) (record { possible = possible; config = s.config; inside = s.inside; leading = leading; tables = tables }) told here.region (looking_on l.config l.id l.number p i c.args.answer mine l.up l.reach c.args.candidate c.args.best c.larger-shown.result possible here same (sym c.is_past.ensures ∙ c.if-is_past.false) best);
+      at = c.after_look-self.ensures.stands (e ∷ mine) (record { possible = possible; config = s.config; inside = s.inside; leading = leading; tables = tables }) told here.region (looking_on l.config l.id l.number p i c.args.answer mine l.up l.reach c.args.candidate c.args.best c.larger-shown.result possible here same (sym c.is_past.ensures ∙ c.if-is_past.false) best);
     }
+
+pub returns-then-is_past-clause-rooms : goal.returns-then-is_past-clause-rooms
+returns-then-is_past-clause-rooms c = λ mine s is possible told turn none rooms.
+    let l = c.args.self.now in
+    let here = rw is at s.at in
+    rooms_outrun l.config l.id c.args.p c.args.position c.args.answer mine s.config turn none here.region here.member (rw is at rooms)
+
+pub returns-then-from-known-clause-rooms : goal.returns-then-from-known-clause-rooms
+returns-then-from-known-clause-rooms c = λ mine s is possible told turn none rooms.
+    let l = c.args.self.now in
+    let here = rw is at s.at in
+    let position = here.position in
+    let from = c.from.ensures in
+    let long = ap length told in
+    let more = c.if-from-known.true in
+    let same = none_longer l.config l.id (look_event l.id c.args.p c.args.position c.args.answer) mine none in
+    absurd (omega (arith, from, long, more, same, position))
+
+pub returns-else-from-known-clause-rooms : goal.returns-else-from-known-clause-rooms
+returns-else-from-known-clause-rooms c = λ mine s is possible told turn none rooms.
+    let position = (let at_look = rw is at s.at in at_look.position) in
+    let l = c.args.self.now in
+    let here = rw is at s.at in
+    let few = s.config.replicas.1 in
+    let p = c.args.p in
+    let i = c.args.position in
+    let e = look_event l.id p i c.args.answer in
+    let leading = leading_calm l.id l.id (Verb.Look p i) c.args.answer mine l.leading refl s.leading in
+    let tables = tables_kept l.config l.id e mine l.up l.reach l.heads l.written.items possible refl refl s.tables in
+    let leads = leads_kept l.config l.id l.number l.id (Verb.Look p i) c.args.answer mine refl here.looking.level.leads in
+    let from = c.from.ensures in
+    let long = ap length told in
+    let no_more = c.if-from-known.false in
+    let same = look_same l.config l.id e mine (omega (arith, from, long, no_more, position)) in
+    let best = c.larger-shown.ensures ∙ ap (larger (entry_in c.args.best)) c.sight_in.ensures in
+    let led = rw is at rooms in
+    let region = here.region in
+    let member = here.member in
+    let a = c.args.answer in
+    c.after_look-self.ensures.rooms (e ∷ mine) (record { possible = possible; config = s.config; inside = s.inside; leading = leading; tables = tables }) told region member (looking_on l.config l.id l.number p i c.args.answer mine l.up l.reach c.args.candidate c.args.best c.larger-shown.result possible here same (sym c.is_past.ensures ∙ c.if-is_past.false) best)
+    (λ q next. rooms_next_look l.config l.id p q i a mine s.config turn none (record { there = next.there; member = next.member; above = next.above; between = next.between }) led)
+    (λ words some few_words. rooms_writes l.config l.id p i words a mine s.config turn none region member some few_words led)
+    (λ k some few_members. rooms_picks l.config l.id p i k a mine s.config turn none region member some few_members led)

@@ -2,6 +2,8 @@ use Rattle.std.proofs.Common.{arith, refl}
 use Rattle.mu_agree.proofs.Readings.{parts_count_law}
 use Rattle.mu_lead.proofs.Numbering.{numbered_now, reads_next, told_all}
 use Rattle.mu_lead.proofs.Tables.{tables_kept}
+use Rattle.mu_model.specs.declared.event.Answer.{Answer}
+use Rattle.mu_lead.proofs.RoomsMin.{rooms_last_min, rooms_next_min}
 use Rattle.mu_lead.proofs.lead.Lead.took_min.Goals as goal
 
 pub returns-in-Some-clause-stands : goal.returns-in-Some-clause-stands
@@ -34,5 +36,28 @@ returns-in-None-clause-stands c = λ values mine s is possible told.
       inside = s.inside;
       leading = leading;
       tables = tables_kept l.config l.id _ mine l.up l.reach l.heads l.written.items possible refl refl s.tables;
-      at = c.first_to_enter-self.ensures _ l.up l.reach l.written.items s.config.replicas.1 s.inside leading telling (numbered_now l.config l.id c.next_number-self.result _ telling number);
+      at = c.first_to_enter-self.ensures.stands _ l.up l.reach l.written.items s.config.replicas.1 s.inside leading telling (numbered_now l.config l.id c.next_number-self.result _ telling number);
     }
+
+pub returns-in-Some-clause-rooms : goal.returns-in-Some-clause-rooms
+returns-in-Some-clause-rooms c = λ values mine s is possible told turn rooms.
+    let l = c.args.self.now in
+    let here = rw is at s.at in
+    let few = s.config.replicas.1 in
+    let low = here.region in
+    let next = c.saturating_add.ensures in
+    let leading = c.take.ensures l.config mine few possible s.leading in
+    let first = c.in-Some.ensures l.id _ few leading in
+    let from = first.0 in
+    rooms_next_min l.config l.id c.args.p c.in-Some.q (Answer.Number c.args.min) mine l.written.items s.config turn here.telling.fresh.begun (omega (arith, next, low, few, from)) first.1 (rw is at rooms)
+
+pub returns-in-None-clause-rooms : goal.returns-in-None-clause-rooms
+returns-in-None-clause-rooms c = λ values mine s is possible told turn rooms.
+    let l = c.args.self.now in
+    let here = rw is at s.at in
+    let few = s.config.replicas.1 in
+    let low = here.region in
+    let next = c.saturating_add.ensures in
+    let leading = c.take.ensures l.config mine few possible s.leading in
+    let telling = told_all l.config l.id c.args.p c.saturating_add.result c.args.min mine here (omega (arith, next, low, few)) (c.in-None.ensures l.id _ few leading) in
+    c.first_to_enter-self.ensures.rooms _ l.written.items few s.inside leading telling.confirmed telling.fresh.alone (rooms_last_min l.config l.id c.args.p (Answer.Number c.args.min) mine l.written.items s.config turn here.telling.fresh.begun low (rw is at rooms))

@@ -1,0 +1,220 @@
+-- The room that the counts of steps have at each place of a leader.
+use Rattle.std.specs.Prelude.{Bool, List, None, Some, [], false, get_or, not, suc, true, zero, ℕ, ◌+◌, ◌-◌, ◌∷◌, ◌≡◌, ◌≢◌, ◌≤◌}
+use Rattle.mu_model.specs.declared.config.Config.{Config}
+use Rattle.mu_model.specs.declared.event.Answer.{Answer}
+use Rattle.mu_model.specs.declared.event.Event.{Event}
+use Rattle.mu_model.specs.declared.event.Verb.{Verb}
+use Rattle.mu_model.specs.Bounds.{members}
+use Rattle.mu_model.specs.Contents.{IsConfig}
+use Rattle.mu_model.specs.Parts.{IsPossible}
+use Rattle.mu_model.specs.Knowledge.{known}
+use Rattle.mu_model.specs.Leaderships.{is_member, is_over}
+use Rattle.mu_model.specs.Steps.{has_min, knows_more, leads}
+use Rattle.mu_model.specs.Stretches.{is_replication}
+use Rattle.mu_pace.specs.Away.{IsAway, IsFresh}
+use Rattle.mu_pace.specs.Members.{members_below, members_from}
+use Rattle.mu_pace.specs.Placed.{AreInTime, IsPlacedAt}
+use Rattle.mu_pace.specs.Weights.{Bringing, Lag, Sizes, Stage}
+use Rattle.mu_lead.specs.declared.lead.Lead.{Lead}
+use Rattle.mu_lead.specs.declared.place.Place.{Place}
+use Rattle.mu_lead.specs.declared.place.Then.{Then}
+use Rattle.mu_lead.specs.Leading.{end_of}
+use Rattle.mu_lead.specs.Beside.{is_beside, leads_at}
+use Rattle.mu_lead.specs.Standing.{StandsFor, known_told, verb_at, verb_of}
+
+-- how many replicas and members there are, and how many rows a batch has at most
+abbrev pub sizes_of : Config → ℕ → List Event → Sizes
+sizes_of c r mine = record { replicas = c.replicas; width = c.width; members = members c r mine }
+
+-- how many words of so many rows from j on aren't written
+abbrev pub words_left : List ℕ → ℕ → ℕ → ℕ
+words_left written j zero = 0
+words_left written j (suc rows) = (12 - get_or written j 12) + words_left written (j + 1) rows
+
+-- which members are brought up while p is
+abbrev pub lag_of : Config → ℕ → List Event → ℕ → Then → Lag
+lag_of c r mine p Then.Late = Lag.Behind
+lag_of c r mine p Then.Position = Lag.Position (members_below c r p mine)
+lag_of c r mine p Then.Joined = Lag.Joined p
+
+-- the place as its weight sees it: with the region in turn, or with the members that are still in turn
+abbrev pub stage_of : Config → ℕ → List Event → List ℕ → Place → Stage
+stage_of c r mine written (Place.ReadMin p) = Stage.ReadMin p
+stage_of c r mine written (Place.EnterMin p) = Stage.EnterMin
+stage_of c r mine written (Place.PutMin p) = Stage.PutMin
+stage_of c r mine written (Place.ReadFuo p source) = Stage.ReadFuo (members_from c r p mine)
+stage_of c r mine written (Place.Learn p) = Stage.Learn
+stage_of c r mine written (Place.WidenBehind p then) = Stage.Bring (lag_of c r mine p then)
+    Bringing.Widen
+stage_of c r mine written (Place.LookBehind p then) = Stage.Bring (lag_of c r mine p then)
+    Bringing.Look
+stage_of c r mine written (Place.EnterBehind p then) = Stage.Bring (lag_of c r mine p then)
+    Bringing.Enter
+stage_of c r mine written (Place.PutBehind p then) = Stage.Bring (lag_of c r mine p then)
+    Bringing.Put
+stage_of c r mine written (Place.RaiseBehind p then) = Stage.Bring (lag_of c r mine p then)
+    Bringing.Raise
+stage_of c r mine written (Place.FenceBehind p then) = Stage.Bring (lag_of c r mine p then)
+    Bringing.Fence
+stage_of c r mine written (Place.LateFence p) = Stage.LateFence p
+stage_of c r mine written (Place.LateMin p) = Stage.LateMin p
+stage_of c r mine written (Place.LateFuo p) = Stage.LateFuo p
+stage_of c r mine written (Place.LateEnter p) = Stage.LateEnter p
+stage_of c r mine written (Place.LatePut p) = Stage.LatePut p
+stage_of c r mine written (Place.ReadHead q candidate) = Stage.ReadHead q
+stage_of c r mine written (Place.Look p i candidate best) = Stage.LookAt (members_from c r p mine)
+stage_of c r mine written (Place.Write j last offer) = Stage.Write
+    (words_left written j (last + 1 - j))
+stage_of c r mine written (Place.Enter p offer) = Stage.EnterAt (members_from c r p mine)
+stage_of c r mine written (Place.Put p offer) = Stage.PutAt (members_from c r p mine)
+stage_of c r mine written (Place.Raise p) = Stage.RaiseAt (members_from c r p mine)
+stage_of c r mine written place = Stage.Rest
+
+-- a minimum was read, and each count has the room that the place weighs
+pub record IsLed (c : Config) (r : ℕ) (mine : List Event) (stage : Stage) : Type 0 where
+  pub read : has_min r mine ≡ true
+  pub placed : IsPlacedAt c r (sizes_of c r mine) stage mine
+
+-- the same of a place of the listing
+abbrev pub IsPlaced : Config → ℕ → List Event → List ℕ → Place → Type 0
+IsPlaced c r mine written place = IsLed c r mine (stage_of c r mine written place)
+
+-- no leadership is under way: only late followers are waited for, and a background look may count
+pub record IsOut (c : Config) (r : ℕ) (mine : List Event) : Type 0 where
+  pub not_led : leads r mine ≡ false
+  pub away : IsAway c r mine
+
+-- the leadership is over
+pub record IsEnded (c : Config) (r : ℕ) (mine : List Event) : Type 0 where
+  pub over : is_over r mine ≡ true
+  pub away : IsAway c r mine
+
+-- a leadership waits for its first `Min`
+pub record IsWaiting (c : Config) (r : ℕ) (mine : List Event) : Type 0 where
+  pub unread : has_min r mine ≡ false
+  pub fresh : IsFresh c r mine
+
+-- minima are read
+pub record IsReading (c : Config) (r : ℕ) (mine : List Event) (written : List ℕ) (p : ℕ) : Type 0
+  where
+    pub waits : has_min r mine ≡ false → IsFresh c r mine
+    pub goes_on : has_min r mine ≡ true → IsPlaced c r mine written (Place.ReadMin p)
+
+-- the number is put, and no region from p on is a member
+pub record IsNumbering (c : Config) (r : ℕ) (mine : List Event) (p : ℕ) (stage : Stage) : Type 0
+  where
+    pub left : (q : ℕ) → p ≤ q → is_member r q mine ≡ false
+    pub led : IsLed c r mine stage
+
+-- what holds of the counts at a place
+abbrev pub RoomsAt : Config → ℕ → List Event → List ℕ → Place → Type 0
+RoomsAt c r mine written (Place.Ask p) = (p ≡ 0 → IsOut c r mine) × (p ≢ 0 → IsWaiting c r mine)
+RoomsAt c r mine written (Place.Confirm round p) = IsWaiting c r mine
+RoomsAt c r mine written (Place.ReadMin p) = IsReading c r mine written p
+RoomsAt c r mine written (Place.EnterMin p) = IsNumbering c r mine p Stage.EnterMin
+RoomsAt c r mine written (Place.PutMin p) = IsNumbering c r mine p Stage.PutMin
+RoomsAt c r mine written (Place.Evidence p) = IsEnded c r mine
+RoomsAt c r mine written place = IsPlaced c r mine written place
+
+-- the leader's counts have the room of its place
+abbrev pub HasRooms : List Event → Lead → Type 0
+HasRooms mine l = RoomsAt l.config l.id mine l.written.items l.place
+
+-- from its place, by the replication event and with these values known, the leader comes to one whose counts have room
+abbrev pub KeepsRooms : Lead → Place → List ℕ → Verb → Answer → Lead → Type 0
+KeepsRooms old place values verb answer new =
+    (mine : List Event) → StandsFor mine old → old.place ≡ place
+    → IsPossible old.config old.id (record { by = old.id; verb = verb; answer = answer } ∷ mine)
+    → values ≡ known_told old.config old.id mine old.id verb answer
+    → is_replication mine (record { by = old.id; verb = verb; answer = answer }) ≡ true
+    → HasRooms mine old → HasRooms (record { by = old.id; verb = verb; answer = answer } ∷ mine) new
+
+-- the same of a step that teaches nothing
+abbrev pub KeepsUntaught : Lead → Place → List ℕ → Verb → Answer → Lead → Type 0
+KeepsUntaught old place values verb answer new =
+    (mine : List Event) → StandsFor mine old → old.place ≡ place
+    → IsPossible old.config old.id (record { by = old.id; verb = verb; answer = answer } ∷ mine)
+    → values ≡ known_told old.config old.id mine old.id verb answer
+    → is_replication mine (record { by = old.id; verb = verb; answer = answer }) ≡ true
+    → knows_more old.config old.id mine (record { by = old.id; verb = verb; answer = answer })
+    ≡ false
+    → HasRooms mine old → HasRooms (record { by = old.id; verb = verb; answer = answer } ∷ mine) new
+
+-- the same of a look at the first unknown position, where it teaches something
+abbrev pub KeepsTaught : Lead → Place → List ℕ → ℕ → ℕ → Answer → Lead → Type 0
+KeepsTaught old place values p i answer new =
+    (mine : List Event) → StandsFor mine old → old.place ≡ place → i ≡ end_of old.config old.id mine
+    → IsPossible old.config old.id
+    (record { by = old.id; verb = Verb.Look p i; answer = answer } ∷ mine)
+    → values ≡ known old.config old.id
+    (record { by = old.id; verb = Verb.Look p i; answer = answer } ∷ mine)
+    → is_replication mine (record { by = old.id; verb = Verb.Look p i; answer = answer }) ≡ true
+    → knows_more old.config old.id mine
+    (record { by = old.id; verb = Verb.Look p i; answer = answer })
+    ≡ true
+    → HasRooms mine old
+    → HasRooms (record { by = old.id; verb = Verb.Look p i; answer = answer } ∷ mine) new
+
+-- the event ends the leadership, wherever in it the leader was
+abbrev pub LeavesRooms : List Event → Lead → Verb → Answer → Lead → Type 0
+LeavesRooms mine old verb answer new =
+    (stage : Stage) → IsConfig old.config
+    → is_replication mine (record { by = old.id; verb = verb; answer = answer }) ≡ true
+    → IsPlacedAt old.config old.id (sizes_of old.config old.id mine) stage mine
+    → HasRooms (record { by = old.id; verb = verb; answer = answer } ∷ mine) new
+
+-- each member is brought up at one position
+abbrev pub is_one_position : Then → Bool
+is_one_position Then.Position = true
+is_one_position _ = false
+
+-- from which places a step, which teaches something or not, is shown to keep the rooms
+abbrev pub is_kept : Place → Bool → Bool
+is_kept (Place.Learn p) teaches = teaches
+is_kept (Place.PutBehind p then) teaches = false
+is_kept (Place.RaiseBehind p then) teaches = not (is_one_position then)
+is_kept (Place.FenceBehind p then) teaches = false
+is_kept (Place.Look p i candidate best) teaches = not teaches
+is_kept place teaches = true
+
+-- from these places, by the answer to the verb that was due, the leader comes to a place whose counts have room
+abbrev pub RoomsDue : Lead → List ℕ → Answer → Lead → Type 0
+RoomsDue old values answer new =
+    (mine : List Event) (verb : Verb) → StandsFor mine old
+    → verb_at old.config old.number (known old.config old.id mine) old.up old.written.items
+    old.place ≡ Some verb
+    → IsPossible old.config old.id (record { by = old.id; verb = verb; answer = answer } ∷ mine)
+    → values ≡ known_told old.config old.id mine old.id verb answer
+    → is_replication mine (record { by = old.id; verb = verb; answer = answer }) ≡ true
+    → is_kept old.place
+    (knows_more old.config old.id mine (record { by = old.id; verb = verb; answer = answer }))
+    ≡ true
+    → HasRooms mine old
+    → HasRooms (record { by = old.id; verb = verb; answer = answer } ∷ mine) new
+
+-- the same after these events
+abbrev pub RoomsNext : List Event → Lead → List ℕ → Answer → Lead → Type 0
+RoomsNext mine old values answer new =
+    (verb : Verb) → verb_of old (known old.config old.id mine) ≡ Some verb
+    → IsPossible old.config old.id (record { by = old.id; verb = verb; answer = answer } ∷ mine)
+    → values ≡ known_told old.config old.id mine old.id verb answer
+    → is_replication mine (record { by = old.id; verb = verb; answer = answer }) ≡ true
+    → is_kept old.place
+    (knows_more old.config old.id mine (record { by = old.id; verb = verb; answer = answer }))
+    ≡ true
+    → HasRooms mine old
+    → HasRooms (record { by = old.id; verb = verb; answer = answer } ∷ mine) new
+
+-- what the other machines do in the background leaves the rooms of the leader
+abbrev pub OthersKeepRooms : Type 0
+OthersKeepRooms =
+    (mine : List Event) (lead : Lead) (verb : Verb) (answer : Answer)
+    → is_replication mine (record { by = lead.id; verb = verb; answer = answer }) ≡ false
+    → is_beside (leads_at lead.place) verb ≡ true → StandsFor mine lead → HasRooms mine lead
+    → HasRooms (record { by = lead.id; verb = verb; answer = answer } ∷ mine) lead
+
+-- before any event no leadership is under way, and a leader whose counts have the room of its place is in time
+pub record RoomsAreInTime : Type 0 where
+  pub start : (c : Config) (r : ℕ) → IsOut c r []
+  pub in_time : (mine : List Event) (lead : Lead) → IsConfig lead.config → HasRooms mine lead
+      → AreInTime lead.config lead.id mine
