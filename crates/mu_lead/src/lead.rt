@@ -60,6 +60,7 @@ impl Lead {
         ensures stands { IfOk result (λ lead. StandsFor [] lead) }
         ensures config { IfOk result (λ lead. lead.config ≡ config.now) }
         ensures id { IfOk result (λ lead. lead.id ≡ id) }
+        ensures rests { IfOk result (λ lead. leads_at lead.place ≡ false) }
     {
         Ok(Lead {
             config: config.copied(alloc)?,
@@ -92,12 +93,17 @@ impl Lead {
         ensures due { nat_lt leader self.old.id ≡ false → (values : List ℕ)
             → verb_of self.new values ≡ verb_of self.old values }
         ensures going { self.new.under_way ≡ (self.old.under_way && not (nat_lt leader self.old.id)) }
+        ensures rests { leads_at self.new.place
+            ≡ (leads_at self.old.place && not (nat_lt leader self.old.id)) }
     {
         self.named = leader == self.id;
         self.failed = bits_of(failed);
-        if self.under_way && leader < self.id {
+        let led = self.under_way;
+        if leader < self.id {
             self.under_way = false;
             self.place = Place::Ask(0);
+        }
+        if led && leader < self.id {
             Note::Resigned { to: leader }
         } else {
             Note::Working

@@ -1,5 +1,6 @@
 -- What stands at places of its own comes in time in each stretch.
-use Rattle.std.proofs.Common.{◌≡◌, ℕ, ◌+◌, ◌-◌, ◌*◌, ◌<◌, ◌≤◌, Bool, true, List, [], ◌∷◌, length, arith}
+use Rattle.std.proofs.Common.{◌≡◌, ℕ, ◌+◌, ◌-◌, ◌*◌, ◌<◌, ◌≤◌, Bool, true, false, None, Some, List, [], ◌∷◌, length, arith}
+use Rattle.std.specs.Prelude.{if◌then◌else◌}
 use Rattle.std.proofs.Math.Nat.{mul-le-mul_right}
 use Rattle.mu_agree.specs.Paces.{IsRecent, IsSpaced}
 use Rattle.mu_agree.proofs.Windows.{reads_in_time}
@@ -8,10 +9,11 @@ use Rattle.mu_model.specs.declared.event.Event.{Event}
 use Rattle.mu_model.specs.Bounds.{cycle}
 use Rattle.mu_model.specs.Steps.{is_ask_read, is_beat, is_beat_read, is_head_of}
 use Rattle.mu_pace.specs.Collecting.{LeaderKeeps}
-use Rattle.mu_pace.specs.Counters.{AtEachStep}
+use Rattle.mu_model.proofs.Basics.{none_some, same_some}
+use Rattle.mu_pace.specs.Counters.{AtEachMoment, AtEachStep, IsInTime, Watch, allowed_while}
 use Rattle.mu_pace.specs.Cycles.{KeepsBeside, MachinesAreDiligent, RoundsReadInTime, RoundsTellHeads}
 use Rattle.mu_pace.specs.Keeping.{IsDiligentAtEachMoment}
-use Rattle.mu_pace.specs.Rounds.{IsMadeAt, IsMadeOnlyAt}
+use Rattle.mu_pace.specs.Rounds.{IsClosedAt, IsMadeAt, IsMadeOnlyAt}
 use Rattle.mu_pace.proofs.Collecting.{parts_keep_pace}
 use Rattle.mu_pace.proofs.Keeping.{kept_pace_is_diligent}
 use Rattle.mu_pace.proofs.Replaying.{heads_told}
@@ -50,3 +52,16 @@ each_moment c r (e ∷ past) beside leader = (each_moment c r past beside.0 lead
 
 pub machines_are_diligent : MachinesAreDiligent
 machines_are_diligent c r past beside leader = kept_pace_is_diligent c r past (each_moment c r past beside leader)
+
+-- a count that each round closes is in time at each moment
+pub closed_moments : (n k : ℕ) (w : Watch) (past : List Event) → k < n → ((now : List Event) (allowed : ℕ) → w.allows now ≡ Some allowed → n ≤ allowed) → IsClosedAt n k w past → AtEachMoment (IsInTime w) past
+closed_moments n k w [] low most h = rounds_keep_pace.closed n k w [] low most h
+closed_moments n k w (e ∷ past) low most h = (closed_moments n k w past low most h.0, rounds_keep_pace.closed n k w (e ∷ past) low most h)
+
+-- what a moment that passes allows
+pub while_allows : (test : List Event → Bool) (amount : List Event → ℕ) (now : List Event) (allowed : ℕ) → allowed_while test amount now ≡ Some allowed → amount now ≡ allowed
+while_allows test amount now allowed is = go (test now) is
+  where
+    go : (t : Bool) → (if t then Some (amount now) else None) ≡ Some allowed → amount now ≡ allowed
+    go true is = same_some (amount now) allowed is
+    go false is = absurd (none_some allowed is)
