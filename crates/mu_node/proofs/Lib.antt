@@ -5,6 +5,8 @@ pub mod Leading
 pub mod Leads
 pub mod Left
 pub mod Moving
+pub mod Paces
+pub mod Replaying
 pub mod Rounding
 pub mod Turning
 pub mod Watching

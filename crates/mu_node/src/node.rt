@@ -4,13 +4,15 @@ ghost use Rattle.mu_model.specs.declared.config.Config.{Config};
 ghost use Rattle.mu_model.specs.declared.event.Event.{Event as SomeEvent};
 ghost use Rattle.mu_model.specs.declared.script.Script.{Script};
 ghost use Rattle.mu_model.specs.Contents.{IsConfig};
-ghost use Rattle.mu_model.specs.Diligence.{GrantsInTime, ReadsInTime, TellsHeads};
+ghost use Rattle.mu_model.specs.Diligence.{GrantsInTime, ReadsInTime, Replays, TellsHeads};
 ghost use Rattle.mu_model.specs.Ends.{outrun};
 ghost use Rattle.mu_model.specs.Parts.{IsPossible};
 ghost use Rattle.mu_node.specs.Node.{StandsForNode};
 ghost use Rattle.mu_node.specs.Notes.{HasMade, TellsTurn};
 ghost use Rattle.mu_node.specs.Beats.{ends_by_beat, is_beat_verb};
 ghost use Rattle.mu_node.specs.Turns.{IsOneStep, IsResult, IsTurn, TellsEnd};
+ghost use Rattle.mu_pace.specs.Counters.{AtEachStep};
+ghost use Rattle.mu_pace.specs.Cycles.{KeepsBeside};
 
 use crate::ending::{end_of_going, is_stop};
 use crate::planning::or_beat;
@@ -176,6 +178,9 @@ impl Node {
         ensures grants { GrantsInTime (P.config port.new) (P.number port.new) (P.part port.new) }
         ensures beats { ReadsInTime (P.config port.new) (P.number port.new) (P.part port.new) }
         ensures heads { TellsHeads (P.config port.new) (P.number port.new) (P.part port.new) }
+        ensures replays { Replays (P.config port.new) (P.number port.new) (P.part port.new) }
+        ensures keeps { AtEachStep (KeepsBeside (P.config port.new) (P.number port.new))
+            (P.part port.new) }
     {
         let id = port.id();
         match self.end() {

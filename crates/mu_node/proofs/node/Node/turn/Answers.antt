@@ -4,6 +4,7 @@ use Rattle.mu_node.specs.Turns.{TellsEnd}
 use Rattle.mu_grant.proofs.Rounds.{cycles}
 use Rattle.mu_node.proofs.Leading.{is_going}
 use Rattle.mu_node.proofs.Left.{is_left, steps_within}
+use Rattle.mu_node.proofs.Paces.{keeps_beside, replays_in_time}
 use Rattle.mu_node.proofs.Rounding.{keeps_rounds, raised_in_time}
 use Rattle.mu_pace.proofs.Cycles.{rounds_read_in_time, rounds_tell_heads}
 use Rattle.mu_node.proofs.node.Node.turn.Goals as goal
@@ -68,3 +69,41 @@ returns-in-None-clause-heads g c =
     let mine = g.P.Port.part now in
     let stands = c.step.ensures.stands in
     rounds_tell_heads k r mine (keeps_rounds k r mine stands.beside.follow.inside stands.made) (raised_in_time k r mine stands.made)
+
+pub returns-in-Some-clause-replays : goal.returns-in-Some-clause-replays
+returns-in-Some-clause-replays g c =
+    let k = g.P.Port.config c.args.port.now in
+    let r = g.P.Port.number c.args.port.now in
+    let mine = g.P.Port.part c.args.port.now in
+    let stands = c.requires.stands in
+    let possible = c.id-id.ensures.possible in
+    replays_in_time k r mine possible stands.made
+
+pub returns-in-Some-clause-keeps : goal.returns-in-Some-clause-keeps
+returns-in-Some-clause-keeps g c =
+    let k = g.P.Port.config c.args.port.now in
+    let r = g.P.Port.number c.args.port.now in
+    let mine = g.P.Port.part c.args.port.now in
+    let stands = c.requires.stands in
+    let possible = c.id-id.ensures.possible in
+    keeps_beside k r mine stands.beside.follow.inside possible stands.cycle stands.made
+
+pub returns-in-None-clause-replays : goal.returns-in-None-clause-replays
+returns-in-None-clause-replays g c =
+    let now = c.step.new.port in
+    let k = g.P.Port.config now in
+    let r = g.P.Port.number now in
+    let mine = g.P.Port.part now in
+    let stands = c.step.ensures.stands in
+    let possible = c.step.ensures.possible in
+    replays_in_time k r mine possible stands.made
+
+pub returns-in-None-clause-keeps : goal.returns-in-None-clause-keeps
+returns-in-None-clause-keeps g c =
+    let now = c.step.new.port in
+    let k = g.P.Port.config now in
+    let r = g.P.Port.number now in
+    let mine = g.P.Port.part now in
+    let stands = c.step.ensures.stands in
+    let possible = c.step.ensures.possible in
+    keeps_beside k r mine stands.beside.follow.inside possible stands.cycle stands.made
