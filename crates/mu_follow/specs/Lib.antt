@@ -4,4 +4,5 @@ pub mod Due
 pub mod Follow
 pub mod Groups
 pub mod Kinds
+pub mod Paces
 pub mod Published

@@ -2,6 +2,8 @@
 //! makes next to get the rest.
 #![tactic(auto)]
 
+ghost use Rattle.mu_follow.specs.Paces.{HeadsRiseInTime};
+
 mod commits;
 mod completion;
 mod follow;
@@ -15,3 +17,8 @@ mod published;
 pub use follow::Follow;
 pub use groups::Ready;
 pub use mu_known::Commit;
+
+/// Who raises its head at one place of the round, where it may be raised, raises it in time.
+pub fn heads_rise_in_time()
+    ensures { HeadsRiseInTime }
+{}

@@ -62,6 +62,7 @@ impl Lead {
         ensures stands { IfOk result (λ lead. StandsFor [] lead) }
         ensures config { IfOk result (λ lead. lead.config ≡ config.now) }
         ensures id { IfOk result (λ lead. lead.id ≡ id) }
+        ensures rests { IfOk result (λ lead. leads_at lead.place ≡ false) }
     {
         Ok(Lead {
             config: config.copied(alloc)?,
@@ -99,12 +100,17 @@ impl Lead {
         ensures evidence { (self.old.under_way && nat_lt leader self.old.id) ≡ false
             → ExplainsAt self.old.config self.old.id mine self.old.place
             → ExplainsAt self.new.config self.new.id mine self.new.place }
+        ensures rests { leads_at self.new.place
+            ≡ (leads_at self.old.place && not (nat_lt leader self.old.id)) }
     {
         self.named = leader == self.id;
         self.failed = bits_of(failed);
-        if self.under_way && leader < self.id {
+        let led = self.under_way;
+        if leader < self.id {
             self.under_way = false;
             self.place = Place::Ask(0);
+        }
+        if led && leader < self.id {
             Note::Resigned { to: leader }
         } else {
             Note::Working

@@ -1,8 +1,12 @@
 pub mod Bits
 pub mod Heads
 pub mod Lasts
+pub mod Leading
 pub mod Leads
 pub mod Left
 pub mod Moving
+pub mod Paces
+pub mod Replaying
+pub mod Rounding
 pub mod Turning
 pub mod Watching

@@ -12,6 +12,7 @@ use Rattle.mu_model.specs.Contents.{IsConfig}
 use Rattle.mu_model.specs.Knowledge.{applied, known}
 use Rattle.mu_model.specs.Parts.{IsPossible}
 use Rattle.mu_model.specs.Scores.{leader}
+use Rattle.mu_model.specs.Steps.{is_named}
 use Rattle.mu_model.specs.Stretches.{is_odd}
 use Rattle.mu_model.proofs.Basics.{event_by}
 use Rattle.mu_grant.specs.Pace.{FollowsCycle, host_place, is_host_verb}
@@ -22,12 +23,14 @@ use Rattle.mu_follow.proofs.Due.{replay_allowed}
 use Rattle.mu_lead.specs.declared.note.Note.{Note}
 use Rattle.mu_lead.specs.declared.lead.Lead.{Lead}
 use Rattle.mu_lead.specs.declared.place.Place.{Place}
+use Rattle.mu_lead.specs.Beside.{leads_at}
 use Rattle.mu_lead.specs.Standing.{verb_at, verb_of}
 use Rattle.mu_node.specs.declared.node.Node.{Node}
 use Rattle.mu_node.specs.Cycle.{IsBackgroundDue, handed, handed_before, other_at, place_now, read_at}
 use Rattle.mu_node.specs.Due.{lead_due, verb_or_beat}
 use Rattle.mu_node.specs.Node.{HasPlanned, StandsForNode}
 use Rattle.mu_node.specs.Notes.{TellsNote, TellsTook, heed_note, note_before}
+use Rattle.mu_node.proofs.Leading.{odd_may}
 use Rattle.mu_node.proofs.Leads.{due_unresigned}
 
 -- the verb neither reads asks nor is one of the host
@@ -137,12 +140,14 @@ made_follows c r mine lead leading due answer led cycle replays = go (is_odd (le
     ]
 
 -- in a turn of the leader nothing is handed on
-pub odd_planned : (c : Config) (r : ℕ) (mine : List Event) (node : Node) → is_odd (length mine) ≡ true → StandsForNode c r mine node → HasPlanned c r mine node
-odd_planned c r mine node odd held = record {
+pub odd_planned : (c : Config) (r : ℕ) (mine : List Event) (node : Node) → is_odd (length mine) ≡ true → (leads_at node.lead.place ≡ true → is_named c r mine ≡ true) → StandsForNode c r mine node → HasPlanned c r mine node
+odd_planned c r mine node odd named held = record {
   beside = held.beside;
   lead = held.lead;
   handed = held.handed ∙ sym (ap (λ t. if (not t && (place_now c mine == 2 * c.replicas + 20)) then length (applied c r mine) else handed_before c r mine) odd);
   cycle = held.cycle;
+  made = held.made;
+  leads = odd_may c r mine odd (leads_at node.lead.place) named;
 }
 
 -- nor in a background turn at another place

@@ -1,15 +1,18 @@
 //! One replica and its turns.
-ghost use Rattle.std.specs.Prelude.{IfOk, List, Some, [], false, length, take, true, vec_capacity, ℕ, ◌<◌, ◌≡◌, ◌≤◌};
+ghost use Rattle.std.specs.Prelude.{IfOk, List, None, Some, [], false, length, take, true, vec_capacity, ℕ, ◌<◌, ◌≡◌, ◌≤◌};
 ghost use Rattle.mu_model.specs.declared.config.Config.{Config};
 ghost use Rattle.mu_model.specs.declared.event.Event.{Event as SomeEvent};
 ghost use Rattle.mu_model.specs.declared.script.Script.{Script};
 ghost use Rattle.mu_model.specs.Contents.{IsConfig};
-ghost use Rattle.mu_model.specs.Diligence.{GrantsInTime};
+ghost use Rattle.mu_model.specs.Diligence.{GrantsInTime, ReadsInTime, Replays, TellsHeads};
+ghost use Rattle.mu_model.specs.Ends.{outrun};
 ghost use Rattle.mu_model.specs.Parts.{IsPossible};
 ghost use Rattle.mu_node.specs.Node.{StandsForNode};
 ghost use Rattle.mu_node.specs.Notes.{HasMade, TellsTurn};
 ghost use Rattle.mu_node.specs.Beats.{ends_by_beat, is_beat_verb};
 ghost use Rattle.mu_node.specs.Turns.{IsOneStep, IsResult, IsTurn, TellsEnd};
+ghost use Rattle.mu_pace.specs.Counters.{AtEachStep};
+ghost use Rattle.mu_pace.specs.Cycles.{KeepsBeside};
 
 use crate::ending::{end_of_going, is_stop};
 use crate::planning::or_beat;
@@ -173,6 +176,11 @@ impl Node {
         ensures made { TellsTurn (P.config port.old) (P.number port.old) (P.part port.old)
             (P.part port.new) self.old.lead result }
         ensures grants { GrantsInTime (P.config port.new) (P.number port.new) (P.part port.new) }
+        ensures beats { ReadsInTime (P.config port.new) (P.number port.new) (P.part port.new) }
+        ensures heads { TellsHeads (P.config port.new) (P.number port.new) (P.part port.new) }
+        ensures replays { Replays (P.config port.new) (P.number port.new) (P.part port.new) }
+        ensures keeps { AtEachStep (KeepsBeside (P.config port.new) (P.number port.new))
+            (P.part port.new) }
     {
         let id = port.id();
         match self.end() {
@@ -190,6 +198,7 @@ impl Node {
         requires possible { IsPossible (P.config port.old) (P.number port.old) (P.part port.old) }
         requires left { length (P.part port.old) < (P.config port.old).budget }
         requires stands { StandsForNode (P.config port.old) (P.number port.old) (P.part port.old) self.old }
+        requires going { outrun (P.config port.old) (P.number port.old) (P.part port.old) ≡ None }
         ensures stands { StandsForNode (P.config port.new) (P.number port.new) (P.part port.new) self.new }
         ensures same { P.same port.old port.new }
         ensures stops { self.new.stops ≡ self.old.stops }

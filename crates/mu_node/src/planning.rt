@@ -6,15 +6,16 @@ ghost use Rattle.mu_model.specs.Allowed.{Allowed};
 ghost use Rattle.mu_model.specs.Contents.{IsConfig};
 ghost use Rattle.mu_model.specs.Parts.{IsPossible};
 ghost use Rattle.mu_model.specs.Scores.{leader};
+ghost use Rattle.mu_model.specs.Steps.{is_named};
 ghost use Rattle.mu_model.specs.Stretches.{is_odd};
 ghost use Rattle.mu_follow.specs.Follow.{commit_of};
-ghost use Rattle.mu_grant.specs.Pace.{FollowsCycle};
 ghost use Rattle.mu_lead.specs.declared.note.Note.{Note as SomeNote};
 ghost use Rattle.mu_lead.specs.Beside.{is_beside, leads_at};
 ghost use Rattle.mu_lead.specs.Notes.{value_committed};
 ghost use Rattle.mu_lead.specs.Standing.{HasHeeded, TellsNext};
 ghost use Rattle.mu_node.specs.Cycle.{IsBackgroundDue};
 ghost use Rattle.mu_node.specs.Due.{FitsLead, lead_due, verb_or_beat};
+ghost use Rattle.mu_node.specs.Journal.{FollowsTurn};
 ghost use Rattle.mu_node.specs.Node.{AwaitsBeside, HasPlanned, HoldsBeside, StandsForNode};
 ghost use Rattle.mu_node.specs.Notes.{TellsTook, heed_note, note_before};
 
@@ -118,6 +119,8 @@ impl Node {
         ensures allowed { Allowed self.old.follow.config self.old.id mine (verb_or_beat result.due) }
         ensures fits { FitsLead self.old.follow.config self.old.id mine self.new.lead true result.due }
         ensures leads { result.leads ≡ true }
+        ensures named { leads_at self.new.lead.place ≡ true
+            → is_named self.old.follow.config self.old.id mine ≡ true }
         ensures led { result.due ≡ lead_due self.old.follow.config self.old.id mine self.old.lead }
         ensures heeded { result.heeded ≡ heed_note self.old.follow.config self.old.id mine self.old.lead }
     {
@@ -165,6 +168,8 @@ impl Node {
         ensures stops { self.new.stops ≡ self.old.stops }
         ensures named { self.new.lead.named ≡ (leader self.old.follow.config self.old.id mine == self.old.id) }
         ensures heeded { HasHeeded mine self.new.lead }
+        ensures leads { leads_at self.new.lead.place ≡ true
+            → is_named self.old.follow.config self.old.id mine ≡ true }
         ensures due { lead_due self.old.follow.config self.old.id mine self.new.lead
             ≡ lead_due self.old.follow.config self.old.id mine self.old.lead }
         ensures note { result ≡ heed_note self.old.follow.config self.old.id mine self.old.lead }
@@ -237,7 +242,7 @@ impl Node {
         requires room { 0 < self.old.journal.room }
         requires fits { FitsLead self.old.follow.config self.old.id mine self.old.lead plan.leads plan.due }
         requires planned { HasPlanned self.old.follow.config self.old.id mine self.old }
-        ensures stands { FollowsCycle self.old.follow.config id mine
+        ensures stands { FollowsTurn self.old.follow.config id mine
             (record { by = id; verb = verb_or_beat plan.due; answer = answer })
             → IsPossible self.old.follow.config id
             (record { by = id; verb = verb_or_beat plan.due; answer = answer } ∷ mine)
@@ -268,7 +273,7 @@ impl Node {
         requires config { IsConfig self.old.follow.config }
         requires room { 0 < self.old.journal.room }
         ensures stands { (mine : List SomeEvent) → is_beside (leads_at self.old.lead.place) verb ≡ true
-            → FollowsCycle self.old.follow.config by mine
+            → FollowsTurn self.old.follow.config by mine
             (record { by = by; verb = verb; answer = answer })
             → IsPossible self.old.follow.config by
             (record { by = by; verb = verb; answer = answer } ∷ mine)
@@ -289,7 +294,7 @@ impl Node {
         requires heeded { HasHeeded mine self.old.lead }
         requires due { lead_due self.old.follow.config by mine self.old.lead ≡ Some verb }
         requires planned { HasPlanned self.old.follow.config by mine self.old }
-        ensures stands { FollowsCycle self.old.follow.config by mine
+        ensures stands { FollowsTurn self.old.follow.config by mine
             (record { by = by; verb = verb; answer = answer })
             → IsPossible self.old.follow.config by
             (record { by = by; verb = verb; answer = answer } ∷ mine)

@@ -20,3 +20,4 @@ pub mod Weights
 pub mod Asking
 pub mod Opening
 pub mod Beside
+pub mod Cycles

@@ -13,3 +13,4 @@ pub mod Rounds
 pub mod Collecting
 pub mod Asking
 pub mod Beside
+pub mod Cycles

@@ -6,6 +6,7 @@ ghost use Rattle.mu_pace.specs.Away.{AwayIsInTime};
 ghost use Rattle.mu_pace.specs.Beside.{BesideKeepsRooms};
 ghost use Rattle.mu_pace.specs.Collecting.{PartsKeepPace};
 ghost use Rattle.mu_pace.specs.Countdowns.{CountdownsRun};
+ghost use Rattle.mu_pace.specs.Cycles.{MachinesAreDiligent, RoundsReadInTime, RoundsTellHeads};
 ghost use Rattle.mu_pace.specs.Members.{CountsOfMembers};
 ghost use Rattle.mu_pace.specs.Paces.{AsksHaveCause, ConfirmedBeginInTime, FuosAreRaisedInTime, GrantsAreCounted, GrantsComeInTime, HeadsAreTold, KeptPaceIsDiligent, MembersAreBroughtUp, MissesAreExplained, OthersAreAskedAfter, ProgressComesInTime, ReplayGoesOn, WelcomedJoinInTime};
 ghost use Rattle.mu_pace.specs.Placed.{PlacesLead};
@@ -173,4 +174,19 @@ pub fn parts_keep_pace()
 /// A place of the background is an index of the round.
 pub fn places_are_indices()
     ensures { PlacesAreIndices }
+{}
+
+/// Reads that stand at places of their own keep the heartbeat pace.
+pub fn rounds_read_in_time()
+    ensures { RoundsReadInTime }
+{}
+
+/// With a head that is raised in time they keep the head pace.
+pub fn rounds_tell_heads()
+    ensures { RoundsTellHeads }
+{}
+
+/// A journal of which each event keeps what the machines keep is diligent.
+pub fn machines_are_diligent()
+    ensures { MachinesAreDiligent }
 {}

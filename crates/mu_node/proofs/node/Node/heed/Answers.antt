@@ -1,9 +1,12 @@
-use Rattle.std.proofs.Common.{◌≡◌, ◌∙◌, ◌==◌, ◌&&◌, ap, refl}
-use Rattle.std.specs.Prelude.{if◌then◌else◌, nat_lt}
+use Rattle.std.proofs.Common.{◌≡◌, ◌∙◌, ◌==◌, ◌&&◌, ap, refl, sym}
+use Rattle.std.specs.Prelude.{if◌then◌else◌, nat_lt, not}
+use Rattle.std.proofs.lemmas.Bool.{and_parts}
 use Rattle.mu_model.specs.Scores.{leader}
 use Rattle.mu_follow.specs.Follow.{StandsForFollow}
 use Rattle.mu_lead.specs.declared.note.Note.{Note}
+use Rattle.mu_lead.specs.Beside.{leads_at}
 use Rattle.mu_lead.specs.Standing.{TellsFailed}
+use Rattle.mu_node.proofs.Leading.{rests_named}
 use Rattle.mu_node.proofs.Leads.{beside_lead, heed_due}
 use Rattle.mu_node.proofs.Moving.{to_own}
 use Rattle.mu_node.proofs.node.Node.heed.Goals as goal
@@ -17,6 +20,8 @@ returns-clause-stands g c =
       lead = record { config = c.heed.ensures.config ∙ held.lead.config; id = c.heed.ensures.id ∙ held.lead.id; stands = c.heed.ensures.stands };
       handed = held.handed;
       cycle = held.cycle;
+      made = held.made;
+      leads = λ leads. held.leads (and_parts (leads_at node.lead.place) (not (nat_lt c.leader-leader.result node.lead.id)) (sym c.heed.ensures.rests ∙ leads)).0;
     }
 
 pub returns-clause-named : goal.returns-clause-named
@@ -49,3 +54,11 @@ returns-clause-note g c =
     c.heed.ensures.resigned
     ∙ (ap (λ l. if (node.lead.under_way && nat_lt l node.lead.id) then Note.Resigned l else Note.Working) named
     ∙ ap (λ i. if (node.lead.under_way && nat_lt (leader node.follow.config node.id g.mine) i) then Note.Resigned (leader node.follow.config node.id g.mine) else Note.Working) held.lead.id)
+
+pub returns-clause-leads : goal.returns-clause-leads
+returns-clause-leads g c =
+    let node = c.args.self.now in
+    let held = c.requires in
+    let named = c.leader-leader.ensures node.follow.config node.id g.mine held.beside.watch in
+    let same : nat_lt c.leader-leader.result node.lead.id ≡ nat_lt (leader node.follow.config node.id g.mine) node.id = ap (λ l. nat_lt l node.lead.id) named ∙ ap (λ i. nat_lt (leader node.follow.config node.id g.mine) i) held.lead.id in
+    rests_named node.follow.config node.id g.mine (leads_at node.lead.place) (leads_at c.heed.new.self.place) held.beside.follow.inside (c.heed.ensures.rests ∙ ap (λ t. leads_at node.lead.place && not t) same)

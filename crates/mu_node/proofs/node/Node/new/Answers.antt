@@ -1,4 +1,5 @@
-use Rattle.std.proofs.Common.{ap, arith, refl}
+use Rattle.std.proofs.Common.{◌∙◌, ap, arith, refl, sym}
+use Rattle.std.proofs.lemmas.Bool.{true≢false}
 use Rattle.mu_model.specs.Histories.{history}
 use Rattle.mu_node.proofs.node.Node.new.Goals as goal
 
@@ -21,4 +22,6 @@ returns-clause-stands c = record {
   lead = record { config = c.in_ok-new.ensures.config; id = c.in_ok-new.ensures.id; stands = c.in_ok-new.ensures.stands };
   handed = c.in_ok-new-2.ensures.handed;
   cycle = tt;
+  made = tt;
+  leads = λ leads. absurd (true≢false (sym leads ∙ c.in_ok-new.ensures.rests));
 }

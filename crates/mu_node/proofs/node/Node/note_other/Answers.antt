@@ -1,6 +1,7 @@
-use Rattle.std.proofs.Common.{◌∙◌, ◌∷◌, subst, sym}
+use Rattle.std.proofs.Common.{◌≡◌, ◌∙◌, ◌∷◌, subst, sym, true}
 use Rattle.mu_lead.specs.Beside.{leads_at}
 use Rattle.mu_node.specs.Node.{StandsForLead}
+use Rattle.mu_node.proofs.Leading.{leads_on}
 use Rattle.mu_node.proofs.Leads.{beside_commits_none, lead_stays}
 use Rattle.mu_node.proofs.Moving.{event_by}
 use Rattle.mu_node.proofs.node.Node.note_other.Goals as goal
@@ -14,5 +15,7 @@ returns-clause-stands c mine beside follows possible held =
       beside = c.note.ensures.stands mine possible held.beside (beside_commits_none k r mine (leads_at lead.place) c.args.verb c.args.answer beside);
       lead = subst (λ l. StandsForLead k r (event_by r c.args.verb c.args.answer ∷ mine) l) (sym c.note.ensures.lead) (lead_stays k r mine lead c.args.verb c.args.answer beside possible held.lead);
       handed = c.note.ensures.handed ∙ held.handed;
-      cycle = (held.cycle, follows);
+      cycle = (held.cycle, follows.cycle);
+      made = (held.made, follows.made);
+      leads = λ leads. leads_on k r mine (event_by r c.args.verb c.args.answer) (held.leads (subst (λ l. leads_at l.place ≡ true) c.note.ensures.lead leads));
     }

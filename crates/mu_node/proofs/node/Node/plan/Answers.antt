@@ -22,7 +22,7 @@ returns-then-is_turn_of_leader-clause-planned g c =
     let held = c.requires.1.1.1 in
     let steps = c.steps.ensures node.follow.config node.id g.mine held.beside.follow in
     let odd : is_odd (length g.mine) ≡ true = sym (ap is_odd steps) ∙ (sym c.is_turn_of_leader.ensures ∙ c.if-is_turn_of_leader.true) in
-    odd_planned node.follow.config node.id g.mine c.plan_led.new.self odd c.plan_led.ensures.stands
+    odd_planned node.follow.config node.id g.mine c.plan_led.new.self odd c.plan_led.ensures.named c.plan_led.ensures.stands
 
 pub returns-then-is_turn_of_leader-clause-fits : goal.returns-then-is_turn_of_leader-clause-fits
 returns-then-is_turn_of_leader-clause-fits g c =

@@ -1,4 +1,4 @@
-use Rattle.std.proofs.Common.{◌≡◌, ◌∙◌, ◌<◌, ap, arith, false, length, refl, subst, sym, true, List, ℕ}
+use Rattle.std.proofs.Common.{◌≡◌, ◌∙◌, ◌<◌, ap, arith, false, length, refl, subst, sym, true, None, List, ℕ}
 use Rattle.std.specs.declared.option.Option.{Option}
 use Rattle.mu_model.specs.declared.config.Config.{Config}
 use Rattle.mu_model.specs.declared.event.Answer.{Answer}
@@ -6,15 +6,17 @@ use Rattle.mu_model.specs.declared.event.Event.{Event}
 use Rattle.mu_model.specs.declared.event.Verb.{Verb}
 use Rattle.mu_model.specs.Allowed.{Allowed}
 use Rattle.mu_model.specs.Contents.{IsConfig}
+use Rattle.mu_model.specs.Ends.{outrun}
 use Rattle.mu_model.specs.Parts.{IsPossible}
 use Rattle.mu_model.specs.Stretches.{is_odd}
-use Rattle.mu_grant.specs.Pace.{FollowsCycle}
 use Rattle.mu_lead.specs.Beside.{leads_at}
 use Rattle.mu_node.specs.declared.node.Node.{Node}
 use Rattle.mu_node.specs.Cycle.{IsBackgroundDue, IsMade}
 use Rattle.mu_node.specs.Due.{FitsLead, lead_due, verb_or_beat}
+use Rattle.mu_node.specs.Journal.{FollowsTurn}
 use Rattle.mu_node.specs.Node.{HasPlanned, StandsForNode}
 use Rattle.mu_node.specs.Notes.{TellsNote, TellsTook}
+use Rattle.mu_node.proofs.Leading.{even_may}
 use Rattle.mu_node.proofs.Moving.{event_by, moved, possible_own, to_own, to_port}
 use Rattle.mu_node.proofs.Turning.{made_follows, note_told, replays}
 use Rattle.mu_node.proofs.node.Node.step.Goals as goal
@@ -25,7 +27,7 @@ plan-plan-requires g c =
     let r = g.P.Port.number c.args.port.now in
     let mine = g.P.Port.part c.args.port.now in
     let node = c.args.self.now in
-    let held = c.requires.1.1.1.1.1.1 in
+    let held = c.requires.1.1.1.1.1.1.0 in
     let own = held.beside.follow.config in
     let id = held.beside.id in (
       subst (λ x. IsConfig x) (sym own) c.requires.1.1.1.0,
@@ -44,7 +46,7 @@ step-answer-requires g c =
     let r = g.P.Port.number c.args.port.now in
     let mine = g.P.Port.part c.args.port.now in
     let node = c.args.self.now in
-    let held = c.requires.1.1.1.1.1.1 in
+    let held = c.requires.1.1.1.1.1.1.0 in
     to_port (λ x i l. Allowed x i l c.or_beat-verb.result) k node.follow.config r node.id mine g.mine held.beside.follow.config held.beside.id c.requires.1.0
     (subst (λ v. Allowed node.follow.config node.id g.mine v) (sym c.or_beat-verb.ensures) c.plan-plan.ensures.allowed)
 
@@ -54,7 +56,7 @@ took-requires g c =
     let node = c.args.self.now in
     let new = c.plan-plan.new.self in
     let plan = c.plan-plan.ensures in
-    let held = c.requires.1.1.1.1.1.1 in
+    let held = c.requires.1.1.1.1.1.1.0 in
     let own = plan.config ∙ held.beside.follow.config in
     let short = to_own (λ x i l. length l < x.budget) k node.follow.config (g.P.Port.number c.args.port.now) node.id (g.P.Port.part c.args.port.now) g.mine held.beside.follow.config held.beside.id c.requires.1.0 c.requires.1.1.1.1.1.0 in
     let room = plan.planned.beside.journal_room in (
@@ -71,11 +73,20 @@ took-requires g c =
       ),
     )
 
-follows_of : (c : Config) (r : ℕ) (mine : List Event) (old planned : Node) (due : Option Verb) (answer : Answer) → IsConfig c → IsPossible c r mine → length mine < c.budget → HasPlanned c r mine planned
+-- what is due follows the turn
+follows_of : (c : Config) (r : ℕ) (mine : List Event) (old planned : Node) (due : Option Verb) (answer : Answer) → IsConfig c → IsPossible c r mine → length mine < c.budget → outrun c r mine ≡ None → StandsForNode c r mine old → HasPlanned c r mine planned
     → (is_odd (length mine) ≡ true → due ≡ lead_due c r mine old.lead) → (is_odd (length mine) ≡ false → IsBackgroundDue c r mine (leads_at old.lead.place) due)
-    → FollowsCycle c r mine (event_by r (verb_or_beat due) answer)
-follows_of c r mine old planned due answer good possible short held led cycle =
-    made_follows c r mine old.lead (leads_at old.lead.place) due answer led cycle (replays c r mine (leads_at old.lead.place) good possible held.beside.follow.inside short (omega (arith, held.handed, held.beside.follow.progress.handed)))
+    → FollowsTurn c r mine (event_by r (verb_or_beat due) answer)
+follows_of c r mine old planned due answer good possible short going stands held led cycle = record {
+  cycle = made_follows c r mine old.lead (leads_at old.lead.place) due answer led cycle (replays c r mine (leads_at old.lead.place) good possible held.beside.follow.inside short (omega (arith, held.handed, held.beside.follow.progress.handed)));
+  made = record {
+    own = refl;
+    going = going;
+    lead = old.lead;
+    made = record { replication = λ odd. ap verb_or_beat (led odd); background = λ even. (due, cycle even, refl) };
+    leads = λ even leads. even_may c r mine even (stands.leads leads);
+  };
+}
 
 pub returns-clause-stands : goal.returns-clause-stands
 returns-clause-stands g c =
@@ -84,7 +95,7 @@ returns-clause-stands g c =
     let plan = c.plan-plan.ensures in
     let node = c.args.self.now in
     let new = c.plan-plan.new.self in
-    let held = c.requires.1.1.1.1.1.1 in
+    let held = c.requires.1.1.1.1.1.1.0 in
     let own = held.beside.follow.config in
     let id = held.beside.id in
     let good = subst (λ x. IsConfig x) (sym own) c.requires.1.1.1.0 in
@@ -92,8 +103,10 @@ returns-clause-stands g c =
     let short = to_own (λ x i l. length l < x.budget) (g.P.Port.config old) node.follow.config (g.P.Port.number old) node.id (g.P.Port.part old) g.mine own id c.requires.1.0 c.requires.1.1.1.1.1.0 in
     let due = c.plan-plan.result.due in
     let answer = c.step-answer.result in
-    let follows = to_own (λ x i l. FollowsCycle x i l (event_by i (verb_or_beat due) answer)) node.follow.config new.follow.config node.id c.args.id g.mine g.mine plan.config (c.requires.1.1.0 ∙ sym id) refl
-    (follows_of node.follow.config node.id g.mine node new due answer good possible short plan.planned plan.led plan.cycle) in
+    let going = to_own (λ x i l. outrun x i l ≡ None) (g.P.Port.config old) node.follow.config (g.P.Port.number old) node.id (g.P.Port.part old) g.mine own id c.requires.1.0 c.requires.1.1.1.1.1.1.1 in
+    let stands = to_own (λ x i l. StandsForNode x i l node) (g.P.Port.config old) node.follow.config (g.P.Port.number old) node.id (g.P.Port.part old) g.mine own id c.requires.1.0 held in
+    let follows = to_own (λ x i l. FollowsTurn x i l (event_by i (verb_or_beat due) answer)) node.follow.config new.follow.config node.id c.args.id g.mine g.mine plan.config (c.requires.1.1.0 ∙ sym id) refl
+    (follows_of node.follow.config node.id g.mine node new due answer good possible short going stands plan.planned plan.led plan.cycle) in
     moved (g.P.Port.config old) (g.P.Port.config now) new.follow.config (g.P.Port.number old) (g.P.Port.number now) c.args.id (g.P.Port.part old) g.mine (g.P.Port.part now) c.or_beat-verb.result (verb_or_beat due) answer c.took.new.self
     (g.met.P.Port.same_config old now c.step-answer.ensures.same) (g.met.P.Port.same_number old now c.step-answer.ensures.same)
     (plan.config ∙ own) c.requires.1.1.0 c.requires.1.0 c.or_beat-verb.ensures c.step-answer.ensures.part c.step-answer.ensures.possible (c.took.ensures.stands follows)
@@ -108,7 +121,7 @@ returns-clause-made g c =
     let plan = c.plan-plan.ensures in
     let node = c.args.self.now in
     let new = c.plan-plan.new.self in
-    let held = c.requires.1.1.1.1.1.1 in
+    let held = c.requires.1.1.1.1.1.1.0 in
     let own = held.beside.follow.config in
     let id = held.beside.id in
     let due = c.plan-plan.result.due in

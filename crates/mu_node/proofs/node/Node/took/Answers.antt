@@ -3,8 +3,8 @@ use Rattle.std.proofs.lemmas.Bool.{true≢false}
 use Rattle.mu_model.specs.declared.event.Verb.{Verb}
 use Rattle.mu_model.specs.Parts.{IsPossible}
 use Rattle.mu_model.proofs.Basics.{none_some}
-use Rattle.mu_grant.specs.Pace.{FollowsCycle}
 use Rattle.mu_node.specs.Due.{FitsLead, verb_or_beat}
+use Rattle.mu_node.specs.Journal.{FollowsTurn}
 use Rattle.mu_node.specs.Node.{HasPlanned, StandsForNode}
 use Rattle.mu_node.specs.Notes.{TellsTook}
 use Rattle.mu_node.proofs.Leads.{fits_led, fits_other}
@@ -25,7 +25,7 @@ returns-then-plan-clause-stands g c =
     let k = c.args.self.now.follow.config in
     let id = c.args.id in
     let made : verb_or_beat c.args.plan.due ≡ c.in-Some.verb = ap verb_or_beat c.in-Some.is in
-    subst (λ v. FollowsCycle k id g.mine (event_by id v c.args.answer) → IsPossible k id (event_by id v c.args.answer ∷ g.mine) → StandsForNode k id (event_by id v c.args.answer ∷ g.mine) c.took_led.new.self) (sym made) c.took_led.ensures.stands
+    subst (λ v. FollowsTurn k id g.mine (event_by id v c.args.answer) → IsPossible k id (event_by id v c.args.answer ∷ g.mine) → StandsForNode k id (event_by id v c.args.answer ∷ g.mine) c.took_led.new.self) (sym made) c.took_led.ensures.stands
 
 pub returns-then-plan-clause-note : goal.returns-then-plan-clause-note
 returns-then-plan-clause-note g c =
@@ -43,7 +43,7 @@ returns-else-plan-clause-stands g c =
     let fits = subst (λ i. FitsLead k i g.mine node.lead c.args.plan.leads c.args.plan.due) (sym c.requires.0) c.requires.1.1.1.0 in
     let beside = fits_other k id g.mine node.lead c.args.plan.leads c.args.plan.due c.in-Some.verb fits c.if-plan.false c.in-Some.is in
     let held = subst (λ i. HasPlanned k i g.mine node) (sym c.requires.0) c.requires.1.1.1.1 in
-    subst (λ v. FollowsCycle k id g.mine (event_by id v c.args.answer) → IsPossible k id (event_by id v c.args.answer ∷ g.mine) → StandsForNode k id (event_by id v c.args.answer ∷ g.mine) c.note_other.new.self) (sym made)
+    subst (λ v. FollowsTurn k id g.mine (event_by id v c.args.answer) → IsPossible k id (event_by id v c.args.answer ∷ g.mine) → StandsForNode k id (event_by id v c.args.answer ∷ g.mine) c.note_other.new.self) (sym made)
     (λ follows possible. c.note_other.ensures.stands g.mine beside follows possible held)
 
 pub returns-else-plan-clause-note : goal.returns-else-plan-clause-note
@@ -60,7 +60,7 @@ returns-in-None-clause-stands g c =
     let id = c.args.id in
     let made : verb_or_beat c.args.plan.due ≡ Verb.Beat = ap verb_or_beat c.in-None.is in
     let held = subst (λ i. HasPlanned k i g.mine node) (sym c.requires.0) c.requires.1.1.1.1 in
-    subst (λ v. FollowsCycle k id g.mine (event_by id v c.args.answer) → IsPossible k id (event_by id v c.args.answer ∷ g.mine) → StandsForNode k id (event_by id v c.args.answer ∷ g.mine) c.note_other-in-None.new.self) (sym made)
+    subst (λ v. FollowsTurn k id g.mine (event_by id v c.args.answer) → IsPossible k id (event_by id v c.args.answer ∷ g.mine) → StandsForNode k id (event_by id v c.args.answer ∷ g.mine) c.note_other-in-None.new.self) (sym made)
     (λ follows possible. c.note_other-in-None.ensures.stands g.mine refl follows possible held)
 
 pub returns-in-None-clause-note : goal.returns-in-None-clause-note

@@ -8,6 +8,7 @@ use Rattle.mu_lead.specs.Notes.{value_committed}
 use Rattle.mu_lead.specs.Standing.{known_told}
 use Rattle.mu_node.specs.Due.{lead_due}
 use Rattle.mu_node.specs.Node.{StandsForLead}
+use Rattle.mu_node.proofs.Leading.{due_leads_on}
 use Rattle.mu_node.proofs.Leads.{lead_takes, lead_tells, led_beside, led_told}
 use Rattle.mu_node.proofs.Moving.{event_by}
 use Rattle.mu_node.proofs.node.Node.took_led.Goals as goal
@@ -39,7 +40,9 @@ returns-clause-stands g c follows possible =
       lead = subst (λ l. StandsForLead k r (event_by r verb c.args.answer ∷ mine) l) (sym c.learn.ensures.lead)
           (lead_takes k r mine old c.take-note.new.self verb c.args.answer values lead c.take-note.ensures.config c.take-note.ensures.id c.take-note.ensures.stands due possible told);
       handed = c.learn.ensures.handed ∙ (c.note.ensures.handed ∙ held.handed);
-      cycle = (held.cycle, follows);
+      cycle = (held.cycle, follows.cycle);
+      made = (held.made, follows.made);
+      leads = λ leads. due_leads_on k r mine c.args.self.now.lead verb (event_by r verb c.args.answer) c.requires.1.1.1.0;
     }
 
 pub returns-clause-note : goal.returns-clause-note

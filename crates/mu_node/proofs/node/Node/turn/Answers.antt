@@ -2,7 +2,11 @@ use Rattle.std.proofs.Common.{[], refl, subst}
 use Rattle.mu_model.specs.declared.script.Script.{Script}
 use Rattle.mu_node.specs.Turns.{TellsEnd}
 use Rattle.mu_grant.proofs.Rounds.{cycles}
+use Rattle.mu_node.proofs.Leading.{is_going}
 use Rattle.mu_node.proofs.Left.{is_left, steps_within}
+use Rattle.mu_node.proofs.Paces.{keeps_beside, replays_in_time}
+use Rattle.mu_node.proofs.Rounding.{keeps_rounds, raised_in_time}
+use Rattle.mu_pace.proofs.Cycles.{rounds_read_in_time, rounds_tell_heads}
 use Rattle.mu_node.proofs.node.Node.turn.Goals as goal
 
 pub step-requires : goal.step-requires
@@ -13,8 +17,9 @@ step-requires g c =
     let script : Script = record { stops = c.args.self.now.stops.items; pauses = [] } in
     let possible = c.id-id.ensures.possible in
     let told = c.end.ensures k script r mine refl c.requires.config possible c.requires.stands in
-    let left = is_left k script r mine possible (subst (λ o. TellsEnd k script r mine o) c.in-None.is told) in
-    λ κs lives. (lives, (refl, (c.id-id.ensures.number, (c.requires.config, (possible, (left, c.requires.stands))))))
+    let none = subst (λ o. TellsEnd k script r mine o) c.in-None.is told in
+    let left = is_left k script r mine possible none in
+    λ κs lives. (lives, (refl, (c.id-id.ensures.number, (c.requires.config, (possible, (left, (c.requires.stands, is_going k script r mine none)))))))
 
 pub returns-in-Some-clause-grants : goal.returns-in-Some-clause-grants
 returns-in-Some-clause-grants g c =
@@ -30,3 +35,75 @@ returns-in-None-clause-grants g c =
     let r = g.P.Port.number now in
     let mine = g.P.Port.part now in
     cycles k r mine c.step.ensures.stands.beside.follow.inside (steps_within k r mine c.step.ensures.possible) c.step.ensures.stands.cycle
+
+pub returns-in-Some-clause-beats : goal.returns-in-Some-clause-beats
+returns-in-Some-clause-beats g c =
+    let k = g.P.Port.config c.args.port.now in
+    let r = g.P.Port.number c.args.port.now in
+    let mine = g.P.Port.part c.args.port.now in
+    let stands = c.requires.stands in
+    rounds_read_in_time k r mine (keeps_rounds k r mine stands.beside.follow.inside stands.made)
+
+pub returns-in-Some-clause-heads : goal.returns-in-Some-clause-heads
+returns-in-Some-clause-heads g c =
+    let k = g.P.Port.config c.args.port.now in
+    let r = g.P.Port.number c.args.port.now in
+    let mine = g.P.Port.part c.args.port.now in
+    let stands = c.requires.stands in
+    rounds_tell_heads k r mine (keeps_rounds k r mine stands.beside.follow.inside stands.made) (raised_in_time k r mine stands.made)
+
+pub returns-in-None-clause-beats : goal.returns-in-None-clause-beats
+returns-in-None-clause-beats g c =
+    let now = c.step.new.port in
+    let k = g.P.Port.config now in
+    let r = g.P.Port.number now in
+    let mine = g.P.Port.part now in
+    let stands = c.step.ensures.stands in
+    rounds_read_in_time k r mine (keeps_rounds k r mine stands.beside.follow.inside stands.made)
+
+pub returns-in-None-clause-heads : goal.returns-in-None-clause-heads
+returns-in-None-clause-heads g c =
+    let now = c.step.new.port in
+    let k = g.P.Port.config now in
+    let r = g.P.Port.number now in
+    let mine = g.P.Port.part now in
+    let stands = c.step.ensures.stands in
+    rounds_tell_heads k r mine (keeps_rounds k r mine stands.beside.follow.inside stands.made) (raised_in_time k r mine stands.made)
+
+pub returns-in-Some-clause-replays : goal.returns-in-Some-clause-replays
+returns-in-Some-clause-replays g c =
+    let k = g.P.Port.config c.args.port.now in
+    let r = g.P.Port.number c.args.port.now in
+    let mine = g.P.Port.part c.args.port.now in
+    let stands = c.requires.stands in
+    let possible = c.id-id.ensures.possible in
+    replays_in_time k r mine possible stands.made
+
+pub returns-in-Some-clause-keeps : goal.returns-in-Some-clause-keeps
+returns-in-Some-clause-keeps g c =
+    let k = g.P.Port.config c.args.port.now in
+    let r = g.P.Port.number c.args.port.now in
+    let mine = g.P.Port.part c.args.port.now in
+    let stands = c.requires.stands in
+    let possible = c.id-id.ensures.possible in
+    keeps_beside k r mine stands.beside.follow.inside possible stands.cycle stands.made
+
+pub returns-in-None-clause-replays : goal.returns-in-None-clause-replays
+returns-in-None-clause-replays g c =
+    let now = c.step.new.port in
+    let k = g.P.Port.config now in
+    let r = g.P.Port.number now in
+    let mine = g.P.Port.part now in
+    let stands = c.step.ensures.stands in
+    let possible = c.step.ensures.possible in
+    replays_in_time k r mine possible stands.made
+
+pub returns-in-None-clause-keeps : goal.returns-in-None-clause-keeps
+returns-in-None-clause-keeps g c =
+    let now = c.step.new.port in
+    let k = g.P.Port.config now in
+    let r = g.P.Port.number now in
+    let mine = g.P.Port.part now in
+    let stands = c.step.ensures.stands in
+    let possible = c.step.ensures.possible in
+    keeps_beside k r mine stands.beside.follow.inside possible stands.cycle stands.made

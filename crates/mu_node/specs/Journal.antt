@@ -1,0 +1,41 @@
+-- How each event of a node's journal was made.
+use Rattle.std.specs.Prelude.{Bool, List, None, [], false, if◌then◌else◌, length, true, ℕ, ◌||◌, ◌∷◌, ◌≡◌}
+use Rattle.mu_model.specs.declared.config.Config.{Config}
+use Rattle.mu_model.specs.declared.event.Event.{Event}
+use Rattle.mu_model.specs.Ends.{outrun}
+use Rattle.mu_model.specs.Steps.{is_named}
+use Rattle.mu_model.specs.Stretches.{is_odd}
+use Rattle.mu_grant.specs.Pace.{FollowsCycle}
+use Rattle.mu_lead.specs.declared.lead.Lead.{Lead}
+use Rattle.mu_lead.specs.Beside.{leads_at}
+use Rattle.mu_node.specs.Cycle.{IsMade}
+use Rattle.mu_pace.specs.Watches.{is_named_turn}
+
+-- the last event is a turn of the leader before which the scores named r
+abbrev pub was_named : Config → ℕ → List Event → Bool
+was_named c r [] = false
+was_named c r (e ∷ mine) = is_named_turn c r mine e
+
+-- r may lead: before a background turn where it was named in the last one of the leader, and before
+-- one of the leader, in which it is told whom the scores name, in any case
+abbrev pub may_lead_before : Config → ℕ → List Event → Bool
+may_lead_before c r mine = is_odd (length mine) || was_named c r mine
+
+-- the same once it was told
+abbrev pub may_lead : Config → ℕ → List Event → Bool
+may_lead c r mine = if is_odd (length mine) then is_named c r mine else was_named c r mine
+
+-- r made the event as it was due, by a leader that leads in the background only where it was named,
+-- and no look had found a place used again that r still had to read
+pub record WasMade (c : Config) (r : ℕ) (mine : List Event) (e : Event) : Type 0 where
+  pub own : e.by ≡ r
+  pub going : outrun c r mine ≡ None
+  pub lead : Lead
+  pub made : IsMade c r mine lead e.verb
+  pub leads :
+      is_odd (length mine) ≡ false → leads_at lead.place ≡ true → was_named c r mine ≡ true
+
+-- the event follows the cycle, and was made as it was due
+pub record FollowsTurn (c : Config) (r : ℕ) (mine : List Event) (e : Event) : Type 0 where
+  pub cycle : FollowsCycle c r mine e
+  pub made : WasMade c r mine e
