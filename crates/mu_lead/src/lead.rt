@@ -11,6 +11,7 @@ ghost use Rattle.mu_leading.specs.Leadership.{StandsForLeadership};
 ghost use Rattle.mu_lead.specs.Beside.{leads_at};
 ghost use Rattle.mu_lead.specs.declared.note.Note.{Note as SomeNote};
 ghost use Rattle.mu_lead.specs.Evidence.{ExplainsAt, ExplainsDue, ExplainsNext};
+ghost use Rattle.mu_lead.specs.Raising.{RaisesAt, RaisesDue, RaisesNext};
 ghost use Rattle.mu_lead.specs.Rooms.{HasRooms, RoomsDue, RoomsNext};
 ghost use Rattle.mu_lead.specs.Sets.{is_bit};
 ghost use Rattle.mu_lead.specs.Standing.{HasHeeded, StandsFor, TakesDue, TakesNext, TellsDue, TellsFailed, TellsNext, verb_of};
@@ -99,6 +100,9 @@ impl Lead {
         ensures evidence { (self.old.under_way && nat_lt leader self.old.id) ≡ false
             → ExplainsAt self.old.config self.old.id mine self.old.place
             → ExplainsAt self.new.config self.new.id mine self.new.place }
+        ensures raises { (self.old.under_way && nat_lt leader self.old.id) ≡ false
+            → RaisesAt self.old.config self.old.id mine self.old.place
+            → RaisesAt self.new.config self.new.id mine self.new.place }
     {
         self.named = leader == self.id;
         self.failed = bits_of(failed);
@@ -245,6 +249,7 @@ impl Lead {
         ensures stands { TakesNext mine self.old known.now answer self.new }
         ensures rooms { RoomsNext mine self.old known.now answer self.new }
         ensures evidence { ExplainsNext mine self.old answer self.new }
+        ensures raises { RaisesNext mine self.old known.now answer self.new }
         ensures tells { TellsNext mine self.old known.now answer result }
         ensures config { self.new.config ≡ self.old.config }
         ensures id { self.new.id ≡ self.old.id }
@@ -265,6 +270,7 @@ impl Lead {
         ensures stands { TakesDue self.old known.now answer self.new }
         ensures rooms { RoomsDue self.old known.now answer self.new }
         ensures evidence { ExplainsDue self.old answer self.new }
+        ensures raises { RaisesDue self.old known.now answer self.new }
         ensures tells { TellsDue self.old known.now answer result }
         ensures config { self.new.config ≡ self.old.config }
         ensures id { self.new.id ≡ self.old.id }
