@@ -1,8 +1,8 @@
 -- The count of steps after a commit, step by step.
-use Rattle.std.proofs.Common.{◌≡◌, ◌≢◌, ℕ, ◌+◌, ◌<◌, ◌≤◌, ◌⊎◌, inl, inr, Bool, true, false, ◌&&◌, ◌==◌, List, [], ◌∷◌, ◌++◌, length, None, Some, refl, sym, ◌∙◌, ap, subst, arith, true≢false}
+use Rattle.std.proofs.Common.{◌≡◌, ℕ, ◌<◌, ◌≤◌, Bool, true, false, ◌&&◌, ◌==◌, List, ◌∷◌, length, None, Some, refl, sym, ◌∙◌, ap, subst, arith, true≢false}
 use Rattle.std.specs.Prelude.{if◌then◌else◌, nat_le, nat_lt}
 use Rattle.std.specs.declared.option.Option.{Option}
-use Rattle.std.proofs.lemmas.Bool.{cases_lt, le-leb, ne_eqb}
+use Rattle.std.proofs.lemmas.Bool.{le-leb, ne_eqb}
 use Rattle.mu_model.specs.declared.config.Config.{Config}
 use Rattle.mu_model.specs.declared.event.Answer.{Answer}
 use Rattle.mu_model.specs.declared.event.Event.{Event}
@@ -15,7 +15,7 @@ use Rattle.mu_model.specs.Steps.{commits_more}
 use Rattle.mu_model.specs.Stretches.{is_replication}
 use Rattle.mu_model.proofs.Basics.{event_by, same_number}
 use Rattle.mu_pace.specs.Countdowns.{AreRaisedBelow}
-use Rattle.mu_pace.specs.Counters.{IsInTime, steps_left}
+use Rattle.mu_pace.specs.Counters.{IsInTime}
 use Rattle.mu_pace.specs.Members.{IsNextMember, members_from}
 use Rattle.mu_pace.specs.Watches.{raising}
 use Rattle.mu_pace.proofs.Beside.{not_more, unallowed}

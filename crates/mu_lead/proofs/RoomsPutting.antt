@@ -1,5 +1,5 @@
 -- The counts of a leader while the value is put at a new position.
-use Rattle.std.proofs.Common.{◌≡◌, ◌≢◌, ℕ, ◌+◌, ◌<◌, ◌≤◌, inl, inr, Bool, true, false, ◌&&◌, ◌==◌, List, [], ◌∷◌, ◌++◌, length, length-append, None, Some, refl, sym, ◌∙◌, ap, arith, subst}
+use Rattle.std.proofs.Common.{◌≡◌, ◌≢◌, ℕ, ◌+◌, ◌<◌, ◌≤◌, inl, Bool, true, false, ◌&&◌, ◌==◌, List, [], ◌∷◌, ◌++◌, length, length-append, None, Some, refl, ◌∙◌, ap, arith}
 use Rattle.std.specs.Prelude.{if◌then◌else◌, nat_lt}
 use Rattle.std.proofs.lemmas.Bool.{lt-ltb}
 use Rattle.mu_model.specs.declared.config.Config.{Config}
@@ -26,7 +26,6 @@ use Rattle.mu_lead.specs.declared.place.Offer.{Offer}
 use Rattle.mu_lead.specs.declared.place.Place.{Place}
 use Rattle.mu_lead.specs.Offering.{took}
 use Rattle.mu_lead.specs.Rooms.{IsPlaced, sizes_of}
-use Rattle.mu_lead.specs.Sets.{IsFirst}
 use Rattle.mu_lead.proofs.Puts.{not_accepted}
 use Rattle.mu_lead.proofs.RoomsQuiet.{IsSilent, no_heads, quiet_milestone, silent, sized, steps_on}
 

@@ -12,7 +12,7 @@ use Rattle.mu_lead.specs.Rooms.{RoomsAt}
 use Rattle.mu_lead.proofs.RoomsRaising.{rooms_next_raise, rooms_raised}
 use Rattle.std.proofs.Common.{true}
 use Rattle.mu_model.specs.Stretches.{is_replication}
-use Rattle.std.proofs.Common.{ap, ◌≤◌}
+use Rattle.std.proofs.Common.{ap}
 use Rattle.mu_lead.proofs.Raises.{raises_last, raises_member}
 use Rattle.mu_lead.proofs.lead.Lead.took_raise.Goals as goal
 
