@@ -63,6 +63,9 @@ impl Lead {
         ensures stands { IfOk result (λ lead. StandsFor [] lead) }
         ensures config { IfOk result (λ lead. lead.config ≡ config.now) }
         ensures id { IfOk result (λ lead. lead.id ≡ id) }
+        ensures rooms { IfOk result (λ lead. HasRooms [] lead) }
+        ensures evidence { IfOk result (λ lead. ExplainsAt lead.config lead.id [] lead.place) }
+        ensures raises { IfOk result (λ lead. RaisesAt lead.config lead.id [] lead.place) }
     {
         Ok(Lead {
             config: config.copied(alloc)?,
