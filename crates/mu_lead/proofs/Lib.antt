@@ -18,6 +18,7 @@ pub mod Offers
 pub mod Others
 pub mod Puts
 pub mod Quiet
+pub mod Raises
 pub mod Replies
 pub mod Rests
 pub mod Rooms

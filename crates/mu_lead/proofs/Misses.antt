@@ -1,20 +1,18 @@
 -- The count of steps after a put that missed, step by step.
-use Rattle.std.proofs.Common.{◌≡◌, ◌≢◌, ℕ, ◌≤◌, ◌⊎◌, inl, inr, Bool, true, false, ◌&&◌, ◌==◌, List, [], ◌∷◌, None, Some, refl, sym, ◌∙◌, ap, subst, arith, true≢false}
-use Rattle.std.specs.Prelude.{not, ◌||◌}
+use Rattle.std.proofs.Common.{◌≡◌, ℕ, ◌⊎◌, inl, inr, Bool, true, false, ◌==◌, List, ◌∷◌, None, refl, sym, ◌∙◌, ap, subst, arith, true≢false}
 use Rattle.std.proofs.lemmas.Bool.{cases_eq, ne_eqb}
 use Rattle.mu_model.specs.declared.config.Config.{Config}
 use Rattle.mu_model.specs.declared.event.Answer.{Answer}
 use Rattle.mu_model.specs.declared.event.Event.{Event}
 use Rattle.mu_model.specs.declared.event.Verb.{Verb}
 use Rattle.mu_model.specs.Knowledge.{known}
-use Rattle.mu_model.specs.Steps.{is_fencing, is_missed_at, is_missed_at_verb, is_named}
+use Rattle.mu_model.specs.Steps.{is_missed_at, is_missed_at_verb}
 use Rattle.mu_model.specs.Stretches.{is_replication}
 use Rattle.mu_model.proofs.Basics.{event_by, same_number}
 use Rattle.mu_pace.specs.Counters.{IsInTime, steps_left}
-use Rattle.mu_pace.specs.Watches.{explaining, turns_away}
+use Rattle.mu_pace.specs.Watches.{explaining}
 use Rattle.mu_pace.proofs.Beside.{unallowed}
-use Rattle.mu_pace.proofs.Counting.{allowed_here}
-use Rattle.mu_pace.proofs.Placed.{shut}
+use Rattle.mu_pace.proofs.Countdowns.{countdowns_run}
 use Rattle.mu_pace.proofs.Rooms.{kinds_of_step}
 use Rattle.mu_lead.specs.declared.lead.Lead.{Lead}
 use Rattle.mu_lead.specs.declared.place.Place.{Place}
@@ -40,27 +38,20 @@ unopened c r q mine e none = unallowed (λ past f. is_missed_at q f) (λ now. 1)
 
 -- a step that doesn't miss
 explained_on : (c : Config) (r : ℕ) (mine : List Event) (e : Event) → ((q : ℕ) → is_missed_at q e ≡ false) → IsExplained c r mine → IsExplained c r (e ∷ mine)
-explained_on c r mine e none at q = kinds_of_step.stays_closed (explaining c r q) mine e (unopened c r q mine e (none q)) (at q)
+explained_on c r mine e none at q = countdowns_run.explains.quiet c r q mine e (none q) (at q)
 
 -- one that misses waits for its fence
 waits_now : (c : Config) (r p : ℕ) (mine : List Event) (e : Event) → ((q : ℕ) → is_missed_at q e ≡ (p == q)) → IsExplained c r mine → WaitsForFence c r (e ∷ mine) p
 waits_now c r p mine e missed at = record {
-  here = kinds_of_step.opens (explaining c r p) 1 1 mine e (allowed_here (λ past f. is_missed_at p f) (λ now. 1) mine e (missed p ∙ same_number p)) (at p) (omega arith);
-  others = λ q other. kinds_of_step.stays_closed (explaining c r q) mine e (unopened c r q mine e (missed q ∙ ne_eqb p q (λ same. other (sym same)))) (at q);
+  here = countdowns_run.explains.miss c r p mine e (missed p ∙ same_number p) (at p);
+  others = λ q other. countdowns_run.explains.quiet c r q mine e (missed q ∙ ne_eqb p q (λ same. other (sym same))) (at q);
 }
-
-third : (a b d : Bool) → a ≡ true → d ≡ true → (a && (b || d)) ≡ true
-third true true d one two = refl
-third true false d one two = two
-third false b d one two = absurd (true≢false (sym one))
 
 -- which is read next
 fenced_now : (c : Config) (r p : ℕ) (a : Answer) (mine : List Event) → is_replication mine (event_by r (Verb.Fence p) a) ≡ true → WaitsForFence c r mine p → IsExplained c r (event_by r (Verb.Fence p) a ∷ mine)
 fenced_now c r p a mine turn at q = elim (cases_eq q p) [
-  | inl same ↦ subst (λ x. steps_left (explaining c r x) (event_by r (Verb.Fence p) a ∷ mine) ≡ None) (sym same)
-      (shut (explaining c r p) mine (event_by r (Verb.Fence p) a) (unopened c r p mine (event_by r (Verb.Fence p) a) refl)
-      (third (is_replication mine (event_by r (Verb.Fence p) a)) (not (is_named c r mine)) (is_fencing p (event_by r (Verb.Fence p) a)) turn (same_number p)))
-  | inr other ↦ kinds_of_step.stays_closed (explaining c r q) mine (event_by r (Verb.Fence p) a) (unopened c r q mine (event_by r (Verb.Fence p) a) refl) (at.others q other)
+  | inl same ↦ subst (λ x. steps_left (explaining c r x) (event_by r (Verb.Fence p) a ∷ mine) ≡ None) (sym same) (countdowns_run.explains.fence c r p mine (event_by r (Verb.Fence p) a) turn (same_number p) refl)
+  | inr other ↦ countdowns_run.explains.quiet c r q mine (event_by r (Verb.Fence p) a) refl (at.others q other)
 ]
 
 -- a place whose verb puts nothing
@@ -115,7 +106,7 @@ beside_plain leading verb answer q beside = refl
 explains_beside : (c : Config) (r : ℕ) (mine : List Event) (leading : Bool) (place : Place) (verb : Verb) (answer : Answer) → is_replication mine (event_by r verb answer) ≡ false → is_beside leading verb ≡ true → ExplainsAt c r mine place → ExplainsAt c r (event_by r verb answer ∷ mine) place
 explains_beside c r mine leading (Place.Evidence p) verb answer off beside at = record {
   here = kinds_of_step.stays (explaining c r p) 1 1 mine (event_by r verb answer) (unopened c r p mine (event_by r verb answer) (beside_plain leading verb answer p beside)) off (omega arith) at.here;
-  others = λ q other. kinds_of_step.stays_closed (explaining c r q) mine (event_by r verb answer) (unopened c r q mine (event_by r verb answer) (beside_plain leading verb answer q beside)) (at.others q other);
+  others = λ q other. countdowns_run.explains.quiet c r q mine (event_by r verb answer) (beside_plain leading verb answer q beside) (at.others q other);
 }
 explains_beside c r mine leading place verb answer off beside at = explained_on c r mine (event_by r verb answer) (λ q. beside_plain leading verb answer q beside) at
 

@@ -1,5 +1,5 @@
 -- What the other machines do in the background leaves the rooms of the leader.
-use Rattle.std.proofs.Common.{◌≡◌, ◌≢◌, ℕ, ◌≤◌, Bool, true, false, List, ◌∷◌, refl, sym, ◌∙◌, ap, subst, true≢false}
+use Rattle.std.proofs.Common.{◌≡◌, ℕ, Bool, true, false, List, ◌∷◌, refl, sym, ◌∙◌, ap, subst, true≢false}
 use Rattle.mu_model.specs.declared.config.Config.{Config}
 use Rattle.mu_model.specs.declared.event.Answer.{Answer}
 use Rattle.mu_model.specs.declared.event.Event.{Event}
@@ -25,7 +25,7 @@ use Rattle.mu_lead.specs.Standing.{At}
 use Rattle.mu_lead.proofs.NoteKinds.{is_look}
 use Rattle.mu_lead.specs.declared.place.Place.{Place}
 use Rattle.mu_lead.specs.declared.place.Then.{Then}
-use Rattle.mu_lead.specs.Rooms.{IsEnded, IsLed, IsNumbering, IsOut, IsReading, IsWaiting, OthersKeepRooms, RoomsAt, lag_of, sizes_of, stage_of}
+use Rattle.mu_lead.specs.Rooms.{IsLed, IsOut, IsWaiting, OthersKeepRooms, RoomsAt, lag_of, sizes_of, stage_of}
 
 -- the event changes nothing of the terms of the leadership
 record Unmoved (c : Config) (r : ℕ) (mine : List Event) (e : Event) : Type 0 where

@@ -1,12 +1,11 @@
 -- The counts of a leader while members and late followers are brought up.
-use Rattle.std.proofs.Common.{◌≡◌, ℕ, ◌+◌, ◌<◌, ◌≤◌, inl, inr, Bool, true, false, List, ◌∷◌, refl, sym, arith, true≢false}
+use Rattle.std.proofs.Common.{◌≡◌, ℕ, ◌<◌, inl, inr, true, List, ◌∷◌, refl, sym, arith, true≢false}
 use Rattle.std.proofs.lemmas.Bool.{cases_lt, le-leb}
 use Rattle.mu_model.specs.declared.config.Config.{Config}
 use Rattle.mu_model.specs.declared.event.Answer.{Answer}
 use Rattle.mu_model.specs.declared.event.Event.{Event}
 use Rattle.mu_model.specs.declared.event.Target.{Target}
 use Rattle.mu_model.specs.declared.event.Verb.{Verb}
-use Rattle.mu_model.specs.Bounds.{members}
 use Rattle.mu_model.specs.Contents.{IsConfig}
 use Rattle.mu_model.specs.Knowledge.{known}
 use Rattle.mu_model.specs.Leaderships.{is_member}

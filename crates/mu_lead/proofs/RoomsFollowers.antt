@@ -1,5 +1,5 @@
 -- The counts of a leader while it asks after late followers, where it goes on to the next.
-use Rattle.std.proofs.Common.{◌≡◌, ℕ, ◌+◌, ◌<◌, ◌≤◌, ◌⊎◌, inl, inr, Bool, true, false, ◌==◌, List, ◌∷◌, refl, sym, subst, arith, true≢false}
+use Rattle.std.proofs.Common.{◌≡◌, ℕ, ◌+◌, ◌<◌, ◌≤◌, ◌⊎◌, inl, inr, true, false, ◌==◌, List, ◌∷◌, refl, sym, subst, arith, true≢false}
 use Rattle.std.proofs.lemmas.Bool.{cases_lt, le-leb, lt-ltb}
 use Rattle.mu_model.specs.declared.config.Config.{Config}
 use Rattle.mu_model.specs.declared.event.Answer.{Answer}
@@ -13,7 +13,7 @@ use Rattle.mu_model.specs.Stretches.{is_replication}
 use Rattle.mu_model.proofs.Basics.{event_by, same_number}
 use Rattle.mu_pace.specs.Asking.{AsksJoining, AsksOn, far, far_join, near_ahead, near_fuo, near_joined, near_level, near_passed, near_welcomed}
 use Rattle.mu_pace.specs.Watches.{is_brought_up}
-use Rattle.mu_pace.specs.Weights.{Bringing, Joins, Lag, Sizes, Stage, ahead, at_joined, at_late_enter, at_late_min, is_first, joins_behind, joins_level, late_fuo, passed, welcomed}
+use Rattle.mu_pace.specs.Weights.{Bringing, Lag, Sizes, Stage, ahead, at_joined, at_late_enter, at_late_min, is_first, joins_behind, joins_level, late_fuo, passed, welcomed}
 use Rattle.mu_pace.proofs.Members.{counts_of_members}
 use Rattle.mu_pace.proofs.Placed.{places_lead}
 use Rattle.mu_lead.specs.declared.place.Place.{Place}

@@ -1,6 +1,6 @@
 -- The counts of a leader while heads are read.
-use Rattle.std.proofs.Common.{◌≡◌, ℕ, zero, suc, ◌+◌, ◌<◌, ◌≤◌, inl, inr, Bool, true, false, ◌&&◌, ◌==◌, List, ◌∷◌, None, Some, length, refl, sym, ◌∙◌, ap, arith, true≢false}
-use Rattle.std.specs.Prelude.{if◌then◌else◌, nat_le, nat_lt, not}
+use Rattle.std.proofs.Common.{◌≡◌, ℕ, ◌+◌, ◌<◌, ◌≤◌, inl, Bool, true, false, ◌&&◌, List, ◌∷◌, length, refl, sym, ◌∙◌, ap, arith, true≢false}
+use Rattle.std.specs.Prelude.{nat_lt, not}
 use Rattle.std.specs.declared.option.Option.{Option}
 use Rattle.std.proofs.lemmas.Bool.{le-leb, ltb-false}
 use Rattle.mu_model.specs.declared.config.Config.{Config}
@@ -8,14 +8,13 @@ use Rattle.mu_model.specs.declared.event.Answer.{Answer}
 use Rattle.mu_model.specs.declared.event.Event.{Event}
 use Rattle.mu_model.specs.declared.event.Verb.{Verb}
 use Rattle.mu_model.specs.Contents.{IsConfig, marked}
-use Rattle.mu_model.specs.Histories.{all_below}
 use Rattle.mu_model.specs.Knowledge.{commits, known}
 use Rattle.mu_model.specs.Leaderships.{is_member}
 use Rattle.mu_model.specs.Room.{head_read, lacks_room, reserve}
 use Rattle.mu_model.specs.Steps.{is_lagging}
 use Rattle.mu_model.specs.Stretches.{is_replication}
-use Rattle.mu_model.proofs.Basics.{event_by, same_number}
-use Rattle.mu_pace.specs.Asking.{AsksOn, far, is_far, turns}
+use Rattle.mu_model.proofs.Basics.{same_number}
+use Rattle.mu_pace.specs.Asking.{far, is_far, turns}
 use Rattle.mu_pace.specs.Placed.{IsPlacedAt, is_level}
 use Rattle.mu_pace.specs.Weights.{GoesOn, IsPlace, Stage, at_head, at_late_fence, at_look, last_head, next_head}
 use Rattle.mu_pace.proofs.Beside.{not_more}

@@ -1,5 +1,5 @@
 -- The counts of a leader while it asks after late followers.
-use Rattle.std.proofs.Common.{◌≡◌, ℕ, ◌<◌, ◌≤◌, inl, inr, Bool, true, false, ◌&&◌, ◌==◌, List, ◌∷◌, Some, refl, sym, ap}
+use Rattle.std.proofs.Common.{◌≡◌, ℕ, ◌<◌, inl, inr, Bool, true, List, ◌∷◌, Some, refl}
 use Rattle.std.specs.Prelude.{nat_lt, ◌||◌}
 use Rattle.std.proofs.lemmas.Bool.{cases_lt, le-leb, lt-ltb}
 use Rattle.mu_model.specs.declared.config.Config.{Config}
@@ -9,7 +9,7 @@ use Rattle.mu_model.specs.declared.event.Target.{Target}
 use Rattle.mu_model.specs.declared.event.Verb.{Verb}
 use Rattle.mu_model.specs.Contents.{IsConfig}
 use Rattle.mu_model.specs.Histories.{has}
-use Rattle.mu_model.specs.Leaderships.{has_begun, is_above, is_over, leadership, proposal_number}
+use Rattle.mu_model.specs.Leaderships.{has_begun, is_over, leadership, proposal_number}
 use Rattle.mu_model.specs.Steps.{is_min}
 use Rattle.mu_model.specs.Stretches.{is_replication}
 use Rattle.mu_model.proofs.Basics.{event_by, same_number}
@@ -17,7 +17,7 @@ use Rattle.mu_pace.specs.Asking.{AsksOn, far, near_enter, near_min}
 use Rattle.mu_pace.specs.Weights.{Sizes, Stage, at_late_fuo, at_late_put, late_enter, late_min}
 use Rattle.mu_pace.proofs.Away.{away_is_in_time}
 use Rattle.mu_lead.specs.declared.place.Place.{Place}
-use Rattle.mu_lead.specs.Rooms.{IsLed, IsOut, IsPlaced, sizes_of}
+use Rattle.mu_lead.specs.Rooms.{IsOut, IsPlaced, sizes_of}
 use Rattle.mu_lead.proofs.RoomsMin.{min_now, over_unled, second}
 use Rattle.mu_lead.proofs.RoomsQuiet.{later_min_silent, silent, sized, steps_on}
 

@@ -1,22 +1,20 @@
 -- The counts of a leader while it learns what others committed.
-use Rattle.std.proofs.Common.{◌≡◌, ◌≢◌, ℕ, ◌+◌, ◌<◌, ◌≤◌, inl, inr, Bool, true, false, List, ◌∷◌, length, refl, sym, ◌∙◌, ap, subst, arith, true≢false}
+use Rattle.std.proofs.Common.{◌≡◌, ℕ, inl, Bool, true, false, List, ◌∷◌, length, refl, sym, ◌∙◌, ap, subst, arith, true≢false}
 use Rattle.std.specs.Prelude.{nat_lt, not, ◌||◌}
 use Rattle.mu_model.specs.declared.config.Config.{Config}
 use Rattle.mu_model.specs.declared.event.Answer.{Answer}
 use Rattle.mu_model.specs.declared.event.Event.{Event}
-use Rattle.mu_model.specs.declared.event.Verb.{Verb}
-use Rattle.mu_model.specs.Bounds.{is_copying, is_learning}
+use Rattle.mu_model.specs.Bounds.{is_copying}
 use Rattle.mu_model.specs.Contents.{IsConfig}
-use Rattle.mu_model.specs.Diligence.{is_milestone}
 use Rattle.mu_model.specs.Knowledge.{commits, known}
 use Rattle.mu_model.specs.Leaderships.{is_member}
 use Rattle.mu_model.specs.Picks.{is_past}
 use Rattle.mu_model.specs.Steps.{knows_more}
 use Rattle.mu_model.specs.Stretches.{is_replication}
-use Rattle.mu_pace.specs.Asking.{AsksCopying, far_copy, is_far, turns_copying}
+use Rattle.mu_pace.specs.Asking.{AsksCopying, far_copy, turns_copying}
 use Rattle.mu_pace.specs.Placed.{Asks, is_level}
 use Rattle.mu_pace.specs.Watches.{is_brought_up}
-use Rattle.mu_pace.specs.Weights.{Bringing, Copies, IsPlace, Lag, Stage, asks, at_behind, at_late_fence, at_learning, beyond, is_first, learnt, learnt_all, learnt_level}
+use Rattle.mu_pace.specs.Weights.{Copies, IsPlace, Lag, Stage, asks, at_behind, at_late_fence, at_learning, beyond, learnt, learnt_all, learnt_level}
 use Rattle.mu_pace.proofs.Beside.{not_more}
 use Rattle.mu_pace.proofs.Placed.{places_lead}
 use Rattle.mu_lead.specs.declared.place.Then.{Then}

@@ -1,16 +1,13 @@
 -- The counts of a leader while it looks at a new position, where the looks teach nothing.
-use Rattle.std.proofs.Common.{◌≡◌, ℕ, ◌*◌, ◌+◌, ◌<◌, ◌≤◌, inl, inr, Bool, true, false, List, ◌∷◌, refl, arith}
+use Rattle.std.proofs.Common.{◌≡◌, ℕ, ◌*◌, ◌<◌, ◌≤◌, inl, true, false, List, ◌∷◌, refl, arith}
 use Rattle.mu_model.specs.declared.config.Config.{Config}
 use Rattle.mu_model.specs.declared.event.Answer.{Answer}
 use Rattle.mu_model.specs.declared.event.Event.{Event}
-use Rattle.mu_model.specs.declared.event.Verb.{Verb}
 use Rattle.mu_model.specs.Bounds.{members}
 use Rattle.mu_model.specs.Contents.{IsConfig}
-use Rattle.mu_model.specs.Knowledge.{known}
 use Rattle.mu_model.specs.Leaderships.{is_member}
 use Rattle.mu_model.specs.Steps.{knows_more}
 use Rattle.mu_model.specs.Stretches.{is_replication}
-use Rattle.mu_model.proofs.Basics.{event_by}
 use Rattle.mu_pace.specs.Asking.{far, is_far}
 use Rattle.mu_pace.specs.Members.{IsNextMember, members_from}
 use Rattle.mu_pace.specs.Weights.{GoesOn, IsPlace, Stage, at_look, at_rest, at_slot, at_writing, next_look, outrun_looking, picks, writes}

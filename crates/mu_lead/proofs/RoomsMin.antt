@@ -15,10 +15,10 @@ use Rattle.mu_model.specs.Steps.{has_min, is_min, leads}
 use Rattle.mu_model.specs.Stretches.{is_replication}
 use Rattle.mu_model.proofs.Basics.{event_by, same_number}
 use Rattle.mu_pace.specs.Asking.{far, far_join, is_far}
-use Rattle.mu_pace.specs.Away.{IsAway, IsFresh}
+use Rattle.mu_pace.specs.Away.{IsFresh}
 use Rattle.mu_pace.specs.Members.{members_from}
 use Rattle.mu_pace.specs.Placed.{IsPlacedAt, is_level}
-use Rattle.mu_pace.specs.Weights.{GoesOn, IsPlace, Sizes, Stage, at_entering, at_fuo, at_min, at_number, entered_min, joined, last_join, last_min, next_join, next_min}
+use Rattle.mu_pace.specs.Weights.{GoesOn, IsPlace, Stage, at_entering, at_fuo, at_min, at_number, entered_min, joined, last_join, last_min, next_join, next_min}
 use Rattle.mu_pace.proofs.Away.{away_is_in_time}
 use Rattle.mu_pace.proofs.Members.{counts_of_members}
 use Rattle.mu_pace.proofs.Placed.{places_lead}

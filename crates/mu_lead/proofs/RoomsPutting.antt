@@ -1,5 +1,5 @@
 -- The counts of a leader while the value is put at a new position.
-use Rattle.std.proofs.Common.{◌≡◌, ◌≢◌, ℕ, ◌+◌, ◌<◌, ◌≤◌, inl, inr, Bool, true, false, ◌&&◌, ◌==◌, List, [], ◌∷◌, ◌++◌, length, length-append, None, Some, refl, sym, ◌∙◌, ap, arith, subst}
+use Rattle.std.proofs.Common.{◌≡◌, ◌≢◌, ℕ, ◌+◌, ◌<◌, ◌≤◌, inl, Bool, true, false, ◌&&◌, ◌==◌, List, [], ◌∷◌, ◌++◌, length, length-append, None, Some, refl, ◌∙◌, ap, arith}
 use Rattle.std.specs.Prelude.{if◌then◌else◌, nat_lt}
 use Rattle.std.proofs.lemmas.Bool.{lt-ltb}
 use Rattle.mu_model.specs.declared.config.Config.{Config}
@@ -26,7 +26,6 @@ use Rattle.mu_lead.specs.declared.place.Offer.{Offer}
 use Rattle.mu_lead.specs.declared.place.Place.{Place}
 use Rattle.mu_lead.specs.Offering.{took}
 use Rattle.mu_lead.specs.Rooms.{IsPlaced, sizes_of}
-use Rattle.mu_lead.specs.Sets.{IsFirst}
 use Rattle.mu_lead.proofs.Puts.{not_accepted}
 use Rattle.mu_lead.proofs.RoomsQuiet.{IsSilent, no_heads, quiet_milestone, silent, sized, steps_on}
 
@@ -52,11 +51,17 @@ none_committed xs x true true all h = rw h (not_more (length xs))
 none_committed xs x true false all h = not_more (length xs)
 none_committed xs x false b all h = not_more (length xs)
 
+-- nor does one that a member in turn hasn't taken yet
+pub next_put_commits_none : (c : Config) (r p q i b v : ℕ) (mine : List Event) → q < c.replicas → is_member r q mine ≡ true → p ≢ q → took r q i b v mine ≡ false → commits_more c r mine (event_by r (Verb.PutSlot p i b v) Answer.Done) ≡ false
+next_put_commits_none c r p q i b v mine low member other none =
+    let e = event_by r (Verb.PutSlot p i b v) Answer.Done in
+    none_committed (commits c r mine) (i, v) (r == r) (i == length (known c r mine)) (is_accepted_by_all c r (e ∷ mine) i b v) (not_accepted c r p q i b v mine low member other none)
+
 quiet_put : (c : Config) (r p q i b v : ℕ) (mine : List Event) → q < c.replicas → is_member r q mine ≡ true → p ≢ q → took r q i b v mine ≡ false → IsSilent c r mine (event_by r (Verb.PutSlot p i b v) Answer.Done)
 quiet_put c r p q i b v mine low member other none =
     let e = event_by r (Verb.PutSlot p i b v) Answer.Done in
     record {
-      no_milestone = quiet_milestone c r mine e refl (none_committed (commits c r mine) (i, v) (r == r) (i == length (known c r mine)) (is_accepted_by_all c r (e ∷ mine) i b v) (not_accepted c r p q i b v mine low member other none)) (no_heads c r mine);
+      no_milestone = quiet_milestone c r mine e refl (next_put_commits_none c r p q i b v mine low member other none) (no_heads c r mine);
       none_behind = λ k. refl;
       same = refl;
     }
@@ -91,6 +96,11 @@ one_committed known_values v xs x true true false h = absurd (not_longer known_v
 one_committed known_values v xs x true false all h = absurd (not_longer known_values v h)
 one_committed known_values v xs x false b all h = absurd (not_longer known_values v h)
 
+pub put_commits : (c : Config) (r p i b v : ℕ) (mine : List Event) → known c r (event_by r (Verb.PutSlot p i b v) Answer.Done ∷ mine) ≡ known c r mine ++ v ∷ [] → commits_more c r mine (event_by r (Verb.PutSlot p i b v) Answer.Done) ≡ true
+put_commits c r p i b v mine grows =
+    let e = event_by r (Verb.PutSlot p i b v) Answer.Done in
+    one_committed (known c r mine) v (commits c r mine) (i, v) (r == r) (i == length (known c r mine)) (is_accepted_by_all c r (e ∷ mine) i b v) grows
+
 -- the last member took it: a commit, after which each member's FUO is raised
 pub rooms_committed : (c : Config) (r p q i b v : ℕ) (offer : Offer) (mine : List Event) (written : List ℕ) → IsConfig c → is_replication mine (event_by r (Verb.PutSlot p i b v) Answer.Done) ≡ true → p < c.replicas → is_member r p mine ≡ true
     → known c r (event_by r (Verb.PutSlot p i b v) Answer.Done ∷ mine) ≡ known c r mine ++ v ∷ [] → IsPlaced c r mine written (Place.Put p offer) → IsPlaced c r (event_by r (Verb.PutSlot p i b v) Answer.Done ∷ mine) written (Place.Raise q)
@@ -99,7 +109,7 @@ rooms_committed c r p q i b v offer mine written is turn region member grows at 
     let k = members_from c r p mine in
     let j = members_from c r q mine in
     let some = counts_of_members.some c r p mine region member in
-    let more : commits_more c r mine e ≡ true = one_committed (known c r mine) v (commits c r mine) (i, v) (r == r) (i == length (known c r mine)) (is_accepted_by_all c r (e ∷ mine) i b v) grows in
+    let more = put_commits c r p i b v mine grows in
     let progress = steps_of_progress.commit c r mine e turn more in
     record {
       read = at.read;

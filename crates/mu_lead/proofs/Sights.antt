@@ -1,34 +1,28 @@
 -- What the looks at a position gave: whether each was empty, and whether one showed an entry.
-use Rattle.std.proofs.Common.{Bool, List, None, Some, [], ap, arith, cond, eq-eqb, eqb-true, false, get_or, inl, inr, is_some, length, length-append, refl, suc, subst, sym, true, true≢false, zero, ℕ, ◌%◌, ◌&&◌, ◌*◌, ◌+◌, ◌-◌, ◌/◌, ◌<◌, ◌==◌, ◌||◌, ◌∙◌, ◌∷◌, ◌≡◌, ◌≢◌, ◌≤◌}
-use Rattle.std.specs.Prelude.{if◌then◌else◌, is_none, nat_lt, not, ◌⊎◌}
+use Rattle.std.proofs.Common.{Bool, List, None, Some, [], ap, arith, cond, false, inl, inr, is_some, length, refl, suc, subst, sym, true, true≢false, zero, ℕ, ◌&&◌, ◌+◌, ◌<◌, ◌==◌, ◌||◌, ◌∙◌, ◌∷◌, ◌≡◌, ◌≤◌}
+use Rattle.std.specs.Prelude.{if◌then◌else◌, nat_lt, ◌⊎◌}
 use Rattle.std.specs.List.{slice_get}
 use Rattle.std.specs.declared.option.Option.{Option}
-use Rattle.std.proofs.lemmas.Bool.{and_from, cases_eq, cases_lt, le-leb, le-ltb, lt-ltb, ltb-false, ltb-true, ne_eqb}
+use Rattle.std.proofs.lemmas.Bool.{cases_eq}
 use Rattle.mu_model.specs.declared.config.Config.{Config}
 use Rattle.mu_model.specs.declared.event.Answer.{Answer}
 use Rattle.mu_model.specs.declared.event.Event.{Event}
 use Rattle.mu_model.specs.declared.event.Verb.{Verb}
-use Rattle.mu_model.specs.Contents.{IsConfig, begins_batch, client_of, command_count, holds_all, is_batch, is_mark, marked, number_of, row_count}
-use Rattle.mu_model.specs.Histories.{all_below, earlier_or, has, newer_or, newest, oldest}
-use Rattle.mu_model.specs.Knowledge.{entry_seen, grown, is_entry_seen, is_put_done, known, learnt_by, lands_entry, wrote_batch}
+use Rattle.mu_model.specs.Histories.{has, newer_or, newest}
+use Rattle.mu_model.specs.Knowledge.{entry_seen, is_entry_seen}
 use Rattle.mu_model.specs.Leaderships.{begins_leadership, is_member, leadership}
 use Rattle.mu_model.specs.Parts.{IsPossible}
-use Rattle.mu_model.specs.Picks.{entry_of, highest_accepted, is_joining, is_mark_offer, is_offer, is_past, is_past_look, larger, last_look, look_answer, may_pick_at, may_propose, since_last_joining, value_put}
-use Rattle.mu_model.specs.Placing.{IsNew}
+use Rattle.mu_model.specs.Picks.{entry_of, highest_accepted, is_joining, is_past, is_past_look, larger, last_look, look_answer, since_last_joining}
 use Rattle.mu_model.specs.Answers.{shown}
 use Rattle.mu_model.specs.Regions.{region_log}
-use Rattle.mu_model.specs.Room.{is_mark_candidate, lacks_room, head_read, last_head, reserve}
-use Rattle.mu_model.specs.Scores.{is_failed}
-use Rattle.mu_model.proofs.Basics.{event_by, none_some, or_true, same_number, true_or}
-use Rattle.mu_model.proofs.Scans.{all_at, each_all}
+use Rattle.mu_model.proofs.Basics.{event_by, none_some, same_number}
 use Rattle.mu_agree.proofs.Landings.{has_since}
 use Rattle.mu_agree.proofs.Entries.{parts_stay_filled_law}
 use Rattle.mu_agree.proofs.Possible.{answered, at_event}
 use Rattle.mu_agree.proofs.Readings.{parts_stay_past_law}
 use Rattle.mu_lead.specs.declared.place.Sight.{Sight}
-use Rattle.mu_lead.specs.Leading.{HoldsTables, Level, end_of}
-use Rattle.mu_lead.specs.Offering.{AtEnter, AtLook, AtOutrun, IsCandidate, Looked, Looking, LooksShow, MayBeMarked, MayOffer, Roomy, ShowsEntry, entry_in, has_seen_past, is_entry_look, is_full_look, leaves_room}
-use Rattle.mu_lead.specs.Sets.{IsFirst}
+use Rattle.mu_lead.specs.Leading.{end_of}
+use Rattle.mu_lead.specs.Offering.{AtOutrun, Looking, LooksShow, ShowsEntry, has_seen_past, is_entry_look, is_full_look}
 use Rattle.mu_lead.proofs.Bringing.{look_event}
 
 -- a look that showed an entry

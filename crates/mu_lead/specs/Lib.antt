@@ -7,6 +7,7 @@ pub mod Losses
 pub mod Notes
 pub mod Offering
 pub mod Onward
+pub mod Raising
 pub mod Rooms
 pub mod Saying
 pub mod Sets

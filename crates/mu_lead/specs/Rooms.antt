@@ -1,5 +1,5 @@
 -- The room that the counts of steps have at each place of a leader.
-use Rattle.std.specs.Prelude.{Bool, List, None, Some, [], false, get_or, not, suc, true, zero, ℕ, ◌+◌, ◌-◌, ◌∷◌, ◌≡◌, ◌≢◌, ◌≤◌}
+use Rattle.std.specs.Prelude.{Bool, nat_lt, ◌&&◌, ◌||◌, List, Some, [], false, get_or, not, suc, true, zero, ℕ, ◌+◌, ◌-◌, ◌∷◌, ◌≡◌, ◌≢◌, ◌≤◌}
 use Rattle.mu_model.specs.declared.config.Config.{Config}
 use Rattle.mu_model.specs.declared.event.Answer.{Answer}
 use Rattle.mu_model.specs.declared.event.Event.{Event}
@@ -37,7 +37,8 @@ lag_of c r mine p Then.Late = Lag.Behind
 lag_of c r mine p Then.Position = Lag.Position (members_below c r p mine)
 lag_of c r mine p Then.Joined = Lag.Joined p
 
--- the place as its weight sees it: with the region in turn, or with the members that are still in turn
+-- the place as its weight sees it: with the region in turn, or with the members that are still in
+-- turn
 abbrev pub stage_of : Config → ℕ → List Event → List ℕ → Place → Stage
 stage_of c r mine written (Place.ReadMin p) = Stage.ReadMin p
 stage_of c r mine written (Place.EnterMin p) = Stage.EnterMin
@@ -116,11 +117,16 @@ RoomsAt c r mine written (Place.PutMin p) = IsNumbering c r mine p Stage.PutMin
 RoomsAt c r mine written (Place.Evidence p) = IsEnded c r mine
 RoomsAt c r mine written place = IsPlaced c r mine written place
 
+-- the scores name a lower replica, and a leadership is under way or was confirmed
+abbrev pub gives_up : Lead → ℕ → Bool
+gives_up l leader = (l.under_way || leads_at l.place) && nat_lt leader l.id
+
 -- the leader's counts have the room of its place
 abbrev pub HasRooms : List Event → Lead → Type 0
 HasRooms mine l = RoomsAt l.config l.id mine l.written.items l.place
 
--- from its place, by the replication event and with these values known, the leader comes to one whose counts have room
+-- from its place, by the replication event and with these values known, the leader comes to one
+-- whose counts have room
 abbrev pub KeepsRooms : Lead → Place → List ℕ → Verb → Answer → Lead → Type 0
 KeepsRooms old place values verb answer new =
     (mine : List Event) → StandsFor mine old → old.place ≡ place
@@ -177,7 +183,8 @@ is_kept (Place.FenceBehind p then) teaches = false
 is_kept (Place.Look p i candidate best) teaches = not teaches
 is_kept place teaches = true
 
--- from these places, by the answer to the verb that was due, the leader comes to a place whose counts have room
+-- from these places, by the answer to the verb that was due, the leader comes to a place whose
+-- counts have room
 abbrev pub RoomsDue : Lead → List ℕ → Answer → Lead → Type 0
 RoomsDue old values answer new =
     (mine : List Event) (verb : Verb) → StandsFor mine old
@@ -213,7 +220,8 @@ OthersKeepRooms =
     → is_beside (leads_at lead.place) verb ≡ true → StandsFor mine lead → HasRooms mine lead
     → HasRooms (record { by = lead.id; verb = verb; answer = answer } ∷ mine) lead
 
--- before any event no leadership is under way, and a leader whose counts have the room of its place is in time
+-- before any event no leadership is under way, and a leader whose counts have the room of its place
+-- is in time
 pub record RoomsAreInTime : Type 0 where
   pub start : (c : Config) (r : ℕ) → IsOut c r []
   pub in_time : (mine : List Event) (lead : Lead) → IsConfig lead.config → HasRooms mine lead

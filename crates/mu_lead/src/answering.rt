@@ -14,6 +14,7 @@ ghost use Rattle.mu_lead.specs.Standing.{HasHeeded, StandsFor, Takes};
 ghost use Rattle.mu_lead.specs.Saying.{NotesEnter, NotesEvidence, NotesHead, NotesJoin, NotesMin, NotesOver, NotesPut, NotesRound, is_working_or_lost};
 ghost use Rattle.mu_lead.specs.declared.note.Note.{Note as SomeNote};
 ghost use Rattle.mu_lead.specs.Going.{going_after};
+ghost use Rattle.mu_lead.specs.Raising.{KeepsRaises};
 ghost use Rattle.mu_lead.specs.Rooms.{KeepsRooms};
 
 use crate::lead::Lead;
@@ -376,6 +377,8 @@ impl Lead {
             ∷ mine)
             ≡ grown known.now (value_committed result) }
         ensures missed { answer ≡ SomeAnswer.Missed → self.new.place ≡ SomePlace.Evidence p }
+        ensures raises { KeepsRaises self.old (SomePlace.Put p offer) known.now
+            (SomeVerb.PutSlot p (length known.now) self.old.number offer.value) answer self.new }
         ensures config { self.new.config ≡ self.old.config }
         ensures id { self.new.id ≡ self.old.id }
         ensures note { NotesPut (length known.now) offer result }

@@ -361,6 +361,25 @@ impl Lead {
         }
     }
 
+    /// Up to where each region has what is known, where the members have all below `u`.
+    pub fn brought_to(&self, u: u64) -> [u64; 7]
+        ensures long { length result ≡ length self.now.up }
+        ensures members { (mine : List SomeEvent) → (p : ℕ) → p < 7 → length self.now.up ≡ 7
+            → StandsForLeadership self.now.id mine self.now.leading
+            → is_member self.now.id p mine ≡ true → get_or result p 0 ≡ u }
+        ensures others { (mine : List SomeEvent) → (p : ℕ)
+            → StandsForLeadership self.now.id mine self.now.leading
+            → is_member self.now.id p mine ≡ false → get_or result p 0 ≡ get_or self.now.up p 0 }
+    {
+        let mut up = self.up;
+        for p in 0..7u8 {
+            if self.leading.is_member(p) {
+                up[usize::from(p)] = u;
+            }
+        }
+        up
+    }
+
     /// The fence after a look that found what `p` lacks overwritten.
     pub fn took_fence_behind(&mut self, p: u8, then: Then, fence: Fence) -> Note
         ensures stands { (values : List ℕ)

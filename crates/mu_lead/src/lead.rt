@@ -11,7 +11,8 @@ ghost use Rattle.mu_leading.specs.Leadership.{StandsForLeadership};
 ghost use Rattle.mu_lead.specs.Beside.{leads_at};
 ghost use Rattle.mu_lead.specs.declared.note.Note.{Note as SomeNote};
 ghost use Rattle.mu_lead.specs.Evidence.{ExplainsAt, ExplainsDue, ExplainsNext};
-ghost use Rattle.mu_lead.specs.Rooms.{HasRooms, RoomsDue, RoomsNext};
+ghost use Rattle.mu_lead.specs.Raising.{RaisesAt, RaisesDue, RaisesNext};
+ghost use Rattle.mu_lead.specs.Rooms.{HasRooms, RoomsDue, RoomsNext, gives_up};
 ghost use Rattle.mu_lead.specs.Sets.{is_bit};
 ghost use Rattle.mu_lead.specs.Standing.{HasHeeded, StandsFor, TakesDue, TakesNext, TellsDue, TellsFailed, TellsNext, verb_of};
 ghost use Rattle.mu_lead.specs.Going.{begins_at, going_after};
@@ -63,6 +64,9 @@ impl Lead {
         ensures config { IfOk result (λ lead. lead.config ≡ config.now) }
         ensures id { IfOk result (λ lead. lead.id ≡ id) }
         ensures rests { IfOk result (λ lead. leads_at lead.place ≡ false) }
+        ensures rooms { IfOk result (λ lead. HasRooms [] lead) }
+        ensures evidence { IfOk result (λ lead. ExplainsAt lead.config lead.id [] lead.place) }
+        ensures raises { IfOk result (λ lead. RaisesAt lead.config lead.id [] lead.place) }
     {
         Ok(Lead {
             config: config.copied(alloc)?,
@@ -95,18 +99,21 @@ impl Lead {
         ensures due { nat_lt leader self.old.id ≡ false → (values : List ℕ)
             → verb_of self.new values ≡ verb_of self.old values }
         ensures going { self.new.under_way ≡ (self.old.under_way && not (nat_lt leader self.old.id)) }
-        ensures rooms { (self.old.under_way && nat_lt leader self.old.id) ≡ false
+        ensures rooms { gives_up self.old leader ≡ false
             → HasRooms mine self.old → HasRooms mine self.new }
-        ensures evidence { (self.old.under_way && nat_lt leader self.old.id) ≡ false
+        ensures evidence { gives_up self.old leader ≡ false
             → ExplainsAt self.old.config self.old.id mine self.old.place
             → ExplainsAt self.new.config self.new.id mine self.new.place }
         ensures rests { leads_at self.new.place
             ≡ (leads_at self.old.place && not (nat_lt leader self.old.id)) }
+        ensures raises { gives_up self.old leader ≡ false
+            → RaisesAt self.old.config self.old.id mine self.old.place
+            → RaisesAt self.new.config self.new.id mine self.new.place }
     {
         self.named = leader == self.id;
         self.failed = bits_of(failed);
         let led = self.under_way;
-        if leader < self.id {
+        if (led || self.is_leading()) && leader < self.id {
             self.under_way = false;
             self.place = Place::Ask(0);
         }
@@ -251,6 +258,7 @@ impl Lead {
         ensures stands { TakesNext mine self.old known.now answer self.new }
         ensures rooms { RoomsNext mine self.old known.now answer self.new }
         ensures evidence { ExplainsNext mine self.old answer self.new }
+        ensures raises { RaisesNext mine self.old known.now answer self.new }
         ensures tells { TellsNext mine self.old known.now answer result }
         ensures config { self.new.config ≡ self.old.config }
         ensures id { self.new.id ≡ self.old.id }
@@ -271,6 +279,7 @@ impl Lead {
         ensures stands { TakesDue self.old known.now answer self.new }
         ensures rooms { RoomsDue self.old known.now answer self.new }
         ensures evidence { ExplainsDue self.old answer self.new }
+        ensures raises { RaisesDue self.old known.now answer self.new }
         ensures tells { TellsDue self.old known.now answer result }
         ensures config { self.new.config ≡ self.old.config }
         ensures id { self.new.id ≡ self.old.id }

@@ -3,6 +3,7 @@
 
 ghost use Rattle.mu_lead.specs.Beside.{OthersKeep};
 ghost use Rattle.mu_lead.specs.Evidence.{EvidenceComesInTime};
+ghost use Rattle.mu_lead.specs.Raising.{RaisesComeInTime};
 ghost use Rattle.mu_lead.specs.Rooms.{OthersKeepRooms, RoomsAreInTime};
 
 mod answering;
@@ -42,4 +43,9 @@ pub fn rooms_are_in_time()
 /// Each put that missed is explained in time, also beside what the other machines do.
 pub fn evidence_comes_in_time()
     ensures { EvidenceComesInTime }
+{}
+
+/// After a commit each FUO is raised in time, also beside what the other machines do.
+pub fn raises_come_in_time()
+    ensures { RaisesComeInTime }
 {}

@@ -26,6 +26,7 @@ ghost use Rattle.mu_model.specs.Bounds.{members};
 ghost use Rattle.mu_pace.specs.Weights.{Stage};
 ghost use Rattle.mu_lead.specs.Onward.{IsNextStranger, MayGoOn};
 ghost use Rattle.mu_pace.specs.Members.{IsNextMember, members_from};
+ghost use Rattle.mu_lead.specs.Raising.{KeepsRaises};
 ghost use Rattle.mu_lead.specs.Rooms.{IsLed, KeepsRooms, KeepsUntaught, RoomsAt};
 
 use crate::arrays::{with_fuo, with_number};
@@ -400,6 +401,9 @@ impl Lead {
               answer = SomeAnswer.Done;
             })
             known.now offer result }
+        ensures raises { KeepsRaises self.old (SomePlace.Put p offer) known.now
+            (SomeVerb.PutSlot p (length known.now) self.old.number offer.value) SomeAnswer.Done
+            self.new }
         ensures config { self.new.config ≡ self.old.config }
         ensures id { self.new.id ≡ self.old.id }
         ensures note { NotesPut (length known.now) offer result }
@@ -425,25 +429,6 @@ impl Lead {
         }
     }
 
-    /// Up to where each region has what is known, where the members have all below `u`.
-    fn brought_to(&self, u: u64) -> [u64; 7]
-        ensures long { length result ≡ length self.now.up }
-        ensures members { (mine : List SomeEvent) → (p : ℕ) → p < 7 → length self.now.up ≡ 7
-            → StandsForLeadership self.now.id mine self.now.leading
-            → is_member self.now.id p mine ≡ true → get_or result p 0 ≡ u }
-        ensures others { (mine : List SomeEvent) → (p : ℕ)
-            → StandsForLeadership self.now.id mine self.now.leading
-            → is_member self.now.id p mine ≡ false → get_or result p 0 ≡ get_or self.now.up p 0 }
-    {
-        let mut up = self.up;
-        for p in 0..7u8 {
-            if self.leading.is_member(p) {
-                up[usize::from(p)] = u;
-            }
-        }
-        up
-    }
-
     /// The FUO of `p` was raised over what was committed.
     pub fn took_raise(&mut self, p: u8, known: &[u16]) -> Note
         ensures stands { Takes self.old (SomePlace.Raise p) known.now (SomeVerb.RaiseFuo p (length known.now))
@@ -451,6 +436,8 @@ impl Lead {
         ensures rooms { KeepsRooms self.old (SomePlace.Raise p) known.now
             (SomeVerb.RaiseFuo p (length known.now)) SomeAnswer.Done self.new }
         ensures quiet { value_committed result ≡ None }
+        ensures raises { KeepsRaises self.old (SomePlace.Raise p) known.now
+            (SomeVerb.RaiseFuo p (length known.now)) SomeAnswer.Done self.new }
         ensures config { self.new.config ≡ self.old.config }
         ensures id { self.new.id ≡ self.old.id }
         ensures note { result ≡ SomeNote.Working }

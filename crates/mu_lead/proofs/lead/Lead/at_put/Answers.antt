@@ -15,6 +15,10 @@ use Rattle.mu_lead.proofs.Telling.{put_tells}
 use Rattle.mu_lead.specs.Rooms.{HasRooms}
 use Rattle.mu_pace.specs.Weights.{Stage}
 use Rattle.mu_pace.specs.Members.{members_from}
+use Rattle.mu_model.specs.Knowledge.{commits}
+use Rattle.mu_pace.proofs.Beside.{not_more}
+use Rattle.mu_lead.specs.Raising.{RaisesAt}
+use Rattle.mu_lead.proofs.Raises.{raised_anywhere, raised_on}
 use Rattle.mu_lead.proofs.lead.Lead.at_put.Goals as goal
 
 pub returns-in_default-clause-stands : goal.returns-in_default-clause-stands
@@ -79,3 +83,19 @@ returns-in-Missed-clause-missed c = λ missed. c.missed_slot.ensures.missed
 
 pub returns-in_default-clause-missed : goal.returns-in_default-clause-missed
 returns-in_default-clause-missed c = λ missed. absurd (c.in_default.not-Missed missed)
+
+pub returns-in_default-clause-raises : goal.returns-in_default-clause-raises
+returns-in_default-clause-raises c = λ mine s is possible told turn raised.
+    let l = c.args.self.now in
+    let v = Verb.PutSlot c.args.p (length c.args.known.now) l.number c.args.offer.value in
+    elim (puts_slot_or l.config l.id c.args.p (length c.args.known.now) l.number c.args.offer.value c.args.answer mine possible) [
+      | inl done ↦ subst (λ a. RaisesAt l.config l.id (event_by l.id v a ∷ mine) c.took_put.new.self.place) (sym done) (c.took_put.ensures.raises mine s is (subst (λ a. IsPossible l.config l.id (event_by l.id v a ∷ mine)) done possible) told turn raised)
+      | inr missed ↦ absurd (c.in_default.not-Missed missed)
+    ]
+
+pub returns-in-Missed-clause-raises : goal.returns-in-Missed-clause-raises
+returns-in-Missed-clause-raises c = λ mine s is possible told turn raised.
+    let l = c.args.self.now in
+    let v = Verb.PutSlot c.args.p (length c.args.known.now) l.number c.args.offer.value in
+    subst (λ a. RaisesAt l.config l.id (event_by l.id v a ∷ mine) c.missed_slot.new.self.place) (sym c.in-Missed.is)
+    (raised_anywhere l.config l.id (event_by l.id v Answer.Missed ∷ mine) c.missed_slot.new.self.place (raised_on l.config l.id mine (event_by l.id v Answer.Missed) (not_more (length (commits l.config l.id mine))) raised))

@@ -1,6 +1,5 @@
-use Rattle.std.proofs.Common.{ap, arith, false, length, sym, true, ◌+◌, ◌<◌, ◌∙◌, ◌≡◌, ◌≤◌}
-use Rattle.mu_model.specs.Contents.{holds_all, row_count}
-use Rattle.mu_model.specs.Knowledge.{known}
+use Rattle.std.proofs.Common.{ap, arith, length, sym, ◌+◌, ◌<◌, ◌∙◌, ◌≤◌}
+use Rattle.mu_model.specs.Contents.{row_count}
 use Rattle.mu_model.specs.Room.{reserve}
 use Rattle.mu_lead.specs.Leading.{end_of}
 use Rattle.mu_lead.proofs.Rests.{knows_is, no_end, rests}

@@ -9,7 +9,6 @@ use Rattle.mu_lead.proofs.Bringing.{none_behind}
 use Rattle.mu_lead.proofs.RoomsBrought.{level_brought}
 use Rattle.mu_lead.proofs.RoomsReading.{rooms_brings, rooms_learns, rooms_level, rooms_next_fuo}
 use Rattle.mu_lead.specs.declared.place.Then.{Then}
-use Rattle.std.proofs.Common.{Some}
 use Rattle.mu_lead.proofs.lead.Lead.took_fuo.Goals as goal
 
 pub returns-clause-stands : goal.returns-clause-stands

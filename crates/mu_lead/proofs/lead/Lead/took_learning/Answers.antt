@@ -4,7 +4,7 @@ use Rattle.mu_lead.proofs.Keeping.{leading_calm, leads_kept}
 use Rattle.mu_lead.proofs.Bringing.{look_event}
 use Rattle.mu_lead.proofs.Sights.{outrun_by}
 use Rattle.mu_lead.proofs.Tables.{tables_kept}
-use Rattle.std.proofs.Common.{arith, ◌<◌}
+use Rattle.std.proofs.Common.{arith}
 use Rattle.mu_lead.specs.declared.place.Then.{Then}
 use Rattle.mu_lead.proofs.Bringing.{none_behind}
 use Rattle.mu_lead.proofs.RoomsBrought.{level_brought}

@@ -5,7 +5,6 @@ use Rattle.mu_model.specs.declared.event.Answer.{Answer}
 use Rattle.mu_lead.proofs.Keeping.{leading_calm, leads_kept, raise_event, raised_now, reached_raised, tables_reach}
 use Rattle.mu_lead.proofs.Bringing.{all_done, done_behind, raised_behind}
 use Rattle.mu_lead.proofs.Tables.{tables_kept}
-use Rattle.mu_lead.specs.declared.place.Then.{Then}
 use Rattle.mu_lead.specs.declared.place.Place.{Place}
 use Rattle.mu_lead.specs.Rooms.{IsPlaced}
 use Rattle.mu_lead.proofs.Bringing.{none_behind}

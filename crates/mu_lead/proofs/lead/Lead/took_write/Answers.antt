@@ -8,7 +8,7 @@ use Rattle.mu_model.specs.Contents.{rest_of}
 use Rattle.mu_model.specs.Contents.{config_word}
 use Rattle.mu_lead.proofs.RoomsWriting.{one_word, rooms_last_word, rooms_next_word}
 use Rattle.mu_lead.specs.Rooms.{words_left}
-use Rattle.std.proofs.Common.{◌-◌, ◌≤◌}
+use Rattle.std.proofs.Common.{◌-◌}
 use Rattle.mu_lead.proofs.lead.Lead.took_write.Goals as goal
 
 pub returns-clause-stands : goal.returns-clause-stands

@@ -9,9 +9,9 @@ use Rattle.mu_model.specs.Contents.{is_batch, rest_of}
 use Rattle.mu_lead.specs.Leading.{end_of}
 use Rattle.mu_lead.specs.Offering.{LooksShow}
 use Rattle.mu_lead.proofs.RoomsWriting.{skip_full, some_words}
-use Rattle.mu_lead.specs.Rooms.{IsLed, words_left}
+use Rattle.mu_lead.specs.Rooms.{IsLed}
 use Rattle.mu_pace.specs.Weights.{Stage}
-use Rattle.std.proofs.Common.{ℕ, ◌-◌, ◌≤◌}
+use Rattle.std.proofs.Common.{◌-◌}
 use Rattle.std.proofs.lemmas.Bool.{and_parts}
 use Rattle.std.specs.Prelude.{nat_le}
 use Rattle.mu_model.specs.Histories.{count_below}

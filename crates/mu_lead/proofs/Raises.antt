@@ -1,0 +1,157 @@
+-- The count of steps after a commit, step by step.
+use Rattle.std.proofs.Common.{◌≡◌, ℕ, ◌<◌, ◌≤◌, Bool, true, false, ◌&&◌, ◌==◌, List, ◌∷◌, length, None, Some, refl, sym, ◌∙◌, ap, subst, arith, true≢false}
+use Rattle.std.specs.Prelude.{if◌then◌else◌, nat_le, nat_lt}
+use Rattle.std.specs.declared.option.Option.{Option}
+use Rattle.std.proofs.lemmas.Bool.{le-leb, ne_eqb}
+use Rattle.mu_model.specs.declared.config.Config.{Config}
+use Rattle.mu_model.specs.declared.event.Answer.{Answer}
+use Rattle.mu_model.specs.declared.event.Event.{Event}
+use Rattle.mu_model.specs.declared.event.Verb.{Verb}
+use Rattle.mu_model.specs.Bounds.{members}
+use Rattle.mu_model.specs.Knowledge.{commits, grown, known}
+use Rattle.mu_model.specs.Leaderships.{is_member}
+use Rattle.mu_model.specs.Parts.{IsPossible}
+use Rattle.mu_model.specs.Steps.{commits_more}
+use Rattle.mu_model.specs.Stretches.{is_replication}
+use Rattle.mu_model.proofs.Basics.{event_by, same_number}
+use Rattle.mu_pace.specs.Countdowns.{AreRaisedBelow}
+use Rattle.mu_pace.specs.Counters.{IsInTime}
+use Rattle.mu_pace.specs.Members.{IsNextMember, members_from}
+use Rattle.mu_pace.specs.Watches.{raising}
+use Rattle.mu_pace.proofs.Beside.{not_more, unallowed}
+use Rattle.mu_pace.proofs.Countdowns.{countdowns_run}
+use Rattle.mu_pace.proofs.Members.{counts_of_members}
+use Rattle.mu_pace.proofs.Rooms.{kinds_of_step}
+use Rattle.mu_lead.specs.declared.lead.Lead.{Lead}
+use Rattle.mu_lead.specs.declared.place.Place.{Place}
+use Rattle.mu_lead.specs.Beside.{is_beside, leads_at}
+use Rattle.mu_lead.specs.Leading.{end_of}
+use Rattle.mu_lead.specs.Raising.{IsRaisedEverywhere, KeepsRaises, RaisesAt, RaisesComeInTime, RaisesDue}
+use Rattle.mu_lead.specs.Standing.{At, StandsFor, known_told}
+use Rattle.mu_lead.proofs.Puts.{member_within}
+use Rattle.mu_lead.proofs.Taking.{HasVerb, verb_is}
+
+-- no FUO is raised over a commit at the place
+abbrev pub is_raising : Place → Bool
+is_raising (Place.Raise p) = true
+is_raising place = false
+
+raised_at : (c : Config) (r : ℕ) (mine : List Event) (place : Place) → is_raising place ≡ false → RaisesAt c r mine place → IsRaisedEverywhere c r mine
+raised_at c r mine (Place.Raise p) none at = absurd (true≢false none)
+raised_at c r mine place none at = at
+
+pub raised_anywhere : (c : Config) (r : ℕ) (mine : List Event) (place : Place) → IsRaisedEverywhere c r mine → RaisesAt c r mine place
+raised_anywhere c r mine (Place.Raise p) at = record { done = λ q low. at q; room = λ q. kinds_of_step.closed (raising c r q) (members_from c r p mine) mine (at q) }
+raised_anywhere c r mine place at = at
+
+-- a step that commits nothing
+pub raised_on : (c : Config) (r : ℕ) (mine : List Event) (e : Event) → commits_more c r mine e ≡ false → IsRaisedEverywhere c r mine → IsRaisedEverywhere c r (e ∷ mine)
+raised_on c r mine e none at q = countdowns_run.raises.quiet c r q mine e none (at q)
+
+-- a put at a position that is known commits nothing
+known_slot : (xs : List (ℕ × ℕ)) (x : ℕ × ℕ) (a b all : Bool) → b ≡ false → nat_lt (length xs) (length (grown xs (if a && (b && all) then Some x else None))) ≡ false
+known_slot xs x true b all h = rw h (not_more (length xs))
+known_slot xs x false b all h = not_more (length xs)
+
+pub copy_commits_none : (c : Config) (r p i b v : ℕ) (a : Answer) (mine : List Event) → i < end_of c r mine → commits_more c r mine (event_by r (Verb.PutSlot p i b v) a) ≡ false
+copy_commits_none c r p i b v Answer.Done mine low = known_slot (commits c r mine) (i, v) (r == r) (i == length (known c r mine)) _ (ne_eqb i (length (known c r mine)) (λ same. omega (arith, low, same)))
+copy_commits_none c r p i b v a mine low = not_more (length (commits c r mine))
+
+-- a place whose verb commits nothing
+pub raises_plain : (old new : Lead) (place : Place) (values : List ℕ) (vf : List ℕ → Verb) (answer : Answer) → old.place ≡ place → HasVerb old place vf → is_raising place ≡ false
+    → ((mine : List Event) (xs : List ℕ) → commits_more old.config old.id mine (event_by old.id (vf xs) answer) ≡ false) → RaisesDue old values answer new
+raises_plain old new place values vf answer at is plain none mine verb s due possible told turn raised =
+    let same = verb_is old place vf verb (known old.config old.id mine) at is due in
+    raised_anywhere old.config old.id (event_by old.id verb answer ∷ mine) new.place
+    (raised_on old.config old.id mine (event_by old.id verb answer) (subst (λ w. commits_more old.config old.id mine (event_by old.id w answer) ≡ false) same (none mine (known old.config old.id mine)))
+    (raised_at old.config old.id mine old.place (ap is_raising at ∙ plain) raised))
+
+-- the place that brings a region what it lacks
+pub raises_behind : (old new : Lead) (place : Place) (values : List ℕ) (i : ℕ) (v : List ℕ → ℕ) (b p : ℕ) (answer : Answer) → old.place ≡ place → HasVerb old place (λ xs. Verb.PutSlot p i b (v xs)) → is_raising place ≡ false
+    → ((mine : List Event) → StandsFor mine old → i < end_of old.config old.id mine) → RaisesDue old values answer new
+raises_behind old new place values i v b p answer at is plain low mine verb s due possible told turn raised =
+    let same = verb_is old place (λ xs. Verb.PutSlot p i b (v xs)) verb (known old.config old.id mine) at is due in
+    raised_anywhere old.config old.id (event_by old.id verb answer ∷ mine) new.place
+    (raised_on old.config old.id mine (event_by old.id verb answer) (subst (λ w. commits_more old.config old.id mine (event_by old.id w answer) ≡ false) same (copy_commits_none old.config old.id p i b (v (known old.config old.id mine)) answer mine (low mine s)))
+    (raised_at old.config old.id mine old.place (ap is_raising at ∙ plain) raised))
+
+-- a place that keeps them by its own clause
+pub raises_known : (old new : Lead) (place : Place) (values : List ℕ) (vf : List ℕ → Verb) (answer : Answer) → old.place ≡ place → HasVerb old place vf
+    → ((mine : List Event) (xs : List ℕ) → known_told old.config old.id mine old.id (vf xs) answer ≡ known old.config old.id mine) → KeepsRaises old place values (vf values) answer new → RaisesDue old values answer new
+raises_known old new place values vf answer at is quiet keeps mine verb s due possible told turn raised =
+    let same = verb_is old place vf verb (known old.config old.id mine) at is due in
+    let known_is : values ≡ known old.config old.id mine = subst (λ w. values ≡ known_told old.config old.id mine old.id w answer) (sym same) told ∙ quiet mine (known old.config old.id mine) in
+    let verb_now : vf values ≡ verb = ap vf known_is ∙ same in
+    subst (λ w. RaisesAt old.config old.id (event_by old.id w answer ∷ mine) new.place) verb_now
+    (keeps mine s at (subst (λ w. IsPossible old.config old.id (event_by old.id w answer ∷ mine)) (sym verb_now) possible) (known_is ∙ sym (quiet mine values)) (subst (λ w. is_replication mine (event_by old.id w answer) ≡ true) (sym verb_now) turn) (subst (RaisesAt old.config old.id mine) at raised))
+
+-- a commit: the first member is next
+pub raises_committed : (c : Config) (r q : ℕ) (mine : List Event) (e : Event) → commits_more c r mine e ≡ true → ((k : ℕ) → k < q → is_member r k (e ∷ mine) ≡ false) → IsRaisedEverywhere c r mine → RaisesAt c r (e ∷ mine) (Place.Raise q)
+raises_committed c r q mine e more below at =
+    let none = counts_of_members.none_below c r q (e ∷ mine) below in
+    let all = counts_of_members.all c r q (e ∷ mine) in
+    let same : members c r (e ∷ mine) ≡ members_from c r q (e ∷ mine) = omega (arith, none, all) in
+    subst (λ n. AreRaisedBelow c r q n (e ∷ mine)) same (countdowns_run.raises.commit c r q mine e more at below)
+
+-- the FUO of p was raised to all that is known
+raise_full : (p u n : ℕ) → n ≤ u → ((p == p) && nat_le n u) ≡ true
+raise_full p u n low = rw (same_number p) (le-leb n u low)
+
+-- the next member's is
+pub raises_member : (c : Config) (r p q u : ℕ) (mine : List Event) → is_replication mine (event_by r (Verb.RaiseFuo p u) Answer.Done) ≡ true → length (known c r mine) ≤ u → IsNextMember c r p q mine → RaisesAt c r mine (Place.Raise p)
+    → RaisesAt c r (event_by r (Verb.RaiseFuo p u) Answer.Done ∷ mine) (Place.Raise q)
+raises_member c r p q u mine turn full next at =
+    let one = counts_of_members.next c r p q mine next in
+    countdowns_run.raises.raise c r p q (members_from c r q mine) mine (event_by r (Verb.RaiseFuo p u) Answer.Done) (subst (λ n. AreRaisedBelow c r p n mine) one at) turn (raise_full p u (length (known c r mine)) full) (not_more (length (commits c r mine))) next.between
+
+-- or every member's was
+pub raises_last : (c : Config) (r p u : ℕ) (place : Place) (mine : List Event) → IsPossible c r (event_by r (Verb.RaiseFuo p u) Answer.Done ∷ mine) → is_replication mine (event_by r (Verb.RaiseFuo p u) Answer.Done) ≡ true → length (known c r mine) ≤ u → p < c.replicas → is_member r p mine ≡ true
+    → ((k : ℕ) → p < k → k < c.replicas → is_member r k mine ≡ false) → RaisesAt c r mine (Place.Raise p) → RaisesAt c r (event_by r (Verb.RaiseFuo p u) Answer.Done ∷ mine) place
+raises_last c r p u place mine possible turn full region member none at =
+    let e = event_by r (Verb.RaiseFuo p u) Answer.Done in
+    let next : IsNextMember c r p c.replicas mine = record { there = region; member = member; above = region; between = none } in
+    let one = counts_of_members.next c r p c.replicas mine next in
+    raised_anywhere c r (e ∷ mine) place
+    (countdowns_run.raises.all c r c.replicas (members_from c r c.replicas mine) (e ∷ mine)
+    (countdowns_run.raises.raise c r p c.replicas (members_from c r c.replicas mine) mine e (subst (λ n. AreRaisedBelow c r p n mine) one at) turn (raise_full p u (length (known c r mine)) full) (not_more (length (commits c r mine))) none)
+    (λ k high. beyond k high (is_member r k (e ∷ mine)) refl))
+  where
+    beyond : (k : ℕ) → c.replicas ≤ k → (t : Bool) → is_member r k (event_by r (Verb.RaiseFuo p u) Answer.Done ∷ mine) ≡ t → is_member r k (event_by r (Verb.RaiseFuo p u) Answer.Done ∷ mine) ≡ false
+    beyond k high true there = absurd (let low = member_within c r k (event_by r (Verb.RaiseFuo p u) Answer.Done ∷ mine) possible there in omega (arith, low, high))
+    beyond k high false there = there
+
+-- what another machine does in the background
+raised_beside : (c : Config) (r p q : ℕ) (leading : Bool) (verb : Verb) (answer : Answer) (mine : List Event) → is_beside leading verb ≡ true → (members_from c r p (event_by r verb answer ∷ mine) ≡ members_from c r p mine) × (commits_more c r mine (event_by r verb answer) ≡ false)
+raised_beside c r p q leading (Verb.Ask k) answer mine beside = absurd (true≢false (sym beside))
+raised_beside c r p q leading (Verb.Fence k) answer mine beside = absurd (true≢false (sym beside))
+raised_beside c r p q leading (Verb.Min k) answer mine beside = absurd (true≢false (sym beside))
+raised_beside c r p q leading (Verb.Enter k t) answer mine beside = absurd (true≢false (sym beside))
+raised_beside c r p q leading (Verb.PutMin k b) answer mine beside = absurd (true≢false (sym beside))
+raised_beside c r p q leading (Verb.PutSlot k i b v) answer mine beside = absurd (true≢false (sym beside))
+raised_beside c r p q leading verb answer mine beside = (refl, not_more (length (commits c r mine)))
+
+and_false : (a b : Bool) → a ≡ false → (a && b) ≡ false
+and_false true b h = absurd (true≢false h)
+and_false false b h = refl
+
+raises_beside : (c : Config) (r : ℕ) (mine : List Event) (leading : Bool) (place : Place) (verb : Verb) (answer : Answer) → is_replication mine (event_by r verb answer) ≡ false → is_beside leading verb ≡ true → RaisesAt c r mine place → RaisesAt c r (event_by r verb answer ∷ mine) place
+raises_beside c r mine leading (Place.Raise p) verb answer off beside at =
+    let same = raised_beside c r p p leading verb answer mine beside in
+    record {
+      done = λ q low. countdowns_run.raises.quiet c r q mine (event_by r verb answer) same.1 (at.done q low);
+      room = λ q. kinds_of_step.stays (raising c r q) (members_from c r p mine) (members_from c r p (event_by r verb answer ∷ mine)) mine (event_by r verb answer)
+          (unallowed (λ past e. commits_more c r past e && is_member r q (e ∷ past)) (members c r) mine (event_by r verb answer) (and_false (commits_more c r mine (event_by r verb answer)) (is_member r q (event_by r verb answer ∷ mine)) same.1))
+          off (let is = same.0 in omega (arith, is)) (at.room q);
+    }
+raises_beside c r mine leading place verb answer off beside at = raised_on c r mine (event_by r verb answer) (raised_beside c r 0 0 leading verb answer mine beside).1 at
+
+raised_in_time : (c : Config) (r b : ℕ) (mine : List Event) (up : List ℕ) (reach : List (Option ℕ)) (written : List ℕ) (place : Place) → At c r b mine up reach written place → RaisesAt c r mine place → (p : ℕ) → IsInTime (raising c r p) mine
+raised_in_time c r b mine up reach written (Place.Raise p) stands at q = kinds_of_step.less (raising c r q) (members_from c r p mine) 1 mine (counts_of_members.some c r p mine stands.region stands.member) (at.room q)
+raised_in_time c r b mine up reach written place stands at q = kinds_of_step.closed (raising c r q) 1 mine (at q)
+
+pub raises_come_in_time : RaisesComeInTime
+raises_come_in_time = record {
+  start = λ c r q. refl;
+  beside = λ c r mine place verb answer. raises_beside c r mine (leads_at place) place verb answer;
+  in_time = λ mine lead s at. raised_in_time lead.config lead.id lead.number mine lead.up lead.reach lead.written.items lead.place s.at at;
+}

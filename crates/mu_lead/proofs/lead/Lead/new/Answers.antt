@@ -1,0 +1,12 @@
+use Rattle.std.proofs.Common.{refl}
+use Rattle.mu_lead.proofs.RoomsInTime.{rooms_are_in_time}
+use Rattle.mu_lead.proofs.lead.Lead.new.Goals as goal
+
+pub returns-clause-rooms : goal.returns-clause-rooms
+returns-clause-rooms c = ((λ first. rooms_are_in_time.start _ _), λ other. absurd (other refl))
+
+pub returns-clause-evidence : goal.returns-clause-evidence
+returns-clause-evidence c = λ q. refl
+
+pub returns-clause-raises : goal.returns-clause-raises
+returns-clause-raises c = λ q. refl
