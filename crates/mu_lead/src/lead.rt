@@ -112,16 +112,23 @@ impl Lead {
     {
         self.named = leader == self.id;
         self.failed = bits_of(failed);
-        let led = self.under_way;
-        if (led || self.is_leading()) && leader < self.id {
+        let resigns = self.under_way && leader < self.id;
+        if self.gives_up(leader) {
             self.under_way = false;
             self.place = Place::Ask(0);
         }
-        if led && leader < self.id {
+        if resigns {
             Note::Resigned { to: leader }
         } else {
             Note::Working
         }
+    }
+
+    /// Whether it gives up what it does where the scores name this replica.
+    fn gives_up(&self, leader: u8) -> bool
+        ensures { result ≡ gives_up self.now leader }
+    {
+        (self.under_way || self.is_leading()) && leader < self.id
     }
 
     /// Whether the replica leads: a leadership was confirmed, and isn't over or given up.

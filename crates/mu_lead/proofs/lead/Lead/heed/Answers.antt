@@ -1,0 +1,21 @@
+use Rattle.std.proofs.Common.{subst, sym, true, false, ◌≡◌, ◌∙◌}
+use Rattle.std.proofs.lemmas.Bool.{true≢false}
+use Rattle.mu_lead.specs.declared.lead.Lead.{Lead}
+use Rattle.mu_lead.specs.Evidence.{ExplainsAt}
+use Rattle.mu_lead.specs.Raising.{RaisesAt}
+use Rattle.mu_lead.proofs.lead.Lead.heed.Goals.{then-gives_up, else-gives_up}
+use Rattle.mu_lead.proofs.lead.Lead.heed.Goals as goal
+
+pub returns-else-resigns-clause-evidence : goal.returns-else-resigns-clause-evidence
+returns-else-resigns-clause-evidence g c keeps was =
+    elim c.if-gives_up.branch [
+      | then-gives_up w ↦ absurd (true≢false (sym w.if-gives_up.true ∙ c.gives_up.ensures ∙ keeps))
+      | else-gives_up w ↦ subst (λ (l : Lead). ExplainsAt l.config l.id g.mine l.place) (sym w.self-is) was
+    ]
+
+pub returns-else-resigns-clause-raises : goal.returns-else-resigns-clause-raises
+returns-else-resigns-clause-raises g c keeps was =
+    elim c.if-gives_up.branch [
+      | then-gives_up w ↦ absurd (true≢false (sym w.if-gives_up.true ∙ c.gives_up.ensures ∙ keeps))
+      | else-gives_up w ↦ subst (λ (l : Lead). RaisesAt l.config l.id g.mine l.place) (sym w.self-is) was
+    ]
