@@ -60,6 +60,8 @@ impl Lead {
         ensures stands { IfOk result (λ lead. StandsFor [] lead) }
         ensures config { IfOk result (λ lead. lead.config ≡ config.now) }
         ensures id { IfOk result (λ lead. lead.id ≡ id) }
+        ensures unnamed { IfOk result (λ lead. lead.named ≡ false) }
+        ensures idle { IfOk result (λ lead. lead.under_way ≡ false) }
     {
         Ok(Lead {
             config: config.copied(alloc)?,
