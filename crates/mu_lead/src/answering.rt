@@ -59,6 +59,7 @@ impl Lead {
         ensures quiet { value_committed result ≡ None }
         ensures config { self.new.config ≡ self.old.config }
         ensures id { self.new.id ≡ self.old.id }
+        ensures named { self.new.named ≡ self.old.named }
         ensures note { NotesRound self.old p answer result }
         ensures going { self.new.under_way ≡ going_after self.old.under_way result }
     {
@@ -75,6 +76,7 @@ impl Lead {
         ensures quiet { value_committed result ≡ None }
         ensures config { self.new.config ≡ self.old.config }
         ensures id { self.new.id ≡ self.old.id }
+        ensures named { self.new.named ≡ self.old.named }
         ensures note { result ≡ SomeNote.Working }
         ensures going { self.new.under_way ≡ going_after self.old.under_way result }
     {
@@ -92,6 +94,7 @@ impl Lead {
         ensures quiet { value_committed result ≡ None }
         ensures config { self.new.config ≡ self.old.config }
         ensures id { self.new.id ≡ self.old.id }
+        ensures named { self.new.named ≡ self.old.named }
         ensures note { NotesEnter p answer result }
         ensures going { self.new.under_way ≡ going_after self.old.under_way result }
     {
@@ -109,6 +112,7 @@ impl Lead {
         ensures quiet { value_committed result ≡ None }
         ensures config { self.new.config ≡ self.old.config }
         ensures id { self.new.id ≡ self.old.id }
+        ensures named { self.new.named ≡ self.old.named }
         ensures note { result ≡ SomeNote.Working }
         ensures going { self.new.under_way ≡ going_after self.old.under_way result }
     {
@@ -124,6 +128,7 @@ impl Lead {
         ensures quiet { value_committed result ≡ None }
         ensures config { self.new.config ≡ self.old.config }
         ensures id { self.new.id ≡ self.old.id }
+        ensures named { self.new.named ≡ self.old.named }
         ensures note { result ≡ SomeNote.Working }
         ensures going { self.new.under_way ≡ going_after self.old.under_way result }
     {
@@ -143,6 +148,7 @@ impl Lead {
         ensures quiet { value_committed result ≡ None }
         ensures config { self.new.config ≡ self.old.config }
         ensures id { self.new.id ≡ self.old.id }
+        ensures named { self.new.named ≡ self.old.named }
         ensures note { NotesEnter p answer result }
         ensures going { self.new.under_way ≡ going_after self.old.under_way result }
     {
@@ -161,6 +167,7 @@ impl Lead {
         ensures quiet { value_committed result ≡ None }
         ensures config { self.new.config ≡ self.old.config }
         ensures id { self.new.id ≡ self.old.id }
+        ensures named { self.new.named ≡ self.old.named }
         ensures note { result ≡ SomeNote.Working }
         ensures going { self.new.under_way ≡ going_after self.old.under_way result }
     {
@@ -178,6 +185,7 @@ impl Lead {
         ensures quiet { value_committed result ≡ None }
         ensures config { self.new.config ≡ self.old.config }
         ensures id { self.new.id ≡ self.old.id }
+        ensures named { self.new.named ≡ self.old.named }
         ensures note { (is_working_or_lost result ≡ true) × NotesOver self.old p answer result }
         ensures going { self.new.under_way ≡ going_after self.old.under_way result }
     {
@@ -193,6 +201,7 @@ impl Lead {
         ensures quiet { value_committed result ≡ None }
         ensures config { self.new.config ≡ self.old.config }
         ensures id { self.new.id ≡ self.old.id }
+        ensures named { self.new.named ≡ self.old.named }
         ensures note { result ≡ SomeNote.Working }
         ensures going { self.new.under_way ≡ going_after self.old.under_way result }
     {
@@ -209,6 +218,7 @@ impl Lead {
         ensures quiet { value_committed result ≡ None }
         ensures config { self.new.config ≡ self.old.config }
         ensures id { self.new.id ≡ self.old.id }
+        ensures named { self.new.named ≡ self.old.named }
         ensures note { NotesMin p self.old.number answer result }
         ensures going { self.new.under_way ≡ going_after self.old.under_way result }
     {
@@ -224,6 +234,7 @@ impl Lead {
         ensures quiet { value_committed result ≡ None }
         ensures config { self.new.config ≡ self.old.config }
         ensures id { self.new.id ≡ self.old.id }
+        ensures named { self.new.named ≡ self.old.named }
         ensures note { result ≡ SomeNote.Working }
         ensures going { self.new.under_way ≡ going_after self.old.under_way result }
     {
@@ -241,6 +252,7 @@ impl Lead {
         ensures quiet { value_committed result ≡ None }
         ensures config { self.new.config ≡ self.old.config }
         ensures id { self.new.id ≡ self.old.id }
+        ensures named { self.new.named ≡ self.old.named }
         ensures note { NotesEnter p answer result }
         ensures going { self.new.under_way ≡ going_after self.old.under_way result }
     {
@@ -257,6 +269,7 @@ impl Lead {
         ensures quiet { value_committed result ≡ None }
         ensures config { self.new.config ≡ self.old.config }
         ensures id { self.new.id ≡ self.old.id }
+        ensures named { self.new.named ≡ self.old.named }
         ensures note { length self.old.up ≡ 7
             → NotesJoin p (nat_lt (get_or self.old.up p 0) (length known.now)) answer result }
         ensures going { self.new.under_way ≡ going_after self.old.under_way result }
@@ -286,6 +299,7 @@ impl Lead {
         ensures quiet { value_committed result ≡ None }
         ensures config { self.new.config ≡ self.old.config }
         ensures id { self.new.id ≡ self.old.id }
+        ensures named { self.new.named ≡ self.old.named }
         ensures note { NotesHead self.old q known.now answer result }
         ensures going { self.new.under_way ≡ going_after self.old.under_way result }
     {
@@ -303,6 +317,7 @@ impl Lead {
         ensures quiet { value_committed result ≡ None }
         ensures config { self.new.config ≡ self.old.config }
         ensures id { self.new.id ≡ self.old.id }
+        ensures named { self.new.named ≡ self.old.named }
         ensures note { NotesEnter p answer result }
         ensures going { self.new.under_way ≡ going_after self.old.under_way result }
     {
@@ -338,6 +353,7 @@ impl Lead {
             ≡ grown known.now (value_committed result) }
         ensures config { self.new.config ≡ self.old.config }
         ensures id { self.new.id ≡ self.old.id }
+        ensures named { self.new.named ≡ self.old.named }
         ensures note { NotesPut (length known.now) offer result }
         ensures going { self.new.under_way ≡ going_after self.old.under_way result }
     {
@@ -354,6 +370,7 @@ impl Lead {
         ensures quiet { value_committed result ≡ None }
         ensures config { self.new.config ≡ self.old.config }
         ensures id { self.new.id ≡ self.old.id }
+        ensures named { self.new.named ≡ self.old.named }
         ensures note { NotesEvidence p answer result }
         ensures going { self.new.under_way ≡ going_after self.old.under_way result }
     {

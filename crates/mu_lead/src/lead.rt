@@ -241,6 +241,7 @@ impl Lead {
         ensures tells { TellsNext mine self.old known.now answer result }
         ensures config { self.new.config ≡ self.old.config }
         ensures id { self.new.id ≡ self.old.id }
+        ensures named { self.new.named ≡ self.old.named }
         ensures says { SaysNext mine self.old known.now answer result }
         ensures going { self.new.under_way ≡ going_after (begins_at self.old.place || self.old.under_way) result }
     {
@@ -259,6 +260,7 @@ impl Lead {
         ensures tells { TellsDue self.old known.now answer result }
         ensures config { self.new.config ≡ self.old.config }
         ensures id { self.new.id ≡ self.old.id }
+        ensures named { self.new.named ≡ self.old.named }
         ensures note { NotesDue self.old known.now answer result }
         ensures going { self.new.under_way ≡ going_after (begins_at self.old.place || self.old.under_way) result }
     {

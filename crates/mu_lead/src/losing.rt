@@ -25,6 +25,7 @@ impl Lead {
         ensures quiet { value_committed result ≡ None }
         ensures config { self.new.config ≡ self.old.config }
         ensures id { self.new.id ≡ self.old.id }
+        ensures named { self.new.named ≡ self.old.named }
         ensures going { self.new.under_way ≡ going_after self.old.under_way result }
     {
         let event = Event {
@@ -45,6 +46,7 @@ impl Lead {
         ensures quiet { value_committed result ≡ None }
         ensures config { self.new.config ≡ self.old.config }
         ensures id { self.new.id ≡ self.old.id }
+        ensures named { self.new.named ≡ self.old.named }
         ensures going { self.new.under_way ≡ going_after self.old.under_way result }
     {
         let event = Event {
@@ -64,6 +66,7 @@ impl Lead {
         ensures quiet { value_committed result ≡ None }
         ensures config { self.new.config ≡ self.old.config }
         ensures id { self.new.id ≡ self.old.id }
+        ensures named { self.new.named ≡ self.old.named }
         ensures note { result ≡ SomeNote.Aborted (SomeCause.Lost p fence) }
         ensures going { self.new.under_way ≡ going_after self.old.under_way result }
     {
@@ -79,6 +82,7 @@ impl Lead {
         ensures quiet { value_committed result ≡ None }
         ensures config { self.new.config ≡ self.old.config }
         ensures id { self.new.id ≡ self.old.id }
+        ensures named { self.new.named ≡ self.old.named }
         ensures note { result ≡ SomeNote.Aborted (SomeCause.Lost p fence) }
         ensures going { self.new.under_way ≡ going_after self.old.under_way result }
     {
@@ -93,6 +97,7 @@ impl Lead {
         ensures quiet { value_committed result ≡ None }
         ensures config { self.new.config ≡ self.old.config }
         ensures id { self.new.id ≡ self.old.id }
+        ensures named { self.new.named ≡ self.old.named }
         ensures note { result ≡ SomeNote.Working }
         ensures going { self.new.under_way ≡ going_after self.old.under_way result }
     {
@@ -115,6 +120,7 @@ impl Lead {
         ensures quiet { value_committed result ≡ None }
         ensures config { self.new.config ≡ self.old.config }
         ensures id { self.new.id ≡ self.old.id }
+        ensures named { self.new.named ≡ self.old.named }
         ensures note { result ≡ SomeNote.Working }
         ensures going { self.new.under_way ≡ going_after self.old.under_way result }
     {
