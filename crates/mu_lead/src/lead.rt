@@ -67,6 +67,8 @@ impl Lead {
         ensures rooms { IfOk result (λ lead. HasRooms [] lead) }
         ensures evidence { IfOk result (λ lead. ExplainsAt lead.config lead.id [] lead.place) }
         ensures raises { IfOk result (λ lead. RaisesAt lead.config lead.id [] lead.place) }
+        ensures unnamed { IfOk result (λ lead. lead.named ≡ false) }
+        ensures idle { IfOk result (λ lead. lead.under_way ≡ false) }
     {
         Ok(Lead {
             config: config.copied(alloc)?,
@@ -269,6 +271,7 @@ impl Lead {
         ensures tells { TellsNext mine self.old known.now answer result }
         ensures config { self.new.config ≡ self.old.config }
         ensures id { self.new.id ≡ self.old.id }
+        ensures named { self.new.named ≡ self.old.named }
         ensures says { SaysNext mine self.old known.now answer result }
         ensures going { self.new.under_way ≡ going_after (begins_at self.old.place || self.old.under_way) result }
     {
@@ -290,6 +293,7 @@ impl Lead {
         ensures tells { TellsDue self.old known.now answer result }
         ensures config { self.new.config ≡ self.old.config }
         ensures id { self.new.id ≡ self.old.id }
+        ensures named { self.new.named ≡ self.old.named }
         ensures note { NotesDue self.old known.now answer result }
         ensures going { self.new.under_way ≡ going_after (begins_at self.old.place || self.old.under_way) result }
     {
