@@ -1,33 +1,29 @@
 -- A node that isn't named reads its FUO, and learns or fetches what lies below it.
-use Rattle.std.proofs.Common.{◌≡◌, ◌∙◌, ◌≢◌, ℕ, zero, suc, ◌+◌, ◌-◌, ◌*◌, ◌/◌, ◌%◌, ◌<◌, ◌≤◌, ◌==◌, ◌&&◌, ◌||◌, ◌⊎◌, inl, inr, Bool, true, false, None, Some, List, [], ◌∷◌, ap, arith, length, refl, subst, sym}
+use Rattle.std.proofs.Common.{◌≡◌, ◌∙◌, ◌≢◌, ℕ, suc, ◌+◌, ◌-◌, ◌*◌, ◌/◌, ◌%◌, ◌<◌, ◌≤◌, ◌==◌, ◌&&◌, ◌||◌, ◌⊎◌, inl, inr, Bool, true, false, None, Some, List, [], ◌∷◌, ap, arith, length, refl, subst, sym}
 use Rattle.std.specs.Prelude.{if◌then◌else◌, nat_lt, not}
 use Rattle.std.specs.declared.option.Option.{Option}
 use Rattle.std.specs.List.{slice_get}
 use Rattle.std.proofs.Math.Nat.{div-add-mod, mod-eq_of_lt, mod-lt, mod_self, mul_assoc, suc-mod}
 use Rattle.std.proofs.lemmas.Bool.{cases_eq, cases_lt, eq-eqb, eqb-true, le-ltb, lt-ltb, ltb-true, ne_eqb, true≢false}
 use Rattle.mu_model.specs.declared.config.Config.{Config}
-use Rattle.mu_model.specs.declared.event.Answer.{Answer}
 use Rattle.mu_model.specs.declared.event.Event.{Event}
 use Rattle.mu_model.specs.declared.event.Verb.{Verb}
 use Rattle.mu_model.specs.Bounds.{cycle}
-use Rattle.mu_model.specs.Contents.{is_batch, rest_of}
+use Rattle.mu_model.specs.Contents.{rest_of}
 use Rattle.mu_model.specs.Diligence.{completes_row, completes_row_verb, is_row_of}
 use Rattle.mu_model.specs.Ends.{outrun}
-use Rattle.mu_model.specs.Histories.{all_below}
 use Rattle.mu_model.specs.Knowledge.{applied, greatest_fuo_read, has_row, has_word, is_known_decided, known}
 use Rattle.mu_model.specs.Parts.{IsPossible}
-use Rattle.mu_model.specs.Scores.{leader}
 use Rattle.mu_model.specs.Steps.{is_fuo_of, is_fuo_of_verb, is_named, knows_more}
 use Rattle.mu_model.specs.Stretches.{is_odd}
 use Rattle.mu_model.proofs.Basics.{event_by, none_some, or_true, same_number, true_or}
-use Rattle.mu_model.proofs.Scans.{each_all, front_length}
+use Rattle.mu_model.proofs.Scans.{each_all}
 use Rattle.mu_agree.proofs.Possible.{parts_shorten_law}
 use Rattle.mu_known.proofs.Fetched.{read_word}
 use Rattle.mu_grant.specs.Pace.{host_place}
 use Rattle.mu_grant.specs.Stands.{is_of_place}
 use Rattle.mu_follow.specs.Due.{first_word_of, look_due, next_word_of, raise_due, replay_due, row_read, row_under_way, rows_had, word_due}
 use Rattle.mu_follow.proofs.Waiting.{IsNextRow, fuo_rises, is_write, known_same, look_teaches, next_row, own_applied_same, own_row_same, row_of_known}
-use Rattle.mu_lead.specs.declared.lead.Lead.{Lead}
 use Rattle.mu_lead.specs.Beside.{leads_at}
 use Rattle.mu_lead.specs.Standing.{verb_of}
 use Rattle.mu_pace.specs.Counters.{AtEachMoment, AtEachStep, HasRoom, IsInTime, Watch, fewer, left_after, steps_left}
@@ -36,10 +32,9 @@ use Rattle.mu_pace.specs.Watches.{is_named_turn, is_replay_due, reading_own, rep
 use Rattle.mu_pace.proofs.Cycles.{closed_moments, steps_give, while_allows}
 use Rattle.mu_pace.proofs.Rooms.{kinds_of_step}
 use Rattle.mu_node.specs.Cycle.{handed, handed_before, hands_on, other_at, place_now}
-use Rattle.mu_node.specs.Due.{lead_due, verb_or_beat}
+use Rattle.mu_node.specs.Due.{verb_or_beat}
 use Rattle.mu_node.specs.Journal.{WasMade, was_named}
 use Rattle.mu_node.proofs.Rounding.{FailsBackground, at_place, background_fails, place_index, replayed_at}
-use Rattle.mu_node.proofs.Turning.{handed_elsewhere, handed_here}
 
 -- a step that closes a count leaves what the moment allows
 closes_anew : (w : Watch) (n : ℕ) (past : List Event) (e : Event) → w.closes past e ≡ true → ((allowed : ℕ) → w.allows (e ∷ past) ≡ Some allowed → n ≤ allowed) → HasRoom w n (e ∷ past)
