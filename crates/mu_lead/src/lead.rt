@@ -186,6 +186,7 @@ impl Lead {
     }
 
     /// The verb of the place.
+    #[inline(never)]
     fn verb(&self, known: &[u16]) -> Option<Verb>
         ensures { (mine : List Event) → StandsFor mine self.now → length known.now < 65536
             → result ≡ verb_of self.now known.now }
