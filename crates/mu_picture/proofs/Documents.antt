@@ -155,7 +155,7 @@ leading_is : (r y : ℕ) → IsContent (leading_piece r y)
 leading_is r y = bar_is (owner_class r) (lane_of r + 2) y 12 (owner_plain r)
 
 resting_is : (r y : ℕ) → IsContent (resting_piece r y)
-resting_is r y = bar_is (codes "w") (lane_of r + 2) y 12 refl
+resting_is r y = bar_is (codes "w") (lane_of r + 1) y 14 refl
 
 ended_is : (r y : ℕ) → IsContent (ended_piece r y)
 ended_is r y = bar_is (codes "w") (lane_of r - 2) (y + 6) 18 refl
@@ -192,7 +192,7 @@ halt_is r y (Some (Halt.Pause rounds)) = nothing
 
 said_is : (n step r y : ℕ) (words : List ℕ) → IsContent (said_piece n step r y words)
 said_is n step r y [] = nothing
-said_is n step r y (byte ∷ bytes) = note_is (lane_of n) (y + 3) (decimal step ++ codes ": " ++ decimal r ++ (byte ∷ bytes))
+said_is n step r y (byte ∷ bytes) = note_is (lane_of n) (y + 3) (decimal step ++ codes ": replica " ++ decimal r ++ (byte ∷ bytes))
 
 fold_is : (y steps : ℕ) → IsContent (fold_piece y steps)
 fold_is y steps = either IsContent (nat_lt 31 steps) _ _ (λ h. note_is 4 (y + 11) (decimal steps ++ codes " steps")) (λ h. nothing)
@@ -226,7 +226,7 @@ lanes_are r [] = nothing
 lanes_are r (opening ∷ openings) = both (lane_is r opening) (lanes_are (r + 1) openings)
 
 style_is : IsContent style
-style_is = element {name = codes "style"} refl (whole {content = codes "text{font:9px sans-serif}path{stroke:#000}.w{fill:#fff}.l{fill:#888}.c{fill:#fff;stroke:#000;stroke-dasharray:2 2}.q{fill:#fff;stroke-dasharray:4 2}.k{stroke-width:2}.a{fill:none;stroke:#666;stroke-dasharray:1 2}.o0{fill:#e69f00}.o1{fill:#56b4e9}.o2{fill:#009e73}.o3{fill:#f0e442}.o4{fill:#0072b2}.o5{fill:#d55e00}.o6{fill:#cc79a7}"} (plain_content (codes "text{font:9px sans-serif}path{stroke:#000}.w{fill:#fff}.l{fill:#888}.c{fill:#fff;stroke:#000;stroke-dasharray:2 2}.q{fill:#fff;stroke-dasharray:4 2}.k{stroke-width:2}.a{fill:none;stroke:#666;stroke-dasharray:1 2}.o0{fill:#e69f00}.o1{fill:#56b4e9}.o2{fill:#009e73}.o3{fill:#f0e442}.o4{fill:#0072b2}.o5{fill:#d55e00}.o6{fill:#cc79a7}") refl) (character {byte = 10} refl nothing))
+style_is = element {name = codes "style"} refl (whole {content = codes "text{font:9px sans-serif}path{stroke:#000}rect{stroke:#000;stroke-width:.6}.w{fill:#fff;stroke:none}.l{fill:#888;stroke:none}.c{fill:#fff}.q{fill:#fff;stroke-dasharray:4 2}.k{stroke-width:2}.a{fill:none;stroke:#666;stroke-dasharray:1 2}.o0{fill:#e69f00}.o1{fill:#56b4e9}.o2{fill:#009e73}.o3{fill:#f0e442}.o4{fill:#0072b2}.o5{fill:#d55e00}.o6{fill:#cc79a7}"} (plain_content (codes "text{font:9px sans-serif}path{stroke:#000}rect{stroke:#000;stroke-width:.6}.w{fill:#fff;stroke:none}.l{fill:#888;stroke:none}.c{fill:#fff}.q{fill:#fff;stroke-dasharray:4 2}.k{stroke-width:2}.a{fill:none;stroke:#666;stroke-dasharray:1 2}.o0{fill:#e69f00}.o1{fill:#56b4e9}.o2{fill:#009e73}.o3{fill:#f0e442}.o4{fill:#0072b2}.o5{fill:#d55e00}.o6{fill:#cc79a7}") refl) (character {byte = 10} refl nothing))
 
 content_is : (job : Job) (picture : Picture) (width : ℕ) → IsContent (content_of job picture width)
 content_is job picture width =

@@ -14,7 +14,7 @@ use Rattle.mu_picture.specs.declared.openings.Opening.{Opening}
 
 -- where the lane of a replica stands
 abbrev pub lane_of : ℕ → ℕ
-lane_of r = 104 + 150 * r
+lane_of r = 64 + 150 * r
 
 -- the class of what a replica owns
 abbrev pub owner_class : ℕ → List ℕ
@@ -39,7 +39,7 @@ leading_piece r y = bar_piece (owner_class r) (lane_of r + 2) y 12
 
 -- no leadership of r from y on
 abbrev pub resting_piece : ℕ → ℕ → List ℕ
-resting_piece r y = bar_piece (codes "w") (lane_of r + 2) y 12
+resting_piece r y = bar_piece (codes "w") (lane_of r + 1) y 14
 
 -- no more steps of r below y
 abbrev pub ended_piece : ℕ → ℕ → List ℕ
@@ -97,7 +97,7 @@ abbrev pub said_piece : ℕ → ℕ → ℕ → ℕ → List ℕ → List ℕ
 said_piece n step r y [] = []
 said_piece n step r y (byte ∷ bytes) =
     note_piece (lane_of n) (y + 3)
-    (decimal step ++ codes ": " ++ decimal r ++ (byte ∷ bytes))
+    (decimal step ++ codes ": replica " ++ decimal r ++ (byte ∷ bytes))
 
 -- a mark, in the row at y, of one of n lanes
 abbrev pub mark_pieces : Job → ℕ → ℕ → Mark → List ℕ
@@ -171,11 +171,11 @@ lanes_from r (opening ∷ openings) = lane_pieces r opening ++ lanes_from (r + 1
 
 -- how text and shapes look
 abbrev pub style : List ℕ
-style = codes "<style>text{font:9px sans-serif}path{stroke:#000}.w{fill:#fff}.l{fill:#888}.c{fill:#fff;stroke:#000;stroke-dasharray:2 2}.q{fill:#fff;stroke-dasharray:4 2}.k{stroke-width:2}.a{fill:none;stroke:#666;stroke-dasharray:1 2}.o0{fill:#e69f00}.o1{fill:#56b4e9}.o2{fill:#009e73}.o3{fill:#f0e442}.o4{fill:#0072b2}.o5{fill:#d55e00}.o6{fill:#cc79a7}</style>\n"
+style = codes "<style>text{font:9px sans-serif}path{stroke:#000}rect{stroke:#000;stroke-width:.6}.w{fill:#fff;stroke:none}.l{fill:#888;stroke:none}.c{fill:#fff}.q{fill:#fff;stroke-dasharray:4 2}.k{stroke-width:2}.a{fill:none;stroke:#666;stroke-dasharray:1 2}.o0{fill:#e69f00}.o1{fill:#56b4e9}.o2{fill:#009e73}.o3{fill:#f0e442}.o4{fill:#0072b2}.o5{fill:#d55e00}.o6{fill:#cc79a7}</style>\n"
 
 -- what the picture says of itself
 abbrev pub legend : List ℕ
-legend = codes "Time goes down, in steps. Squares are puts, filled where they landed and hollow where they missed; dotted: asks. Bands: who leads. Bars: who owns a region."
+legend = codes "Time goes down, in steps. Squares are puts, filled where they landed and hollow where they missed; thick ones commit, dotted ones ask. Left bar: its replica leads. Right bar: who owns the region."
 
 -- what stands in the document: how it looks, a white ground of this width, a legend, the lanes and
 -- the rows of the marks

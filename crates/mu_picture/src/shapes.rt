@@ -13,7 +13,7 @@ use mu_model::NoMemory;
 use mu_text::Line;
 
 /// Where the lane of replica 0 stands.
-const LEFT: u64 = 104;
+const LEFT: u64 = 64;
 
 /// From one lane to the next.
 const LANE: u64 = 150;
@@ -22,7 +22,7 @@ const LANE: u64 = 150;
 pub fn lane(r: u64) -> u64
     requires { r < 2 ^ 16 }
     ensures is { result ≡ lane_of r }
-    ensures left { 104 ≤ result }
+    ensures left { 64 ≤ result }
     ensures low { result < 2 ^ 32 }
 {
     LEFT + LANE * r
@@ -65,7 +65,7 @@ pub fn push_leading(sheet: &mut Sheet, r: u8, y: u64) -> Result<(), NoMemory>
 fn push_resting(sheet: &mut Sheet, r: u8, y: u64) -> Result<(), NoMemory>
     ensures { OnOk result (sheet.new ≡ sheet.old ++ resting_piece r y) }
 {
-    push_bar(sheet, b"w", lane(u64::from(r)) + 2, y, 12)
+    push_bar(sheet, b"w", lane(u64::from(r)) + 1, y, 14)
 }
 
 /// Ends the lane of `r` below `y`.
