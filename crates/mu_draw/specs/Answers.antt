@@ -50,8 +50,8 @@ pub record TellsOfTrace (bytes : List ℕ) (asked : Asked) (told : Told) : Type 
   pub fits : trace bytes ≡ Fits spelled
   pub tells : TellsOfEvents spelled.job spelled.events asked told
 
--- what there is to tell of bytes: the first line that leaves the grammar, or what is told of a trace;
--- want of memory can come at any bytes
+-- what there is to tell of bytes: the first line that leaves the grammar, or what is told of a
+-- trace; want of memory can come at any bytes
 abbrev pub Draws : List ℕ → Asked → Told → Type 0
 Draws bytes asked (Told.Said (Said.Refused line cause)) = trace bytes ≡ Leaves line cause
 Draws bytes asked (Told.Said Said.NoMemory) = Unit {0}

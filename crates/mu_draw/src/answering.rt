@@ -45,8 +45,8 @@ pub fn draw<S: Source, K: Sink>(
 ) -> Answered
     ensures told { Tells (asked_of_words words.now) (S.left source.old) (S.left source.new)
         (S.faults source.old) (S.faults source.new) result.told }
-    ensures wrote { Wrote (K.written sink.old) (K.written sink.new) (K.faults sink.old) (K.faults sink.new)
-        result.told result.status result.taken }
+    ensures wrote { Wrote (K.written sink.old) (K.written sink.new)
+        (K.faults sink.old) (K.faults sink.new) result.told result.status result.taken }
 {
     answer(sink, told(alloc, asked_of(words), source))
 }
@@ -81,8 +81,8 @@ fn told_of_source<S: Source>(alloc: Global, asked: Asked, source: &mut S) -> Tol
 pub fn answer<K: Sink>(sink: &mut K, told: Told) -> Answered
     requires { IsSayable told }
     ensures told { result.told ≡ told }
-    ensures wrote { Wrote (K.written sink.old) (K.written sink.new) (K.faults sink.old) (K.faults sink.new)
-        result.told result.status result.taken }
+    ensures wrote { Wrote (K.written sink.old) (K.written sink.new)
+        (K.faults sink.old) (K.faults sink.new) result.told result.status result.taken }
 {
     match tell(sink, &told) {
         Ok(()) => Answered {
@@ -105,7 +105,8 @@ pub fn answer<K: Sink>(sink: &mut K, told: Told) -> Answered
 /// `WriteFault` where the sink counted a fault, with the number of bytes that it had taken.
 fn tell<K: Sink>(sink: &mut K, told: &Told) -> Result<(), WriteFault>
     requires { IsSayable told.now }
-    ensures whole { OnOk result (Appends (K.written sink.old) (K.written sink.new) (text_of told.now)) }
+    ensures whole { OnOk result
+        (Appends (K.written sink.old) (K.written sink.new) (text_of told.now)) }
     ensures same_faults { OnOk result (K.faults sink.new ≡ K.faults sink.old) }
     ensures part { IfErr result (λ fault.
         Appends (K.written sink.old) (K.written sink.new) (take fault.taken (text_of told.now))) }

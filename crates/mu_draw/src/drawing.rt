@@ -26,8 +26,9 @@ pub enum Told {
 }
 
 /// What there is to tell of the bytes of a trace: `Refused` exactly where they leave the grammar,
-/// with the first line that leaves it and the cause; `Judged` exactly where its events aren't legal,
-/// with the first that breaks them and why; else its picture, of the steps that are asked for.
+/// with the first line that leaves it and the cause; `Judged` exactly where its events aren't
+/// legal, with the first that breaks them and why; else its picture, of the steps that are asked
+/// for.
 /// `NoMemory` for want of memory.
 pub fn told_of(alloc: Global, bytes: &[u8], asked: Asked) -> Told
     requires { length bytes.now ≤ TRACE_LIMIT }
@@ -71,12 +72,7 @@ fn told_of_picture(picture: Result<Sheet, NoMemory>) -> Told
 /// # Errors
 ///
 /// Want of memory alone.
-fn picture(
-    alloc: Global,
-    job: &Job,
-    events: &[Event],
-    asked: Asked,
-) -> Result<Sheet, NoMemory>
+fn picture(alloc: Global, job: &Job, events: &[Event], asked: Asked) -> Result<Sheet, NoMemory>
     requires config { IsConfig job.now.config }
     requires legal { IsLegal job.now.config events.now }
     requires countable { length events.now < 2 ^ 32 }

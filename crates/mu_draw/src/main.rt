@@ -1,8 +1,8 @@
 //! `mu_draw`: draws a run.
 //!
 //! A trace comes on standard input, as `mu trace` prints it and `mu check` reads it. Its picture
-//! goes to standard output, as one document of SVG. Two words, `mu_draw FIRST LAST`, say which steps
-//! are drawn, by their indices from 0; without, all are.
+//! goes to standard output, as one document of SVG. Two words, `mu_draw FIRST LAST`, say which
+//! steps are drawn, by their indices from 0; without, all are.
 //!
 //! Where there is no picture, one line says why, as `mu check` prints it: `refused line L cause C`,
 //! `illegal I ..`, `read fault`, `no memory` or `too long`; or how the program is called.
@@ -11,6 +11,8 @@
 mod answering;
 mod asking;
 mod drawing;
+#[cfg(test)]
+mod tests;
 
 pub use answering::{Answered, answer, draw};
 pub use asking::{Asked, LAST_STEP, asked_of};

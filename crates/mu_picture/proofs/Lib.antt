@@ -1,3 +1,4 @@
 pub mod Appends
 pub mod Documents
 pub mod Steps
+pub mod Unmarked

@@ -171,11 +171,20 @@ lanes_from r (opening ∷ openings) = lane_pieces r opening ++ lanes_from (r + 1
 
 -- how text and shapes look
 abbrev pub style : List ℕ
-style = codes "<style>text{font:9px sans-serif}path{stroke:#000}rect{stroke:#000;stroke-width:.6}.w{fill:#fff;stroke:none}.l{fill:#888;stroke:none}.c{fill:#fff}.q{fill:#fff;stroke-dasharray:4 2}.k{stroke-width:2}.a{fill:none;stroke:#666;stroke-dasharray:1 2}.o0{fill:#e69f00}.o1{fill:#56b4e9}.o2{fill:#009e73}.o3{fill:#f0e442}.o4{fill:#0072b2}.o5{fill:#d55e00}.o6{fill:#cc79a7}</style>\n"
+style =
+    codes "<style>text{font:9px sans-serif}path{stroke:#000}rect{stroke:#000;stroke-width:.6}"
+    ++ codes ".w{fill:#fff;stroke:none}.l{fill:#888;stroke:none}.c{fill:#fff}"
+    ++ codes ".q{fill:#fff;stroke-dasharray:4 2}.k{stroke-width:2}"
+    ++ codes ".a{fill:none;stroke:#666;stroke-dasharray:1 2}.o0{fill:#e69f00}.o1{fill:#56b4e9}"
+    ++ codes ".o2{fill:#009e73}.o3{fill:#f0e442}.o4{fill:#0072b2}.o5{fill:#d55e00}.o6{fill:#cc79a7}"
+    ++ codes "</style>\n"
 
 -- what the picture says of itself
 abbrev pub legend : List ℕ
-legend = codes "Time goes down, in steps. Squares are puts, filled where they landed and hollow where they missed; thick ones commit, dotted ones ask. Left bar: its replica leads. Right bar: who owns the region."
+legend =
+    codes "Time goes down, in steps. Squares are puts, filled where they landed and hollow "
+    ++ codes "where they missed; thick ones commit, dotted ones ask. "
+    ++ codes "Left bar: its replica leads. Right bar: who owns the region."
 
 -- what stands in the document: how it looks, a white ground of this width, a legend, the lanes and
 -- the rows of the marks

@@ -1,5 +1,5 @@
 -- Which marks a picture has.
-use Rattle.std.specs.Prelude.{ℕ, ◌≡◌, ◌+◌, if◌then◌else◌, nat_le, min, None, Some, List, [], ◌∷◌, ◌++◌, length, take}
+use Rattle.std.specs.Prelude.{ℕ, ◌≡◌, ◌+◌, ◌-◌, if◌then◌else◌, nat_le, min, None, Some, List, [], ◌∷◌, ◌++◌, length, take}
 use Rattle.std.specs.declared.option.Option.{Option}
 use Rattle.mu_model.specs.declared.config.Config.{Config}
 use Rattle.mu_model.specs.declared.event.Event.{Event}
@@ -40,6 +40,11 @@ marks_of c script first (e ∷ past) =
     if nat_le first (length past)
     then with_mark (marks_of c script first past) (mark_of c script past e)
     else marks_of c script first past
+
+-- how many steps from `at` on, and before `end`, have no mark: those of the stretches between
+abbrev pub hidden_from : ℕ → ℕ → List Mark → ℕ
+hidden_from end at [] = end - at
+hidden_from end at (mark ∷ marks) = (mark.step - at) + hidden_from end (mark.step + 1) marks
 
 -- the step after the last one of a picture
 abbrev pub end_of : List Event → ℕ → ℕ

@@ -12,13 +12,14 @@ abbrev pub is_name : List ℕ → Bool
 is_name [] = false
 is_name (byte ∷ bytes) = nat_le 97 byte && (nat_le byte 122 && list_all is_name_byte bytes)
 
--- a visible byte, or a space, that stands for itself in content and in values: no bracket, ampersand
--- or quote
+-- a visible byte, or a space, that stands for itself in content and in values: no bracket,
+-- ampersand or quote
 abbrev pub is_plain : ℕ → Bool
 is_plain byte =
     nat_le 32 byte
     && (nat_le byte 126
-    && (not (byte == 60) && (not (byte == 62) && (not (byte == 38) && (not (byte == 39) && not (byte == 34))))))
+    && (not (byte == 60)
+    && (not (byte == 62) && (not (byte == 38) && (not (byte == 39) && not (byte == 34))))))
 
 -- a byte of content: a plain one, or a line feed
 abbrev pub is_character : ℕ → Bool
@@ -41,19 +42,30 @@ mutual
   -- content: characters, entities and whole elements, in any order
   pub data IsContent : List ℕ → Type 0 where
     nothing : IsContent []
-    character : {byte : ℕ} {rest : List ℕ} → is_character byte ≡ true → IsContent rest → IsContent (byte ∷ rest)
-    entity : (word : List ℕ) {rest : List ℕ} → is_entity word ≡ true → IsContent rest → IsContent (word ++ rest)
-    element : {name rest : List ℕ} → is_name name ≡ true → IsTag name [] rest → IsContent (60 ∷ (name ++ rest))
+    character :
+        {byte : ℕ} {rest : List ℕ} → is_character byte ≡ true → IsContent rest
+        → IsContent (byte ∷ rest)
+    entity :
+        (word : List ℕ) {rest : List ℕ} → is_entity word ≡ true → IsContent rest
+        → IsContent (word ++ rest)
+    element :
+        {name rest : List ℕ} → is_name name ≡ true → IsTag name [] rest
+        → IsContent (60 ∷ (name ++ rest))
 
   -- what follows the name of an element: attributes beside these, no name twice, and its end; then
   -- content
   pub data IsTag : List ℕ → List (List ℕ) → List ℕ → Type 0 where
-    attribute : {element name rest : List ℕ} {names : List (List ℕ)} (value : List ℕ) → is_name name ≡ true → is_among name names ≡ false
+    attribute :
+        {element name rest : List ℕ} {names : List (List ℕ)} (value : List ℕ)
+        → is_name name ≡ true → is_among name names ≡ false
         → list_all is_plain value ≡ true → IsTag element (name ∷ names) rest
         → IsTag element names (32 ∷ (name ++ 61 ∷ 39 ∷ (value ++ 39 ∷ rest)))
-    empty : {element rest : List ℕ} {names : List (List ℕ)} → IsContent rest → IsTag element names (47 ∷ 62 ∷ rest)
-    whole : {element content rest : List ℕ} {names : List (List ℕ)} → IsContent content → IsContent rest
-        → IsTag element names (62 ∷ (content ++ 60 ∷ 47 ∷ (element ++ 62 ∷ rest)))
+    empty :
+        {element rest : List ℕ} {names : List (List ℕ)} → IsContent rest
+        → IsTag element names (47 ∷ 62 ∷ rest)
+    whole :
+        {element content rest : List ℕ} {names : List (List ℕ)} → IsContent content
+        → IsContent rest → IsTag element names (62 ∷ (content ++ 60 ∷ 47 ∷ (element ++ 62 ∷ rest)))
 
 -- one element, with a line feed behind
 pub record IsDocument (bytes : List ℕ) : Type 0 where

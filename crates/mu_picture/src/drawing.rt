@@ -242,14 +242,28 @@ fn push_lanes(sheet: &mut Sheet, openings: &[Opening]) -> Result<(), NoMemory>
 fn push_style(sheet: &mut Sheet) -> Result<(), NoMemory>
     ensures { OnOk result (sheet.new ≡ sheet.old ++ style) }
 {
-    sheet.push(b"<style>text{font:9px sans-serif}path{stroke:#000}rect{stroke:#000;stroke-width:.6}.w{fill:#fff;stroke:none}.l{fill:#888;stroke:none}.c{fill:#fff}.q{fill:#fff;stroke-dasharray:4 2}.k{stroke-width:2}.a{fill:none;stroke:#666;stroke-dasharray:1 2}.o0{fill:#e69f00}.o1{fill:#56b4e9}.o2{fill:#009e73}.o3{fill:#f0e442}.o4{fill:#0072b2}.o5{fill:#d55e00}.o6{fill:#cc79a7}</style>\n")
+    sheet.push(
+        b"<style>text{font:9px sans-serif}path{stroke:#000}rect{stroke:#000;stroke-width:.6}\
+          .w{fill:#fff;stroke:none}.l{fill:#888;stroke:none}.c{fill:#fff}\
+          .q{fill:#fff;stroke-dasharray:4 2}.k{stroke-width:2}\
+          .a{fill:none;stroke:#666;stroke-dasharray:1 2}.o0{fill:#e69f00}.o1{fill:#56b4e9}\
+          .o2{fill:#009e73}.o3{fill:#f0e442}.o4{fill:#0072b2}.o5{fill:#d55e00}.o6{fill:#cc79a7}\
+          </style>\n",
+    )
 }
 
 /// Adds what the picture says of itself.
 fn push_legend(sheet: &mut Sheet) -> Result<(), NoMemory>
     ensures { OnOk result (sheet.new ≡ sheet.old ++ note_piece 4 16 legend) }
 {
-    push_note(sheet, 4, 16, b"Time goes down, in steps. Squares are puts, filled where they landed and hollow where they missed; thick ones commit, dotted ones ask. Left bar: its replica leads. Right bar: who owns the region.")
+    push_note(
+        sheet,
+        4,
+        16,
+        b"Time goes down, in steps. Squares are puts, filled where they landed and hollow \
+          where they missed; thick ones commit, dotted ones ask. \
+          Left bar: its replica leads. Right bar: who owns the region.",
+    )
 }
 
 /// Adds what stands in a document of this width.

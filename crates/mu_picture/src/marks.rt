@@ -1,10 +1,10 @@
 //! The marks of a picture, and a picture.
-ghost use Rattle.std.specs.Prelude.{◌≡◌, ◌+◌, ◌∷◌, ◌<◌, ◌≤◌, ◌^◌, if◌then◌else◌, nat_le, IfOk, OnOk, List, length, take};
+ghost use Rattle.std.specs.Prelude.{◌≡◌, ◌+◌, ◌-◌, ◌∷◌, ◌<◌, ◌≤◌, ◌^◌, if◌then◌else◌, nat_le, IfOk, OnOk, List, length, take};
 ghost use Rattle.mu_model.specs.Contents.{IsConfig};
 ghost use Rattle.mu_model.specs.Histories.{history, part};
 ghost use Rattle.mu_model.specs.Legal.{IsLegal, IsLegalHistory};
 ghost use Rattle.mu_model.specs.declared.event.Event.{Event as Made};
-ghost use Rattle.mu_picture.specs.Marks.{made_of as made_of_parts, mark_of as mark_of_event, marks_of, IsPictureOf, with_mark};
+ghost use Rattle.mu_picture.specs.Marks.{hidden_from, made_of as made_of_parts, mark_of as mark_of_event, marks_of, IsPictureOf, with_mark};
 ghost use Rattle.mu_picture.specs.Walks.{StandsForWalk};
 
 use crate::deeds::{Deed, deed_of};
@@ -125,8 +125,9 @@ fn marks_from(
 }
 
 /// The picture of the events from `first` to `last`, counted from 0, of a legal list: what holds
-/// before the first of them, and exactly one mark for each of them that is drawn, in order. Takes
-/// memory for the states of the replicas and regions, and for the marks.
+/// before the first of them, and exactly one mark for each of them that is drawn, in order; so the
+/// stretches between the marks hide exactly the other steps. Takes memory for the states of the
+/// replicas and regions, and for the marks.
 ///
 /// # Errors
 ///
@@ -144,6 +145,9 @@ pub fn picture_of(
     requires countable { length events.now < 2 ^ 32 }
     ensures picture { IfOk result
         (IsPictureOf config.now script.now events.now first last) }
+    ensures hidden { IfOk result (λ picture.
+        hidden_from picture.end picture.first picture.marks.items + length picture.marks.items
+        ≡ picture.end - picture.first) }
     ensures few { IfOk result (λ picture. length picture.marks.items < 2 ^ 32) }
     ensures lanes { IfOk result (λ picture. length picture.openings.items < 256) }
 {

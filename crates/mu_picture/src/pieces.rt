@@ -6,13 +6,7 @@ use crate::sheet::Sheet;
 use mu_model::NoMemory;
 
 /// Adds a bar from `y` to the bottom.
-pub fn push_bar(
-    sheet: &mut Sheet,
-    class: &[u8],
-    x: u64,
-    y: u64,
-    width: u64,
-) -> Result<(), NoMemory>
+pub fn push_bar(sheet: &mut Sheet, class: &[u8], x: u64, y: u64, width: u64) -> Result<(), NoMemory>
     ensures { OnOk result (sheet.new ≡ sheet.old ++ bar_piece class.now x y width) }
 {
     sheet.push(b"<rect class='")?;
@@ -40,13 +34,7 @@ fn push_path(sheet: &mut Sheet, x: u64, y: u64, to: u64) -> Result<(), NoMemory>
 }
 
 /// Adds a line across, from a small square at `x` to a tick at `to`.
-pub fn push_line(
-    sheet: &mut Sheet,
-    class: &[u8],
-    x: u64,
-    y: u64,
-    to: u64,
-) -> Result<(), NoMemory>
+pub fn push_line(sheet: &mut Sheet, class: &[u8], x: u64, y: u64, to: u64) -> Result<(), NoMemory>
     ensures { OnOk result (sheet.new ≡ sheet.old ++ line_piece class.now x y to) }
 {
     sheet.push(b"<path class='")?;

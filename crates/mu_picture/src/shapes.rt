@@ -155,12 +155,7 @@ fn push_grant(sheet: &mut Sheet, r: u8, y: u64, to: u8, granted: u32) -> Result<
 }
 
 /// Adds what a deed of `r` is drawn as, in the row at `y`.
-pub fn push_deed(
-    sheet: &mut Sheet,
-    r: u8,
-    y: u64,
-    deed: Option<Deed>,
-) -> Result<(), NoMemory>
+pub fn push_deed(sheet: &mut Sheet, r: u8, y: u64, deed: Option<Deed>) -> Result<(), NoMemory>
     requires low { y < 2 ^ 60 }
     requires within { 2 ≤ y }
     ensures { OnOk result (sheet.new ≡ sheet.old ++ deed_pieces r y deed) }
@@ -193,12 +188,7 @@ pub fn push_deed(
 }
 
 /// Adds what befalls `r` as it is drawn, in the row at `y`.
-pub fn push_halt(
-    sheet: &mut Sheet,
-    r: u8,
-    y: u64,
-    halt: Option<Halt>,
-) -> Result<(), NoMemory>
+pub fn push_halt(sheet: &mut Sheet, r: u8, y: u64, halt: Option<Halt>) -> Result<(), NoMemory>
     requires { y < 2 ^ 60 }
     ensures { OnOk result (sheet.new ≡ sheet.old ++ halt_pieces r y halt) }
 {

@@ -145,12 +145,7 @@ pub fn push_deed_words(sheet: &mut Sheet, job: &Job, deed: Option<Deed>) -> Resu
 }
 
 /// Adds a number between words.
-fn push_between(
-    sheet: &mut Sheet,
-    before: &[u8],
-    number: u64,
-    after: &[u8],
-) -> Result<(), NoMemory>
+fn push_between(sheet: &mut Sheet, before: &[u8], number: u64, after: &[u8]) -> Result<(), NoMemory>
     ensures { OnOk result (sheet.new ≡ sheet.old ++ (before.now ++ decimal number ++ after.now)) }
 {
     sheet.push(before)?;

@@ -30,7 +30,7 @@ returns-in-Some-clause-tells c = λ past legal held.
     let items = c.args.self.now.replicas.items in
     let state = c.in-Some.replica.now in
     let there : slice_get items c.from.result ≡ Some state =
-        slice_get-get_or items c.from.result state c.in-Some.ensures.item.3.0 ∙ ap Some (sym c.in-Some.ensures.value) in
+    slice_get-get_or items c.from.result state c.in-Some.ensures.item.3.0 ∙ ap Some (sym c.in-Some.ensures.value) in
     let possible = subst (λ l. IsPossible config e.by l) (own_part e past) (is_possible config e.by (e ∷ past) legal) in
     c.told_by.ensures.tells (part e.by past) possible
     (held.each e.by state (subst (λ q. slice_get items q ≡ Some state) c.from.ensures there))
