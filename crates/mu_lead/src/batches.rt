@@ -125,9 +125,9 @@ fn batch_after(config: &Config, client: u8, count: u64) -> Option<u16>
         → IsAfter config.now client count j → ⊥ }
 {
     for j in 0..count_of_rows(config).min(1500) as u16 {
-        if is_start(config, j)
+        if u64::from(row_number(config, j)) == count.saturating_add(1)
             && row_client(config, j) == client
-            && u64::from(row_number(config, j)) == count.saturating_add(1)
+            && is_start(config, j)
         {
             return Some(j);
         }
