@@ -9,6 +9,7 @@ use Rattle.mu_model.specs.Contents.{IsConfig}
 use Rattle.mu_model.specs.Parts.{IsPossible}
 use Rattle.mu_model.specs.Knowledge.{known}
 use Rattle.mu_model.specs.Leaderships.{is_member, is_over}
+use Rattle.mu_model.specs.Picks.{is_past}
 use Rattle.mu_model.specs.Steps.{has_min, knows_more, leads}
 use Rattle.mu_model.specs.Stretches.{is_replication}
 use Rattle.mu_pace.specs.Away.{IsAway, IsFresh}
@@ -115,6 +116,7 @@ RoomsAt c r mine written (Place.ReadMin p) = IsReading c r mine written p
 RoomsAt c r mine written (Place.EnterMin p) = IsNumbering c r mine p Stage.EnterMin
 RoomsAt c r mine written (Place.PutMin p) = IsNumbering c r mine p Stage.PutMin
 RoomsAt c r mine written (Place.Evidence p) = IsEnded c r mine
+RoomsAt c r mine written Place.Outrun = IsAway c r mine
 RoomsAt c r mine written place = IsPlaced c r mine written place
 
 -- the scores name a lower replica, and a leadership is under way or was confirmed
@@ -146,7 +148,7 @@ KeepsUntaught old place values verb answer new =
     ≡ false
     → HasRooms mine old → HasRooms (record { by = old.id; verb = verb; answer = answer } ∷ mine) new
 
--- the same of a look at the first unknown position, where it teaches something
+-- the same of a look at the first unknown position, where it teaches something or is past
 abbrev pub KeepsTaught : Lead → Place → List ℕ → ℕ → ℕ → Answer → Lead → Type 0
 KeepsTaught old place values p i answer new =
     (mine : List Event) → StandsFor mine old → old.place ≡ place → i ≡ end_of old.config old.id mine
@@ -155,11 +157,22 @@ KeepsTaught old place values p i answer new =
     → values ≡ known old.config old.id
     (record { by = old.id; verb = Verb.Look p i; answer = answer } ∷ mine)
     → is_replication mine (record { by = old.id; verb = Verb.Look p i; answer = answer }) ≡ true
-    → knows_more old.config old.id mine
+    → (knows_more old.config old.id mine
     (record { by = old.id; verb = Verb.Look p i; answer = answer })
+    || is_past answer)
     ≡ true
     → HasRooms mine old
     → HasRooms (record { by = old.id; verb = Verb.Look p i; answer = answer } ∷ mine) new
+
+-- the same of a step that ends the leadership
+abbrev pub KeepsEnding : Lead → Place → List ℕ → Verb → Answer → Lead → Type 0
+KeepsEnding old place values verb answer new =
+    (mine : List Event) → StandsFor mine old → old.place ≡ place
+    → IsPossible old.config old.id (record { by = old.id; verb = verb; answer = answer } ∷ mine)
+    → values ≡ known_told old.config old.id mine old.id verb answer
+    → is_replication mine (record { by = old.id; verb = verb; answer = answer }) ≡ true
+    → is_over old.id (record { by = old.id; verb = verb; answer = answer } ∷ mine) ≡ true
+    → HasRooms mine old → HasRooms (record { by = old.id; verb = verb; answer = answer } ∷ mine) new
 
 -- the event ends the leadership, wherever in it the leader was
 abbrev pub LeavesRooms : List Event → Lead → Verb → Answer → Lead → Type 0
@@ -174,14 +187,15 @@ abbrev pub is_one_position : Then → Bool
 is_one_position Then.Position = true
 is_one_position _ = false
 
--- from which places a step, which teaches something or not, is shown to keep the rooms
-abbrev pub is_kept : Place → Bool → Bool
-is_kept (Place.Learn p) teaches = teaches
-is_kept (Place.PutBehind p then) teaches = false
-is_kept (Place.RaiseBehind p then) teaches = not (is_one_position then)
-is_kept (Place.FenceBehind p then) teaches = false
-is_kept (Place.Look p i candidate best) teaches = not teaches
-is_kept place teaches = true
+-- from which places a step, by its answer, and which teaches something or not and ends the
+-- leadership or not, is shown to keep the rooms
+abbrev pub is_kept : Place → Answer → Bool → Bool → Bool
+is_kept (Place.Learn p) answer teaches ends = teaches || is_past answer
+is_kept (Place.PutBehind p then) answer teaches ends = ends
+is_kept (Place.RaiseBehind p then) answer teaches ends = not (is_one_position then)
+is_kept (Place.FenceBehind p then) answer teaches ends = ends
+is_kept (Place.Look p i candidate best) answer teaches ends = not teaches
+is_kept place answer teaches ends = true
 
 -- from these places, by the answer to the verb that was due, the leader comes to a place whose
 -- counts have room
@@ -193,8 +207,9 @@ RoomsDue old values answer new =
     → IsPossible old.config old.id (record { by = old.id; verb = verb; answer = answer } ∷ mine)
     → values ≡ known_told old.config old.id mine old.id verb answer
     → is_replication mine (record { by = old.id; verb = verb; answer = answer }) ≡ true
-    → is_kept old.place
+    → is_kept old.place answer
     (knows_more old.config old.id mine (record { by = old.id; verb = verb; answer = answer }))
+    (is_over old.id (record { by = old.id; verb = verb; answer = answer } ∷ mine))
     ≡ true
     → HasRooms mine old
     → HasRooms (record { by = old.id; verb = verb; answer = answer } ∷ mine) new
@@ -206,8 +221,9 @@ RoomsNext mine old values answer new =
     → IsPossible old.config old.id (record { by = old.id; verb = verb; answer = answer } ∷ mine)
     → values ≡ known_told old.config old.id mine old.id verb answer
     → is_replication mine (record { by = old.id; verb = verb; answer = answer }) ≡ true
-    → is_kept old.place
+    → is_kept old.place answer
     (knows_more old.config old.id mine (record { by = old.id; verb = verb; answer = answer }))
+    (is_over old.id (record { by = old.id; verb = verb; answer = answer } ∷ mine))
     ≡ true
     → HasRooms mine old
     → HasRooms (record { by = old.id; verb = verb; answer = answer } ∷ mine) new

@@ -23,7 +23,7 @@ ghost use Rattle.mu_pace.specs.Members.{IsNextMember, members_from};
 ghost use Rattle.mu_pace.specs.Weights.{Stage};
 ghost use Rattle.mu_lead.specs.declared.place.Then.{Then as SomeThen};
 ghost use Rattle.mu_lead.specs.Onward.{IsNextBehind, MayBringUp, MayGoOn, passed_over};
-ghost use Rattle.mu_lead.specs.Rooms.{IsLed, KeepsRooms, KeepsTaught, RoomsAt, is_one_position};
+ghost use Rattle.mu_lead.specs.Rooms.{IsLed, KeepsEnding, KeepsRooms, KeepsTaught, RoomsAt, is_one_position};
 
 use crate::arrays::{with_fuo, with_number};
 use crate::lead::Lead;
@@ -391,6 +391,9 @@ impl Lead {
     pub fn took_fence_behind(&mut self, p: u8, then: Then, fence: Fence) -> Note
         ensures stands { (values : List ℕ)
             → Takes self.old (SomePlace.FenceBehind p then) values (SomeVerb.Fence p)
+            (SomeAnswer.Seen fence) self.new }
+        ensures rooms { (values : List ℕ)
+            → KeepsEnding self.old (SomePlace.FenceBehind p then) values (SomeVerb.Fence p)
             (SomeAnswer.Seen fence) self.new }
         ensures quiet { value_committed result ≡ None }
         ensures config { self.new.config ≡ self.old.config }
