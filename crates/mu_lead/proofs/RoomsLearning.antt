@@ -1,6 +1,6 @@
 -- The counts of a leader while it learns what others committed.
-use Rattle.std.proofs.Common.{◌≡◌, ℕ, inl, Bool, true, false, List, ◌∷◌, length, refl, sym, ◌∙◌, ap, subst, arith, true≢false}
-use Rattle.std.specs.Prelude.{nat_lt, not, ◌||◌}
+use Rattle.std.proofs.Common.{◌≡◌, ℕ, inl, Bool, true, false, List, ◌∷◌, length, refl, sym, ◌∙◌, ap, arith, true≢false}
+use Rattle.std.specs.Prelude.{not, ◌||◌}
 use Rattle.mu_model.specs.declared.config.Config.{Config}
 use Rattle.mu_model.specs.declared.event.Answer.{Answer}
 use Rattle.mu_model.specs.declared.event.Event.{Event}
@@ -29,11 +29,6 @@ pub past_none : (c : Config) (r p i : ℕ) (a : Answer) (mine : List Event) → 
 past_none c r p i Answer.Past mine past = refl
 past_none c r p i (Answer.Entry b v) mine past = absurd (true≢false (sym past))
 past_none c r p i a mine past = refl
-
--- so one that teaches something isn't past
-pub taught_or_past : (taught past : Bool) → past ≡ false → (taught || past) ≡ true → taught ≡ true
-taught_or_past true past h kept = refl
-taught_or_past false past h kept = absurd (true≢false (sym kept ∙ h))
 
 either : (a b : Bool) → a ≡ true → (a || b) ≡ true
 either true b h = refl

@@ -1,6 +1,6 @@
 -- A leader whose look is past at what it doesn't know is outrun: its journal ends, and its counts are in time.
-use Rattle.std.proofs.Common.{◌≡◌, ℕ, Bool, true, false, List, ◌∷◌, Some, None, inl, length, refl, subst, sym, true≢false}
-use Rattle.std.specs.Prelude.{is_some, nat_le, ◌||◌}
+use Rattle.std.proofs.Common.{◌≡◌, ℕ, true, List, ◌∷◌, Some, None, inl, refl, subst, sym, true≢false}
+use Rattle.std.specs.Prelude.{is_some}
 use Rattle.std.specs.declared.option.Option.{Option}
 use Rattle.mu_model.specs.declared.config.Config.{Config}
 use Rattle.mu_model.specs.declared.event.Answer.{Answer}
@@ -9,8 +9,6 @@ use Rattle.mu_model.specs.Contents.{IsConfig}
 use Rattle.mu_model.specs.Diligence.{is_milestone, is_progress}
 use Rattle.mu_model.specs.Ends.{outrun}
 use Rattle.mu_model.specs.Histories.{earlier_or}
-use Rattle.mu_model.specs.Knowledge.{known}
-use Rattle.mu_model.specs.Leaderships.{is_member}
 use Rattle.mu_model.specs.Picks.{is_past}
 use Rattle.mu_model.specs.Steps.{commits_more, is_lagging, is_over_after, knows_all}
 use Rattle.mu_model.specs.Stretches.{is_replication}
@@ -21,7 +19,7 @@ use Rattle.mu_pace.specs.Placed.{AreInTime, IsPlacedAt}
 use Rattle.mu_pace.specs.Watches.{limit_now, progressing}
 use Rattle.mu_pace.specs.Weights.{Bringing, Lag, Stage, at_behind, widened}
 use Rattle.mu_pace.proofs.Beside.{unallowed}
-use Rattle.mu_pace.proofs.Placed.{met_leaves, places_lead, shut, true_left, true_right}
+use Rattle.mu_pace.proofs.Placed.{met_leaves, places_lead, shut, true_right}
 use Rattle.mu_lead.specs.Leading.{end_of}
 use Rattle.mu_lead.specs.Rooms.{IsLed, sizes_of}
 use Rattle.mu_lead.proofs.Bringing.{look_event}

@@ -9,7 +9,6 @@ use Rattle.mu_model.specs.Contents.{IsConfig}
 use Rattle.mu_model.specs.Parts.{IsPossible}
 use Rattle.mu_model.specs.Knowledge.{known}
 use Rattle.mu_model.specs.Leaderships.{is_member, is_over}
-use Rattle.mu_model.specs.Picks.{is_past}
 use Rattle.mu_model.specs.Steps.{has_min, knows_more, leads}
 use Rattle.mu_model.specs.Stretches.{is_replication}
 use Rattle.mu_pace.specs.Away.{IsAway, IsFresh}
@@ -148,19 +147,15 @@ KeepsUntaught old place values verb answer new =
     ≡ false
     → HasRooms mine old → HasRooms (record { by = old.id; verb = verb; answer = answer } ∷ mine) new
 
--- the same of a look at the first unknown position, where it teaches something or is past
-abbrev pub KeepsTaught : Lead → Place → List ℕ → ℕ → ℕ → Answer → Lead → Type 0
-KeepsTaught old place values p i answer new =
+-- the same of a look at the first unknown position
+abbrev pub KeepsLook : Lead → Place → List ℕ → ℕ → ℕ → Answer → Lead → Type 0
+KeepsLook old place values p i answer new =
     (mine : List Event) → StandsFor mine old → old.place ≡ place → i ≡ end_of old.config old.id mine
     → IsPossible old.config old.id
     (record { by = old.id; verb = Verb.Look p i; answer = answer } ∷ mine)
     → values ≡ known old.config old.id
     (record { by = old.id; verb = Verb.Look p i; answer = answer } ∷ mine)
     → is_replication mine (record { by = old.id; verb = Verb.Look p i; answer = answer }) ≡ true
-    → (knows_more old.config old.id mine
-    (record { by = old.id; verb = Verb.Look p i; answer = answer })
-    || is_past answer)
-    ≡ true
     → HasRooms mine old
     → HasRooms (record { by = old.id; verb = Verb.Look p i; answer = answer } ∷ mine) new
 
@@ -187,15 +182,14 @@ abbrev pub is_one_position : Then → Bool
 is_one_position Then.Position = true
 is_one_position _ = false
 
--- from which places a step, by its answer, and which teaches something or not and ends the
--- leadership or not, is shown to keep the rooms
-abbrev pub is_kept : Place → Answer → Bool → Bool → Bool
-is_kept (Place.Learn p) answer teaches ends = teaches || is_past answer
-is_kept (Place.PutBehind p then) answer teaches ends = ends
-is_kept (Place.RaiseBehind p then) answer teaches ends = not (is_one_position then)
-is_kept (Place.FenceBehind p then) answer teaches ends = ends
-is_kept (Place.Look p i candidate best) answer teaches ends = not teaches
-is_kept place answer teaches ends = true
+-- from which places a step, which teaches something or not and ends the leadership or not, is shown
+-- to keep the rooms
+abbrev pub is_kept : Place → Bool → Bool → Bool
+is_kept (Place.PutBehind p then) teaches ends = ends
+is_kept (Place.RaiseBehind p then) teaches ends = not (is_one_position then)
+is_kept (Place.FenceBehind p then) teaches ends = ends
+is_kept (Place.Look p i candidate best) teaches ends = not teaches
+is_kept place teaches ends = true
 
 -- from these places, by the answer to the verb that was due, the leader comes to a place whose
 -- counts have room
@@ -207,7 +201,7 @@ RoomsDue old values answer new =
     → IsPossible old.config old.id (record { by = old.id; verb = verb; answer = answer } ∷ mine)
     → values ≡ known_told old.config old.id mine old.id verb answer
     → is_replication mine (record { by = old.id; verb = verb; answer = answer }) ≡ true
-    → is_kept old.place answer
+    → is_kept old.place
     (knows_more old.config old.id mine (record { by = old.id; verb = verb; answer = answer }))
     (is_over old.id (record { by = old.id; verb = verb; answer = answer } ∷ mine))
     ≡ true
@@ -221,7 +215,7 @@ RoomsNext mine old values answer new =
     → IsPossible old.config old.id (record { by = old.id; verb = verb; answer = answer } ∷ mine)
     → values ≡ known_told old.config old.id mine old.id verb answer
     → is_replication mine (record { by = old.id; verb = verb; answer = answer }) ≡ true
-    → is_kept old.place answer
+    → is_kept old.place
     (knows_more old.config old.id mine (record { by = old.id; verb = verb; answer = answer }))
     (is_over old.id (record { by = old.id; verb = verb; answer = answer } ∷ mine))
     ≡ true

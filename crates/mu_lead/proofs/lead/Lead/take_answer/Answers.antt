@@ -14,7 +14,7 @@ use Rattle.mu_lead.proofs.Telling.{put_any, tells_put, tells_quiet}
 use Rattle.mu_lead.proofs.Going.{goes_asked, goes_on}
 use Rattle.mu_lead.proofs.Saying.{notes_at}
 use Rattle.mu_lead.specs.Rooms.{HasRooms}
-use Rattle.mu_lead.proofs.RoomsTaking.{keeps_any, keeps_ending, keeps_kept, keeps_known, keeps_taught, keeps_untaught, not_one}
+use Rattle.mu_lead.proofs.RoomsTaking.{keeps_any, keeps_ending, keeps_kept, keeps_known, keeps_look, keeps_untaught, not_one}
 use Rattle.mu_lead.proofs.Misses.{explains_fence, explains_min, explains_plain, explains_slot}
 use Rattle.mu_model.specs.Knowledge.{commits}
 use Rattle.mu_pace.proofs.Beside.{not_more}
@@ -365,7 +365,7 @@ pub returns-in-ReadFuo-clause-rooms : goal.returns-in-ReadFuo-clause-rooms
 returns-in-ReadFuo-clause-rooms c = keeps_known c.args.self.now c.at_read_fuo.new.self (Place.ReadFuo c.in-ReadFuo.p c.in-ReadFuo.source) c.args.known.now (λ xs. Verb.Fuo c.in-ReadFuo.p) c.args.answer c.in-ReadFuo.is (λ xs. refl) (λ mine xs. refl) (c.at_read_fuo.ensures.rooms)
 
 pub returns-in-Learn-clause-rooms : goal.returns-in-Learn-clause-rooms
-returns-in-Learn-clause-rooms c = keeps_taught c.args.self.now c.took_learning.new.self (Place.Learn c.in-Learn.p) c.args.known.now c.in-Learn.p (λ xs. length xs) c.args.answer c.in-Learn.is (λ teaches ends. refl) (λ xs. refl) (λ mine. refl) c.took_learning.ensures.rooms
+returns-in-Learn-clause-rooms c = keeps_look c.args.self.now c.took_learning.new.self (Place.Learn c.in-Learn.p) c.args.known.now c.in-Learn.p (λ xs. length xs) c.args.answer c.in-Learn.is (λ xs. refl) (λ mine. refl) c.took_learning.ensures.rooms
 
 pub returns-in-WidenBehind-clause-rooms : goal.returns-in-WidenBehind-clause-rooms
 returns-in-WidenBehind-clause-rooms c = λ mine verb s due possible told turn kept rooms.
