@@ -34,6 +34,7 @@ pub mod RoomsLearning
 pub mod RoomsLooking
 pub mod RoomsMin
 pub mod RoomsOnward
+pub mod RoomsOutrun
 pub mod RoomsPutting
 pub mod RoomsQuiet
 pub mod RoomsRaising

@@ -91,6 +91,7 @@ rooms_on c r mine e written (Place.ReadMin p) u at = record {
 rooms_on c r mine e written (Place.EnterMin p) u at = record { left = λ q more. u.member q ∙ at.left q more; led = led_on c r mine e Stage.EnterMin Stage.EnterMin u refl at.led }
 rooms_on c r mine e written (Place.PutMin p) u at = record { left = λ q more. u.member q ∙ at.left q more; led = led_on c r mine e Stage.PutMin Stage.PutMin u refl at.led }
 rooms_on c r mine e written (Place.Evidence p) u at = record { over = u.over ∙ at.over; away = away_is_in_time.away_beside c r mine e at.away u.turn u.beside }
+rooms_on c r mine e written Place.Outrun u at = away_is_in_time.away_beside c r mine e at u.turn u.beside
 rooms_on c r mine e written place u at = led_on c r mine e (stage_of c r mine written place) (stage_of c r (e ∷ mine) written place) u (stage_same c r mine e written place u) at
 
 -- a verb of another machine, looks aside, leaves what every leader counts

@@ -36,6 +36,7 @@ place_in_time c r mine written (Place.ReadMin p) is at = reading_in_time c r p m
 place_in_time c r mine written (Place.EnterMin p) is at = led_in_time c r mine Stage.EnterMin is at.led
 place_in_time c r mine written (Place.PutMin p) is at = led_in_time c r mine Stage.PutMin is at.led
 place_in_time c r mine written (Place.Evidence p) is at = away_is_in_time.in_time c r mine at.away
+place_in_time c r mine written Place.Outrun is at = away_is_in_time.in_time c r mine at
 place_in_time c r mine written place is at = led_in_time c r mine (stage_of c r mine written place) is at
 
 -- at each place; and before any event nothing is counted

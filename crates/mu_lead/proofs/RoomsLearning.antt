@@ -1,6 +1,6 @@
 -- The counts of a leader while it learns what others committed.
-use Rattle.std.proofs.Common.{◌≡◌, ℕ, inl, Bool, true, false, List, ◌∷◌, length, refl, sym, ◌∙◌, ap, subst, arith, true≢false}
-use Rattle.std.specs.Prelude.{nat_lt, not, ◌||◌}
+use Rattle.std.proofs.Common.{◌≡◌, ℕ, inl, Bool, true, false, List, ◌∷◌, length, refl, sym, ◌∙◌, ap, arith, true≢false}
+use Rattle.std.specs.Prelude.{not, ◌||◌}
 use Rattle.mu_model.specs.declared.config.Config.{Config}
 use Rattle.mu_model.specs.declared.event.Answer.{Answer}
 use Rattle.mu_model.specs.declared.event.Event.{Event}
@@ -25,13 +25,10 @@ use Rattle.mu_lead.proofs.RoomsOnward.{first_below, room_place}
 use Rattle.mu_lead.proofs.RoomsQuiet.{no_heads, quiet_milestone, sized}
 
 -- a past look teaches nothing
-past_none : (c : Config) (r p i : ℕ) (a : Answer) (mine : List Event) → is_past a ≡ true → known c r (look_event r p i a ∷ mine) ≡ known c r mine
+pub past_none : (c : Config) (r p i : ℕ) (a : Answer) (mine : List Event) → is_past a ≡ true → known c r (look_event r p i a ∷ mine) ≡ known c r mine
 past_none c r p i Answer.Past mine past = refl
 past_none c r p i (Answer.Entry b v) mine past = absurd (true≢false (sym past))
 past_none c r p i a mine past = refl
-
-pub past_untaught : (c : Config) (r p i : ℕ) (a : Answer) (mine : List Event) → is_past a ≡ true → knows_more c r mine (look_event r p i a) ≡ true → ⊥
-past_untaught c r p i a mine past more = true≢false (sym more ∙ subst (λ xs. nat_lt (length (known c r mine)) (length xs) ≡ false) (sym (past_none c r p i a mine past)) (not_more (length (known c r mine))))
 
 either : (a b : Bool) → a ≡ true → (a || b) ≡ true
 either true b h = refl

@@ -57,6 +57,17 @@ rooms_lost c r p t f stage mine is turn at =
       away = away_is_in_time.over c r (sizes_of c r mine) stage mine e (sized c r mine is) at turn over quiet.no_milestone quiet.none_behind;
     }
 
+-- and so does a fence that ends it
+pub rooms_fenced : (c : Config) (r p : ℕ) (f : Fence) (stage : Stage) (mine : List Event) → IsConfig c → is_replication mine (event_by r (Verb.Fence p) (Answer.Seen f)) ≡ true → is_over r (event_by r (Verb.Fence p) (Answer.Seen f) ∷ mine) ≡ true → IsPlacedAt c r (sizes_of c r mine) stage mine
+    → IsOut c r (event_by r (Verb.Fence p) (Answer.Seen f) ∷ mine)
+rooms_fenced c r p f stage mine is turn over at =
+    let e = event_by r (Verb.Fence p) (Answer.Seen f) in
+    let quiet = silent c r mine r (Verb.Fence p) (Answer.Seen f) refl in
+    record {
+      not_led = over_unled r (e ∷ mine) over;
+      away = away_is_in_time.over c r (sizes_of c r mine) stage mine e (sized c r mine is) at turn over quiet.no_milestone quiet.none_behind;
+    }
+
 -- and so does a put that misses
 pub rooms_missed_min : (c : Config) (r p b : ℕ) (stage : Stage) (mine : List Event) → IsConfig c → is_replication mine (event_by r (Verb.PutMin p b) Answer.Missed) ≡ true → IsPlacedAt c r (sizes_of c r mine) stage mine
     → IsEnded c r (event_by r (Verb.PutMin p b) Answer.Missed ∷ mine)

@@ -22,6 +22,7 @@ use Rattle.mu_model.specs.Picks.{is_past}
 use Rattle.mu_model.specs.Placing.{is_caught_up_at, is_known_put}
 use Rattle.mu_model.specs.Room.{reserve}
 use Rattle.mu_model.specs.Scores.{is_failed}
+use Rattle.mu_model.specs.Steps.{knows_more}
 use Rattle.mu_model.proofs.Basics.{event_by, none_some, same_number, same_some, true_or}
 use Rattle.mu_model.proofs.Lists.{get_push_here}
 use Rattle.mu_lead.specs.declared.lead.Lead.{Lead}
@@ -34,9 +35,10 @@ use Rattle.mu_lead.specs.Notes.{note_of_head}
 use Rattle.mu_lead.specs.Saying.{EndsJoining, MayMark, NotesAt, NotesDue, NotesHead, NotesJoin, SaysReads, Teaches, is_working, is_working_or_lost, note_of_learning, note_of_look, value_seen}
 use Rattle.mu_lead.specs.Standing.{HasHeeded, HoldsAt, StandsFor, known_told, verb_at, verb_of}
 use Rattle.mu_leading.proofs.Within.{known_few}
-use Rattle.mu_agree.proofs.Possible.{parts_shorten_law}
-use Rattle.mu_lead.proofs.Bringing.{config_small, look_known}
+use Rattle.mu_agree.proofs.Possible.{parts_find_law, parts_shorten_law}
+use Rattle.mu_lead.proofs.Bringing.{config_small, look_event, look_known}
 use Rattle.mu_lead.proofs.NoteKinds.{apart, is_head, is_higher, is_joined, is_learnt, is_look, is_min, is_no_room, lost_apart, may_join, none_higher, none_joined, none_learnt, none_room, not_head, not_join, not_look, not_min, put_apart, round_apart, says_none, says_working}
+use Rattle.mu_lead.proofs.Sights.{empty_is}
 use Rattle.mu_lead.proofs.Replies.{enters_or, puts_min_or, sees_fence, tells_head, tells_min}
 
 -- an `Enter` is noted as a lost region at most
@@ -286,8 +288,8 @@ none_put values r p j [] none = refl
 none_put values r p j (e ∷ xs) none = rw (puts_nothing values r p j e.by e.verb e.answer none) (none_put values r p j xs none)
 
 -- a region that is caught up beyond what is known told so by its FUO
-caught_decided : (c : Config) (r p : ℕ) (mine : List Event) → is_caught_up_at c r p mine (end_of c r mine) ≡ true → is_known_decided r mine p (end_of c r mine) ≡ true
-caught_decided c r p mine caught = true_or (nat_lt (end_of c r mine) (greatest_fuo_read r p mine)) ((p == r) && has (entry_seen r r (end_of c r mine + 1)) mine) (go (nat_lt (end_of c r mine) (greatest_fuo_read r p (leadership r mine))) refl)
+pub caught_read : (c : Config) (r p : ℕ) (mine : List Event) → is_caught_up_at c r p mine (end_of c r mine) ≡ true → nat_lt (end_of c r mine) (greatest_fuo_read r p mine) ≡ true
+caught_read c r p mine caught = go (nat_lt (end_of c r mine) (greatest_fuo_read r p (leadership r mine))) refl
   where
     more : nat_lt (end_of c r mine) (greatest_fuo_read r p (leadership r mine)) ≡ true → nat_lt (end_of c r mine) (greatest_fuo_read r p mine) ≡ true
     more high = lt-ltb (end_of c r mine) (greatest_fuo_read r p mine) (let low = ltb-true (end_of c r mine) (greatest_fuo_read r p (leadership r mine)) high in let all = greatest_since (λ e. fuo_read r p e.by e.verb e.answer) (begins_leadership r) mine in omega (arith, low, all))
@@ -299,9 +301,20 @@ caught_decided c r p mine caught = true_or (nat_lt (end_of c r mine) (greatest_f
         both : nat_lt (end_of c r mine) (greatest_fuo_read r p (leadership r mine)) ≡ false → has (λ e. is_known_put (known c r mine) r p (end_of c r mine) e.by e.verb e.answer) (leadership r mine) ≡ false → is_caught_up_at c r p mine (end_of c r mine) ≡ false
         both x y = rw (x, y) refl
 
+caught_decided : (c : Config) (r p : ℕ) (mine : List Event) → is_caught_up_at c r p mine (end_of c r mine) ≡ true → is_known_decided r mine p (end_of c r mine) ≡ true
+caught_decided c r p mine caught = true_or (nat_lt (end_of c r mine) (greatest_fuo_read r p mine)) ((p == r) && has (entry_seen r r (end_of c r mine + 1)) mine) (caught_read c r p mine caught)
+
 -- an entry that is decided is learnt
 entry_taught : (c : Config) (r p b v : ℕ) (mine : List Event) → is_known_decided r mine p (end_of c r mine) ≡ true → known c r (event_by r (Verb.Look p (end_of c r mine)) (Answer.Entry b v) ∷ mine) ≡ known c r mine ++ v ∷ []
 entry_taught c r p b v mine decided = rw (same_number r, same_number (end_of c r mine), decided) refl
+
+-- so a look of the catching up that isn't past teaches something
+pub learning_taught : (c : Config) (r p : ℕ) (answer : Answer) (mine : List Event) → IsPossible c r (look_event r p (end_of c r mine) answer ∷ mine) → is_caught_up_at c r p mine (end_of c r mine) ≡ true → is_past answer ≡ false → knows_more c r mine (look_event r p (end_of c r mine) answer) ≡ true
+learning_taught c r p (Answer.Entry b v) mine possible caught not_past =
+    subst (λ xs. nat_lt (end_of c r mine) (length xs) ≡ true) (sym (entry_taught c r p b v mine (caught_decided c r p mine caught))) (lt-ltb (end_of c r mine) (length (known c r mine ++ v ∷ [])) (let more = length-append (known c r mine) (v ∷ []) in omega (arith, more)))
+learning_taught c r p Answer.Past mine possible caught not_past = absurd (true≢false not_past)
+learning_taught c r p answer mine possible caught not_past =
+    absurd (parts_find_law c r p (end_of c r mine) mine (look_event r p (end_of c r mine) answer) possible refl (ltb-true (end_of c r mine) (greatest_fuo_read r p mine) (caught_read c r p mine caught)) (empty_is c r p (end_of c r mine) answer mine possible not_past refl))
 
 one_more : (c : Config) (r : ℕ) (mine values : List ℕ) (v : ℕ) → values ≡ mine ++ v ∷ [] → length values - 1 ≡ length mine
 one_more c r mine values v is = let long = ap length is in let more = length-append mine (v ∷ []) in omega (arith, long, more)

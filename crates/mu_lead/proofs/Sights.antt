@@ -58,7 +58,7 @@ full_shown r p i (e ∷ xs) is = go (is_entry_look (look_answer r p i e.by e.ver
         later false u is = is
 
 -- a look that is neither past nor an entry is empty
-empty_is : (c : Config) (r p i : ℕ) (a : Answer) (mine : List Event) → IsPossible c r (look_event r p i a ∷ mine) → is_past a ≡ false → entry_of (Some a) ≡ None → a ≡ Answer.Empty
+pub empty_is : (c : Config) (r p i : ℕ) (a : Answer) (mine : List Event) → IsPossible c r (look_event r p i a ∷ mine) → is_past a ≡ false → entry_of (Some a) ≡ None → a ≡ Answer.Empty
 empty_is c r p i a mine possible not_past none =
     let s = at_event c r mine (look_event r p i a) possible in
     go (nat_lt (i + c.ring) (length (region_log p s.older))) (slice_get (region_log p s.older) i) (answered c r mine (look_event r p i a) (Verb.Look p i) possible refl)

@@ -115,6 +115,7 @@ RoomsAt c r mine written (Place.ReadMin p) = IsReading c r mine written p
 RoomsAt c r mine written (Place.EnterMin p) = IsNumbering c r mine p Stage.EnterMin
 RoomsAt c r mine written (Place.PutMin p) = IsNumbering c r mine p Stage.PutMin
 RoomsAt c r mine written (Place.Evidence p) = IsEnded c r mine
+RoomsAt c r mine written Place.Outrun = IsAway c r mine
 RoomsAt c r mine written place = IsPlaced c r mine written place
 
 -- the scores name a lower replica, and a leadership is under way or was confirmed
@@ -146,20 +147,27 @@ KeepsUntaught old place values verb answer new =
     ≡ false
     → HasRooms mine old → HasRooms (record { by = old.id; verb = verb; answer = answer } ∷ mine) new
 
--- the same of a look at the first unknown position, where it teaches something
-abbrev pub KeepsTaught : Lead → Place → List ℕ → ℕ → ℕ → Answer → Lead → Type 0
-KeepsTaught old place values p i answer new =
+-- the same of a look at the first unknown position
+abbrev pub KeepsLook : Lead → Place → List ℕ → ℕ → ℕ → Answer → Lead → Type 0
+KeepsLook old place values p i answer new =
     (mine : List Event) → StandsFor mine old → old.place ≡ place → i ≡ end_of old.config old.id mine
     → IsPossible old.config old.id
     (record { by = old.id; verb = Verb.Look p i; answer = answer } ∷ mine)
     → values ≡ known old.config old.id
     (record { by = old.id; verb = Verb.Look p i; answer = answer } ∷ mine)
     → is_replication mine (record { by = old.id; verb = Verb.Look p i; answer = answer }) ≡ true
-    → knows_more old.config old.id mine
-    (record { by = old.id; verb = Verb.Look p i; answer = answer })
-    ≡ true
     → HasRooms mine old
     → HasRooms (record { by = old.id; verb = Verb.Look p i; answer = answer } ∷ mine) new
+
+-- the same of a step that ends the leadership
+abbrev pub KeepsEnding : Lead → Place → List ℕ → Verb → Answer → Lead → Type 0
+KeepsEnding old place values verb answer new =
+    (mine : List Event) → StandsFor mine old → old.place ≡ place
+    → IsPossible old.config old.id (record { by = old.id; verb = verb; answer = answer } ∷ mine)
+    → values ≡ known_told old.config old.id mine old.id verb answer
+    → is_replication mine (record { by = old.id; verb = verb; answer = answer }) ≡ true
+    → is_over old.id (record { by = old.id; verb = verb; answer = answer } ∷ mine) ≡ true
+    → HasRooms mine old → HasRooms (record { by = old.id; verb = verb; answer = answer } ∷ mine) new
 
 -- the event ends the leadership, wherever in it the leader was
 abbrev pub LeavesRooms : List Event → Lead → Verb → Answer → Lead → Type 0
@@ -174,14 +182,14 @@ abbrev pub is_one_position : Then → Bool
 is_one_position Then.Position = true
 is_one_position _ = false
 
--- from which places a step, which teaches something or not, is shown to keep the rooms
-abbrev pub is_kept : Place → Bool → Bool
-is_kept (Place.Learn p) teaches = teaches
-is_kept (Place.PutBehind p then) teaches = false
-is_kept (Place.RaiseBehind p then) teaches = not (is_one_position then)
-is_kept (Place.FenceBehind p then) teaches = false
-is_kept (Place.Look p i candidate best) teaches = not teaches
-is_kept place teaches = true
+-- from which places a step, which teaches something or not and ends the leadership or not, is shown
+-- to keep the rooms
+abbrev pub is_kept : Place → Bool → Bool → Bool
+is_kept (Place.PutBehind p then) teaches ends = ends
+is_kept (Place.RaiseBehind p then) teaches ends = not (is_one_position then)
+is_kept (Place.FenceBehind p then) teaches ends = ends
+is_kept (Place.Look p i candidate best) teaches ends = not teaches
+is_kept place teaches ends = true
 
 -- from these places, by the answer to the verb that was due, the leader comes to a place whose
 -- counts have room
@@ -195,6 +203,7 @@ RoomsDue old values answer new =
     → is_replication mine (record { by = old.id; verb = verb; answer = answer }) ≡ true
     → is_kept old.place
     (knows_more old.config old.id mine (record { by = old.id; verb = verb; answer = answer }))
+    (is_over old.id (record { by = old.id; verb = verb; answer = answer } ∷ mine))
     ≡ true
     → HasRooms mine old
     → HasRooms (record { by = old.id; verb = verb; answer = answer } ∷ mine) new
@@ -208,6 +217,7 @@ RoomsNext mine old values answer new =
     → is_replication mine (record { by = old.id; verb = verb; answer = answer }) ≡ true
     → is_kept old.place
     (knows_more old.config old.id mine (record { by = old.id; verb = verb; answer = answer }))
+    (is_over old.id (record { by = old.id; verb = verb; answer = answer } ∷ mine))
     ≡ true
     → HasRooms mine old
     → HasRooms (record { by = old.id; verb = verb; answer = answer } ∷ mine) new

@@ -15,7 +15,7 @@ ghost use Rattle.mu_lead.specs.Saying.{NotesEnter, NotesEvidence, NotesHead, Not
 ghost use Rattle.mu_lead.specs.declared.note.Note.{Note as SomeNote};
 ghost use Rattle.mu_lead.specs.Going.{going_after};
 ghost use Rattle.mu_lead.specs.Raising.{KeepsRaises};
-ghost use Rattle.mu_lead.specs.Rooms.{KeepsRooms};
+ghost use Rattle.mu_lead.specs.Rooms.{KeepsEnding, KeepsRooms};
 
 use crate::lead::Lead;
 use crate::note::Note;
@@ -184,6 +184,10 @@ impl Lead {
             (SomeVerb.PutSlot p (get_or self.old.up p 0) self.old.number
             (get_or known.now (get_or self.old.up p 0) 0))
             answer self.new }
+        ensures rooms { KeepsEnding self.old (SomePlace.PutBehind p then) known.now
+            (SomeVerb.PutSlot p (get_or self.old.up p 0) self.old.number
+            (get_or known.now (get_or self.old.up p 0) 0))
+            answer self.new }
         ensures quiet { value_committed result ≡ None }
         ensures missed { answer ≡ SomeAnswer.Missed → self.new.place ≡ SomePlace.Evidence p }
         ensures config { self.new.config ≡ self.old.config }
@@ -202,6 +206,9 @@ impl Lead {
     pub fn at_fence_behind(&mut self, p: u8, then: Then, answer: Answer) -> Note
         ensures stands { (values : List ℕ)
             → Takes self.old (SomePlace.FenceBehind p then) values (SomeVerb.Fence p) answer
+            self.new }
+        ensures rooms { (values : List ℕ)
+            → KeepsEnding self.old (SomePlace.FenceBehind p then) values (SomeVerb.Fence p) answer
             self.new }
         ensures quiet { value_committed result ≡ None }
         ensures config { self.new.config ≡ self.old.config }

@@ -23,7 +23,7 @@ ghost use Rattle.mu_pace.specs.Members.{IsNextMember, members_from};
 ghost use Rattle.mu_pace.specs.Weights.{Stage};
 ghost use Rattle.mu_lead.specs.declared.place.Then.{Then as SomeThen};
 ghost use Rattle.mu_lead.specs.Onward.{IsNextBehind, MayBringUp, MayGoOn, passed_over};
-ghost use Rattle.mu_lead.specs.Rooms.{IsLed, KeepsRooms, KeepsTaught, RoomsAt, is_one_position};
+ghost use Rattle.mu_lead.specs.Rooms.{IsLed, KeepsEnding, KeepsRooms, KeepsLook, RoomsAt, is_one_position};
 
 use crate::arrays::{with_fuo, with_number};
 use crate::lead::Lead;
@@ -120,7 +120,7 @@ impl Lead {
     pub fn took_learning(&mut self, source: u8, answer: Answer, known: &[u16]) -> Note
         ensures stands { (i : ℕ) → TakesLook self.old (SomePlace.Learn source) known.now source i answer self.new }
         ensures rooms { (i : ℕ)
-            → KeepsTaught self.old (SomePlace.Learn source) known.now source i answer self.new }
+            → KeepsLook self.old (SomePlace.Learn source) known.now source i answer self.new }
         ensures quiet { value_committed result ≡ None }
         ensures config { self.new.config ≡ self.old.config }
         ensures id { self.new.id ≡ self.old.id }
@@ -391,6 +391,9 @@ impl Lead {
     pub fn took_fence_behind(&mut self, p: u8, then: Then, fence: Fence) -> Note
         ensures stands { (values : List ℕ)
             → Takes self.old (SomePlace.FenceBehind p then) values (SomeVerb.Fence p)
+            (SomeAnswer.Seen fence) self.new }
+        ensures rooms { (values : List ℕ)
+            → KeepsEnding self.old (SomePlace.FenceBehind p then) values (SomeVerb.Fence p)
             (SomeAnswer.Seen fence) self.new }
         ensures quiet { value_committed result ≡ None }
         ensures config { self.new.config ≡ self.old.config }

@@ -8,7 +8,13 @@ use Rattle.std.proofs.Common.{arith}
 use Rattle.mu_lead.specs.declared.place.Then.{Then}
 use Rattle.mu_lead.proofs.Bringing.{none_behind}
 use Rattle.mu_lead.proofs.RoomsBrought.{level_brought}
-use Rattle.mu_lead.proofs.RoomsLearning.{past_untaught, rooms_learnt, rooms_learnt_all, rooms_learnt_level}
+use Rattle.std.proofs.Common.{subst, true, ◌≡◌}
+use Rattle.mu_model.specs.Parts.{IsPossible}
+use Rattle.mu_lead.specs.Leading.{end_of}
+use Rattle.mu_lead.proofs.Rows.{learning_taught}
+use Rattle.mu_model.specs.Steps.{knows_more}
+use Rattle.mu_lead.proofs.RoomsOutrun.{rooms_outrun_learning}
+use Rattle.mu_lead.proofs.RoomsLearning.{rooms_learnt, rooms_learnt_all, rooms_learnt_level}
 use Rattle.mu_lead.proofs.lead.Lead.took_learning.Goals as goal
 
 pub returns-then-is_past-clause-stands : goal.returns-then-is_past-clause-stands
@@ -53,12 +59,12 @@ pub returns-else-is_past-clause-going : goal.returns-else-is_past-clause-going
 returns-else-is_past-clause-going c = sym (c.learnt.ensures.going c.args.self.now.under_way)
 
 pub returns-then-is_past-clause-rooms : goal.returns-then-is_past-clause-rooms
-returns-then-is_past-clause-rooms c = λ i mine s is position possible told turn more rooms.
+returns-then-is_past-clause-rooms c = λ i mine s is position possible told turn rooms.
     let l = c.args.self.now in
-    absurd (past_untaught l.config l.id c.args.source i c.args.answer mine (sym c.is_past.ensures ∙ c.if-is_past.true) more)
+    rooms_outrun_learning l.config l.id c.args.source i c.args.answer mine s.config turn (sym c.is_past.ensures ∙ c.if-is_past.true) position (rw is at rooms)
 
 pub returns-else-is_past-clause-rooms : goal.returns-else-is_past-clause-rooms
-returns-else-is_past-clause-rooms c = λ i mine s is position possible told turn more rooms.
+returns-else-is_past-clause-rooms c = λ i mine s is position possible told turn rooms.
     let l = c.args.self.now in
     let here = rw is at s.at in
     let few = s.config.replicas.1 in
@@ -70,6 +76,8 @@ returns-else-is_past-clause-rooms c = λ i mine s is position possible told turn
     let leads = leads_kept l.config l.id l.number l.id (Verb.Look p i) c.args.answer mine refl here.leads in
     let a = c.args.answer in
     let led = rw is at rooms in
+    let caught = (s.tables.brought p).caught_up (end_of l.config l.id mine) here.lacks in
+    let more = subst (λ x. knows_more l.config l.id mine (look_event l.id p x a) ≡ true) (sym position) (learning_taught l.config l.id p a mine (subst (λ x. IsPossible l.config l.id (look_event l.id p x a ∷ mine)) position possible) caught (sym c.is_past.ensures ∙ c.if-is_past.false)) in
     c.learn_from-self.ensures.rooms (e ∷ mine) (record { possible = possible; config = s.config; inside = s.inside; leading = leading; tables = tables }) told
     (rooms_learnt l.config l.id p i a mine s.config turn more led)
     (λ q. rooms_learnt_all l.config l.id p i q a mine s.config turn more led)

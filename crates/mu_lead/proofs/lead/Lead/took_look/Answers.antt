@@ -7,6 +7,7 @@ use Rattle.mu_lead.proofs.Looks.{look_same, looking_on}
 use Rattle.mu_lead.proofs.Sights.{outrun_by}
 use Rattle.mu_lead.specs.Offering.{entry_in}
 use Rattle.mu_model.specs.Picks.{larger}
+use Rattle.mu_lead.proofs.RoomsOutrun.{rooms_outrun_looking}
 use Rattle.mu_lead.proofs.RoomsLooking.{none_longer, rooms_next_look, rooms_outrun, rooms_picks, rooms_writes}
 use Rattle.mu_lead.proofs.lead.Lead.took_look.Goals as goal
 
@@ -76,7 +77,8 @@ pub returns-then-is_past-clause-rooms : goal.returns-then-is_past-clause-rooms
 returns-then-is_past-clause-rooms c = λ mine s is possible told turn none rooms.
     let l = c.args.self.now in
     let here = rw is at s.at in
-    rooms_outrun l.config l.id c.args.p c.args.position c.args.answer mine s.config turn none here.region here.member (rw is at rooms)
+    rooms_outrun_looking l.config l.id c.args.p c.args.position c.args.answer mine s.config turn (sym c.is_past.ensures ∙ c.if-is_past.true) here.position
+    (rooms_outrun l.config l.id c.args.p c.args.position c.args.answer mine s.config turn none here.region here.member (rw is at rooms))
 
 pub returns-then-from-known-clause-rooms : goal.returns-then-from-known-clause-rooms
 returns-then-from-known-clause-rooms c = λ mine s is possible told turn none rooms.
