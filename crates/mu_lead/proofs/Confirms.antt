@@ -1,11 +1,10 @@
 -- The count of steps to the first minimum of a confirmed leadership, step by step.
-use Rattle.std.proofs.Common.{◌≡◌, ℕ, ◌+◌, ◌-◌, ◌<◌, ◌≤◌, Bool, true, false, ◌&&◌, List, ◌∷◌, None, is_some, refl, sym, ◌∙◌, ap, subst, arith, true≢false}
+use Rattle.std.proofs.Common.{◌≡◌, ℕ, ◌+◌, ◌-◌, ◌<◌, Bool, true, false, ◌&&◌, List, ◌∷◌, None, is_some, refl, sym, ◌∙◌, ap, subst, arith, true≢false}
 use Rattle.std.specs.Prelude.{not}
 use Rattle.std.proofs.lemmas.Bool.{and_left, and_parts, and_right, false_from_ne_true, leb-true}
 use Rattle.mu_model.specs.declared.config.Config.{Config}
 use Rattle.mu_model.specs.declared.event.Answer.{Answer}
 use Rattle.mu_model.specs.declared.event.Event.{Event}
-use Rattle.mu_model.specs.declared.event.Fence.{Fence}
 use Rattle.mu_model.specs.declared.event.Verb.{Verb}
 use Rattle.mu_model.specs.Diligence.{is_confirmed}
 use Rattle.mu_model.specs.Histories.{count_below, has}
@@ -26,7 +25,7 @@ use Rattle.mu_lead.specs.Beside.{is_beside, leads_at}
 use Rattle.mu_lead.specs.Confirmations.{ConfirmsAt, ConfirmsDue, HasRead, KeepsConfirmation, MinimaComeInTime, NoneIsAwaited, is_gathering}
 use Rattle.mu_lead.specs.Confirming.{Confirmed}
 use Rattle.mu_lead.specs.Going.{begins_at}
-use Rattle.mu_lead.specs.Standing.{At, StandsFor}
+use Rattle.mu_lead.specs.Standing.{At}
 use Rattle.mu_lead.proofs.RoomsMin.{min_now}
 use Rattle.mu_lead.proofs.Taking.{HasVerb, verb_is}
 

@@ -1,4 +1,4 @@
-use Rattle.std.proofs.Common.{subst, sym, true, false, ◌≡◌, ◌∙◌}
+use Rattle.std.proofs.Common.{subst, sym, ◌∙◌}
 use Rattle.std.proofs.lemmas.Bool.{true≢false}
 use Rattle.mu_lead.specs.declared.lead.Lead.{Lead}
 use Rattle.mu_lead.specs.Evidence.{ExplainsAt}
