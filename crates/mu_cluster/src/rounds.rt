@@ -14,7 +14,7 @@ ghost use Rattle.mu_outcome.specs.Turns.{rounds_paused as rounds_paused_of};
 use mu_input::Job;
 use mu_model::{NoMemory, Pause};
 use mu_node::{Node, NodeResult, Turn};
-use mu_port::Memory;
+use mu_port::{Memory, MemoryPort};
 use std::alloc::Global;
 
 /// A replica in its rounds.
@@ -70,39 +70,38 @@ impl Seat {
         node.into_result()
     }
 
-    /// Its turn in a round, over the memory.
-    fn play<M: Memory>(&mut self, memory: M, pauses: &[Pause]) -> M
-        requires config { IsConfig (M.config memory) }
-        requires inside { self.old.node.id < (M.config memory).replicas }
+    /// Its turn in a round: the memory is passed to it.
+    fn play<M: Memory>(&mut self, port: &mut MemoryPort<M>, pauses: &[Pause])
+        requires config { IsConfig port.old.config }
+        requires inside { self.old.node.id < port.old.config.replicas }
         requires sits { (script : Script)
             × ((rounds : ℕ)
-            × Sits (M.config memory) script self.old.node.id
-            (part_of self.old.node.id (M.events memory)) self.old rounds) }
-        ensures config { M.config result ≡ M.config memory }
+            × Sits port.old.config script self.old.node.id
+            (part_of self.old.node.id port.old.events) self.old rounds) }
+        ensures config { port.new.config ≡ port.old.config }
         ensures plays { (script : Script) → (rounds : ℕ) → pauses.now ≡ script.pauses
-            → Sits (M.config memory) script self.old.node.id (part_of self.old.node.id (M.events memory))
+            → Sits port.old.config script self.old.node.id (part_of self.old.node.id port.old.events)
             self.old rounds
-            → Plays (M.config memory) script self.old.node.id (M.events memory) (M.events result) self.old
+            → Plays port.old.config script self.old.node.id port.old.events port.new.events self.old
             self.new rounds }
         ensures left { (script : Script) → (rounds : ℕ)
-            → Sits (M.config memory) script self.old.node.id (part_of self.old.node.id (M.events memory))
+            → Sits port.old.config script self.old.node.id (part_of self.old.node.id port.old.events)
             self.old rounds
             → left_of self.new + one_if_going self.old.ended ≤ left_of self.old }
     {
         if self.ended {
-            return memory;
+            return;
         }
         let id = self.node.id();
         if self.waited < rounds_paused(pauses, id, self.node.steps()) {
             self.waited = self.waited.saturating_add(1);
-            return memory;
+            return;
         }
-        let mut port = memory.port(id);
-        match self.node.turn(&mut port) {
+        port.pass_to(id);
+        match self.node.turn(port) {
             Turn::Took(_) => self.waited = 0,
             Turn::Ended(_) => self.ended = true,
         }
-        port.back()
     }
 }
 
@@ -134,27 +133,44 @@ fn are_going(seats: &[Seat]) -> bool
 }
 
 /// One round.
-fn round<M: Memory>(mut memory: M, seats: &mut [Seat], pauses: &[Pause]) -> M
-    requires config { IsConfig (M.config memory) }
+fn round<M: Memory>(port: &mut MemoryPort<M>, seats: &mut [Seat], pauses: &[Pause])
+    requires config { IsConfig port.old.config }
     requires played { (script : Script)
         × ((rounds : ℕ)
         × ((pauses.now ≡ script.pauses)
-        × Played (M.config memory) script (M.events memory) seats.old rounds 0)) }
-    ensures config { M.config result ≡ M.config memory }
+        × Played port.old.config script port.old.events seats.old rounds 0)) }
+    ensures config { port.new.config ≡ port.old.config }
     ensures played { (script : Script) → (rounds : ℕ) → pauses.now ≡ script.pauses
-        → Played (M.config memory) script (M.events memory) seats.old rounds 0
-        → Played (M.config memory) script (M.events result) seats.new (suc rounds) 0 }
+        → Played port.old.config script port.old.events seats.old rounds 0
+        → Played port.old.config script port.new.events seats.new (suc rounds) 0 }
     ensures left { (k : ℕ) → (seat : Seat) → slice_get seats.old k ≡ Some seat → seat.ended ≡ false
         → all_left seats.new < all_left seats.old }
 {
     for k in 0..seats.len() {
-        memory = seats[k].play(memory, pauses);
+        seats[k].play(port, pauses);
     }
-    memory
 }
 
 /// Round after round, until each replica has an end.
-pub(crate) fn finished<M: Memory>(mut memory: M, seats: &mut [Seat], pauses: &[Pause]) -> M
+fn play_rounds<M: Memory>(port: &mut MemoryPort<M>, seats: &mut [Seat], pauses: &[Pause])
+    requires config { IsConfig port.old.config }
+    requires played { (script : Script)
+        × ((rounds : ℕ)
+        × ((pauses.now ≡ script.pauses)
+        × Played port.old.config script port.old.events seats.old rounds 0)) }
+    ensures config { port.new.config ≡ port.old.config }
+    ensures played { (script : Script) → (rounds : ℕ) → pauses.now ≡ script.pauses
+        → Played port.old.config script port.old.events seats.old rounds 0
+        → (more : ℕ) × Played port.old.config script port.new.events seats.new more 0 }
+    ensures ended { (r : ℕ) → (seat : Seat) → slice_get seats.new r ≡ Some seat → seat.ended ≡ true }
+{
+    while are_going(seats) {
+        round(port, seats, pauses);
+    }
+}
+
+/// The memory after all rounds. Its port is passed round, so that no turn moves the memory.
+pub(crate) fn finished<M: Memory>(memory: M, seats: &mut [Seat], pauses: &[Pause]) -> M
     requires config { IsConfig (M.config memory) }
     requires played { (script : Script)
         × ((rounds : ℕ)
@@ -166,8 +182,7 @@ pub(crate) fn finished<M: Memory>(mut memory: M, seats: &mut [Seat], pauses: &[P
         → (more : ℕ) × Played (M.config memory) script (M.events result) seats.new more 0 }
     ensures ended { (r : ℕ) → (seat : Seat) → slice_get seats.new r ≡ Some seat → seat.ended ≡ true }
 {
-    while are_going(seats) {
-        memory = round(memory, seats, pauses);
-    }
-    memory
+    let mut port = memory.port(0);
+    play_rounds(&mut port, seats, pauses);
+    port.back()
 }

@@ -1,6 +1,6 @@
 -- How soon a replayer raises its head.
-use Rattle.std.proofs.Common.{◌≡◌, ◌∙◌, ℕ, ◌+◌, ◌%◌, ◌<◌, ◌≤◌, ◌⊎◌, inl, inr, Bool, true, false, None, Some, List, [], ◌∷◌, arith, length, refl, sym}
-use Rattle.std.specs.Prelude.{if◌then◌else◌, min, nat_lt}
+use Rattle.std.proofs.Common.{◌≡◌, ◌∙◌, ℕ, ◌+◌, ◌%◌, ◌≤◌, ◌⊎◌, inl, inr, Bool, true, false, None, Some, List, [], ◌∷◌, arith, length, refl, sym}
+use Rattle.std.specs.Prelude.{if◌then◌else◌, min}
 use Rattle.std.specs.declared.option.Option.{Option}
 use Rattle.std.proofs.lemmas.Bool.{lt-ltb, ltb-true, true≢false}
 use Rattle.mu_model.specs.declared.config.Config.{Config}
@@ -8,7 +8,7 @@ use Rattle.mu_model.specs.declared.event.Answer.{Answer}
 use Rattle.mu_model.specs.declared.event.Event.{Event}
 use Rattle.mu_model.specs.declared.event.Verb.{Verb}
 use Rattle.mu_model.specs.Bounds.{cycle}
-use Rattle.mu_model.specs.Histories.{greatest, max_with}
+use Rattle.mu_model.specs.Histories.{max_with}
 use Rattle.mu_model.specs.Knowledge.{applied}
 use Rattle.mu_model.specs.Placing.{fuo_read_or_raised}
 use Rattle.mu_model.specs.Regions.{region_head}

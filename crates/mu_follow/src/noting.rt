@@ -95,6 +95,7 @@ fn count_applied(completion: &mut Completion, config: &Config, knowing: &KnownLo
 impl Follow {
     /// Takes the next event of the replica, of any kind: all that it changes, but for the entry that
     /// a put made known, which `learn` is told next. Takes no memory.
+    #[inline(always)]
     pub fn note(&mut self, event: &Event)
         requires config { IsConfig self.old.config }
         ensures stands { (mine : List Event) → IsPossible self.old.config event.now.by (event.now ∷ mine)
@@ -114,6 +115,7 @@ impl Follow {
     }
 
     /// Takes the event in the states that its verb can change.
+    #[inline(always)]
     fn note_by_kind(&mut self, event: &Event)
         requires config { IsConfig self.old.config }
         ensures stands { (mine : List Event) → (n : ℕ)
@@ -139,6 +141,7 @@ impl Follow {
     }
 
     /// Takes a look.
+    #[inline(never)]
     fn note_look(&mut self, event: &Event)
         requires config { IsConfig self.old.config }
         ensures stands { (mine : List Event) → (n : ℕ) → kind_of_verb event.now.verb ≡ Kind.Look
@@ -201,6 +204,7 @@ impl Follow {
     }
 
     /// Takes a word of a row, written or read.
+    #[inline(never)]
     fn note_row(&mut self, event: &Event)
         requires config { IsConfig self.old.config }
         ensures stands { (mine : List Event) → (n : ℕ) → kind_of_verb event.now.verb ≡ Kind.Row

@@ -287,6 +287,7 @@ impl Grants {
 
     /// Takes the next event of the replica, of any kind. It may be a `Drain` only where a
     /// `LookTarget` came since the last `Close`, as it does wherever a drain is allowed.
+    #[inline(always)]
     pub fn note(&mut self, event: &Event)
         ensures { (n r : ℕ) → (mine : List Event)
             → (event.now.verb ≡ Verb.Drain → looked_since_close r mine ≡ true)

@@ -68,6 +68,7 @@ impl Lead {
         ensures quiet { value_committed result ≡ None }
         ensures config { self.new.config ≡ self.old.config }
         ensures id { self.new.id ≡ self.old.id }
+        ensures named { self.new.named ≡ self.old.named }
         ensures note { NotesRound self.old p answer result }
         ensures going { self.new.under_way ≡ going_after self.old.under_way result }
     {
@@ -86,6 +87,7 @@ impl Lead {
         ensures quiet { value_committed result ≡ None }
         ensures config { self.new.config ≡ self.old.config }
         ensures id { self.new.id ≡ self.old.id }
+        ensures named { self.new.named ≡ self.old.named }
         ensures note { result ≡ SomeNote.Working }
         ensures going { self.new.under_way ≡ going_after self.old.under_way result }
     {
@@ -106,6 +108,7 @@ impl Lead {
         ensures quiet { value_committed result ≡ None }
         ensures config { self.new.config ≡ self.old.config }
         ensures id { self.new.id ≡ self.old.id }
+        ensures named { self.new.named ≡ self.old.named }
         ensures note { NotesEnter p answer result }
         ensures going { self.new.under_way ≡ going_after self.old.under_way result }
     {
@@ -127,6 +130,7 @@ impl Lead {
         ensures missed { answer ≡ SomeAnswer.Missed → self.new.place ≡ SomePlace.Evidence p }
         ensures config { self.new.config ≡ self.old.config }
         ensures id { self.new.id ≡ self.old.id }
+        ensures named { self.new.named ≡ self.old.named }
         ensures note { result ≡ SomeNote.Working }
         ensures going { self.new.under_way ≡ going_after self.old.under_way result }
     {
@@ -144,6 +148,7 @@ impl Lead {
         ensures quiet { value_committed result ≡ None }
         ensures config { self.new.config ≡ self.old.config }
         ensures id { self.new.id ≡ self.old.id }
+        ensures named { self.new.named ≡ self.old.named }
         ensures note { result ≡ SomeNote.Working }
         ensures going { self.new.under_way ≡ going_after self.old.under_way result }
     {
@@ -167,6 +172,7 @@ impl Lead {
         ensures quiet { value_committed result ≡ None }
         ensures config { self.new.config ≡ self.old.config }
         ensures id { self.new.id ≡ self.old.id }
+        ensures named { self.new.named ≡ self.old.named }
         ensures note { NotesEnter p answer result }
         ensures going { self.new.under_way ≡ going_after self.old.under_way result }
     {
@@ -186,6 +192,7 @@ impl Lead {
         ensures missed { answer ≡ SomeAnswer.Missed → self.new.place ≡ SomePlace.Evidence p }
         ensures config { self.new.config ≡ self.old.config }
         ensures id { self.new.id ≡ self.old.id }
+        ensures named { self.new.named ≡ self.old.named }
         ensures note { result ≡ SomeNote.Working }
         ensures going { self.new.under_way ≡ going_after self.old.under_way result }
     {
@@ -203,6 +210,7 @@ impl Lead {
         ensures quiet { value_committed result ≡ None }
         ensures config { self.new.config ≡ self.old.config }
         ensures id { self.new.id ≡ self.old.id }
+        ensures named { self.new.named ≡ self.old.named }
         ensures note { (is_working_or_lost result ≡ true) × NotesOver self.old p answer result }
         ensures going { self.new.under_way ≡ going_after self.old.under_way result }
     {
@@ -229,6 +237,7 @@ impl Lead {
         ensures quiet { value_committed result ≡ None }
         ensures config { self.new.config ≡ self.old.config }
         ensures id { self.new.id ≡ self.old.id }
+        ensures named { self.new.named ≡ self.old.named }
         ensures note { result ≡ SomeNote.Working }
         ensures going { self.new.under_way ≡ going_after self.old.under_way result }
     {
@@ -249,6 +258,7 @@ impl Lead {
         ensures quiet { value_committed result ≡ None }
         ensures config { self.new.config ≡ self.old.config }
         ensures id { self.new.id ≡ self.old.id }
+        ensures named { self.new.named ≡ self.old.named }
         ensures note { NotesMin p self.old.number answer result }
         ensures going { self.new.under_way ≡ going_after self.old.under_way result }
     {
@@ -268,6 +278,7 @@ impl Lead {
         ensures quiet { value_committed result ≡ None }
         ensures config { self.new.config ≡ self.old.config }
         ensures id { self.new.id ≡ self.old.id }
+        ensures named { self.new.named ≡ self.old.named }
         ensures note { result ≡ SomeNote.Working }
         ensures going { self.new.under_way ≡ going_after self.old.under_way result }
     {
@@ -289,6 +300,7 @@ impl Lead {
         ensures quiet { value_committed result ≡ None }
         ensures config { self.new.config ≡ self.old.config }
         ensures id { self.new.id ≡ self.old.id }
+        ensures named { self.new.named ≡ self.old.named }
         ensures note { NotesEnter p answer result }
         ensures going { self.new.under_way ≡ going_after self.old.under_way result }
     {
@@ -308,6 +320,7 @@ impl Lead {
         ensures missed { answer ≡ SomeAnswer.Missed → self.new.place ≡ SomePlace.Evidence p }
         ensures config { self.new.config ≡ self.old.config }
         ensures id { self.new.id ≡ self.old.id }
+        ensures named { self.new.named ≡ self.old.named }
         ensures note { length self.old.up ≡ 7
             → NotesJoin p (nat_lt (get_or self.old.up p 0) (length known.now)) answer result }
         ensures going { self.new.under_way ≡ going_after self.old.under_way result }
@@ -339,6 +352,7 @@ impl Lead {
         ensures quiet { value_committed result ≡ None }
         ensures config { self.new.config ≡ self.old.config }
         ensures id { self.new.id ≡ self.old.id }
+        ensures named { self.new.named ≡ self.old.named }
         ensures note { NotesHead self.old q known.now answer result }
         ensures going { self.new.under_way ≡ going_after self.old.under_way result }
     {
@@ -359,6 +373,7 @@ impl Lead {
         ensures quiet { value_committed result ≡ None }
         ensures config { self.new.config ≡ self.old.config }
         ensures id { self.new.id ≡ self.old.id }
+        ensures named { self.new.named ≡ self.old.named }
         ensures note { NotesEnter p answer result }
         ensures going { self.new.under_way ≡ going_after self.old.under_way result }
     {
@@ -399,6 +414,7 @@ impl Lead {
             (SomeVerb.PutSlot p (length known.now) self.old.number offer.value) answer self.new }
         ensures config { self.new.config ≡ self.old.config }
         ensures id { self.new.id ≡ self.old.id }
+        ensures named { self.new.named ≡ self.old.named }
         ensures note { NotesPut (length known.now) offer result }
         ensures going { self.new.under_way ≡ going_after self.old.under_way result }
     {
@@ -419,6 +435,7 @@ impl Lead {
         ensures quiet { value_committed result ≡ None }
         ensures config { self.new.config ≡ self.old.config }
         ensures id { self.new.id ≡ self.old.id }
+        ensures named { self.new.named ≡ self.old.named }
         ensures note { NotesEvidence p answer result }
         ensures going { self.new.under_way ≡ going_after self.old.under_way result }
     {

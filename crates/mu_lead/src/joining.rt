@@ -62,6 +62,7 @@ impl Lead {
         ensures quiet { value_committed result ≡ None }
         ensures config { self.new.config ≡ self.old.config }
         ensures id { self.new.id ≡ self.old.id }
+        ensures named { self.new.named ≡ self.old.named }
         ensures note { result ≡ SomeNote.Working }
         ensures going { self.new.under_way ≡ going_after self.old.under_way result }
     {
@@ -93,6 +94,7 @@ impl Lead {
         ensures quiet { value_committed result ≡ None }
         ensures config { self.new.config ≡ self.old.config }
         ensures id { self.new.id ≡ self.old.id }
+        ensures named { self.new.named ≡ self.old.named }
         ensures going { self.new.under_way ≡ going_after self.old.under_way result }
     {
         let event = Event {
@@ -124,6 +126,7 @@ impl Lead {
         ensures quiet { value_committed result ≡ None }
         ensures config { self.new.config ≡ self.old.config }
         ensures id { self.new.id ≡ self.old.id }
+        ensures named { self.new.named ≡ self.old.named }
         ensures note { result ≡ SomeNote.Working }
         ensures going { self.new.under_way ≡ going_after self.old.under_way result }
     {
@@ -150,6 +153,7 @@ impl Lead {
         ensures quiet { value_committed result ≡ None }
         ensures config { self.new.config ≡ self.old.config }
         ensures id { self.new.id ≡ self.old.id }
+        ensures named { self.new.named ≡ self.old.named }
         ensures note { result ≡ SomeNote.Working }
         ensures going { self.new.under_way ≡ going_after self.old.under_way result }
     {
@@ -172,6 +176,7 @@ impl Lead {
         ensures quiet { value_committed result ≡ None }
         ensures config { self.new.config ≡ self.old.config }
         ensures id { self.new.id ≡ self.old.id }
+        ensures named { self.new.named ≡ self.old.named }
         ensures note { length self.old.up ≡ 7
             → result ≡ note_of_join p (nat_lt (get_or self.old.up p 0) (length known.now)) }
         ensures going { self.new.under_way ≡ going_after self.old.under_way result }

@@ -71,6 +71,8 @@ impl Lead {
         ensures raises { IfOk result (λ lead. RaisesAt lead.config lead.id [] lead.place) }
         ensures confirms { IfOk result (λ lead. ConfirmsAt lead.config lead.id [] lead.place) }
         ensures joins { IfOk result (λ lead. JoinsAt lead.config lead.id [] lead.place) }
+        ensures unnamed { IfOk result (λ lead. lead.named ≡ false) }
+        ensures idle { IfOk result (λ lead. lead.under_way ≡ false) }
     {
         Ok(Lead {
             config: config.copied(alloc)?,
@@ -193,6 +195,7 @@ impl Lead {
     }
 
     /// The verb of the place.
+    #[inline(never)]
     fn verb(&self, known: &[u16]) -> Option<Verb>
         ensures { (mine : List Event) → StandsFor mine self.now → length known.now < 65536
             → result ≡ verb_of self.now known.now }
@@ -280,6 +283,7 @@ impl Lead {
         ensures tells { TellsNext mine self.old known.now answer result }
         ensures config { self.new.config ≡ self.old.config }
         ensures id { self.new.id ≡ self.old.id }
+        ensures named { self.new.named ≡ self.old.named }
         ensures says { SaysNext mine self.old known.now answer result }
         ensures going { self.new.under_way ≡ going_after (begins_at self.old.place || self.old.under_way) result }
     {
@@ -303,6 +307,7 @@ impl Lead {
         ensures tells { TellsDue self.old known.now answer result }
         ensures config { self.new.config ≡ self.old.config }
         ensures id { self.new.id ≡ self.old.id }
+        ensures named { self.new.named ≡ self.old.named }
         ensures note { NotesDue self.old known.now answer result }
         ensures going { self.new.under_way ≡ going_after (begins_at self.old.place || self.old.under_way) result }
     {

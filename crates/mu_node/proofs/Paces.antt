@@ -14,7 +14,8 @@ use Rattle.mu_pace.proofs.Counting.{last_moment}
 use Rattle.mu_pace.proofs.Replaying.{replay_goes_on}
 use Rattle.mu_node.specs.Journal.{WasMade}
 use Rattle.mu_node.proofs.Left.{steps_within}
-use Rattle.mu_node.proofs.Replaying.{own_in_time, rows_in_time}
+use Rattle.mu_node.proofs.Open.{own_in_time}
+use Rattle.mu_node.proofs.Replaying.{rows_in_time}
 use Rattle.mu_node.proofs.Rounding.{keeps_rounds, raised_in_time}
 
 -- the replayer pace

@@ -1,5 +1,5 @@
 -- Each event of a node stands at its place of the round.
-use Rattle.std.proofs.Common.{◌≡◌, ◌∙◌, ◌≢◌, ℕ, zero, suc, ◌+◌, ◌-◌, ◌*◌, ◌/◌, ◌%◌, ◌<◌, ◌≤◌, ◌==◌, ◌⊎◌, inl, inr, Bool, true, false, None, Some, List, [], ◌∷◌, ap, arith, length, refl, subst, sym}
+use Rattle.std.proofs.Common.{◌≡◌, ◌∙◌, ◌≢◌, ℕ, zero, suc, ◌+◌, ◌-◌, ◌*◌, ◌/◌, ◌%◌, ◌<◌, ◌≤◌, ◌==◌, inl, inr, Bool, true, false, None, Some, List, ap, arith, length, refl, subst, sym}
 use Rattle.std.specs.Prelude.{if◌then◌else◌, min, nat_lt}
 use Rattle.std.specs.declared.option.Option.{Option}
 use Rattle.std.specs.List.{slice_get}
@@ -18,7 +18,7 @@ use Rattle.mu_model.specs.Scores.{leader}
 use Rattle.mu_model.specs.Steps.{is_ask_read, is_ask_read_verb, is_beat, is_beat_read, is_beat_read_verb, is_beat_verb, is_head_of, is_head_of_verb, is_head_raise, is_head_raise_verb}
 use Rattle.mu_model.specs.Stretches.{is_odd}
 use Rattle.mu_model.proofs.Basics.{same_number}
-use Rattle.mu_grant.specs.Pace.{host_place, places}
+use Rattle.mu_grant.specs.Pace.{host_place}
 use Rattle.mu_grant.specs.Stands.{Gives, is_of_place}
 use Rattle.mu_follow.specs.Due.{ahead_due, filled_known, first_word_of, fuo_due, head_due, look_due, next_due, next_word_of, other_head_due, other_of, own_fuo, raise_due, replay_due, row_under_way, rows_had, word_due}
 use Rattle.mu_follow.specs.Paces.{RaisesHeadAt}
@@ -61,11 +61,10 @@ in_longer a b t s m few low at =
     let first : t * b ≡ b * t = swapped t b in
     let sum : b * (t + a * (m / (a * b))) ≡ b * t + b * (a * (m / (a * b))) = both b t (a * (m / (a * b))) in
     let is : m ≡ s + b * (t + a * (m / (a * b))) = omega (arith, whole, by_parts, first, sum, at) in
-    let some : 0 < b = omega (arith, low) in
-    (
+    let some : 0 < b = omega (arith, low) in (
       ap (λ z. z % b) is ∙ (add-mul-mod_self_left s b (t + a * (m / (a * b))) ∙ mod-eq_of_lt low),
       (let over : m / b ≡ t + a * (m / (a * b)) = ap (λ z. z / b) is ∙ (add-mul-div_left s (t + a * (m / (a * b))) some ∙ (ap (λ z. z + (t + a * (m / (a * b)))) (none s b low) ∙ plain (t + a * (m / (a * b))))) in
-      ap (λ z. z % a) over ∙ (add-mul-mod_self_left t a (m / (a * b)) ∙ mod-eq_of_lt few)),
+          ap (λ z. z % a) over ∙ (add-mul-mod_self_left t a (m / (a * b)) ∙ mod-eq_of_lt few)),
     )
   where
     swapped : (x y : ℕ) → x * y ≡ y * x
@@ -310,16 +309,28 @@ heads_here c r q mine e inside low other held at =
 pub keeps_rounds : (c : Config) (r : ℕ) (mine : List Event) → r < c.replicas → AtEachStep (WasMade c r) mine → KeepsRounds c r mine
 keeps_rounds c r mine inside made = record {
   beat = (0, (omega arith, steps_give (WasMade c r) (λ before e. length before % cycle c ≡ 0 → is_beat e ≡ true) (λ before e held at. beat_here c r before e inside held at) mine made));
-  beats = λ q low other.
-      (2 * beat_place r q, ((let few = (beat_of c.replicas r q low inside other).low in omega (arith, few)),
-      steps_give (WasMade c r) (λ before e. length before % cycle c ≡ 2 * beat_place r q → is_beat_read q e ≡ true) (λ before e held at. beats_here c r q before e inside low other held at) mine made));
+  beats = λ q low other. (
+    2 * beat_place r q,
+    (
+      (let few = (beat_of c.replicas r q low inside other).low in omega (arith, few)),
+      steps_give (WasMade c r) (λ before e. length before % cycle c ≡ 2 * beat_place r q → is_beat_read q e ≡ true) (λ before e held at. beats_here c r q before e inside low other held at) mine made,
+    ),
+  );
   apart = λ q. (2 * beat_place r q, steps_give (WasMade c r) (λ before e. is_beat_read q e ≡ true → length before % cycle c ≡ 2 * beat_place r q) (λ before e held reads. apart_here c r q before e held reads) mine made);
-  asks = λ w low.
-      (2 * (c.replicas + w), (omega (arith, low),
-      steps_give (WasMade c r) (λ before e. length before % cycle c ≡ 2 * (c.replicas + w) → is_ask_read w e ≡ true) (λ before e held at. asks_here c r w before e low held at) mine made));
-  heads = λ q low other.
-      (head_index c r q, (in_round c.replicas (cycle c) (head_turn r q) (2 * (2 * c.replicas + 21)) (other_turn c.replicas r q low inside other).1 (omega arith),
-      steps_give (WasMade c r) (λ before e. length before % ((c.replicas - 1) * cycle c) ≡ head_index c r q → is_head_of q e ≡ true) (λ before e held at. heads_here c r q before e inside low other held at) mine made));
+  asks = λ w low. (
+    2 * (c.replicas + w),
+    (
+      omega (arith, low),
+      steps_give (WasMade c r) (λ before e. length before % cycle c ≡ 2 * (c.replicas + w) → is_ask_read w e ≡ true) (λ before e held at. asks_here c r w before e low held at) mine made,
+    ),
+  );
+  heads = λ q low other. (
+    head_index c r q,
+    (
+      in_round c.replicas (cycle c) (head_turn r q) (2 * (2 * c.replicas + 21)) (other_turn c.replicas r q low inside other).1 (omega arith),
+      steps_give (WasMade c r) (λ before e. length before % ((c.replicas - 1) * cycle c) ≡ head_index c r q → is_head_of q e ≡ true) (λ before e held at. heads_here c r q before e inside low other held at) mine made,
+    ),
+  );
 }
   where
     in_round : (n b t s : ℕ) → t < n - 1 → s < b → t * b + s < (n - 1) * b

@@ -52,6 +52,7 @@ fn is_done(follow: &Follow, watch: &Watch, r: u8, q: u8, full: usize) -> bool
 }
 
 /// Whether all others have applied so many entries, or are held to be failed.
+#[inline(never)]
 fn are_done(follow: &Follow, watch: &Watch, r: u8, n: u8, full: usize) -> bool
     ensures { (c : Config) → (mine : List Event) → n ≡ c.replicas → StandsForWatch c r mine watch.now
         → StandsForFollow c r mine follow.now

@@ -147,6 +147,7 @@ impl Node {
 
     /// The end of its journal, where it has one: by the script, by the budget, because it was
     /// outrun, or because all is applied.
+    #[inline(always)]
     pub fn end(&self) -> Option<End>
         ensures { (c : Config) → (script : Script) → (r : ℕ) → (mine : List SomeEvent)
             → script.stops ≡ self.now.stops.items → IsConfig c → IsPossible c r mine

@@ -77,6 +77,7 @@ fn told(heeded: Note, note: Note) -> Note
 impl Node {
     /// What is due in this turn: of the leader in odd ones, once it was told whom the scores name,
     /// else of the cycle of the background.
+    #[inline(always)]
     pub(crate) fn plan(&mut self) -> Plan
         ghost mine: { List SomeEvent }
         requires config { IsConfig self.old.follow.config }
@@ -106,6 +107,7 @@ impl Node {
     }
 
     /// What is due in a turn of the leader.
+    #[inline(always)]
     fn plan_led(&mut self) -> Plan
         ghost mine: { List SomeEvent }
         requires config { IsConfig self.old.follow.config }
@@ -133,6 +135,7 @@ impl Node {
     }
 
     /// What is due in a background turn.
+    #[inline(always)]
     fn plan_cycle(&mut self) -> Plan
         ghost mine: { List SomeEvent }
         requires config { IsConfig self.old.follow.config }
@@ -181,6 +184,7 @@ impl Node {
 
     /// Takes the event that the step is, in all parts but the leader. The entry that a put made
     /// known is told next.
+    #[inline(always)]
     fn note(&mut self, by: u8, verb: Verb, answer: Answer)
         requires config { IsConfig self.old.follow.config }
         requires room { 0 < self.old.journal.room }
@@ -235,6 +239,7 @@ impl Node {
 
     /// Takes the event that the step is, and tells the leader the answer of a step of its own. A
     /// resignation is told before all else.
+    #[inline(always)]
     pub(crate) fn took(&mut self, plan: Plan, id: u8, answer: Answer) -> Note
         ghost mine: { List SomeEvent }
         requires id { id ≡ self.old.id }
@@ -269,6 +274,7 @@ impl Node {
     }
 
     /// Takes an event that is not of the leader.
+    #[inline(always)]
     fn note_other(&mut self, by: u8, verb: Verb, answer: Answer)
         requires config { IsConfig self.old.follow.config }
         requires room { 0 < self.old.journal.room }

@@ -91,6 +91,7 @@ impl Watch {
     }
 
     /// Takes a read of a count of beats.
+    #[inline(never)]
     fn note_read(&mut self, n: u8, event: &Event)
         ensures { (c : Config) → (r : ℕ) → (mine : List SomeEvent) → n ≡ c.replicas
             → StandsForWatch c r mine self.old → StandsForWatch c r (event.now ∷ mine) self.new }

@@ -1,5 +1,5 @@
 //! A whole memory that tells its list of events, and the port that holds it.
-ghost use Rattle.std.specs.Prelude.{◌≡◌};
+ghost use Rattle.std.specs.Prelude.{◌<◌, ◌≡◌};
 
 use crate::port::Port;
 use mu_model::{Answer, Config, Event, Journal, Verb};
@@ -80,6 +80,16 @@ impl<M: Memory> Model for MemoryPort<M> {
 }
 
 impl<M: Memory> MemoryPort<M> {
+    /// Passes the memory to the replica `by`, whose port this is from now on. Takes no memory.
+    pub fn pass_to(&mut self, by: u8)
+        requires { by < self.old.config.replicas }
+        ensures replica { self.new.replica ≡ by }
+        ensures config { self.new.config ≡ self.old.config }
+        ensures events { self.new.events ≡ self.old.events }
+    {
+        self.by = by;
+    }
+
     /// The memory. Takes no memory.
     pub fn back(self) -> M
         ensures config { M.config result ≡ self.config }

@@ -30,6 +30,7 @@ impl Layout {
 
     /// The answer that is read off the word that the step finds. An exchange takes exactly where it
     /// finds the word that it expects; `expected` is 0 for a step that is no exchange.
+    #[inline(always)]
     pub fn answer_from(&self, verb: &Verb, expected: u64, word: u64) -> Answer
         requires { 0 < self.now.ring }
         ensures { result ≡ answer_from self.now.ring verb.now expected word }

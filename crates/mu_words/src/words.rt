@@ -181,6 +181,7 @@ impl FenceWord {
     }
 
     /// The fence that the word shows.
+    #[inline(never)]
     pub(crate) fn fence_in(word: u64) -> Fence
         ensures { result ≡ fence_in word }
     {

@@ -7,10 +7,10 @@ use Rattle.mu_cluster.proofs.rounds.round.Given as goal
 
 abbrev pub invariant-loop-k : goal.invariant-loop-k
 invariant-loop-k g l = record {
-  config : (g.M.Memory.config l.memory) ≡ (g.M.Memory.config l.fn.memory);
+  config : l.port.config ≡ l.fn.port.config;
   count : length l.seats ≡ length l.fn.seats;
   ahead : (r : ℕ) → l.k ≤ r → slice_get l.seats r ≡ slice_get l.fn.seats r;
-  played : (script : Script) (rounds : ℕ) → l.pauses ≡ script.pauses → Played (g.M.Memory.config l.fn.memory) script (g.M.Memory.events l.fn.memory) l.fn.seats rounds 0 → Played (g.M.Memory.config l.fn.memory) script (g.M.Memory.events l.memory) l.seats rounds l.k;
+  played : (script : Script) (rounds : ℕ) → l.pauses ≡ script.pauses → Played l.fn.port.config script l.fn.port.events l.fn.seats rounds 0 → Played l.fn.port.config script l.port.events l.seats rounds l.k;
   left : all_left l.seats ≤ all_left l.fn.seats;
   less : (k : ℕ) (seat : Seat) → slice_get l.fn.seats k ≡ Some seat → seat.ended ≡ false → k < l.k → all_left l.seats < all_left l.fn.seats;
 }

@@ -1,0 +1,48 @@
+//! `mu_draw`: draws a run.
+//!
+//! A trace comes on standard input, as `mu trace` prints it and `mu check` reads it. Its picture
+//! goes to standard output, as one document of SVG. Two words, `mu_draw FIRST LAST`, say which steps
+//! are drawn, by their indices from 0; without, all are.
+//!
+//! Where there is no picture, one line says why, as `mu check` prints it: `refused line L cause C`,
+//! `illegal I ..`, `read fault`, `no memory` or `too long`; or how the program is called.
+#![tactic(auto)]
+
+mod answering;
+mod asking;
+mod drawing;
+
+pub use answering::{Answered, answer, draw};
+pub use asking::{Asked, LAST_STEP, asked_of};
+pub use drawing::Told;
+use mu_io::{StdSink, StdSource};
+use std::env;
+use std::io::ErrorKind;
+use std::process::ExitCode;
+use std::rt::Env;
+
+/// The words of the command line after the program's own name.
+///
+/// # Errors
+///
+/// `InvalidData` where a word is no text, and another kind for want of memory.
+fn words_after_name<R: Env + AllocGlobal>(rt: &R) -> Result<Vec<String>, ErrorKind> {
+    let args = env::args(rt).map_err(|error| error.kind())?;
+    let mut words = Vec::new(rt.alloc());
+    for word in args.skip(1) {
+        if words.push(word).is_err() {
+            return Err(ErrorKind::OutOfMemory);
+        }
+    }
+    Ok(words)
+}
+
+fn main(rt: HostRuntime) -> ExitCode {
+    let mut source = StdSource::new(rt.stdin());
+    let mut sink = StdSink::new(rt.stdout());
+    let answered = match words_after_name(&rt) {
+        Ok(words) => draw(rt.alloc(), words.as_slice(), &mut source, &mut sink),
+        Err(kind) => answer(&mut sink, asking::unread(kind)),
+    };
+    ExitCode::from(answered.into_status())
+}

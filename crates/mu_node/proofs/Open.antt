@@ -1,0 +1,164 @@
+-- The counts of a replayer: what closes them, and what an event leaves that closes none.
+use Rattle.std.proofs.Common.{◌≡◌, ◌∙◌, ℕ, ◌+◌, ◌-◌, ◌*◌, ◌%◌, ◌≤◌, ◌==◌, ◌&&◌, ◌||◌, ◌⊎◌, inl, inr, Bool, true, false, None, Some, List, [], ◌∷◌, ap, arith, length, refl, sym}
+use Rattle.std.specs.Prelude.{if◌then◌else◌, nat_lt}
+use Rattle.std.specs.declared.option.Option.{Option}
+use Rattle.std.proofs.lemmas.Bool.{cases_lt, lt-ltb, ltb-true, true≢false}
+use Rattle.mu_model.specs.declared.config.Config.{Config}
+use Rattle.mu_model.specs.declared.event.Event.{Event}
+use Rattle.mu_model.specs.declared.event.Verb.{Verb}
+use Rattle.mu_model.specs.Bounds.{cycle}
+use Rattle.mu_model.specs.Diligence.{completes_row, is_row_of}
+use Rattle.mu_model.specs.Knowledge.{applied, greatest_fuo_read, has_row, known}
+use Rattle.mu_model.specs.Steps.{is_fuo_of, is_fuo_of_verb, is_named, knows_more}
+use Rattle.mu_model.specs.Stretches.{is_odd}
+use Rattle.mu_model.proofs.Basics.{none_some, or_true, same_number, true_or}
+use Rattle.mu_grant.specs.Pace.{host_place}
+use Rattle.mu_grant.specs.Stands.{is_of_place}
+use Rattle.mu_follow.specs.Due.{replay_due}
+use Rattle.mu_follow.proofs.Waiting.{fuo_rises, is_write, known_same, own_applied_same, own_row_same}
+use Rattle.mu_lead.specs.Beside.{leads_at}
+use Rattle.mu_lead.specs.Standing.{verb_of}
+use Rattle.mu_pace.specs.Counters.{AtEachMoment, AtEachStep, HasRoom, IsInTime, Watch, fewer, left_after, steps_left}
+use Rattle.mu_pace.specs.Watches.{is_named_turn, is_replay_due, reading_own, replaying}
+use Rattle.mu_pace.proofs.Cycles.{closed_moments, steps_give, while_allows}
+use Rattle.mu_pace.proofs.Rooms.{kinds_of_step}
+use Rattle.mu_node.specs.Cycle.{handed, other_at, place_now}
+use Rattle.mu_node.specs.Due.{verb_or_beat}
+use Rattle.mu_node.specs.Journal.{WasMade, was_named}
+use Rattle.mu_node.proofs.Rounding.{FailsBackground, background_fails, replayed_at}
+
+-- a step that closes a count leaves what the moment allows
+pub closes_anew : (w : Watch) (n : ℕ) (past : List Event) (e : Event) → w.closes past e ≡ true → ((allowed : ℕ) → w.allows (e ∷ past) ≡ Some allowed → n ≤ allowed) → HasRoom w n (e ∷ past)
+closes_anew w n past e closes most = go (w.allows (e ∷ past)) refl
+  where
+    go : (o : Option ℕ) → w.allows (e ∷ past) ≡ o → HasRoom w n (e ∷ past)
+    go None none = kinds_of_step.closes w n past e none closes
+    go (Some allowed) some = kinds_of_step.opens_anew w allowed n past e some closes (most allowed some)
+
+own_allows : (c : Config) (r : ℕ) (now : List Event) (allowed : ℕ) → (reading_own c r).allows now ≡ Some allowed → 8 * c.replicas + 88 ≡ allowed
+own_allows c r now allowed is = while_allows (λ now. true) (λ now. 8 * c.replicas + 88) now allowed is
+
+pub rows_allow : (c : Config) (r : ℕ) (now : List Event) (allowed : ℕ) → (replaying c r).allows now ≡ Some allowed → 8 * c.replicas + 88 ≡ allowed
+rows_allow c r now allowed is = while_allows (is_replay_due c r) (λ now. 8 * c.replicas + 88) now allowed is
+
+-- right after a turn in which r was named both counts have their whole room
+own_anew : (c : Config) (r n : ℕ) (past : List Event) → n ≤ 8 * c.replicas + 88 → was_named c r past ≡ true → HasRoom (reading_own c r) n past
+own_anew c r n [] low named = absurd (true≢false (sym named))
+own_anew c r n (e ∷ past) low named = closes_anew (reading_own c r) n past e (or_true (is_fuo_of r e) (is_named_turn c r past e) named) (λ allowed is. let whole = own_allows c r (e ∷ past) allowed is in omega (arith, low, whole))
+
+pub rows_anew : (c : Config) (r n : ℕ) (past : List Event) → n ≤ 8 * c.replicas + 88 → was_named c r past ≡ true → HasRoom (replaying c r) n past
+rows_anew c r n [] low named = absurd (true≢false (sym named))
+rows_anew c r n (e ∷ past) low named = closes_anew (replaying c r) n past e (or_true (knows_more c r past e || completes_row c r past e) (is_named_turn c r past e) named) (λ allowed is. let whole = rows_allow c r (e ∷ past) allowed is in omega (arith, low, whole))
+
+-- a read of the own FUO is due at its place, or r was named right before
+own_closed : (c : Config) (r : ℕ) (past : List Event) (e : Event) → WasMade c r past e → length past % cycle c ≡ 2 * (2 * c.replicas + 4) → ((reading_own c r).closes past e ≡ true) ⊎ HasRoom (reading_own c r) (cycle c + 1) past
+own_closed c r past e held at = go (leads_at held.lead.place) refl
+  where
+    here : (is_odd (length past) ≡ false) × (e.verb ≡ verb_or_beat (replay_due c r past (handed c r past) 0 (leads_at held.lead.place)))
+    here = replayed_at c r 0 past e held (at ∙ omega arith)
+
+    go : (t : Bool) → leads_at held.lead.place ≡ t → ((reading_own c r).closes past e ≡ true) ⊎ HasRoom (reading_own c r) (cycle c + 1) past
+    go true leading = inr (own_anew c r (cycle c + 1) past (omega arith) (held.leads here.0 leading))
+    go false other =
+        let reads : e.verb ≡ Verb.Fuo r = here.1 ∙ ap (λ t. verb_or_beat (replay_due c r past (handed c r past) 0 t)) other in
+        inl (true_or (is_fuo_of r e) (is_named_turn c r past e) (ap (is_fuo_of_verb r) reads ∙ same_number r))
+
+pub own_in_time : (c : Config) (r : ℕ) (past : List Event) → AtEachStep (WasMade c r) past → AtEachMoment (IsInTime (reading_own c r)) past
+own_in_time c r past made =
+    closed_moments (cycle c) (2 * (2 * c.replicas + 4)) (reading_own c r) past (omega arith) (λ now allowed is. let whole = own_allows c r now allowed is in omega (arith, whole))
+    (steps_give (WasMade c r) (λ before e. length before % cycle c ≡ 2 * (2 * c.replicas + 4) → ((reading_own c r).closes before e ≡ true) ⊎ HasRoom (reading_own c r) (cycle c + 1) before) (λ before e held at. own_closed c r before e held at) past made)
+
+-- neither of two
+neither : (a b : Bool) → (a || b) ≡ false → (a ≡ false) × (b ≡ false)
+neither false false none = (refl, refl)
+neither false true none = absurd (true≢false none)
+neither true b none = absurd (true≢false none)
+
+-- a turn of the leader in which r isn't named beats
+pub beats_unnamed : (c : Config) (r : ℕ) (past : List Event) (e : Event) → WasMade c r past e → is_named_turn c r past e ≡ false → is_odd (length past) ≡ true → e.verb ≡ Verb.Beat
+beats_unnamed c r past e held unnamed odd =
+    let other : is_named c r past ≡ false = sym (ap (λ t. t && is_named c r past) odd) ∙ unnamed in
+    held.made.replication odd ∙ ap (λ t. verb_or_beat (if t then verb_of held.lead (known c r past) else None)) other
+
+-- no word of a row is written in a background turn, nor where r isn't named
+write_fails : FailsBackground is_write
+write_fails = record {
+  replays = record { beat = refl; fuo = λ p. refl; look = λ p i. refl; row = λ v k. refl; raise = λ p u. refl; raise_head = λ h. refl; head = λ q. refl };
+  host = host;
+}
+  where
+    host : (d : ℕ) (verb : Verb) → is_of_place d verb ≡ true → is_write verb ≡ false
+    host d (Verb.WriteRow j k x) is = absurd (true≢false (sym is))
+    host d verb is = refl
+
+made_no_write : (c : Config) (r : ℕ) (past : List Event) (e : Event) → WasMade c r past e → is_named_turn c r past e ≡ false → is_write e.verb ≡ false
+made_no_write c r past e held unnamed = go (is_odd (length past)) refl
+  where
+    place : ℕ
+    place = place_now c past
+
+    read : (s t : Bool) → is_write (if s then Verb.Beat else if t then Verb.ReadBeat (other_at r place) else Verb.ReadAsk (place - c.replicas)) ≡ false
+    read true t = refl
+    read false true = refl
+    read false false = refl
+
+    go : (t : Bool) → is_odd (length past) ≡ t → is_write e.verb ≡ false
+    go true odd = ap is_write (beats_unnamed c r past e held unnamed odd)
+    go false even =
+        let made = held.made.background even in
+        elim (cases_lt place (host_place c 0)) [
+          | inl low ↦ ap is_write (made.2 ∙ ap verb_or_beat (made.1.read low)) ∙ read (place == 0) (nat_lt place c.replicas)
+          | inr high ↦ ap is_write made.2 ∙ background_fails is_write write_fails c r past (leads_at held.lead.place) made.0 high made.1
+        ]
+
+-- an event that doesn't close the count
+pub record IsOpenStep (c : Config) (r : ℕ) (past : List Event) (e : Event) : Type 0 where
+  pub learns : knows_more c r past e ≡ false
+  pub completes : completes_row c r past e ≡ false
+  pub unnamed : is_named_turn c r past e ≡ false
+
+pub open_step : (c : Config) (r : ℕ) (past : List Event) (e : Event) → (replaying c r).closes past e ≡ false → IsOpenStep c r past e
+open_step c r past e none =
+    let a = neither (knows_more c r past e || completes_row c r past e) (is_named_turn c r past e) none in
+    let b = neither (knows_more c r past e) (completes_row c r past e) a.0 in
+    record { learns = b.0; completes = b.1; unnamed = a.1 }
+
+-- such an event leaves what is known and applied
+pub still_known : (c : Config) (r : ℕ) (past : List Event) (e : Event) → IsOpenStep c r past e → known c r (e ∷ past) ≡ known c r past
+still_known c r past e still = known_same c r past e still.learns
+
+pub still_applied : (c : Config) (r : ℕ) (past : List Event) (e : Event) → WasMade c r past e → IsOpenStep c r past e → length (applied c r (e ∷ past)) ≡ length (applied c r past)
+still_applied c r past e held still = own_applied_same c r past e held.own (made_no_write c r past e held still.unnamed) still.learns still.completes
+
+pub still_row : (c : Config) (r u : ℕ) (past : List Event) (e : Event) → WasMade c r past e → IsOpenStep c r past e → is_row_of c u (known c r past) ≡ true → has_row r u (e ∷ past) ≡ has_row r u past
+still_row c r u past e held still of_known = own_row_same c r u past e held.own (made_no_write c r past e held still.unnamed) of_known still.completes
+
+-- what is due to be replayed stays due
+due_stays : (c : Config) (r : ℕ) (past : List Event) (e : Event) → WasMade c r past e → IsOpenStep c r past e → is_replay_due c r past ≡ true → is_replay_due c r (e ∷ past) ≡ true
+due_stays c r past e held still due =
+    let low = ltb-true (length (applied c r past)) (greatest_fuo_read r r past) due in
+    let same = still_applied c r past e held still in
+    let more = fuo_rises r past e in
+    lt-ltb (length (applied c r (e ∷ past))) (greatest_fuo_read r r (e ∷ past)) (omega (arith, low, same, more))
+
+-- while the count is open something is due
+open_due : (c : Config) (r : ℕ) (past : List Event) (left : ℕ) → AtEachStep (WasMade c r) past → steps_left (replaying c r) past ≡ Some left → is_replay_due c r past ≡ true
+open_due c r [] left made is = go (is_replay_due c r []) is
+  where
+    go : (t : Bool) → (if t then Some (8 * c.replicas + 88) else None) ≡ Some left → t ≡ true
+    go true is = refl
+    go false is = absurd (none_some left is)
+open_due c r (e ∷ past) left made is = elim (step (is_replay_due c r (e ∷ past)) ((replaying c r).closes past e) (steps_left (replaying c r) past) is) [
+  | inl due ↦ due
+  | inr still ↦ due_stays c r past e made.1 (open_step c r past e still.0) (open_due c r past still.1.0 made.0 still.1.1)
+]
+  where
+    step : (t u : Bool) (o : Option ℕ) → fewer (if t then Some (8 * c.replicas + 88) else None) (left_after u true 0 o) ≡ Some left → (t ≡ true) ⊎ ((u ≡ false) × ((l : ℕ) × (o ≡ Some l)))
+    step true u o is = inl refl
+    step false u None is = absurd (none_some left is)
+    step false true (Some l) is = absurd (none_some left is)
+    step false false (Some l) is = inr (refl, (l, refl))
+
+-- where nothing is due there is any room
+pub undue_room : (c : Config) (r n : ℕ) (past : List Event) → AtEachStep (WasMade c r) past → is_replay_due c r past ≡ false → HasRoom (replaying c r) n past
+undue_room c r n past made none left is = absurd (true≢false (sym (open_due c r past left made is) ∙ none))

@@ -1,0 +1,74 @@
+-- What a step leaves of the list that its replica knows, and of its part.
+use Rattle.std.proofs.Common.{◌≡◌, ℕ, zero, suc, ◌^◌, ap, ◌∙◌, ◌+◌, ◌<◌, ◌≤◌, ◌∷◌, List, [], ◌++◌, None, Some, length, refl, sym, rules, arith, take, drop, get_or, subst}
+use Rattle.std.specs.Prelude.{if◌then◌else◌, nat_le}
+use Rattle.std.specs.declared.option.Option.{Option}
+use Rattle.std.proofs.lemmas.List.{length-append, length-reverse}
+use Rattle.mu_model.specs.declared.script.Script.{Script}
+use Rattle.mu_model.specs.Contents.{IsConfig}
+use Rattle.mu_model.proofs.Budgets.{short_history}
+use Rattle.mu_picture.specs.Marks.{mark_of, marks_of, with_mark}
+use Rattle.mu_picture.specs.Openings.{opening_of, openings_of}
+use Rattle.mu_picture.specs.Walks.{StandsForWalk}
+use Rattle.mu_parts.specs.declared.replica.Replica.{Replica}
+use Rattle.mu_picture.specs.declared.marks.Mark.{Mark}
+use Rattle.mu_picture.specs.declared.walk.Walk.{Walk}
+use Rattle.std.specs.List.{slice_get}
+use Rattle.std.proofs.lemmas.Option.{slice_get_past, slice_get-get_or}
+use Rattle.mu_model.specs.declared.config.Config.{Config}
+use Rattle.mu_model.specs.declared.event.Event.{Event}
+use Rattle.mu_model.specs.Histories.{history, part}
+use Rattle.mu_model.specs.Knowledge.{grown}
+use Rattle.mu_model.specs.Legal.{IsLegal, IsLegalHistory}
+use Rattle.mu_model.proofs.Basics.{same_number}
+use Rattle.mu_agree.proofs.Legal.{legal_older}
+use Rattle.mu_outcome.proofs.Places.{history_at, read_there}
+
+-- a legal list is short
+pub short_list : (c : Config) (events : List Event) → IsConfig c → IsLegal c events → length events < 2 ^ 20
+short_list c events is legal =
+    let most = short_history c (history events) legal is.replicas.1 is.budget.1 in
+    let same = length-reverse events in
+    omega (arith, most, same)
+
+-- the marks with that of the next event
+pub marks_next : (c : Config) (script : Script) (first i : ℕ) (past : List Event) (e : Event) (items : List Mark) (mark : Option Mark) (walk : Walk)
+    → (IsLegalHistory c (e ∷ past) → StandsForWalk c past walk → i ≡ length past → mark ≡ mark_of c script past e)
+    → IsLegalHistory c (e ∷ past) → StandsForWalk c past walk → i ≡ length past → items ≡ marks_of c script first past
+    → (if nat_le first i then with_mark items mark else items) ≡ marks_of c script first (e ∷ past)
+marks_next c script first i past e items mark walk tells legal stands place are =
+    ap (λ m. if nat_le first i then with_mark m mark else m) are
+    ∙ (ap (λ k. if nat_le first i then with_mark (marks_of c script first past) k else marks_of c script first past) (tells legal stands place)
+    ∙ ap (λ n. if nat_le first n then with_mark (marks_of c script first past) (mark_of c script past e) else marks_of c script first past) place)
+
+-- the state of a replica stands at its index
+pub state_there : (replicas items : List Replica) (k r : ℕ) (state : Replica) → items ≡ replicas → k ≡ r → state ≡ get_or items k state → k < length items
+    → slice_get replicas r ≡ Some state
+state_there replicas items k r state same at found low =
+    subst (λ xs. slice_get xs r ≡ Some state) same
+    (subst (λ q. slice_get items q ≡ Some state) at (slice_get-get_or items k state low ∙ ap Some (sym found)))
+
+-- there is an opening for each lane
+pub length_openings : (n : ℕ) (past : List Event) → length (openings_of n past) ≡ n
+length_openings zero past = refl
+length_openings (suc n) past =
+    length-append (openings_of n past) (opening_of n past ∷ []) ∙ (omega (arith, length_openings n past))
+
+at_end : (xs : List ℕ) (v : ℕ) → slice_get (xs ++ v ∷ []) (length xs) ≡ Some v
+at_end [] v = refl
+at_end (x ∷ xs) v = at_end xs v
+
+-- behind the values that were known stands the one that was learnt, if any was
+pub learnt_next : (xs : List ℕ) (o : Option ℕ) → slice_get (grown xs o) (length xs) ≡ o
+learnt_next xs None = slice_get_past xs (length xs) (omega arith)
+learnt_next xs (Some v) = at_end xs v
+
+-- the part of the replica that made the newest event
+pub own_part : (e : Event) (past : List Event) → part e.by (e ∷ past) ≡ e ∷ part e.by past
+own_part e past = rw (same_number e.by) refl
+
+-- the event at an index of a legal list may come after those before it
+pub legal_there : (c : Config) (events : List Event) (i : ℕ) (d : Event) → IsLegal c events → i < length events
+    → IsLegalHistory c (get_or events i d ∷ history (take i events))
+legal_there c events i d legal low =
+    legal_older c (history (drop (suc i) events)) (get_or events i d ∷ history (take i events))
+    (subst (λ l. IsLegalHistory c l) (history_at events i (get_or events i d) (read_there events i d low)) legal)

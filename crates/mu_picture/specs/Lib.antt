@@ -1,0 +1,10 @@
+pub mod Deeds
+pub mod Drawing
+pub mod Halts
+pub mod Marks
+pub mod Openings
+pub mod Pieces
+pub mod Telling
+pub mod Walks
+pub mod Words
+pub mod Xml
