@@ -3,9 +3,11 @@ pub mod Asking
 pub mod Bits
 pub mod Bringing
 pub mod Commits
+pub mod Confirms
 pub mod Due
 pub mod Going
 pub mod Held
+pub mod Joins
 pub mod Keeping
 pub mod Lates
 pub mod Looks

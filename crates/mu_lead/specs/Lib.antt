@@ -1,4 +1,5 @@
 pub mod Beside
+pub mod Confirmations
 pub mod Confirming
 pub mod Evidence
 pub mod Going
@@ -12,3 +13,4 @@ pub mod Rooms
 pub mod Saying
 pub mod Sets
 pub mod Standing
+pub mod Welcomes

@@ -1,11 +1,12 @@
 //! The answers that each place may get.
-ghost use Rattle.std.specs.Prelude.{None, List, MatchOption, false, get_or, length, nat_lt, true, ℕ, ◌%◌, ◌∷◌, ◌≡◌, ◌≢◌};
+ghost use Rattle.std.specs.Prelude.{None, List, MatchOption, false, get_or, is_some, length, nat_lt, true, ℕ, ◌%◌, ◌∷◌, ◌≡◌, ◌≢◌, ◌≤◌};
 ghost use Rattle.mu_model.specs.declared.event.Answer.{Answer as SomeAnswer};
 ghost use Rattle.mu_model.specs.declared.event.Event.{Event as SomeEvent};
 ghost use Rattle.mu_model.specs.declared.event.Fence.{Fence as SomeFence};
 ghost use Rattle.mu_model.specs.declared.event.Target.{Target as SomeTarget};
 ghost use Rattle.mu_model.specs.declared.event.Verb.{Verb as SomeVerb};
 ghost use Rattle.mu_model.specs.Knowledge.{grown, known as known_of};
+ghost use Rattle.mu_model.specs.Leaderships.{noted_grant};
 ghost use Rattle.mu_model.specs.Parts.{IsPossible};
 ghost use Rattle.mu_lead.specs.declared.place.Place.{Place as SomePlace};
 ghost use Rattle.mu_lead.specs.Sets.{NamesFence, NamesLost, NamesNumber};
@@ -14,6 +15,7 @@ ghost use Rattle.mu_lead.specs.Standing.{HasHeeded, StandsFor, Takes};
 ghost use Rattle.mu_lead.specs.Saying.{NotesEnter, NotesEvidence, NotesHead, NotesJoin, NotesMin, NotesOver, NotesPut, NotesRound, is_working_or_lost};
 ghost use Rattle.mu_lead.specs.declared.note.Note.{Note as SomeNote};
 ghost use Rattle.mu_lead.specs.Going.{going_after};
+ghost use Rattle.mu_lead.specs.Confirmations.{KeepsConfirmation};
 ghost use Rattle.mu_lead.specs.Raising.{KeepsRaises};
 ghost use Rattle.mu_lead.specs.Rooms.{KeepsEnding, KeepsRooms};
 
@@ -61,6 +63,8 @@ impl Lead {
         ensures rooms { (values : List ℕ)
             → KeepsRooms self.old (SomePlace.Confirm round p) values (SomeVerb.Fence p) answer
             self.new }
+        ensures confirms { KeepsConfirmation self.old (SomePlace.Confirm round p) (SomeVerb.Fence p)
+            answer self.new }
         ensures quiet { value_committed result ≡ None }
         ensures config { self.new.config ≡ self.old.config }
         ensures id { self.new.id ≡ self.old.id }
@@ -228,6 +232,15 @@ impl Lead {
         ensures stands { Takes self.old (SomePlace.LateFence p) known.now (SomeVerb.Fence p) answer self.new }
         ensures rooms { KeepsRooms self.old (SomePlace.LateFence p) known.now (SomeVerb.Fence p)
             answer self.new }
+        ensures welcomed { (mine : List SomeEvent) → StandsFor mine self.old
+            → self.old.place ≡ SomePlace.LateFence p
+            → IsPossible self.old.config self.old.id
+            (record { by = self.old.id; verb = SomeVerb.Fence p; answer = answer } ∷ mine)
+            → is_some
+            (noted_grant self.old.id p
+            (record { by = self.old.id; verb = SomeVerb.Fence p; answer = answer } ∷ mine))
+            ≡ true
+            → self.new.place ≡ SomePlace.LateMin p }
         ensures quiet { value_committed result ≡ None }
         ensures config { self.new.config ≡ self.old.config }
         ensures id { self.new.id ≡ self.old.id }
@@ -247,6 +260,8 @@ impl Lead {
             → Takes self.old (SomePlace.LateMin p) values (SomeVerb.Min p) answer self.new }
         ensures rooms { (values : List ℕ)
             → KeepsRooms self.old (SomePlace.LateMin p) values (SomeVerb.Min p) answer self.new }
+        ensures low { (x : ℕ) → answer ≡ SomeAnswer.Number x → x ≤ self.old.number
+            → self.new.place ≡ SomePlace.LateFuo p }
         ensures quiet { value_committed result ≡ None }
         ensures config { self.new.config ≡ self.old.config }
         ensures id { self.new.id ≡ self.old.id }
@@ -265,6 +280,8 @@ impl Lead {
         ensures stands { Takes self.old (SomePlace.LateFuo p) known.now (SomeVerb.Fuo p) answer self.new }
         ensures rooms { KeepsRooms self.old (SomePlace.LateFuo p) known.now (SomeVerb.Fuo p) answer
             self.new }
+        ensures short { (u : ℕ) → answer ≡ SomeAnswer.Number u → u ≤ length known.now
+            → self.new.place ≡ SomePlace.LateEnter p }
         ensures quiet { value_committed result ≡ None }
         ensures config { self.new.config ≡ self.old.config }
         ensures id { self.new.id ≡ self.old.id }
@@ -286,6 +303,7 @@ impl Lead {
         ensures rooms { (values : List ℕ)
             → KeepsRooms self.old (SomePlace.LateEnter p) values (SomeVerb.Enter p SomeTarget.Min)
             answer self.new }
+        ensures entered { answer ≡ SomeAnswer.Entered → self.new.place ≡ SomePlace.LatePut p }
         ensures quiet { value_committed result ≡ None }
         ensures config { self.new.config ≡ self.old.config }
         ensures id { self.new.id ≡ self.old.id }
@@ -419,6 +437,8 @@ impl Lead {
             → Takes self.old (SomePlace.Evidence p) values (SomeVerb.Fence p) answer self.new }
         ensures rooms { (values : List ℕ)
             → KeepsRooms self.old (SomePlace.Evidence p) values (SomeVerb.Fence p) answer self.new }
+        ensures ended { (fence : SomeFence) → answer ≡ SomeAnswer.Seen fence
+            → self.new.place ≡ SomePlace.Ask 0 }
         ensures quiet { value_committed result ≡ None }
         ensures config { self.new.config ≡ self.old.config }
         ensures id { self.new.id ≡ self.old.id }

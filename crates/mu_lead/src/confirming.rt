@@ -16,6 +16,10 @@ ghost use Rattle.mu_leading.specs.Leadership.{StandsForLeadership};
 ghost use Rattle.mu_lead.specs.Saying.{TellsAfter};
 ghost use Rattle.mu_lead.specs.declared.note.Note.{Note as SomeNote};
 ghost use Rattle.mu_lead.specs.Going.{going_after};
+ghost use Rattle.mu_lead.specs.Confirmations.{ConfirmsAt, KeepsConfirmation, NoneIsAwaited, is_gathering};
+ghost use Rattle.mu_model.specs.Diligence.{is_confirmed as is_confirmed_by};
+ghost use Rattle.mu_pace.specs.Counters.{IsInTime};
+ghost use Rattle.mu_pace.specs.Watches.{confirming};
 ghost use Rattle.mu_lead.specs.Rooms.{IsLed, IsWaiting, KeepsRooms, RoomsAt};
 ghost use Rattle.mu_pace.specs.Weights.{Stage};
 
@@ -39,6 +43,7 @@ impl Lead {
         ensures rooms { (mine : List SomeEvent) → (written : List ℕ) → p < self.now.config.replicas
             → self.now.config.replicas ≤ 7 → IsWaiting self.now.config self.now.id mine
             → RoomsAt self.now.config self.now.id mine written result }
+        ensures gathers { is_gathering result ≡ true }
     {
         let next = p.saturating_add(1);
         if next < self.config.replicas {
@@ -55,6 +60,7 @@ impl Lead {
         ensures rooms { (values : List ℕ)
             → KeepsRooms self.old (SomePlace.Ask p) values (SomeVerb.Ask p) SomeAnswer.Done
             self.new }
+        ensures gathers { is_gathering self.new.place ≡ true }
         ensures quiet { value_committed result ≡ None }
         ensures config { self.new.config ≡ self.old.config }
         ensures id { self.new.id ≡ self.old.id }
@@ -86,6 +92,8 @@ impl Lead {
             (SomeAnswer.Seen fence) self.new }
         ensures rooms { (values : List ℕ)
             → KeepsRooms self.old (SomePlace.Confirm round p) values (SomeVerb.Fence p)
+            (SomeAnswer.Seen fence) self.new }
+        ensures confirms { KeepsConfirmation self.old (SomePlace.Confirm round p) (SomeVerb.Fence p)
             (SomeAnswer.Seen fence) self.new }
         ensures quiet { value_committed result ≡ None }
         ensures config { self.new.config ≡ self.old.config }
@@ -140,6 +148,13 @@ impl Lead {
             → StandsForLeadership self.now.id mine self.now.leading
             → IsWaiting self.now.config self.now.id mine
             → RoomsAt self.now.config self.now.id mine written result }
+        ensures confirms { (mine : List SomeEvent) → self.now.config.replicas ≤ 7
+            → self.now.id < self.now.config.replicas
+            → StandsForLeadership self.now.id mine self.now.leading
+            → IsInTime (confirming self.now.config self.now.id) mine
+            → (is_confirmed_by self.now.config self.now.id mine ≡ false
+            → NoneIsAwaited self.now.config self.now.id mine)
+            → ConfirmsAt self.now.config self.now.id mine result }
     {
         if self.is_confirmed() {
             self.first_to_read()
@@ -182,6 +197,12 @@ impl Lead {
             → Confirmed self.now.config self.now.id mine
             → IsWaiting self.now.config self.now.id mine
             → RoomsAt self.now.config self.now.id mine written result }
+        ensures confirms { (mine : List SomeEvent) → self.now.config.replicas ≤ 7
+            → self.now.id < self.now.config.replicas
+            → StandsForLeadership self.now.id mine self.now.leading
+            → Confirmed self.now.config self.now.id mine
+            → IsInTime (confirming self.now.config self.now.id) mine
+            → ConfirmsAt self.now.config self.now.id mine result }
     {
         match next_noted(&self.leading, 0, self.config.replicas) {
             Some(q) => Place::ReadMin(q),

@@ -1,14 +1,16 @@
 //! Late followers.
-ghost use Rattle.std.specs.Prelude.{false, None, List, get_or, length, nat_lt, true, ℕ, ◌+◌, ◌<◌, ◌^◌, ◌∷◌, ◌≡◌, ◌≤◌};
+ghost use Rattle.std.specs.Prelude.{false, None, List, get_or, is_some, length, nat_lt, true, ℕ, ◌+◌, ◌<◌, ◌^◌, ◌∷◌, ◌≡◌, ◌≤◌};
 ghost use Rattle.mu_model.specs.declared.event.Answer.{Answer as SomeAnswer};
 ghost use Rattle.mu_model.specs.declared.event.Event.{Event as SomeEvent};
 ghost use Rattle.mu_model.specs.declared.event.Target.{Target as SomeTarget};
 ghost use Rattle.mu_model.specs.declared.event.Verb.{Verb as SomeVerb};
 ghost use Rattle.mu_model.specs.Knowledge.{known as known_of};
+ghost use Rattle.mu_model.specs.Leaderships.{noted_grant};
+ghost use Rattle.mu_model.specs.Parts.{IsPossible};
 ghost use Rattle.mu_lead.specs.declared.place.Place.{Place as SomePlace};
 ghost use Rattle.mu_lead.specs.Leading.{Level};
 ghost use Rattle.mu_lead.specs.Notes.{note_of_min, value_committed};
-ghost use Rattle.mu_lead.specs.Standing.{HoldsAt, Stands, Takes};
+ghost use Rattle.mu_lead.specs.Standing.{HoldsAt, Stands, StandsFor, Takes};
 ghost use Rattle.mu_lead.specs.Saying.{note_of_join};
 ghost use Rattle.mu_lead.specs.declared.note.Note.{Note as SomeNote};
 ghost use Rattle.mu_lead.specs.Going.{going_after};
@@ -46,6 +48,17 @@ impl Lead {
             (SomeAnswer.Seen fence) self.new }
         ensures rooms { KeepsRooms self.old (SomePlace.LateFence p) known.now (SomeVerb.Fence p)
             (SomeAnswer.Seen fence) self.new }
+        ensures welcomed { (mine : List SomeEvent) → StandsFor mine self.old
+            → self.old.place ≡ SomePlace.LateFence p
+            → IsPossible self.old.config self.old.id
+            (record { by = self.old.id; verb = SomeVerb.Fence p; answer = SomeAnswer.Seen fence }
+            ∷ mine)
+            → is_some
+            (noted_grant self.old.id p
+            (record { by = self.old.id; verb = SomeVerb.Fence p; answer = SomeAnswer.Seen fence }
+            ∷ mine))
+            ≡ true
+            → self.new.place ≡ SomePlace.LateMin p }
         ensures quiet { value_committed result ≡ None }
         ensures config { self.new.config ≡ self.old.config }
         ensures id { self.new.id ≡ self.old.id }
@@ -76,6 +89,7 @@ impl Lead {
         ensures rooms { (values : List ℕ)
             → KeepsRooms self.old (SomePlace.LateMin p) values (SomeVerb.Min p)
             (SomeAnswer.Number min) self.new }
+        ensures low { min ≤ self.old.number → self.new.place ≡ SomePlace.LateFuo p }
         ensures tells { min < 2 ^ 32 → result ≡ note_of_min p self.old.number min }
         ensures quiet { value_committed result ≡ None }
         ensures config { self.new.config ≡ self.old.config }
@@ -108,6 +122,7 @@ impl Lead {
             self.new }
         ensures rooms { KeepsRooms self.old (SomePlace.LateFuo p) known.now (SomeVerb.Fuo p)
             (SomeAnswer.Number u) self.new }
+        ensures short { u ≤ length known.now → self.new.place ≡ SomePlace.LateEnter p }
         ensures quiet { value_committed result ≡ None }
         ensures config { self.new.config ≡ self.old.config }
         ensures id { self.new.id ≡ self.old.id }
@@ -134,6 +149,7 @@ impl Lead {
         ensures rooms { (values : List ℕ)
             → KeepsRooms self.old (SomePlace.LateEnter p) values (SomeVerb.Enter p SomeTarget.Min)
             SomeAnswer.Entered self.new }
+        ensures entered { self.new.place ≡ SomePlace.LatePut p }
         ensures quiet { value_committed result ≡ None }
         ensures config { self.new.config ≡ self.old.config }
         ensures id { self.new.id ≡ self.old.id }

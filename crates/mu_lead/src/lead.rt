@@ -10,6 +10,7 @@ ghost use Rattle.mu_model.specs.Parts.{IsPossible};
 ghost use Rattle.mu_leading.specs.Leadership.{StandsForLeadership};
 ghost use Rattle.mu_lead.specs.Beside.{leads_at};
 ghost use Rattle.mu_lead.specs.declared.note.Note.{Note as SomeNote};
+ghost use Rattle.mu_lead.specs.Confirmations.{ConfirmsAt, ConfirmsDue, ConfirmsNext};
 ghost use Rattle.mu_lead.specs.Evidence.{ExplainsAt, ExplainsDue, ExplainsNext};
 ghost use Rattle.mu_lead.specs.Raising.{RaisesAt, RaisesDue, RaisesNext};
 ghost use Rattle.mu_lead.specs.Rooms.{HasRooms, RoomsDue, RoomsNext, gives_up};
@@ -17,6 +18,7 @@ ghost use Rattle.mu_lead.specs.Sets.{is_bit};
 ghost use Rattle.mu_lead.specs.Standing.{HasHeeded, StandsFor, TakesDue, TakesNext, TellsDue, TellsFailed, TellsNext, verb_of};
 ghost use Rattle.mu_lead.specs.Going.{begins_at, going_after};
 ghost use Rattle.mu_lead.specs.Saying.{NotesDue, SaysNext, is_working as is_working_note};
+ghost use Rattle.mu_lead.specs.Welcomes.{JoinsAt, JoinsDue, JoinsNext};
 
 use crate::batches::knows_all;
 use crate::note::Note;
@@ -67,6 +69,8 @@ impl Lead {
         ensures rooms { IfOk result (λ lead. HasRooms [] lead) }
         ensures evidence { IfOk result (λ lead. ExplainsAt lead.config lead.id [] lead.place) }
         ensures raises { IfOk result (λ lead. RaisesAt lead.config lead.id [] lead.place) }
+        ensures confirms { IfOk result (λ lead. ConfirmsAt lead.config lead.id [] lead.place) }
+        ensures joins { IfOk result (λ lead. JoinsAt lead.config lead.id [] lead.place) }
         ensures unnamed { IfOk result (λ lead. lead.named ≡ false) }
         ensures idle { IfOk result (λ lead. lead.under_way ≡ false) }
     {
@@ -111,6 +115,11 @@ impl Lead {
         ensures raises { gives_up self.old leader ≡ false
             → RaisesAt self.old.config self.old.id mine self.old.place
             → RaisesAt self.new.config self.new.id mine self.new.place }
+        ensures confirms { gives_up self.old leader ≡ false
+            → ConfirmsAt self.old.config self.old.id mine self.old.place
+            → ConfirmsAt self.new.config self.new.id mine self.new.place }
+        ensures joins { JoinsAt self.old.config self.old.id mine self.old.place
+            → JoinsAt self.new.config self.new.id mine self.new.place }
     {
         self.named = leader == self.id;
         self.failed = bits_of(failed);
@@ -269,6 +278,8 @@ impl Lead {
         ensures rooms { RoomsNext mine self.old known.now answer self.new }
         ensures evidence { ExplainsNext mine self.old answer self.new }
         ensures raises { RaisesNext mine self.old known.now answer self.new }
+        ensures confirms { ConfirmsNext mine self.old answer self.new }
+        ensures joins { JoinsNext mine self.old known.now answer self.new }
         ensures tells { TellsNext mine self.old known.now answer result }
         ensures config { self.new.config ≡ self.old.config }
         ensures id { self.new.id ≡ self.old.id }
@@ -291,6 +302,8 @@ impl Lead {
         ensures rooms { RoomsDue self.old known.now answer self.new }
         ensures evidence { ExplainsDue self.old answer self.new }
         ensures raises { RaisesDue self.old known.now answer self.new }
+        ensures confirms { ConfirmsDue self.old answer self.new }
+        ensures joins { JoinsDue self.old known.now answer self.new }
         ensures tells { TellsDue self.old known.now answer result }
         ensures config { self.new.config ≡ self.old.config }
         ensures id { self.new.id ≡ self.old.id }

@@ -2,9 +2,11 @@
 #![tactic(auto)]
 
 ghost use Rattle.mu_lead.specs.Beside.{OthersKeep};
+ghost use Rattle.mu_lead.specs.Confirmations.{MinimaComeInTime};
 ghost use Rattle.mu_lead.specs.Evidence.{EvidenceComesInTime};
 ghost use Rattle.mu_lead.specs.Raising.{RaisesComeInTime};
 ghost use Rattle.mu_lead.specs.Rooms.{OthersKeepRooms, RoomsAreInTime};
+ghost use Rattle.mu_lead.specs.Welcomes.{FollowersJoinInTime};
 
 mod answering;
 mod arrays;
@@ -48,4 +50,14 @@ pub fn evidence_comes_in_time()
 /// After a commit each FUO is raised in time, also beside what the other machines do.
 pub fn raises_come_in_time()
     ensures { RaisesComeInTime }
+{}
+
+/// A confirmed leadership reads its first minimum in time, also beside what the other machines do.
+pub fn minima_come_in_time()
+    ensures { MinimaComeInTime }
+{}
+
+/// A late follower that grants to the leader joins in time, also beside what the other machines do.
+pub fn followers_join_in_time()
+    ensures { FollowersJoinInTime }
 {}

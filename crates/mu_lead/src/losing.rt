@@ -26,6 +26,7 @@ impl Lead {
         ensures rooms { (values : List ℕ)
             → KeepsRooms self.old (SomePlace.Evidence p) values (SomeVerb.Fence p)
             (SomeAnswer.Seen fence) self.new }
+        ensures ended { self.new.place ≡ SomePlace.Ask 0 }
         ensures tells { result ≡ SomeNote.Aborted (SomeCause.Lost p fence) }
         ensures quiet { value_committed result ≡ None }
         ensures config { self.new.config ≡ self.old.config }

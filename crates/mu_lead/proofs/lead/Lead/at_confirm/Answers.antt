@@ -6,6 +6,7 @@ use Rattle.mu_model.proofs.Basics.{event_by}
 use Rattle.mu_model.specs.declared.event.Verb.{Verb}
 use Rattle.mu_model.specs.Parts.{IsPossible}
 use Rattle.mu_lead.specs.Rooms.{HasRooms}
+use Rattle.mu_lead.specs.Confirmations.{ConfirmsAt}
 use Rattle.mu_lead.proofs.lead.Lead.at_confirm.Goals as goal
 
 pub returns-in-None-clause-stands : goal.returns-in-None-clause-stands
@@ -24,3 +25,11 @@ pub returns-in-Some-clause-rooms : goal.returns-in-Some-clause-rooms
 returns-in-Some-clause-rooms c = λ values mine s is possible told turn rooms.
     let l = c.args.self.now in
     subst (λ a. HasRooms (event_by l.id (Verb.Fence c.args.p) a ∷ mine) c.took_fence.new.self) (sym c.in-Some.ensures) (c.took_fence.ensures.rooms values mine s is (subst (λ a. IsPossible l.config l.id (event_by l.id (Verb.Fence c.args.p) a ∷ mine)) c.in-Some.ensures possible) told turn rooms)
+
+pub returns-in-None-clause-confirms : goal.returns-in-None-clause-confirms
+returns-in-None-clause-confirms c = λ mine s is possible turn confirms. let l = c.args.self.now in let x = sees_fence l.config l.id c.args.p c.args.answer mine possible in absurd (c.in-None.ensures x.0 x.1)
+
+pub returns-in-Some-clause-confirms : goal.returns-in-Some-clause-confirms
+returns-in-Some-clause-confirms c = λ mine s is possible turn confirms.
+    let l = c.args.self.now in
+    subst (λ a. ConfirmsAt l.config l.id (event_by l.id (Verb.Fence c.args.p) a ∷ mine) c.took_fence.new.self.place) (sym c.in-Some.ensures) (c.took_fence.ensures.confirms mine s is (subst (λ a. IsPossible l.config l.id (event_by l.id (Verb.Fence c.args.p) a ∷ mine)) c.in-Some.ensures possible) turn confirms)

@@ -10,3 +10,9 @@ returns-in-Some-clause-rooms c = λ mine written few inside held confirmed waiti
 
 pub returns-in-None-clause-rooms : goal.returns-in-None-clause-rooms
 returns-in-None-clause-rooms c = λ mine written few inside held confirmed waiting. absurd (true≢false (sym confirmed.own ∙ c.in-None.ensures c.args.self.now.id mine few held c.args.self.now.id (omega arith) inside))
+
+pub returns-in-Some-clause-confirms : goal.returns-in-Some-clause-confirms
+returns-in-Some-clause-confirms c = λ mine few inside held confirmed in_time. in_time
+
+pub returns-in-None-clause-confirms : goal.returns-in-None-clause-confirms
+returns-in-None-clause-confirms c = λ mine few inside held confirmed in_time. absurd (true≢false (sym confirmed.own ∙ c.in-None.ensures c.args.self.now.id mine few held c.args.self.now.id (omega arith) inside))

@@ -1,5 +1,7 @@
-use Rattle.std.proofs.Common.{refl}
+use Rattle.std.proofs.Common.{[], refl}
 use Rattle.mu_lead.proofs.RoomsInTime.{rooms_are_in_time}
+use Rattle.mu_lead.specs.declared.place.Place.{Place}
+use Rattle.mu_lead.proofs.Joins.{joins_anywhere}
 use Rattle.mu_lead.proofs.lead.Lead.new.Goals as goal
 
 pub returns-clause-rooms : goal.returns-clause-rooms
@@ -10,3 +12,9 @@ returns-clause-evidence c = λ q. refl
 
 pub returns-clause-raises : goal.returns-clause-raises
 returns-clause-raises c = λ q. refl
+
+pub returns-clause-confirms : goal.returns-clause-confirms
+returns-clause-confirms c = refl
+
+pub returns-clause-joins : goal.returns-clause-joins
+returns-clause-joins c = joins_anywhere _ _ [] (Place.Ask 0) (λ q. refl)

@@ -6,6 +6,7 @@ use Rattle.mu_model.specs.declared.event.Verb.{Verb}
 use Rattle.mu_model.proofs.Basics.{event_by}
 use Rattle.mu_lead.proofs.Rounds.{at_last, not_yet}
 use Rattle.mu_lead.proofs.RoomsAsking.{rooms_fence}
+use Rattle.mu_lead.proofs.Confirms.{last_fence, next_fence, unconfirmed_fence}
 use Rattle.mu_lead.proofs.lead.Lead.took_fence.Goals as goal
 
 pub returns-then-next-self-clause-stands : goal.returns-then-next-self-clause-stands
@@ -61,3 +62,19 @@ returns-else-next-self-clause-rooms c = λ values mine s is possible told turn r
     let l = c.args.self.now in
     let few = s.config.replicas.1 in
     c.after_round-self.ensures.rooms _ l.written.items few s.inside (c.take.ensures l.config mine few possible s.leading) (rooms_fence l.config l.id c.args.p c.args.fence mine turn (rw is at rooms))
+
+pub returns-then-next-self-clause-confirms : goal.returns-then-next-self-clause-confirms
+returns-then-next-self-clause-confirms c = λ mine s is possible turn room.
+    let l = c.args.self.now in
+    let here = rw is at s.at in
+    let few = s.config.replicas.1 in
+    let region = here.1.region in
+    let next = c.saturating_add-next.ensures in
+    next_fence l.config l.id c.args.p c.saturating_add-next.result (Answer.Seen c.args.fence) mine (omega (arith, next, region, few)) c.if-next-self.true room
+
+pub returns-else-next-self-clause-confirms : goal.returns-else-next-self-clause-confirms
+returns-else-next-self-clause-confirms c = λ mine s is possible turn room.
+    let l = c.args.self.now in
+    let here = rw is at s.at in
+    let few = s.config.replicas.1 in
+    c.after_round-self.ensures.confirms _ few s.inside (c.take.ensures l.config mine few possible s.leading) (last_fence l.config l.id c.args.p (Answer.Seen c.args.fence) mine here.1.region room) (unconfirmed_fence l.config l.id c.args.p (Answer.Seen c.args.fence) mine turn)

@@ -2,6 +2,7 @@ use Rattle.std.proofs.Common.{ap, arith, is_some, refl, sym, ◌∙◌, ◌∷�
 use Rattle.mu_lead.proofs.Tables.{tables_kept}
 use Rattle.mu_lead.proofs.Lates.{fence_event, late_noted, level_fenced}
 use Rattle.mu_lead.proofs.RoomsFollowers.{rooms_passed, rooms_welcomed}
+use Rattle.std.proofs.Common.{true≢false}
 use Rattle.mu_lead.proofs.lead.Lead.took_late_fence.Goals as goal
 
 pub returns-then-is_some-clause-stands : goal.returns-then-is_some-clause-stands
@@ -57,3 +58,14 @@ returns-else-is_some-clause-rooms c = λ mine s is possible told turn rooms.
     let next = c.saturating_add.ensures in
     c.late_from-self.ensures.rooms (e ∷ mine) (record { possible = possible; config = s.config; inside = s.inside; leading = leading; tables = tables }) told
     (rooms_passed l.config l.id p c.saturating_add.result c.args.fence mine l.written.items s.config turn region (omega (arith, next, region, few)) (rw is at rooms))
+
+pub returns-else-is_some-clause-welcomed : goal.returns-else-is_some-clause-welcomed
+returns-else-is_some-clause-welcomed c = λ mine s is possible granted.
+    let l = c.args.self.now in
+    let here = rw is at s.at in
+    let few = s.config.replicas.1 in
+    let p = c.args.p in
+    let e = fence_event l.id p c.args.fence in
+    let leading = c.take.ensures l.config mine few possible s.leading in
+    let none = sym (ap is_some (c.noted.ensures l.id (e ∷ mine) (let region = here.region in omega (arith, region, few)) leading)) ∙ sym c.is_some.ensures ∙ c.if-is_some.false in
+    absurd (true≢false (sym granted ∙ none))
