@@ -46,7 +46,8 @@ returns-then-from-known-clause-stands c = λ mine s is position possible told.
       inside = s.inside;
       leading = leading;
       tables = tables;
-      at = c.bring_up_from-self.ensures.stands (e ∷ mine) (record { possible = possible; config = s.config; inside = s.inside; leading = leading; tables = tables }) told leads here.looking.level.raised (λ k region member done. absurd (omega (arith, done)));
+      at = c.bring_up_from-self.ensures.stands (e ∷ mine) (record { possible = possible; config = s.config; inside = s.inside; leading = leading; tables = tables }) told leads here.looking.level.raised (λ k region member done. absurd (omega (arith, done)))
+          (λ k region member. (let from = c.from.ensures in let long = ap length told in let more = c.if-from-known.true in let position = here.position in let few_ups = here.looking.level.few k region member in (omega (arith, from, long, more, position, few_ups), λ left. omega (arith, from, long, more, position, few_ups))));
     }
 
 pub returns-else-from-known-clause-stands : goal.returns-else-from-known-clause-stands

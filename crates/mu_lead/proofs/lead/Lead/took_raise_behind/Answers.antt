@@ -7,12 +7,12 @@ use Rattle.mu_lead.proofs.Bringing.{all_done, done_behind, raised_behind}
 use Rattle.mu_lead.proofs.Tables.{tables_kept}
 use Rattle.mu_lead.specs.declared.place.Place.{Place}
 use Rattle.mu_lead.specs.Rooms.{IsPlaced}
-use Rattle.mu_lead.proofs.Bringing.{none_behind}
-use Rattle.mu_lead.proofs.RoomsBrought.{level_brought}
+use Rattle.mu_lead.proofs.Bringing.{none_lacks}
+use Rattle.mu_lead.proofs.RoomsBrought.{level_brought, none_brought}
 use Rattle.mu_lead.proofs.RoomsRaising.{late_then, rooms_all_brought, rooms_brought_joined, rooms_next_behind}
 use Rattle.std.proofs.Common.{sym}
 use Rattle.mu_lead.specs.Onward.{MayBringUp, MayGoOn, passed_over}
-use Rattle.mu_lead.specs.Leading.{Level}
+use Rattle.mu_lead.specs.Leading.{HaveFew, Level}
 use Rattle.mu_lead.proofs.lead.Lead.took_raise_behind.Goals as goal
 
 pub returns-in-Joined-clause-stands : goal.returns-in-Joined-clause-stands
@@ -44,7 +44,7 @@ returns-in-Joined-clause-stands c = λ mine s is possible told.
       inside = s.inside;
       leading = leading;
       tables = tables;
-      at = c.late_from-self.ensures.stands (e ∷ mine) (record { possible = possible; config = s.config; inside = s.inside; leading = leading; tables = tables }) told (record { leads = leads; have = λ k region member. done k region member (all_done c.args.then c.in-Joined.is k c.saturating_add.result); raised = raised });
+      at = c.late_from-self.ensures.stands (e ∷ mine) (record { possible = possible; config = s.config; inside = s.inside; leading = leading; tables = tables }) told (record { leads = leads; have = λ k region member. done k region member (all_done c.args.then c.in-Joined.is k c.saturating_add.result); raised = raised; few = λ k region member. (here.behind.few k region member).0 });
     }
 
 pub returns-in_default-clause-stands : goal.returns-in_default-clause-stands
@@ -76,7 +76,7 @@ returns-in_default-clause-stands c = λ mine s is possible told.
       inside = s.inside;
       leading = leading;
       tables = tables;
-      at = c.bring_up_from-self.ensures.stands (e ∷ mine) (record { possible = possible; config = s.config; inside = s.inside; leading = leading; tables = tables }) told leads raised done;
+      at = c.bring_up_from-self.ensures.stands (e ∷ mine) (record { possible = possible; config = s.config; inside = s.inside; leading = leading; tables = tables }) told leads raised done (subst (HaveFew l.config l.id (e ∷ mine) l.up c.args.then) (sym next) here.behind.few);
     }
 
 pub returns-in-Joined-clause-rooms : goal.returns-in-Joined-clause-rooms
@@ -103,7 +103,7 @@ returns-in-Joined-clause-rooms c = λ other mine s is possible told turn rooms.
     let more = c.saturating_add.ensures in
     let next : c.saturating_add.result ≡ p + 1 = omega (arith, more, region, few) in
     let done = done_behind l.config l.id l.number p c.saturating_add.result mine l.up l.reach c.args.then next here in
-    let level : Level l.config l.id l.number (e ∷ mine) l.up c.with_fuo-self.result = record { leads = leads; have = λ k region member. done k region member (all_done c.args.then c.in-Joined.is k c.saturating_add.result); raised = raised } in
+    let level : Level l.config l.id l.number (e ∷ mine) l.up c.with_fuo-self.result = record { leads = leads; have = λ k region member. done k region member (all_done c.args.then c.in-Joined.is k c.saturating_add.result); raised = raised; few = λ k region member. (here.behind.few k region member).0 } in
     c.late_from-self.ensures.rooms (e ∷ mine) (record { possible = possible; config = s.config; inside = s.inside; leading = leading; tables = tables }) told
     (rooms_brought_joined l.config l.id p c.saturating_add.result u mine l.written.items s.config turn region next
     (level_brought l.config l.id l.number (e ∷ mine) l.up c.with_fuo-self.result l.heads l.written.items possible tables level)
@@ -139,5 +139,5 @@ returns-in_default-clause-rooms c = λ other mine s is possible told turn rooms.
     (λ q first. subst (MayBringUp l.config l.id (e ∷ mine) q) (sym then_is) (rooms_next_behind l.config l.id p q u mine l.written.items s.config turn placed))
     (λ none. subst (λ t. MayGoOn l.config l.id (e ∷ mine) (passed_over l.config t)) (sym then_is)
     (rooms_all_brought l.config l.id p u mine l.written.items s.config turn
-    (level_brought l.config l.id l.number (e ∷ mine) l.up c.with_fuo-self.result l.heads l.written.items possible tables
-    (none_behind l.config l.id l.number c.saturating_add-in_default.result (e ∷ mine) l.up c.with_fuo-self.result c.args.then leads raised done none)) placed))
+    (none_brought l.config l.id (e ∷ mine) l.up c.with_fuo-self.result l.heads l.written.items possible tables
+    (none_lacks l.config l.id c.saturating_add-in_default.result (e ∷ mine) l.up c.args.then done none) raised) placed))
