@@ -35,6 +35,7 @@ pub mod RoomsLooking
 pub mod RoomsMin
 pub mod RoomsOnward
 pub mod RoomsOutrun
+pub mod RoomsPosition
 pub mod RoomsPutting
 pub mod RoomsQuiet
 pub mod RoomsRaising

@@ -23,7 +23,7 @@ ghost use Rattle.mu_pace.specs.Members.{IsNextMember, members_from};
 ghost use Rattle.mu_pace.specs.Weights.{Stage};
 ghost use Rattle.mu_lead.specs.declared.place.Then.{Then as SomeThen};
 ghost use Rattle.mu_lead.specs.Onward.{IsNextBehind, MayBringUp, MayGoOn, passed_over};
-ghost use Rattle.mu_lead.specs.Rooms.{IsLed, KeepsEnding, KeepsRooms, KeepsLook, RoomsAt, is_one_position};
+ghost use Rattle.mu_lead.specs.Rooms.{IsLed, KeepsEnding, KeepsRooms, KeepsLook, RoomsAt};
 
 use crate::arrays::{with_fuo, with_number};
 use crate::lead::Lead;
@@ -352,8 +352,7 @@ impl Lead {
     pub fn took_raise_behind(&mut self, p: u8, then: Then, known: &[u16]) -> Note
         ensures stands { Takes self.old (SomePlace.RaiseBehind p then) known.now
             (SomeVerb.RaiseFuo p (get_or self.old.up p 0)) SomeAnswer.Done self.new }
-        ensures rooms { is_one_position then ≡ false
-            → KeepsRooms self.old (SomePlace.RaiseBehind p then) known.now
+        ensures rooms { KeepsRooms self.old (SomePlace.RaiseBehind p then) known.now
             (SomeVerb.RaiseFuo p (get_or self.old.up p 0)) SomeAnswer.Done self.new }
         ensures quiet { value_committed result ≡ None }
         ensures config { self.new.config ≡ self.old.config }
