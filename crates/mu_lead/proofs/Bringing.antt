@@ -48,10 +48,13 @@ most_all c r p from s mine up is few none k low member = elim (cases_lt k (p + 1
 
 -- a region with at least what the one of the most has is ahead of those below it
 pub most_here : (r p : ℕ) (mine : List Event) (up : List ℕ) (source : Option ℕ) → HasMost r mine up p source → ((s : ℕ) → source ≡ Some s → get_or up s 0 ≤ get_or up p 0) → HasMost r mine up (p + 1) (Some p)
-most_here r p mine up source few ahead = (omega arith, λ k low member. elim (cases_lt k p) [
-  | inl below ↦ go source few ahead k below member
-  | inr here ↦ (let same : k ≡ p = omega (arith, low, here) in subst (λ x. get_or up x 0 ≤ get_or up p 0) (sym same) (omega arith))
-])
+most_here r p mine up source few ahead = (
+  omega arith,
+  λ k low member. elim (cases_lt k p) [
+    | inl below ↦ go source few ahead k below member
+    | inr here ↦ (let same : k ≡ p = omega (arith, low, here) in subst (λ x. get_or up x 0 ≤ get_or up p 0) (sym same) (omega arith))
+  ],
+)
   where
     go : (o : Option ℕ) → HasMost r mine up p o → ((s : ℕ) → o ≡ Some s → get_or up s 0 ≤ get_or up p 0) → (k : ℕ) → k < p → is_member r k mine ≡ true → get_or up k 0 ≤ get_or up p 0
     go None few ahead k below member = absurd (true≢false (sym member ∙ few k below))
@@ -59,10 +62,13 @@ most_here r p mine up source few ahead = (omega arith, λ k low member. elim (ca
 
 -- one that has less isn't
 pub most_still : (r p s : ℕ) (mine : List Event) (up : List ℕ) → HasMost r mine up p (Some s) → get_or up p 0 ≤ get_or up s 0 → HasMost r mine up (p + 1) (Some s)
-most_still r p s mine up few less = ((let low = few.0 in omega (arith, low)), λ k low member. elim (cases_lt k p) [
-  | inl below ↦ few.1 k below member
-  | inr here ↦ (let same : k ≡ p = omega (arith, low, here) in subst (λ x. get_or up x 0 ≤ get_or up s 0) (sym same) less)
-])
+most_still r p s mine up few less = (
+  (let low = few.0 in omega (arith, low)),
+  λ k low member. elim (cases_lt k p) [
+    | inl below ↦ few.1 k below member
+    | inr here ↦ (let same : k ≡ p = omega (arith, low, here) in subst (λ x. get_or up x 0 ≤ get_or up s 0) (sym same) less)
+  ],
+)
 
 -- the FUO of p was read
 pub raised_read : (c : Config) (r b p u : ℕ) (mine : List Event) (up up' : List ℕ) (reach reach' : List (Option ℕ)) (held : Option ℕ) → RaisedBelow r mine up reach p → get_or up' p 0 ≡ u

@@ -192,10 +192,13 @@ late_behind c r b p mine up reach at lacks =
         leads = leads_joined c r b p mine t.late.region t.granted l.leads;
         raised = λ k region other member. l.raised k region (was_member r p k b mine other member);
         have = λ k region other member done. l.have k region (was_member r p k b mine other member);
-        few = λ k region member. (elim (cases_eq k p) [
-          | inl same ↦ subst (λ x. get_or up x 0 ≤ end_of c r mine) (sym same) at.entering.short
-          | inr other ↦ l.few k region (was_member r p k b mine other member)
-        ], λ left. absurd left);
+        few = λ k region member. (
+          elim (cases_eq k p) [
+            | inl same ↦ subst (λ x. get_or up x 0 ≤ end_of c r mine) (sym same) at.entering.short
+            | inr other ↦ l.few k region (was_member r p k b mine other member)
+          ],
+          λ left. absurd left,
+        );
       };
       lacks = lacks;
     }

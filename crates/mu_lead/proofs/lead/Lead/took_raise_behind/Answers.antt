@@ -13,7 +13,7 @@ use Rattle.mu_lead.proofs.RoomsRaising.{rooms_all_brought, rooms_brought_joined,
 use Rattle.std.proofs.Common.{sym}
 use Rattle.mu_lead.specs.Onward.{MayBringUp, MayGoOn, passed_over}
 use Rattle.mu_lead.specs.Leading.{HaveFew, Level}
-use Rattle.std.proofs.Common.{inl, inr, true}
+use Rattle.std.proofs.Common.{inl, inr}
 use Rattle.std.specs.Prelude.{nat_lt}
 use Rattle.std.proofs.lemmas.Bool.{lt-ltb}
 use Rattle.mu_model.specs.Leaderships.{is_member}
