@@ -18,25 +18,57 @@ use Rattle.mu_model.specs.Picks.{is_past}
 use Rattle.mu_model.specs.Placing.{is_caught_up_at, is_known_put, is_within_ring, looked_before_entering}
 use Rattle.mu_model.proofs.Basics.{event_by, or_true, same_number, true_or}
 use Rattle.mu_lead.specs.declared.place.Then.{Then}
-use Rattle.mu_lead.specs.Leading.{AtEnterBehind, AtPutBehind, AtRaiseBehind, AtReadFuo, AtWiden, Behind, Brought, IsDone, IsMember, IsRaised, Leads, Level, Near, RaisedBelow, end_of, looked_at}
+use Rattle.mu_lead.specs.Leading.{AtEnterBehind, AtPutBehind, AtRaiseBehind, AtReadFuo, AtWiden, Behind, Brought, HasMost, HaveAtMost, HaveBelow, HaveFew, IsDone, IsLeft, IsMember, IsRaised, Leads, Level, Near, RaisedBelow, end_of, looked_at}
 use Rattle.mu_lead.specs.Sets.{IsFirst}
 use Rattle.mu_lead.proofs.Keeping.{leads_kept, raise_event, raised_other}
 use Rattle.mu_lead.proofs.Tables.{brought_kept, caught_up_with}
 
 -- the next member's FUO is read
-pub reads_more : (c : Config) (r b p q from s : ℕ) (mine : List Event) (up : List ℕ) (reach : List (Option ℕ)) → from ≡ p + 1 → Leads c r b mine → RaisedBelow r mine up reach (p + 1) → IsMember c r mine (Some s)
+pub reads_more : (c : Config) (r b p q from s : ℕ) (mine : List Event) (up : List ℕ) (reach : List (Option ℕ)) → from ≡ p + 1 → Leads c r b mine → RaisedBelow r mine up reach (p + 1) → IsMember c r mine (Some s) → HasMost r mine up (p + 1) (Some s)
     → IsFirst (λ k. is_member r k mine) from c.replicas (Some q) → AtReadFuo c r b mine up reach q (Some s)
-reads_more c r b p q from s mine up reach is leads raised source first = record {
+reads_more c r b p q from s mine up reach is leads raised source few first = record {
   region = first.1;
   member = first.2;
   leads = leads;
   raised = λ k low member. elim (cases_lt k (p + 1)) [ inl below ↦ raised k below member | inr above ↦ absurd (true≢false (sym member ∙ first.3 k (omega (arith, above, is)) low)) ];
   from = source;
+  few = (
+    (let low = few.0 in let above = first.0 in omega (arith, low, above, is)),
+    λ k low member. elim (cases_lt k (p + 1)) [ inl below ↦ few.1 k below member | inr above ↦ absurd (true≢false (sym member ∙ first.3 k (omega (arith, above, is)) low)) ],
+  );
 }
 
 -- all members' FUOs are read
 pub read_all : (c : Config) (r p from : ℕ) (mine : List Event) (up : List ℕ) (reach : List (Option ℕ)) → from ≡ p + 1 → RaisedBelow r mine up reach (p + 1) → IsFirst (λ k. is_member r k mine) from c.replicas None → RaisedBelow r mine up reach c.replicas
 read_all c r p from mine up reach is raised none k low member = elim (cases_lt k (p + 1)) [ inl below ↦ raised k below member | inr above ↦ absurd (true≢false (sym member ∙ none k (omega (arith, above, is)) low)) ]
+
+-- and the member of the greatest one has the most
+pub most_all : (c : Config) (r p from s : ℕ) (mine : List Event) (up : List ℕ) → from ≡ p + 1 → HasMost r mine up (p + 1) (Some s) → IsFirst (λ k. is_member r k mine) from c.replicas None → HaveAtMost c r mine up (get_or up s 0)
+most_all c r p from s mine up is few none k low member = elim (cases_lt k (p + 1)) [ inl below ↦ few.1 k below member | inr above ↦ absurd (true≢false (sym member ∙ none k (omega (arith, above, is)) low)) ]
+
+-- a region with at least what the one of the most has is ahead of those below it
+pub most_here : (r p : ℕ) (mine : List Event) (up : List ℕ) (source : Option ℕ) → HasMost r mine up p source → ((s : ℕ) → source ≡ Some s → get_or up s 0 ≤ get_or up p 0) → HasMost r mine up (p + 1) (Some p)
+most_here r p mine up source few ahead = (
+  omega arith,
+  λ k low member. elim (cases_lt k p) [
+    | inl below ↦ go source few ahead k below member
+    | inr here ↦ (let same : k ≡ p = omega (arith, low, here) in subst (λ x. get_or up x 0 ≤ get_or up p 0) (sym same) (omega arith))
+  ],
+)
+  where
+    go : (o : Option ℕ) → HasMost r mine up p o → ((s : ℕ) → o ≡ Some s → get_or up s 0 ≤ get_or up p 0) → (k : ℕ) → k < p → is_member r k mine ≡ true → get_or up k 0 ≤ get_or up p 0
+    go None few ahead k below member = absurd (true≢false (sym member ∙ few k below))
+    go (Some s) few ahead k below member = (let less = few.1 k below member in let more = ahead s refl in omega (arith, less, more))
+
+-- one that has less isn't
+pub most_still : (r p s : ℕ) (mine : List Event) (up : List ℕ) → HasMost r mine up p (Some s) → get_or up p 0 ≤ get_or up s 0 → HasMost r mine up (p + 1) (Some s)
+most_still r p s mine up few less = (
+  (let low = few.0 in omega (arith, low)),
+  λ k low member. elim (cases_lt k p) [
+    | inl below ↦ few.1 k below member
+    | inr here ↦ (let same : k ≡ p = omega (arith, low, here) in subst (λ x. get_or up x 0 ≤ get_or up s 0) (sym same) less)
+  ],
+)
 
 -- the FUO of p was read
 pub raised_read : (c : Config) (r b p u : ℕ) (mine : List Event) (up up' : List ℕ) (reach reach' : List (Option ℕ)) (held : Option ℕ) → RaisedBelow r mine up reach p → get_or up' p 0 ≡ u
@@ -50,8 +82,8 @@ raised_read c r b p u mine up up' reach reach' held raised here ups reaches now 
 -- a member behind, the first one
 pub first_behind : (c : Config) (r b p q : ℕ) (mine : List Event) (up : List ℕ) (reach : List (Option ℕ)) (on : Then) → Leads c r b mine → RaisedBelow r mine up reach c.replicas
     → ((k : ℕ) → k < c.replicas → is_member r k mine ≡ true → IsDone on k p → end_of c r mine ≤ get_or up k 0)
-    → IsFirst (λ k. is_member r k mine && nat_lt (get_or up k 0) (end_of c r mine)) p c.replicas (Some q) → AtWiden c r b mine up reach q on
-first_behind c r b p q mine up reach on leads raised done first =
+    → HaveFew c r mine up on p → IsFirst (λ k. is_member r k mine && nat_lt (get_or up k 0) (end_of c r mine)) p c.replicas (Some q) → AtWiden c r b mine up reach q on
+first_behind c r b p q mine up reach on leads raised done few first =
     let both = and_split (is_member r q mine) (nat_lt (get_or up q 0) (end_of c r mine)) first.2 in
     record {
       behind = record {
@@ -60,10 +92,16 @@ first_behind c r b p q mine up reach on leads raised done first =
         leads = leads;
         raised = λ k region other member. raised k region member;
         have = λ k region other member. done_to on done k region member;
+        few = λ k region member. (let at = few k region member in (at.0, λ left. at.1 (left_from on k left)));
       };
       lacks = ltb-true (get_or up q 0) (end_of c r mine) both.1;
     }
   where
+    left_from : (t : Then) (k : ℕ) → IsLeft t (q + 1) k → IsLeft t p k
+    left_from Then.Late k left = left
+    left_from Then.Position k left = (let from = first.0 in omega (arith, from, left))
+    left_from Then.Joined k left = left
+
     and_split : (x y : Bool) → (x && y) ≡ true → (x ≡ true) × (y ≡ true)
     and_split true y is = (refl, is)
     and_split false y is = absurd (true≢false (sym is))
@@ -79,23 +117,24 @@ first_behind c r b p q mine up reach on leads raised done first =
     done_to Then.Position has k region member low = below has k region member low
     done_to Then.Joined has k region member low = has k region member tt
 
+-- members that aren't behind have what is known
+pub none_lacks : (c : Config) (r p : ℕ) (mine : List Event) (up : List ℕ) (on : Then) → ((k : ℕ) → k < c.replicas → is_member r k mine ≡ true → IsDone on k p → end_of c r mine ≤ get_or up k 0)
+    → IsFirst (λ k. is_member r k mine && nat_lt (get_or up k 0) (end_of c r mine)) p c.replicas None → HaveBelow r mine up c.replicas (end_of c r mine)
+none_lacks c r p mine up on done none k region member = elim (cases_lt k p) [ inl less ↦ done k region member (is_done on less) | inr more ↦ has_all (none k more region) ]
+  where
+    is_done : (t : Then) → k < p → IsDone t k p
+    is_done Then.Late low = low
+    is_done Then.Position low = low
+    is_done Then.Joined low = tt
+
+    has_all : (is_member r k mine && nat_lt (get_or up k 0) (end_of c r mine)) ≡ false → end_of c r mine ≤ get_or up k 0
+    has_all none = ltb-false (get_or up k 0) (end_of c r mine) (sym (ap (λ x. x && nat_lt (get_or up k 0) (end_of c r mine)) member) ∙ none)
+
 -- no member is behind
 pub none_behind : (c : Config) (r b p : ℕ) (mine : List Event) (up : List ℕ) (reach : List (Option ℕ)) (on : Then) → Leads c r b mine → RaisedBelow r mine up reach c.replicas
     → ((k : ℕ) → k < c.replicas → is_member r k mine ≡ true → IsDone on k p → end_of c r mine ≤ get_or up k 0)
-    → IsFirst (λ k. is_member r k mine && nat_lt (get_or up k 0) (end_of c r mine)) p c.replicas None → Level c r b mine up reach
-none_behind c r b p mine up reach on leads raised done none = record {
-  leads = leads;
-  have = λ k region member. elim (cases_lt k p) [ inl less ↦ done k region member (is_done on k less) | inr more ↦ has_all k member (none k more region) ];
-  raised = raised;
-}
-  where
-    is_done : (t : Then) (k : ℕ) → k < p → IsDone t k p
-    is_done Then.Late k low = low
-    is_done Then.Position k low = low
-    is_done Then.Joined k low = tt
-
-    has_all : (k : ℕ) → is_member r k mine ≡ true → (is_member r k mine && nat_lt (get_or up k 0) (end_of c r mine)) ≡ false → end_of c r mine ≤ get_or up k 0
-    has_all k member none = ltb-false (get_or up k 0) (end_of c r mine) (sym (ap (λ x. x && nat_lt (get_or up k 0) (end_of c r mine)) member) ∙ none)
+    → HaveFew c r mine up on p → IsFirst (λ k. is_member r k mine && nat_lt (get_or up k 0) (end_of c r mine)) p c.replicas None → Level c r b mine up reach
+none_behind c r b p mine up reach on leads raised done few none = record { leads = leads; have = none_lacks c r p mine up on done none; raised = raised; few = λ k region member. (few k region member).0 }
 
 -- the FUO of p is raised so far as it was brought up
 pub near_widened : (c : Config) (r b p : ℕ) (mine : List Event) (up : List ℕ) (reach reach' : List (Option ℕ)) (on : Then) → AtWiden c r b mine up reach p on
@@ -110,6 +149,7 @@ near_widened c r b p mine up reach reach' on at reaches near =
         leads = leads_kept c r b r (Verb.RaiseFuo p (get_or up p 0)) Answer.Done mine refl h.leads;
         raised = λ k region other member. raised_other p k up up reach reach' other (λ j differs. refl) reaches (h.raised k region other member);
         have = h.have;
+        few = h.few;
       };
       lacks = at.lacks;
       near = λ version. near;
@@ -144,6 +184,7 @@ behind_looked c r b p i answer mine up reach on same h = record {
   leads = leads_kept c r b r (Verb.Look p i) answer mine refl h.leads;
   raised = h.raised;
   have = λ k region other member done. subst (λ values. length values ≤ get_or up k 0) (sym same) (h.have k region other member done);
+  few = λ k region member. subst (λ values. (get_or up k 0 ≤ length values) × (IsLeft on (p + 1) k → get_or up k 0 < length values)) (sym same) (h.few k region member);
 }
 
 -- a look at what p lacks
@@ -190,7 +231,7 @@ puts_behind c r b p mine up reach on at =
     let h = n.behind in
     record {
       near = record {
-        behind = record { region = h.region; member = h.member; leads = leads_entered c r b p (get_or up p 0 % c.ring) mine h.leads; raised = h.raised; have = h.have };
+        behind = record { region = h.region; member = h.member; leads = leads_entered c r b p (get_or up p 0 % c.ring) mine h.leads; raised = h.raised; have = h.have; few = h.few };
         lacks = n.lacks;
         near = n.near;
       };
@@ -244,9 +285,9 @@ brought_put c r b v p u mine low is old =
     }
 
 -- what p has one entry more of
-pub behind_put : (c : Config) (r b v p u : ℕ) (mine : List Event) (up up' : List ℕ) (reach : List (Option ℕ)) (on : Then) → u < end_of c r mine → ((k : ℕ) → k ≢ p → get_or up' k 0 ≡ get_or up k 0)
+pub behind_put : (c : Config) (r b v p u : ℕ) (mine : List Event) (up up' : List ℕ) (reach : List (Option ℕ)) (on : Then) → u < end_of c r mine → ((k : ℕ) → k ≢ p → get_or up' k 0 ≡ get_or up k 0) → get_or up' p 0 ≤ end_of c r mine
     → Behind c r b mine up reach p on → Behind c r b (put_event r p u b v ∷ mine) up' reach p on
-behind_put c r b v p u mine up up' reach on low ups h =
+behind_put c r b v p u mine up up' reach on low ups next h =
     let same = put_known c r p u b v mine low in
     record {
       region = h.region;
@@ -254,7 +295,16 @@ behind_put c r b v p u mine up up' reach on low ups h =
       leads = leads_put c r b p u v mine low h.leads;
       raised = λ k region other member. raised_other p k up up' reach reach other ups (λ j differs. refl) (h.raised k region other member);
       have = λ k region other member done. subst (λ x. end_of c r (put_event r p u b v ∷ mine) ≤ x) (sym (ups k other)) (subst (λ values. length values ≤ get_or up k 0) (sym same) (h.have k region other member done));
+      few = λ k region member. subst (λ values. (get_or up' k 0 ≤ length values) × (IsLeft on (p + 1) k → get_or up' k 0 < length values)) (sym same) (elim (cases_eq k p) [
+        | inl here ↦ subst (λ x. (get_or up' x 0 ≤ end_of c r mine) × (IsLeft on (p + 1) x → get_or up' x 0 < end_of c r mine)) (sym here) (next, λ left. absurd (not_left on left))
+        | inr other ↦ subst (λ x. (x ≤ end_of c r mine) × (IsLeft on (p + 1) k → x < end_of c r mine)) (sym (ups k other)) (h.few k region member)
+      ]);
     }
+  where
+    not_left : (t : Then) → IsLeft t (p + 1) p → ⊥
+    not_left Then.Late left = left
+    not_left Then.Position left = absurd (omega (arith, left))
+    not_left Then.Joined left = left
 
 -- all that is known is raised at p
 pub raised_behind : (c : Config) (r b p : ℕ) (mine : List Event) (up : List ℕ) (reach reach' : List (Option ℕ)) (on : Then) → AtRaiseBehind c r b mine up reach p on → ((k : ℕ) → k ≢ p → get_or reach' k None ≡ get_or reach k None)

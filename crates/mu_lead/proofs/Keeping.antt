@@ -16,7 +16,7 @@ use Rattle.mu_model.specs.Room.{reserve}
 use Rattle.mu_model.proofs.Basics.{event_by, same_number, true_or}
 use Rattle.mu_leading.specs.Leadership.{StandsForLeadership}
 use Rattle.mu_leading.specs.declared.leadership.Leadership.{Leadership}
-use Rattle.mu_lead.specs.Leading.{Brought, HoldsTables, IsMember, IsRaised, IsReached, Leads, end_of}
+use Rattle.mu_lead.specs.Leading.{Brought, HasMost, HoldsTables, IsMember, IsRaised, IsReached, Leads, end_of}
 
 -- a verb that changes nothing of a leadership but what is looked at, read and raised
 abbrev pub is_calm : Verb → Bool
@@ -163,3 +163,16 @@ source_calm c r by verb answer mine (Some q) calm is = (is.0, member_calm r q by
     member_calm r q by (Verb.Ask p) answer mine calm is = absurd (true≢false (sym calm))
     member_calm r q by (Verb.PutMin p b) answer mine calm is = absurd (true≢false (sym calm))
     member_calm r q by verb answer mine calm is = is
+
+-- which of the members below p has the most, where the members are the same
+pub most_on : (r p : ℕ) (mine now : List Event) (up : List ℕ) (source : Option ℕ) → ((q : ℕ) → is_member r q now ≡ is_member r q mine) → HasMost r mine up p source → HasMost r now up p source
+most_on r p mine now up None same few = λ q low. same q ∙ few q low
+most_on r p mine now up (Some s) same few = (few.0, λ q low member. few.1 q low (sym (same q) ∙ member))
+
+-- and where p alone has another number
+pub most_up : (r p : ℕ) (mine : List Event) (up up' : List ℕ) (source : Option ℕ) → ((k : ℕ) → k ≢ p → get_or up' k 0 ≡ get_or up k 0) → HasMost r mine up p source → HasMost r mine up' p source
+most_up r p mine up up' None ups few = few
+most_up r p mine up up' (Some s) ups few = (
+  few.0,
+  λ q low member. (let at_q = ups q (λ same. absurd (omega (arith, low, same))) in let at_s = ups s (λ same. (let below = few.0 in absurd (omega (arith, below, same)))) in let less = few.1 q low member in omega (arith, at_q, at_s, less)),
+)

@@ -46,7 +46,7 @@ leads_fenced c r b p f mine stranger l = record {
     noted_still q other = rw (same_number r, other) refl
 
 pub level_fenced : (c : Config) (r b p : ℕ) (f : Fence) (mine : List Event) (up : List ℕ) (reach : List (Option ℕ)) → is_member r p mine ≡ false → Level c r b mine up reach → Level c r b (fence_event r p f ∷ mine) up reach
-level_fenced c r b p f mine up reach stranger l = record { leads = leads_fenced c r b p f mine stranger l.leads; have = l.have; raised = l.raised }
+level_fenced c r b p f mine up reach stranger l = record { leads = leads_fenced c r b p f mine stranger l.leads; have = l.have; raised = l.raised; few = l.few }
 
 -- the late follower names the leader
 pub late_noted : (c : Config) (r b p : ℕ) (f : Fence) (mine : List Event) (up : List ℕ) (reach : List (Option ℕ)) → Late c r b mine up reach p → is_some (noted_grant r p (fence_event r p f ∷ mine)) ≡ true → AtLateMin c r b (fence_event r p f ∷ mine) up reach p
@@ -82,7 +82,7 @@ pub late_told : (c : Config) (r b p m : ℕ) (mine : List Event) (up : List ℕ)
 late_told c r b p m mine up reach low at =
     let l = at.late.level in
     record {
-      late = record { region = at.late.region; stranger = at.late.stranger; level = record { leads = leads_told c r b p m mine low l.leads; have = l.have; raised = l.raised } };
+      late = record { region = at.late.region; stranger = at.late.stranger; level = record { leads = leads_told c r b p m mine low l.leads; have = l.have; raised = l.raised; few = l.few } };
       granted = at.granted;
       told = read_now r p m mine at.granted;
       low = rw (same_number r, same_number p) low;
@@ -94,6 +94,7 @@ level_read c r b p u mine up up' reach reach' stranger ups reaches l = record {
   leads = leads_kept c r b r (Verb.Fuo p) (Answer.Number u) mine refl l.leads;
   have = λ k region member. subst (λ x. end_of c r mine ≤ x) (sym (ups k (other k member))) (l.have k region member);
   raised = λ k region member. raised_other p k up up' reach reach' (other k member) ups reaches (l.raised k region member);
+  few = λ k region member. subst (λ x. x ≤ end_of c r mine) (sym (ups k (other k member))) (l.few k region member);
 }
   where
     other : (k : ℕ) → is_member r k mine ≡ true → k ≢ p
@@ -143,6 +144,7 @@ late_entered c r b p mine up reach at =
               };
               have = l.have;
               raised = l.raised;
+              few = l.few;
             };
           };
           granted = t.granted;
@@ -190,6 +192,13 @@ late_behind c r b p mine up reach at lacks =
         leads = leads_joined c r b p mine t.late.region t.granted l.leads;
         raised = λ k region other member. l.raised k region (was_member r p k b mine other member);
         have = λ k region other member done. l.have k region (was_member r p k b mine other member);
+        few = λ k region member. (
+          elim (cases_eq k p) [
+            | inl same ↦ subst (λ x. get_or up x 0 ≤ end_of c r mine) (sym same) at.entering.short
+            | inr other ↦ l.few k region (was_member r p k b mine other member)
+          ],
+          λ left. absurd left,
+        );
       };
       lacks = lacks;
     }
@@ -208,6 +217,10 @@ late_level c r b p mine up reach at has =
       raised = λ k region member. elim (cases_eq k p) [
         | inl same ↦ subst (λ x. IsRaised up reach x) (sym same) at.entering.raised
         | inr other ↦ l.raised k region (was_member r p k b mine other member)
+      ];
+      few = λ k region member. elim (cases_eq k p) [
+        | inl same ↦ subst (λ x. get_or up x 0 ≤ end_of c r mine) (sym same) at.entering.short
+        | inr other ↦ l.few k region (was_member r p k b mine other member)
       ];
     }
 
@@ -258,7 +271,7 @@ pub near_held : (c : Config) (r b p : ℕ) (f : Fence) (mine : List Event) (up :
 near_held c r b p f mine up reach on possible goes_on n =
     let h = n.behind in
     record {
-      behind = record { region = h.region; member = h.member; leads = leads_held c r b p f mine possible goes_on h.leads; raised = h.raised; have = h.have };
+      behind = record { region = h.region; member = h.member; leads = leads_held c r b p f mine possible goes_on h.leads; raised = h.raised; have = h.have; few = h.few };
       lacks = n.lacks;
       near = n.near;
     }

@@ -37,6 +37,7 @@ pub mod RoomsLooking
 pub mod RoomsMin
 pub mod RoomsOnward
 pub mod RoomsOutrun
+pub mod RoomsPosition
 pub mod RoomsPutting
 pub mod RoomsQuiet
 pub mod RoomsRaising

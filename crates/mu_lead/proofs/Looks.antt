@@ -33,7 +33,7 @@ abbrev pub head_event : ℕ → ℕ → ℕ → Event
 head_event r q h = event_by r (Verb.Head q) (Answer.Number h)
 
 pub level_head : (c : Config) (r b q h : ℕ) (mine : List Event) (up : List ℕ) (reach : List (Option ℕ)) → Level c r b mine up reach → Level c r b (head_event r q h ∷ mine) up reach
-level_head c r b q h mine up reach l = record { leads = leads_kept c r b r (Verb.Head q) (Answer.Number h) mine refl l.leads; have = l.have; raised = l.raised }
+level_head c r b q h mine up reach l = record { leads = leads_kept c r b r (Verb.Head q) (Answer.Number h) mine refl l.leads; have = l.have; raised = l.raised; few = l.few }
 
 pub marks_head : (c : Config) (r q h : ℕ) (mine : List Event) (candidate : Option ℕ) → MayBeMarked c r mine candidate → MayBeMarked c r (head_event r q h ∷ mine) candidate
 marks_head c r q h mine None m = tt
@@ -153,6 +153,7 @@ level_looked c r b p i a mine up reach same l = record {
   leads = leads_kept c r b r (Verb.Look p i) a mine refl l.leads;
   have = λ k region member. subst (λ values. length values ≤ get_or up k 0) (sym same) (l.have k region member);
   raised = l.raised;
+  few = λ k region member. subst (λ values. get_or up k 0 ≤ length values) (sym same) (l.few k region member);
 }
 
 marks_looked : (c : Config) (r p i : ℕ) (a : Answer) (mine : List Event) (candidate : Option ℕ) → known c r (look_event r p i a ∷ mine) ≡ known c r mine → MayBeMarked c r mine candidate → MayBeMarked c r (look_event r p i a ∷ mine) candidate

@@ -272,4 +272,5 @@ reads_first c r b q mine up reach leads first = record {
   leads = leads;
   raised = λ k low member. absurd (true≢false (sym member ∙ first.3 k (omega arith) low));
   from = tt;
+  few = λ k low. first.3 k (omega arith) low;
 }

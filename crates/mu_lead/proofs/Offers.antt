@@ -80,7 +80,7 @@ row_event r j k x = event_by r (Verb.WriteRow j k x) Answer.Done
 
 looking_row : (c : Config) (r b j k x p : ℕ) (mine : List Event) (up : List ℕ) (reach : List (Option ℕ)) → Looking c r b mine up reach p None None → Looking c r b (row_event r j k x ∷ mine) up reach p None None
 looking_row c r b j k x p mine up reach l = record {
-  level = record { leads = leads_kept c r b r (Verb.WriteRow j k x) Answer.Done mine refl l.level.leads; have = l.level.have; raised = l.level.raised };
+  level = record { leads = leads_kept c r b r (Verb.WriteRow j k x) Answer.Done mine refl l.level.leads; have = l.level.have; raised = l.level.raised; few = l.level.few };
   roomy = record { within = l.roomy.within; lacks = l.roomy.lacks; room = l.roomy.room; free = l.roomy.free; marks = tt };
   looked = λ q low member. (let d = l.looked q low member in record { good = rw member d.good; last = d.last; clear = d.clear; empty = d.empty });
   shows = l.shows;

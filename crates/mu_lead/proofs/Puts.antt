@@ -336,6 +336,7 @@ pub raised_all : (c : Config) (r b p from : ℕ) (mine : List Event) (up : List 
 raised_all c r b p from mine up reach reach' at reaches now is none = record {
   leads = leads_kept c r b r (Verb.RaiseFuo p (end_of c r mine)) Answer.Done mine refl at.leads;
   have = λ k region member. (let same = at.have k region member in omega (arith, same));
+  few = λ k region member. (let same = at.have k region member in omega (arith, same));
   raised = raised_more c r b p c.replicas mine up reach reach' at reaches now (λ k more low. none k (omega (arith, more, is)) low);
 }
 

@@ -11,7 +11,7 @@ use Rattle.mu_model.specs.Parts.{IsPossible}
 use Rattle.mu_model.specs.Placing.{fuo_read_or_raised, is_within_ring, reaches_head}
 use Rattle.mu_agree.proofs.Prefixes.{greatest_along}
 use Rattle.mu_pace.specs.Watches.{is_brought_up}
-use Rattle.mu_lead.specs.Leading.{HoldsTables, IsRaised, Level, end_of}
+use Rattle.mu_lead.specs.Leading.{HaveBelow, HoldsTables, IsRaised, Level, RaisedBelow, end_of}
 use Rattle.mu_lead.proofs.Puts.{member_within}
 
 -- a FUO that reaches above i without a ring is above it
@@ -42,9 +42,13 @@ brought_up c r p mine up reach heads written tables has_all raised = go (end_of 
         let above = above_told (λ e. fuo_read_or_raised r p e.by e.verb e.answer) i (leadership r mine) (tables.reached p i 0 (reaches_below (get_or up p 0) i (get_or reach p None) (omega (arith, low)) raised)) in
         le-leb (suc i) (greatest (λ e. fuo_read_or_raised r p e.by e.verb e.answer) (leadership r mine)) (omega (arith, above))
 
--- each member is, where each has what is known
+-- each member is, where each has what is known and its FUO is raised
+pub none_brought : (c : Config) (r : ℕ) (mine : List Event) (up : List ℕ) (reach : List (Option ℕ)) (heads written : List ℕ) → IsPossible c r mine → HoldsTables c r mine up reach heads written → HaveBelow r mine up c.replicas (end_of c r mine) → RaisedBelow r mine up reach c.replicas
+    → (k : ℕ) → is_member r k mine ≡ true → is_brought_up c r k mine ≡ true
+none_brought c r mine up reach heads written possible tables have raised k member =
+    let low = member_within c r k mine possible member in
+    brought_up c r k mine up reach heads written tables (have k low member) (raised k low member)
+
 pub level_brought : (c : Config) (r b : ℕ) (mine : List Event) (up : List ℕ) (reach : List (Option ℕ)) (heads written : List ℕ) → IsPossible c r mine → HoldsTables c r mine up reach heads written → Level c r b mine up reach
     → (k : ℕ) → is_member r k mine ≡ true → is_brought_up c r k mine ≡ true
-level_brought c r b mine up reach heads written possible tables level k member =
-    let low = member_within c r k mine possible member in
-    brought_up c r k mine up reach heads written tables (level.have k low member) (level.raised k low member)
+level_brought c r b mine up reach heads written possible tables level = none_brought c r mine up reach heads written possible tables level.have level.raised

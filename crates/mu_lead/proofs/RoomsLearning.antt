@@ -30,7 +30,7 @@ past_none c r p i Answer.Past mine past = refl
 past_none c r p i (Answer.Entry b v) mine past = absurd (true≢false (sym past))
 past_none c r p i a mine past = refl
 
-either : (a b : Bool) → a ≡ true → (a || b) ≡ true
+pub either : (a b : Bool) → a ≡ true → (a || b) ≡ true
 either true b h = refl
 either false b h = absurd (true≢false (sym h))
 

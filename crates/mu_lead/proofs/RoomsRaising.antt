@@ -1,5 +1,5 @@
 -- The counts of a leader while FUOs are raised: after a commit, and where a region was brought up.
-use Rattle.std.proofs.Common.{◌≡◌, ℕ, ◌+◌, ◌<◌, inl, inr, true, false, List, ◌∷◌, refl, sym, subst, arith, true≢false}
+use Rattle.std.proofs.Common.{◌≡◌, ℕ, ◌+◌, ◌<◌, inl, inr, true, List, ◌∷◌, refl, sym, subst, arith, true≢false}
 use Rattle.std.proofs.lemmas.Bool.{le-leb}
 use Rattle.mu_model.specs.declared.config.Config.{Config}
 use Rattle.mu_model.specs.declared.event.Answer.{Answer}
@@ -18,7 +18,7 @@ use Rattle.mu_pace.proofs.Weights.{weights_fall}
 use Rattle.mu_lead.specs.declared.place.Place.{Place}
 use Rattle.mu_lead.specs.declared.place.Then.{Then}
 use Rattle.mu_lead.specs.Onward.{MayBringUp, MayGoOn}
-use Rattle.mu_lead.specs.Rooms.{IsPlaced, is_one_position, sizes_of}
+use Rattle.mu_lead.specs.Rooms.{IsPlaced, sizes_of}
 use Rattle.mu_lead.proofs.RoomsOnward.{onward_step}
 use Rattle.mu_lead.proofs.RoomsPutting.{in_turn}
 use Rattle.mu_lead.proofs.RoomsQuiet.{silent, sized, steps_on}
@@ -49,12 +49,6 @@ rooms_raised c r p u mine written is turn region member at =
       farther = λ l below stranger. absurd (omega (arith, below));
     })
     (inl refl)
-
--- who neither joined nor is brought up at one position is brought up behind its FUO
-pub late_then : (then_what : Then) → is_one_position then_what ≡ false → (then_what ≡ Then.Joined → ⊥) → then_what ≡ Then.Late
-late_then Then.Late one other = refl
-late_then Then.Position one other = absurd (true≢false one)
-late_then Then.Joined one other = absurd (other refl)
 
 -- one that joined was brought up
 pub rooms_brought_joined : (c : Config) (r p from u : ℕ) (mine : List Event) (written : List ℕ) → IsConfig c → is_replication mine (event_by r (Verb.RaiseFuo p u) Answer.Done) ≡ true → p < c.replicas → from ≡ p + 1 → ((k : ℕ) → is_member r k (event_by r (Verb.RaiseFuo p u) Answer.Done ∷ mine) ≡ true → is_brought_up c r k (event_by r (Verb.RaiseFuo p u) Answer.Done ∷ mine) ≡ true)

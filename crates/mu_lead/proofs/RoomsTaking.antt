@@ -1,64 +1,36 @@
 -- From the rooms that each place keeps to those that the leader keeps by the verb that was due.
-use Rattle.std.proofs.Common.{Bool, List, ap, false, refl, subst, sym, true, true≢false, ℕ, ◌∙◌, ◌∷◌, ◌≡◌}
+use Rattle.std.proofs.Common.{Bool, List, ap, subst, sym, true, ℕ, ◌∙◌, ◌∷◌, ◌≡◌}
 use Rattle.mu_model.specs.declared.event.Answer.{Answer}
 use Rattle.mu_model.specs.declared.event.Event.{Event}
 use Rattle.mu_model.specs.declared.event.Verb.{Verb}
 use Rattle.mu_model.specs.Knowledge.{known}
 use Rattle.mu_model.specs.Leaderships.{is_over}
 use Rattle.mu_model.specs.Parts.{IsPossible}
-use Rattle.mu_model.specs.Steps.{knows_more}
 use Rattle.mu_model.specs.Stretches.{is_replication}
 use Rattle.mu_model.proofs.Basics.{event_by}
 use Rattle.mu_lead.specs.declared.lead.Lead.{Lead}
 use Rattle.mu_lead.specs.declared.place.Place.{Place}
-use Rattle.std.specs.Prelude.{not}
-use Rattle.mu_lead.specs.declared.place.Then.{Then}
-use Rattle.mu_lead.specs.Rooms.{HasRooms, KeepsEnding, KeepsRooms, KeepsLook, KeepsUntaught, RoomsDue, is_kept, is_one_position}
+use Rattle.mu_lead.specs.Rooms.{HasRooms, KeepsEnding, KeepsRooms, KeepsLook, RoomsDue, is_kept}
 use Rattle.mu_lead.specs.Leading.{end_of}
 use Rattle.mu_lead.specs.Standing.{known_told}
 use Rattle.mu_lead.proofs.Taking.{HasVerb, verb_is}
 
--- a place whose answer teaches nothing that its put does not, where its step is shown to keep the rooms
-pub keeps_kept : (old new : Lead) (place : Place) (values : List ℕ) (vf : List ℕ → Verb) (answer : Answer) → old.place ≡ place → HasVerb old place vf
-    → ((mine : List Event) (xs : List ℕ) → known_told old.config old.id mine old.id (vf xs) answer ≡ known old.config old.id mine) → ((teaches ends : Bool) → is_kept place teaches ends ≡ true → KeepsRooms old place values (vf values) answer new) → RoomsDue old values answer new
-keeps_kept old new place values vf answer at is quiet keeps mine verb s due possible told turn kept rooms =
+-- a place whose answer teaches nothing that its put does not
+pub keeps_known : (old new : Lead) (place : Place) (values : List ℕ) (vf : List ℕ → Verb) (answer : Answer) → old.place ≡ place → HasVerb old place vf
+    → ((mine : List Event) (xs : List ℕ) → known_told old.config old.id mine old.id (vf xs) answer ≡ known old.config old.id mine) → KeepsRooms old place values (vf values) answer new → RoomsDue old values answer new
+keeps_known old new place values vf answer at is quiet keeps mine verb s due possible told turn kept rooms =
     let same = verb_is old place vf verb (known old.config old.id mine) at is due in
     let known_is : values ≡ known old.config old.id mine = subst (λ w. values ≡ known_told old.config old.id mine old.id w answer) (sym same) told ∙ quiet mine (known old.config old.id mine) in
     let verb_now : vf values ≡ verb = ap vf known_is ∙ same in
     subst (λ w. HasRooms (event_by old.id w answer ∷ mine) new) verb_now
-    (keeps (knows_more old.config old.id mine (event_by old.id verb answer)) (is_over old.id (event_by old.id verb answer ∷ mine)) (subst (λ x. is_kept x (knows_more old.config old.id mine (event_by old.id verb answer)) (is_over old.id (event_by old.id verb answer ∷ mine)) ≡ true) at kept) mine s at (subst (λ w. IsPossible old.config old.id (event_by old.id w answer ∷ mine)) (sym verb_now) possible) (known_is ∙ sym (quiet mine values)) turn rooms)
+    (keeps mine s at (subst (λ w. IsPossible old.config old.id (event_by old.id w answer ∷ mine)) (sym verb_now) possible) (known_is ∙ sym (quiet mine values)) turn rooms)
 
--- the same of a place whose step always does
-pub keeps_known : (old new : Lead) (place : Place) (values : List ℕ) (vf : List ℕ → Verb) (answer : Answer) → old.place ≡ place → HasVerb old place vf
-    → ((mine : List Event) (xs : List ℕ) → known_told old.config old.id mine old.id (vf xs) answer ≡ known old.config old.id mine) → KeepsRooms old place values (vf values) answer new → RoomsDue old values answer new
-keeps_known old new place values vf answer at is quiet keeps = keeps_kept old new place values vf answer at is quiet (λ teaches ends kept. keeps)
-
--- members aren't each brought up at one position
-pub not_one : (then_what : Then) → not (is_one_position then_what) ≡ true → is_one_position then_what ≡ false
-not_one Then.Late kept = refl
-not_one Then.Position kept = absurd (true≢false (sym kept))
-not_one Then.Joined kept = refl
-
--- a look at a position that is known already
+-- a look, whatever it teaches
 pub keeps_any : (old new : Lead) (place : Place) (values : List ℕ) (v : Verb) (answer : Answer) → old.place ≡ place → HasVerb old place (λ xs. v) → KeepsRooms old place values v answer new → RoomsDue old values answer new
 keeps_any old new place values v answer at is keeps mine verb s due possible told turn kept rooms =
     let same = verb_is old place (λ xs. v) verb (known old.config old.id mine) at is due in
     subst (λ w. HasRooms (event_by old.id w answer ∷ mine) new) same
     (keeps mine s at (subst (λ w. IsPossible old.config old.id (event_by old.id w answer ∷ mine)) (sym same) possible) (subst (λ w. values ≡ known_told old.config old.id mine old.id w answer) (sym same) told) turn rooms)
-
-not_taught : (teaches : Bool) → not teaches ≡ true → teaches ≡ false
-not_taught true kept = absurd (true≢false (sym kept))
-not_taught false kept = refl
-
--- a look at a new position, where it teaches nothing
-pub keeps_untaught : (old new : Lead) (place : Place) (values : List ℕ) (v : Verb) (answer : Answer) → old.place ≡ place → ((teaches ends : Bool) → is_kept place teaches ends ≡ not teaches) → HasVerb old place (λ xs. v) → KeepsUntaught old place values v answer new → RoomsDue old values answer new
-keeps_untaught old new place values v answer at when is keeps mine verb s due possible told turn kept rooms =
-    let same = verb_is old place (λ xs. v) verb (known old.config old.id mine) at is due in
-    let teaches = knows_more old.config old.id mine (event_by old.id verb answer) in
-    let ends = is_over old.id (event_by old.id verb answer ∷ mine) in
-    let none : teaches ≡ false = not_taught teaches (sym (when teaches ends) ∙ subst (λ x. is_kept x teaches ends ≡ true) at kept) in
-    subst (λ w. HasRooms (event_by old.id w answer ∷ mine) new) same
-    (keeps mine s at (subst (λ w. IsPossible old.config old.id (event_by old.id w answer ∷ mine)) (sym same) possible) (subst (λ w. values ≡ known_told old.config old.id mine old.id w answer) (sym same) told) (subst (λ w. is_replication mine (event_by old.id w answer) ≡ true) (sym same) turn) (subst (λ w. knows_more old.config old.id mine (event_by old.id w answer) ≡ false) (sym same) none) rooms)
 
 -- a look at the first unknown position
 pub keeps_look : (old new : Lead) (place : Place) (values : List ℕ) (p : ℕ) (at_position : List ℕ → ℕ) (answer : Answer) → old.place ≡ place → HasVerb old place (λ xs. Verb.Look p (at_position xs))
@@ -70,15 +42,14 @@ keeps_look old new place values p at_position answer at is position keeps mine v
     (keeps i mine s at (position mine) (subst (λ w. IsPossible old.config old.id (event_by old.id w answer ∷ mine)) (sym same) possible) (subst (λ w. values ≡ known_told old.config old.id mine old.id w answer) (sym same) told) (subst (λ w. is_replication mine (event_by old.id w answer) ≡ true) (sym same) turn) rooms)
 
 -- a place whose answer teaches nothing that its put does not, where the step ends the leadership
-pub keeps_ending : (old new : Lead) (place : Place) (values : List ℕ) (vf : List ℕ → Verb) (answer : Answer) → old.place ≡ place → ((teaches ends : Bool) → is_kept place teaches ends ≡ ends) → HasVerb old place vf
+pub keeps_ending : (old new : Lead) (place : Place) (values : List ℕ) (vf : List ℕ → Verb) (answer : Answer) → old.place ≡ place → ((ends : Bool) → is_kept place ends ≡ ends) → HasVerb old place vf
     → ((mine : List Event) (xs : List ℕ) → known_told old.config old.id mine old.id (vf xs) answer ≡ known old.config old.id mine) → KeepsEnding old place values (vf values) answer new → RoomsDue old values answer new
 keeps_ending old new place values vf answer at when is quiet keeps mine verb s due possible told turn kept rooms =
     let same = verb_is old place vf verb (known old.config old.id mine) at is due in
     let known_is : values ≡ known old.config old.id mine = subst (λ w. values ≡ known_told old.config old.id mine old.id w answer) (sym same) told ∙ quiet mine (known old.config old.id mine) in
     let verb_now : vf values ≡ verb = ap vf known_is ∙ same in
-    let teaches = knows_more old.config old.id mine (event_by old.id verb answer) in
     let ends = is_over old.id (event_by old.id verb answer ∷ mine) in
-    let over : ends ≡ true = sym (when teaches ends) ∙ subst (λ x. is_kept x teaches ends ≡ true) at kept in
+    let over : ends ≡ true = sym (when ends) ∙ subst (λ x. is_kept x ends ≡ true) at kept in
     subst (λ w. HasRooms (event_by old.id w answer ∷ mine) new) verb_now
     (keeps mine s at (subst (λ w. IsPossible old.config old.id (event_by old.id w answer ∷ mine)) (sym verb_now) possible) (known_is ∙ sym (quiet mine values)) (subst (λ w. is_replication mine (event_by old.id w answer) ≡ true) (sym verb_now) turn)
     (subst (λ w. is_over old.id (event_by old.id w answer ∷ mine) ≡ true) (sym verb_now) over) rooms)

@@ -70,11 +70,24 @@ RaisedBelow r mine up reach p = (q : ℕ) → q < p → is_member r q mine ≡ t
 abbrev pub HaveBelow : ℕ → List Event → List ℕ → ℕ → ℕ → Type 0
 HaveBelow r mine up p u = (q : ℕ) → q < p → is_member r q mine ≡ true → u ≤ get_or up q 0
 
--- every member has what is known, and its FUO
+-- no member has more than what is below u
+abbrev pub HaveAtMost : Config → ℕ → List Event → List ℕ → ℕ → Type 0
+HaveAtMost c r mine up u =
+    (q : ℕ) → q < c.replicas → is_member r q mine ≡ true → get_or up q 0 ≤ u
+
+-- every member has what is known and no more, and its FUO
 pub record Level (c : Config) (r b : ℕ) (mine : List Event) (up : List ℕ) (reach : List (Option ℕ)) : Type 0 where
   pub leads : Leads c r b mine
   pub have : HaveBelow r mine up c.replicas (end_of c r mine)
   pub raised : RaisedBelow r mine up reach c.replicas
+  pub few : HaveAtMost c r mine up (end_of c r mine)
+
+-- of the members below p the region, where there is one, has the most; else there is none
+abbrev pub HasMost : ℕ → List Event → List ℕ → ℕ → Option ℕ → Type 0
+HasMost r mine up p None = (q : ℕ) → q < p → is_member r q mine ≡ false
+HasMost r mine up p (Some s) =
+    (s < p)
+    × ((q : ℕ) → q < p → is_member r q mine ≡ true → get_or up q 0 ≤ get_or up s 0)
 
 -- the region, where there is one, is a member
 abbrev pub IsMember : Config → ℕ → List Event → Option ℕ → Type 0
@@ -87,6 +100,7 @@ pub record AtReadFuo (c : Config) (r b : ℕ) (mine : List Event) (up : List ℕ
   pub leads : Leads c r b mine
   pub raised : RaisedBelow r mine up reach p
   pub from : IsMember c r mine source
+  pub few : HasMost r mine up p source
 
 pub record AtLearn (c : Config) (r b : ℕ) (mine : List Event) (up : List ℕ) (reach : List (Option ℕ)) (p : ℕ) : Type 0 where
   pub region : p < c.replicas
@@ -94,11 +108,23 @@ pub record AtLearn (c : Config) (r b : ℕ) (mine : List Event) (up : List ℕ) 
   pub leads : Leads c r b mine
   pub raised : RaisedBelow r mine up reach c.replicas
   pub lacks : end_of c r mine < get_or up p 0
+  pub few : HaveAtMost c r mine up (get_or up p 0)
 
 -- the member q has what is known, where that has to be so before p is brought up
 abbrev pub IsDone : Then → ℕ → ℕ → Type 0
 IsDone Then.Joined q p = Unit {0}
 IsDone _ q p = q < p
+
+-- where members are brought up at one position, q is at or after p
+abbrev pub IsLeft : Then → ℕ → ℕ → Type 0
+IsLeft Then.Position p q = p ≤ q
+IsLeft _ p q = ⊥
+
+-- no member has more than what is known, and those that are left don't have all of it
+abbrev pub HaveFew : Config → ℕ → List Event → List ℕ → Then → ℕ → Type 0
+HaveFew c r mine up then p =
+    (q : ℕ) → q < c.replicas → is_member r q mine ≡ true
+    → (get_or up q 0 ≤ end_of c r mine) × (IsLeft then p q → get_or up q 0 < end_of c r mine)
 
 -- the member p is brought up
 pub record Behind (c : Config) (r b : ℕ) (mine : List Event) (up : List ℕ) (reach : List (Option ℕ)) (p : ℕ) (then : Then) : Type 0 where
@@ -109,6 +135,7 @@ pub record Behind (c : Config) (r b : ℕ) (mine : List Event) (up : List ℕ) (
   pub have :
       (q : ℕ) → q < c.replicas → q ≢ p → is_member r q mine ≡ true → IsDone then q p
       → end_of c r mine ≤ get_or up q 0
+  pub few : HaveFew c r mine up then (p + 1)
 
 -- it lacks an entry
 pub record AtWiden (c : Config) (r b : ℕ) (mine : List Event) (up : List ℕ) (reach : List (Option ℕ)) (p : ℕ) (then : Then) : Type 0 where

@@ -1,5 +1,5 @@
 -- The room that the counts of steps have at each place of a leader.
-use Rattle.std.specs.Prelude.{Bool, nat_lt, ◌&&◌, ◌||◌, List, Some, [], false, get_or, not, suc, true, zero, ℕ, ◌+◌, ◌-◌, ◌∷◌, ◌≡◌, ◌≢◌, ◌≤◌}
+use Rattle.std.specs.Prelude.{Bool, nat_lt, ◌&&◌, ◌||◌, List, Some, [], false, get_or, suc, true, zero, ℕ, ◌+◌, ◌-◌, ◌∷◌, ◌≡◌, ◌≢◌, ◌≤◌}
 use Rattle.mu_model.specs.declared.config.Config.{Config}
 use Rattle.mu_model.specs.declared.event.Answer.{Answer}
 use Rattle.mu_model.specs.declared.event.Event.{Event}
@@ -9,7 +9,7 @@ use Rattle.mu_model.specs.Contents.{IsConfig}
 use Rattle.mu_model.specs.Parts.{IsPossible}
 use Rattle.mu_model.specs.Knowledge.{known}
 use Rattle.mu_model.specs.Leaderships.{is_member, is_over}
-use Rattle.mu_model.specs.Steps.{has_min, knows_more, leads}
+use Rattle.mu_model.specs.Steps.{has_min, leads}
 use Rattle.mu_model.specs.Stretches.{is_replication}
 use Rattle.mu_pace.specs.Away.{IsAway, IsFresh}
 use Rattle.mu_pace.specs.Members.{members_below, members_from}
@@ -136,17 +136,6 @@ KeepsRooms old place values verb answer new =
     → is_replication mine (record { by = old.id; verb = verb; answer = answer }) ≡ true
     → HasRooms mine old → HasRooms (record { by = old.id; verb = verb; answer = answer } ∷ mine) new
 
--- the same of a step that teaches nothing
-abbrev pub KeepsUntaught : Lead → Place → List ℕ → Verb → Answer → Lead → Type 0
-KeepsUntaught old place values verb answer new =
-    (mine : List Event) → StandsFor mine old → old.place ≡ place
-    → IsPossible old.config old.id (record { by = old.id; verb = verb; answer = answer } ∷ mine)
-    → values ≡ known_told old.config old.id mine old.id verb answer
-    → is_replication mine (record { by = old.id; verb = verb; answer = answer }) ≡ true
-    → knows_more old.config old.id mine (record { by = old.id; verb = verb; answer = answer })
-    ≡ false
-    → HasRooms mine old → HasRooms (record { by = old.id; verb = verb; answer = answer } ∷ mine) new
-
 -- the same of a look at the first unknown position
 abbrev pub KeepsLook : Lead → Place → List ℕ → ℕ → ℕ → Answer → Lead → Type 0
 KeepsLook old place values p i answer new =
@@ -177,19 +166,11 @@ LeavesRooms mine old verb answer new =
     → IsPlacedAt old.config old.id (sizes_of old.config old.id mine) stage mine
     → HasRooms (record { by = old.id; verb = verb; answer = answer } ∷ mine) new
 
--- each member is brought up at one position
-abbrev pub is_one_position : Then → Bool
-is_one_position Then.Position = true
-is_one_position _ = false
-
--- from which places a step, which teaches something or not and ends the leadership or not, is shown
--- to keep the rooms
-abbrev pub is_kept : Place → Bool → Bool → Bool
-is_kept (Place.PutBehind p then) teaches ends = ends
-is_kept (Place.RaiseBehind p then) teaches ends = not (is_one_position then)
-is_kept (Place.FenceBehind p then) teaches ends = ends
-is_kept (Place.Look p i candidate best) teaches ends = not teaches
-is_kept place teaches ends = true
+-- from which places a step, which ends the leadership or not, is shown to keep the rooms
+abbrev pub is_kept : Place → Bool → Bool
+is_kept (Place.PutBehind p then) ends = ends
+is_kept (Place.FenceBehind p then) ends = ends
+is_kept place ends = true
 
 -- from these places, by the answer to the verb that was due, the leader comes to a place whose
 -- counts have room
@@ -202,7 +183,6 @@ RoomsDue old values answer new =
     → values ≡ known_told old.config old.id mine old.id verb answer
     → is_replication mine (record { by = old.id; verb = verb; answer = answer }) ≡ true
     → is_kept old.place
-    (knows_more old.config old.id mine (record { by = old.id; verb = verb; answer = answer }))
     (is_over old.id (record { by = old.id; verb = verb; answer = answer } ∷ mine))
     ≡ true
     → HasRooms mine old
@@ -216,7 +196,6 @@ RoomsNext mine old values answer new =
     → values ≡ known_told old.config old.id mine old.id verb answer
     → is_replication mine (record { by = old.id; verb = verb; answer = answer }) ≡ true
     → is_kept old.place
-    (knows_more old.config old.id mine (record { by = old.id; verb = verb; answer = answer }))
     (is_over old.id (record { by = old.id; verb = verb; answer = answer } ∷ mine))
     ≡ true
     → HasRooms mine old

@@ -12,7 +12,7 @@ ghost use Rattle.mu_model.specs.Picks.{is_past as is_past_answer};
 ghost use Rattle.mu_model.specs.Placing.{is_within_ring};
 ghost use Rattle.mu_leading.specs.Leadership.{StandsForLeadership};
 ghost use Rattle.mu_lead.specs.declared.place.Place.{Place as SomePlace};
-ghost use Rattle.mu_lead.specs.Leading.{AtWiden, Behind, IsDone, IsMember, Leads, Level, RaisedBelow, end_of as end_of_known};
+ghost use Rattle.mu_lead.specs.Leading.{AtWiden, Behind, HasMost, HaveAtMost, HaveFew, IsDone, IsMember, Leads, Level, RaisedBelow, end_of as end_of_known};
 ghost use Rattle.mu_lead.specs.Sets.{IsFirst};
 ghost use Rattle.mu_lead.specs.Notes.{value_committed};
 ghost use Rattle.mu_lead.specs.Standing.{HoldsAt, Stands, StandsFor, Takes, TakesLook};
@@ -23,7 +23,7 @@ ghost use Rattle.mu_pace.specs.Members.{IsNextMember, members_from};
 ghost use Rattle.mu_pace.specs.Weights.{Stage};
 ghost use Rattle.mu_lead.specs.declared.place.Then.{Then as SomeThen};
 ghost use Rattle.mu_lead.specs.Onward.{IsNextBehind, MayBringUp, MayGoOn, passed_over};
-ghost use Rattle.mu_lead.specs.Rooms.{IsLed, KeepsEnding, KeepsRooms, KeepsLook, RoomsAt, is_one_position};
+ghost use Rattle.mu_lead.specs.Rooms.{IsLed, KeepsEnding, KeepsRooms, KeepsLook, RoomsAt};
 
 use crate::arrays::{with_fuo, with_number};
 use crate::lead::Lead;
@@ -36,9 +36,12 @@ use mu_model::{Answer, Event, Fence, Verb};
 impl Lead {
     /// The region of the greater FUO, the first at a tie.
     fn farther(&self, source: Option<u8>, p: u8) -> u8
-        ensures { (mine : List SomeEvent) → IsMember self.now.config self.now.id mine source
+        ensures member { (mine : List SomeEvent) → IsMember self.now.config self.now.id mine source
             → p < self.now.config.replicas → is_member self.now.id p mine ≡ true
             → IsMember self.now.config self.now.id mine (Some result) }
+        ensures most { (mine : List SomeEvent) → length self.now.up ≡ 7
+            → HasMost self.now.id mine self.now.up p source
+            → HasMost self.now.id mine self.now.up (p + 1) (Some result) }
     {
         match source {
             Some(q) => { if self.up_of(q) < self.up_of(p) { p } else { q } }
@@ -72,7 +75,8 @@ impl Lead {
             → is_member self.now.id p mine ≡ true
             → Leads self.now.config self.now.id self.now.number mine
             → RaisedBelow self.now.id mine self.now.up self.now.reach (p + 1)
-            → IsMember self.now.config self.now.id mine source → HoldsAt mine self.now result }
+            → IsMember self.now.config self.now.id mine source
+            → HasMost self.now.id mine self.now.up p source → HoldsAt mine self.now result }
         ensures rooms { (mine : List SomeEvent) → Stands mine self.now
             → known.now ≡ known_of self.now.config self.now.id mine
             → p < self.now.config.replicas → is_member self.now.id p mine ≡ true
@@ -100,7 +104,9 @@ impl Lead {
             → known.now ≡ known_of self.now.config self.now.id mine
             → Leads self.now.config self.now.id self.now.number mine
             → RaisedBelow self.now.id mine self.now.up self.now.reach self.now.config.replicas
-            → IsMember self.now.config self.now.id mine (Some source) → HoldsAt mine self.now result }
+            → IsMember self.now.config self.now.id mine (Some source)
+            → HaveAtMost self.now.config self.now.id mine self.now.up (get_or self.now.up source 0)
+            → HoldsAt mine self.now result }
         ensures rooms { (mine : List SomeEvent) → Stands mine self.now
             → known.now ≡ known_of self.now.config self.now.id mine
             → IsLed self.now.config self.now.id mine Stage.Learn
@@ -163,6 +169,7 @@ impl Lead {
             → ((k : ℕ) → k < self.now.config.replicas → is_member self.now.id k mine ≡ true
             → IsDone then k p
             → end_of_known self.now.config self.now.id mine ≤ get_or self.now.up k 0)
+            → HaveFew self.now.config self.now.id mine self.now.up then p
             → HoldsAt mine self.now result }
         ensures rooms { (mine : List SomeEvent) → Stands mine self.now
             → known.now ≡ known_of self.now.config self.now.id mine
@@ -345,8 +352,7 @@ impl Lead {
     pub fn took_raise_behind(&mut self, p: u8, then: Then, known: &[u16]) -> Note
         ensures stands { Takes self.old (SomePlace.RaiseBehind p then) known.now
             (SomeVerb.RaiseFuo p (get_or self.old.up p 0)) SomeAnswer.Done self.new }
-        ensures rooms { is_one_position then ≡ false
-            → KeepsRooms self.old (SomePlace.RaiseBehind p then) known.now
+        ensures rooms { KeepsRooms self.old (SomePlace.RaiseBehind p then) known.now
             (SomeVerb.RaiseFuo p (get_or self.old.up p 0)) SomeAnswer.Done self.new }
         ensures quiet { value_committed result ≡ None }
         ensures config { self.new.config ≡ self.old.config }

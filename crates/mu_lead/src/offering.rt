@@ -27,7 +27,7 @@ ghost use Rattle.mu_pace.specs.Weights.{Stage};
 ghost use Rattle.mu_lead.specs.Onward.{IsNextStranger, MayGoOn};
 ghost use Rattle.mu_pace.specs.Members.{IsNextMember, members_from};
 ghost use Rattle.mu_lead.specs.Raising.{KeepsRaises};
-ghost use Rattle.mu_lead.specs.Rooms.{IsLed, KeepsRooms, KeepsUntaught, RoomsAt};
+ghost use Rattle.mu_lead.specs.Rooms.{IsLed, KeepsRooms, RoomsAt};
 
 use crate::arrays::{with_fuo, with_number};
 use crate::batches::{is_marked, knows_all, next_offer, own_value};
@@ -218,7 +218,7 @@ impl Lead {
     ) -> Note
         ensures stands { TakesLook self.old (SomePlace.Look p position candidate best) known.now p position
             answer self.new }
-        ensures rooms { KeepsUntaught self.old (SomePlace.Look p position candidate best) known.now
+        ensures rooms { KeepsRooms self.old (SomePlace.Look p position candidate best) known.now
             (SomeVerb.Look p position) answer self.new }
         ensures quiet { value_committed result ≡ None }
         ensures config { self.new.config ≡ self.old.config }

@@ -14,7 +14,7 @@ use Rattle.mu_lead.proofs.Telling.{put_any, tells_put, tells_quiet}
 use Rattle.mu_lead.proofs.Going.{goes_asked, goes_on}
 use Rattle.mu_lead.proofs.Saying.{notes_at}
 use Rattle.mu_lead.specs.Rooms.{HasRooms}
-use Rattle.mu_lead.proofs.RoomsTaking.{keeps_any, keeps_ending, keeps_kept, keeps_known, keeps_look, keeps_untaught, not_one}
+use Rattle.mu_lead.proofs.RoomsTaking.{keeps_any, keeps_ending, keeps_known, keeps_look}
 use Rattle.mu_lead.proofs.Misses.{explains_fence, explains_min, explains_plain, explains_slot}
 use Rattle.mu_model.specs.Knowledge.{commits}
 use Rattle.mu_pace.proofs.Beside.{not_more}
@@ -383,17 +383,17 @@ pub returns-in-EnterBehind-clause-rooms : goal.returns-in-EnterBehind-clause-roo
 returns-in-EnterBehind-clause-rooms c = keeps_known c.args.self.now c.at_enter_behind.new.self (Place.EnterBehind c.in-EnterBehind.p c.in-EnterBehind.then) c.args.known.now (λ xs. Verb.Enter c.in-EnterBehind.p (Target.Place (get_or c.args.self.now.up c.in-EnterBehind.p 0 % c.args.self.now.config.ring))) c.args.answer c.in-EnterBehind.is (λ xs. refl) (λ mine xs. refl) (c.at_enter_behind.ensures.rooms c.args.known.now)
 
 pub returns-in-PutBehind-clause-rooms : goal.returns-in-PutBehind-clause-rooms
-returns-in-PutBehind-clause-rooms c = keeps_ending c.args.self.now c.at_put_behind.new.self (Place.PutBehind c.in-PutBehind.p c.in-PutBehind.then) c.args.known.now (λ xs. Verb.PutSlot c.in-PutBehind.p (get_or c.args.self.now.up c.in-PutBehind.p 0) c.args.self.now.number (get_or xs (get_or c.args.self.now.up c.in-PutBehind.p 0) 0)) c.args.answer c.in-PutBehind.is (λ teaches ends. refl) (λ xs. refl) (λ mine xs. refl) c.at_put_behind.ensures.rooms
+returns-in-PutBehind-clause-rooms c = keeps_ending c.args.self.now c.at_put_behind.new.self (Place.PutBehind c.in-PutBehind.p c.in-PutBehind.then) c.args.known.now (λ xs. Verb.PutSlot c.in-PutBehind.p (get_or c.args.self.now.up c.in-PutBehind.p 0) c.args.self.now.number (get_or xs (get_or c.args.self.now.up c.in-PutBehind.p 0) 0)) c.args.answer c.in-PutBehind.is (λ ends. refl) (λ xs. refl) (λ mine xs. refl) c.at_put_behind.ensures.rooms
 
 pub returns-in-RaiseBehind-clause-rooms : goal.returns-in-RaiseBehind-clause-rooms
 returns-in-RaiseBehind-clause-rooms c = λ mine verb s due possible told turn kept rooms.
     let l = c.args.self.now in
-    keeps_kept l c.took_raise_behind.new.self (Place.RaiseBehind c.in-RaiseBehind.p c.in-RaiseBehind.then) c.args.known.now (λ xs. Verb.RaiseFuo c.in-RaiseBehind.p (get_or c.args.self.now.up c.in-RaiseBehind.p 0)) c.args.answer c.in-RaiseBehind.is (λ xs. refl) (λ mine xs. refl)
-    (λ teaches ends kept mine s is possible told turn rooms. (let x = answer_is l.config l.id (Verb.RaiseFuo c.in-RaiseBehind.p (get_or c.args.self.now.up c.in-RaiseBehind.p 0)) c.args.answer mine possible in
-    subst (λ a. HasRooms (event_by l.id (Verb.RaiseFuo c.in-RaiseBehind.p (get_or c.args.self.now.up c.in-RaiseBehind.p 0)) a ∷ mine) c.took_raise_behind.new.self) (sym x.1) (c.took_raise_behind.ensures.rooms (not_one c.in-RaiseBehind.then kept) mine s is (subst (λ a. IsPossible l.config l.id (event_by l.id (Verb.RaiseFuo c.in-RaiseBehind.p (get_or c.args.self.now.up c.in-RaiseBehind.p 0)) a ∷ mine)) x.1 possible) told turn rooms))) mine verb s due possible told turn kept rooms
+    keeps_known l c.took_raise_behind.new.self (Place.RaiseBehind c.in-RaiseBehind.p c.in-RaiseBehind.then) c.args.known.now (λ xs. Verb.RaiseFuo c.in-RaiseBehind.p (get_or c.args.self.now.up c.in-RaiseBehind.p 0)) c.args.answer c.in-RaiseBehind.is (λ xs. refl) (λ mine xs. refl)
+    (λ mine s is possible told turn rooms. (let x = answer_is l.config l.id (Verb.RaiseFuo c.in-RaiseBehind.p (get_or c.args.self.now.up c.in-RaiseBehind.p 0)) c.args.answer mine possible in
+    subst (λ a. HasRooms (event_by l.id (Verb.RaiseFuo c.in-RaiseBehind.p (get_or c.args.self.now.up c.in-RaiseBehind.p 0)) a ∷ mine) c.took_raise_behind.new.self) (sym x.1) (c.took_raise_behind.ensures.rooms mine s is (subst (λ a. IsPossible l.config l.id (event_by l.id (Verb.RaiseFuo c.in-RaiseBehind.p (get_or c.args.self.now.up c.in-RaiseBehind.p 0)) a ∷ mine)) x.1 possible) told turn rooms))) mine verb s due possible told turn kept rooms
 
 pub returns-in-FenceBehind-clause-rooms : goal.returns-in-FenceBehind-clause-rooms
-returns-in-FenceBehind-clause-rooms c = keeps_ending c.args.self.now c.at_fence_behind.new.self (Place.FenceBehind c.in-FenceBehind.p c.in-FenceBehind.then) c.args.known.now (λ xs. Verb.Fence c.in-FenceBehind.p) c.args.answer c.in-FenceBehind.is (λ teaches ends. refl) (λ xs. refl) (λ mine xs. refl) (c.at_fence_behind.ensures.rooms c.args.known.now)
+returns-in-FenceBehind-clause-rooms c = keeps_ending c.args.self.now c.at_fence_behind.new.self (Place.FenceBehind c.in-FenceBehind.p c.in-FenceBehind.then) c.args.known.now (λ xs. Verb.Fence c.in-FenceBehind.p) c.args.answer c.in-FenceBehind.is (λ ends. refl) (λ xs. refl) (λ mine xs. refl) (c.at_fence_behind.ensures.rooms c.args.known.now)
 
 pub returns-in-LateFence-clause-rooms : goal.returns-in-LateFence-clause-rooms
 returns-in-LateFence-clause-rooms c = keeps_known c.args.self.now c.at_late_fence.new.self (Place.LateFence c.in-LateFence.p) c.args.known.now (λ xs. Verb.Fence c.in-LateFence.p) c.args.answer c.in-LateFence.is (λ xs. refl) (λ mine xs. refl) (c.at_late_fence.ensures.rooms)
@@ -414,7 +414,7 @@ pub returns-in-ReadHead-clause-rooms : goal.returns-in-ReadHead-clause-rooms
 returns-in-ReadHead-clause-rooms c = keeps_known c.args.self.now c.at_read_head.new.self (Place.ReadHead c.in-ReadHead.q c.in-ReadHead.candidate) c.args.known.now (λ xs. Verb.Head c.in-ReadHead.q) c.args.answer c.in-ReadHead.is (λ xs. refl) (λ mine xs. refl) (c.at_read_head.ensures.rooms)
 
 pub returns-in-Look-clause-rooms : goal.returns-in-Look-clause-rooms
-returns-in-Look-clause-rooms c = keeps_untaught c.args.self.now c.took_look.new.self (Place.Look c.in-Look.p c.in-Look.i c.in-Look.candidate c.in-Look.best) c.args.known.now (Verb.Look c.in-Look.p c.in-Look.i) c.args.answer c.in-Look.is (λ teaches ends. refl) (λ xs. refl) c.took_look.ensures.rooms
+returns-in-Look-clause-rooms c = keeps_any c.args.self.now c.took_look.new.self (Place.Look c.in-Look.p c.in-Look.i c.in-Look.candidate c.in-Look.best) c.args.known.now (Verb.Look c.in-Look.p c.in-Look.i) c.args.answer c.in-Look.is (λ xs. refl) c.took_look.ensures.rooms
 
 pub returns-in-Write-clause-rooms : goal.returns-in-Write-clause-rooms
 returns-in-Write-clause-rooms c = λ mine verb s due possible told turn kept rooms.

@@ -2,11 +2,11 @@ use Rattle.std.proofs.Common.{None, arith, get_or, length, refl, ◌<◌, ◌∙
 use Rattle.mu_model.specs.declared.event.Verb.{Verb}
 use Rattle.mu_model.specs.declared.event.Answer.{Answer}
 use Rattle.mu_agree.proofs.Readings.{parts_reach_law}
-use Rattle.mu_lead.proofs.Keeping.{brought_read, fuo_event, leading_calm, leads_kept, raised_now, reached_read, source_calm, tables_reach, tables_up}
+use Rattle.mu_lead.proofs.Keeping.{brought_read, fuo_event, leading_calm, leads_kept, most_on, most_up, raised_now, reached_read, source_calm, tables_reach, tables_up}
 use Rattle.mu_lead.proofs.Bringing.{raised_read}
 use Rattle.mu_lead.proofs.Tables.{tables_kept}
-use Rattle.mu_lead.proofs.Bringing.{none_behind}
-use Rattle.mu_lead.proofs.RoomsBrought.{level_brought}
+use Rattle.mu_lead.proofs.Bringing.{none_lacks}
+use Rattle.mu_lead.proofs.RoomsBrought.{none_brought}
 use Rattle.mu_lead.proofs.RoomsReading.{rooms_brings, rooms_learns, rooms_level, rooms_next_fuo}
 use Rattle.mu_lead.specs.declared.place.Then.{Then}
 use Rattle.mu_lead.proofs.lead.Lead.took_fuo.Goals as goal
@@ -37,7 +37,7 @@ returns-clause-stands c = λ mine s is possible told.
       inside = s.inside;
       leading = leading;
       tables = tables;
-      at = c.after_fuo-self.ensures.stands (e ∷ mine) (record { possible = possible; config = s.config; inside = s.inside; leading = leading; tables = tables }) told here.region here.member leads raised from;
+      at = c.after_fuo-self.ensures.stands (e ∷ mine) (record { possible = possible; config = s.config; inside = s.inside; leading = leading; tables = tables }) told here.region here.member leads raised from (most_up l.id c.args.p (e ∷ mine) l.up c.with_number-self.result c.args.source c.with_number-self.ensures.others (most_on l.id c.args.p mine (e ∷ mine) l.up c.args.source (λ q. refl) here.few));
     }
 
 pub returns-clause-rooms : goal.returns-clause-rooms
@@ -70,5 +70,5 @@ returns-clause-rooms c = λ mine s is possible told turn rooms.
     (rooms_learns l.config l.id p u c.args.source mine l.written.items s.config turn region member led)
     (λ q. rooms_brings l.config l.id p q u c.args.source mine l.written.items s.config turn region member led)
     (λ all none. rooms_level l.config l.id p u c.args.source mine l.written.items s.config turn region member
-    (level_brought l.config l.id l.number (e ∷ mine) c.with_number-self.result c.with_fuo-self.result l.heads l.written.items possible tables
-    (none_behind l.config l.id l.number 0 (e ∷ mine) c.with_number-self.result c.with_fuo-self.result Then.Late leads all (λ k few member low. absurd (omega (arith, low))) none)) led)
+    (none_brought l.config l.id (e ∷ mine) c.with_number-self.result c.with_fuo-self.result l.heads l.written.items possible tables
+    (none_lacks l.config l.id 0 (e ∷ mine) c.with_number-self.result Then.Late (λ k few member low. absurd (omega (arith, low))) none) all) led)

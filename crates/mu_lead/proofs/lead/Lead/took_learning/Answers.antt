@@ -6,8 +6,8 @@ use Rattle.mu_lead.proofs.Sights.{outrun_by}
 use Rattle.mu_lead.proofs.Tables.{tables_kept}
 use Rattle.std.proofs.Common.{arith}
 use Rattle.mu_lead.specs.declared.place.Then.{Then}
-use Rattle.mu_lead.proofs.Bringing.{none_behind}
-use Rattle.mu_lead.proofs.RoomsBrought.{level_brought}
+use Rattle.mu_lead.proofs.Bringing.{none_lacks}
+use Rattle.mu_lead.proofs.RoomsBrought.{none_brought}
 use Rattle.std.proofs.Common.{subst, true, ◌≡◌}
 use Rattle.mu_model.specs.Parts.{IsPossible}
 use Rattle.mu_lead.specs.Leading.{end_of}
@@ -52,7 +52,7 @@ returns-else-is_past-clause-stands c = λ i mine s is position possible told.
       inside = s.inside;
       leading = leading;
       tables = tables;
-      at = c.learn_from-self.ensures.stands (e ∷ mine) (record { possible = possible; config = s.config; inside = s.inside; leading = leading; tables = tables }) told leads here.raised (here.region, here.member);
+      at = c.learn_from-self.ensures.stands (e ∷ mine) (record { possible = possible; config = s.config; inside = s.inside; leading = leading; tables = tables }) told leads here.raised (here.region, here.member) here.few;
     }
 
 pub returns-else-is_past-clause-going : goal.returns-else-is_past-clause-going
@@ -82,5 +82,5 @@ returns-else-is_past-clause-rooms c = λ i mine s is position possible told turn
     (rooms_learnt l.config l.id p i a mine s.config turn more led)
     (λ q. rooms_learnt_all l.config l.id p i q a mine s.config turn more led)
     (λ none. rooms_learnt_level l.config l.id p i a mine s.config turn more led
-    (level_brought l.config l.id l.number (e ∷ mine) l.up l.reach l.heads l.written.items possible tables
-    (none_behind l.config l.id l.number 0 (e ∷ mine) l.up l.reach Then.Late leads here.raised (λ k few_members member low. absurd (omega (arith, low))) none)))
+    (none_brought l.config l.id (e ∷ mine) l.up l.reach l.heads l.written.items possible tables
+    (none_lacks l.config l.id 0 (e ∷ mine) l.up Then.Late (λ k few_members member low. absurd (omega (arith, low))) none) here.raised))
