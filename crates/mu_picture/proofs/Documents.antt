@@ -1,5 +1,5 @@
 -- Every drawing is a document of XML.
-use Rattle.std.proofs.Common.{◌≡◌, ℕ, zero, suc, ◌+◌, ◌-◌, ◌*◌, ◌/◌, ◌%◌, ◌<◌, ◌≤◌, ◌==◌, ◌&&◌, ◌||◌, Bool, true, false, not, List, [], ◌∷◌, ◌++◌, refl, sym, ◌∙◌, ap, subst, arith, append_assoc, None, Some, length}
+use Rattle.std.proofs.Common.{◌≡◌, ℕ, zero, suc, ◌+◌, ◌-◌, ◌/◌, ◌%◌, ◌<◌, ◌==◌, ◌&&◌, Bool, true, false, not, List, [], ◌∷◌, ◌++◌, refl, sym, ◌∙◌, ap, subst, arith, append_assoc, None, Some, length}
 use Rattle.std.specs.Prelude.{codes, if◌then◌else◌, nat_le, nat_lt}
 use Rattle.std.specs.Fmt.{decimal, digits, digits_onto, digit_glyph}
 use Rattle.std.specs.List.{list_all}
@@ -7,10 +7,10 @@ use Rattle.std.specs.declared.option.Option.{Option}
 use Rattle.std.proofs.lemmas.Bool.{and_from, and_parts, le-leb, lt-ltb, ne_eqb}
 use Rattle.mu_model.proofs.Basics.{true_or}
 use Rattle.mu_input.specs.declared.job.Job.{Job}
-use Rattle.mu_picture.specs.Drawing.{across_piece, asked_piece, closing_piece, content_of, deed_pieces, document_of, ended_piece, fold_piece, halt_pieces, headings_pieces, lane_of, lane_pieces, lanes_from, leading_piece, legend, mark_pieces, missed_piece, opening_band, opening_bar, opening_pieces, owned_piece, owner_bar, owner_class, put_class, resting_piece, row_pieces, rows_from, said_piece, stretch_of, style, svg_of}
+use Rattle.mu_picture.specs.Drawing.{across_piece, closing_piece, content_of, deed_pieces, document_of, ended_piece, fold_piece, halt_pieces, lane_of, lane_pieces, lanes_from, leading_piece, legend, mark_pieces, missed_piece, opening_pieces, owned_piece, owner_bar, owner_class, put_class, resting_piece, rows_from, said_piece, stretch_of, style, svg_of}
 use Rattle.mu_picture.specs.Pieces.{bar_piece, escape, escaped, label_piece, line_piece, note_piece, path_of}
 use Rattle.mu_picture.specs.Words.{deed_words, halt_words}
-use Rattle.mu_picture.specs.Xml.{IsContent, IsDocument, IsTag, is_character, is_plain, nothing, character, entity, element, attribute, empty, whole}
+use Rattle.mu_picture.specs.Xml.{IsContent, IsDocument, IsTag, is_plain, nothing, character, entity, element, attribute, empty, whole}
 use Rattle.mu_picture.specs.declared.deeds.Deed.{Deed}
 use Rattle.mu_picture.specs.declared.halts.Halt.{Halt}
 use Rattle.mu_picture.specs.declared.marks.Mark.{Mark}

@@ -1,5 +1,5 @@
 -- What a step leaves of the list that its replica knows, and of its part.
-use Rattle.std.proofs.Common.{◌≡◌, ℕ, zero, suc, ◌^◌, ap, ◌∙◌, ◌+◌, ◌<◌, ◌≤◌, ◌∷◌, List, [], ◌++◌, None, Some, length, refl, sym, rules, arith, take, drop, get_or, subst}
+use Rattle.std.proofs.Common.{◌≡◌, ℕ, zero, suc, ◌^◌, ap, ◌∙◌, ◌<◌, ◌∷◌, List, [], ◌++◌, None, Some, length, refl, sym, arith, take, drop, get_or, subst}
 use Rattle.std.specs.Prelude.{if◌then◌else◌, nat_le}
 use Rattle.std.specs.declared.option.Option.{Option}
 use Rattle.std.proofs.lemmas.List.{length-append, length-reverse}

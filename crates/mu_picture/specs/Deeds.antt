@@ -1,7 +1,7 @@
 -- What a step does that is drawn. Loads are not, but for those that teach a value, find a place
 -- used again or end a leadership; nor are beats, the words of rows, raised FUOs and what a fence is
 -- entered with.
-use Rattle.std.specs.Prelude.{ℕ, ◌≡◌, Bool, true, false, if◌then◌else◌, nat_le, None, Some, List, ◌∷◌, length}
+use Rattle.std.specs.Prelude.{ℕ, Bool, true, false, nat_le, None, Some, List, ◌∷◌, length}
 use Rattle.std.specs.declared.option.Option.{Option}
 use Rattle.mu_model.specs.declared.config.Config.{Config}
 use Rattle.mu_model.specs.declared.event.Answer.{Answer}

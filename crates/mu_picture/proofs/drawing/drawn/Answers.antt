@@ -1,5 +1,5 @@
 use Rattle.std.proofs.Common.{◌++◌, ◌∙◌, ap, sym, subst}
-use Rattle.mu_picture.specs.Drawing.{content_of, document_of, height_of, width_of}
+use Rattle.mu_picture.specs.Drawing.{content_of, document_of, width_of}
 use Rattle.mu_picture.specs.Xml.{IsDocument}
 use Rattle.mu_picture.proofs.Documents.{drawing_is}
 use Rattle.mu_picture.proofs.drawing.drawn.Goals as goal

@@ -1,4 +1,4 @@
-use Rattle.std.proofs.Common.{◌≡◌, ◌+◌, ◌++◌, ◌∙◌, ap, append_assoc, drop, sym, arith, length, ◌<◌}
+use Rattle.std.proofs.Common.{◌+◌, ◌++◌, ◌∙◌, ap, append_assoc, drop, sym}
 use Rattle.std.proofs.lemmas.List.{at_drop_more}
 use Rattle.mu_picture.specs.Drawing.{lanes_from, lane_pieces}
 use Rattle.mu_picture.proofs.drawing.push_lanes.Goals as goal

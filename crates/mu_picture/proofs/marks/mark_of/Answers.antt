@@ -1,4 +1,4 @@
-use Rattle.std.proofs.Common.{◌≡◌, ◌+◌, ◌∙◌, ap, length, arith}
+use Rattle.std.proofs.Common.{◌∙◌, ap, length}
 use Rattle.mu_model.specs.Histories.{part}
 use Rattle.mu_model.specs.Regions.{fence_grant}
 use Rattle.mu_picture.specs.Deeds.{deed_of}

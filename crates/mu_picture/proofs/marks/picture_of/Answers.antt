@@ -1,5 +1,4 @@
-use Rattle.std.proofs.Common.{◌≡◌, ◌∙◌, ap, length, take, arith}
-use Rattle.mu_model.specs.Histories.{history}
+use Rattle.std.proofs.Common.{◌≡◌, ◌∙◌, ap, length, arith}
 use Rattle.mu_picture.proofs.Unmarked.{hidden_marks}
 use Rattle.mu_picture.proofs.Steps.{length_openings}
 use Rattle.mu_picture.proofs.marks.picture_of.Goals as goal

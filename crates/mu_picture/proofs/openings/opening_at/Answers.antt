@@ -1,6 +1,6 @@
 use Rattle.std.proofs.Common.{◌∙◌, ap}
 use Rattle.mu_model.specs.Regions.{fence}
-use Rattle.mu_picture.specs.Openings.{leads_after, opening_with}
+use Rattle.mu_picture.specs.Openings.{opening_with}
 use Rattle.std.specs.Prelude.{Some}
 use Rattle.mu_picture.proofs.openings.opening_at.Goals as goal
 

@@ -1,5 +1,5 @@
 use Rattle.std.proofs.Common.{◌&&◌, ◌∙◌, not, ap}
-use Rattle.mu_model.specs.Leaderships.{has_begun, is_over}
+use Rattle.mu_model.specs.Leaderships.{has_begun}
 use Rattle.mu_picture.proofs.walk.is_leading.Goals as goal
 
 pub returns : goal.returns
