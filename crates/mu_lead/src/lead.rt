@@ -105,6 +105,8 @@ impl Lead {
         ensures due { nat_lt leader self.old.id ≡ false → (values : List ℕ)
             → verb_of self.new values ≡ verb_of self.old values }
         ensures going { self.new.under_way ≡ (self.old.under_way && not (nat_lt leader self.old.id)) }
+        ensures place { nat_lt leader self.old.id ≡ false → self.new.place ≡ self.old.place }
+        ensures up { self.new.up ≡ self.old.up }
         ensures rooms { gives_up self.old leader ≡ false
             → HasRooms mine self.old → HasRooms mine self.new }
         ensures evidence { gives_up self.old leader ≡ false

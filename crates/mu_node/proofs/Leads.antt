@@ -25,6 +25,7 @@ use Rattle.mu_lead.specs.declared.lead.Lead.{Lead}
 use Rattle.mu_lead.specs.Beside.{is_beside, leads_at}
 use Rattle.mu_lead.specs.declared.note.Note.{Note}
 use Rattle.mu_lead.specs.Notes.{value_committed}
+use Rattle.mu_lead.specs.Saying.{Says, SaysNext}
 use Rattle.mu_lead.specs.Standing.{HasHeeded, StandsFor, TakesNext, TellsNext, known_told, verb_of}
 use Rattle.mu_lead.proofs.Others.{others_keep_law}
 use Rattle.mu_node.specs.declared.node.Node.{Node}
@@ -183,6 +184,20 @@ lead_tells c r mine old verb answer values note held tells due possible told =
     subst (λ k. known k r (event_by r verb answer ∷ mine) ≡ grown values (value_committed note)) held.config
     (subst (λ i. known old.config i (event_by i verb answer ∷ mine) ≡ grown values (value_committed note)) held.id (tells verb e b g))
 
+-- and what its contract says of the note is
+pub lead_says : (c : Config) (r : ℕ) (mine : List Event) (old : Lead) (verb : Verb) (answer : Answer) (values : List ℕ) (note : Note) → StandsForLead c r mine old → SaysNext mine old values answer note
+    → lead_due c r mine old ≡ Some verb → IsPossible c r (event_by r verb answer ∷ mine) → values ≡ known_told c r mine r verb answer → Says c r mine old.up old.place verb answer note
+lead_says c r mine old verb answer values note held says due possible told =
+    let is = asks (leader c r mine == r) (verb_of old (known c r mine)) verb due in
+    let a = subst (λ k. IsPossible k r (event_by r verb answer ∷ mine)) (sym held.config) possible in
+    let b = subst (λ i. IsPossible old.config i (event_by i verb answer ∷ mine)) (sym held.id) a in
+    let d = subst (λ k. verb_of old (known k r mine) ≡ Some verb) (sym held.config) is in
+    let e = subst (λ i. verb_of old (known old.config i mine) ≡ Some verb) (sym held.id) d in
+    let f = subst (λ k. values ≡ known_told k r mine r verb answer) (sym held.config) told in
+    let g = subst (λ i. values ≡ known_told old.config i mine i verb answer) (sym held.id) f in
+    subst (λ k. Says k r mine old.up old.place verb answer note) held.config
+    (subst (λ i. Says old.config i mine old.up old.place verb answer note) held.id (says verb e b g))
+
 -- the node with another leader
 abbrev pub with_lead : Node → Lead → Node
 with_lead node lead = record {
@@ -281,4 +296,12 @@ due_unresigned c r mine lead verb due = go (leader c r mine == r) refl due
     go true is some =
         let here = eqb-true (leader c r mine) r is in
         ap (λ t. if (lead.under_way && t) then Note.Resigned (leader c r mine) else Note.Working) (le-ltb (leader c r mine) r (omega (arith, here))) ∙ ap (λ t. if t then Note.Resigned (leader c r mine) else Note.Working) (and-false lead.under_way)
+    go false is none = absurd (none_some verb none)
+
+-- nor do the scores name a lower replica
+pub due_named : (c : Config) (r : ℕ) (mine : List Event) (lead : Lead) (verb : Verb) → lead_due c r mine lead ≡ Some verb → nat_lt (leader c r mine) r ≡ false
+due_named c r mine lead verb due = go (leader c r mine == r) refl due
+  where
+    go : (t : Bool) → (leader c r mine == r) ≡ t → (if t then verb_of lead (known c r mine) else None) ≡ Some verb → nat_lt (leader c r mine) r ≡ false
+    go true is some = let here = eqb-true (leader c r mine) r is in le-ltb (leader c r mine) r (omega (arith, here))
     go false is none = absurd (none_some verb none)

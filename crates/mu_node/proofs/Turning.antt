@@ -1,5 +1,5 @@
 -- What a node has due follows the cycle's order, and what was handed on.
-use Rattle.std.proofs.Common.{◌≡◌, ◌∙◌, ◌==◌, ◌&&◌, ◌*◌, ◌+◌, ◌-◌, ◌<◌, ◌≤◌, ℕ, Bool, true, false, List, ◌∷◌, None, Some, ap, arith, inl, inr, length, refl, subst, sym}
+use Rattle.std.proofs.Common.{◌≡◌, ◌∙◌, ◌==◌, ◌&&◌, ◌||◌, ◌*◌, ◌+◌, ◌-◌, ◌<◌, ◌≤◌, ℕ, Bool, true, false, List, ◌∷◌, None, Some, ap, arith, inl, inr, length, refl, subst, sym}
 use Rattle.std.specs.Prelude.{IfSome, if◌then◌else◌, nat_lt, not}
 use Rattle.std.specs.declared.option.Option.{Option}
 use Rattle.std.proofs.lemmas.Bool.{cases_lt, ltb-false, true≢false}
@@ -24,14 +24,16 @@ use Rattle.mu_lead.specs.declared.note.Note.{Note}
 use Rattle.mu_lead.specs.declared.lead.Lead.{Lead}
 use Rattle.mu_lead.specs.declared.place.Place.{Place}
 use Rattle.mu_lead.specs.Beside.{leads_at}
+use Rattle.mu_lead.specs.Going.{begins_at, going_after}
+use Rattle.mu_lead.specs.Saying.{Says}
 use Rattle.mu_lead.specs.Standing.{verb_at, verb_of}
 use Rattle.mu_node.specs.declared.node.Node.{Node}
 use Rattle.mu_node.specs.Cycle.{IsBackgroundDue, handed, handed_before, other_at, place_now, read_at}
 use Rattle.mu_node.specs.Due.{lead_due, verb_or_beat}
 use Rattle.mu_node.specs.Node.{HasPlanned, StandsForNode}
-use Rattle.mu_node.specs.Notes.{TellsNote, TellsTook, heed_note, note_before}
+use Rattle.mu_node.specs.Notes.{HasTold, MovesGoing, SaysTook, TellsNote, TellsTook, heed_note, note_before}
 use Rattle.mu_node.proofs.Leading.{odd_may}
-use Rattle.mu_node.proofs.Leads.{due_unresigned}
+use Rattle.mu_node.proofs.Leads.{due_named, due_unresigned}
 
 -- the verb neither reads asks nor is one of the host
 abbrev pub IsPlain : Verb → Type 0
@@ -175,12 +177,38 @@ replays c r mine leading good possible inside short few f = go (replay_due c r m
     go (Some verb) may = may.1
 
 -- what a turn is noted as
-pub note_told : (c : Config) (r : ℕ) (mine : List Event) (lead : Lead) (leads : Bool) (due : Option Verb) (heeded : Note) (answer : Answer) (note : Note) → leads ≡ is_odd (length mine) → (is_odd (length mine) ≡ true → due ≡ lead_due c r mine lead)
-    → heeded ≡ note_before c r mine lead → IsPossible c r (event_by r (verb_or_beat due) answer ∷ mine) → TellsTook c r mine leads due heeded answer note → TellsNote c r mine lead answer note
-note_told c r mine lead leads due heeded answer note turn led before possible took = record {
+pub note_told : (c : Config) (r : ℕ) (mine : List Event) (lead planned next : Lead) (leads : Bool) (due : Option Verb) (heeded : Note) (answer : Answer) (note : Note) → leads ≡ is_odd (length mine) → (is_odd (length mine) ≡ true → due ≡ lead_due c r mine lead)
+    → heeded ≡ note_before c r mine lead → IsPossible c r (event_by r (verb_or_beat due) answer ∷ mine) → TellsTook c r mine leads due heeded answer note
+    → (is_odd (length mine) ≡ true → HasTold c r mine lead planned) → SaysTook c r mine leads due heeded planned next answer note → TellsNote c r mine lead answer note
+note_told c r mine lead planned next leads due heeded answer note turn led before possible took told says = record {
   background = λ even. took.beside (turn ∙ even) ∙ (before ∙ ap (λ t. if t then heed_note c r mine lead else Note.Working) even);
   idle = λ odd none. took.idle (led odd ∙ none) ∙ (before ∙ ap (λ t. if t then heed_note c r mine lead else Note.Working) odd);
   taken = λ verb odd some.
       took.taken verb (turn ∙ odd) (led odd ∙ some) (before ∙ (ap (λ t. if t then heed_note c r mine lead else Note.Working) odd ∙ due_unresigned c r mine lead verb some))
       (subst (λ v. IsPossible c r (event_by r v answer ∷ mine)) (ap verb_or_beat (led odd ∙ some)) possible);
+  says = λ verb odd some.
+      let same = (told odd).place (due_named c r mine lead verb some) in
+      subst (λ p. Says c r mine lead.up p verb answer note) same
+      (subst (λ u. Says c r mine u planned.place verb answer note) (told odd).up
+      (says.says verb (turn ∙ odd) (led odd ∙ some) (before ∙ (ap (λ t. if t then heed_note c r mine lead else Note.Working) odd ∙ due_unresigned c r mine lead verb some))
+      (subst (λ v. IsPossible c r (event_by r v answer ∷ mine)) (ap verb_or_beat (led odd ∙ some)) possible)));
+}
+
+-- where the scores name r, its leadership is under way as before
+told_going : (under low : Bool) → low ≡ false → (under && not low) ≡ under
+told_going true low is = ap not is
+told_going false low is = refl
+
+-- and whether a leadership is under way after it
+pub going_moves : (c : Config) (r : ℕ) (mine : List Event) (lead planned next : Lead) (leads : Bool) (due : Option Verb) (heeded : Note) (answer : Answer) (note : Note) → leads ≡ is_odd (length mine) → (is_odd (length mine) ≡ true → due ≡ lead_due c r mine lead)
+    → heeded ≡ note_before c r mine lead → (is_odd (length mine) ≡ true → HasTold c r mine lead planned) → (is_odd (length mine) ≡ false → planned ≡ lead)
+    → SaysTook c r mine leads due heeded planned next answer note → MovesGoing c r mine lead next note
+going_moves c r mine lead planned next leads due heeded answer note turn led before told same says = record {
+  background = λ even. says.beside (turn ∙ even) ∙ ap (λ (l : Lead). l.under_way) (same even);
+  idle = λ odd none. says.idle (led odd ∙ none) ∙ (told odd).going;
+  taken = λ verb odd some.
+      let low = due_named c r mine lead verb some in
+      says.going verb (turn ∙ odd) (led odd ∙ some) (before ∙ (ap (λ t. if t then heed_note c r mine lead else Note.Working) odd ∙ due_unresigned c r mine lead verb some))
+      ∙ (ap (λ p. going_after (begins_at p || planned.under_way) note) ((told odd).place low)
+      ∙ ap (λ t. going_after (begins_at lead.place || t) note) ((told odd).going ∙ told_going lead.under_way (nat_lt (leader c r mine) r) low));
 }

@@ -1,5 +1,5 @@
 -- What a turn is noted as.
-use Rattle.std.specs.Prelude.{Bool, List, None, Some, false, if◌then◌else◌, length, nat_lt, true, ℕ, ◌&&◌, ◌∷◌, ◌≡◌}
+use Rattle.std.specs.Prelude.{Bool, List, None, Some, false, if◌then◌else◌, length, nat_lt, not, true, ℕ, ◌&&◌, ◌||◌, ◌∷◌, ◌≡◌}
 use Rattle.std.specs.declared.option.Option.{Option}
 use Rattle.mu_model.specs.declared.config.Config.{Config}
 use Rattle.mu_model.specs.declared.event.Answer.{Answer}
@@ -11,7 +11,9 @@ use Rattle.mu_model.specs.Scores.{leader}
 use Rattle.mu_model.specs.Stretches.{is_odd}
 use Rattle.mu_lead.specs.declared.lead.Lead.{Lead}
 use Rattle.mu_lead.specs.declared.note.Note.{Note}
+use Rattle.mu_lead.specs.Going.{begins_at, going_after}
 use Rattle.mu_lead.specs.Notes.{value_committed}
+use Rattle.mu_lead.specs.Saying.{Says}
 use Rattle.mu_lead.specs.Standing.{known_told}
 use Rattle.mu_node.specs.declared.turn.Turn.{Turn}
 use Rattle.mu_node.specs.Cycle.{IsMade}
@@ -41,9 +43,37 @@ pub record TellsTook (c : Config) (r : ℕ) (mine : List Event) (leads : Bool) (
       → known c r (record { by = r; verb = verb; answer = answer } ∷ mine)
       ≡ grown (known_told c r mine r verb answer) (value_committed note)
 
+-- whether a leadership is still under way when the leader was told whom the scores of r name: one
+-- that was is given up where a lower replica is named
+abbrev pub going_told : Config → ℕ → List Event → Lead → Bool
+going_told c r mine lead = lead.under_way && not (nat_lt (leader c r mine) r)
+
+-- the leader was told whom the scores of r name: what else the notes rest on is as it was, but that
+-- it starts anew where a lower replica is named
+pub record HasTold (c : Config) (r : ℕ) (mine : List Event) (old new : Lead) : Type 0 where
+  pub going : new.under_way ≡ going_told c r mine old
+  pub place : nat_lt (leader c r mine) r ≡ false → new.place ≡ old.place
+  pub up : new.up ≡ old.up
+
+-- what the step of a turn leaves of a leader, which had noted this before it: a verb of its own is
+-- noted as what the leader's contract says of the part, the verb and the answer, and any other step
+-- leaves it under way or not as it was
+pub record SaysTook (c : Config) (r : ℕ) (mine : List Event) (leads : Bool) (due : Option Verb)
+    (heeded : Note) (lead next : Lead) (answer : Answer) (note : Note) : Type 0 where
+  pub idle : due ≡ None → next.under_way ≡ lead.under_way
+  pub beside : leads ≡ false → next.under_way ≡ lead.under_way
+  pub says :
+      (verb : Verb) → leads ≡ true → due ≡ Some verb → heeded ≡ Note.Working
+      → IsPossible c r (record { by = r; verb = verb; answer = answer } ∷ mine)
+      → Says c r mine lead.up lead.place verb answer note
+  pub going :
+      (verb : Verb) → leads ≡ true → due ≡ Some verb → heeded ≡ Note.Working
+      → next.under_way ≡ going_after (begins_at lead.place || lead.under_way) note
+
 -- the note of a turn that made this event: nothing in a background turn; in one of the leader what
 -- it noted when it was told whom the scores name where nothing was due, else what the answer meant,
--- which names an entry exactly where the put made it known
+-- which names an entry exactly where the put made it known, and each other cause exactly where the
+-- leader's contract says
 pub record TellsNote (c : Config) (r : ℕ) (mine : List Event) (lead : Lead) (answer : Answer)
     (note : Note) : Type 0 where
   pub background : is_odd (length mine) ≡ false → note ≡ Note.Working
@@ -53,6 +83,9 @@ pub record TellsNote (c : Config) (r : ℕ) (mine : List Event) (lead : Lead) (a
       (verb : Verb) → is_odd (length mine) ≡ true → lead_due c r mine lead ≡ Some verb
       → known c r (record { by = r; verb = verb; answer = answer } ∷ mine)
       ≡ grown (known_told c r mine r verb answer) (value_committed note)
+  pub says :
+      (verb : Verb) → is_odd (length mine) ≡ true → lead_due c r mine lead ≡ Some verb
+      → Says c r mine lead.up lead.place verb answer note
 
 -- a step of r: its event comes to the part, it is the verb that was due or a beat, and the note
 -- tells of it
@@ -67,3 +100,20 @@ pub record HasMade (c : Config) (r : ℕ) (mine now : List Event) (lead : Lead) 
 abbrev pub TellsTurn : Config → ℕ → List Event → List Event → Lead → Turn → Type 0
 TellsTurn c r mine now lead (Turn.Took note) = HasMade c r mine now lead note
 TellsTurn c r mine now lead (Turn.Ended end) = Unit {0}
+
+-- whether a leadership is under way after a turn with this note: as before it in a background turn;
+-- in one of the leader as it was told where nothing was due, else as the verb began it and the note
+-- ends it
+pub record MovesGoing (c : Config) (r : ℕ) (mine : List Event) (lead next : Lead) (note : Note) : Type 0 where
+  pub background : is_odd (length mine) ≡ false → next.under_way ≡ lead.under_way
+  pub idle :
+      is_odd (length mine) ≡ true → lead_due c r mine lead ≡ None
+      → next.under_way ≡ going_told c r mine lead
+  pub taken :
+      (verb : Verb) → is_odd (length mine) ≡ true → lead_due c r mine lead ≡ Some verb
+      → next.under_way ≡ going_after (begins_at lead.place || lead.under_way) note
+
+-- the same of a turn: where it made no step, as before it
+abbrev pub MovesTurn : Config → ℕ → List Event → Lead → Lead → Turn → Type 0
+MovesTurn c r mine lead next (Turn.Took note) = MovesGoing c r mine lead next note
+MovesTurn c r mine lead next (Turn.Ended end) = next.under_way ≡ lead.under_way

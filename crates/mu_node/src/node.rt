@@ -8,7 +8,7 @@ ghost use Rattle.mu_model.specs.Diligence.{GrantsInTime, ReadsInTime, Replays, T
 ghost use Rattle.mu_model.specs.Ends.{outrun};
 ghost use Rattle.mu_model.specs.Parts.{IsPossible};
 ghost use Rattle.mu_node.specs.Node.{StandsForNode};
-ghost use Rattle.mu_node.specs.Notes.{HasMade, TellsTurn};
+ghost use Rattle.mu_node.specs.Notes.{HasMade, MovesGoing, MovesTurn, TellsTurn};
 ghost use Rattle.mu_node.specs.Beats.{ends_by_beat, is_beat_verb};
 ghost use Rattle.mu_node.specs.Turns.{IsOneStep, IsResult, IsTurn, TellsEnd};
 ghost use Rattle.mu_pace.specs.Counters.{AtEachStep};
@@ -102,6 +102,7 @@ impl Node {
         requires inside { id < job.now.config.replicas }
         ensures stands { IfOk result (λ node. StandsForNode job.now.config id [] node) }
         ensures stops { IfOk result (λ node. node.stops.items ≡ job.now.script.stops) }
+        ensures idle { IfOk result (λ node. node.lead.under_way ≡ false) }
     {
         let config = &job.config;
         Ok(Node {
@@ -176,6 +177,8 @@ impl Node {
             (P.part port.new) (P.whole port.old) (P.whole port.new) result }
         ensures made { TellsTurn (P.config port.old) (P.number port.old) (P.part port.old)
             (P.part port.new) self.old.lead result }
+        ensures going { MovesTurn (P.config port.old) (P.number port.old) (P.part port.old)
+            self.old.lead self.new.lead result }
         ensures grants { GrantsInTime (P.config port.new) (P.number port.new) (P.part port.new) }
         ensures beats { ReadsInTime (P.config port.new) (P.number port.new) (P.part port.new) }
         ensures heads { TellsHeads (P.config port.new) (P.number port.new) (P.part port.new) }
@@ -208,6 +211,8 @@ impl Node {
             (P.whole port.old) (P.whole port.new) }
         ensures made { HasMade (P.config port.old) (P.number port.old) (P.part port.old) (P.part port.new)
             self.old.lead result }
+        ensures going { MovesGoing (P.config port.old) (P.number port.old) (P.part port.old)
+            self.old.lead self.new.lead result }
     {
         let plan = self.plan();
         let verb = or_beat(plan.due);

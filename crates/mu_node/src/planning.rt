@@ -17,7 +17,7 @@ ghost use Rattle.mu_node.specs.Cycle.{IsBackgroundDue};
 ghost use Rattle.mu_node.specs.Due.{FitsLead, lead_due, verb_or_beat};
 ghost use Rattle.mu_node.specs.Journal.{FollowsTurn};
 ghost use Rattle.mu_node.specs.Node.{AwaitsBeside, HasPlanned, HoldsBeside, StandsForNode};
-ghost use Rattle.mu_node.specs.Notes.{TellsTook, heed_note, note_before};
+ghost use Rattle.mu_node.specs.Notes.{HasTold, SaysTook, TellsTook, heed_note, note_before};
 
 use crate::ending::as_head;
 use crate::node::Node;
@@ -98,6 +98,9 @@ impl Node {
             (leads_at self.old.lead.place) result.due }
         ensures heeded { result.heeded
             ≡ note_before self.old.follow.config self.old.id mine self.old.lead }
+        ensures told { is_odd (length mine) ≡ true
+            → HasTold self.old.follow.config self.old.id mine self.old.lead self.new.lead }
+        ensures lead { is_odd (length mine) ≡ false → self.new.lead ≡ self.old.lead }
     {
         if is_turn_of_leader(self.follow.steps()) {
             self.plan_led()
@@ -125,6 +128,7 @@ impl Node {
             → is_named self.old.follow.config self.old.id mine ≡ true }
         ensures led { result.due ≡ lead_due self.old.follow.config self.old.id mine self.old.lead }
         ensures heeded { result.heeded ≡ heed_note self.old.follow.config self.old.id mine self.old.lead }
+        ensures told { HasTold self.old.follow.config self.old.id mine self.old.lead self.new.lead }
     {
         let heeded = self.heed();
         Plan {
@@ -153,6 +157,7 @@ impl Node {
         ensures cycle { IsBackgroundDue self.old.follow.config self.old.id mine
             (leads_at self.old.lead.place) result.due }
         ensures heeded { result.heeded ≡ SomeNote.Working }
+        ensures lead { self.new.lead ≡ self.old.lead }
     {
         Plan {
             due: self.background(),
@@ -176,6 +181,7 @@ impl Node {
         ensures due { lead_due self.old.follow.config self.old.id mine self.new.lead
             ≡ lead_due self.old.follow.config self.old.id mine self.old.lead }
         ensures note { result ≡ heed_note self.old.follow.config self.old.id mine self.old.lead }
+        ensures told { HasTold self.old.follow.config self.old.id mine self.old.lead self.new.lead }
     {
         let leader = self.watch.leader();
         let failed = self.watch.failed();
@@ -256,6 +262,8 @@ impl Node {
         ensures stops { self.new.stops ≡ self.old.stops }
         ensures note { TellsTook self.old.follow.config id mine plan.leads plan.due plan.heeded answer
             result }
+        ensures says { SaysTook self.old.follow.config id mine plan.leads plan.due plan.heeded
+            self.old.lead self.new.lead answer result }
     {
         match plan.due {
             Some(verb) => {
@@ -287,6 +295,7 @@ impl Node {
             → StandsForNode self.old.follow.config by
             (record { by = by; verb = verb; answer = answer } ∷ mine) self.new }
         ensures stops { self.new.stops ≡ self.old.stops }
+        ensures lead { self.new.lead ≡ self.old.lead }
     {
         self.note(by, verb, answer);
     }
@@ -308,6 +317,8 @@ impl Node {
             (record { by = by; verb = verb; answer = answer } ∷ mine) self.new }
         ensures stops { self.new.stops ≡ self.old.stops }
         ensures note { TellsTook self.old.follow.config by mine true (Some verb) heeded answer result }
+        ensures says { SaysTook self.old.follow.config by mine true (Some verb) heeded self.old.lead
+            self.new.lead answer result }
     {
         self.note(by, verb, answer);
         let known = self.follow.known();

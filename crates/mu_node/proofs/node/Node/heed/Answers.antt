@@ -62,3 +62,15 @@ returns-clause-leads g c =
     let named = c.leader-leader.ensures node.follow.config node.id g.mine held.beside.watch in
     let same : nat_lt c.leader-leader.result node.lead.id ≡ nat_lt (leader node.follow.config node.id g.mine) node.id = ap (λ l. nat_lt l node.lead.id) named ∙ ap (λ i. nat_lt (leader node.follow.config node.id g.mine) i) held.lead.id in
     rests_named node.follow.config node.id g.mine (leads_at node.lead.place) (leads_at c.heed.new.self.place) held.beside.follow.inside (c.heed.ensures.rests ∙ ap (λ t. leads_at node.lead.place && not t) same)
+
+pub returns-clause-told : goal.returns-clause-told
+returns-clause-told g c =
+    let node = c.args.self.now in
+    let held = c.requires in
+    let named = c.leader-leader.ensures node.follow.config node.id g.mine held.beside.watch in
+    let same : nat_lt c.leader-leader.result node.lead.id ≡ nat_lt (leader node.follow.config node.id g.mine) node.id = ap (λ l. nat_lt l node.lead.id) named ∙ ap (λ i. nat_lt (leader node.follow.config node.id g.mine) i) held.lead.id in
+    record {
+      going = c.heed.ensures.going ∙ ap (λ t. node.lead.under_way && not t) same;
+      place = λ low. c.heed.ensures.place (same ∙ low);
+      up = c.heed.ensures.up;
+    }

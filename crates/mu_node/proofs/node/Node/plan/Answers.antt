@@ -85,3 +85,25 @@ returns-else-is_turn_of_leader-clause-heeded g c =
     let steps = c.steps.ensures node.follow.config node.id g.mine held.beside.follow in
     let even : is_odd (length g.mine) ≡ false = sym (ap is_odd steps) ∙ (sym c.is_turn_of_leader.ensures ∙ c.if-is_turn_of_leader.false) in
     c.plan_cycle.ensures.heeded ∙ sym (ap (λ t. if t then heed_note node.follow.config node.id g.mine node.lead else Note.Working) even)
+
+pub returns-then-is_turn_of_leader-clause-told : goal.returns-then-is_turn_of_leader-clause-told
+returns-then-is_turn_of_leader-clause-told g c odd = c.plan_led.ensures.told
+
+pub returns-then-is_turn_of_leader-clause-lead : goal.returns-then-is_turn_of_leader-clause-lead
+returns-then-is_turn_of_leader-clause-lead g c even =
+    let node = c.args.self.now in
+    let held = c.requires.1.1.1 in
+    let steps = c.steps.ensures node.follow.config node.id g.mine held.beside.follow in
+    let odd : is_odd (length g.mine) ≡ true = sym (ap is_odd steps) ∙ (sym c.is_turn_of_leader.ensures ∙ c.if-is_turn_of_leader.true) in
+    absurd (true≢false (sym odd ∙ even))
+
+pub returns-else-is_turn_of_leader-clause-told : goal.returns-else-is_turn_of_leader-clause-told
+returns-else-is_turn_of_leader-clause-told g c odd =
+    let node = c.args.self.now in
+    let held = c.requires.1.1.1 in
+    let steps = c.steps.ensures node.follow.config node.id g.mine held.beside.follow in
+    let even : is_odd (length g.mine) ≡ false = sym (ap is_odd steps) ∙ (sym c.is_turn_of_leader.ensures ∙ c.if-is_turn_of_leader.false) in
+    absurd (true≢false (sym odd ∙ even))
+
+pub returns-else-is_turn_of_leader-clause-lead : goal.returns-else-is_turn_of_leader-clause-lead
+returns-else-is_turn_of_leader-clause-lead g c even = c.plan_cycle.ensures.lead

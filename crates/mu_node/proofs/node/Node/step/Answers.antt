@@ -15,10 +15,10 @@ use Rattle.mu_node.specs.Cycle.{IsBackgroundDue, IsMade}
 use Rattle.mu_node.specs.Due.{FitsLead, lead_due, verb_or_beat}
 use Rattle.mu_node.specs.Journal.{FollowsTurn}
 use Rattle.mu_node.specs.Node.{HasPlanned, StandsForNode}
-use Rattle.mu_node.specs.Notes.{TellsNote, TellsTook}
+use Rattle.mu_node.specs.Notes.{MovesGoing, SaysTook, TellsNote, TellsTook}
 use Rattle.mu_node.proofs.Leading.{even_may}
 use Rattle.mu_node.proofs.Moving.{event_by, moved, possible_own, to_own, to_port}
-use Rattle.mu_node.proofs.Turning.{made_follows, note_told, replays}
+use Rattle.mu_node.proofs.Turning.{going_moves, made_follows, note_told, replays}
 use Rattle.mu_node.proofs.node.Node.step.Goals as goal
 
 pub plan-plan-requires : goal.plan-plan-requires
@@ -130,6 +130,7 @@ returns-clause-made g c =
     (g.met.P.Port.same_config old now c.step-answer.ensures.same) (g.met.P.Port.same_number old now c.step-answer.ensures.same)
     own id c.requires.1.0 c.or_beat-verb.ensures c.step-answer.ensures.part c.step-answer.ensures.possible in
     let took = to_own (λ x i l. TellsTook x i l c.plan-plan.result.leads due c.plan-plan.result.heeded answer c.took.result) new.follow.config node.follow.config c.args.id node.id g.mine g.mine (sym plan.config) (id ∙ sym c.requires.1.1.0) refl c.took.ensures.note in
+    let says = to_own (λ x i l. SaysTook x i l c.plan-plan.result.leads due c.plan-plan.result.heeded new.lead c.took.new.self.lead answer c.took.result) new.follow.config node.follow.config c.args.id node.id g.mine g.mine (sym plan.config) (id ∙ sym c.requires.1.1.0) refl c.took.ensures.says in
     record {
       verb = c.or_beat-verb.result;
       answer = answer;
@@ -137,5 +138,21 @@ returns-clause-made g c =
       made = to_port (λ x i l. IsMade x i l node.lead c.or_beat-verb.result) k node.follow.config r node.id mine g.mine own id c.requires.1.0
           (subst (λ v. IsMade node.follow.config node.id g.mine node.lead v) (sym c.or_beat-verb.ensures) (record { replication = λ odd. ap verb_or_beat (plan.led odd); background = λ even. (due, plan.cycle even, refl) }));
       tells = to_port (λ x i l. TellsNote x i l node.lead answer c.took.result) k node.follow.config r node.id mine g.mine own id c.requires.1.0
-          (note_told node.follow.config node.id g.mine node.lead c.plan-plan.result.leads due c.plan-plan.result.heeded answer c.took.result plan.leads plan.led plan.heeded possible took);
+          (note_told node.follow.config node.id g.mine node.lead new.lead c.took.new.self.lead c.plan-plan.result.leads due c.plan-plan.result.heeded answer c.took.result plan.leads plan.led plan.heeded possible took plan.told says);
     }
+
+pub returns-clause-going : goal.returns-clause-going
+returns-clause-going g c =
+    let old = c.args.port.now in
+    let plan = c.plan-plan.ensures in
+    let node = c.args.self.now in
+    let new = c.plan-plan.new.self in
+    let held = c.requires.1.1.1.1.1.1.0 in
+    let own = held.beside.follow.config in
+    let id = held.beside.id in
+    let due = c.plan-plan.result.due in
+    let answer = c.step-answer.result in
+    let next = c.took.new.self.lead in
+    let says = to_own (λ x i l. SaysTook x i l c.plan-plan.result.leads due c.plan-plan.result.heeded new.lead next answer c.took.result) new.follow.config node.follow.config c.args.id node.id g.mine g.mine (sym plan.config) (id ∙ sym c.requires.1.1.0) refl c.took.ensures.says in
+    to_port (λ x i l. MovesGoing x i l node.lead next c.took.result) (g.P.Port.config old) node.follow.config (g.P.Port.number old) node.id (g.P.Port.part old) g.mine own id c.requires.1.0
+    (going_moves node.follow.config node.id g.mine node.lead new.lead next c.plan-plan.result.leads due c.plan-plan.result.heeded answer c.took.result plan.leads plan.led plan.heeded plan.told plan.lead says)

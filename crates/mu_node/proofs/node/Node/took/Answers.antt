@@ -6,7 +6,8 @@ use Rattle.mu_model.proofs.Basics.{none_some}
 use Rattle.mu_node.specs.Due.{FitsLead, verb_or_beat}
 use Rattle.mu_node.specs.Journal.{FollowsTurn}
 use Rattle.mu_node.specs.Node.{HasPlanned, StandsForNode}
-use Rattle.mu_node.specs.Notes.{TellsTook}
+use Rattle.mu_lead.specs.declared.lead.Lead.{Lead}
+use Rattle.mu_node.specs.Notes.{SaysTook, TellsTook}
 use Rattle.mu_node.proofs.Leads.{fits_led, fits_other}
 use Rattle.mu_node.proofs.Moving.{event_by}
 use Rattle.mu_node.proofs.node.Node.took.Goals as goal
@@ -69,3 +70,32 @@ returns-in-None-clause-note g c = record {
   beside = λ off. refl;
   taken = λ verb on some working possible. absurd (none_some verb (sym c.in-None.is ∙ some));
 }
+
+pub returns-then-plan-clause-says : goal.returns-then-plan-clause-says
+returns-then-plan-clause-says g c =
+    let node = c.args.self.now in
+    let k = node.follow.config in
+    let plan = c.args.plan in
+    let next = c.took_led.new.self.lead in
+    subst (λ d. SaysTook k c.args.id g.mine plan.leads d plan.heeded node.lead next c.args.answer c.took_led.result) (sym c.in-Some.is)
+    (subst (λ l. SaysTook k c.args.id g.mine l (Some c.in-Some.verb) plan.heeded node.lead next c.args.answer c.took_led.result) (sym c.if-plan.true) c.took_led.ensures.says)
+
+pub returns-else-plan-clause-says : goal.returns-else-plan-clause-says
+returns-else-plan-clause-says g c =
+    let same = ap (λ (l : Lead). l.under_way) c.note_other.ensures.lead in
+    record {
+      idle = λ none. same;
+      beside = λ off. same;
+      says = λ verb on some working possible. absurd (true≢false (sym on ∙ c.if-plan.false));
+      going = λ verb on some working. absurd (true≢false (sym on ∙ c.if-plan.false));
+    }
+
+pub returns-in-None-clause-says : goal.returns-in-None-clause-says
+returns-in-None-clause-says g c =
+    let same = ap (λ (l : Lead). l.under_way) c.note_other-in-None.ensures.lead in
+    record {
+      idle = λ none. same;
+      beside = λ off. same;
+      says = λ verb on some working possible. absurd (none_some verb (sym c.in-None.is ∙ some));
+      going = λ verb on some working. absurd (none_some verb (sym c.in-None.is ∙ some));
+    }

@@ -1,15 +1,18 @@
-use Rattle.std.proofs.Common.{◌≡◌, ◌∙◌, ◌∷◌, Some, length, refl, subst, sym}
+use Rattle.std.proofs.Common.{◌≡◌, ◌∙◌, ◌||◌, ◌∷◌, Some, ap, length, refl, subst, sym}
 use Rattle.std.proofs.lemmas.Bool.{true≢false}
 use Rattle.mu_model.specs.Contents.{IsConfig}
 use Rattle.mu_model.specs.Knowledge.{grown, known}
 use Rattle.mu_model.specs.Parts.{IsPossible}
 use Rattle.mu_model.proofs.Basics.{none_some, same_some}
+use Rattle.mu_lead.specs.declared.lead.Lead.{Lead}
+use Rattle.mu_lead.specs.Going.{begins_at, going_after}
 use Rattle.mu_lead.specs.Notes.{value_committed}
+use Rattle.mu_lead.specs.Saying.{Says}
 use Rattle.mu_lead.specs.Standing.{known_told}
 use Rattle.mu_node.specs.Due.{lead_due}
 use Rattle.mu_node.specs.Node.{StandsForLead}
 use Rattle.mu_node.proofs.Leading.{due_leads_on}
-use Rattle.mu_node.proofs.Leads.{lead_takes, lead_tells, led_beside, led_told}
+use Rattle.mu_node.proofs.Leads.{lead_says, lead_takes, lead_tells, led_beside, led_told}
 use Rattle.mu_node.proofs.Moving.{event_by}
 use Rattle.mu_node.proofs.node.Node.took_led.Goals as goal
 
@@ -66,4 +69,34 @@ returns-clause-note g c =
           subst (λ l. known k r (event_by r c.args.verb c.args.answer ∷ mine) ≡ grown l (value_committed c.told.result)) told
           (subst (λ n. known k r (event_by r c.args.verb c.args.answer ∷ mine) ≡ grown values (value_committed n)) (sym (c.told.ensures working))
           (lead_tells k r mine old c.args.verb c.args.answer values c.take-note.result lead c.take-note.ensures.tells due may told)));
+    }
+
+pub returns-clause-says : goal.returns-clause-says
+returns-clause-says g c =
+    let k = c.args.self.now.follow.config in
+    let r = c.args.by in
+    let mine = g.mine in
+    let held = c.requires.1.1.1.1 in
+    let values = c.known-known.result.now in
+    let old = c.note.new.self.lead in
+    let answer = c.args.answer in
+    let lead = subst (λ l. StandsForLead k r mine l) (sym c.note.ensures.lead) held.lead in
+    let due = subst (λ l. lead_due k r mine l ≡ Some c.args.verb) (sym c.note.ensures.lead) c.requires.1.1.1.0 in
+    record {
+      idle = λ none. absurd (none_some c.args.verb (sym none));
+      beside = λ off. absurd (true≢false off);
+      says = λ verb on some working possible.
+          let same = same_some c.args.verb verb some in
+          let may = subst (λ v. IsPossible k r (event_by r v answer ∷ mine)) (sym same) possible in
+          let told = led_told k r mine c.args.verb answer c.note.new.self values (λ none. c.note.ensures.stands mine may held.beside none) (λ entry is. c.note.ensures.awaits mine entry may held.beside is) (λ l n h. c.known-known.ensures k r l n h) in
+          let own = c.args.self.now.lead in
+          subst (λ v. Says k r mine own.up own.place v answer c.told.result) same
+          (subst (λ n. Says k r mine own.up own.place c.args.verb answer n) (sym (c.told.ensures working))
+          (subst (λ (l : Lead). Says k r mine l.up l.place c.args.verb answer c.take-note.result) c.note.ensures.lead
+          (lead_says k r mine old c.args.verb answer values c.take-note.result lead c.take-note.ensures.says due may told)));
+      going = λ verb on some working.
+          ap (λ (l : Lead). l.under_way) c.learn.ensures.lead
+          ∙ (c.take-note.ensures.going
+          ∙ (ap (λ (l : Lead). going_after (begins_at l.place || l.under_way) c.take-note.result) c.note.ensures.lead
+          ∙ ap (λ n. going_after (begins_at c.args.self.now.lead.place || c.args.self.now.lead.under_way) n) (sym (c.told.ensures working))));
     }
