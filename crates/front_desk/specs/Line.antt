@@ -77,7 +77,8 @@ HasTaken v command w =
 
 -- a hand knows what its clients have sent, and what was taken if it takes; nobody else has these
 -- entries, and one hand takes
-pub record KnowsItsPart (owner : ℕ → ℕ) (sent : ℕ → List Request) (taker : ℕ) (got : List Request) (pass : ℕ) (v : Hand) : Type 0 where
+pub record KnowsItsPart (owner : ℕ → ℕ) (sent : ℕ → List Request) (taker : ℕ) (got : List Request)
+    (pass : ℕ) (v : Hand) : Type 0 where
   pub entries :
       (client : ℕ) (e : Entry) → entry_of client v.entries ≡ Some e
       → (owner client ≡ pass) × (e.commands ≡ sent client)

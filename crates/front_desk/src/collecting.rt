@@ -128,13 +128,15 @@ fn pass_through<R: Threads + Wait + Sync, G: Gate + Sync>(
         move ||
             requires { IsPassOf line.now pass × (view pass ≡ taking_hand []) × (room.items ≡ [])
                 × (count ≤ vec_capacity room) }
-            ensures { IsPassOf line.entry.now result.0 × (view result.0 ≡ taking_hand result.1.items)
+            ensures { IsPassOf line.entry.now result.0
+                × (view result.0 ≡ taking_hand result.1.items)
                 × (length result.1.items ≡ count) }
         { take_all(rt, line, pass, count, room) },
         move ||
             requires { BothSend line.now 0 (λ _. []) front × BothSend line.now 2 (λ _. []) back
                 × (length commands.now ≤ MOST_COMMANDS) }
-            ensures { BothSend line.entry.now 0 (λ sender. commands_of sender commands.entry.now) result.0
+            ensures { BothSend line.entry.now 0
+                (λ sender. commands_of sender commands.entry.now) result.0
                 × BothSend line.entry.now 2 (λ sender. commands_of sender commands.entry.now)
                 result.1 }
         { send_all(rt, line, front, back, commands, gate) },

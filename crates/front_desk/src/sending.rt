@@ -26,7 +26,8 @@ pub struct Pair {
 fn send_one<R: Wait>(rt: &R, line: &Line, pass: &mut LinePass, command: Command)
     requires client { command.client < MOST_SENDERS }
     requires hand { Sends line.now command.client (sent_by (view pass.old)) pass.old }
-    ensures hand { Sends line.now command.client (sent_by (view pass.old) ++ command ∷ []) pass.new }
+    ensures hand { Sends line.now command.client
+        (sent_by (view pass.old) ++ command ∷ []) pass.new }
 {
     for _ in rt.forever() {
         match line.try_push_as::<Sent>(pass, command) {
@@ -113,11 +114,13 @@ pub fn send_all<R: Threads + Wait + Sync, G: Gate + Sync>(
         rt,
         move ||
             requires { BothSend line.now 0 (λ _. []) front × (length commands.now ≤ MOST_COMMANDS) }
-            ensures { BothSend line.entry.now 0 (λ sender. commands_of sender commands.entry.now) result }
+            ensures { BothSend line.entry.now 0
+                (λ sender. commands_of sender commands.entry.now) result }
         { send_two(rt, line, front, 0, commands, gate) },
         move ||
             requires { BothSend line.now 2 (λ _. []) back × (length commands.now ≤ MOST_COMMANDS) }
-            ensures { BothSend line.entry.now 2 (λ sender. commands_of sender commands.entry.now) result }
+            ensures { BothSend line.entry.now 2
+                (λ sender. commands_of sender commands.entry.now) result }
         { send_two(rt, line, back, 2, commands, gate) },
     )
 }

@@ -40,7 +40,11 @@ impl Model for Command {
 
     ghost invariant = { λ a. IsAllowed a.client a.number a.op };
 
-    ghost inverse = { λ request. record { client = request.client; number = request.number; op = request.op } };
+    ghost inverse = { λ request. record {
+      client = request.client;
+      number = request.number;
+      op = request.op;
+    } };
 }
 
 impl Command {

@@ -25,7 +25,10 @@ impl Model for Key {
 
     ghost invariant = { λ a. IsPadded KEY_BYTES a.len a.bytes };
 
-    ghost inverse = { λ bytes. record { len = length bytes; bytes = bytes ++ replicate (KEY_BYTES - length bytes) 0 } };
+    ghost inverse = { λ bytes. record {
+      len = length bytes;
+      bytes = bytes ++ replicate (KEY_BYTES - length bytes) 0;
+    } };
 }
 
 impl Key {

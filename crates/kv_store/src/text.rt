@@ -24,7 +24,10 @@ impl Model for Text {
 
     ghost invariant = { λ a. IsPadded TEXT_BYTES a.len a.bytes };
 
-    ghost inverse = { λ bytes. record { len = length bytes; bytes = bytes ++ replicate (TEXT_BYTES - length bytes) 0 } };
+    ghost inverse = { λ bytes. record {
+      len = length bytes;
+      bytes = bytes ++ replicate (TEXT_BYTES - length bytes) 0;
+    } };
 }
 
 impl Text {

@@ -9,7 +9,8 @@ use Rattle.mu_regions.specs.declared.regions.Regions.{Regions}
 
 -- the list is legal, there is room for the budgets of all replicas, and the regions stand for the
 -- list
-pub record IsListKept (config : Config) (events : List Event) (room : ℕ) (regions : Regions) : Type 0 where
+pub record IsListKept (config : Config) (events : List Event) (room : ℕ)
+    (regions : Regions) : Type 0 where
   pub few : config.replicas ≤ 7
   pub short : config.budget ≤ 131071
   pub legal : IsLegal config events

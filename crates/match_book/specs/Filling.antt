@@ -37,13 +37,20 @@ abbrev pub filled : ℕ → Resting → ℕ → List Resting → Filled
 filled index order left [] = record { trades = []; left = left; queue = [] }
 filled index order left (best ∷ queue) =
     if nat_lt 0 left && crosses order best then
-    (if nat_lt left best.left then record { trades = trade_with index order best left ∷ []; left = 0; queue = leaving best (best.left - left) ∷ queue }
-    else led_by (trade_with index order best best.left) (filled index order (left - best.left) queue))
+    (if nat_lt left best.left
+    then record {
+      trades = trade_with index order best left ∷ [];
+      left = 0;
+      queue = leaving best (best.left - left) ∷ queue;
+    }
+    else led_by (trade_with index order best best.left)
+    (filled index order (left - best.left) queue))
     else record { trades = []; left = left; queue = best ∷ queue }
 
 -- orders in the stated arrangement with what is left of one more, where something is
 abbrev pub rested : Resting → ℕ → List Resting → List Resting
 rested order left orders =
     if left == 0 then orders
-    else filter (λ resting. not (goes_first (leaving order left) resting)) orders ++ leaving order left
+    else filter (λ resting. not (goes_first (leaving order left) resting)) orders
+    ++ leaving order left
     ∷ filter (goes_first (leaving order left)) orders

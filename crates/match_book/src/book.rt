@@ -29,9 +29,17 @@ impl Model for Book {
 
     ghost Value = { Held };
 
-    ghost view = { λ b. record { resting = b.resting.items; trades = b.trades.items; applied = b.applied; room = b.room } };
+    ghost view = { λ b. record {
+      resting = b.resting.items;
+      trades = b.trades.items;
+      applied = b.applied;
+      room = b.room;
+    } };
 
-    ghost invariant = { λ b. (b.applied + b.room < 2 ^ 16) × (vec_len b.trades + vec_len b.resting ≤ b.applied) × (vec_len b.resting + b.room ≤ vec_capacity b.resting) × (vec_len b.trades + vec_len b.resting + b.room ≤ vec_capacity b.trades) };
+    ghost invariant = { λ b. (b.applied + b.room < 2 ^ 16)
+        × (vec_len b.trades + vec_len b.resting ≤ b.applied)
+        × (vec_len b.resting + b.room ≤ vec_capacity b.resting)
+        × (vec_len b.trades + vec_len b.resting + b.room ≤ vec_capacity b.trades) };
 }
 
 impl Book {

@@ -37,7 +37,8 @@ pub(crate) fn take_order(
         (before_others order resting.old.items
         ++ (filled index order order.left (from_others order resting.old.items)).queue) }
     ensures len { vec_len resting.new ≤ vec_len resting.old + 1 }
-    ensures lens { vec_len trades.new + vec_len resting.new ≤ vec_len trades.old + vec_len resting.old + 1 }
+    ensures lens { vec_len trades.new + vec_len resting.new
+        ≤ vec_len trades.old + vec_len resting.old + 1 }
     ensures capacity { vec_capacity resting.new ≡ vec_capacity resting.old }
     ensures trades_capacity { vec_capacity trades.new ≡ vec_capacity trades.old }
 {
@@ -99,7 +100,8 @@ fn fill(
     ensures trades { trades.new.items
         ≡ trades.old.items
         ++ (filled index order.now order.now.left (drop start resting.old.items)).trades }
-    ensures left { result.left ≡ (filled index order.now order.now.left (drop start resting.old.items)).left }
+    ensures left { result.left
+        ≡ (filled index order.now order.now.left (drop start resting.old.items)).left }
     ensures queue { drop (start + result.whole) resting.new.items
         ≡ (filled index order.now order.now.left (drop start resting.old.items)).queue }
     ensures front { take start resting.new.items ≡ take start resting.old.items }
@@ -149,7 +151,8 @@ fn trade_with(index: u16, order: &Resting, resting: &Resting, quantity: u32) -> 
 /// Takes so many orders from `start` on out of the book.
 fn forget(resting: &mut Vec<Resting>, start: usize, count: usize)
     requires { start + count ≤ vec_len resting.old }
-    ensures items { resting.new.items ≡ take start resting.old.items ++ drop (start + count) resting.old.items }
+    ensures items { resting.new.items ≡ take start resting.old.items
+        ++ drop (start + count) resting.old.items }
     ensures len { vec_len resting.new + count ≡ vec_len resting.old }
     ensures capacity { vec_capacity resting.new ≡ vec_capacity resting.old }
 {

@@ -42,7 +42,9 @@ pub record Adds (old new : Lists) (result : NodeResult) : Type 0 where
       × (vec_capacity new.ends ≡ vec_capacity old.ends)
 
 -- what replica r left stands in the lists
-pub record Leaves (c : Config) (script : Script) (r : ℕ) (mine : List Event) (journals : List Record) (logs : List (List ℕ)) (commits_made : List (List Commit)) (ends : List End) : Type 0 where
+pub record Leaves (c : Config) (script : Script) (r : ℕ) (mine : List Event)
+    (journals : List Record) (logs : List (List ℕ)) (commits_made : List (List Commit))
+    (ends : List End) : Type 0 where
   pub journal : Record
   pub journal_at : slice_get journals r ≡ Some journal
   pub journal_is : history journal.events ≡ mine
@@ -55,7 +57,8 @@ pub record Leaves (c : Config) (script : Script) (r : ℕ) (mine : List Event) (
   pub obeys : Obeys c script r mine end
 
 -- the lists hold what the first n replicas left
-pub record HoldsLists (c : Config) (script : Script) (events : List Event) (n : ℕ) (lists : Lists) : Type 0 where
+pub record HoldsLists (c : Config) (script : Script) (events : List Event) (n : ℕ)
+    (lists : Lists) : Type 0 where
   pub room : HasRoom c.replicas n lists
   pub each :
       (r : ℕ) → r < n

@@ -34,7 +34,8 @@ EndsNowhereBefore c script r mine =
     → EndsBy c script r older end → ⊥
 
 -- replica r sits there after so many rounds
-pub record Sits (c : Config) (script : Script) (r : ℕ) (mine : List Event) (seat : Seat) (rounds : ℕ) : Type 0 where
+pub record Sits (c : Config) (script : Script) (r : ℕ) (mine : List Event) (seat : Seat)
+    (rounds : ℕ) : Type 0 where
   pub stands : StandsForNode c r mine seat.node
   pub stops : seat.node.stops.items ≡ script.stops
   pub keeps : KeepsPace script.pauses r seat.ended (length mine) seat.waited rounds
@@ -42,7 +43,8 @@ pub record Sits (c : Config) (script : Script) (r : ℕ) (mine : List Event) (se
   pub before : EndsNowhereBefore c script r mine
 
 -- a round of replica r: it takes a step where it is due, and sits there after it
-pub record Plays (c : Config) (script : Script) (r : ℕ) (old new : List Event) (before after : Seat) (rounds : ℕ) : Type 0 where
+pub record Plays (c : Config) (script : Script) (r : ℕ) (old new : List Event) (before after : Seat)
+    (rounds : ℕ) : Type 0 where
   pub sits : Sits c script r (part_of r new) after (suc rounds)
   pub grows : (new ≡ old) ⊎ ((e : Event) × (e.by ≡ r) × (new ≡ old ++ e ∷ []))
   pub stays : before.ended ≡ true → (after.ended ≡ true) × (new ≡ old)
@@ -77,7 +79,8 @@ pub record MayTake (events : List Event) (seats : List Seat) (lengths : List ℕ
       × (seat.ended ≡ true → slice_index lengths r ≡ length (part_of r events))
 
 -- after so many rounds, and the turns of the first k replicas in the next one
-pub record Played (c : Config) (script : Script) (events : List Event) (seats : List Seat) (rounds k : ℕ) : Type 0 where
+pub record Played (c : Config) (script : Script) (events : List Event) (seats : List Seat)
+    (rounds k : ℕ) : Type 0 where
   pub count : length seats ≡ c.replicas
   pub played :
       (r : ℕ) (seat : Seat) → slice_get seats r ≡ Some seat → r < k

@@ -83,7 +83,8 @@ pub(crate) fn driven<R: Threads + Wait + Sync, G: Gate + Sync>(
     requires { All (Drives script.now) branches.items }
     ensures count { length result.items ≡ length branches.items }
     ensures each { (i : ℕ) (d : SomeBranch) → i < length branches.items
-        → IsDriven script.now (slice_index_or branches.items i d) (slice_index_or result.items i d) }
+        → IsDriven script.now (slice_index_or branches.items i d)
+        (slice_index_or result.items i d) }
 {
     drive_all(rt, branches.as_mut_slice(), script, gate);
     branches

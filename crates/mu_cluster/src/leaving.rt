@@ -56,7 +56,8 @@ fn left_by(mut lists: Lists, _job: &Job, _parts: &Parts, nodes: Vec<Node>) -> Li
     requires list { (events : List Event)
         × (IsLegal _job.now.config events
         × HasParts _job.now.config events (map (λ j. j.events) _parts.now)) }
-    requires left { AreLeft _job.now.config _job.now.script (map (λ j. j.events) _parts.now) nodes.items }
+    requires left { AreLeft _job.now.config _job.now.script
+        (map (λ j. j.events) _parts.now) nodes.items }
     ensures { (events : List Event) → IsLegal _job.now.config events
         → HasParts _job.now.config events (map (λ j. j.events) _parts.now)
         → HoldsLists _job.now.config _job.now.script events _job.now.config.replicas result }

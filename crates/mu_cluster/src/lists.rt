@@ -96,8 +96,10 @@ impl OutcomeRoom {
         requires good { IsConfig job.config }
         requires room { IsOutcomeRoom job.config self }
         requires legal { IsLegal job.config order.events }
-        requires played { (rounds : ℕ) × Played job.config job.script order.events seats.items rounds 0 }
-        requires ended { (r : ℕ) → (seat : SomeSeat) → slice_get seats.items r ≡ Some seat → seat.ended ≡ true }
+        requires played { (rounds : ℕ)
+            × Played job.config job.script order.events seats.items rounds 0 }
+        requires ended { (r : ℕ) → (seat : SomeSeat) → slice_get seats.items r ≡ Some seat
+            → seat.ended ≡ true }
         ensures job { result.job ≡ job }
         ensures run { IsRun result }
     {
@@ -127,9 +129,12 @@ fn filled(mut lists: Lists, _job: &Job, _events: &[Event], seats: Vec<Seat>) -> 
     requires good { IsConfig _job.now.config }
     requires legal { IsLegal _job.now.config _events.now }
     requires room { HasRoom _job.now.config.replicas 0 lists }
-    requires played { (rounds : ℕ) × Played _job.now.config _job.now.script _events.now seats.items rounds 0 }
-    requires ended { (r : ℕ) → (seat : SomeSeat) → slice_get seats.items r ≡ Some seat → seat.ended ≡ true }
-    ensures { HoldsLists _job.now.config _job.now.script _events.now _job.now.config.replicas result }
+    requires played { (rounds : ℕ)
+        × Played _job.now.config _job.now.script _events.now seats.items rounds 0 }
+    requires ended { (r : ℕ) → (seat : SomeSeat) → slice_get seats.items r ≡ Some seat
+        → seat.ended ≡ true }
+    ensures { HoldsLists _job.now.config _job.now.script _events.now
+        _job.now.config.replicas result }
 {
     for seat in seats {
         lists.add(seat.into_result());

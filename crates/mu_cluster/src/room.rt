@@ -48,7 +48,8 @@ impl AnswerRoom {
 fn answer(store: &mut Store, commands: &[Command], replies: &mut Vec<Reply>)
     requires store_room { length commands.now ≤ store.old.room }
     requires reply_room { vec_len replies.old + length commands.now ≤ vec_capacity replies.old }
-    ensures replies { replies.new.items ≡ replies.old.items ++ replies_from store.old.table commands.now }
+    ensures replies { replies.new.items ≡ replies.old.items
+        ++ replies_from store.old.table commands.now }
     ensures table { store.new.table ≡ store_from store.old.table commands.now }
     ensures store_room { store.old.room ≤ store.new.room + length commands.now }
     ensures reply_count { vec_len replies.new ≡ vec_len replies.old + length commands.now }

@@ -80,12 +80,14 @@ impl Seat {
             (part_of self.old.node.id port.old.events) self.old rounds) }
         ensures config { port.new.config ≡ port.old.config }
         ensures plays { (script : Script) → (rounds : ℕ) → pauses.now ≡ script.pauses
-            → Sits port.old.config script self.old.node.id (part_of self.old.node.id port.old.events)
+            → Sits port.old.config script self.old.node.id
+            (part_of self.old.node.id port.old.events)
             self.old rounds
             → Plays port.old.config script self.old.node.id port.old.events port.new.events self.old
             self.new rounds }
         ensures left { (script : Script) → (rounds : ℕ)
-            → Sits port.old.config script self.old.node.id (part_of self.old.node.id port.old.events)
+            → Sits port.old.config script self.old.node.id
+            (part_of self.old.node.id port.old.events)
             self.old rounds
             → left_of self.new + one_if_going self.old.ended ≤ left_of self.old }
     {
@@ -162,7 +164,8 @@ fn play_rounds<M: Memory>(port: &mut MemoryPort<M>, seats: &mut [Seat], pauses: 
     ensures played { (script : Script) → (rounds : ℕ) → pauses.now ≡ script.pauses
         → Played port.old.config script port.old.events seats.old rounds 0
         → (more : ℕ) × Played port.old.config script port.new.events seats.new more 0 }
-    ensures ended { (r : ℕ) → (seat : Seat) → slice_get seats.new r ≡ Some seat → seat.ended ≡ true }
+    ensures ended { (r : ℕ) → (seat : Seat) → slice_get seats.new r ≡ Some seat
+        → seat.ended ≡ true }
 {
     while are_going(seats) {
         round(port, seats, pauses);
@@ -180,7 +183,8 @@ pub(crate) fn finished<M: Memory>(memory: M, seats: &mut [Seat], pauses: &[Pause
     ensures played { (script : Script) → (rounds : ℕ) → pauses.now ≡ script.pauses
         → Played (M.config memory) script (M.events memory) seats.old rounds 0
         → (more : ℕ) × Played (M.config memory) script (M.events result) seats.new more 0 }
-    ensures ended { (r : ℕ) → (seat : Seat) → slice_get seats.new r ≡ Some seat → seat.ended ≡ true }
+    ensures ended { (r : ℕ) → (seat : Seat) → slice_get seats.new r ≡ Some seat
+        → seat.ended ≡ true }
 {
     let mut port = memory.port(0);
     play_rounds(&mut port, seats, pauses);

@@ -115,7 +115,8 @@ impl Scores {
     /// Whom the scores name leader: the least of the own id and the others that are held to be
     /// alive.
     pub fn leader(&self) -> u8
-        ensures { (c : Config) → (r : ℕ) → (mine : List Event) → StandsFor c.replicas r mine self.now
+        ensures { (c : Config) → (r : ℕ) → (mine : List Event)
+            → StandsFor c.replicas r mine self.now
             → result ≡ leader c r mine }
     {
         for q in 0..self.id {

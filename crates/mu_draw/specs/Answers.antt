@@ -28,7 +28,8 @@ use Rattle.mu_draw.specs.declared.drawing.Told.{Told}
 
 -- the events are legal, and this is the drawing of the picture of the steps that are asked for, a
 -- document of XML
-pub record IsDrawingOf (job : Job) (events : List Event) (asked : Asked) (drawing : List ℕ) : Type 0 where
+pub record IsDrawingOf (job : Job) (events : List Event) (asked : Asked)
+    (drawing : List ℕ) : Type 0 where
   pub legal : IsLegal job.config events
   pub picture : Picture
   pub is : IsPictureOf job.config job.script events asked.first asked.last picture
@@ -106,13 +107,15 @@ status_for (Told.Said said) = status_said said
 status_for (Told.Drawn sheet) = Status.Done
 
 -- all of the text was written, and the sink counted no fault
-pub record IsWhole (written now : Option (List ℕ)) (before after : ℕ) (told : Told) (status : ℕ) : Type 0 where
+pub record IsWhole (written now : Option (List ℕ)) (before after : ℕ) (told : Told)
+    (status : ℕ) : Type 0 where
   pub code : status ≡ code_of (status_for told)
   pub bytes : Appends written now (text_of told)
   pub faults : after ≡ before
 
 -- the sink counted a fault, after this many bytes of the text
-pub record IsCut (written now : Option (List ℕ)) (before after : ℕ) (told : Told) (taken : ℕ) : Type 0 where
+pub record IsCut (written now : Option (List ℕ)) (before after : ℕ) (told : Told)
+    (taken : ℕ) : Type 0 where
   pub short : taken < length (text_of told)
   pub bytes : Appends written now (take taken (text_of told))
   pub faults : Rose before after

@@ -73,7 +73,8 @@ verb_of_two name a b =
 abbrev pub verb_of_three : List ℕ → List ℕ → List ℕ → List ℕ → Option Verb
 verb_of_three name a b c =
     if bytes_eq name (codes "enter") then of_two Verb.Enter (of_8 a) (target_of (b ∷ c ∷ []))
-    else if bytes_eq name (codes "writerow") then of_three Verb.WriteRow (of_16 a) (of_8 b) (of_64 c)
+    else if bytes_eq name (codes "writerow")
+    then of_three Verb.WriteRow (of_16 a) (of_8 b) (of_64 c)
     else None
 
 -- a verb with four numbers

@@ -92,7 +92,8 @@ fn push_one(line: &mut Line, words: &[u8], number: u64)
 /// Adds words and two numbers.
 fn push_two(line: &mut Line, words: &[u8], first: u64, second: u64)
     requires { length line.old + length words.now + 41 ≤ LINE_BYTES }
-    ensures bytes { line.new ≡ line.old ++ words.now ++ decimal first ++ codes " " ++ decimal second }
+    ensures bytes { line.new ≡ line.old ++ words.now ++ decimal first ++ codes " "
+        ++ decimal second }
     ensures room { length line.new ≤ length line.old + length words.now + 41 }
 {
     push_one(line, words, first);

@@ -55,7 +55,8 @@ pub record IsFirstBehind (c : Config) (r p : ℕ) (mine : List Event) (from next
   pub lacks : has_known c r p mine next ≡ false
 
 -- the state stands for what r knows to be filled of the log of region p
-pub record StandsForFilledLog (c : Config) (r p : ℕ) (mine : List Event) (log : FilledLog) : Type 0 where
+pub record StandsForFilledLog (c : Config) (r p : ℕ) (mine : List Event)
+    (log : FilledLog) : Type 0 where
   pub room : length log.filled.items ≡ row_count c + reserve c + 1
   pub filled :
       (j : ℕ)
@@ -63,7 +64,8 @@ pub record StandsForFilledLog (c : Config) (r p : ℕ) (mine : List Event) (log 
   pub next : is_set (slice_get log.filled.items log.filled_to) ≡ false
 
 -- the state stands for what r knows of the log of region p
-pub record HoldsCoverage (c : Config) (r p : ℕ) (mine : List Event) (region : Coverage) : Type 0 where
+pub record HoldsCoverage (c : Config) (r p : ℕ) (mine : List Event)
+    (region : Coverage) : Type 0 where
   pub id : region.id ≡ p
   pub log : StandsForFilledLog c r p mine region.log
   pub caught : (j : ℕ) → j < region.caught_to → is_caught_up_at c r p mine j ≡ true
@@ -81,6 +83,7 @@ HoldsCoverages c r mine regions =
     → HoldsCoverage c r p mine region
 
 -- the state stands for what r knows of the logs of seven regions
-pub record StandsForFilledLogs (c : Config) (r : ℕ) (mine : List Event) (state : FilledLogs) : Type 0 where
+pub record StandsForFilledLogs (c : Config) (r : ℕ) (mine : List Event)
+    (state : FilledLogs) : Type 0 where
   pub count : length state.regions.items ≡ 7
   pub each : HoldsCoverages c r mine state.regions.items

@@ -57,7 +57,8 @@ NotesEach r mine notes =
     → Notes r p i mine noted
 
 -- the state stands for the events of r
-pub record StandsForLandedPuts (c : Config) (r : ℕ) (mine : List Event) (state : LandedPuts) : Type 0 where
+pub record StandsForLandedPuts (c : Config) (r : ℕ) (mine : List Event)
+    (state : LandedPuts) : Type 0 where
   pub leadership : state.leadership ≡ leaderships r mine
   pub room : length state.notes.items ≡ (row_count c + reserve c + 1) * 7
   pub notes : NotesEach r mine state.notes.items

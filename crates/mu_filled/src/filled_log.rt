@@ -89,7 +89,8 @@ impl FilledLog {
 
     /// Up to where all positions are known to be filled.
     pub fn filled_to(&self) -> u64
-        ensures { (c : Config) → (r p : ℕ) → (mine : List Event) → StandsForFilledLog c r p mine self.now
+        ensures { (c : Config) → (r p : ℕ) → (mine : List Event)
+            → StandsForFilledLog c r p mine self.now
             → IsFilledTo c r p mine result }
     {
         self.filled_to
@@ -97,7 +98,8 @@ impl FilledLog {
 
     /// Whether all positions below `u` are filled.
     pub fn are_filled(&self, u: u16) -> bool
-        ensures { (c : Config) → (r p : ℕ) → (mine : List Event) → StandsForFilledLog c r p mine self.now
+        ensures { (c : Config) → (r p : ℕ) → (mine : List Event)
+            → StandsForFilledLog c r p mine self.now
             → result ≡ all_below u (is_filled c r p mine) }
     {
         u64::from(u) <= self.filled_to

@@ -260,7 +260,8 @@ impl FilledLogs {
         landings: &LandedPuts,
         event: &Event,
     )
-        ensures { (c : Config) → (mine : List Event) → IsConfig c → IsPossible c r (event.now ∷ mine)
+        ensures { (c : Config) → (mine : List Event) → IsConfig c
+            → IsPossible c r (event.now ∷ mine)
             → known_before.now ≡ known c r mine → known_after.now ≡ known c r (event.now ∷ mine)
             → StandsForLandedPuts c r (event.now ∷ mine) landings.now
             → StandsForFilledLogs c r mine self.old

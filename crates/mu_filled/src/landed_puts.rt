@@ -128,7 +128,8 @@ impl LandedPuts {
 
     /// Takes the next event of `r`, which it was allowed. Takes no memory.
     pub fn take(&mut self, r: u8, event: &Event)
-        ensures { (c : Config) → (mine : List Event) → IsConfig c → IsPossible c r (event.now ∷ mine)
+        ensures { (c : Config) → (mine : List Event) → IsConfig c
+            → IsPossible c r (event.now ∷ mine)
             → StandsForLandedPuts c r mine self.old
             → StandsForLandedPuts c r (event.now ∷ mine) self.new }
     {
@@ -164,7 +165,8 @@ impl LandedPuts {
 
     /// Whether `p` is no member, or `v` was put there at position `i` under the number `b`.
     fn has_taken(&self, leading: &Leadership, p: u8, i: u16, b: u32, v: u16) -> bool
-        ensures { (c : Config) → (r : ℕ) → (event : Event) → (mine : List Event) → p < 7 → IsConfig c
+        ensures { (c : Config) → (r : ℕ) → (event : Event) → (mine : List Event) → p < 7
+            → IsConfig c
             → IsPossible c r (event ∷ mine) → length (known c r mine) ≤ i
             → StandsForLeadership r (event ∷ mine) leading.now
             → StandsForLandedPuts c r (event ∷ mine) self.now

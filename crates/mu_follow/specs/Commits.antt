@@ -11,6 +11,7 @@ use Rattle.mu_known.specs.Commits.{pair_of}
 use Rattle.mu_known.specs.declared.commit.Commit.{Commit}
 
 -- the list is what r committed, and there is room for one at each position
-pub record HoldsCommits (c : Config) (r : ℕ) (mine : List Event) (list : Vec Commit Global) : Type 0 where
+pub record HoldsCommits (c : Config) (r : ℕ) (mine : List Event)
+    (list : Vec Commit Global) : Type 0 where
   pub are : map pair_of list.items ≡ commits c r mine
   pub room : row_count c + reserve c < vec_capacity list

@@ -29,7 +29,8 @@ abbrev pub own_fuo : ℕ → List Event → ℕ
 own_fuo r mine = greatest (λ e. fuo_read_or_raised r r e.by e.verb e.answer) mine
 
 -- what is remembered stands for the events, and no more was handed on than is applied
-pub record HoldsProgress (c : Config) (r : ℕ) (mine : List Event) (progress : Progress) : Type 0 where
+pub record HoldsProgress (c : Config) (r : ℕ) (mine : List Event)
+    (progress : Progress) : Type 0 where
   pub fuo : progress.fuo ≡ own_fuo r mine
   pub row : progress.row ≡ row_under_way mine
   pub handed : progress.handed ≤ length (applied c r mine)

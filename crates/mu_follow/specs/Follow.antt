@@ -15,7 +15,8 @@ use Rattle.mu_follow.specs.Due.{HoldsProgress}
 use Rattle.mu_follow.specs.Published.{HoldsPublished}
 
 -- what it knows, has and did stands for the events, and it has counted so many
-pub record HoldsFollow (c : Config) (r : ℕ) (mine : List Event) (count : ℕ) (state : Follow) : Type 0 where
+pub record HoldsFollow (c : Config) (r : ℕ) (mine : List Event) (count : ℕ)
+    (state : Follow) : Type 0 where
   pub config : state.config ≡ c
   pub replica : state.replica ≡ r
   pub inside : r < c.replicas

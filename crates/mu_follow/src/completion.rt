@@ -99,7 +99,8 @@ impl Completion {
     /// Counts the next entry.
     fn count(&mut self, config: &Config, v: u16)
         requires { self.old.counted < 65536 }
-        ensures holds { (values : List ℕ) → IsConfig config.now → HoldsCompletion config.now values self.old
+        ensures holds { (values : List ℕ) → IsConfig config.now
+            → HoldsCompletion config.now values self.old
             → HoldsCompletion config.now (values ++ v ∷ []) self.new }
         ensures one { self.new.counted ≡ self.old.counted + 1 }
     {

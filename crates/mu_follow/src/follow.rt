@@ -102,7 +102,8 @@ fn had_after(had: u16, t: u16, one: bool) -> u16
 
 /// How many rows of the batch the replica has before the first that it has not.
 fn rows_had(fetching: &HeldRows, v: u16, n: u16) -> u16
-    ensures { (c : Config) → (r : ℕ) → (mine : List Event) → v / 4096 < 7 → v % 4096 + n ≤ row_count c
+    ensures { (c : Config) → (r : ℕ) → (mine : List Event) → v / 4096 < 7
+        → v % 4096 + n ≤ row_count c
         → row_count c ≤ 1500 → StandsForHeldRows c r mine fetching.now
         → result ≡ least_below n (λ t. not (has_row r (v + t) mine)) }
 {
@@ -211,7 +212,8 @@ impl Follow {
 
     /// The head of `q` that was read last.
     pub fn head_of(&self, q: u8) -> Option<u64>
-        ensures { (c : Config) → (r : ℕ) → (mine : List Event) → q < 7 → StandsForFollow c r mine self.now
+        ensures { (c : Config) → (r : ℕ) → (mine : List Event) → q < 7
+            → StandsForFollow c r mine self.now
             → result ≡ head_heard r q mine }
     {
         self.heads.of(q)
@@ -228,10 +230,12 @@ impl Follow {
 
     /// Hands on every entry that the replica has in full.
     pub fn hand_on(&mut self)
-        ensures stands { (c : Config) → (r : ℕ) → (mine : List Event) → StandsForFollow c r mine self.old
+        ensures stands { (c : Config) → (r : ℕ) → (mine : List Event)
+            → StandsForFollow c r mine self.old
             → StandsForFollow c r mine self.new }
         ensures config { self.new.config ≡ self.old.config }
-        ensures all { (c : Config) → (r : ℕ) → (mine : List Event) → StandsForFollow c r mine self.old
+        ensures all { (c : Config) → (r : ℕ) → (mine : List Event)
+            → StandsForFollow c r mine self.old
             → self.new.progress.handed ≡ length (applied c r mine) }
     {
         self.progress.handed = self.rows.applied_length();
@@ -357,7 +361,8 @@ impl Follow {
         requires config { IsConfig self.now.config }
         ensures { (c : Config) → (r : ℕ) → (mine : List Event) → IsPossible c r mine
             → StandsForFollow c r mine self.now
-            → result ≡ first_word_of c r mine (slice_get (known c r mine) self.now.progress.handed) }
+            → result ≡ first_word_of c r mine
+            (slice_get (known c r mine) self.now.progress.handed) }
     {
         match self.knowing.known().get(self.progress.handed) {
             Some(v) => missing_row(&self.config, &self.rows, *v),
@@ -395,7 +400,8 @@ impl Follow {
     fn raise_of_head(&self) -> Option<Verb>
         requires config { IsConfig self.now.config }
         ensures { (c : Config) → (r : ℕ) → (mine : List Event) → IsPossible c r mine
-            → StandsForFollow c r mine self.now → result ≡ head_due r mine self.now.progress.handed }
+            → StandsForFollow c r mine self.now
+            → result ≡ head_due r mine self.now.progress.handed }
     {
         let head = (self.progress.handed as u64).min(self.progress.fuo);
         if u64::from(self.heads.own()) < head {

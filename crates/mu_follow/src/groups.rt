@@ -74,7 +74,8 @@ impl Follow {
     pub fn applied(&mut self)
         requires config { IsConfig self.old.config }
         requires ready { self.old.progress.handed < self.old.rows.applied }
-        ensures stands { (c : Config) → (r : ℕ) → (mine : List Event) → StandsForFollow c r mine self.old
+        ensures stands { (c : Config) → (r : ℕ) → (mine : List Event)
+            → StandsForFollow c r mine self.old
             → StandsForFollow c r mine self.new }
         ensures one { (r : ℕ) → (mine : List Event) → IsPossible self.old.config r mine
             → StandsForFollow self.old.config r mine self.old

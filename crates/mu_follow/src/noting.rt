@@ -98,7 +98,8 @@ impl Follow {
     #[inline(always)]
     pub fn note(&mut self, event: &Event)
         requires config { IsConfig self.old.config }
-        ensures stands { (mine : List Event) → IsPossible self.old.config event.now.by (event.now ∷ mine)
+        ensures stands { (mine : List Event)
+            → IsPossible self.old.config event.now.by (event.now ∷ mine)
             → StandsForFollow self.old.config event.now.by mine self.old
             → commit_of self.old.config event.now.by mine event.now ≡ None
             → StandsForFollow self.old.config event.now.by (event.now ∷ mine) self.new }

@@ -17,7 +17,8 @@ pub struct Published {
 
 /// The own head after the event.
 fn own_after(held: u16, r: u8, event: &Event) -> u16
-    ensures { (mine : List Event) → held ≡ region_head r mine → result ≡ region_head r (event.now ∷ mine) }
+    ensures { (mine : List Event) → held ≡ region_head r mine
+        → result ≡ region_head r (event.now ∷ mine) }
 {
     match event.verb {
         Verb::RaiseHead(h) => { if event.by == r { h.max(held) } else { held } }
@@ -44,7 +45,8 @@ fn read_after(held: Option<u64>, r: u8, q: u8, event: &Event) -> Option<u64>
 
 /// Takes the event at each head that is read.
 fn note_read(read: &mut [Option<u64>; 7], r: u8, event: &Event)
-    ensures { (mine : List Event) → HearsHeads r mine read.old → HearsHeads r (event.now ∷ mine) read.new }
+    ensures { (mine : List Event) → HearsHeads r mine read.old
+        → HearsHeads r (event.now ∷ mine) read.new }
 {
     for q in 0..7u8 {
         let at = usize::from(q);

@@ -55,7 +55,8 @@ is_of_place place (Verb.Grant w) = place == 3
 is_of_place place _ = false
 
 -- at a place a verb of it is given that is allowed, and none exactly where none is allowed
-pub record Gives (c : Config) (r : ℕ) (mine : List Event) (place : ℕ) (due : Option Verb) : Type 0 where
+pub record Gives (c : Config) (r : ℕ) (mine : List Event) (place : ℕ)
+    (due : Option Verb) : Type 0 where
   pub given :
       (verb : Verb) → due ≡ Some verb → (is_of_place place verb ≡ true) × Allowed c r mine verb
   pub none : due ≡ None → (verb : Verb) → is_of_place place verb ≡ true → Allowed c r mine verb → ⊥

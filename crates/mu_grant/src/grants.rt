@@ -64,7 +64,8 @@ fn is_serving(w: usize, owner: Option<u8>, closing: bool) -> bool
 
 /// The owner after the event.
 fn owner_after(held: Option<u8>, r: u8, event: &Event) -> Option<u8>
-    ensures { (mine : List Event) → held ≡ fence_owner r mine → result ≡ fence_owner r (event.now ∷ mine) }
+    ensures { (mine : List Event) → held ≡ fence_owner r mine
+        → result ≡ fence_owner r (event.now ∷ mine) }
 {
     match event.verb {
         Verb::Grant(w) => { if event.by == r { Some(w) } else { held } }
@@ -86,7 +87,8 @@ fn closing_after(held: bool, r: u8, event: &Event) -> bool
 
 /// Whether the last `Close` found a fence that names a word, after the event.
 fn named_after(held: bool, r: u8, event: &Event) -> bool
-    ensures { (mine : List Event) → held ≡ close_named r mine → result ≡ close_named r (event.now ∷ mine) }
+    ensures { (mine : List Event) → held ≡ close_named r mine
+        → result ≡ close_named r (event.now ∷ mine) }
 {
     match (event.verb, event.answer) {
         (Verb::Close, Answer::Seen(fence)) => {
@@ -126,7 +128,8 @@ fn drained_after(held: bool, r: u8, event: &Event) -> bool
 
 /// The asks of `w` that the host saw last, after the event.
 fn seen_after(held: u64, r: u8, w: usize, event: &Event) -> u64
-    ensures { (mine : List Event) → held ≡ seen_asks r w mine → result ≡ seen_asks r w (event.now ∷ mine) }
+    ensures { (mine : List Event) → held ≡ seen_asks r w mine
+        → result ≡ seen_asks r w (event.now ∷ mine) }
 {
     match (event.verb, event.answer) {
         (Verb::ReadAsk(q), Answer::Number(x)) => {
@@ -342,9 +345,11 @@ impl Grants {
 
     /// The least replica that waits, if any.
     fn first_waiting(&self) -> Option<u8>
-        ensures found { (n r w : ℕ) → (mine : List Event) → StandsFor n r mine self.now → result ≡ Some w
+        ensures found { (n r w : ℕ) → (mine : List Event) → StandsFor n r mine self.now
+            → result ≡ Some w
             → (w < n) × (is_least_waiting r mine w ≡ true) }
-        ensures nobody { (n r : ℕ) → (mine : List Event) → StandsFor n r mine self.now → result ≡ None
+        ensures nobody { (n r : ℕ) → (mine : List Event) → StandsFor n r mine self.now
+            → result ≡ None
             → all_below n (λ w. not (has_unserved_ask r mine w)) ≡ true }
     {
         for w in 0..self.replicas {
@@ -365,7 +370,8 @@ impl Grants {
 
     /// Whether the host may close its fence: none is pending, and a replica waits.
     pub fn may_close(&self) -> bool
-        ensures { (c : Config) → (r : ℕ) → (mine : List Event) → StandsFor c.replicas r mine self.now
+        ensures { (c : Config) → (r : ℕ) → (mine : List Event)
+            → StandsFor c.replicas r mine self.now
             → (IsTrue result ↔ Needs c r mine Verb.Close) }
     {
         !self.closing && self.first_waiting().is_some()
@@ -373,7 +379,8 @@ impl Grants {
 
     /// Whether the host may load the word that its closed fence names.
     pub fn may_look_target(&self) -> bool
-        ensures { (c : Config) → (r : ℕ) → (mine : List Event) → StandsFor c.replicas r mine self.now
+        ensures { (c : Config) → (r : ℕ) → (mine : List Event)
+            → StandsFor c.replicas r mine self.now
             → (IsTrue result ↔ Needs c r mine Verb.LookTarget) }
     {
         self.has_to_drain() && !self.looked
@@ -381,7 +388,8 @@ impl Grants {
 
     /// Whether the host may drain the word that it loaded.
     pub fn may_drain(&self) -> bool
-        ensures { (c : Config) → (r : ℕ) → (mine : List Event) → StandsFor c.replicas r mine self.now
+        ensures { (c : Config) → (r : ℕ) → (mine : List Event)
+            → StandsFor c.replicas r mine self.now
             → (IsTrue result ↔ Needs c r mine Verb.Drain) }
     {
         self.has_to_drain() && self.looked && !self.drained
@@ -400,9 +408,11 @@ impl Grants {
 
     /// Whom the host may grant its region to, if anybody.
     fn next_owner(&self) -> Option<u8>
-        ensures found { (c : Config) → (r w : ℕ) → (mine : List Event) → StandsFor c.replicas r mine self.now
+        ensures found { (c : Config) → (r w : ℕ) → (mine : List Event)
+            → StandsFor c.replicas r mine self.now
             → result ≡ Some w → Needs c r mine (Verb.Grant w) }
-        ensures only { (c : Config) → (r w : ℕ) → (mine : List Event) → StandsFor c.replicas r mine self.now
+        ensures only { (c : Config) → (r w : ℕ) → (mine : List Event)
+            → StandsFor c.replicas r mine self.now
             → Needs c r mine (Verb.Grant w) → result ≡ Some w }
     {
         if self.is_free() {
@@ -414,7 +424,8 @@ impl Grants {
 
     /// Whether the host may grant its region to `w`.
     pub fn may_grant(&self, w: u8) -> bool
-        ensures { (c : Config) → (r : ℕ) → (mine : List Event) → StandsFor c.replicas r mine self.now
+        ensures { (c : Config) → (r : ℕ) → (mine : List Event)
+            → StandsFor c.replicas r mine self.now
             → (IsTrue result ↔ Needs c r mine (Verb.Grant w)) }
     {
         match self.next_owner() {
@@ -426,7 +437,8 @@ impl Grants {
     /// The verb of a place that the host may make next, if any: 0 is `Close`, 1 is `LookTarget`, 2
     /// is `Drain`, 3 is `Grant`. There are no other places.
     pub fn due(&self, place: u8) -> Option<Verb>
-        ensures { (c : Config) → (r : ℕ) → (mine : List Event) → StandsFor c.replicas r mine self.now
+        ensures { (c : Config) → (r : ℕ) → (mine : List Event)
+            → StandsFor c.replicas r mine self.now
             → length mine < c.budget → Gives c r mine place result }
     {
         match place {
@@ -460,7 +472,8 @@ impl Grants {
 
     /// Takes the answer of the verb that was due and is made.
     pub fn take(&mut self, answer: Answer)
-        ensures { (c : Config) → (r : ℕ) → (mine : List Event) → (event : Event) → IsDue c r mine event
+        ensures { (c : Config) → (r : ℕ) → (mine : List Event) → (event : Event)
+            → IsDue c r mine event
             → event.answer ≡ answer → StandsFor c.replicas r mine self.old
             → StandsFor c.replicas r (event ∷ mine) self.new }
     {

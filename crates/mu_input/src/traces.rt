@@ -33,7 +33,8 @@ pub fn read_events(
     ensures reading { ReadsFrontAs (λ events. events.items) result
         (events_at replicas lines.old) lines.new }
     ensures few { IfOk result (λ events. vec_len events ≤ length lines.old.lines) }
-    ensures counted { lines.new.number + length lines.new.lines ≡ lines.old.number + length lines.old.lines }
+    ensures counted { lines.new.number + length lines.new.lines
+        ≡ lines.old.number + length lines.old.lines }
     ensures fewer { length lines.new.lines ≤ length lines.old.lines }
 {
     let mut events = Vec::new(alloc);

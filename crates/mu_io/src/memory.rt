@@ -31,7 +31,13 @@ impl Model for MemSource {
 
     ghost Value = { SourceState };
 
-    ghost view = { λ s. record { left = drop s.given s.bytes.items; piece = s.piece; fails = s.fails.items; calls = s.calls; faults = s.faults } };
+    ghost view = { λ s. record {
+      left = drop s.given s.bytes.items;
+      piece = s.piece;
+      fails = s.fails.items;
+      calls = s.calls;
+      faults = s.faults;
+    } };
 
     ghost invariant = { λ s. (0 < s.piece) × (s.given ≤ vec_len s.bytes) };
 }
@@ -70,9 +76,15 @@ impl Source for MemSource {
             k ≡ min (min self.old.piece (length self.old.left)) (length into.old)) }
         ensures gives { IfOk result (λ k. take k into.new ≡ take k self.old.left) }
         ensures ok { IfOk result (λ k.
-            self.new ≡ record self.old { left = drop k self.old.left; calls = one_more self.old.calls }) }
+            self.new ≡ record self.old {
+              left = drop k self.old.left;
+              calls = one_more self.old.calls;
+            }) }
         ensures err { OnErr result (self.new
-            ≡ record self.old { calls = one_more self.old.calls; faults = one_more self.old.faults }) }
+            ≡ record self.old {
+              calls = one_more self.old.calls;
+              faults = one_more self.old.faults;
+            }) }
 
         // What any source promises.
         ensures at_most { IfOk result (λ k. k ≤ length into.new) }
@@ -115,7 +127,14 @@ impl Model for MemSink {
 
     ghost Value = { SinkState };
 
-    ghost view = { λ s. record { written = take s.filled s.room.items; room = vec_len s.room; piece = s.piece; fails = s.fails.items; calls = s.calls; faults = s.faults } };
+    ghost view = { λ s. record {
+      written = take s.filled s.room.items;
+      room = vec_len s.room;
+      piece = s.piece;
+      fails = s.fails.items;
+      calls = s.calls;
+      faults = s.faults;
+    } };
 
     ghost invariant = { λ s. (0 < s.piece) × (s.filled ≤ vec_len s.room) };
 }
@@ -165,11 +184,18 @@ impl Sink for MemSink {
         ensures fails { IsErr result ↔ (Contains self.old.fails (one_more self.old.calls)
             ⊎ ((0 < length from.now) × (length self.old.written ≡ self.old.room))) }
         ensures count { IfOk result (λ k.
-            k ≡ min (min self.old.piece (self.old.room - length self.old.written)) (length from.now)) }
+            k ≡ min (min self.old.piece (self.old.room - length self.old.written))
+            (length from.now)) }
         ensures ok { IfOk result (λ k. self.new
-            ≡ record self.old { written = self.old.written ++ take k from.now; calls = one_more self.old.calls }) }
+            ≡ record self.old {
+              written = self.old.written ++ take k from.now;
+              calls = one_more self.old.calls;
+            }) }
         ensures err { OnErr result (self.new
-            ≡ record self.old { calls = one_more self.old.calls; faults = one_more self.old.faults }) }
+            ≡ record self.old {
+              calls = one_more self.old.calls;
+              faults = one_more self.old.faults;
+            }) }
 
         // What any sink promises.
         ensures at_most { IfOk result (λ k. k ≤ length from.now) }

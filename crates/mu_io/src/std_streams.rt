@@ -45,7 +45,8 @@ impl<I: Read> Source for StdSource<I> {
         ensures at_most { IfOk result (λ k. k ≤ length into.new) }
         ensures bytes { IfOk result
             (λ k. Consumes (I.remaining self.old.0) (I.remaining self.new.0) (take k into.new)) }
-        ensures end { IfOk result (λ k. k ≡ 0 → 0 < length into.old → IsAtEnd (I.remaining self.old.0)) }
+        ensures end { IfOk result
+            (λ k. k ≡ 0 → 0 < length into.old → IsAtEnd (I.remaining self.old.0)) }
         ensures same_faults { OnOk result (self.new.1 ≡ self.old.1) }
         ensures counted { OnErr result (self.new.1 ≡ one_more self.old.1) }
         ensures failed { OnErr result (Rose self.old.1 self.new.1) }

@@ -24,7 +24,8 @@ pub trait Source {
     /// goes on from there.
     fn read(&mut self, into: &mut [u8]) -> Result<usize, Failed>
         ensures at_most { IfOk result (λ k. k ≤ length into.new) }
-        ensures bytes { IfOk result (λ k. Consumes (left self.old) (left self.new) (take k into.new)) }
+        ensures bytes { IfOk result
+            (λ k. Consumes (left self.old) (left self.new) (take k into.new)) }
         ensures end { IfOk result (λ k. k ≡ 0 → 0 < length into.old → IsAtEnd (left self.old)) }
         ensures same_faults { OnOk result (faults self.new ≡ faults self.old) }
         ensures failed { OnErr result (Rose (faults self.old) (faults self.new)) }
@@ -49,7 +50,8 @@ pub trait Sink {
     fn write(&mut self, from: &[u8]) -> Result<usize, Failed>
         ensures at_most { IfOk result (λ k. k ≤ length from.now) }
         ensures some { IfOk result (λ k. 0 < length from.now → 0 < k) }
-        ensures bytes { IfOk result (λ k. Appends (written self.old) (written self.new) (take k from.now)) }
+        ensures bytes { IfOk result
+            (λ k. Appends (written self.old) (written self.new) (take k from.now)) }
         ensures same_faults { OnOk result (faults self.new ≡ faults self.old) }
         ensures failed { OnErr result (Rose (faults self.old) (faults self.new)) }
         ensures kept { OnErr result (Keeps (written self.old) (written self.new)) }

@@ -80,10 +80,12 @@ pub fn read_all<S: Source>(alloc: Global, source: &mut S, limit: usize) -> Resul
         (λ left. S.left source.new ≡ Some (drop (limit + 1) left))) }
     ensures too_long_faults { OnTooLong result (S.faults source.new ≡ S.faults source.old) }
     ensures too_long_found { IfSome (S.left source.old) (λ left. limit < length left
-        → result ≢ Err ReadEnd.Fault → result ≢ Err ReadEnd.NoMemory → result ≡ Err ReadEnd.TooLong) }
+        → result ≢ Err ReadEnd.Fault → result ≢ Err ReadEnd.NoMemory
+        → result ≡ Err ReadEnd.TooLong) }
 
     ensures fault { OnFault result (Rose (S.faults source.old) (S.faults source.new)) }
-    ensures fault_taken { OnFault result (TakesAtMost (S.left source.old) (S.left source.new) limit) }
+    ensures fault_taken { OnFault result
+        (TakesAtMost (S.left source.old) (S.left source.new) limit) }
     ensures no_memory { OnNoMemory result (source.new ≡ source.old) }
     ensures never_falls { S.faults source.old ≤ S.faults source.new }
 {

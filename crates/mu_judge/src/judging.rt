@@ -142,7 +142,8 @@ fn judge_trace<K: Sink>(alloc: Global, bytes: &[u8], sink: &mut K) -> Result<boo
 /// Those of `judge_trace`, which alone owns what is said: it is let go in one place so.
 fn print_verdict<K: Sink>(sink: &mut K, said: &Said) -> Result<bool, WriteFault>
     requires { IsShort said.now }
-    ensures whole { OnOk result (Appends (K.written sink.old) (K.written sink.new) (text said.now)) }
+    ensures whole { OnOk result
+        (Appends (K.written sink.old) (K.written sink.new) (text said.now)) }
     ensures legal { IfOk result (λ legal. legal ≡ is_legal_said said.now) }
     ensures part { IfErr result (λ fault.
         Appends (K.written sink.old) (K.written sink.new) (take fault.taken (text said.now))) }

@@ -28,7 +28,8 @@ WroteWords c r mine written =
     (j k : ℕ) → j < row_count c → k < 12 → slice_get written (j * 12 + k) ≡ Some (wrote r j k mine)
 
 -- the state stands for the events of r
-pub record StandsForHeldRows (c : Config) (r : ℕ) (mine : List Event) (state : HeldRows) : Type 0 where
+pub record StandsForHeldRows (c : Config) (r : ℕ) (mine : List Event)
+    (state : HeldRows) : Type 0 where
   pub written : WroteWords c r mine state.written.items
   pub got : HasWords c r mine state.got.items
   pub applied : state.applied ≡ length (applied c r mine)

@@ -48,7 +48,8 @@ pub record HoldsValues (c : Config) (values : List ℕ) (state : KnownLog) : Typ
   pub counts : CountsCommands c values state.counts.items
 
 -- the state stands for the events of r
-pub record StandsForKnownLog (c : Config) (r : ℕ) (mine : List Event) (state : KnownLog) : Type 0 where
+pub record StandsForKnownLog (c : Config) (r : ℕ) (mine : List Event)
+    (state : KnownLog) : Type 0 where
   pub values : HoldsValues c (known c r mine) state
   pub fuos : ReadsFuos r mine state.fuos
   pub positions : length state.seen.items ≡ row_count c + reserve c + 1

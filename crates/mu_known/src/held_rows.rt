@@ -94,7 +94,8 @@ impl HeldRows {
 
     /// Whether the replica has word `k` of the row of `v`.
     fn has_word(&self, v: usize, k: u8) -> bool
-        ensures { (c : Config) → (r : ℕ) → (mine : List Event) → v / 4096 < 7 → v % 4096 < row_count c
+        ensures { (c : Config) → (r : ℕ) → (mine : List Event) → v / 4096 < 7
+            → v % 4096 < row_count c
             → k < 12 → HasWords c r mine self.now.got.items → result ≡ has_word r v k mine }
     {
         match self.got.get(place(v, k)) {
@@ -107,7 +108,8 @@ impl HeldRows {
     /// so the last one is asked for first.
     #[tactic(auto, using(mu_model::proofs::Scans::all_more))]
     pub fn has_row(&self, v: usize) -> bool
-        ensures { (c : Config) → (r : ℕ) → (mine : List Event) → v / 4096 < 7 → v % 4096 < row_count c
+        ensures { (c : Config) → (r : ℕ) → (mine : List Event) → v / 4096 < 7
+            → v % 4096 < row_count c
             → HasWords c r mine self.now.got.items → result ≡ has_row r v mine }
     {
         self.has_word(v, LAST_WORD) && self.has_all_words(v)
@@ -116,7 +118,8 @@ impl HeldRows {
     /// The same, word by word.
     #[tactic(auto, using(mu_model::proofs::Scans::all_more))]
     fn has_all_words(&self, v: usize) -> bool
-        ensures { (c : Config) → (r : ℕ) → (mine : List Event) → v / 4096 < 7 → v % 4096 < row_count c
+        ensures { (c : Config) → (r : ℕ) → (mine : List Event) → v / 4096 < 7
+            → v % 4096 < row_count c
             → HasWords c r mine self.now.got.items → result ≡ has_row r v mine }
     {
         let mut all = true;
@@ -129,7 +132,8 @@ impl HeldRows {
     /// Whether the replica has `n` rows from that of `v` on.
     #[tactic(auto, using(mu_model::proofs::Scans::all_more))]
     fn has_rows(&self, v: u16, n: u16) -> bool
-        ensures { (c : Config) → (r : ℕ) → (mine : List Event) → v / 4096 < 7 → v % 4096 + n ≤ row_count c
+        ensures { (c : Config) → (r : ℕ) → (mine : List Event) → v / 4096 < 7
+            → v % 4096 + n ≤ row_count c
             → row_count c ≤ 1500 → HasWords c r mine self.now.got.items
             → result ≡ all_below n (λ t. has_row r (v + t) mine) }
     {
@@ -143,7 +147,8 @@ impl HeldRows {
     /// Whether the replica has all rows of the entry `v`.
     fn has_entry(&self, config: &Config, v: u16) -> bool
         ensures { (r : ℕ) → (mine : List Event) → IsConfig config.now
-            → HasWords config.now r mine self.now.got.items → result ≡ has_entry config.now r v mine }
+            → HasWords config.now r mine self.now.got.items
+            → result ≡ has_entry config.now r v mine }
     {
         !stands_for_batch(config, v) || self.has_rows(v, u16::from(row_rest(config, v % 4096)) + 1)
     }
@@ -167,7 +172,8 @@ impl HeldRows {
     /// Takes no memory. Each entry is passed once, so that a list of events costs no more than its
     /// length and the entries.
     pub fn take(&mut self, config: &Config, r: u8, known_after: &[u16], event: &Event)
-        ensures { (mine : List Event) → IsConfig config.now → IsPossible config.now r (event.now ∷ mine)
+        ensures { (mine : List Event) → IsConfig config.now
+            → IsPossible config.now r (event.now ∷ mine)
             → known_after.now ≡ known config.now r (event.now ∷ mine)
             → StandsForHeldRows config.now r mine self.old
             → StandsForHeldRows config.now r (event.now ∷ mine) self.new }
@@ -214,7 +220,8 @@ impl HeldRows {
 
     /// Whether the replica has written `n` of its rows from row `j` on.
     fn wrote_rows(&self, j: u16, n: u16) -> bool
-        ensures { (c : Config) → (r : ℕ) → (mine : List Event) → j + n ≤ row_count c → row_count c ≤ 1500
+        ensures { (c : Config) → (r : ℕ) → (mine : List Event) → j + n ≤ row_count c
+            → row_count c ≤ 1500
             → StandsForHeldRows c r mine self.now
             → result ≡ all_below n (λ t. all_below 12 (λ k. wrote r (j + t) k mine)) }
     {

@@ -92,7 +92,8 @@ fn push_value(values: &mut Vec<u16>, v: u16)
 
 /// Keeps the greater of the FUO of a region that the event of `r` reads and those before.
 fn note_fuo(fuos: &mut [u64; 7], r: u8, event: &Event)
-    ensures { (mine : List Event) → ReadsFuos r mine fuos.old → ReadsFuos r (event.now ∷ mine) fuos.new }
+    ensures { (mine : List Event) → ReadsFuos r mine fuos.old
+        → ReadsFuos r (event.now ∷ mine) fuos.new }
 {
     if let (Verb::Fuo(q), Answer::Number(x)) = (event.verb, event.answer) {
         let at = usize::from(q);
@@ -215,7 +216,8 @@ impl KnownLog {
     /// `r` doesn't know, `accepted` tells whether all members have taken it then, in a leadership
     /// that is not over. Takes no memory.
     pub fn take(&mut self, config: &Config, r: u8, accepted: bool, event: &Event)
-        ensures { (mine : List Event) → IsConfig config.now → IsPossible config.now r (event.now ∷ mine)
+        ensures { (mine : List Event) → IsConfig config.now
+            → IsPossible config.now r (event.now ∷ mine)
             → TellsAccepted config.now r (event.now ∷ mine) (length (known config.now r mine))
             event.now.verb accepted
             → StandsForKnownLog config.now r mine self.old

@@ -36,7 +36,8 @@ IsReached r mine p reach =
 
 -- what a leader keeps of regions and rows: up to where each has what is known, its FUO, the heads
 -- read last, and how many words of each own row are written
-pub record HoldsTables (c : Config) (r : ℕ) (mine : List Event) (up : List ℕ) (reach : List (Option ℕ)) (heads written : List ℕ) : Type 0 where
+pub record HoldsTables (c : Config) (r : ℕ) (mine : List Event) (up : List ℕ)
+    (reach : List (Option ℕ)) (heads written : List ℕ) : Type 0 where
   pub ups : length up ≡ 7
   pub reaches : length reach ≡ 7
   pub all_heads : length heads ≡ 7
@@ -76,7 +77,8 @@ HaveAtMost c r mine up u =
     (q : ℕ) → q < c.replicas → is_member r q mine ≡ true → get_or up q 0 ≤ u
 
 -- every member has what is known and no more, and its FUO
-pub record Level (c : Config) (r b : ℕ) (mine : List Event) (up : List ℕ) (reach : List (Option ℕ)) : Type 0 where
+pub record Level (c : Config) (r b : ℕ) (mine : List Event) (up : List ℕ)
+    (reach : List (Option ℕ)) : Type 0 where
   pub leads : Leads c r b mine
   pub have : HaveBelow r mine up c.replicas (end_of c r mine)
   pub raised : RaisedBelow r mine up reach c.replicas
@@ -94,7 +96,8 @@ abbrev pub IsMember : Config → ℕ → List Event → Option ℕ → Type 0
 IsMember c r mine None = Unit {0}
 IsMember c r mine (Some q) = (q < c.replicas) × (is_member r q mine ≡ true)
 
-pub record AtReadFuo (c : Config) (r b : ℕ) (mine : List Event) (up : List ℕ) (reach : List (Option ℕ)) (p : ℕ) (source : Option ℕ) : Type 0 where
+pub record AtReadFuo (c : Config) (r b : ℕ) (mine : List Event) (up : List ℕ)
+    (reach : List (Option ℕ)) (p : ℕ) (source : Option ℕ) : Type 0 where
   pub region : p < c.replicas
   pub member : is_member r p mine ≡ true
   pub leads : Leads c r b mine
@@ -102,7 +105,8 @@ pub record AtReadFuo (c : Config) (r b : ℕ) (mine : List Event) (up : List ℕ
   pub from : IsMember c r mine source
   pub few : HasMost r mine up p source
 
-pub record AtLearn (c : Config) (r b : ℕ) (mine : List Event) (up : List ℕ) (reach : List (Option ℕ)) (p : ℕ) : Type 0 where
+pub record AtLearn (c : Config) (r b : ℕ) (mine : List Event) (up : List ℕ)
+    (reach : List (Option ℕ)) (p : ℕ) : Type 0 where
   pub region : p < c.replicas
   pub member : is_member r p mine ≡ true
   pub leads : Leads c r b mine
@@ -127,7 +131,8 @@ HaveFew c r mine up then p =
     → (get_or up q 0 ≤ end_of c r mine) × (IsLeft then p q → get_or up q 0 < end_of c r mine)
 
 -- the member p is brought up
-pub record Behind (c : Config) (r b : ℕ) (mine : List Event) (up : List ℕ) (reach : List (Option ℕ)) (p : ℕ) (then : Then) : Type 0 where
+pub record Behind (c : Config) (r b : ℕ) (mine : List Event) (up : List ℕ) (reach : List (Option ℕ))
+    (p : ℕ) (then : Then) : Type 0 where
   pub region : p < c.replicas
   pub member : is_member r p mine ≡ true
   pub leads : Leads c r b mine
@@ -138,12 +143,14 @@ pub record Behind (c : Config) (r b : ℕ) (mine : List Event) (up : List ℕ) (
   pub few : HaveFew c r mine up then (p + 1)
 
 -- it lacks an entry
-pub record AtWiden (c : Config) (r b : ℕ) (mine : List Event) (up : List ℕ) (reach : List (Option ℕ)) (p : ℕ) (then : Then) : Type 0 where
+pub record AtWiden (c : Config) (r b : ℕ) (mine : List Event) (up : List ℕ)
+    (reach : List (Option ℕ)) (p : ℕ) (then : Then) : Type 0 where
   pub behind : Behind c r b mine up reach p then
   pub lacks : get_or up p 0 < end_of c r mine
 
 -- a FUO of p that was read or raised reaches what it lacks
-pub record Near (c : Config) (r b : ℕ) (mine : List Event) (up : List ℕ) (reach : List (Option ℕ)) (p : ℕ) (then : Then) : Type 0 where
+pub record Near (c : Config) (r b : ℕ) (mine : List Event) (up : List ℕ) (reach : List (Option ℕ))
+    (p : ℕ) (then : Then) : Type 0 where
   pub behind : Behind c r b mine up reach p then
   pub lacks : get_or up p 0 < end_of c r mine
   pub near : c.version ≡ 2 → is_within_ring (get_or up p 0) c.ring (get_or reach p None) ≡ true
@@ -154,49 +161,58 @@ looked_at c r p i mine =
     has (λ e. is_good_look (look_answer r p i e.by e.verb e.answer))
     (since (λ e. is_slot_put_at r p c.ring i e.by e.verb) (since_joining r p mine))
 
-pub record AtEnterBehind (c : Config) (r b : ℕ) (mine : List Event) (up : List ℕ) (reach : List (Option ℕ)) (p : ℕ) (then : Then) : Type 0 where
+pub record AtEnterBehind (c : Config) (r b : ℕ) (mine : List Event) (up : List ℕ)
+    (reach : List (Option ℕ)) (p : ℕ) (then : Then) : Type 0 where
   pub near : Near c r b mine up reach p then
   pub looked : looked_at c r p (get_or up p 0) mine ≡ true
 
-pub record AtPutBehind (c : Config) (r b : ℕ) (mine : List Event) (up : List ℕ) (reach : List (Option ℕ)) (p : ℕ) (then : Then) : Type 0 where
+pub record AtPutBehind (c : Config) (r b : ℕ) (mine : List Event) (up : List ℕ)
+    (reach : List (Option ℕ)) (p : ℕ) (then : Then) : Type 0 where
   pub near : Near c r b mine up reach p then
   pub entered : last_opened r p mine ≡ Some (Target.Place (get_or up p 0 % c.ring))
   pub under : IsEnteredNow r p mine
   pub looked : looked_before_entering c r p (get_or up p 0) mine ≡ true
 
 -- p has all that is known
-pub record AtRaiseBehind (c : Config) (r b : ℕ) (mine : List Event) (up : List ℕ) (reach : List (Option ℕ)) (p : ℕ) (then : Then) : Type 0 where
+pub record AtRaiseBehind (c : Config) (r b : ℕ) (mine : List Event) (up : List ℕ)
+    (reach : List (Option ℕ)) (p : ℕ) (then : Then) : Type 0 where
   pub behind : Behind c r b mine up reach p then
   pub done : get_or up p 0 ≡ end_of c r mine
 
 -- p is no member, and every member has what is known
-pub record Late (c : Config) (r b : ℕ) (mine : List Event) (up : List ℕ) (reach : List (Option ℕ)) (p : ℕ) : Type 0 where
+pub record Late (c : Config) (r b : ℕ) (mine : List Event) (up : List ℕ) (reach : List (Option ℕ))
+    (p : ℕ) : Type 0 where
   pub region : p < c.replicas
   pub stranger : is_member r p mine ≡ false
   pub level : Level c r b mine up reach
 
-pub record AtLateMin (c : Config) (r b : ℕ) (mine : List Event) (up : List ℕ) (reach : List (Option ℕ)) (p : ℕ) : Type 0 where
+pub record AtLateMin (c : Config) (r b : ℕ) (mine : List Event) (up : List ℕ)
+    (reach : List (Option ℕ)) (p : ℕ) : Type 0 where
   pub late : Late c r b mine up reach p
   pub granted : is_some (noted_grant r p mine) ≡ true
 
-pub record AtLateFuo (c : Config) (r b : ℕ) (mine : List Event) (up : List ℕ) (reach : List (Option ℕ)) (p : ℕ) : Type 0 where
+pub record AtLateFuo (c : Config) (r b : ℕ) (mine : List Event) (up : List ℕ)
+    (reach : List (Option ℕ)) (p : ℕ) : Type 0 where
   pub late : Late c r b mine up reach p
   pub granted : is_some (noted_grant r p mine) ≡ true
   pub told : has_read_min r p mine ≡ true
   pub low : last_min r p mine ≤ b
 
-pub record AtLateEnter (c : Config) (r b : ℕ) (mine : List Event) (up : List ℕ) (reach : List (Option ℕ)) (p : ℕ) : Type 0 where
+pub record AtLateEnter (c : Config) (r b : ℕ) (mine : List Event) (up : List ℕ)
+    (reach : List (Option ℕ)) (p : ℕ) : Type 0 where
   pub told : AtLateFuo c r b mine up reach p
   pub short : get_or up p 0 ≤ end_of c r mine
   pub raised : IsRaised up reach p
 
-pub record AtLatePut (c : Config) (r b : ℕ) (mine : List Event) (up : List ℕ) (reach : List (Option ℕ)) (p : ℕ) : Type 0 where
+pub record AtLatePut (c : Config) (r b : ℕ) (mine : List Event) (up : List ℕ)
+    (reach : List (Option ℕ)) (p : ℕ) : Type 0 where
   pub entering : AtLateEnter c r b mine up reach p
   pub entered : open_target r p mine ≡ Some Target.Min
   pub under : IsEnteredNow r p mine
 
 -- what was committed is raised at the members below p
-pub record AtRaise (c : Config) (r b : ℕ) (mine : List Event) (up : List ℕ) (reach : List (Option ℕ)) (p : ℕ) : Type 0 where
+pub record AtRaise (c : Config) (r b : ℕ) (mine : List Event) (up : List ℕ)
+    (reach : List (Option ℕ)) (p : ℕ) : Type 0 where
   pub region : p < c.replicas
   pub member : is_member r p mine ≡ true
   pub leads : Leads c r b mine

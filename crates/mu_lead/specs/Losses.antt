@@ -15,7 +15,8 @@ abbrev pub is_unlike : ℕ → ℕ → List Event → Fence → Bool
 is_unlike r p mine f = is_changed (Some (noted_grant r p mine)) f
 
 -- an `Enter` of p was lost by this fence, which is closing or has another grant than the noted one
-pub record LosesEntering (r : ℕ) (mine : List Event) (verb : Verb) (answer : Answer) (p : ℕ) (f : Fence) : Type 0 where
+pub record LosesEntering (r : ℕ) (mine : List Event) (verb : Verb) (answer : Answer) (p : ℕ)
+    (f : Fence) : Type 0 where
   pub target : Target
   pub entered : verb ≡ Verb.Enter p target
   pub lost : answer ≡ Answer.Lost f
@@ -23,7 +24,8 @@ pub record LosesEntering (r : ℕ) (mine : List Event) (verb : Verb) (answer : A
 
 -- this fence of p was read after a put there that missed, or it is that of a member; and it is
 -- closing or has another grant than the noted one
-pub record LosesReading (r : ℕ) (mine : List Event) (place : Place) (verb : Verb) (answer : Answer) (p : ℕ) (f : Fence) : Type 0 where
+pub record LosesReading (r : ℕ) (mine : List Event) (place : Place) (verb : Verb) (answer : Answer)
+    (p : ℕ) (f : Fence) : Type 0 where
   pub read : verb ≡ Verb.Fence p
   pub seen : answer ≡ Answer.Seen f
   pub unlike : is_unlike r p mine f ≡ true

@@ -40,7 +40,8 @@ MayBeMarked c r mine (Some q) = IsCandidate c r mine q
 
 -- some command isn't known, and the heads below q leave room, with the reserve where nobody is to
 -- be marked
-pub record Roomy (c : Config) (r : ℕ) (mine : List Event) (q : ℕ) (candidate : Option ℕ) : Type 0 where
+pub record Roomy (c : Config) (r : ℕ) (mine : List Event) (q : ℕ)
+    (candidate : Option ℕ) : Type 0 where
   pub within : end_of c r mine < row_count c + reserve c
   pub lacks : holds_all c (known c r mine) ≡ false
   pub room : (k : ℕ) → k < q → leaves_room c r mine (end_of c r mine) 0 k ≡ true
@@ -49,7 +50,8 @@ pub record Roomy (c : Config) (r : ℕ) (mine : List Event) (q : ℕ) (candidate
       → leaves_room c r mine (end_of c r mine) (reserve c) k ≡ true
   pub marks : MayBeMarked c r mine candidate
 
-pub record AtReadHead (c : Config) (r b : ℕ) (mine : List Event) (up : List ℕ) (reach : List (Option ℕ)) (q : ℕ) (candidate : Option ℕ) : Type 0 where
+pub record AtReadHead (c : Config) (r b : ℕ) (mine : List Event) (up : List ℕ)
+    (reach : List (Option ℕ)) (q : ℕ) (candidate : Option ℕ) : Type 0 where
   pub region : q < c.replicas
   pub unmarked : marked c q (known c r mine) ≡ false
   pub level : Level c r b mine up reach
@@ -103,13 +105,15 @@ entry_in (Some s) = Some (s.number, s.value)
 
 -- the members below p were looked at in the next position, and showed this entry of the largest
 -- number
-pub record Looking (c : Config) (r b : ℕ) (mine : List Event) (up : List ℕ) (reach : List (Option ℕ)) (p : ℕ) (candidate : Option ℕ) (best : Option Sight) : Type 0 where
+pub record Looking (c : Config) (r b : ℕ) (mine : List Event) (up : List ℕ)
+    (reach : List (Option ℕ)) (p : ℕ) (candidate : Option ℕ) (best : Option Sight) : Type 0 where
   pub level : Level c r b mine up reach
   pub roomy : Roomy c r mine c.replicas candidate
   pub looked : (q : ℕ) → q < p → is_member r q mine ≡ true → Looked c r (end_of c r mine) mine q
   pub shows : highest_accepted r (end_of c r mine) mine p ≡ entry_in best
 
-pub record AtLook (c : Config) (r b : ℕ) (mine : List Event) (up : List ℕ) (reach : List (Option ℕ)) (p i : ℕ) (candidate : Option ℕ) (best : Option Sight) : Type 0 where
+pub record AtLook (c : Config) (r b : ℕ) (mine : List Event) (up : List ℕ) (reach : List (Option ℕ))
+    (p i : ℕ) (candidate : Option ℕ) (best : Option Sight) : Type 0 where
   pub region : p < c.replicas
   pub member : is_member r p mine ≡ true
   pub position : i ≡ end_of c r mine
@@ -140,12 +144,14 @@ pub record IsNextBatch (c : Config) (r : ℕ) (mine : List Event) (j : ℕ) : Ty
 
 -- the value may be offered: it is picked, and a batch is fresh only where the heads leave the
 -- reserve
-pub record MayOffer (c : Config) (r : ℕ) (mine : List Event) (candidate : Option ℕ) (v : ℕ) : Type 0 where
+pub record MayOffer (c : Config) (r : ℕ) (mine : List Event) (candidate : Option ℕ)
+    (v : ℕ) : Type 0 where
   pub picked : may_pick_at c r mine (end_of c r mine) v ≡ true
   pub fresh : is_fresh_batch c r mine (end_of c r mine) v ≡ true → candidate ≡ None
 
 -- the rows of the own batch that begins with row first are written below row j
-pub record Writing (c : Config) (r b : ℕ) (mine : List Event) (up : List ℕ) (reach : List (Option ℕ)) (j last : ℕ) (offer : Offer) : Type 0 where
+pub record Writing (c : Config) (r b : ℕ) (mine : List Event) (up : List ℕ)
+    (reach : List (Option ℕ)) (j last : ℕ) (offer : Offer) : Type 0 where
   pub looking : Looking c r b mine up reach c.replicas None None
   pub first : ℕ
   pub value : offer.value ≡ r * 4096 + first
@@ -156,7 +162,8 @@ pub record Writing (c : Config) (r b : ℕ) (mine : List Event) (up : List ℕ) 
   pub to : j ≤ last + 1
   pub below : (k : ℕ) → first ≤ k → k < j → all_below 12 (λ w. wrote r k w mine) ≡ true
 
-pub record AtWrite (c : Config) (r b : ℕ) (mine : List Event) (up : List ℕ) (reach : List (Option ℕ)) (written : List ℕ) (j last : ℕ) (offer : Offer) : Type 0 where
+pub record AtWrite (c : Config) (r b : ℕ) (mine : List Event) (up : List ℕ)
+    (reach : List (Option ℕ)) (written : List ℕ) (j last : ℕ) (offer : Offer) : Type 0 where
   pub writing : Writing c r b mine up reach j last offer
   pub inside : j ≤ last
 
@@ -166,7 +173,8 @@ took r p i b v mine = has (lands_entry r p i b v) (leadership r mine)
 
 -- the value may be put at the next position of each member; the members below p took it, and no
 -- other region did
-pub record Offering (c : Config) (r b v : ℕ) (mine : List Event) (up : List ℕ) (reach : List (Option ℕ)) (p : ℕ) : Type 0 where
+pub record Offering (c : Config) (r b v : ℕ) (mine : List Event) (up : List ℕ)
+    (reach : List (Option ℕ)) (p : ℕ) : Type 0 where
   pub begun : has_begun r mine ≡ true
   pub goes_on : is_over r mine ≡ false
   pub numbered : proposal_number r mine ≡ Some b
@@ -181,7 +189,8 @@ pub record Offering (c : Config) (r b v : ℕ) (mine : List Event) (up : List �
   pub above : (q : ℕ) → p ≤ q → took r q (end_of c r mine) b v mine ≡ false
   pub unput : (i : ℕ) → end_of c r mine < i → first_value r i mine ≡ None
 
-pub record AtEnter (c : Config) (r b v : ℕ) (mine : List Event) (up : List ℕ) (reach : List (Option ℕ)) (p : ℕ) : Type 0 where
+pub record AtEnter (c : Config) (r b v : ℕ) (mine : List Event) (up : List ℕ)
+    (reach : List (Option ℕ)) (p : ℕ) : Type 0 where
   pub region : p < c.replicas
   pub member : is_member r p mine ≡ true
   pub offering : Offering c r b v mine up reach p
@@ -189,7 +198,8 @@ pub record AtEnter (c : Config) (r b v : ℕ) (mine : List Event) (up : List ℕ
       (q : ℕ) → p ≤ q → q < c.replicas → is_member r q mine ≡ true
       → looked_at c r q (end_of c r mine) mine ≡ true
 
-pub record AtPut (c : Config) (r b v : ℕ) (mine : List Event) (up : List ℕ) (reach : List (Option ℕ)) (p : ℕ) : Type 0 where
+pub record AtPut (c : Config) (r b v : ℕ) (mine : List Event) (up : List ℕ)
+    (reach : List (Option ℕ)) (p : ℕ) : Type 0 where
   pub entering : AtEnter c r b v mine up reach p
   pub entered : last_opened r p mine ≡ Some (Target.Place (end_of c r mine % c.ring))
   pub under : IsEnteredNow r p mine

@@ -164,7 +164,8 @@ abbrev pub NotesDue : Lead → List ℕ → Answer → Note → Type 0
 NotesDue old values answer note = NotesAt old values answer note old.place
 
 -- the answer just taken is the minimum m of the late follower p, above the own number
-pub record ShowsHigher (r : ℕ) (mine : List Event) (verb : Verb) (answer : Answer) (p m : ℕ) : Type 0 where
+pub record ShowsHigher (r : ℕ) (mine : List Event) (verb : Verb) (answer : Answer)
+    (p m : ℕ) : Type 0 where
   pub asked : verb ≡ Verb.Min p
   pub told : answer ≡ Answer.Number m
   pub above : is_above (proposal_number r mine) m ≡ true
@@ -177,7 +178,8 @@ pub record MayMark (c : Config) (r : ℕ) (mine : List Event) (q h : ℕ) : Type
 
 -- the answer just taken is the head h of q, which leaves no room at position i and may not be
 -- marked
-pub record ShowsNoRoom (c : Config) (r : ℕ) (mine : List Event) (verb : Verb) (answer : Answer) (q h i : ℕ) : Type 0 where
+pub record ShowsNoRoom (c : Config) (r : ℕ) (mine : List Event) (verb : Verb) (answer : Answer)
+    (q h i : ℕ) : Type 0 where
   pub asked : verb ≡ Verb.Head q
   pub told : answer ≡ Answer.Number h
   pub position : i ≡ end_of c r mine
@@ -193,7 +195,8 @@ EndsJoining c r mine up place answer p =
     ⊎ ((place ≡ Place.LatePut p) × (answer ≡ Answer.Done) × (end_of c r mine ≤ get_or up p 0))
 
 -- the look just taken taught the value v at position i
-pub record Teaches (c : Config) (r : ℕ) (mine : List Event) (verb : Verb) (answer : Answer) (i v : ℕ) : Type 0 where
+pub record Teaches (c : Config) (r : ℕ) (mine : List Event) (verb : Verb) (answer : Answer)
+    (i v : ℕ) : Type 0 where
   pub region : ℕ
   pub looked : verb ≡ Verb.Look region i
   pub position : i ≡ end_of c r mine
@@ -206,12 +209,14 @@ ends_round c (Place.Confirm round p) = p + 1 == c.replicas
 ends_round c place = false
 
 -- the round of fences that just ended named r, not closing, in exactly these regions
-pub record EndsRound (c : Config) (r : ℕ) (now : List Event) (place : Place) (regions : ℕ) : Type 0 where
+pub record EndsRound (c : Config) (r : ℕ) (now : List Event) (place : Place)
+    (regions : ℕ) : Type 0 where
   pub ends : ends_round c place ≡ true
   pub named : regions ≡ bits (λ p. is_some (noted_grant r p now))
 
 -- the put just taken made the value v at position i known
-pub record Commits (c : Config) (r : ℕ) (mine : List Event) (verb : Verb) (answer : Answer) (i v : ℕ) : Type 0 where
+pub record Commits (c : Config) (r : ℕ) (mine : List Event) (verb : Verb) (answer : Answer)
+    (i v : ℕ) : Type 0 where
   pub region : ℕ
   pub number : ℕ
   pub put : verb ≡ Verb.PutSlot region i number v
@@ -220,14 +225,16 @@ pub record Commits (c : Config) (r : ℕ) (mine : List Event) (verb : Verb) (ans
       known c r (record { by = r; verb = verb; answer = answer } ∷ mine) ≡ known c r mine ++ v ∷ []
 
 -- the notes of rounds come exactly where their rows hold
-pub record SaysRound (c : Config) (r : ℕ) (now : List Event) (place : Place) (note : Note) : Type 0 where
+pub record SaysRound (c : Config) (r : ℕ) (now : List Event) (place : Place)
+    (note : Note) : Type 0 where
   pub confirmed :
       (s : ℕ) → (note ≡ Note.Confirmed s) ↔ (EndsRound c r now place s × Confirmed c r now)
   pub not_confirmed :
       (s : ℕ) → (note ≡ Note.NotConfirmed s) ↔ (EndsRound c r now place s × (Confirmed c r now → ⊥))
 
 -- the notes of entries that a put made known do
-pub record SaysCommit (c : Config) (r : ℕ) (mine : List Event) (verb : Verb) (answer : Answer) (note : Note) : Type 0 where
+pub record SaysCommit (c : Config) (r : ℕ) (mine : List Event) (verb : Verb) (answer : Answer)
+    (note : Note) : Type 0 where
   pub committed :
       (i v : ℕ)
       → (note ≡ Note.Committed i v)
@@ -237,7 +244,8 @@ pub record SaysCommit (c : Config) (r : ℕ) (mine : List Event) (verb : Verb) (
       → (note ≡ Note.Adopted i v) ↔ (Commits c r mine verb answer i v × ShowsEntry c r mine i)
 
 -- the notes of what was read do, and of steps for late followers
-pub record SaysReads (c : Config) (r : ℕ) (mine : List Event) (up : List ℕ) (place : Place) (verb : Verb) (answer : Answer) (note : Note) : Type 0 where
+pub record SaysReads (c : Config) (r : ℕ) (mine : List Event) (up : List ℕ) (place : Place)
+    (verb : Verb) (answer : Answer) (note : Note) : Type 0 where
   pub higher :
       (p m : ℕ) → (note ≡ Note.Aborted (AbortCause.Higher p m)) ↔ ShowsHigher r mine verb answer p m
   pub no_room : (q h i : ℕ) → (note ≡ Note.NoRoom q h i) ↔ ShowsNoRoom c r mine verb answer q h i
@@ -246,7 +254,8 @@ pub record SaysReads (c : Config) (r : ℕ) (mine : List Event) (up : List ℕ) 
 
 -- each note comes exactly where its row holds: `Idle` where all commands are known and none of the
 -- others holds, `Working` where some command isn't, and `Resigned` never
-pub record Says (c : Config) (r : ℕ) (mine : List Event) (up : List ℕ) (place : Place) (verb : Verb) (answer : Answer) (note : Note) : Type 0 where
+pub record Says (c : Config) (r : ℕ) (mine : List Event) (up : List ℕ) (place : Place) (verb : Verb)
+    (answer : Answer) (note : Note) : Type 0 where
   pub rounds : SaysRound c r (record { by = r; verb = verb; answer = answer } ∷ mine) place note
   pub commits : SaysCommit c r mine verb answer note
   pub lost : SaysLost r mine place verb answer note

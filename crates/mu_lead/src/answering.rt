@@ -142,7 +142,8 @@ impl Lead {
 
     /// Takes the answer at this place.
     pub fn at_read_fuo(&mut self, p: u8, source: Option<u8>, answer: Answer, known: &[u16]) -> Note
-        ensures stands { Takes self.old (SomePlace.ReadFuo p source) known.now (SomeVerb.Fuo p) answer self.new }
+        ensures stands { Takes self.old (SomePlace.ReadFuo p source) known.now
+            (SomeVerb.Fuo p) answer self.new }
         ensures rooms { KeepsRooms self.old (SomePlace.ReadFuo p source) known.now (SomeVerb.Fuo p)
             answer self.new }
         ensures quiet { value_committed result ≡ None }
@@ -229,7 +230,8 @@ impl Lead {
 
     /// Takes the answer at this place.
     pub fn at_late_fence(&mut self, p: u8, answer: Answer, known: &[u16]) -> Note
-        ensures stands { Takes self.old (SomePlace.LateFence p) known.now (SomeVerb.Fence p) answer self.new }
+        ensures stands { Takes self.old (SomePlace.LateFence p) known.now
+            (SomeVerb.Fence p) answer self.new }
         ensures rooms { KeepsRooms self.old (SomePlace.LateFence p) known.now (SomeVerb.Fence p)
             answer self.new }
         ensures welcomed { (mine : List SomeEvent) → StandsFor mine self.old
@@ -277,7 +279,8 @@ impl Lead {
 
     /// Takes the answer at this place.
     pub fn at_late_fuo(&mut self, p: u8, answer: Answer, known: &[u16]) -> Note
-        ensures stands { Takes self.old (SomePlace.LateFuo p) known.now (SomeVerb.Fuo p) answer self.new }
+        ensures stands { Takes self.old (SomePlace.LateFuo p) known.now
+            (SomeVerb.Fuo p) answer self.new }
         ensures rooms { KeepsRooms self.old (SomePlace.LateFuo p) known.now (SomeVerb.Fuo p) answer
             self.new }
         ensures short { (u : ℕ) → answer ≡ SomeAnswer.Number u → u ≤ length known.now
@@ -319,7 +322,8 @@ impl Lead {
 
     /// Takes the answer at this place.
     pub fn at_late_put(&mut self, p: u8, answer: Answer, known: &[u16]) -> Note
-        ensures stands { Takes self.old (SomePlace.LatePut p) known.now (SomeVerb.PutMin p self.old.number)
+        ensures stands { Takes self.old (SomePlace.LatePut p) known.now
+            (SomeVerb.PutMin p self.old.number)
             answer self.new }
         ensures rooms { KeepsRooms self.old (SomePlace.LatePut p) known.now
             (SomeVerb.PutMin p self.old.number) answer self.new }

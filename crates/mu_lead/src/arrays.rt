@@ -20,7 +20,8 @@ fn farther(held: Option<u64>, u: u64) -> Option<u64>
     ensures ring { (i ring : ℕ)
         → is_within_ring i ring result
         ≡ (is_within_ring i ring (Some u) || is_within_ring i ring held) }
-    ensures head { (h : ℕ) → reaches_head h result ≡ (reaches_head h (Some u) || reaches_head h held) }
+    ensures head { (h : ℕ)
+        → reaches_head h result ≡ (reaches_head h (Some u) || reaches_head h held) }
 {
     match held {
         None => Some(u),

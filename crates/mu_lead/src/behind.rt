@@ -124,14 +124,16 @@ impl Lead {
 
     /// A look at the first unknown position.
     pub fn took_learning(&mut self, source: u8, answer: Answer, known: &[u16]) -> Note
-        ensures stands { (i : ℕ) → TakesLook self.old (SomePlace.Learn source) known.now source i answer self.new }
+        ensures stands { (i : ℕ)
+            → TakesLook self.old (SomePlace.Learn source) known.now source i answer self.new }
         ensures rooms { (i : ℕ)
             → KeepsLook self.old (SomePlace.Learn source) known.now source i answer self.new }
         ensures quiet { value_committed result ≡ None }
         ensures config { self.new.config ≡ self.old.config }
         ensures id { self.new.id ≡ self.old.id }
         ensures named { self.new.named ≡ self.old.named }
-        ensures note { length known.now < 65536 → result ≡ note_of_learning (length known.now) answer }
+        ensures note { length known.now < 65536
+            → result ≡ note_of_learning (length known.now) answer }
         ensures going { self.new.under_way ≡ going_after self.old.under_way result }
     {
         if is_past(answer) {

@@ -99,7 +99,8 @@ impl Lead {
         ensures config { self.new.config ≡ self.old.config }
         ensures id { self.new.id ≡ self.old.id }
         ensures named { self.new.named ≡ self.old.named }
-        ensures note { (mine : List SomeEvent) → StandsFor mine self.old → p < self.old.config.replicas
+        ensures note { (mine : List SomeEvent) → StandsFor mine self.old
+            → p < self.old.config.replicas
             → IsPossible self.old.config self.old.id
             (record { by = self.old.id; verb = SomeVerb.Fence p; answer = SomeAnswer.Seen fence }
             ∷ mine)

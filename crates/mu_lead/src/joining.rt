@@ -118,7 +118,8 @@ impl Lead {
 
     /// The FUO of the late follower `p`.
     pub fn took_late_fuo(&mut self, p: u8, u: u64, known: &[u16]) -> Note
-        ensures stands { Takes self.old (SomePlace.LateFuo p) known.now (SomeVerb.Fuo p) (SomeAnswer.Number u)
+        ensures stands { Takes self.old (SomePlace.LateFuo p) known.now (SomeVerb.Fuo p)
+            (SomeAnswer.Number u)
             self.new }
         ensures rooms { KeepsRooms self.old (SomePlace.LateFuo p) known.now (SomeVerb.Fuo p)
             (SomeAnswer.Number u) self.new }
@@ -169,7 +170,8 @@ impl Lead {
 
     /// The late follower `p` became a member.
     pub fn took_late_put(&mut self, p: u8, known: &[u16]) -> Note
-        ensures stands { Takes self.old (SomePlace.LatePut p) known.now (SomeVerb.PutMin p self.old.number)
+        ensures stands { Takes self.old (SomePlace.LatePut p) known.now
+            (SomeVerb.PutMin p self.old.number)
             SomeAnswer.Done self.new }
         ensures rooms { KeepsRooms self.old (SomePlace.LatePut p) known.now
             (SomeVerb.PutMin p self.old.number) SomeAnswer.Done self.new }

@@ -96,7 +96,8 @@ impl Lead {
         requires { StandsFor mine self.old }
         ensures stands { StandsFor mine self.new }
         ensures named { self.new.named ≡ (leader == self.old.id) }
-        ensures heeded { TellsFailed self.old.config self.old.id mine failed → HasHeeded mine self.new }
+        ensures heeded { TellsFailed self.old.config self.old.id mine failed
+            → HasHeeded mine self.new }
         ensures resigned { result
             ≡ (if self.old.under_way && nat_lt leader self.old.id then SomeNote.Resigned leader
             else SomeNote.Working) }
@@ -104,7 +105,8 @@ impl Lead {
         ensures id { self.new.id ≡ self.old.id }
         ensures due { nat_lt leader self.old.id ≡ false → (values : List ℕ)
             → verb_of self.new values ≡ verb_of self.old values }
-        ensures going { self.new.under_way ≡ (self.old.under_way && not (nat_lt leader self.old.id)) }
+        ensures going { self.new.under_way
+            ≡ (self.old.under_way && not (nat_lt leader self.old.id)) }
         ensures place { nat_lt leader self.old.id ≡ false → self.new.place ≡ self.old.place }
         ensures up { self.new.up ≡ self.old.up }
         ensures rooms { gives_up self.old leader ≡ false
@@ -170,7 +172,8 @@ impl Lead {
 
     /// The place of the ring that holds the position.
     pub fn place_of(&self, position: u64) -> Target
-        ensures { 0 < self.now.config.ring → result ≡ SomeTarget.Place (position % self.now.config.ring) }
+        ensures { 0 < self.now.config.ring
+            → result ≡ SomeTarget.Place (position % self.now.config.ring) }
     {
         if self.config.ring == 0 {
             Target::Place(0)
@@ -287,7 +290,8 @@ impl Lead {
         ensures id { self.new.id ≡ self.old.id }
         ensures named { self.new.named ≡ self.old.named }
         ensures says { SaysNext mine self.old known.now answer result }
-        ensures going { self.new.under_way ≡ going_after (begins_at self.old.place || self.old.under_way) result }
+        ensures going { self.new.under_way
+            ≡ going_after (begins_at self.old.place || self.old.under_way) result }
     {
         let note = self.take_answer(answer, known);
         if is_working(note) && knows_all(&self.config, known) {
@@ -311,7 +315,8 @@ impl Lead {
         ensures id { self.new.id ≡ self.old.id }
         ensures named { self.new.named ≡ self.old.named }
         ensures note { NotesDue self.old known.now answer result }
-        ensures going { self.new.under_way ≡ going_after (begins_at self.old.place || self.old.under_way) result }
+        ensures going { self.new.under_way
+            ≡ going_after (begins_at self.old.place || self.old.under_way) result }
     {
         match self.place {
             Place::Ask(p) => self.took_ask(p),

@@ -47,7 +47,8 @@ impl Lead {
 
     /// The enter of `p` was lost.
     fn lost(&mut self, p: u8, target: Target, fence: Fence) -> Note
-        ensures stands { TakesFrom self.old (SomeVerb.Enter p target) (SomeAnswer.Lost fence) self.new }
+        ensures stands { TakesFrom self.old (SomeVerb.Enter p target)
+            (SomeAnswer.Lost fence) self.new }
         ensures rooms { (mine : List SomeEvent)
             → LeavesRooms mine self.old (SomeVerb.Enter p target) (SomeAnswer.Lost fence) self.new }
         ensures tells { result ≡ SomeNote.Aborted (SomeCause.Lost p fence) }
@@ -70,7 +71,8 @@ impl Lead {
 
     /// The enter for the minimum of `p` was lost.
     pub fn lost_min(&mut self, p: u8, fence: Fence) -> Note
-        ensures stands { TakesFrom self.old (SomeVerb.Enter p SomeTarget.Min) (SomeAnswer.Lost fence) self.new }
+        ensures stands { TakesFrom self.old (SomeVerb.Enter p SomeTarget.Min)
+            (SomeAnswer.Lost fence) self.new }
         ensures rooms { (mine : List SomeEvent)
             → LeavesRooms mine self.old (SomeVerb.Enter p SomeTarget.Min) (SomeAnswer.Lost fence)
             self.new }

@@ -216,7 +216,8 @@ impl Lead {
         answer: Answer,
         known: &[u16],
     ) -> Note
-        ensures stands { TakesLook self.old (SomePlace.Look p position candidate best) known.now p position
+        ensures stands { TakesLook self.old
+            (SomePlace.Look p position candidate best) known.now p position
             answer self.new }
         ensures rooms { KeepsRooms self.old (SomePlace.Look p position candidate best) known.now
             (SomeVerb.Look p position) answer self.new }
@@ -435,7 +436,8 @@ impl Lead {
 
     /// The FUO of `p` was raised over what was committed.
     pub fn took_raise(&mut self, p: u8, known: &[u16]) -> Note
-        ensures stands { Takes self.old (SomePlace.Raise p) known.now (SomeVerb.RaiseFuo p (length known.now))
+        ensures stands { Takes self.old (SomePlace.Raise p) known.now
+            (SomeVerb.RaiseFuo p (length known.now))
             SomeAnswer.Done self.new }
         ensures rooms { KeepsRooms self.old (SomePlace.Raise p) known.now
             (SomeVerb.RaiseFuo p (length known.now)) SomeAnswer.Done self.new }

@@ -35,7 +35,8 @@ impl Lead {
     /// The first row from `first` to `last` that isn't written.
     fn next_unwritten(&self, first: u16, last: u16) -> Option<u16>
         ensures { last < 65535
-            → IsFirst (λ j. nat_lt (get_or self.now.written.items j 12) 12) first (last + 1) result }
+            → IsFirst (λ j. nat_lt (get_or self.now.written.items j 12) 12) first
+            (last + 1) result }
     {
         for j in first..last.saturating_add(1) {
             if self.next_word(j) < 12 {

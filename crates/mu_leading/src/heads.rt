@@ -30,7 +30,8 @@ pub struct Heads {
 
 /// The head of `q` that was read last, after the event.
 fn head_after(held: u64, r: u8, q: u8, event: &Event) -> u64
-    ensures { (mine : List Event) → held ≡ last_head r q mine → result ≡ last_head r q (event.now ∷ mine) }
+    ensures { (mine : List Event) → held ≡ last_head r q mine
+        → result ≡ last_head r q (event.now ∷ mine) }
 {
     match (event.verb, event.answer) {
         (Verb::Head(p), Answer::Number(x)) => { if event.by == r && p == q { x } else { held } }

@@ -29,7 +29,8 @@ pub struct Leadership {
 
 /// Whether a leadership has begun, after the event.
 fn begun_after(held: bool, r: u8, event: &Event) -> bool
-    ensures { (mine : List Event) → held ≡ has_begun r mine → result ≡ has_begun r (event.now ∷ mine) }
+    ensures { (mine : List Event) → held ≡ has_begun r mine
+        → result ≡ has_begun r (event.now ∷ mine) }
 {
     begins(r, event) || held
 }
@@ -210,7 +211,8 @@ impl Leadership {
 
     /// Whether the leadership is over after the event.
     fn over_after(&self, r: u8, event: &Event) -> bool
-        ensures { (mine : List Event) → ReadsWithin 7 event.now.verb → StandsForLeadership r mine self.now
+        ensures { (mine : List Event) → ReadsWithin 7 event.now.verb
+            → StandsForLeadership r mine self.now
             → result ≡ is_over r (event.now ∷ mine) }
     {
         !begins(r, event) && (self.is_ended_by(event) || self.over)
@@ -218,7 +220,8 @@ impl Leadership {
 
     /// Takes the next event of the replica, which it was allowed. Takes no memory.
     pub fn take(&mut self, r: u8, event: &Event)
-        ensures { (c : Config) → (mine : List Event) → c.replicas ≤ 7 → IsPossible c r (event.now ∷ mine)
+        ensures { (c : Config) → (mine : List Event) → c.replicas ≤ 7
+            → IsPossible c r (event.now ∷ mine)
             → StandsForLeadership r mine self.old
             → StandsForLeadership r (event.now ∷ mine) self.new }
     {
@@ -361,7 +364,8 @@ impl Leadership {
     /// Whether it may read the fence of `p`.
     pub fn may_read_fence(&self, n: u8, p: u8) -> bool
         ensures { (c : Config) → (r : ℕ) → (mine : List Event) → n ≡ c.replicas
-            → StandsForLeadership r mine self.now → (IsTrue result ↔ Needs c r mine (Verb.Fence p)) }
+            → StandsForLeadership r mine self.now
+            → (IsTrue result ↔ Needs c r mine (Verb.Fence p)) }
     {
         p < n && self.begun
     }
@@ -387,7 +391,8 @@ impl Leadership {
     /// Whether it may enter the region `p` with the target.
     pub fn may_enter(&self, n: u8, ring: u16, p: u8, target: Target) -> bool
         requires { n ≤ 7 }
-        ensures { (c : Config) → (r : ℕ) → (mine : List Event) → n ≡ c.replicas → ring ≡ c.ring → r < 7
+        ensures { (c : Config) → (r : ℕ) → (mine : List Event) → n ≡ c.replicas → ring ≡ c.ring
+            → r < 7
             → StandsForLeadership r mine self.now
             → (IsTrue result ↔ Needs c r mine (Verb.Enter p target)) }
     {

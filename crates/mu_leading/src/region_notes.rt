@@ -143,7 +143,8 @@ fn opened_after(held: Option<Target>, r: u8, p: u8, event: &Event) -> Option<Tar
 
 /// The minimum of `p` that `r` read last, after the event.
 fn minimum_after(held: u64, r: u8, p: u8, event: &Event) -> u64
-    ensures { (mine : List Event) → held ≡ or_zero (newest (λ e. min_read r p e.by e.verb e.answer) mine)
+    ensures { (mine : List Event)
+        → held ≡ or_zero (newest (λ e. min_read r p e.by e.verb e.answer) mine)
         → result ≡ or_zero (newest (λ e. min_read r p e.by e.verb e.answer) (event.now ∷ mine)) }
 {
     match (event.verb, event.answer) {

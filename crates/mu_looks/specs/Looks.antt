@@ -119,7 +119,8 @@ HoldsOwnReach r mine reach =
     ≡ reaches_head h reach
 
 -- what r has looked at and put at p
-pub record StandsForRegionLooks (c : Config) (r p : ℕ) (mine : List Event) (state : RegionLooks) : Type 0 where
+pub record StandsForRegionLooks (c : Config) (r p : ℕ) (mine : List Event)
+    (state : RegionLooks) : Type 0 where
   pub region : state.region ≡ p
   pub member_since : state.member_since ≡ member_time r p mine
   pub entered_at : state.entered_at ≡ enter_time r p mine

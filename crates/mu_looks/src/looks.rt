@@ -59,7 +59,8 @@ fn begun_after(held: u32, r: u8, now: u32, event: &Event) -> u32
 
 /// Whether a region becomes a member by the event.
 fn joins(before: &Leadership, r: u8, event: &Event) -> bool
-    ensures { (c : Config) → (mine : List Event) → c.replicas ≤ 7 → IsPossible c r (event.now ∷ mine)
+    ensures { (c : Config) → (mine : List Event) → c.replicas ≤ 7
+        → IsPossible c r (event.now ∷ mine)
         → StandsForLeadership r mine before.now
         → result ≡ is_joining r mine event.now.by event.now.verb event.now.answer }
 {
@@ -81,7 +82,8 @@ fn joined_after(held: u32, joins: bool, r: u8, now: u32, event: &Event) -> u32
 
 /// The FUO of the own region that reaches farthest, after the event.
 fn own_reach_after(held: Option<u64>, r: u8, event: &Event) -> Option<u64>
-    ensures { (mine : List Event) → HoldsOwnReach r mine held → HoldsOwnReach r (event.now ∷ mine) result }
+    ensures { (mine : List Event) → HoldsOwnReach r mine held
+        → HoldsOwnReach r (event.now ∷ mine) result }
 {
     match (event.verb, event.answer) {
         (Verb::Fuo(q), Answer::Number(x)) => {
@@ -131,7 +133,8 @@ fn note_first(firsts: &mut [First], begun_at: u32, r: u8, now: u32, event: &Even
 /// Takes the event at each region.
 fn take_at_each(regions: &mut [RegionLooks], r: u8, now: u32, event: &Event)
     ensures { (c : Config) → (mine : List Event) → 0 < c.ring → now ≡ length mine + 1
-        → HoldsEachRegion c r mine regions.old → HoldsEachRegion c r (event.now ∷ mine) regions.new }
+        → HoldsEachRegion c r mine regions.old
+        → HoldsEachRegion c r (event.now ∷ mine) regions.new }
 {
     for looks in regions.iter_mut() {
         looks.take(r, now, event);
@@ -225,7 +228,8 @@ impl Looks {
 
     /// Whether the leadership read or raised a FUO of `p` within a ring of position `i`.
     pub fn is_within_ring(&self, p: u8, ring: u16, i: u16) -> bool
-        ensures { (c : Config) → (r : ℕ) → (mine : List Event) → p < 7 → StandsForLooks c r mine self.now
+        ensures { (c : Config) → (r : ℕ) → (mine : List Event) → p < 7
+            → StandsForLooks c r mine self.now
             → result
             ≡ has (λ e. is_within_ring i ring (fuo_read_or_raised r p e.by e.verb e.answer))
             (leadership r mine) }
@@ -239,7 +243,8 @@ impl Looks {
     /// Whether the replica read or raised a FUO of its own region of at least `h`.
     pub fn reaches_head(&self, h: u16) -> bool
         ensures { (c : Config) → (r : ℕ) → (mine : List Event) → StandsForLooks c r mine self.now
-            → result ≡ has (λ e. reaches_head h (fuo_read_or_raised r r e.by e.verb e.answer)) mine }
+            → result ≡ has
+            (λ e. reaches_head h (fuo_read_or_raised r r e.by e.verb e.answer)) mine }
     {
         reaches_to(self.own_reach, h)
     }
@@ -366,7 +371,8 @@ impl Looks {
     pub fn have_looked(&self, n: u8, leading: &Leadership, i: u16) -> bool
         ensures { (c : Config) → (r : ℕ) → (mine : List Event) → n ≤ 7 → i ≤ row_count c + reserve c
             → StandsForLeadership r mine leading.now → StandsForLooks c r mine self.now
-            → result ≡ all_below n (λ p. not (is_member r p mine) || is_some (last_look r p i mine)) }
+            → result ≡ all_below n
+            (λ p. not (is_member r p mine) || is_some (last_look r p i mine)) }
     {
         let mut all = true;
         for p in 0..n {

@@ -53,7 +53,8 @@ pub fn farther(held: Option<u64>, x: u64) -> Option<u64>
     ensures ring { (i ring : ℕ)
         → is_within_ring i ring result
         ≡ (is_within_ring i ring (Some x) || is_within_ring i ring held) }
-    ensures head { (h : ℕ) → reaches_head h result ≡ (reaches_head h (Some x) || reaches_head h held) }
+    ensures head { (h : ℕ)
+        → reaches_head h result ≡ (reaches_head h (Some x) || reaches_head h held) }
 {
     match held {
         None => Some(x),
@@ -63,7 +64,8 @@ pub fn farther(held: Option<u64>, x: u64) -> Option<u64>
 
 /// The FUO of `p` that reaches farthest, after the event.
 fn reach_after(held: Option<u64>, r: u8, p: u8, event: &Event) -> Option<u64>
-    ensures { (mine : List Event) → HoldsReach r p mine held → HoldsReach r p (event.now ∷ mine) result }
+    ensures { (mine : List Event) → HoldsReach r p mine held
+        → HoldsReach r p (event.now ∷ mine) result }
 {
     match (event.verb, event.answer) {
         (Verb::Ask(q), _) => { if event.by == r && q == 0 { None } else { held } }
@@ -116,7 +118,8 @@ fn entered_after(held: u32, r: u8, p: u8, now: u32, event: &Event) -> u32
 
 /// Notes the time of a put at `p` in its place.
 fn note_put(puts: &mut [u32], r: u8, p: u8, now: u32, event: &Event)
-    ensures { (mine : List Event) → now ≡ length mine + 1 → HoldsPuts (length puts.old) r p mine puts.old
+    ensures { (mine : List Event) → now ≡ length mine + 1
+        → HoldsPuts (length puts.old) r p mine puts.old
         → HoldsPuts (length puts.old) r p (event.now ∷ mine) puts.new }
 {
     if let Verb::PutSlot(q, i, _, _) = event.verb {
@@ -224,7 +227,8 @@ impl RegionLooks {
     /// Nothing done at `region`. Takes memory for the places and the positions.
     pub fn none(alloc: Global, region: u8, config: &Config) -> Result<RegionLooks, NoMemory>
         requires { row_count config.now ≤ 1500 }
-        ensures { IfOk result (λ looks. (r : ℕ) → StandsForRegionLooks config.now r region [] looks) }
+        ensures { IfOk result
+            (λ looks. (r : ℕ) → StandsForRegionLooks config.now r region [] looks) }
     {
         Ok(RegionLooks {
             region,

@@ -118,7 +118,8 @@ pub record AsksWithCause (c : Config) (r : ℕ) (past : List Event) : Type 0 whe
 abbrev pub is_confirmed : Config → ℕ → List Event → Bool
 is_confirmed c r past =
     is_some (noted_grant r r past)
-    && nat_le (majority_of c.replicas) (count_below c.replicas (λ p. is_some (noted_grant r p past)))
+    && nat_le (majority_of c.replicas)
+    (count_below c.replicas (λ p. is_some (noted_grant r p past)))
 
 -- confirmation: who is confirmed reads a minimum within as many replication events as there are
 -- replicas

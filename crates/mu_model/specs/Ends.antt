@@ -85,7 +85,8 @@ EndsBy c script r past (End.Finished heads) =
     × ((q : ℕ) → q < 7 → slice_index heads q ≡ head_known r past q)
 
 -- the journal has an end, and no shorter beginning of it has one
-pub record Obeys (c : Config) (script : Script) (r : ℕ) (past : List Event) (end : End) : Type 0 where
+pub record Obeys (c : Config) (script : Script) (r : ℕ) (past : List Event)
+    (end : End) : Type 0 where
   pub ends : EndsBy c script r past end
   pub first :
       (newer older : List Event) (other : End) → past ≡ newer ++ older → newer ≢ []

@@ -17,7 +17,10 @@ impl Model for Journal {
 
     ghost Value = { Record };
 
-    ghost view = { λ j. record { events = j.events.items; room = vec_capacity j.events - vec_len j.events } };
+    ghost view = { λ j. record {
+      events = j.events.items;
+      room = vec_capacity j.events - vec_len j.events;
+    } };
 }
 
 impl Journal {

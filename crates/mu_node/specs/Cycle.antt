@@ -58,7 +58,8 @@ IsBackgroundDue c r mine leading due = IsDueAt c r mine leading (place_now c min
 
 -- the verb that is made: what the leader has due in a turn of its own, and what the cycle has due
 -- in another, and a beat exactly where nothing is due
-pub record IsMade (c : Config) (r : ℕ) (mine : List Event) (lead : Lead) (verb : Verb) : Type 0 where
+pub record IsMade (c : Config) (r : ℕ) (mine : List Event) (lead : Lead)
+    (verb : Verb) : Type 0 where
   pub replication : is_odd (length mine) ≡ true → verb ≡ verb_or_beat (lead_due c r mine lead)
   pub background :
       is_odd (length mine) ≡ false

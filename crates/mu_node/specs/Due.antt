@@ -17,7 +17,8 @@ verb_or_beat None = Verb.Beat
 verb_or_beat (Some verb) = verb
 
 -- r may make the verb, and it is not of the leader
-pub record MayBeside (c : Config) (r : ℕ) (mine : List Event) (lead : Lead) (verb : Verb) : Type 0 where
+pub record MayBeside (c : Config) (r : ℕ) (mine : List Event) (lead : Lead)
+    (verb : Verb) : Type 0 where
   pub allowed : Allowed c r mine verb
   pub beside : is_beside (leads_at lead.place) verb ≡ true
 

@@ -20,7 +20,8 @@ use Rattle.mu_pace.specs.Counters.{AtEachStep}
 
 -- its journal is these events, its parts but the leader stand for them, with what is said of the
 -- replayer, and there is room for what is left
-pub record HoldsWith (Follows : Follow → Type 0) (c : Config) (r : ℕ) (mine : List Event) (node : Node) : Type 0 where
+pub record HoldsWith (Follows : Follow → Type 0) (c : Config) (r : ℕ) (mine : List Event)
+    (node : Node) : Type 0 where
   pub id : node.id ≡ r
   pub replicas : node.replicas ≡ c.replicas
   pub budget : node.budget ≡ c.budget
@@ -50,7 +51,8 @@ pub record StandsForLead (c : Config) (r : ℕ) (mine : List Event) (lead : Lead
 
 -- the node stands for the events, with its leader, which leads only where it may; it has handed on
 -- so many entries, called the places of its cycle in their order, and made each event as it was due
-pub record HoldsNode (c : Config) (r : ℕ) (mine : List Event) (count : ℕ) (may : Bool) (node : Node) : Type 0 where
+pub record HoldsNode (c : Config) (r : ℕ) (mine : List Event) (count : ℕ) (may : Bool)
+    (node : Node) : Type 0 where
   pub beside : HoldsBeside c r mine node
   pub lead : StandsForLead c r mine node.lead
   pub handed : node.follow.progress.handed ≡ count
@@ -60,7 +62,8 @@ pub record HoldsNode (c : Config) (r : ℕ) (mine : List Event) (count : ℕ) (m
 
 -- the node stands for the events
 abbrev pub StandsForNode : Config → ℕ → List Event → Node → Type 0
-StandsForNode c r mine node = HoldsNode c r mine (handed_before c r mine) (may_lead_before c r mine) node
+StandsForNode c r mine node = HoldsNode c r mine (handed_before c r mine)
+    (may_lead_before c r mine) node
 
 -- the same once the next step is planned, before which what is there is handed on
 abbrev pub HasPlanned : Config → ℕ → List Event → Node → Type 0

@@ -89,7 +89,8 @@ pub record TellsNote (c : Config) (r : ℕ) (mine : List Event) (lead : Lead) (a
 
 -- a step of r: its event comes to the part, it is the verb that was due or a beat, and the note
 -- tells of it
-pub record HasMade (c : Config) (r : ℕ) (mine now : List Event) (lead : Lead) (note : Note) : Type 0 where
+pub record HasMade (c : Config) (r : ℕ) (mine now : List Event) (lead : Lead)
+    (note : Note) : Type 0 where
   pub verb : Verb
   pub answer : Answer
   pub part : now ≡ (record { by = r; verb = verb; answer = answer }) ∷ mine
@@ -104,7 +105,8 @@ TellsTurn c r mine now lead (Turn.Ended end) = Unit {0}
 -- whether a leadership is under way after a turn with this note: as before it in a background turn;
 -- in one of the leader as it was told where nothing was due, else as the verb began it and the note
 -- ends it
-pub record MovesGoing (c : Config) (r : ℕ) (mine : List Event) (lead next : Lead) (note : Note) : Type 0 where
+pub record MovesGoing (c : Config) (r : ℕ) (mine : List Event) (lead next : Lead)
+    (note : Note) : Type 0 where
   pub background : is_odd (length mine) ≡ false → next.under_way ≡ lead.under_way
   pub idle :
       is_odd (length mine) ≡ true → lead_due c r mine lead ≡ None

@@ -16,7 +16,8 @@ use Rattle.mu_node.specs.declared.result.NodeResult.{NodeResult}
 use Rattle.mu_node.specs.declared.turn.Turn.{Turn}
 
 -- one step of r: its part and the list that is told get its event
-pub record IsOneStep (c : Config) (r : ℕ) (mine now : List Event) (before after : Option (List Event)) : Type 0 where
+pub record IsOneStep (c : Config) (r : ℕ) (mine now : List Event)
+    (before after : Option (List Event)) : Type 0 where
   pub verb : Verb
   pub answer : Answer
   pub part : now ≡ (record { by = r; verb = verb; answer = answer }) ∷ mine

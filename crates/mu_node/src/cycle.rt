@@ -48,17 +48,20 @@ impl Node {
     /// there is handed on.
     pub(crate) fn background(&mut self) -> Option<Verb>
         requires config { IsConfig self.old.follow.config }
-        ensures stands { (c : Config) → (r : ℕ) → (mine : List SomeEvent) → is_odd (length mine) ≡ false
+        ensures stands { (c : Config) → (r : ℕ) → (mine : List SomeEvent)
+            → is_odd (length mine) ≡ false
             → StandsForNode c r mine self.old → HasPlanned c r mine self.new }
         ensures lead { self.new.lead ≡ self.old.lead }
         ensures config { self.new.follow.config ≡ self.old.follow.config }
         ensures id { self.new.id ≡ self.old.id }
         ensures stops { self.new.stops ≡ self.old.stops }
         ensures due { (c : Config) → (r : ℕ) → (mine : List SomeEvent) → IsPossible c r mine
-            → length mine < c.budget → is_odd (length mine) ≡ false → StandsForNode c r mine self.old
+            → length mine < c.budget → is_odd (length mine) ≡ false
+            → StandsForNode c r mine self.old
             → IsBackgroundDue c r mine (leads_at self.old.lead.place) result }
         ensures may { (c : Config) → (r : ℕ) → (mine : List SomeEvent) → IsPossible c r mine
-            → length mine < c.budget → is_odd (length mine) ≡ false → StandsForNode c r mine self.old
+            → length mine < c.budget → is_odd (length mine) ≡ false
+            → StandsForNode c r mine self.old
             → IfSome result (λ verb. MayBeside c r mine self.old.lead verb) }
     {
         let place = self.place();
@@ -79,7 +82,8 @@ impl Node {
     /// Hands on what is there, before the head is raised.
     fn hand_on(&mut self, place: u8)
         requires config { IsConfig self.old.follow.config }
-        ensures stands { (c : Config) → (r : ℕ) → (mine : List SomeEvent) → is_odd (length mine) ≡ false
+        ensures stands { (c : Config) → (r : ℕ) → (mine : List SomeEvent)
+            → is_odd (length mine) ≡ false
             → place ≡ place_now c mine → StandsForNode c r mine self.old
             → HasPlanned c r mine self.new }
         ensures lead { self.new.lead ≡ self.old.lead }

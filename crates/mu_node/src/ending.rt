@@ -41,7 +41,8 @@ fn reaches(head: Option<u64>, full: usize) -> bool
 
 /// Whether the other replica has applied so many entries, or is held to be failed.
 fn is_done(follow: &Follow, watch: &Watch, r: u8, q: u8, full: usize) -> bool
-    ensures { (c : Config) → (mine : List Event) → q < c.replicas → StandsForWatch c r mine watch.now
+    ensures { (c : Config) → (mine : List Event) → q < c.replicas
+        → StandsForWatch c r mine watch.now
         → StandsForFollow c r mine follow.now
         → result ≡ ((q == r) || (is_at_least full (head_heard r q mine) || is_failed r q mine)) }
 {
@@ -54,7 +55,8 @@ fn is_done(follow: &Follow, watch: &Watch, r: u8, q: u8, full: usize) -> bool
 /// Whether all others have applied so many entries, or are held to be failed.
 #[inline(never)]
 fn are_done(follow: &Follow, watch: &Watch, r: u8, n: u8, full: usize) -> bool
-    ensures { (c : Config) → (mine : List Event) → n ≡ c.replicas → StandsForWatch c r mine watch.now
+    ensures { (c : Config) → (mine : List Event) → n ≡ c.replicas
+        → StandsForWatch c r mine watch.now
         → StandsForFollow c r mine follow.now
         → result
         ≡ all_below n
@@ -69,7 +71,8 @@ fn are_done(follow: &Follow, watch: &Watch, r: u8, n: u8, full: usize) -> bool
 
 /// Whether the replica has applied all commands, and so have the others, or are held to be failed.
 pub(crate) fn is_finished(follow: &Follow, watch: &Watch, r: u8, n: u8) -> bool
-    ensures { (c : Config) → (mine : List Event) → n ≡ c.replicas → StandsForWatch c r mine watch.now
+    ensures { (c : Config) → (mine : List Event) → n ≡ c.replicas
+        → StandsForWatch c r mine watch.now
         → StandsForFollow c r mine follow.now → result ≡ is_finished_of c r mine }
 {
     match follow.full_count() {
@@ -120,11 +123,13 @@ pub(crate) fn heads_known(follow: &Follow, r: u8) -> [u16; 7]
 
 /// The end of a journal that neither the script nor the budget ends.
 pub(crate) fn end_of_going(follow: &Follow, watch: &Watch, r: u8, n: u8) -> Option<End>
-    ensures some { (c : Config) → (script : Script) → (mine : List Event) → (end : SomeEnd) → n ≡ c.replicas
+    ensures some { (c : Config) → (script : Script) → (mine : List Event) → (end : SomeEnd)
+        → n ≡ c.replicas
         → IsConfig c → IsPossible c r mine → StandsForWatch c r mine watch.now
         → StandsForFollow c r mine follow.now → IsGoing c script r mine → result ≡ Some end
         → EndsBy c script r mine end }
-    ensures none { (c : Config) → (mine : List Event) → n ≡ c.replicas → StandsForWatch c r mine watch.now
+    ensures none { (c : Config) → (mine : List Event) → n ≡ c.replicas
+        → StandsForWatch c r mine watch.now
         → StandsForFollow c r mine follow.now → result ≡ None
         → (outrun c r mine ≡ None) × (is_finished_of c r mine ≡ false) }
 {

@@ -74,7 +74,8 @@ fn first_of(values: &[u16], count: usize) -> &[u16]
 
 /// Adds the values, where there is room, as there is for all.
 fn fill_log(log: &mut Vec<u16>, values: &[u16])
-    ensures { log.old.items ≡ [] → length values.now ≤ vec_capacity log.old → log.new.items ≡ values.now }
+    ensures { log.old.items ≡ [] → length values.now ≤ vec_capacity log.old
+        → log.new.items ≡ values.now }
 {
     for value in values {
         if log.len() < log.capacity() {
@@ -167,8 +168,10 @@ impl Node {
     /// One turn: one step through the port, or none where the journal has an end. Takes no memory.
     pub fn turn<P: Port>(&mut self, port: &mut P) -> Turn
         requires config { IsConfig (P.config port.old) }
-        requires stands { StandsForNode (P.config port.old) (P.number port.old) (P.part port.old) self.old }
-        ensures stands { StandsForNode (P.config port.new) (P.number port.new) (P.part port.new) self.new }
+        requires stands { StandsForNode (P.config port.old) (P.number port.old)
+            (P.part port.old) self.old }
+        ensures stands { StandsForNode (P.config port.new) (P.number port.new)
+            (P.part port.new) self.new }
         ensures same { P.same port.old port.new }
         ensures stops { self.new.stops ≡ self.old.stops }
         ensures possible { IsPossible (P.config port.new) (P.number port.new) (P.part port.new) }
@@ -201,15 +204,19 @@ impl Node {
         requires config { IsConfig (P.config port.old) }
         requires possible { IsPossible (P.config port.old) (P.number port.old) (P.part port.old) }
         requires left { length (P.part port.old) < (P.config port.old).budget }
-        requires stands { StandsForNode (P.config port.old) (P.number port.old) (P.part port.old) self.old }
+        requires stands { StandsForNode (P.config port.old) (P.number port.old)
+            (P.part port.old) self.old }
         requires going { outrun (P.config port.old) (P.number port.old) (P.part port.old) ≡ None }
-        ensures stands { StandsForNode (P.config port.new) (P.number port.new) (P.part port.new) self.new }
+        ensures stands { StandsForNode (P.config port.new) (P.number port.new)
+            (P.part port.new) self.new }
         ensures same { P.same port.old port.new }
         ensures stops { self.new.stops ≡ self.old.stops }
         ensures possible { IsPossible (P.config port.new) (P.number port.new) (P.part port.new) }
-        ensures step { IsOneStep (P.config port.old) (P.number port.old) (P.part port.old) (P.part port.new)
+        ensures step { IsOneStep (P.config port.old) (P.number port.old) (P.part port.old)
+            (P.part port.new)
             (P.whole port.old) (P.whole port.new) }
-        ensures made { HasMade (P.config port.old) (P.number port.old) (P.part port.old) (P.part port.new)
+        ensures made { HasMade (P.config port.old) (P.number port.old) (P.part port.old)
+            (P.part port.new)
             self.old.lead result }
         ensures going { MovesGoing (P.config port.old) (P.number port.old) (P.part port.old)
             self.old.lead self.new.lead result }
@@ -222,7 +229,8 @@ impl Node {
 
     /// What the replica leaves. Takes no memory.
     pub fn into_result(self) -> NodeResult
-        ensures is { (c : Config) → (r : ℕ) → (mine : List SomeEvent) → IsConfig c → IsPossible c r mine
+        ensures is { (c : Config) → (r : ℕ) → (mine : List SomeEvent) → IsConfig c
+            → IsPossible c r mine
             → StandsForNode c r mine self → IsResult c r mine result }
         ensures end { (c : Config) → (script : Script) → (r : ℕ) → (mine : List SomeEvent)
             → script.stops ≡ self.stops.items → IsConfig c → IsPossible c r mine

@@ -88,8 +88,10 @@ impl Node {
         ensures config { self.new.follow.config ≡ self.old.follow.config }
         ensures id { self.new.id ≡ self.old.id }
         ensures stops { self.new.stops ≡ self.old.stops }
-        ensures allowed { Allowed self.old.follow.config self.old.id mine (verb_or_beat result.due) }
-        ensures fits { FitsLead self.old.follow.config self.old.id mine self.new.lead result.leads result.due }
+        ensures allowed { Allowed self.old.follow.config self.old.id mine
+            (verb_or_beat result.due) }
+        ensures fits { FitsLead self.old.follow.config self.old.id mine self.new.lead result.leads
+            result.due }
         ensures leads { result.leads ≡ is_odd (length mine) }
         ensures led { is_odd (length mine) ≡ true
             → result.due ≡ lead_due self.old.follow.config self.old.id mine self.old.lead }
@@ -121,13 +123,16 @@ impl Node {
         ensures config { self.new.follow.config ≡ self.old.follow.config }
         ensures id { self.new.id ≡ self.old.id }
         ensures stops { self.new.stops ≡ self.old.stops }
-        ensures allowed { Allowed self.old.follow.config self.old.id mine (verb_or_beat result.due) }
-        ensures fits { FitsLead self.old.follow.config self.old.id mine self.new.lead true result.due }
+        ensures allowed { Allowed self.old.follow.config self.old.id mine
+            (verb_or_beat result.due) }
+        ensures fits { FitsLead self.old.follow.config self.old.id mine self.new.lead true
+            result.due }
         ensures leads { result.leads ≡ true }
         ensures named { leads_at self.new.lead.place ≡ true
             → is_named self.old.follow.config self.old.id mine ≡ true }
         ensures led { result.due ≡ lead_due self.old.follow.config self.old.id mine self.old.lead }
-        ensures heeded { result.heeded ≡ heed_note self.old.follow.config self.old.id mine self.old.lead }
+        ensures heeded { result.heeded
+            ≡ heed_note self.old.follow.config self.old.id mine self.old.lead }
         ensures told { HasTold self.old.follow.config self.old.id mine self.old.lead self.new.lead }
     {
         let heeded = self.heed();
@@ -151,8 +156,10 @@ impl Node {
         ensures config { self.new.follow.config ≡ self.old.follow.config }
         ensures id { self.new.id ≡ self.old.id }
         ensures stops { self.new.stops ≡ self.old.stops }
-        ensures allowed { Allowed self.old.follow.config self.old.id mine (verb_or_beat result.due) }
-        ensures fits { FitsLead self.old.follow.config self.old.id mine self.new.lead false result.due }
+        ensures allowed { Allowed self.old.follow.config self.old.id mine
+            (verb_or_beat result.due) }
+        ensures fits { FitsLead self.old.follow.config self.old.id mine self.new.lead false
+            result.due }
         ensures leads { result.leads ≡ false }
         ensures cycle { IsBackgroundDue self.old.follow.config self.old.id mine
             (leads_at self.old.lead.place) result.due }
@@ -174,7 +181,8 @@ impl Node {
         ensures follow { self.new.follow ≡ self.old.follow }
         ensures id { self.new.id ≡ self.old.id }
         ensures stops { self.new.stops ≡ self.old.stops }
-        ensures named { self.new.lead.named ≡ (leader self.old.follow.config self.old.id mine == self.old.id) }
+        ensures named { self.new.lead.named
+            ≡ (leader self.old.follow.config self.old.id mine == self.old.id) }
         ensures heeded { HasHeeded mine self.new.lead }
         ensures leads { leads_at self.new.lead.place ≡ true
             → is_named self.old.follow.config self.old.id mine ≡ true }
@@ -251,7 +259,8 @@ impl Node {
         requires id { id ≡ self.old.id }
         requires config { IsConfig self.old.follow.config }
         requires room { 0 < self.old.journal.room }
-        requires fits { FitsLead self.old.follow.config self.old.id mine self.old.lead plan.leads plan.due }
+        requires fits { FitsLead self.old.follow.config self.old.id mine self.old.lead plan.leads
+            plan.due }
         requires planned { HasPlanned self.old.follow.config self.old.id mine self.old }
         ensures stands { FollowsTurn self.old.follow.config id mine
             (record { by = id; verb = verb_or_beat plan.due; answer = answer })
@@ -260,7 +269,8 @@ impl Node {
             → StandsForNode self.old.follow.config id
             (record { by = id; verb = verb_or_beat plan.due; answer = answer } ∷ mine) self.new }
         ensures stops { self.new.stops ≡ self.old.stops }
-        ensures note { TellsTook self.old.follow.config id mine plan.leads plan.due plan.heeded answer
+        ensures note { TellsTook self.old.follow.config id mine plan.leads plan.due plan.heeded
+            answer
             result }
         ensures says { SaysTook self.old.follow.config id mine plan.leads plan.due plan.heeded
             self.old.lead self.new.lead answer result }
@@ -286,7 +296,8 @@ impl Node {
     fn note_other(&mut self, by: u8, verb: Verb, answer: Answer)
         requires config { IsConfig self.old.follow.config }
         requires room { 0 < self.old.journal.room }
-        ensures stands { (mine : List SomeEvent) → is_beside (leads_at self.old.lead.place) verb ≡ true
+        ensures stands { (mine : List SomeEvent)
+            → is_beside (leads_at self.old.lead.place) verb ≡ true
             → FollowsTurn self.old.follow.config by mine
             (record { by = by; verb = verb; answer = answer })
             → IsPossible self.old.follow.config by
@@ -316,7 +327,8 @@ impl Node {
             → StandsForNode self.old.follow.config by
             (record { by = by; verb = verb; answer = answer } ∷ mine) self.new }
         ensures stops { self.new.stops ≡ self.old.stops }
-        ensures note { TellsTook self.old.follow.config by mine true (Some verb) heeded answer result }
+        ensures note { TellsTook self.old.follow.config by mine true
+            (Some verb) heeded answer result }
         ensures says { SaysTook self.old.follow.config by mine true (Some verb) heeded self.old.lead
             self.new.lead answer result }
     {

@@ -103,7 +103,8 @@ impl Watch {
 
     /// Whom the scores name leader.
     pub fn leader(&self) -> u8
-        ensures { (c : Config) → (r : ℕ) → (mine : List SomeEvent) → StandsForWatch c r mine self.now
+        ensures { (c : Config) → (r : ℕ) → (mine : List SomeEvent)
+            → StandsForWatch c r mine self.now
             → result ≡ leader_of c r mine }
     {
         self.named
@@ -111,7 +112,8 @@ impl Watch {
 
     /// Whom they hold to be failed: bit q for replica q.
     pub fn failed(&self) -> u8
-        ensures { (c : Config) → (r : ℕ) → (mine : List SomeEvent) → StandsForWatch c r mine self.now
+        ensures { (c : Config) → (r : ℕ) → (mine : List SomeEvent)
+            → StandsForWatch c r mine self.now
             → TellsFailed c r mine result }
     {
         self.failed

@@ -90,7 +90,8 @@ fn reaches(r: u8, h: u16, e: &Event) -> bool
 /// Whether `r` read or raised an own FUO of at least `h`.
 pub fn has_reached(r: u8, h: u16, part: &[Event]) -> bool
     ensures { result
-        ≡ has (λ e. reaches_head h (fuo_read_or_raised r r e.by e.verb e.answer)) (history part.now) }
+        ≡ has (λ e. reaches_head h (fuo_read_or_raised r r e.by e.verb e.answer))
+        (history part.now) }
 {
     let mut reached = false;
     for e in part {

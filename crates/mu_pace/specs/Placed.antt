@@ -64,7 +64,8 @@ Levels c r t u past e =
     ⊎ ((p : ℕ) → is_member r p (e ∷ past) ≡ true → is_brought_up c r p (e ∷ past) ≡ true)
 
 -- a step that nothing pays for
-pub record TakesStep (c : Config) (r : ℕ) (s : Sizes) (t u : Stage) (past : List Event) (e : Event) : Type 0 where
+pub record TakesStep (c : Config) (r : ℕ) (s : Sizes) (t u : Stage) (past : List Event)
+    (e : Event) : Type 0 where
   pub turn : is_replication past e ≡ true
   pub edge : GoesOn s t u
   pub place : IsPlace s u
@@ -75,7 +76,8 @@ pub record TakesStep (c : Config) (r : ℕ) (s : Sizes) (t u : Stage) (past : Li
   pub levels : Levels c r t u past e
 
 -- a step that learns or copies an entry
-pub record TakesCopy (c : Config) (r : ℕ) (s : Sizes) (t u : Stage) (past : List Event) (e : Event) : Type 0 where
+pub record TakesCopy (c : Config) (r : ℕ) (s : Sizes) (t u : Stage) (past : List Event)
+    (e : Event) : Type 0 where
   pub turn : is_replication past e ≡ true
   pub edge : Copies s t u
   pub place : IsPlace s u
@@ -88,7 +90,8 @@ pub record TakesCopy (c : Config) (r : ℕ) (s : Sizes) (t u : Stage) (past : Li
       → is_brought_up c r p (e ∷ past) ≡ true
 
 -- a step by which a region becomes a member
-pub record TakesJoin (c : Config) (r : ℕ) (s : Sizes) (t u : Stage) (past : List Event) (e : Event) : Type 0 where
+pub record TakesJoin (c : Config) (r : ℕ) (s : Sizes) (t u : Stage) (past : List Event)
+    (e : Event) : Type 0 where
   pub turn : is_replication past e ≡ true
   pub edge : Joins s t u
   pub place : IsPlace (joined s) u
@@ -100,7 +103,8 @@ pub record TakesJoin (c : Config) (r : ℕ) (s : Sizes) (t u : Stage) (past : Li
       → is_brought_up c r p (e ∷ past) ≡ true
 
 -- a commit, or a lagging head: progress from one level place to another
-pub record TakesMilestone (c : Config) (r : ℕ) (s : Sizes) (t u : Stage) (past : List Event) (e : Event) : Type 0 where
+pub record TakesMilestone (c : Config) (r : ℕ) (s : Sizes) (t u : Stage) (past : List Event)
+    (e : Event) : Type 0 where
   pub turn : is_replication past e ≡ true
   pub place : IsPlace s u
   pub milestone : is_milestone c r past e ≡ true
@@ -112,7 +116,8 @@ pub record TakesMilestone (c : Config) (r : ℕ) (s : Sizes) (t u : Stage) (past
   pub to_level : is_level u ≡ true
 
 -- a step when every command is known: the late followers are gone through again
-pub record TakesKnown (c : Config) (r : ℕ) (s : Sizes) (t u : Stage) (past : List Event) (e : Event) : Type 0 where
+pub record TakesKnown (c : Config) (r : ℕ) (s : Sizes) (t u : Stage) (past : List Event)
+    (e : Event) : Type 0 where
   pub turn : is_replication past e ≡ true
   pub known : knows_all c r past ≡ true
   pub place : IsPlace s u
@@ -124,7 +129,8 @@ pub record TakesKnown (c : Config) (r : ℕ) (s : Sizes) (t u : Stage) (past : L
   pub levels : Levels c r t u past e
 
 -- the same by which a region becomes a member
-pub record TakesLastJoin (c : Config) (r : ℕ) (s : Sizes) (t u : Stage) (past : List Event) (e : Event) : Type 0 where
+pub record TakesLastJoin (c : Config) (r : ℕ) (s : Sizes) (t u : Stage) (past : List Event)
+    (e : Event) : Type 0 where
   pub turn : is_replication past e ≡ true
   pub known : knows_all c r past ≡ true
   pub place : IsPlace (joined s) u
@@ -135,7 +141,8 @@ pub record TakesLastJoin (c : Config) (r : ℕ) (s : Sizes) (t u : Stage) (past 
   pub levels : (p : ℕ) → is_member r p (e ∷ past) ≡ true → is_brought_up c r p (e ∷ past) ≡ true
 
 -- the first `Min` of a leadership
-pub record TakesFirst (c : Config) (r : ℕ) (s : Sizes) (u : Stage) (past : List Event) (e : Event) : Type 0 where
+pub record TakesFirst (c : Config) (r : ℕ) (s : Sizes) (u : Stage) (past : List Event)
+    (e : Event) : Type 0 where
   pub turn : is_replication past e ≡ true
   pub place : IsPlace s u
   pub sizes : FitsSizes c r s (e ∷ past)

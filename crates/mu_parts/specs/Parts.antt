@@ -16,7 +16,8 @@ use Rattle.mu_leading.specs.Leadership.{StandsForLeadership}
 use Rattle.mu_looks.specs.Looks.{StandsForLooks}
 
 -- the state of replica r stands for its events
-pub record StandsForReplica (c : Config) (r : ℕ) (mine : List Event) (state : Replica) : Type 0 where
+pub record StandsForReplica (c : Config) (r : ℕ) (mine : List Event)
+    (state : Replica) : Type 0 where
   pub replica : state.replica ≡ r
   pub steps : state.steps ≡ length mine
   pub leadership : StandsForLeadership r mine state.leadership

@@ -223,7 +223,8 @@ impl Replica {
 
     /// Whether, in version 2, a FUO of `p` and the ring reach above `i`.
     fn is_in_reach(&self, config: &Config, p: u8, i: u16) -> bool
-        ensures { (r : ℕ) → (mine : List Event) → p < 7 → StandsForReplica config.now r mine self.now
+        ensures { (r : ℕ) → (mine : List Event) → p < 7
+            → StandsForReplica config.now r mine self.now
             → (IsTrue result
             ↔ (config.now.version ≡ 2
             → has
@@ -254,7 +255,8 @@ impl Replica {
     /// Whether it has entered `p` with the place of `i`, and looked at `i` before.
     fn has_entered(&self, config: &Config, p: u8, i: u16) -> bool
         requires { IsConfig config.now }
-        ensures { (r : ℕ) → (mine : List Event) → p < 7 → i ≤ row_count config.now + reserve config.now
+        ensures { (r : ℕ) → (mine : List Event) → p < 7
+            → i ≤ row_count config.now + reserve config.now
             → StandsForReplica config.now r mine self.now
             → (IsTrue result
             ↔ ((last_opened r p mine ≡ Some (SomeTarget.Place (i % config.now.ring)))

@@ -51,7 +51,8 @@ abbrev pub end_of : List Event → ℕ → ℕ
 end_of events last = min (last + 1) (length events)
 
 -- the picture of the steps `from` one to the `last` of a run, where they are there
-pub record IsPictureOf (c : Config) (script : Script) (events : List Event) (from last : ℕ) (picture : Picture) : Type 0 where
+pub record IsPictureOf (c : Config) (script : Script) (events : List Event) (from last : ℕ)
+    (picture : Picture) : Type 0 where
   pub end : picture.end ≡ end_of events last
   pub first : picture.first ≡ min from (end_of events last)
   pub openings :

@@ -41,7 +41,8 @@ LooksTooEarly past (Verb.Look p i) = length (region_log p past) ≤ i
 LooksTooEarly past _ = ⊥
 
 -- each of four answers to r after the history comes exactly where it has its cause
-pub record HasCauses (c : Config) (r : ℕ) (past : List Event) (verb : Verb) (answer : Answer) : Type 0 where
+pub record HasCauses (c : Config) (r : ℕ) (past : List Event) (verb : Verb)
+    (answer : Answer) : Type 0 where
   pub lost : (f : Fence) → (answer ≡ Answer.Lost f) ↔ EntersAtOtherFence r past verb f
   pub missed : (answer ≡ Answer.Missed) ↔ PutsAfterDrain r past verb
   pub overwritten : (answer ≡ Answer.Past) ↔ LooksTooLate c past verb

@@ -21,7 +21,8 @@ FitsTold c r mine (Some events) = IsPartOf c r mine events
 
 -- a step of r after the list: its event is at the end of the next list, and its answer is what
 -- the list before makes it
-pub record IsStep (c : Config) (r : ℕ) (events : List Event) (after : Option (List Event)) (verb : Verb)
+pub record IsStep (c : Config) (r : ℕ) (events : List Event) (after : Option (List Event))
+    (verb : Verb)
     (answer : Answer) : Type 0 where
   pub list : after ≡ Some (events ++ (record { by = r; verb = verb; answer = answer }) ∷ [])
   pub answer_is : answer ≡ answer_of c r (history events) verb

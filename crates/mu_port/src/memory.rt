@@ -74,7 +74,11 @@ impl<M: Memory> Model for MemoryPort<M> {
 
     ghost Value = { Held };
 
-    ghost view = { λ p. record { replica = p.by; config = M.config p.memory; events = M.events p.memory } };
+    ghost view = { λ p. record {
+      replica = p.by;
+      config = M.config p.memory;
+      events = M.events p.memory;
+    } };
 
     ghost invariant = { λ p. IsHeld p.by (M.config p.memory) (M.events p.memory) };
 }

@@ -31,17 +31,20 @@ pub trait Port {
     fn id(&self) -> u8
         ensures number { result ≡ number self.now }
         ensures possible { IsPossible (config self.now) (number self.now) (part self.now) }
-        ensures fits { FitsTold (config self.now) (number self.now) (part self.now) (whole self.now) };
+        ensures fits { FitsTold (config self.now) (number self.now) (part self.now)
+            (whole self.now) };
 
     /// Makes a step that is allowed after the part. Takes no memory, and does not wait.
     fn step(&mut self, verb: Verb) -> Answer
         requires { Allowed (config self.old) (number self.old) (part self.old) verb }
         ensures part { part self.new
             ≡ (record { by = number self.old; verb = verb; answer = result }) ∷ part self.old }
-        ensures told { Tells (config self.old) (number self.old) (whole self.old) (whole self.new) verb result }
+        ensures told { Tells (config self.old) (number self.old) (whole self.old)
+            (whole self.new) verb result }
         ensures same { same self.old self.new }
         ensures possible { IsPossible (config self.new) (number self.new) (part self.new) }
-        ensures fits { FitsTold (config self.new) (number self.new) (part self.new) (whole self.new) };
+        ensures fits { FitsTold (config self.new) (number self.new) (part self.new)
+            (whole self.new) };
 
     ghost same_refl: { (x : Self) → same x x };
 

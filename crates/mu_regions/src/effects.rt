@@ -47,7 +47,8 @@ pub fn fence_after(held: Fence, p: u8, event: &Event) -> Fence
 
 /// The minimum of `p` after the event.
 pub fn minimum_after(held: u32, p: u8, event: &Event) -> u32
-    ensures { (past : List Event) → held ≡ region_min p past → result ≡ region_min p (event.now ∷ past) }
+    ensures { (past : List Event) → held ≡ region_min p past
+        → result ≡ region_min p (event.now ∷ past) }
 {
     match (event.verb, event.answer) {
         (Verb::PutMin(q, b), Answer::Done) => { if q == p { b } else { held } }
@@ -57,7 +58,8 @@ pub fn minimum_after(held: u32, p: u8, event: &Event) -> u32
 
 /// The FUO of `p` after the event.
 pub fn fuo_after(held: u16, p: u8, event: &Event) -> u16
-    ensures { (past : List Event) → held ≡ region_fuo p past → result ≡ region_fuo p (event.now ∷ past) }
+    ensures { (past : List Event) → held ≡ region_fuo p past
+        → result ≡ region_fuo p (event.now ∷ past) }
 {
     match event.verb {
         Verb::RaiseFuo(q, u) => { if q == p { u.max(held) } else { held } }
@@ -67,7 +69,8 @@ pub fn fuo_after(held: u16, p: u8, event: &Event) -> u16
 
 /// The head of `p` after the event.
 pub fn head_after(held: u16, p: u8, event: &Event) -> u16
-    ensures { (past : List Event) → held ≡ region_head p past → result ≡ region_head p (event.now ∷ past) }
+    ensures { (past : List Event) → held ≡ region_head p past
+        → result ≡ region_head p (event.now ∷ past) }
 {
     match event.verb {
         Verb::RaiseHead(h) => { if event.by == p { h.max(held) } else { held } }
@@ -196,7 +199,8 @@ pub fn note_drain(drained: &mut [bool; 7], p: u8, event: &Event)
 
 /// Writes into the rows of `p` the word that the event writes.
 pub fn note_word(words: &mut [u64], p: u8, event: &Event)
-    ensures { (c : Config) → IsNear c event.now.verb → (past : List Event) → HoldsRows c p past words.old
+    ensures { (c : Config) → IsNear c event.now.verb → (past : List Event)
+        → HoldsRows c p past words.old
         → HoldsRows c p (event.now ∷ past) words.new }
 {
     if let Verb::WriteRow(row, word, x) = event.verb {

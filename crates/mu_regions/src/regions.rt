@@ -87,7 +87,8 @@ impl Regions {
     /// that
     /// `by` and all that the verb names are there. Takes no memory.
     pub fn answer(&self, by: u8, verb: &Verb) -> Answer
-        ensures { (c : Config) → (past : List Event) → InRange c by verb.now → Stands c past self.now
+        ensures { (c : Config) → (past : List Event) → InRange c by verb.now
+            → Stands c past self.now
             → result ≡ answer_of c by past verb.now }
     {
         match self.regions.get(usize::from(region_read(by, verb))) {
@@ -99,7 +100,8 @@ impl Regions {
     /// Takes the next event of the history that the state stands for, whatever it answers, on
     /// condition that its position, row and word are there. Takes no memory.
     pub fn take(&mut self, event: &Event)
-        ensures { (c : Config) → (past : List Event) → length past < 2 ^ 20 → IsNear c event.now.verb
+        ensures { (c : Config) → (past : List Event) → length past < 2 ^ 20
+            → IsNear c event.now.verb
             → Stands c past self.old → Stands c (event.now ∷ past) self.new }
     {
         if is_first(&event.verb) {

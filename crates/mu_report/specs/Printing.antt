@@ -8,7 +8,8 @@ use Rattle.mu_report.specs.declared.line.TheConstants.{LINE_BYTES}
 
 -- The sink held `before` and counted `low` faults, and now `after` and `high`. All of these lines
 -- were printed: `start` bytes had been before, and now there are `to`.
-pub record PrintsAll (before after : Option (List ℕ)) (low high start : ℕ) (lines : List (List ℕ)) (to : ℕ) : Type 0 where
+pub record PrintsAll (before after : Option (List ℕ)) (low high start : ℕ) (lines : List (List ℕ))
+    (to : ℕ) : Type 0 where
   pub appended : Appends before after (ended lines)
   pub same_faults : high ≡ low
   pub count : to ≡ start + length (ended lines)
@@ -16,7 +17,8 @@ pub record PrintsAll (before after : Option (List ℕ)) (low high start : ℕ) (
 
 -- Printing these lines came to a fault: `to` bytes had been taken by then, with the `start` from
 -- before, and the last line wasn't whole.
-pub record PrintsPart (before after : Option (List ℕ)) (low high start : ℕ) (lines : List (List ℕ)) (to : ℕ) : Type 0 where
+pub record PrintsPart (before after : Option (List ℕ)) (low high start : ℕ) (lines : List (List ℕ))
+    (to : ℕ) : Type 0 where
   pub taken : ℕ
   pub appended : Appends before after (take taken (ended lines))
   pub count : to ≡ start + taken

@@ -92,7 +92,8 @@ fn print_each_order<K: Sink>(
     ensures all { IfOk result (PrintsAll (K.written sink.old) (K.written sink.new)
         (K.faults sink.old) (K.faults sink.new) taken (map resting_line_of orders.now)) }
     ensures part { IfErr result (λ fault. PrintsPart (K.written sink.old) (K.written sink.new)
-        (K.faults sink.old) (K.faults sink.new) taken (map resting_line_of orders.now) fault.taken) }
+        (K.faults sink.old) (K.faults sink.new) taken
+        (map resting_line_of orders.now) fault.taken) }
 {
     let mut total = taken;
     for order in orders {

@@ -60,7 +60,8 @@ fn print_reader<K: Sink>(
     ensures all { IfOk result (PrintsAll (K.written sink.old) (K.written sink.new)
         (K.faults sink.old) (K.faults sink.new) taken (reader_lines reader sights.now)) }
     ensures part { IfErr result (λ fault. PrintsPart (K.written sink.old) (K.written sink.new)
-        (K.faults sink.old) (K.faults sink.new) taken (reader_lines reader sights.now) fault.taken) }
+        (K.faults sink.old) (K.faults sink.new) taken
+        (reader_lines reader sights.now) fault.taken) }
 {
     let headed = print_line(sink, taken, reader_line(reader, sights.len()))?;
     print_sights(sink, headed, last_of(sights))
@@ -90,7 +91,8 @@ fn last_of(sights: &[Sight]) -> &[Sight]
 
 /// How many sights a reader had.
 fn reader_line(reader: usize, sights: usize) -> Line
-    ensures bytes { result ≡ codes "reader " ++ decimal reader ++ codes " sights " ++ decimal sights }
+    ensures bytes { result ≡ codes "reader " ++ decimal reader ++ codes " sights "
+        ++ decimal sights }
     ensures room { length result < LINE_BYTES }
 {
     let mut line = Line::new();

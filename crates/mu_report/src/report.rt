@@ -74,7 +74,8 @@ fn print_logs<K: Sink>(
     ensures all { IfOk result (PrintsAll (K.written sink.old) (K.written sink.new)
         (K.faults sink.old) (K.faults sink.new) taken (logs_lines outcome.now 0 replicas)) }
     ensures part { IfErr result (λ fault. PrintsPart (K.written sink.old) (K.written sink.new)
-        (K.faults sink.old) (K.faults sink.new) taken (logs_lines outcome.now 0 replicas) fault.taken) }
+        (K.faults sink.old) (K.faults sink.new) taken
+        (logs_lines outcome.now 0 replicas) fault.taken) }
 {
     let mut total = taken;
     for replica in 0..replicas {
@@ -132,7 +133,8 @@ fn print_entry<K: Sink>(
     ensures all { IfOk result (PrintsAll (K.written sink.old) (K.written sink.new)
         (K.faults sink.old) (K.faults sink.new) taken (lines_of_entry job.now position value)) }
     ensures part { IfErr result (λ fault. PrintsPart (K.written sink.old) (K.written sink.new)
-        (K.faults sink.old) (K.faults sink.new) taken (lines_of_entry job.now position value) fault.taken) }
+        (K.faults sink.old) (K.faults sink.new) taken
+        (lines_of_entry job.now position value) fault.taken) }
 {
     if stands_for_mark(&job.config, gone_in(value), value) {
         print_line(sink, taken, gone_line(position, gone_in(value)))
@@ -171,7 +173,8 @@ fn print_commands<K: Sink>(
     ensures all { IfOk result (PrintsAll (K.written sink.old) (K.written sink.new)
         (K.faults sink.old) (K.faults sink.new) taken (map (entry_line_of position) commands.now)) }
     ensures part { IfErr result (λ fault. PrintsPart (K.written sink.old) (K.written sink.new)
-        (K.faults sink.old) (K.faults sink.new) taken (map (entry_line_of position) commands.now) fault.taken) }
+        (K.faults sink.old) (K.faults sink.new) taken
+        (map (entry_line_of position) commands.now) fault.taken) }
 {
     let mut total = taken;
     for command in commands {
@@ -237,7 +240,8 @@ fn print_answered<K: Sink>(
     ensures all { IfOk result (PrintsAll (K.written sink.old) (K.written sink.new)
         (K.faults sink.old) (K.faults sink.new) taken (answer_lines commands.now replies.now)) }
     ensures part { IfErr result (λ fault. PrintsPart (K.written sink.old) (K.written sink.new)
-        (K.faults sink.old) (K.faults sink.new) taken (answer_lines commands.now replies.now) fault.taken) }
+        (K.faults sink.old) (K.faults sink.new) taken
+        (answer_lines commands.now replies.now) fault.taken) }
 {
     let mut total = taken;
     for index in 0..commands.len().min(replies.len()) {

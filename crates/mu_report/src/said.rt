@@ -65,7 +65,8 @@ pub enum Said {
 /// taken.
 pub fn print<K: Sink>(sink: &mut K, said: &Said) -> Result<(), WriteFault>
     requires { IsShort said.now }
-    ensures whole { OnOk result (Appends (K.written sink.old) (K.written sink.new) (text said.now)) }
+    ensures whole { OnOk result
+        (Appends (K.written sink.old) (K.written sink.new) (text said.now)) }
     ensures same_faults { OnOk result (K.faults sink.new ≡ K.faults sink.old) }
     ensures part { IfErr result (λ fault.
         Appends (K.written sink.old) (K.written sink.new) (take fault.taken (text said.now))) }
@@ -84,7 +85,8 @@ pub fn print<K: Sink>(sink: &mut K, said: &Said) -> Result<(), WriteFault>
 /// Those of [`print`].
 pub fn printed<K: Sink>(sink: &mut K, said: &Said) -> Result<usize, WriteFault>
     requires { IsShort said.now }
-    ensures whole { OnOk result (Appends (K.written sink.old) (K.written sink.new) (text said.now)) }
+    ensures whole { OnOk result
+        (Appends (K.written sink.old) (K.written sink.new) (text said.now)) }
     ensures count { IfOk result (λ count. count ≡ length (text said.now)) }
     ensures same_faults { OnOk result (K.faults sink.new ≡ K.faults sink.old) }
     ensures part { IfErr result (λ fault.
@@ -126,7 +128,8 @@ fn print_said<K: Sink>(sink: &mut K, said: &Said) -> Result<usize, WriteFault>
 
 /// The line for an input that isn't in the grammar.
 fn refusal(number: u32, cause: u8) -> Line
-    ensures bytes { result ≡ codes "refused line " ++ decimal number ++ codes " cause " ++ decimal cause }
+    ensures bytes { result ≡ codes "refused line " ++ decimal number ++ codes " cause "
+        ++ decimal cause }
     ensures room { length result < LINE_BYTES }
 {
     let mut line = Line::new();

@@ -53,7 +53,8 @@ pub fn print_heads<K: Sink>(
     ensures all { IfOk result (PrintsAll (K.written sink.old) (K.written sink.new)
         (K.faults sink.old) (K.faults sink.new) taken (head_lines outcome.now 0 replicas)) }
     ensures part { IfErr result (λ fault. PrintsPart (K.written sink.old) (K.written sink.new)
-        (K.faults sink.old) (K.faults sink.new) taken (head_lines outcome.now 0 replicas) fault.taken) }
+        (K.faults sink.old) (K.faults sink.new) taken
+        (head_lines outcome.now 0 replicas) fault.taken) }
 {
     let mut total = taken;
     for replica in 0..replicas {

@@ -134,7 +134,8 @@ fn print_clients<K: Sink>(
     ensures all { IfOk result (PrintsAll (K.written sink.old) (K.written sink.new)
         (K.faults sink.old) (K.faults sink.new) taken (client_lines commands.now 0 count)) }
     ensures part { IfErr result (λ fault. PrintsPart (K.written sink.old) (K.written sink.new)
-        (K.faults sink.old) (K.faults sink.new) taken (client_lines commands.now 0 count) fault.taken) }
+        (K.faults sink.old) (K.faults sink.new) taken
+        (client_lines commands.now 0 count) fault.taken) }
 {
     let mut total = taken;
     for client in 0..count {
@@ -154,7 +155,8 @@ fn print_client<K: Sink>(
     ensures all { IfOk result (PrintsAll (K.written sink.old) (K.written sink.new)
         (K.faults sink.old) (K.faults sink.new) taken (lines_of_client client commands.now)) }
     ensures part { IfErr result (λ fault. PrintsPart (K.written sink.old) (K.written sink.new)
-        (K.faults sink.old) (K.faults sink.new) taken (lines_of_client client commands.now) fault.taken) }
+        (K.faults sink.old) (K.faults sink.new) taken
+        (lines_of_client client commands.now) fault.taken) }
 {
     let taken = print_line(sink, taken, numbered_line(b"client ", u64::from(client)))?;
     print_commands_of(sink, taken, client, commands)
@@ -171,7 +173,8 @@ fn print_commands_of<K: Sink>(
     ensures all { IfOk result (PrintsAll (K.written sink.old) (K.written sink.new)
         (K.faults sink.old) (K.faults sink.new) taken (commands_lines client commands.now)) }
     ensures part { IfErr result (λ fault. PrintsPart (K.written sink.old) (K.written sink.new)
-        (K.faults sink.old) (K.faults sink.new) taken (commands_lines client commands.now) fault.taken) }
+        (K.faults sink.old) (K.faults sink.new) taken
+        (commands_lines client commands.now) fault.taken) }
 {
     let mut total = taken;
     for command in commands {
@@ -191,7 +194,8 @@ fn print_command<K: Sink>(
     ensures all { IfOk result (PrintsAll (K.written sink.old) (K.written sink.new)
         (K.faults sink.old) (K.faults sink.new) taken (command_lines client command.now)) }
     ensures part { IfErr result (λ fault. PrintsPart (K.written sink.old) (K.written sink.new)
-        (K.faults sink.old) (K.faults sink.new) taken (command_lines client command.now) fault.taken) }
+        (K.faults sink.old) (K.faults sink.new) taken
+        (command_lines client command.now) fault.taken) }
 {
     if u16::from(command.client) == client {
         print_line(sink, taken, operation_line(command))

@@ -21,8 +21,10 @@ const MOST_REST: u8 = 3;
 /// The command of a row, and how many rows of the same batch follow: 0 to 3. `None` where no
 /// command has this row. What `encode` answers is read back, and nothing else is.
 pub fn decode(row: &Row) -> Option<(Command, u8)>
-    ensures some { IfSome result (λ r. IsCommand r.0 × (r.1 ≤ 3) × (row.now.words ≡ spelled r.0 r.1)) }
-    ensures none { result ≡ None → (c : Request) (k : ℕ) → IsCommand c → k ≤ 3 → row.now.words ≢ spelled c k }
+    ensures some { IfSome result
+        (λ r. IsCommand r.0 × (r.1 ≤ 3) × (row.now.words ≡ spelled r.0 r.1)) }
+    ensures none { result ≡ None → (c : Request) (k : ℕ) → IsCommand c → k ≤ 3
+        → row.now.words ≢ spelled c k }
 {
     let rest = (row.words[0] / REST) as u8;
     if rest > MOST_REST {
@@ -38,14 +40,16 @@ pub fn decode(row: &Row) -> Option<(Command, u8)>
 
 /// Two commands with one row are the same, and as many rows follow.
 pub fn rows_differ()
-    ensures { (c d : Request) (j k : ℕ) → IsCommand c → IsCommand d → j ≤ 3 → k ≤ 3 → spelled c j ≡ spelled d k
+    ensures { (c d : Request) (j k : ℕ) → IsCommand c → IsCommand d → j ≤ 3 → k ≤ 3
+        → spelled c j ≡ spelled d k
         → (c ≡ d) × (j ≡ k) }
 {}
 
 /// The command of these words. Where they are no row of a command, it is some other one or `None`,
 /// and so it is with the parts that follow.
 fn command_in(words: &[u64; 12]) -> Option<Command>
-    ensures { (c : Request) (k : ℕ) → IsCommand c → k ≤ 3 → words.now ≡ spelled c k → result ≡ Some c }
+    ensures { (c : Request) (k : ℕ) → IsCommand c → k ≤ 3 → words.now ≡ spelled c k
+        → result ≡ Some c }
 {
     let head = words[0];
     let client = (head / CLIENT % BYTES) as u8;
@@ -55,7 +59,8 @@ fn command_in(words: &[u64; 12]) -> Option<Command>
 
 /// The operation of these words.
 fn op_in(words: &[u64; 12]) -> Option<Op>
-    ensures { (c : Request) (k : ℕ) → IsCommand c → k ≤ 3 → words.now ≡ spelled c k → result ≡ Some c.op }
+    ensures { (c : Request) (k : ℕ) → IsCommand c → k ≤ 3 → words.now ≡ spelled c k
+        → result ≡ Some c.op }
 {
     let key = key_in(words)?;
     match words[0] % BYTES {

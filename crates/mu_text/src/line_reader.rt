@@ -44,7 +44,8 @@ impl<'a> LineReader<'a> {
         requires { self.old.number + 1 < 2 ^ 32 }
         ensures { MatchOption result
             ((self.old.lines ≡ []) × (self.new ≡ self.old))
-            (λ line. (self.old.lines ≡ line.now ∷ self.new.lines) × (self.new.number ≡ self.old.number + 1)) }
+            (λ line. (self.old.lines ≡ line.now ∷ self.new.lines)
+            × (self.new.number ≡ self.old.number + 1)) }
     {
         let (line, rest) = next_line(self.rest)?;
         self.rest = rest;

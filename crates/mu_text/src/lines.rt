@@ -13,7 +13,8 @@ fn place_of(bytes: &[u8], wanted: u8) -> Option<usize>
 
 /// The first line, without its line feed, and the bytes after it. `None` where there is no line.
 pub fn next_line(bytes: &[u8]) -> Option<(&[u8], &[u8])>
-    ensures lines { MatchOption result (lines bytes.now ≡ []) (λ r. lines bytes.now ≡ r.0.now ∷ lines r.1.now) }
+    ensures lines { MatchOption result (lines bytes.now ≡ [])
+        (λ r. lines bytes.now ≡ r.0.now ∷ lines r.1.now) }
     ensures shorter { IfSome result (λ r. length r.1.now < length bytes.now) }
 {
     if bytes.is_empty() {

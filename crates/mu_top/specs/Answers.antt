@@ -78,14 +78,16 @@ status_for Said.NoMemory = Status.NoMemory
 status_for Said.TooLong = Status.TooLong
 
 -- all of the text was written, and the sink counted no fault
-pub record IsWhole (written now : Option (List ℕ)) (before after : ℕ) (said : Said) (status taken : ℕ) : Type 0 where
+pub record IsWhole (written now : Option (List ℕ)) (before after : ℕ) (said : Said)
+    (status taken : ℕ) : Type 0 where
   pub code : status ≡ code_of (status_for said)
   pub all : taken ≡ length (text said)
   pub bytes : Appends written now (text said)
   pub faults : after ≡ before
 
 -- the sink counted a fault, after this many bytes of the text
-pub record IsCut (written now : Option (List ℕ)) (before after : ℕ) (said : Said) (taken : ℕ) : Type 0 where
+pub record IsCut (written now : Option (List ℕ)) (before after : ℕ) (said : Said)
+    (taken : ℕ) : Type 0 where
   pub short : taken < length (text said)
   pub bytes : Appends written now (take taken (text said))
   pub faults : Rose before after

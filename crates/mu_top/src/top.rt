@@ -62,7 +62,8 @@ pub fn mu<R: Threads + Wait + Sync, S: Source, K: Sink, G: Gate + Sync>(
 ) -> Answered
     ensures said { Tells (asked_of_words words.now) (S.left source.old) (S.left source.new)
         (S.faults source.old) (S.faults source.new) result.said }
-    ensures wrote { Wrote (K.written sink.old) (K.written sink.new) (K.faults sink.old) (K.faults sink.new)
+    ensures wrote { Wrote (K.written sink.old) (K.written sink.new) (K.faults sink.old)
+        (K.faults sink.new)
         result.said result.status result.taken }
 {
     answer(sink, told(rt, alloc, asked_of(words), source, gate))
@@ -72,7 +73,8 @@ pub fn mu<R: Threads + Wait + Sync, S: Source, K: Sink, G: Gate + Sync>(
 pub fn answer<K: Sink>(sink: &mut K, said: Said) -> Answered
     requires { IsShort said }
     ensures said { result.said ≡ said }
-    ensures wrote { Wrote (K.written sink.old) (K.written sink.new) (K.faults sink.old) (K.faults sink.new)
+    ensures wrote { Wrote (K.written sink.old) (K.written sink.new) (K.faults sink.old)
+        (K.faults sink.new)
         result.said result.status result.taken }
 {
     match printed(sink, &said) {

@@ -30,7 +30,8 @@ fixed_word c p None seen = 0
 fixed_word c p (Some t) seen = (kept c p t seen).1
 
 -- what is kept stands for the own events of r and for the words that its loads found
-pub record FoundIs (c : Config) (r : ℕ) (f : Found) (mine : List Event) (seen : List (Event × ℕ)) : Type 0 where
+pub record FoundIs (c : Config) (r : ℕ) (f : Found) (mine : List Event)
+    (seen : List (Event × ℕ)) : Type 0 where
   pub ring : f.ring ≡ c.ring
   pub noted : (p : ℕ) → p < c.replicas → slice_get f.noted p ≡ Some (noted_grant r p mine)
   pub targets : (p : ℕ) → p < c.replicas → slice_get f.targets p ≡ Some (known_target r p mine)

@@ -39,7 +39,8 @@ step_expects c events r v = expected c r (part r (history events)) (sights c r (
 -- the step of r, which expects x at place i: verb and word are in range, the answer is as the list
 -- makes it, and the words with the one that the step leaves stand for the list with the event at
 -- its end
-pub record IsStepOn (c : Config) (l : Layout) (events : List Event) (r : ℕ) (v : Verb) (words : ℕ → ℕ) (i x : ℕ) : Type 0 where
+pub record IsStepOn (c : Config) (l : Layout) (events : List Event) (r : ℕ) (v : Verb)
+    (words : ℕ → ℕ) (i x : ℕ) : Type 0 where
   pub verb_fits : VerbFits c.ring v
   pub word_fits : WordFits v (words i)
   pub answer : answer_from c.ring v x (words i) ≡ answer_of c r (history events) v
@@ -49,7 +50,8 @@ pub record IsStepOn (c : Config) (l : Layout) (events : List Event) (r : ℕ) (v
 
 -- a step that is allowed, on words that stand for a legal list: its word is one of them, and it is
 -- such a step
-pub record StepsOn (c : Config) (l : Layout) (events : List Event) (r : ℕ) (v : Verb) (words : ℕ → ℕ) : Type 0 where
+pub record StepsOn (c : Config) (l : Layout) (events : List Event) (r : ℕ) (v : Verb)
+    (words : ℕ → ℕ) : Type 0 where
   pub named : IsName l (step_name c events r v)
   pub is :
       IsStepOn c l events r v words (place_of l (step_name c events r v))

@@ -91,7 +91,8 @@ event_of c r past v = record { by = r; verb = v; answer = answer_of c r past v }
 
 -- a step of r on the word n, which expects x and finds w, answers as the history makes it; it
 -- leaves the word that stands there after the event, and every other word stands for both histories
-pub record IsWordStep (c : Config) (r : ℕ) (past : List Event) (v : Verb) (n : Name) (x w : ℕ) : Type 0 where
+pub record IsWordStep (c : Config) (r : ℕ) (past : List Event) (v : Verb) (n : Name)
+    (x w : ℕ) : Type 0 where
   pub answer : answer_from c.ring v x w ≡ answer_of c r past v
   pub here : standing_word c (event_of c r past v ∷ past) n ≡ word_after c.ring v x w
   pub others :

@@ -153,7 +153,8 @@ impl FenceWord {
     /// The word that shows these fields.
     pub fn pack(&self) -> u64
         requires { FenceFits self.now.grant self.now.owner self.now.target }
-        ensures { result ≡ fence_bits self.now.grant self.now.closing self.now.owner self.now.target }
+        ensures { result
+            ≡ fence_bits self.now.grant self.now.closing self.now.owner self.now.target }
     {
         let closing = if self.closing { CLOSING } else { 0 };
         u64::from(self.grant) * GRANT

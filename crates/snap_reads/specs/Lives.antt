@@ -14,7 +14,8 @@ abbrev pub keys_seen : List Sight → List (List ℕ)
 keys_seen sights = map (λ sight. sight.key) sights
 
 -- the sights of a reader to which these commands were published, and at last told
-pub record AreSights (commands : List Request) (all : List (List ℕ)) (sights : List Sight) : Type 0 where
+pub record AreSights (commands : List Request) (all : List (List ℕ))
+    (sights : List Sight) : Type 0 where
   -- every sight is right
   pub right : AreRight commands sights
   -- there is one of each get: round the keys, and then of each key once
@@ -39,7 +40,8 @@ pub record IsReady (keys : ℕ) (w : Watcher) : Type 0 where
   pub room : 200 + keys ≤ vec_capacity w.sights
 
 -- a reader that was this one, and since then made so many gets round the keys
-pub record HasWatched (first : Reading) (all : List (List ℕ)) (count : ℕ) (w : Watcher) : Type 0 where
+pub record HasWatched (first : Reading) (all : List (List ℕ)) (count : ℕ)
+    (w : Watcher) : Type 0 where
   pub reader : w.reader ≡ record first { seen = w.reader.seen }
   pub right : AreRight w.reader.seen w.sights.items
   pub keys : keys_seen w.sights.items ≡ round all count

@@ -73,7 +73,8 @@ pub record IsNextRow (v : View) : Type 0 where
   pub counted : 0 < length v.words → length v.seen < v.upto
 
 -- what a view knows of the table
-pub record Fits (limit : ℕ) (words : List ℕ) (published : List Request) (writer id : ℕ) (v : View) : Type 0 where
+pub record Fits (limit : ℕ) (words : List ℕ) (published : List Request) (writer id : ℕ)
+    (v : View) : Type 0 where
   -- it is spent, or knows for how many commands the table is
   pub capacity : (k : ℕ) → v.capacity ≡ Some k → k ≡ limit
   -- one view writes, and has the published list

@@ -44,7 +44,8 @@ HasPart before k row after =
     after ≡ (record before.0 { words = before.0.words ++ take k row }, before.1)
 
 -- the words of the next row were loaded, and it is the row of a command
-pub record HasRow (before : Me (Unit {0}) View) (row : List ℕ) (after : Me (Unit {0}) View) : Type 0 where
+pub record HasRow (before : Me (Unit {0}) View) (row : List ℕ)
+    (after : Me (Unit {0}) View) : Type 0 where
   pub command : Request
   pub is_command : IsCommand command
   pub spells : row ≡ spelled command 0
@@ -53,7 +54,8 @@ pub record HasRow (before : Me (Unit {0}) View) (row : List ℕ) (after : Me (Un
   pub told : ShortBegin before.0.told (before.0.seen ++ command ∷ [])
 
 -- a store of a word past the count
-pub record Stored (before : Me (Unit {0}) View) (word : ℕ) (after : Me (Unit {0}) View) : Type 0 where
+pub record Stored (before : Me (Unit {0}) View) (word : ℕ)
+    (after : Me (Unit {0}) View) : Type 0 where
   pub after_is : after ≡ (record before.0 { words = before.0.words ++ word ∷ [] }, before.1)
 
 -- a raising of the count, by which these commands are published

@@ -32,7 +32,8 @@ pub record IsWriter (w : writer.Inside) : Type 0 where
   pub few : (arc_value w.board).capacity ≤ 1500
 
 -- so many words of a row were stored, and nothing else changed
-pub record IsAt (before : writer.Inside) (k : ℕ) (row : List ℕ) (after : writer.Inside) : Type 0 where
+pub record IsAt (before : writer.Inside) (k : ℕ) (row : List ℕ)
+    (after : writer.Inside) : Type 0 where
   pub board : after.board ≡ before.board
   pub table : after.seat.table_id ≡ before.seat.table_id
   pub part : HasPart before.seat.me k row after.seat.me

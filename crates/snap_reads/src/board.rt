@@ -121,7 +121,8 @@ impl Board {
     pub(crate) fn begin(&self, seat: &mut Place) -> Place
         requires { seat.old.table_id ≡ self.now.table }
         ensures same { (seat.new.table_id ≡ seat.old.table_id) × (seat.new.me ≡ seat.old.me) }
-        ensures reader { (result.table_id ≡ seat.old.table_id) × (result.me ≡ (fresh_view seat.old.me.0, [])) }
+        ensures reader { (result.table_id ≡ seat.old.table_id)
+            × (result.me ≡ (fresh_view seat.old.me.0, [])) }
     {
         self.table.shared.split_seat::<Begin>(seat)
     }
@@ -130,7 +131,8 @@ impl Board {
     pub(crate) fn tell(&self, seat: &mut Place) -> Place
         requires { seat.old.table_id ≡ self.now.table }
         ensures same { (seat.new.table_id ≡ seat.old.table_id) × (seat.new.me ≡ seat.old.me) }
-        ensures note { (result.table_id ≡ seat.old.table_id) × (result.me ≡ (note_view seat.old.me.0, [])) }
+        ensures note { (result.table_id ≡ seat.old.table_id)
+            × (result.me ≡ (note_view seat.old.me.0, [])) }
     {
         self.table.shared.split_seat::<Tell>(seat)
     }

@@ -26,7 +26,8 @@ pub fn start(
     requires commands { commands ≤ 1500 }
     requires readers { (1 ≤ readers) × (readers ≤ 4) }
     ensures writer { IfOk result (λ t. t.0 ≡ fresh_writer t.0.table commands) }
-    ensures readers { IfOk result (λ t. t.1.items ≡ replicate readers (fresh_reader t.0.table commands)) }
+    ensures readers { IfOk result
+        (λ t. t.1.items ≡ replicate readers (fresh_reader t.0.table commands)) }
 {
     let (board, mut seat) = Board::start(alloc, commands)?;
     let board = Arc::new(alloc, board)?;

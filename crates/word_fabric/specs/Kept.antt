@@ -35,7 +35,8 @@ pub record HoldsFirst (l : Layout) (i : ℕ) (words : List ℕ) : Type 0 where
 
 -- the list is legal, there is room for the budgets of all replicas, and the words and what is kept
 -- of them stand for the list
-pub record IsWordsKept (config : Config) (events : List Event) (room : ℕ) (layout : Layout) (words : List ℕ) (founds : List Found) : Type 0 where
+pub record IsWordsKept (config : Config) (events : List Event) (room : ℕ) (layout : Layout)
+    (words : List ℕ) (founds : List Found) : Type 0 where
   pub given : IsConfig config
   pub laid_out : IsLayoutOf config layout
   pub legal : IsLegal config events
@@ -51,7 +52,8 @@ place_at l r f v = place_of l (name_at l.ring r f.close_target v)
 
 -- what a step of r makes of one word and of what r keeps: it answers by the word that it finds and
 -- expects the word that r kept, where the kept words stand for r's events
-pub record IsMade (l : Layout) (r : ℕ) (v : Verb) (words : List ℕ) (found : Found) (answer : Answer) (words_after : List ℕ) (found_after : Found) : Type 0 where
+pub record IsMade (l : Layout) (r : ℕ) (v : Verb) (words : List ℕ) (found : Found) (answer : Answer)
+    (words_after : List ℕ) (found_after : Found) : Type 0 where
   pub answered :
       (c : Config) (mine : List Event) (seen : List (Event × ℕ)) → FoundIs c r found mine seen
       → IsPrepared c mine v

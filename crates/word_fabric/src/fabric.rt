@@ -27,7 +27,8 @@ impl Model for WordFabric {
 
     ghost view = { λ f. record { config = f.config; events = f.kept.events } };
 
-    ghost invariant = { λ f. IsWordsKept f.config f.kept.events f.kept.room f.layout f.words.items f.founds.items };
+    ghost invariant = { λ f. IsWordsKept f.config f.kept.events f.kept.room f.layout f.words.items
+        f.founds.items };
 }
 
 impl WordFabric {

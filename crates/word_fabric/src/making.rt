@@ -82,9 +82,11 @@ pub(crate) fn make_step(
     requires ring { 0 < layout.now.ring }
     requires found_ring { 0 < found.old.ring }
     requires fields { VerbFits layout.now.ring verb.now }
-    requires named { IsName layout.now (name_at layout.now.ring by found.old.close_target verb.now) }
+    requires named { IsName layout.now
+        (name_at layout.now.ring by found.old.close_target verb.now) }
     requires table { length words.old ≡ word_count layout.now }
-    requires room { WordFits verb.now (slice_index words.old (place_at layout.now by found.old verb.now)) }
+    requires room { WordFits verb.now
+        (slice_index words.old (place_at layout.now by found.old verb.now)) }
     ensures { IsMade layout.now by verb.now words.old found.old result words.new found.new }
 {
     let place = place_of_step(layout, by, found.close_target(), verb);
