@@ -73,9 +73,9 @@ impl FilledLog {
         })
     }
 
-    /// Takes what the next event shows of the log: the FUO that it reads, where it reads one, and the
-    /// position that it shows to be filled, where it shows one. Takes no memory. The pointer only
-    /// moves on, so over all events the time of one is constant on average.
+    /// Takes what the next event shows of the log: the FUO that it reads, where it reads one, and
+    /// the position that it shows to be filled, where it shows one. Takes no memory. The pointer
+    /// only moves on, so over all events the time of one is constant on average.
     pub fn take(&mut self, read: Option<u64>, spot: Option<u16>)
         ensures { (c : Config) → (r p : ℕ) → (event : Event) → (mine : List Event)
             → IsPossible c r (event ∷ mine) → read ≡ fuo_read r p event.by event.verb event.answer

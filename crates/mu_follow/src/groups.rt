@@ -49,8 +49,8 @@ fn group(config: &Config, v: u16) -> &[Row]
 }
 
 impl Follow {
-    /// The entry that is to be applied next, with its rows: the first that was not applied yet, where
-    /// all its rows are written or read. Takes no memory.
+    /// The entry that is to be applied next, with its rows: the first that was not applied yet,
+    /// where all its rows are written or read. Takes no memory.
     pub fn ready(&self) -> Option<Ready<'_>>
         requires config { IsConfig self.now.config }
         ensures { (c : Config) → (r : ℕ) → (mine : List Event) → StandsForFollow c r mine self.now

@@ -93,8 +93,8 @@ fn count_applied(completion: &mut Completion, config: &Config, knowing: &KnownLo
 }
 
 impl Follow {
-    /// Takes the next event of the replica, of any kind: all that it changes, but for the entry that
-    /// a put made known, which `learn` is told next. Takes no memory.
+    /// Takes the next event of the replica, of any kind: all that it changes, but for the entry
+    /// that a put made known, which `learn` is told next. Takes no memory.
     #[inline(always)]
     pub fn note(&mut self, event: &Event)
         requires config { IsConfig self.old.config }

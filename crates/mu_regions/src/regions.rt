@@ -84,8 +84,7 @@ impl Regions {
     }
 
     /// What `by` is answered to `verb` after the history that the state stands for, on condition
-    /// that
-    /// `by` and all that the verb names are there. Takes no memory.
+    /// that `by` and all that the verb names are there. Takes no memory.
     pub fn answer(&self, by: u8, verb: &Verb) -> Answer
         ensures { (c : Config) → (past : List Event) → InRange c by verb.now
             → Stands c past self.now

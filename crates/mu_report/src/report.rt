@@ -15,8 +15,8 @@ use mu_io::{Sink, WriteFault};
 use mu_model::{End, stands_for_mark};
 use mu_outcome::{Outcome, Status, commands_of, longest};
 
-/// The status of the program after a run: done where all commands of the job are in the longest log,
-/// else unfinished. Takes no memory.
+/// The status of the program after a run: done where all commands of the job are in the longest
+/// log, else unfinished. Takes no memory.
 pub fn status(outcome: &Outcome) -> Status
     ensures { result ≡ status_after outcome.now }
 {

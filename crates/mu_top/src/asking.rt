@@ -38,7 +38,8 @@ pub enum Task {
     Desk,
     /// `book`: run a job in turns, and tell the book of orders after its commands.
     Book,
-    /// `live K`: run a job in turns, and publish the commands of its longest log to so many readers.
+    /// `live K`: run a job in turns, and publish the commands of its longest log to so many
+    /// readers.
     Live(u8),
 }
 
@@ -68,8 +69,8 @@ impl Task {
     }
 }
 
-/// What the words ask for, if they ask for anything: one word that names a task, or `bulk` or `live`
-/// and a number.
+/// What the words ask for, if they ask for anything: one word that names a task, or `bulk` or
+/// `live` and a number.
 pub fn asked_of(words: &[String]) -> Option<Asked>
     ensures exact { result ≡ asked_of_words words.now }
     ensures reach { IfSome result IsInReach }
@@ -82,8 +83,8 @@ pub fn asked_of(words: &[String]) -> Option<Asked>
 }
 
 /// The stated large job of so many commands, if the first word is `bulk` and the second spells a
-/// number from 0 to 1,500; or so many live readers, if the first is `live` and the second spells one
-/// from 1 to 4.
+/// number from 0 to 1,500; or so many live readers, if the first is `live` and the second spells
+/// one from 1 to 4.
 fn asked_with(word: &[u8], number: &[u8]) -> Option<Asked>
     ensures exact { result ≡ asked_of_two word.now number.now }
     ensures reach { IfSome result IsInReach }

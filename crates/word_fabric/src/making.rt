@@ -43,7 +43,8 @@ pub(crate) fn first_founds(alloc: Global, config: &Config) -> Result<Vec<Found>,
 }
 
 /// The place of the word on which the replica `id` makes the step, where its last `Close` found the
-/// target.
+/// target. It is the layout's place of the step's name, by one look at the verb instead of two:
+/// every step of a replay comes through here.
 fn place_of_step(layout: &Layout, id: u8, target: Target, verb: &Verb) -> usize
     requires ring { 0 < layout.now.ring }
     requires named { IsName layout.now (name_at layout.now.ring id target verb.now) }

@@ -224,8 +224,8 @@ fn late_exchange(rt: HostRuntime) -> Result<(), Fail> {
     check_row(&rt, alloc, 0, row.as_slice())
 }
 
-/// Replica 1 begins a leadership anew, is granted the regions 1 and 2 as before, reads these minima,
-/// and puts its number at one of them.
+/// Replica 1 begins a leadership anew, is granted the regions 1 and 2 as before, reads these
+/// minima, and puts its number at one of them.
 fn numbered(targets: [Target; 2], minima: [u64; 2], p: u8, number: u32) -> [Step; 7] {
     let granted = |target| open(Some(1), 1, target);
     [

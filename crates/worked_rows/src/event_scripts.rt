@@ -171,8 +171,8 @@ pub(crate) fn adopted_value(alloc: Global) -> Result<Vec<Event>, AllocError> {
     )
 }
 
-/// A put of a slot that was entered for before the region was drained and granted on: it misses, and
-/// what stands beside it is as it was.
+/// A put of a slot that was entered for before the region was drained and granted on: it misses,
+/// and what stands beside it is as it was.
 pub(crate) fn missed_after_drain(alloc: Global) -> Result<Vec<Event>, AllocError> {
     let late = [
         event(0, Verb::PutSlot(1, 0, 8, 0), Answer::Missed),
