@@ -1,40 +1,63 @@
 #!/usr/bin/env python3
-"""Writes the judged traces: the input and the wanted output of crates/mu_judge.
+"""Writes the judged traces, or shows one: the input and the wanted output of crates/mu_judge.
 
-    tools/judged_table.py INPUT OUTPUT TRACES JOBS
+    tools/judged_table.py TRACES JOBS MORE..     writes the input, the output and the names
+    tools/judged_table.py --case LINE            shows the name, the trace and the wanted line
 
-TRACES and JOBS are folders of cases: a trace or a job in a file NAME, `check` in NAME.args, and what an
-independent program says of it in NAME.stdout. INPUT gets them, byte for byte, with the separator of
-crates/mu_judge/src/main.rt between two; OUTPUT gets one line for each. The lines are those of the
-cases, never the program's own. A job that is refused for a line after its `end` is left out: events
-may follow there in a trace (such jobs stand in crates/mu_input/src/job_tests.rt).
+TRACES, JOBS and MORE are folders of cases: a trace or a job in a file NAME, `check` in NAME.args, and
+what an independent program says of it in NAME.stdout. The input gets them, byte for byte, with the
+separator of crates/mu_judge/src/main.rt between two; the output gets one line for each, and
+cases/judged.names its name. The lines are those of the cases, never the program's own. A job that is
+refused for a line after its `end` is left out: events may follow there in a trace (such jobs stand in
+crates/worked_rows/src/jobs.rt).
 """
 
 import pathlib
 import sys
 
+TOP = pathlib.Path(__file__).resolve().parent.parent
+INPUT = TOP / "crates" / "mu_judge" / "stdin"
+OUTPUT = TOP / "crates" / "mu_judge" / "stdout"
+NAMES = TOP / "cases" / "judged.names"
 SEPARATOR = b"\n---\n"
 AFTER_END = b" cause 12\n"
 
 
 def cases(folder):
-    """The traces of a folder and the lines on them, by name."""
-    for line in sorted(pathlib.Path(folder).glob("*.stdout")):
+    """The names of a folder's cases, with their traces and the lines on them."""
+    folder = pathlib.Path(folder)
+    for line in sorted(folder.glob("*.stdout")):
         if line.with_suffix(".args").read_bytes().split() == [b"check"]:
-            yield line.with_suffix("").read_bytes(), line.read_bytes()
+            name = f"{folder.name}/{line.stem}"
+            yield name, line.with_suffix("").read_bytes(), line.read_bytes()
 
 
-def main():
-    input_path, output_path, traces_folder, jobs_folder = sys.argv[1:]
-    jobs = [case for case in cases(jobs_folder) if not case[1].endswith(AFTER_END)]
-    traces, lines = zip(*cases(traces_folder), *jobs)
+def write(traces_folder, jobs_folder, more):
+    jobs = [case for case in cases(jobs_folder) if not case[2].endswith(AFTER_END)]
+    others = [case for folder in more for case in cases(folder)]
+    names, traces, lines = zip(*cases(traces_folder), *jobs, *others)
     joined = SEPARATOR.join(traces)
     if joined.split(SEPARATOR) != list(traces):
         sys.exit("a trace holds the separator")
     if any(line.count(b"\n") != 1 or not line.endswith(b"\n") for line in lines):
         sys.exit("a case has not one line")
-    pathlib.Path(input_path).write_bytes(joined)
-    pathlib.Path(output_path).write_bytes(b"".join(lines))
+    INPUT.write_bytes(joined)
+    OUTPUT.write_bytes(b"".join(lines))
+    NAMES.write_text("".join(name + "\n" for name in names), encoding="ascii")
+
+
+def show(line):
+    name = NAMES.read_text(encoding="ascii").splitlines()[line - 1]
+    wanted = OUTPUT.read_bytes().splitlines(keepends=True)[line - 1]
+    sys.stdout.buffer.write(f"case {name}\n".encode() + INPUT.read_bytes().split(SEPARATOR)[line - 1])
+    sys.stdout.buffer.write(b"\nwanted: " + wanted)
+
+
+def main():
+    if sys.argv[1:2] == ["--case"]:
+        show(int(sys.argv[2]))
+    else:
+        write(sys.argv[1], sys.argv[2], sys.argv[3:])
 
 
 if __name__ == "__main__":

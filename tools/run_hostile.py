@@ -7,7 +7,7 @@
   refuses it, with its line and cause; else the status is 0 or 3.
 - The n-th read, write or allocation fails, for each n: status 4, 5 or 6 exactly then; what was written is a prefix.
 - Each read and write moves at most 1 to 7 bytes: the same is printed, and the same holds of the n-th that fails.
-- Inputs at each limit and one above it.
+- Inputs at each limit and one above it; words that are no text get the usage line; output into a full device is status 5.
 - `run` with all cores busy, and with long pauses: each report is one that tools/run_trials.py permits.
 
 It needs a C compiler, for the library that lets calls fail (tools/hostile.c).
@@ -134,6 +134,22 @@ class Trials:
                 print(f"  {len(given)} bytes: {time.monotonic() - began:.2f} s, at most {most} MiB", flush=True)
         self.say(what, len(rows), wrong)
 
+    def words_that_are_no_text(self):
+        usage = self.run([], b"")[:2]
+        rows = [[b"\xff"], [b"repl\xffay"], ["replay", b"\xff"], ["bulk", b"1\x80"], [b"\xc3", "replay"]]
+        wrong = [f"{words}" for words in rows if self.run(words, TWO_CLIENTS)[:2] != usage or usage[0] != 1]
+        self.say("words that are no text", len(rows), wrong)
+
+    def full_device(self, jobs):
+        wrong = []
+        for words, given in jobs:
+            with open("/dev/full", "wb") as full:
+                status = subprocess.run([self.program, *words], input=given, stdout=full, stderr=subprocess.DEVNULL,
+                                        timeout=LIMIT_SECONDS, check=False).returncode
+            if status != 5:
+                wrong.append(f"{words}: {status}")
+        self.say("output into a full device", len(jobs), wrong)
+
     def load(self, what, jobs, workers):
         busy = [subprocess.Popen([sys.executable, "-c", "while True: pass"]) for _ in range(workers)]
         wrong = []
@@ -216,6 +232,8 @@ def main():
             trials.faults("read", 4, ["replay"], TWO_CLIENTS, size)
             trials.faults("write", 5, ["replay"], TWO_CLIENTS, size)
         trials.expect("limits", list(limit_rows()))
+        trials.words_that_are_no_text()
+        trials.full_device(jobs)
         cores = os.cpu_count() or 1
         trials.load("run of seven replicas, all cores busy", [large_job(seed, False) for seed in range(50)], cores)
         trials.load("run of seven replicas, long pauses", [large_job(seed, True) for seed in range(50)], 0)

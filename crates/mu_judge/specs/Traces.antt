@@ -1,11 +1,13 @@
 -- How an input is cut into traces, and what is printed of them.
-use Rattle.std.specs.Prelude.{ℕ, ◌≡◌, ◌<◌, ◌&&◌, Bool, true, false, List, [], ◌∷◌, ◌++◌, length, take, drop, None, Some, IfSome, MatchOption, Err, Ok, if◌then◌else◌, ⊤}
+use Rattle.std.specs.Prelude.{ℕ, ◌≡◌, ◌<◌, ◌&&◌, Bool, true, false, List, [], ◌∷◌, ◌++◌, length, take, drop, None, Some, IfSome, MatchOption, Err, Ok, if◌then◌else◌}
 use Rattle.std.specs.declared.result.Result.{Result}
 use Rattle.std.specs.declared.option.Option.{Option}
 use Rattle.std.specs.Option.{option_map, option_map_or}
 use Rattle.std.specs.Str.{bytes_eq}
 use Rattle.std.specs.Io.KnownBytes.{Appends}
 use Rattle.mu_io.specs.Faults.{Rose}
+use Rattle.mu_outcome.specs.Statuses.{code_of}
+use Rattle.mu_outcome.specs.declared.status.Status.{Status}
 use Rattle.mu_outcome.specs.declared.verdict.Verdict.{Verdict}
 use Rattle.mu_report.specs.declared.said.Said.{Said}
 use Rattle.mu_judging.specs.Judged.{SaysOf}
@@ -99,18 +101,23 @@ Stops left before after End.TooLong =
 Stops left before after End.ReadFault = after ≡ before
 Stops left before after End.NoMemory = after ≡ before
 
--- a fault comes where the count of the source's or the sink's faults rose
+-- a fault comes where the count of the source's or the sink's faults rose; at each other end neither
+-- did
 abbrev pub HasFault : ℕ → ℕ → ℕ → ℕ → End → Type 0
 HasFault read now_read wrote now_wrote End.ReadFault = Rose read now_read
 HasFault read now_read wrote now_wrote End.WriteFault = Rose wrote now_wrote
-HasFault read now_read wrote now_wrote End.NoMemory = ⊤
-HasFault read now_read wrote now_wrote End.TooLong = ⊤
+HasFault read now_read wrote now_wrote End.NoMemory = (now_read ≡ read) × (now_wrote ≡ wrote)
+HasFault read now_read wrote now_wrote End.TooLong = (now_read ≡ read) × (now_wrote ≡ wrote)
 
--- the status of the program: whether all traces are legal, or why not all were judged
+-- how the program ends: by whether all traces are legal, or by why not all were judged
+abbrev pub status_after : Result Bool End → Status
+status_after (Ok true) = Status.Done
+status_after (Ok false) = Status.Illegal
+status_after (Err End.ReadFault) = Status.ReadFault
+status_after (Err End.WriteFault) = Status.WriteFault
+status_after (Err End.NoMemory) = Status.NoMemory
+status_after (Err End.TooLong) = Status.TooLong
+
+-- the number of that status
 abbrev pub status_of : Result Bool End → ℕ
-status_of (Ok true) = 0
-status_of (Ok false) = 7
-status_of (Err End.ReadFault) = 4
-status_of (Err End.WriteFault) = 5
-status_of (Err End.NoMemory) = 6
-status_of (Err End.TooLong) = 8
+status_of end = code_of (status_after end)

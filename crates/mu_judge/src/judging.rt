@@ -2,19 +2,26 @@
 ghost use Rattle.std.specs.Prelude.{◌≡◌, ◌<◌, ◌≤◌, length, take, IfErr, IfOk, IfSome, OnErr, OnOk};
 ghost use Rattle.std.specs.Io.KnownBytes.{Appends};
 ghost use Rattle.mu_io.specs.Faults.{Rose};
+ghost use Rattle.mu_io.specs.Whole.{TakesAtMost};
 ghost use Rattle.mu_input.specs.declared.TheConstants.{TRACE_LIMIT};
 ghost use Rattle.mu_report.specs.Said.{text, IsShort};
-ghost use Rattle.mu_judge.specs.Traces.{HasFault, JudgesAll, JudgesOne, JudgesPart, JudgesSome, Stops, is_legal as is_legal_said, status_of};
+ghost use Rattle.mu_judge.specs.Traces.{HasFault, JudgesAll, JudgesOne, JudgesPart, JudgesSome, Stops, is_legal as is_legal_said, status_after as status_after_end, status_of};
+ghost use Rattle.mu_judge.specs.declared.judging.End.{End as SomeEnd};
 
 use crate::cutting::cut;
 use mu_io::{ReadEnd, Sink, Source, WriteFault, read_all};
 use mu_judging::judged;
-use mu_outcome::Verdict;
+use mu_outcome::{Status, Verdict};
 use mu_report::{Said, print};
 use std::alloc::Global;
 
 /// The most bytes that an input may have.
 pub const INPUT_LIMIT: usize = 8_388_608;
+
+/// The limit is the number that is stated.
+pub fn limit_is_stated()
+    ensures { INPUT_LIMIT ≡ 8388608 }
+{}
 
 /// Why not all traces were judged.
 #[derive(Clone, Copy, Debug, PartialEq, Eq)]
@@ -34,13 +41,20 @@ pub enum End {
 pub fn status(end: Result<bool, End>) -> u8
     ensures { result ≡ status_of end }
 {
+    status_after(end).code()
+}
+
+/// The same as a status.
+fn status_after(end: Result<bool, End>) -> Status
+    ensures { result ≡ status_after_end end }
+{
     match end {
-        Ok(true) => 0,
-        Ok(false) => 7,
-        Err(End::ReadFault) => 4,
-        Err(End::WriteFault) => 5,
-        Err(End::NoMemory) => 6,
-        Err(End::TooLong) => 8,
+        Ok(true) => Status::Done,
+        Ok(false) => Status::Illegal,
+        Err(End::ReadFault) => Status::ReadFault,
+        Err(End::WriteFault) => Status::WriteFault,
+        Err(End::NoMemory) => Status::NoMemory,
+        Err(End::TooLong) => Status::TooLong,
     }
 }
 
@@ -62,9 +76,10 @@ fn is_legal(said: &Said) -> bool
 ///
 /// # Errors
 ///
-/// A fault of the source, more bytes than the limit or want of memory for the input, before
-/// anything is written; or a fault of the sink, where the lines of the first traces are written,
-/// and of the next line so many bytes as the sink had taken.
+/// A fault of the source, where at most the limit was taken of the input; more bytes than the limit;
+/// want of memory for the input, where nothing was taken: each before anything is written. Or a fault
+/// of the sink, where the lines of the first traces are written, and of the next line so many bytes
+/// as the sink had taken.
 pub fn judge_input<S: Source, K: Sink>(
     alloc: Global,
     source: &mut S,
@@ -78,6 +93,9 @@ pub fn judge_input<S: Source, K: Sink>(
         (Stops (S.left source.old) (K.written sink.old) (K.written sink.new)) }
     ensures fault { IfErr result (HasFault
         (S.faults source.old) (S.faults source.new) (K.faults sink.old) (K.faults sink.new)) }
+    ensures memory { IfErr result (λ end. end ≡ SomeEnd.NoMemory → source.new ≡ source.old) }
+    ensures taken { IfErr result (λ end. end ≡ SomeEnd.ReadFault
+        → TakesAtMost (S.left source.old) (S.left source.new) INPUT_LIMIT) }
 {
     let bytes = match read_all(alloc, source, INPUT_LIMIT) {
         Ok(bytes) => bytes,

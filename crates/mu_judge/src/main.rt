@@ -18,7 +18,7 @@ mod judging;
 mod tests;
 
 pub use cutting::cut;
-pub use judging::{End, INPUT_LIMIT, judge_input, status};
+pub use judging::{End, INPUT_LIMIT, judge_input, limit_is_stated, status};
 use mu_io::{StdSink, StdSource};
 use std::process::ExitCode;
 

@@ -179,8 +179,8 @@ impl Driven {
         requires legal { IsLegalHistory self.old.lead.config
             (record { by = self.old.lead.id; verb = verb; answer = answer } ∷ past) }
         requires put { is_slot_put_verb verb ≡ true }
-        ensures drives { Drives (record { by = self.old.lead.id; verb = verb; answer = answer } ∷ past)
-            self.new }
+        ensures drives { Drives
+            (record { by = self.old.lead.id; verb = verb; answer = answer } ∷ past) self.new }
         ensures config { self.new.lead.config ≡ self.old.lead.config }
     {
         let by = self.lead.id;
@@ -206,8 +206,8 @@ impl Driven {
         requires legal { IsLegalHistory self.old.lead.config
             (record { by = self.old.lead.id; verb = verb; answer = answer } ∷ past) }
         requires other { is_slot_put_verb verb ≡ false }
-        ensures drives { Drives (record { by = self.old.lead.id; verb = verb; answer = answer } ∷ past)
-            self.new }
+        ensures drives { Drives
+            (record { by = self.old.lead.id; verb = verb; answer = answer } ∷ past) self.new }
         ensures config { self.new.lead.config ≡ self.old.lead.config }
     {
         let by = self.lead.id;
@@ -231,7 +231,8 @@ impl Driven {
         requires due { verb_of self.old.lead
             (known_of self.old.lead.config self.old.lead.id (part self.old.lead.id past))
             ≡ Some verb }
-        requires allowed { Allowed self.old.lead.config self.old.lead.id (part self.old.lead.id past) verb }
+        requires allowed { Allowed self.old.lead.config self.old.lead.id
+            (part self.old.lead.id past) verb }
         ensures config { M.config memory.new ≡ self.new.lead.config }
         ensures drives { Drives (history (M.events memory.new)) self.new }
     {
