@@ -9,7 +9,7 @@ use Rattle.mu_model.specs.Contents.{IsConfig}
 use Rattle.mu_model.specs.Parts.{IsPossible}
 use Rattle.mu_model.specs.Knowledge.{known}
 use Rattle.mu_model.specs.Leaderships.{is_member, is_over}
-use Rattle.mu_model.specs.Steps.{has_min, leads}
+use Rattle.mu_model.specs.Steps.{has_min}
 use Rattle.mu_model.specs.Stretches.{is_replication}
 use Rattle.mu_pace.specs.Away.{IsAway, IsFresh}
 use Rattle.mu_pace.specs.Members.{members_below, members_from}
@@ -80,11 +80,6 @@ pub record IsLed (c : Config) (r : ℕ) (mine : List Event) (stage : Stage) : Ty
 abbrev pub IsPlaced : Config → ℕ → List Event → List ℕ → Place → Type 0
 IsPlaced c r mine written place = IsLed c r mine (stage_of c r mine written place)
 
--- no leadership is under way: only late followers are waited for, and a background look may count
-pub record IsOut (c : Config) (r : ℕ) (mine : List Event) : Type 0 where
-  pub not_led : leads r mine ≡ false
-  pub away : IsAway c r mine
-
 -- the leadership is over
 pub record IsEnded (c : Config) (r : ℕ) (mine : List Event) : Type 0 where
   pub over : is_over r mine ≡ true
@@ -109,7 +104,7 @@ pub record IsNumbering (c : Config) (r : ℕ) (mine : List Event) (p : ℕ) (sta
 
 -- what holds of the counts at a place
 abbrev pub RoomsAt : Config → ℕ → List Event → List ℕ → Place → Type 0
-RoomsAt c r mine written (Place.Ask p) = (p ≡ 0 → IsOut c r mine) × (p ≢ 0 → IsWaiting c r mine)
+RoomsAt c r mine written (Place.Ask p) = (p ≡ 0 → IsAway c r mine) × (p ≢ 0 → IsWaiting c r mine)
 RoomsAt c r mine written (Place.Confirm round p) = IsWaiting c r mine
 RoomsAt c r mine written (Place.ReadMin p) = IsReading c r mine written p
 RoomsAt c r mine written (Place.EnterMin p) = IsNumbering c r mine p Stage.EnterMin
@@ -212,6 +207,6 @@ OthersKeepRooms =
 -- before any event no leadership is under way, and a leader whose counts have the room of its place
 -- is in time
 pub record RoomsAreInTime : Type 0 where
-  pub start : (c : Config) (r : ℕ) → IsOut c r []
+  pub start : (c : Config) (r : ℕ) → IsAway c r []
   pub in_time : (mine : List Event) (lead : Lead) → IsConfig lead.config → HasRooms mine lead
       → AreInTime lead.config lead.id mine
