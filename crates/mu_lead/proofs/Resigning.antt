@@ -195,14 +195,14 @@ earlier_none (Some x) (Some y) none = none
 
 seen_outruns : (c : Config) (r p i : ℕ) (mine : List Event) → length (known c r mine) ≤ i → has_seen_past r p i mine ≡ true → outrun c r mine ≡ None → ⊥
 seen_outruns c r p i [] low seen none = true≢false (sym seen)
-seen_outruns c r p i (e ∷ mine) low seen none = go (is_past_look (look_answer r p i e.by e.verb e.answer)) refl seen
+seen_outruns c r p i (e ∷ mine) low seen none = go (is_past_look (look_answer r p i e.by e.verb e.answer)) refl seen (λ h o. seen_outruns c r p i mine below h o)
   where
     below : length (known c r mine) ≤ i
     below = let more = known_grows c r (e ∷ []) mine in omega (arith, more, low)
 
-    go : (t : Bool) → is_past_look (look_answer r p i e.by e.verb e.answer) ≡ t → (if t then true else has_seen_past r p i mine) ≡ true → ⊥
-    go true look h = earlier_some (outrun_by r (length (known c r mine)) e.by e.verb e.answer) (outrun c r mine) (look_outruns r p i (length (known c r mine)) e.by e.verb e.answer below look) none
-    go false other h = seen_outruns c r p i mine below h (earlier_none (outrun_by r (length (known c r mine)) e.by e.verb e.answer) (outrun c r mine) none)
+    go : (t : Bool) → is_past_look (look_answer r p i e.by e.verb e.answer) ≡ t → (if t then true else has_seen_past r p i mine) ≡ true → (has_seen_past r p i mine ≡ true → outrun c r mine ≡ None → ⊥) → ⊥
+    go true look h before = earlier_some (outrun_by r (length (known c r mine)) e.by e.verb e.answer) (outrun c r mine) (look_outruns r p i (length (known c r mine)) e.by e.verb e.answer below look) none
+    go false other h before = before h (earlier_none (outrun_by r (length (known c r mine)) e.by e.verb e.answer) (outrun c r mine) none)
 
 outruns : (c : Config) (r : ℕ) (mine : List Event) → AtOutrun c r mine → outrun c r mine ≡ None → ⊥
 outruns c r mine at none = seen_outruns c r at.region (length (known c r mine)) mine (omega arith) at.past none
