@@ -1,6 +1,6 @@
 -- The counts of a leader in what isn't the answer to a verb of its own.
 use Rattle.std.proofs.Common.{◌≡◌, ◌≢◌, ℕ, ◌+◌, ◌-◌, ◌≤◌, ◌⊎◌, inl, inr, Bool, true, false, ◌&&◌, ◌==◌, List, [], ◌∷◌, None, Some, length, refl, sym, ◌∙◌, ap, subst, arith, true≢false}
-use Rattle.std.specs.Prelude.{if◌then◌else◌, is_some, nat_le}
+use Rattle.std.specs.Prelude.{if◌then◌else◌, is_some, nat_le, not}
 use Rattle.std.specs.declared.option.Option.{Option}
 use Rattle.std.proofs.lemmas.Bool.{eqb-true, le-leb}
 use Rattle.mu_model.specs.declared.config.Config.{Config}
@@ -8,6 +8,7 @@ use Rattle.mu_model.specs.declared.event.Answer.{Answer}
 use Rattle.mu_model.specs.declared.event.Event.{Event}
 use Rattle.mu_model.specs.declared.event.Verb.{Verb}
 use Rattle.mu_model.specs.Contents.{IsConfig}
+use Rattle.mu_model.specs.Diligence.{was_unnamed}
 use Rattle.mu_model.specs.Ends.{outrun, outrun_by}
 use Rattle.mu_model.specs.Histories.{earlier_or, has}
 use Rattle.mu_model.specs.Knowledge.{commits, known}
@@ -35,7 +36,7 @@ use Rattle.mu_lead.specs.Evidence.{ExplainsAt}
 use Rattle.mu_lead.specs.Offering.{AtOutrun, AtRest, has_seen_past}
 use Rattle.mu_lead.specs.Raising.{RaisesAt}
 use Rattle.mu_lead.specs.Resigning.{BeatsKeepCounts, CountsAreInTime, CountsAt, HasCounts, IsTold, beat_of}
-use Rattle.mu_lead.specs.Rooms.{IsLed, RoomsAt, gives_up, sizes_of, stage_of}
+use Rattle.mu_lead.specs.Rooms.{IsLed, IsOut, RoomsAt, gives_up, sizes_of, stage_of}
 use Rattle.mu_lead.specs.Welcomes.{JoinsAt, WaitsToJoin}
 use Rattle.mu_lead.proofs.Confirms.{minima_come_in_time}
 use Rattle.mu_lead.proofs.Joins.{followers_join_in_time, joins_anywhere}
@@ -69,20 +70,27 @@ fresh_closed c r answer mine closed = counts_close.fresh c r (beat_of r answer �
 away_closed : (c : Config) (r : ℕ) (answer : Answer) (mine : List Event) → AreClosed c r (beat_of r answer ∷ mine) → IsAway c r (beat_of r answer ∷ mine)
 away_closed c r answer mine closed = away_is_in_time.fresh_is_away c r (beat_of r answer ∷ mine) (fresh_closed c r answer mine closed)
 
+-- r is left unnamed by the beat
+left_unnamed : (turn named was : Bool) → turn ≡ true → named ≡ false → (if turn && not named then true else was) ≡ true
+left_unnamed turn named was on off = rw (on, off) refl
+
+out_closed : (c : Config) (r : ℕ) (answer : Answer) (mine : List Event) → was_unnamed c r (beat_of r answer ∷ mine) ≡ true → AreClosed c r (beat_of r answer ∷ mine) → IsOut c r (beat_of r answer ∷ mine)
+out_closed c r answer mine was closed = record { left = inr was; away = away_closed c r answer mine closed }
+
 led_closed : (c : Config) (r : ℕ) (answer : Answer) (stage : Stage) (mine : List Event) → IsConfig c → AreClosed c r (beat_of r answer ∷ mine) → IsLed c r mine stage → IsLed c r (beat_of r answer ∷ mine) stage
 led_closed c r answer stage mine is closed at =
     let now = beat_of r answer ∷ mine in
     record { read = at.read; placed = counts_close.placed c r (sizes_of c r now) stage now (sized c r now is) (record { replicas = refl; width = refl; members = refl }) at.placed.place closed }
 
-rooms_closed : (c : Config) (r : ℕ) (answer : Answer) (mine : List Event) (written : List ℕ) (place : Place) → IsConfig c → AreClosed c r (beat_of r answer ∷ mine) → RoomsAt c r mine written place → RoomsAt c r (beat_of r answer ∷ mine) written place
-rooms_closed c r answer mine written (Place.Ask p) is closed at = ((λ first. away_closed c r answer mine closed), λ other. record { unread = (at.1 other).unread; fresh = fresh_closed c r answer mine closed })
-rooms_closed c r answer mine written (Place.Confirm round p) is closed at = record { unread = at.unread; fresh = fresh_closed c r answer mine closed }
-rooms_closed c r answer mine written (Place.ReadMin p) is closed at = record { waits = λ unread. fresh_closed c r answer mine closed; goes_on = λ read. led_closed c r answer (Stage.ReadMin p) mine is closed (at.goes_on read) }
-rooms_closed c r answer mine written (Place.EnterMin p) is closed at = record { left = at.left; led = led_closed c r answer Stage.EnterMin mine is closed at.led }
-rooms_closed c r answer mine written (Place.PutMin p) is closed at = record { left = at.left; led = led_closed c r answer Stage.PutMin mine is closed at.led }
-rooms_closed c r answer mine written (Place.Evidence p) is closed at = record { over = at.over; away = away_closed c r answer mine closed }
-rooms_closed c r answer mine written Place.Outrun is closed at = away_closed c r answer mine closed
-rooms_closed c r answer mine written place is closed at = led_closed c r answer (stage_of c r mine written place) mine is closed at
+rooms_closed : (c : Config) (r : ℕ) (answer : Answer) (mine : List Event) (written : List ℕ) (place : Place) → IsConfig c → was_unnamed c r (beat_of r answer ∷ mine) ≡ true → AreClosed c r (beat_of r answer ∷ mine) → RoomsAt c r mine written place → RoomsAt c r (beat_of r answer ∷ mine) written place
+rooms_closed c r answer mine written (Place.Ask p) is was closed at = ((λ first. out_closed c r answer mine was closed), λ other. record { unread = (at.1 other).unread; fresh = fresh_closed c r answer mine closed })
+rooms_closed c r answer mine written (Place.Confirm round p) is was closed at = record { unread = at.unread; fresh = fresh_closed c r answer mine closed }
+rooms_closed c r answer mine written (Place.ReadMin p) is was closed at = record { waits = λ unread. fresh_closed c r answer mine closed; goes_on = λ read. led_closed c r answer (Stage.ReadMin p) mine is closed (at.goes_on read) }
+rooms_closed c r answer mine written (Place.EnterMin p) is was closed at = record { left = at.left; led = led_closed c r answer Stage.EnterMin mine is closed at.led }
+rooms_closed c r answer mine written (Place.PutMin p) is was closed at = record { left = at.left; led = led_closed c r answer Stage.PutMin mine is closed at.led }
+rooms_closed c r answer mine written (Place.Evidence p) is was closed at = record { over = at.over; away = away_closed c r answer mine closed }
+rooms_closed c r answer mine written Place.Outrun is was closed at = away_closed c r answer mine closed
+rooms_closed c r answer mine written place is was closed at = led_closed c r answer (stage_of c r mine written place) mine is closed at
 
 -- a first minimum is waited for no longer
 confirms_closed : (c : Config) (r : ℕ) (answer : Answer) (mine : List Event) (place : Place) → AreClosed c r (beat_of r answer ∷ mine) → ConfirmsAt c r mine place → ConfirmsAt c r (beat_of r answer ∷ mine) place
@@ -92,9 +100,9 @@ confirms_closed c r answer mine (Place.ReadMin p) closed at = kinds_of_step.clos
 confirms_closed c r answer mine place closed at = record { read = at.read; none = closed.confirming }
 
 -- so at the place where it was
-counts_closed : (c : Config) (r : ℕ) (answer : Answer) (mine : List Event) (written : List ℕ) (place : Place) → IsConfig c → AreClosed c r (beat_of r answer ∷ mine) → CountsAt c r mine written place → CountsAt c r (beat_of r answer ∷ mine) written place
-counts_closed c r answer mine written place is closed at = record {
-  rooms = rooms_closed c r answer mine written place is closed at.rooms;
+counts_closed : (c : Config) (r : ℕ) (answer : Answer) (mine : List Event) (written : List ℕ) (place : Place) → IsConfig c → was_unnamed c r (beat_of r answer ∷ mine) ≡ true → AreClosed c r (beat_of r answer ∷ mine) → CountsAt c r mine written place → CountsAt c r (beat_of r answer ∷ mine) written place
+counts_closed c r answer mine written place is was closed at = record {
+  rooms = rooms_closed c r answer mine written place is was closed at.rooms;
   evidence = explained_anywhere c r (beat_of r answer ∷ mine) place closed.explaining;
   raises = raised_anywhere c r (beat_of r answer ∷ mine) place closed.raising;
   confirms = confirms_closed c r answer mine place closed at.confirms;
@@ -102,9 +110,9 @@ counts_closed c r answer mine written place is closed at = record {
 }
 
 -- and where it asks anew, whatever was before
-counts_anew : (c : Config) (r : ℕ) (answer : Answer) (mine : List Event) (written : List ℕ) → AreClosed c r (beat_of r answer ∷ mine) → CountsAt c r (beat_of r answer ∷ mine) written (Place.Ask 0)
-counts_anew c r answer mine written closed = record {
-  rooms = ((λ first. away_closed c r answer mine closed), λ other. absurd (other refl));
+counts_anew : (c : Config) (r : ℕ) (answer : Answer) (mine : List Event) (written : List ℕ) → was_unnamed c r (beat_of r answer ∷ mine) ≡ true → AreClosed c r (beat_of r answer ∷ mine) → CountsAt c r (beat_of r answer ∷ mine) written (Place.Ask 0)
+counts_anew c r answer mine written was closed = record {
+  rooms = ((λ first. out_closed c r answer mine was closed), λ other. absurd (other refl));
   evidence = closed.explaining;
   raises = closed.raising;
   confirms = closed.confirming;
@@ -115,9 +123,10 @@ unnamed : (c : Config) (r : ℕ) (mine : List Event) (written : List ℕ) (old n
     → CountsAt c r mine written old → CountsAt c r (beat_of r answer ∷ mine) written new
 unnamed c r mine written old new answer is turn off goes at =
     let closed = counts_close.unnamed c r mine (beat_of r answer) turn off (beat_opens_none c r answer mine) in
+    let was = left_unnamed (is_replication mine (beat_of r answer)) (is_named c r mine) (was_unnamed c r mine) turn off in
     elim goes [
-      | inl same ↦ subst (CountsAt c r (beat_of r answer ∷ mine) written) (sym same) (counts_closed c r answer mine written old is closed at)
-      | inr anew ↦ subst (CountsAt c r (beat_of r answer ∷ mine) written) (sym anew) (counts_anew c r answer mine written closed)
+      | inl same ↦ subst (CountsAt c r (beat_of r answer ∷ mine) written) (sym same) (counts_closed c r answer mine written old is was closed at)
+      | inr anew ↦ subst (CountsAt c r (beat_of r answer ∷ mine) written) (sym anew) (counts_anew c r answer mine written was closed)
     ]
 
 -- the leader that was told whom the scores name is where it was, or asks anew

@@ -1,5 +1,5 @@
 -- The counts of a leader until its first `Min`.
-use Rattle.std.proofs.Common.{◌≡◌, ◌≢◌, ℕ, true, false, ◌&&◌, List, ◌∷◌, refl, sym, ◌∙◌, ap, subst, true≢false}
+use Rattle.std.proofs.Common.{◌≡◌, ◌≢◌, ℕ, inl, true, false, ◌&&◌, List, ◌∷◌, refl, sym, ◌∙◌, ap, subst, true≢false}
 use Rattle.std.specs.Prelude.{not}
 use Rattle.std.proofs.lemmas.Bool.{ne_eqb}
 use Rattle.mu_model.specs.declared.config.Config.{Config}
@@ -11,9 +11,9 @@ use Rattle.mu_model.specs.Leaderships.{is_over}
 use Rattle.mu_model.specs.Steps.{has_min, leads}
 use Rattle.mu_model.specs.Stretches.{is_replication}
 use Rattle.mu_model.proofs.Basics.{event_by, same_number}
-use Rattle.mu_pace.specs.Away.{IsAway, TakesIdleStep}
+use Rattle.mu_pace.specs.Away.{TakesIdleStep}
 use Rattle.mu_pace.proofs.Away.{away_is_in_time}
-use Rattle.mu_lead.specs.Rooms.{IsReading, IsWaiting}
+use Rattle.mu_lead.specs.Rooms.{IsOut, IsReading, IsWaiting}
 use Rattle.mu_lead.proofs.Asking.{begins_now}
 use Rattle.mu_lead.proofs.RoomsQuiet.{asked_no_milestone, silent}
 
@@ -52,8 +52,8 @@ rooms_fence c r p f mine turn at =
     }
 
 -- after rounds that confirmed nothing the regions are asked anew
-pub out_again : (c : Config) (r p : ℕ) (mine : List Event) → IsWaiting c r mine → (p ≡ 0 → IsAway c r mine) × (p ≢ 0 → IsWaiting c r mine)
-out_again c r p mine at = ((λ same. away_is_in_time.fresh_is_away c r mine at.fresh), λ other. at)
+pub out_again : (c : Config) (r p : ℕ) (mine : List Event) → IsWaiting c r mine → (p ≡ 0 → IsOut c r mine) × (p ≢ 0 → IsWaiting c r mine)
+out_again c r p mine at = ((λ same. record { left = inl (unread_unled r mine at.unread); away = away_is_in_time.fresh_is_away c r mine at.fresh }), λ other. at)
 
 -- a confirmed leadership reads its first minimum
 pub begins_reading : (c : Config) (r q : ℕ) (mine : List Event) (written : List ℕ) → IsWaiting c r mine → IsReading c r mine written q

@@ -5,8 +5,9 @@ use Rattle.mu_model.specs.declared.event.Answer.{Answer}
 use Rattle.mu_model.specs.declared.event.Event.{Event}
 use Rattle.mu_model.specs.declared.event.Verb.{Verb}
 use Rattle.mu_model.specs.Bounds.{members}
+use Rattle.mu_model.specs.Diligence.{was_unnamed}
 use Rattle.mu_model.specs.Leaderships.{is_member, is_over}
-use Rattle.mu_model.specs.Steps.{has_min}
+use Rattle.mu_model.specs.Steps.{has_min, is_named, leads}
 use Rattle.mu_model.specs.Stretches.{is_replication}
 use Rattle.mu_model.proofs.Basics.{event_by}
 use Rattle.mu_pace.specs.Beside.{is_beside}
@@ -15,7 +16,7 @@ use Rattle.mu_pace.specs.Placed.{IsPlacedAt}
 use Rattle.mu_pace.specs.Weights.{Bringing, Lag, Stage}
 use Rattle.mu_pace.proofs.Away.{away_is_in_time}
 use Rattle.mu_pace.proofs.Placed.{places_lead}
-use Rattle.std.specs.Prelude.{is_some, not}
+use Rattle.std.specs.Prelude.{if◌then◌else◌, is_some, not, ◌&&◌}
 use Rattle.std.specs.declared.option.Option.{Option}
 use Rattle.std.proofs.Common.{inl, inr}
 use Rattle.mu_pace.specs.Away.{IsAway, LooksBeside}
@@ -25,18 +26,24 @@ use Rattle.mu_lead.specs.Standing.{At}
 use Rattle.mu_lead.proofs.NoteKinds.{is_look}
 use Rattle.mu_lead.specs.declared.place.Place.{Place}
 use Rattle.mu_lead.specs.declared.place.Then.{Then}
-use Rattle.mu_lead.specs.Rooms.{IsLed, IsWaiting, OthersKeepRooms, RoomsAt, lag_of, sizes_of, stage_of}
+use Rattle.mu_lead.specs.Rooms.{IsLed, IsOut, IsWaiting, OthersKeepRooms, RoomsAt, lag_of, sizes_of, stage_of}
 
 -- the event changes nothing of the terms of the leadership
 record Unmoved (c : Config) (r : ℕ) (mine : List Event) (e : Event) : Type 0 where
   turn : is_replication mine e ≡ false
   beside : is_beside e.verb ≡ true
   read : has_min r (e ∷ mine) ≡ has_min r mine
+  led : leads r (e ∷ mine) ≡ leads r mine
+  unnamed : was_unnamed c r (e ∷ mine) ≡ was_unnamed c r mine
   over : is_over r (e ∷ mine) ≡ is_over r mine
   member : (p : ℕ) → is_member r p (e ∷ mine) ≡ is_member r p mine
   all : members c r (e ∷ mine) ≡ members c r mine
   from : (p : ℕ) → members_from c r p (e ∷ mine) ≡ members_from c r p mine
   below : (p : ℕ) → members_below c r p (e ∷ mine) ≡ members_below c r p mine
+
+-- outside of the leader's turns nobody is left unnamed
+unnamed_on : (turn named was : Bool) → turn ≡ false → (if turn && not named then true else was) ≡ was
+unnamed_on turn named was h = rw h refl
 
 unmoved : (c : Config) (r : ℕ) (mine : List Event) (by : ℕ) (v : Verb) (a : Answer) → is_replication mine (event_by by v a) ≡ false → is_beside v ≡ true → Unmoved c r mine (event_by by v a)
 unmoved c r mine by (Verb.Ask p) a turn h = absurd (true≢false (sym h))
@@ -46,7 +53,7 @@ unmoved c r mine by (Verb.Enter p t) a turn h = absurd (true≢false (sym h))
 unmoved c r mine by (Verb.PutMin p b) a turn h = absurd (true≢false (sym h))
 unmoved c r mine by (Verb.Look p i) a turn h = absurd (true≢false (sym h))
 unmoved c r mine by (Verb.PutSlot p i b v) a turn h = absurd (true≢false (sym h))
-unmoved c r mine by v a turn h = record { turn = turn; beside = h; read = refl; over = refl; member = λ p. refl; all = refl; from = λ p. refl; below = λ p. refl }
+unmoved c r mine by v a turn h = record { turn = turn; beside = h; read = refl; led = refl; unnamed = unnamed_on (is_replication mine (event_by by v a)) (is_named c r mine) (was_unnamed c r mine) turn; over = refl; member = λ p. refl; all = refl; from = λ p. refl; below = λ p. refl }
 
 lag_same : (c : Config) (r p : ℕ) (mine : List Event) (e : Event) (on : Then) → Unmoved c r mine e → lag_of c r mine p on ≡ lag_of c r (e ∷ mine) p on
 lag_same c r p mine e Then.Late u = refl
@@ -74,11 +81,17 @@ led_on c r mine e stage next u same at = record {
       (subst (λ m. IsPlacedAt c r (record { replicas = c.replicas; width = c.width; members = m }) stage (e ∷ mine)) (sym u.all) (places_lead.beside c r (sizes_of c r mine) stage mine e u.turn u.beside at.placed));
 }
 
+out_on : (c : Config) (r : ℕ) (mine : List Event) (e : Event) → Unmoved c r mine e → IsOut c r mine → IsOut c r (e ∷ mine)
+out_on c r mine e u at = record {
+  left = elim at.left [ inl unled ↦ inl (u.led ∙ unled) | inr was ↦ inr (u.unnamed ∙ was) ];
+  away = away_is_in_time.away_beside c r mine e at.away u.turn u.beside;
+}
+
 waiting_on : (c : Config) (r : ℕ) (mine : List Event) (e : Event) → Unmoved c r mine e → IsWaiting c r mine → IsWaiting c r (e ∷ mine)
 waiting_on c r mine e u at = record { unread = u.read ∙ at.unread; fresh = away_is_in_time.fresh_beside c r mine e at.fresh u.turn u.beside }
 
 rooms_on : (c : Config) (r : ℕ) (mine : List Event) (e : Event) (written : List ℕ) (place : Place) → Unmoved c r mine e → RoomsAt c r mine written place → RoomsAt c r (e ∷ mine) written place
-rooms_on c r mine e written (Place.Ask p) u at = ((λ same. away_is_in_time.away_beside c r mine e (at.0 same) u.turn u.beside), λ other. waiting_on c r mine e u (at.1 other))
+rooms_on c r mine e written (Place.Ask p) u at = ((λ same. out_on c r mine e u (at.0 same)), λ other. waiting_on c r mine e u (at.1 other))
 rooms_on c r mine e written (Place.Confirm round p) u at = waiting_on c r mine e u at
 rooms_on c r mine e written (Place.ReadMin p) u at = record {
   waits = λ unread. away_is_in_time.fresh_beside c r mine e (at.waits (sym u.read ∙ unread)) u.turn u.beside;
@@ -108,6 +121,15 @@ looks_beside r p i a mine turn = record { beside = turn; region = p; position = 
 away_looked : (c : Config) (r p i : ℕ) (a : Answer) (mine : List Event) → is_replication mine (event_by r (Verb.Look p i) a) ≡ false → IsAway c r mine → IsAway c r (event_by r (Verb.Look p i) a ∷ mine)
 away_looked c r p i a mine turn at = away_is_in_time.away_look c r mine (event_by r (Verb.Look p i) a) at (looks_beside r p i a mine turn)
 
+out_looked : (c : Config) (r p i : ℕ) (a : Answer) (mine : List Event) → is_replication mine (event_by r (Verb.Look p i) a) ≡ false → IsOut c r mine → IsOut c r (event_by r (Verb.Look p i) a ∷ mine)
+out_looked c r p i a mine turn at = record {
+  left = elim at.left [
+    | inl unled ↦ inl unled
+    | inr was ↦ inr (unnamed_on (is_replication mine (event_by r (Verb.Look p i) a)) (is_named c r mine) (was_unnamed c r mine) turn ∙ was)
+  ];
+  away = away_looked c r p i a mine turn at.away;
+}
+
 waiting_looked : (c : Config) (r p i : ℕ) (a : Answer) (mine : List Event) → is_replication mine (event_by r (Verb.Look p i) a) ≡ false → Fresh r mine → IsWaiting c r mine → IsWaiting c r (event_by r (Verb.Look p i) a ∷ mine)
 waiting_looked c r p i a mine turn fresh at = record { unread = at.unread; fresh = away_is_in_time.fresh_look c r mine (event_by r (Verb.Look p i) a) at.fresh (looks_beside r p i a mine turn) (ap is_some fresh.unnumbered) }
 
@@ -115,7 +137,7 @@ waiting_looked c r p i a mine turn fresh at = record { unread = at.unread; fresh
 rooms_looked : (c : Config) (r b p i : ℕ) (a : Answer) (mine : List Event) (up : List ℕ) (reach : List (Option ℕ)) (written : List ℕ) (place : Place) → is_replication mine (event_by r (Verb.Look p i) a) ≡ false → not (leads_at place) ≡ true
     → At c r b mine up reach written place → RoomsAt c r mine written place → RoomsAt c r (event_by r (Verb.Look p i) a ∷ mine) written place
 rooms_looked c r b p i a mine up reach written (Place.Ask q) turn off stands at = (
-  (λ first. away_looked c r p i a mine turn (at.0 first)),
+  (λ first. out_looked c r p i a mine turn (at.0 first)),
   λ other. elim stands.asked [
     | inl first ↦ absurd (other first)
     | inr asked ↦ waiting_looked c r p i a mine turn asked.1 (at.1 other)

@@ -28,7 +28,7 @@ reading_in_time c r p mine written is at = go (has_min r mine) refl
 
 place_in_time : (c : Config) (r : ℕ) (mine : List Event) (written : List ℕ) (place : Place) → IsConfig c → RoomsAt c r mine written place → AreInTime c r mine
 place_in_time c r mine written (Place.Ask p) is at = elim (cases_eq p 0) [
-  | inl first ↦ away_is_in_time.in_time c r mine (at.0 first)
+  | inl first ↦ away_is_in_time.in_time c r mine (at.0 first).away
   | inr other ↦ waiting_in_time c r mine (at.1 other)
 ]
 place_in_time c r mine written (Place.Confirm round p) is at = waiting_in_time c r mine at
@@ -42,6 +42,6 @@ place_in_time c r mine written place is at = led_in_time c r mine (stage_of c r 
 -- at each place; and before any event nothing is counted
 pub rooms_are_in_time : RoomsAreInTime
 rooms_are_in_time = record {
-  start = λ c r. away_is_in_time.fresh_is_away c r [] (away_is_in_time.start c r);
+  start = λ c r. record { left = inl refl; away = away_is_in_time.fresh_is_away c r [] (away_is_in_time.start c r) };
   in_time = λ mine lead is at. place_in_time lead.config lead.id mine lead.written.items lead.place is at;
 }

@@ -14,12 +14,11 @@ use Rattle.mu_model.specs.Steps.{is_min}
 use Rattle.mu_model.specs.Stretches.{is_replication}
 use Rattle.mu_model.proofs.Basics.{event_by, same_number}
 use Rattle.mu_pace.specs.Asking.{AsksOn, far, near_enter, near_min}
-use Rattle.mu_pace.specs.Away.{IsAway}
 use Rattle.mu_pace.specs.Weights.{Sizes, Stage, at_late_fuo, at_late_put, late_enter, late_min}
 use Rattle.mu_pace.proofs.Away.{away_is_in_time}
 use Rattle.mu_lead.specs.declared.place.Place.{Place}
-use Rattle.mu_lead.specs.Rooms.{IsPlaced, sizes_of}
-use Rattle.mu_lead.proofs.RoomsMin.{min_now, second}
+use Rattle.mu_lead.specs.Rooms.{IsOut, IsPlaced, sizes_of}
+use Rattle.mu_lead.proofs.RoomsMin.{min_now, over_unled, second}
 use Rattle.mu_lead.proofs.RoomsQuiet.{later_min_silent, silent, sized, steps_on}
 
 asks_entering : (s : Sizes) (p k : ℕ) → AsksOn s k (Stage.LateEnter p) (Stage.LatePut p)
@@ -51,9 +50,12 @@ above_number b x over more = rw (lt-ltb b x more) refl
 
 -- or ends the leadership
 pub rooms_higher : (c : Config) (r p b x : ℕ) (mine : List Event) (written : List ℕ) → IsConfig c → is_replication mine (event_by r (Verb.Min p) (Answer.Number x)) ≡ true → proposal_number r mine ≡ Some b → b < x → IsPlaced c r mine written (Place.LateMin p)
-    → IsAway c r (event_by r (Verb.Min p) (Answer.Number x) ∷ mine)
+    → IsOut c r (event_by r (Verb.Min p) (Answer.Number x) ∷ mine)
 rooms_higher c r p b x mine written is turn numbered more at =
     let e = event_by r (Verb.Min p) (Answer.Number x) in
     let quiet = later_min_silent c r p (Answer.Number x) mine (second (has_begun r mine) (has is_min (leadership r mine)) at.read) in
     let over : is_over r (e ∷ mine) ≡ true = rw (same_number r, numbered) (above_number b x (is_over r mine) more) in
-    away_is_in_time.over c r (sizes_of c r mine) (Stage.LateMin p) mine e (sized c r mine is) at.placed turn over quiet.no_milestone quiet.none_behind
+    record {
+      left = inl (over_unled r (e ∷ mine) over);
+      away = away_is_in_time.over c r (sizes_of c r mine) (Stage.LateMin p) mine e (sized c r mine is) at.placed turn over quiet.no_milestone quiet.none_behind;
+    }

@@ -15,14 +15,14 @@ use Rattle.mu_model.specs.Steps.{has_min, is_min, leads}
 use Rattle.mu_model.specs.Stretches.{is_replication}
 use Rattle.mu_model.proofs.Basics.{event_by, same_number}
 use Rattle.mu_pace.specs.Asking.{far, far_join, is_far}
-use Rattle.mu_pace.specs.Away.{IsAway, IsFresh}
+use Rattle.mu_pace.specs.Away.{IsFresh}
 use Rattle.mu_pace.specs.Members.{members_from}
 use Rattle.mu_pace.specs.Placed.{IsPlacedAt, is_level}
 use Rattle.mu_pace.specs.Weights.{GoesOn, IsPlace, Stage, at_entering, at_fuo, at_min, at_number, entered_min, joined, last_join, last_min, next_join, next_min}
 use Rattle.mu_pace.proofs.Away.{away_is_in_time}
 use Rattle.mu_pace.proofs.Members.{counts_of_members}
 use Rattle.mu_pace.proofs.Placed.{places_lead}
-use Rattle.mu_lead.specs.Rooms.{IsEnded, IsLed, IsNumbering, IsPlaced, IsReading, sizes_of}
+use Rattle.mu_lead.specs.Rooms.{IsEnded, IsLed, IsNumbering, IsOut, IsPlaced, IsReading, sizes_of}
 use Rattle.mu_lead.specs.declared.place.Place.{Place}
 use Rattle.mu_lead.proofs.Numbering.{joining_other}
 use Rattle.mu_lead.proofs.RoomsQuiet.{first_min, landed_no_milestone, later_min, missed_min_silent, missed_slot_silent, silent, sized, steps_on}
@@ -38,7 +38,7 @@ rooms_entered c r p mine is turn at =
     }
 
 -- a leadership that is over isn't led
-over_unled : (r : ℕ) (mine : List Event) → is_over r mine ≡ true → leads r mine ≡ false
+pub over_unled : (r : ℕ) (mine : List Event) → is_over r mine ≡ true → leads r mine ≡ false
 over_unled r mine over = go (has_min r mine) (is_over r mine) over
   where
     go : (t u : Bool) → u ≡ true → (t && not u) ≡ false
@@ -47,20 +47,26 @@ over_unled r mine over = go (has_min r mine) (is_over r mine) over
 
 -- an enter that is lost ends the leadership, wherever the leader was
 pub rooms_lost : (c : Config) (r p : ℕ) (t : Target) (f : Fence) (stage : Stage) (mine : List Event) → IsConfig c → is_replication mine (event_by r (Verb.Enter p t) (Answer.Lost f)) ≡ true → IsPlacedAt c r (sizes_of c r mine) stage mine
-    → IsAway c r (event_by r (Verb.Enter p t) (Answer.Lost f) ∷ mine)
+    → IsOut c r (event_by r (Verb.Enter p t) (Answer.Lost f) ∷ mine)
 rooms_lost c r p t f stage mine is turn at =
     let e = event_by r (Verb.Enter p t) (Answer.Lost f) in
     let quiet = silent c r mine r (Verb.Enter p t) (Answer.Lost f) refl in
     let over : is_over r (e ∷ mine) ≡ true = rw (same_number r) refl in
-    away_is_in_time.over c r (sizes_of c r mine) stage mine e (sized c r mine is) at turn over quiet.no_milestone quiet.none_behind
+    record {
+      left = inl (over_unled r (e ∷ mine) over);
+      away = away_is_in_time.over c r (sizes_of c r mine) stage mine e (sized c r mine is) at turn over quiet.no_milestone quiet.none_behind;
+    }
 
 -- and so does a fence that ends it
 pub rooms_fenced : (c : Config) (r p : ℕ) (f : Fence) (stage : Stage) (mine : List Event) → IsConfig c → is_replication mine (event_by r (Verb.Fence p) (Answer.Seen f)) ≡ true → is_over r (event_by r (Verb.Fence p) (Answer.Seen f) ∷ mine) ≡ true → IsPlacedAt c r (sizes_of c r mine) stage mine
-    → IsAway c r (event_by r (Verb.Fence p) (Answer.Seen f) ∷ mine)
+    → IsOut c r (event_by r (Verb.Fence p) (Answer.Seen f) ∷ mine)
 rooms_fenced c r p f stage mine is turn over at =
     let e = event_by r (Verb.Fence p) (Answer.Seen f) in
     let quiet = silent c r mine r (Verb.Fence p) (Answer.Seen f) refl in
-    away_is_in_time.over c r (sizes_of c r mine) stage mine e (sized c r mine is) at turn over quiet.no_milestone quiet.none_behind
+    record {
+      left = inl (over_unled r (e ∷ mine) over);
+      away = away_is_in_time.over c r (sizes_of c r mine) stage mine e (sized c r mine is) at turn over quiet.no_milestone quiet.none_behind;
+    }
 
 -- and so does a put that misses
 pub rooms_missed_min : (c : Config) (r p b : ℕ) (stage : Stage) (mine : List Event) → IsConfig c → is_replication mine (event_by r (Verb.PutMin p b) Answer.Missed) ≡ true → IsPlacedAt c r (sizes_of c r mine) stage mine
@@ -84,12 +90,15 @@ still_over : (t over : Bool) → over ≡ true → (t || over) ≡ true
 still_over true over h = refl
 still_over false over h = h
 
-pub rooms_evidence : (c : Config) (r p : ℕ) (f : Fence) (mine : List Event) → is_replication mine (event_by r (Verb.Fence p) (Answer.Seen f)) ≡ true → IsEnded c r mine → IsAway c r (event_by r (Verb.Fence p) (Answer.Seen f) ∷ mine)
+pub rooms_evidence : (c : Config) (r p : ℕ) (f : Fence) (mine : List Event) → is_replication mine (event_by r (Verb.Fence p) (Answer.Seen f)) ≡ true → IsEnded c r mine → IsOut c r (event_by r (Verb.Fence p) (Answer.Seen f) ∷ mine)
 rooms_evidence c r p f mine turn at =
     let e = event_by r (Verb.Fence p) (Answer.Seen f) in
     let quiet = silent c r mine r (Verb.Fence p) (Answer.Seen f) refl in
     let over : is_over r (e ∷ mine) ≡ true = still_over ((r == r) && is_changed (grant_at_joining r p mine) f) (is_over r mine) at.over in
-    away_is_in_time.away_step c r mine e at.away (record { turn = turn; not_led = over_unled r mine at.over; no_milestone = quiet.no_milestone; none_behind = quiet.none_behind }) (inr (inl over))
+    record {
+      left = inl (over_unled r (e ∷ mine) over);
+      away = away_is_in_time.away_step c r mine e at.away (record { turn = turn; not_led = over_unled r mine at.over; no_milestone = quiet.no_milestone; none_behind = quiet.none_behind }) (inr (inl over));
+    }
 
 both : (a b : Bool) → a ≡ true → (a && b) ≡ false → b ≡ false
 both true b h k = k

@@ -1,15 +1,16 @@
 -- The room that the counts of steps have at each place of a leader.
-use Rattle.std.specs.Prelude.{Bool, nat_lt, ◌&&◌, ◌||◌, List, Some, [], false, get_or, suc, true, zero, ℕ, ◌+◌, ◌-◌, ◌∷◌, ◌≡◌, ◌≢◌, ◌≤◌}
+use Rattle.std.specs.Prelude.{Bool, nat_lt, ◌&&◌, ◌||◌, List, Some, [], false, get_or, suc, true, zero, ℕ, ◌+◌, ◌-◌, ◌∷◌, ◌≡◌, ◌≢◌, ◌≤◌, ◌⊎◌}
 use Rattle.mu_model.specs.declared.config.Config.{Config}
 use Rattle.mu_model.specs.declared.event.Answer.{Answer}
 use Rattle.mu_model.specs.declared.event.Event.{Event}
 use Rattle.mu_model.specs.declared.event.Verb.{Verb}
 use Rattle.mu_model.specs.Bounds.{members}
 use Rattle.mu_model.specs.Contents.{IsConfig}
+use Rattle.mu_model.specs.Diligence.{was_unnamed}
 use Rattle.mu_model.specs.Parts.{IsPossible}
 use Rattle.mu_model.specs.Knowledge.{known}
 use Rattle.mu_model.specs.Leaderships.{is_member, is_over}
-use Rattle.mu_model.specs.Steps.{has_min}
+use Rattle.mu_model.specs.Steps.{has_min, leads}
 use Rattle.mu_model.specs.Stretches.{is_replication}
 use Rattle.mu_pace.specs.Away.{IsAway, IsFresh}
 use Rattle.mu_pace.specs.Members.{members_below, members_from}
@@ -80,6 +81,12 @@ pub record IsLed (c : Config) (r : ℕ) (mine : List Event) (stage : Stage) : Ty
 abbrev pub IsPlaced : Config → ℕ → List Event → List ℕ → Place → Type 0
 IsPlaced c r mine written place = IsLed c r mine (stage_of c r mine written place)
 
+-- no leadership is under way, or r was left unnamed in it: only late followers are waited for, and a
+-- background look may count
+pub record IsOut (c : Config) (r : ℕ) (mine : List Event) : Type 0 where
+  pub left : (leads r mine ≡ false) ⊎ (was_unnamed c r mine ≡ true)
+  pub away : IsAway c r mine
+
 -- the leadership is over
 pub record IsEnded (c : Config) (r : ℕ) (mine : List Event) : Type 0 where
   pub over : is_over r mine ≡ true
@@ -104,7 +111,7 @@ pub record IsNumbering (c : Config) (r : ℕ) (mine : List Event) (p : ℕ) (sta
 
 -- what holds of the counts at a place
 abbrev pub RoomsAt : Config → ℕ → List Event → List ℕ → Place → Type 0
-RoomsAt c r mine written (Place.Ask p) = (p ≡ 0 → IsAway c r mine) × (p ≢ 0 → IsWaiting c r mine)
+RoomsAt c r mine written (Place.Ask p) = (p ≡ 0 → IsOut c r mine) × (p ≢ 0 → IsWaiting c r mine)
 RoomsAt c r mine written (Place.Confirm round p) = IsWaiting c r mine
 RoomsAt c r mine written (Place.ReadMin p) = IsReading c r mine written p
 RoomsAt c r mine written (Place.EnterMin p) = IsNumbering c r mine p Stage.EnterMin
@@ -207,6 +214,6 @@ OthersKeepRooms =
 -- before any event no leadership is under way, and a leader whose counts have the room of its place
 -- is in time
 pub record RoomsAreInTime : Type 0 where
-  pub start : (c : Config) (r : ℕ) → IsAway c r []
+  pub start : (c : Config) (r : ℕ) → IsOut c r []
   pub in_time : (mine : List Event) (lead : Lead) → IsConfig lead.config → HasRooms mine lead
       → AreInTime lead.config lead.id mine
