@@ -2,7 +2,9 @@
 #![tactic(auto)]
 
 ghost use Rattle.mu_lead.specs.Beside.{OthersKeep};
+ghost use Rattle.mu_lead.specs.Causes.{LeadersAskWithCause};
 ghost use Rattle.mu_lead.specs.Confirmations.{MinimaComeInTime};
+ghost use Rattle.mu_lead.specs.Elections.{ElectionsComeInTime};
 ghost use Rattle.mu_lead.specs.Evidence.{EvidenceComesInTime};
 ghost use Rattle.mu_lead.specs.Raising.{RaisesComeInTime};
 ghost use Rattle.mu_lead.specs.Rooms.{OthersKeepRooms, RoomsAreInTime};
@@ -60,4 +62,15 @@ pub fn minima_come_in_time()
 /// A late follower that grants to the leader joins in time, also beside what the other machines do.
 pub fn followers_join_in_time()
     ensures { FollowersJoinInTime }
+{}
+
+/// A named leader asks with cause, also beside what the other machines do, and they never ask.
+pub fn leaders_ask_with_cause()
+    ensures { LeadersAskWithCause }
+{}
+
+/// Who has to ask asks each region and reads each fence in time, also beside what the other machines
+/// do.
+pub fn elections_come_in_time()
+    ensures { ElectionsComeInTime }
 {}
