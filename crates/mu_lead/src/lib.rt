@@ -2,7 +2,9 @@
 #![tactic(auto)]
 
 ghost use Rattle.mu_lead.specs.Beside.{OthersKeep};
+ghost use Rattle.mu_lead.specs.Causes.{LeadersAskWithCause};
 ghost use Rattle.mu_lead.specs.Confirmations.{MinimaComeInTime};
+ghost use Rattle.mu_lead.specs.Elections.{ElectionsComeInTime};
 ghost use Rattle.mu_lead.specs.Evidence.{EvidenceComesInTime};
 ghost use Rattle.mu_lead.specs.Raising.{RaisesComeInTime};
 ghost use Rattle.mu_lead.specs.Resigning.{BeatsKeepCounts, CountsAreInTime};
@@ -63,6 +65,7 @@ pub fn followers_join_in_time()
     ensures { FollowersJoinInTime }
 {}
 
+<<<<<<< HEAD
 /// A beat in a turn of the leader leaves its counts as its place has them: where another replica is
 /// named, also right after it gave up, and where it rests.
 pub fn beats_keep_counts()
@@ -73,4 +76,15 @@ pub fn beats_keep_counts()
 /// do.
 pub fn counts_are_in_time()
     ensures { CountsAreInTime }
+=======
+/// A named leader asks with cause, also beside what the other machines do, and they never ask.
+pub fn leaders_ask_with_cause()
+    ensures { LeadersAskWithCause }
+{}
+
+/// Who has to ask asks each region and reads each fence in time, also beside what the other machines
+/// do.
+pub fn elections_come_in_time()
+    ensures { ElectionsComeInTime }
+>>>>>>> 5aa471a8681c8c11d4a0072a9da402c121c7ff9c
 {}
