@@ -1,4 +1,5 @@
 pub mod Bits
+pub mod Causes
 pub mod Heads
 pub mod Lasts
 pub mod Leading
@@ -7,6 +8,7 @@ pub mod Left
 pub mod Moving
 pub mod Open
 pub mod Paces
+pub mod Pacing
 pub mod Replaying
 pub mod Rounding
 pub mod Turning

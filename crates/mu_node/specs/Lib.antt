@@ -1,8 +1,10 @@
 pub mod Beats
+pub mod Causes
 pub mod Cycle
 pub mod Due
 pub mod Journal
 pub mod Node
 pub mod Notes
+pub mod Paced
 pub mod Turns
 pub mod Watch
