@@ -22,6 +22,7 @@ pub mod Puts
 pub mod Quiet
 pub mod Raises
 pub mod Replies
+pub mod Resigning
 pub mod Rests
 pub mod Rooms
 pub mod RoomsAsking

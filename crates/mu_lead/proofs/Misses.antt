@@ -29,9 +29,9 @@ explained_at : (c : Config) (r : ℕ) (mine : List Event) (place : Place) → is
 explained_at c r mine (Place.Evidence p) none at = absurd (true≢false none)
 explained_at c r mine place none at = at
 
-anywhere : (c : Config) (r : ℕ) (mine : List Event) (place : Place) → IsExplained c r mine → ExplainsAt c r mine place
-anywhere c r mine (Place.Evidence p) at = record { here = kinds_of_step.closed (explaining c r p) 1 mine (at p); others = λ q other. at q }
-anywhere c r mine place at = at
+pub explained_anywhere : (c : Config) (r : ℕ) (mine : List Event) (place : Place) → IsExplained c r mine → ExplainsAt c r mine place
+explained_anywhere c r mine (Place.Evidence p) at = record { here = kinds_of_step.closed (explaining c r p) 1 mine (at p); others = λ q other. at q }
+explained_anywhere c r mine place at = at
 
 unopened : (c : Config) (r q : ℕ) (mine : List Event) (e : Event) → is_missed_at q e ≡ false → (explaining c r q).allows (e ∷ mine) ≡ None
 unopened c r q mine e none = unallowed (λ past f. is_missed_at q f) (λ now. 1) mine e none
@@ -58,7 +58,7 @@ fenced_now c r p a mine turn at q = elim (cases_eq q p) [
 pub explains_plain : (old new : Lead) (place : Place) (vf : List ℕ → Verb) (answer : Answer) → old.place ≡ place → HasVerb old place vf → is_evidence place ≡ false → ((xs : List ℕ) (q : ℕ) → is_missed_at_verb q (vf xs) answer ≡ false) → ExplainsDue old answer new
 explains_plain old new place vf answer at is plain none mine verb due turn explained =
     let same = verb_is old place vf verb (known old.config old.id mine) at is due in
-    anywhere old.config old.id (event_by old.id verb answer ∷ mine) new.place
+    explained_anywhere old.config old.id (event_by old.id verb answer ∷ mine) new.place
     (explained_on old.config old.id mine (event_by old.id verb answer) (λ q. subst (λ w. is_missed_at_verb q w answer ≡ false) same (none (known old.config old.id mine) q))
     (explained_at old.config old.id mine old.place (ap is_evidence at ∙ plain) explained))
 
@@ -94,7 +94,7 @@ explains_slot old new place i v b p answer at is plain goes = elim (landed_slot 
 pub explains_fence : (old new : Lead) (p : ℕ) (answer : Answer) → old.place ≡ Place.Evidence p → ExplainsDue old answer new
 explains_fence old new p answer at mine verb due turn explained =
     let same = verb_is old (Place.Evidence p) (λ xs. Verb.Fence p) verb (known old.config old.id mine) at (λ xs. refl) due in
-    anywhere old.config old.id (event_by old.id verb answer ∷ mine) new.place
+    explained_anywhere old.config old.id (event_by old.id verb answer ∷ mine) new.place
     (subst (λ w. IsExplained old.config old.id (event_by old.id w answer ∷ mine)) same
     (fenced_now old.config old.id p answer mine (subst (λ w. is_replication mine (event_by old.id w answer) ≡ true) (sym same) turn) (subst (ExplainsAt old.config old.id mine) at explained)))
 

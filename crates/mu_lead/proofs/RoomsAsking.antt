@@ -1,5 +1,5 @@
 -- The counts of a leader until its first `Min`.
-use Rattle.std.proofs.Common.{◌≡◌, ◌≢◌, ℕ, true, false, ◌&&◌, List, ◌∷◌, refl, sym, ◌∙◌, ap, subst, true≢false}
+use Rattle.std.proofs.Common.{◌≡◌, ◌≢◌, ℕ, inl, true, false, ◌&&◌, List, ◌∷◌, refl, sym, ◌∙◌, ap, subst, true≢false}
 use Rattle.std.specs.Prelude.{not}
 use Rattle.std.proofs.lemmas.Bool.{ne_eqb}
 use Rattle.mu_model.specs.declared.config.Config.{Config}
@@ -24,15 +24,15 @@ unread_unled r mine unread = ap (λ t. t && not (is_over r mine)) unread
 idle_ask : (c : Config) (r p : ℕ) (a : Answer) (mine : List Event) → is_replication mine (event_by r (Verb.Ask p) a) ≡ true → leads r mine ≡ false → TakesIdleStep c r mine (event_by r (Verb.Ask p) a)
 idle_ask c r p a mine turn unled = record { turn = turn; not_led = unled; no_milestone = asked_no_milestone c r p a mine; none_behind = λ q. refl }
 
-first_asked : (c : Config) (r : ℕ) (a : Answer) (mine : List Event) → is_replication mine (event_by r (Verb.Ask 0) a) ≡ true → IsOut c r mine → IsWaiting c r (event_by r (Verb.Ask 0) a ∷ mine)
-first_asked c r a mine turn out = record {
+first_asked : (c : Config) (r : ℕ) (a : Answer) (mine : List Event) → IsWaiting c r (event_by r (Verb.Ask 0) a ∷ mine)
+first_asked c r a mine = record {
   unread = rw (same_number r) refl;
-  fresh = away_is_in_time.begins c r mine (event_by r (Verb.Ask 0) a) out.away (idle_ask c r 0 a mine turn out.not_led) (begins_now r a);
+  fresh = away_is_in_time.begins c r mine (event_by r (Verb.Ask 0) a) (begins_now r a) (asked_no_milestone c r 0 a mine) (λ q. refl);
 }
 
 -- the first ask begins a leadership
-pub rooms_first_ask : (c : Config) (r p : ℕ) (a : Answer) (mine : List Event) → p ≡ 0 → is_replication mine (event_by r (Verb.Ask p) a) ≡ true → IsOut c r mine → IsWaiting c r (event_by r (Verb.Ask p) a ∷ mine)
-rooms_first_ask c r p a mine first turn out = subst (λ q. IsWaiting c r (event_by r (Verb.Ask q) a ∷ mine)) (sym first) (first_asked c r a mine turn out)
+pub rooms_first_ask : (c : Config) (r p : ℕ) (a : Answer) (mine : List Event) → p ≡ 0 → IsWaiting c r (event_by r (Verb.Ask p) a ∷ mine)
+rooms_first_ask c r p a mine first = subst (λ q. IsWaiting c r (event_by r (Verb.Ask q) a ∷ mine)) (sym first) (first_asked c r a mine)
 
 -- and the others go on with it
 pub rooms_ask : (c : Config) (r p : ℕ) (a : Answer) (mine : List Event) → p ≢ 0 → is_replication mine (event_by r (Verb.Ask p) a) ≡ true → IsWaiting c r mine → IsWaiting c r (event_by r (Verb.Ask p) a ∷ mine)
@@ -53,7 +53,7 @@ rooms_fence c r p f mine turn at =
 
 -- after rounds that confirmed nothing the regions are asked anew
 pub out_again : (c : Config) (r p : ℕ) (mine : List Event) → IsWaiting c r mine → (p ≡ 0 → IsOut c r mine) × (p ≢ 0 → IsWaiting c r mine)
-out_again c r p mine at = ((λ same. record { not_led = unread_unled r mine at.unread; away = away_is_in_time.fresh_is_away c r mine at.fresh }), λ other. at)
+out_again c r p mine at = ((λ same. record { left = inl (unread_unled r mine at.unread); away = away_is_in_time.fresh_is_away c r mine at.fresh }), λ other. at)
 
 -- a confirmed leadership reads its first minimum
 pub begins_reading : (c : Config) (r q : ℕ) (mine : List Event) (written : List ℕ) → IsWaiting c r mine → IsReading c r mine written q

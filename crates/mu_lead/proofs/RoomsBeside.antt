@@ -5,8 +5,9 @@ use Rattle.mu_model.specs.declared.event.Answer.{Answer}
 use Rattle.mu_model.specs.declared.event.Event.{Event}
 use Rattle.mu_model.specs.declared.event.Verb.{Verb}
 use Rattle.mu_model.specs.Bounds.{members}
+use Rattle.mu_model.specs.Diligence.{was_unnamed}
 use Rattle.mu_model.specs.Leaderships.{is_member, is_over}
-use Rattle.mu_model.specs.Steps.{has_min, leads}
+use Rattle.mu_model.specs.Steps.{has_min, is_named, leads}
 use Rattle.mu_model.specs.Stretches.{is_replication}
 use Rattle.mu_model.proofs.Basics.{event_by}
 use Rattle.mu_pace.specs.Beside.{is_beside}
@@ -15,10 +16,10 @@ use Rattle.mu_pace.specs.Placed.{IsPlacedAt}
 use Rattle.mu_pace.specs.Weights.{Bringing, Lag, Stage}
 use Rattle.mu_pace.proofs.Away.{away_is_in_time}
 use Rattle.mu_pace.proofs.Placed.{places_lead}
-use Rattle.std.specs.Prelude.{is_some, not}
+use Rattle.std.specs.Prelude.{if◌then◌else◌, is_some, not, ◌&&◌}
 use Rattle.std.specs.declared.option.Option.{Option}
 use Rattle.std.proofs.Common.{inl, inr}
-use Rattle.mu_pace.specs.Away.{LooksBeside}
+use Rattle.mu_pace.specs.Away.{IsAway, LooksBeside}
 use Rattle.mu_lead.specs.Beside.{is_beside as is_beside_leader, leads_at}
 use Rattle.mu_lead.specs.Confirming.{Fresh}
 use Rattle.mu_lead.specs.Standing.{At}
@@ -33,11 +34,16 @@ record Unmoved (c : Config) (r : ℕ) (mine : List Event) (e : Event) : Type 0 w
   beside : is_beside e.verb ≡ true
   read : has_min r (e ∷ mine) ≡ has_min r mine
   led : leads r (e ∷ mine) ≡ leads r mine
+  unnamed : was_unnamed c r (e ∷ mine) ≡ was_unnamed c r mine
   over : is_over r (e ∷ mine) ≡ is_over r mine
   member : (p : ℕ) → is_member r p (e ∷ mine) ≡ is_member r p mine
   all : members c r (e ∷ mine) ≡ members c r mine
   from : (p : ℕ) → members_from c r p (e ∷ mine) ≡ members_from c r p mine
   below : (p : ℕ) → members_below c r p (e ∷ mine) ≡ members_below c r p mine
+
+-- outside of the leader's turns nobody is left unnamed
+unnamed_on : (turn named was : Bool) → turn ≡ false → (if turn && not named then true else was) ≡ was
+unnamed_on turn named was h = rw h refl
 
 unmoved : (c : Config) (r : ℕ) (mine : List Event) (by : ℕ) (v : Verb) (a : Answer) → is_replication mine (event_by by v a) ≡ false → is_beside v ≡ true → Unmoved c r mine (event_by by v a)
 unmoved c r mine by (Verb.Ask p) a turn h = absurd (true≢false (sym h))
@@ -47,7 +53,7 @@ unmoved c r mine by (Verb.Enter p t) a turn h = absurd (true≢false (sym h))
 unmoved c r mine by (Verb.PutMin p b) a turn h = absurd (true≢false (sym h))
 unmoved c r mine by (Verb.Look p i) a turn h = absurd (true≢false (sym h))
 unmoved c r mine by (Verb.PutSlot p i b v) a turn h = absurd (true≢false (sym h))
-unmoved c r mine by v a turn h = record { turn = turn; beside = h; read = refl; led = refl; over = refl; member = λ p. refl; all = refl; from = λ p. refl; below = λ p. refl }
+unmoved c r mine by v a turn h = record { turn = turn; beside = h; read = refl; led = refl; unnamed = unnamed_on (is_replication mine (event_by by v a)) (is_named c r mine) (was_unnamed c r mine) turn; over = refl; member = λ p. refl; all = refl; from = λ p. refl; below = λ p. refl }
 
 lag_same : (c : Config) (r p : ℕ) (mine : List Event) (e : Event) (on : Then) → Unmoved c r mine e → lag_of c r mine p on ≡ lag_of c r (e ∷ mine) p on
 lag_same c r p mine e Then.Late u = refl
@@ -76,7 +82,10 @@ led_on c r mine e stage next u same at = record {
 }
 
 out_on : (c : Config) (r : ℕ) (mine : List Event) (e : Event) → Unmoved c r mine e → IsOut c r mine → IsOut c r (e ∷ mine)
-out_on c r mine e u at = record { not_led = u.led ∙ at.not_led; away = away_is_in_time.away_beside c r mine e at.away u.turn u.beside }
+out_on c r mine e u at = record {
+  left = elim at.left [ inl unled ↦ inl (u.led ∙ unled) | inr was ↦ inr (u.unnamed ∙ was) ];
+  away = away_is_in_time.away_beside c r mine e at.away u.turn u.beside;
+}
 
 waiting_on : (c : Config) (r : ℕ) (mine : List Event) (e : Event) → Unmoved c r mine e → IsWaiting c r mine → IsWaiting c r (e ∷ mine)
 waiting_on c r mine e u at = record { unread = u.read ∙ at.unread; fresh = away_is_in_time.fresh_beside c r mine e at.fresh u.turn u.beside }
@@ -109,8 +118,17 @@ plain_beside leading verb plain beside = refl
 looks_beside : (r p i : ℕ) (a : Answer) (mine : List Event) → is_replication mine (event_by r (Verb.Look p i) a) ≡ false → LooksBeside mine (event_by r (Verb.Look p i) a)
 looks_beside r p i a mine turn = record { beside = turn; region = p; position = i; verb = refl }
 
+away_looked : (c : Config) (r p i : ℕ) (a : Answer) (mine : List Event) → is_replication mine (event_by r (Verb.Look p i) a) ≡ false → IsAway c r mine → IsAway c r (event_by r (Verb.Look p i) a ∷ mine)
+away_looked c r p i a mine turn at = away_is_in_time.away_look c r mine (event_by r (Verb.Look p i) a) at (looks_beside r p i a mine turn)
+
 out_looked : (c : Config) (r p i : ℕ) (a : Answer) (mine : List Event) → is_replication mine (event_by r (Verb.Look p i) a) ≡ false → IsOut c r mine → IsOut c r (event_by r (Verb.Look p i) a ∷ mine)
-out_looked c r p i a mine turn at = record { not_led = at.not_led; away = away_is_in_time.away_look c r mine (event_by r (Verb.Look p i) a) at.away (looks_beside r p i a mine turn) }
+out_looked c r p i a mine turn at = record {
+  left = elim at.left [
+    | inl unled ↦ inl unled
+    | inr was ↦ inr (unnamed_on (is_replication mine (event_by r (Verb.Look p i) a)) (is_named c r mine) (was_unnamed c r mine) turn ∙ was)
+  ];
+  away = away_looked c r p i a mine turn at.away;
+}
 
 waiting_looked : (c : Config) (r p i : ℕ) (a : Answer) (mine : List Event) → is_replication mine (event_by r (Verb.Look p i) a) ≡ false → Fresh r mine → IsWaiting c r mine → IsWaiting c r (event_by r (Verb.Look p i) a ∷ mine)
 waiting_looked c r p i a mine turn fresh at = record { unread = at.unread; fresh = away_is_in_time.fresh_look c r mine (event_by r (Verb.Look p i) a) at.fresh (looks_beside r p i a mine turn) (ap is_some fresh.unnumbered) }
@@ -126,7 +144,7 @@ rooms_looked c r b p i a mine up reach written (Place.Ask q) turn off stands at 
   ],
 )
 rooms_looked c r b p i a mine up reach written (Place.Confirm round q) turn off stands at = waiting_looked c r p i a mine turn stands.1.fresh at
-rooms_looked c r b p i a mine up reach written (Place.Evidence q) turn off stands at = record { over = at.over; away = away_is_in_time.away_look c r mine (event_by r (Verb.Look p i) a) at.away (looks_beside r p i a mine turn) }
+rooms_looked c r b p i a mine up reach written (Place.Evidence q) turn off stands at = record { over = at.over; away = away_looked c r p i a mine turn at.away }
 rooms_looked c r b p i a mine up reach written place turn off stands at = absurd (true≢false (sym off))
 
 -- a background event of another machine leaves the rooms of the leader, at each place

@@ -42,6 +42,6 @@ place_in_time c r mine written place is at = led_in_time c r mine (stage_of c r 
 -- at each place; and before any event nothing is counted
 pub rooms_are_in_time : RoomsAreInTime
 rooms_are_in_time = record {
-  start = λ c r. record { not_led = refl; away = away_is_in_time.fresh_is_away c r [] (away_is_in_time.start c r) };
+  start = λ c r. record { left = inl refl; away = away_is_in_time.fresh_is_away c r [] (away_is_in_time.start c r) };
   in_time = λ mine lead is at. place_in_time lead.config lead.id mine lead.written.items lead.place is at;
 }

@@ -56,6 +56,6 @@ rooms_higher c r p b x mine written is turn numbered more at =
     let quiet = later_min_silent c r p (Answer.Number x) mine (second (has_begun r mine) (has is_min (leadership r mine)) at.read) in
     let over : is_over r (e ∷ mine) ≡ true = rw (same_number r, numbered) (above_number b x (is_over r mine) more) in
     record {
-      not_led = over_unled r (e ∷ mine) over;
+      left = inl (over_unled r (e ∷ mine) over);
       away = away_is_in_time.over c r (sizes_of c r mine) (Stage.LateMin p) mine e (sized c r mine is) at.placed turn over quiet.no_milestone quiet.none_behind;
     }

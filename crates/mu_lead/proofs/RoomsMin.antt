@@ -53,7 +53,7 @@ rooms_lost c r p t f stage mine is turn at =
     let quiet = silent c r mine r (Verb.Enter p t) (Answer.Lost f) refl in
     let over : is_over r (e ∷ mine) ≡ true = rw (same_number r) refl in
     record {
-      not_led = over_unled r (e ∷ mine) over;
+      left = inl (over_unled r (e ∷ mine) over);
       away = away_is_in_time.over c r (sizes_of c r mine) stage mine e (sized c r mine is) at turn over quiet.no_milestone quiet.none_behind;
     }
 
@@ -64,7 +64,7 @@ rooms_fenced c r p f stage mine is turn over at =
     let e = event_by r (Verb.Fence p) (Answer.Seen f) in
     let quiet = silent c r mine r (Verb.Fence p) (Answer.Seen f) refl in
     record {
-      not_led = over_unled r (e ∷ mine) over;
+      left = inl (over_unled r (e ∷ mine) over);
       away = away_is_in_time.over c r (sizes_of c r mine) stage mine e (sized c r mine is) at turn over quiet.no_milestone quiet.none_behind;
     }
 
@@ -96,7 +96,7 @@ rooms_evidence c r p f mine turn at =
     let quiet = silent c r mine r (Verb.Fence p) (Answer.Seen f) refl in
     let over : is_over r (e ∷ mine) ≡ true = still_over ((r == r) && is_changed (grant_at_joining r p mine) f) (is_over r mine) at.over in
     record {
-      not_led = over_unled r (e ∷ mine) over;
+      left = inl (over_unled r (e ∷ mine) over);
       away = away_is_in_time.away_step c r mine e at.away (record { turn = turn; not_led = over_unled r mine at.over; no_milestone = quiet.no_milestone; none_behind = quiet.none_behind }) (inr (inl over));
     }
 

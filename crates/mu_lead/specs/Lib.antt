@@ -9,6 +9,7 @@ pub mod Notes
 pub mod Offering
 pub mod Onward
 pub mod Raising
+pub mod Resigning
 pub mod Rooms
 pub mod Saying
 pub mod Sets

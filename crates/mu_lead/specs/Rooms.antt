@@ -1,11 +1,12 @@
 -- The room that the counts of steps have at each place of a leader.
-use Rattle.std.specs.Prelude.{Bool, nat_lt, ◌&&◌, ◌||◌, List, Some, [], false, get_or, suc, true, zero, ℕ, ◌+◌, ◌-◌, ◌∷◌, ◌≡◌, ◌≢◌, ◌≤◌}
+use Rattle.std.specs.Prelude.{Bool, nat_lt, ◌&&◌, ◌||◌, List, Some, [], false, get_or, suc, true, zero, ℕ, ◌+◌, ◌-◌, ◌∷◌, ◌≡◌, ◌≢◌, ◌≤◌, ◌⊎◌}
 use Rattle.mu_model.specs.declared.config.Config.{Config}
 use Rattle.mu_model.specs.declared.event.Answer.{Answer}
 use Rattle.mu_model.specs.declared.event.Event.{Event}
 use Rattle.mu_model.specs.declared.event.Verb.{Verb}
 use Rattle.mu_model.specs.Bounds.{members}
 use Rattle.mu_model.specs.Contents.{IsConfig}
+use Rattle.mu_model.specs.Diligence.{was_unnamed}
 use Rattle.mu_model.specs.Parts.{IsPossible}
 use Rattle.mu_model.specs.Knowledge.{known}
 use Rattle.mu_model.specs.Leaderships.{is_member, is_over}
@@ -80,9 +81,10 @@ pub record IsLed (c : Config) (r : ℕ) (mine : List Event) (stage : Stage) : Ty
 abbrev pub IsPlaced : Config → ℕ → List Event → List ℕ → Place → Type 0
 IsPlaced c r mine written place = IsLed c r mine (stage_of c r mine written place)
 
--- no leadership is under way: only late followers are waited for, and a background look may count
+-- no leadership is under way, or r was left unnamed in it: only late followers are waited for, and a
+-- background look may count
 pub record IsOut (c : Config) (r : ℕ) (mine : List Event) : Type 0 where
-  pub not_led : leads r mine ≡ false
+  pub left : (leads r mine ≡ false) ⊎ (was_unnamed c r mine ≡ true)
   pub away : IsAway c r mine
 
 -- the leadership is over

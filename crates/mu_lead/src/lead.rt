@@ -13,6 +13,7 @@ ghost use Rattle.mu_lead.specs.declared.note.Note.{Note as SomeNote};
 ghost use Rattle.mu_lead.specs.Confirmations.{ConfirmsAt, ConfirmsDue, ConfirmsNext};
 ghost use Rattle.mu_lead.specs.Evidence.{ExplainsAt, ExplainsDue, ExplainsNext};
 ghost use Rattle.mu_lead.specs.Raising.{RaisesAt, RaisesDue, RaisesNext};
+ghost use Rattle.mu_lead.specs.Resigning.{IsTold};
 ghost use Rattle.mu_lead.specs.Rooms.{HasRooms, RoomsDue, RoomsNext, gives_up};
 ghost use Rattle.mu_lead.specs.Sets.{is_bit};
 ghost use Rattle.mu_lead.specs.Standing.{HasHeeded, StandsFor, TakesDue, TakesNext, TellsDue, TellsFailed, TellsNext, verb_of};
@@ -109,6 +110,7 @@ impl Lead {
             ≡ (self.old.under_way && not (nat_lt leader self.old.id)) }
         ensures place { nat_lt leader self.old.id ≡ false → self.new.place ≡ self.old.place }
         ensures up { self.new.up ≡ self.old.up }
+        ensures told { IsTold self.old leader self.new }
         ensures rooms { gives_up self.old leader ≡ false
             → HasRooms mine self.old → HasRooms mine self.new }
         ensures evidence { gives_up self.old leader ≡ false

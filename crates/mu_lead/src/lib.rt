@@ -5,6 +5,7 @@ ghost use Rattle.mu_lead.specs.Beside.{OthersKeep};
 ghost use Rattle.mu_lead.specs.Confirmations.{MinimaComeInTime};
 ghost use Rattle.mu_lead.specs.Evidence.{EvidenceComesInTime};
 ghost use Rattle.mu_lead.specs.Raising.{RaisesComeInTime};
+ghost use Rattle.mu_lead.specs.Resigning.{BeatsKeepCounts, CountsAreInTime};
 ghost use Rattle.mu_lead.specs.Rooms.{OthersKeepRooms, RoomsAreInTime};
 ghost use Rattle.mu_lead.specs.Welcomes.{FollowersJoinInTime};
 
@@ -60,4 +61,16 @@ pub fn minima_come_in_time()
 /// A late follower that grants to the leader joins in time, also beside what the other machines do.
 pub fn followers_join_in_time()
     ensures { FollowersJoinInTime }
+{}
+
+/// A beat in a turn of the leader leaves its counts as its place has them: where another replica is
+/// named, also right after it gave up, and where it rests.
+pub fn beats_keep_counts()
+    ensures { BeatsKeepCounts }
+{}
+
+/// A leader whose counts are as its place has them is in time, also beside what the other machines
+/// do.
+pub fn counts_are_in_time()
+    ensures { CountsAreInTime }
 {}

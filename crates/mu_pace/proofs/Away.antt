@@ -69,11 +69,11 @@ away_step c r past e a k ends = record {
   bringing = λ p. kinds_of_step.closed (bringing_up c r p) 1 (e ∷ past) (shut_bringing c r p past e (k.none_behind p) (ends_leaves c r past e k.turn ends));
 }
 
-begins : (c : Config) (r : ℕ) (past : List Event) (e : Event) → IsAway c r past → TakesIdleStep c r past e → begins_leadership r e ≡ true → IsFresh c r (e ∷ past)
-begins c r past e a k b = record {
-  progressing = no_progress c r past e k.no_milestone a.progressing;
-  asking = λ p l. unled_asks c r p past e k.turn k.not_led;
-  bringing = λ p. shut_bringing c r p past e (k.none_behind p) (ends_leaves c r past e k.turn (inl b));
+begins : (c : Config) (r : ℕ) (past : List Event) (e : Event) → begins_leadership r e ≡ true → is_milestone c r past e ≡ false → ((p : ℕ) → falls_behind c r p past e ≡ false) → IsFresh c r (e ∷ past)
+begins c r past e b m n = record {
+  progressing = shut (progressing c r) past e (unallowed (is_milestone c r) (limit_now c r) past e m) (true_left (begins_leadership r e) (turns_away c r (is_progress c r) past e) b);
+  asking = λ p l. asks_anew c r p past e 1 (omega arith) (true_left (begins_leadership r e) (turns_away c r (λ before g. not (leads r before) || is_fencing p g) past e) b);
+  bringing = λ p. shut_bringing c r p past e (n p) (true_left (begins_leadership r e) (turns_away c r (is_over_after r) past e) b);
 }
 
 fresh_step : (c : Config) (r : ℕ) (past : List Event) (e : Event) → IsFresh c r past → TakesIdleStep c r past e → IsFresh c r (e ∷ past)

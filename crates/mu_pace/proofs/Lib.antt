@@ -20,4 +20,5 @@ pub mod Weights
 pub mod Asking
 pub mod Opening
 pub mod Beside
+pub mod Closing
 pub mod Cycles

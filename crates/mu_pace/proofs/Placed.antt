@@ -126,7 +126,7 @@ room_brought : (level : Bool) (w : Watch) (n : ℕ) (now : List Event) → (leve
 room_brought true w n now a b = a refl
 room_brought false w n now a b = b refl
 
-closed_brought : (level : Bool) (w : Watch) (n : ℕ) (now : List Event) → steps_left w now ≡ None → IsBrought level w n now
+pub closed_brought : (level : Bool) (w : Watch) (n : ℕ) (now : List Event) → steps_left w now ≡ None → IsBrought level w n now
 closed_brought true w n now h = h
 closed_brought false w n now h = kinds_of_step.closed w n now h
 
@@ -135,7 +135,7 @@ is_closed true w n now h b = b
 is_closed false w n now h b = absurd (true≢false (sym h))
 
 -- what the bound allows is what the sizes say
-same_limit : (c : Config) (r : ℕ) (s : Sizes) (now : List Event) → FitsSizes c r s now → most s ≡ limit_now c r now
+pub same_limit : (c : Config) (r : ℕ) (s : Sizes) (now : List Event) → FitsSizes c r s now → most s ≡ limit_now c r now
 same_limit c r s now z = let a = z.replicas in let b = z.width in let d = z.members in omega arith
 
 -- a step by an edge that the weights know: for a late follower

@@ -70,8 +70,9 @@ pub record AwayIsInTime : Type 0 where
       (c : Config) (r : ℕ) (past : List Event) (e : Event) → IsAway c r past → LooksBeside past e
       → IsAway c r (e ∷ past)
   pub begins :
-      (c : Config) (r : ℕ) (past : List Event) (e : Event) → IsAway c r past
-      → TakesIdleStep c r past e → begins_leadership r e ≡ true → IsFresh c r (e ∷ past)
+      (c : Config) (r : ℕ) (past : List Event) (e : Event) → begins_leadership r e ≡ true
+      → is_milestone c r past e ≡ false → ((p : ℕ) → falls_behind c r p past e ≡ false)
+      → IsFresh c r (e ∷ past)
   pub fresh_step :
       (c : Config) (r : ℕ) (past : List Event) (e : Event) → IsFresh c r past
       → TakesIdleStep c r past e → IsFresh c r (e ∷ past)

@@ -13,4 +13,5 @@ pub mod Rounds
 pub mod Collecting
 pub mod Asking
 pub mod Beside
+pub mod Closing
 pub mod Cycles

@@ -4,6 +4,7 @@
 ghost use Rattle.mu_pace.specs.Asking.{AskingFalls};
 ghost use Rattle.mu_pace.specs.Away.{AwayIsInTime};
 ghost use Rattle.mu_pace.specs.Beside.{BesideKeepsRooms};
+ghost use Rattle.mu_pace.specs.Closing.{CountsClose};
 ghost use Rattle.mu_pace.specs.Collecting.{PartsKeepPace};
 ghost use Rattle.mu_pace.specs.Countdowns.{CountdownsRun};
 ghost use Rattle.mu_pace.specs.Cycles.{MachinesAreDiligent, RoundsReadInTime, RoundsTellHeads};
@@ -164,6 +165,11 @@ pub fn rounds_keep_pace()
 /// Who doesn't lead is in time, begins anew, and is fresh until its first `Min`.
 pub fn away_is_in_time()
     ensures { AwayIsInTime }
+{}
+
+/// A replication event before which another replica is named closes the counts of a leader.
+pub fn counts_close()
+    ensures { CountsClose }
 {}
 
 /// What the host, the cycle, the leader and the replayer keep is every pace.

@@ -31,8 +31,7 @@ pub returns-then-p-eq0-clause-rooms : goal.returns-then-p-eq0-clause-rooms
 returns-then-p-eq0-clause-rooms c = λ values mine s is possible told turn rooms.
     let l = c.args.self.now in
     let here = rw is at s.at in
-    let out = rw is at rooms in
-    c.after_ask-self.ensures.rooms _ l.written.items here.region s.config.replicas.1 (rooms_first_ask l.config l.id c.args.p Answer.Done mine c.if-p-eq0.true turn (out.0 c.if-p-eq0.true))
+    c.after_ask-self.ensures.rooms _ l.written.items here.region s.config.replicas.1 (rooms_first_ask l.config l.id c.args.p Answer.Done mine c.if-p-eq0.true)
 
 pub returns-else-p-eq0-clause-rooms : goal.returns-else-p-eq0-clause-rooms
 returns-else-p-eq0-clause-rooms c = λ values mine s is possible told turn rooms.
