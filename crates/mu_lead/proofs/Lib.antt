@@ -2,9 +2,13 @@ pub mod Allowing
 pub mod Asking
 pub mod Bits
 pub mod Bringing
+pub mod Causes
 pub mod Commits
 pub mod Confirms
 pub mod Due
+pub mod ElectionSteps
+pub mod Elections
+pub mod Gathering
 pub mod Going
 pub mod Held
 pub mod Joins

@@ -1,7 +1,10 @@
 pub mod Beside
+pub mod Causes
 pub mod Confirmations
 pub mod Confirming
+pub mod Elections
 pub mod Evidence
+pub mod Gathering
 pub mod Going
 pub mod Leading
 pub mod Losses

@@ -1,5 +1,5 @@
 //! The answers that each place may get.
-ghost use Rattle.std.specs.Prelude.{None, List, MatchOption, false, get_or, is_some, length, nat_lt, true, ℕ, ◌%◌, ◌∷◌, ◌≡◌, ◌≢◌, ◌≤◌};
+ghost use Rattle.std.specs.Prelude.{None, List, MatchOption, false, get_or, is_some, length, nat_lt, true, ℕ, ◌%◌, ◌∷◌, ◌≡◌, ◌≢◌, ◌≤◌, ◌<◌};
 ghost use Rattle.mu_model.specs.declared.event.Answer.{Answer as SomeAnswer};
 ghost use Rattle.mu_model.specs.declared.event.Event.{Event as SomeEvent};
 ghost use Rattle.mu_model.specs.declared.event.Fence.{Fence as SomeFence};
@@ -14,6 +14,8 @@ ghost use Rattle.mu_lead.specs.Notes.{value_committed};
 ghost use Rattle.mu_lead.specs.Standing.{HasHeeded, StandsFor, Takes};
 ghost use Rattle.mu_lead.specs.Saying.{NotesEnter, NotesEvidence, NotesHead, NotesJoin, NotesMin, NotesOver, NotesPut, NotesRound, is_working_or_lost};
 ghost use Rattle.mu_lead.specs.declared.note.Note.{Note as SomeNote};
+ghost use Rattle.mu_lead.specs.Beside.{leads_at};
+ghost use Rattle.mu_lead.specs.Gathering.{FollowsFence, LeadsBy};
 ghost use Rattle.mu_lead.specs.Going.{going_after};
 ghost use Rattle.mu_lead.specs.Confirmations.{KeepsConfirmation};
 ghost use Rattle.mu_lead.specs.Raising.{KeepsRaises};
@@ -65,6 +67,9 @@ impl Lead {
             self.new }
         ensures confirms { KeepsConfirmation self.old (SomePlace.Confirm round p) (SomeVerb.Fence p)
             answer self.new }
+        ensures follows { (fence : SomeFence) → answer ≡ SomeAnswer.Seen fence
+            → self.old.config.replicas ≤ 7
+            → FollowsFence self.old.config.replicas round p self.new.place }
         ensures quiet { value_committed result ≡ None }
         ensures config { self.new.config ≡ self.old.config }
         ensures id { self.new.id ≡ self.old.id }
@@ -84,6 +89,8 @@ impl Lead {
             → Takes self.old (SomePlace.ReadMin p) values (SomeVerb.Min p) answer self.new }
         ensures rooms { (values : List ℕ)
             → KeepsRooms self.old (SomePlace.ReadMin p) values (SomeVerb.Min p) answer self.new }
+        ensures leads { (number : ℕ) → answer ≡ SomeAnswer.Number number
+            → leads_at self.new.place ≡ true }
         ensures quiet { value_committed result ≡ None }
         ensures config { self.new.config ≡ self.old.config }
         ensures id { self.new.id ≡ self.old.id }
@@ -111,6 +118,9 @@ impl Lead {
         ensures named { self.new.named ≡ self.old.named }
         ensures note { NotesEnter p answer result }
         ensures going { self.new.under_way ≡ going_after self.old.under_way result }
+        ensures leads { answer ≡ SomeAnswer.Entered → leads_at self.new.place ≡ true }
+        ensures ended { (fence : SomeFence) → answer ≡ SomeAnswer.Lost fence
+            → self.new.place ≡ SomePlace.Ask 0 }
     {
         match lost_in(answer) {
             Some(fence) => self.lost_min(p, fence),
@@ -133,6 +143,7 @@ impl Lead {
         ensures named { self.new.named ≡ self.old.named }
         ensures note { result ≡ SomeNote.Working }
         ensures going { self.new.under_way ≡ going_after self.old.under_way result }
+        ensures leads { answer ≡ SomeAnswer.Done → leads_at self.new.place ≡ true }
     {
         match answer {
             Answer::Missed => self.missed_min(p),
@@ -152,6 +163,8 @@ impl Lead {
         ensures named { self.new.named ≡ self.old.named }
         ensures note { result ≡ SomeNote.Working }
         ensures going { self.new.under_way ≡ going_after self.old.under_way result }
+        ensures leads { (number : ℕ) → answer ≡ SomeAnswer.Number number
+            → leads_at self.new.place ≡ true }
     {
         match number_in(answer) {
             Some(number) => self.took_fuo(p, source, number, known),
@@ -176,6 +189,9 @@ impl Lead {
         ensures named { self.new.named ≡ self.old.named }
         ensures note { NotesEnter p answer result }
         ensures going { self.new.under_way ≡ going_after self.old.under_way result }
+        ensures leads { answer ≡ SomeAnswer.Entered → leads_at self.new.place ≡ true }
+        ensures ended { (fence : SomeFence) → answer ≡ SomeAnswer.Lost fence
+            → self.new.place ≡ SomePlace.Ask 0 }
     {
         match lost_in(answer) {
             Some(fence) => self.lost_place(p, self.up_of(p), fence),
@@ -193,6 +209,7 @@ impl Lead {
             (SomeVerb.PutSlot p (get_or self.old.up p 0) self.old.number
             (get_or known.now (get_or self.old.up p 0) 0))
             answer self.new }
+        ensures leads { answer ≡ SomeAnswer.Done → leads_at self.new.place ≡ true }
         ensures quiet { value_committed result ≡ None }
         ensures missed { answer ≡ SomeAnswer.Missed → self.new.place ≡ SomePlace.Evidence p }
         ensures config { self.new.config ≡ self.old.config }
@@ -215,6 +232,7 @@ impl Lead {
         ensures rooms { (values : List ℕ)
             → KeepsEnding self.old (SomePlace.FenceBehind p then) values (SomeVerb.Fence p) answer
             self.new }
+        ensures leads { LeadsBy self.old (SomeVerb.Fence p) answer self.new }
         ensures quiet { value_committed result ≡ None }
         ensures config { self.new.config ≡ self.old.config }
         ensures id { self.new.id ≡ self.old.id }
@@ -249,6 +267,8 @@ impl Lead {
         ensures named { self.new.named ≡ self.old.named }
         ensures note { result ≡ SomeNote.Working }
         ensures going { self.new.under_way ≡ going_after self.old.under_way result }
+        ensures leads { (fence : SomeFence) → answer ≡ SomeAnswer.Seen fence
+            → leads_at self.new.place ≡ true }
     {
         match fence_in(answer) {
             Some(fence) => self.took_late_fence(p, fence, known),
@@ -270,6 +290,8 @@ impl Lead {
         ensures named { self.new.named ≡ self.old.named }
         ensures note { NotesMin p self.old.number answer result }
         ensures going { self.new.under_way ≡ going_after self.old.under_way result }
+        ensures high { (x : ℕ) → answer ≡ SomeAnswer.Number x → self.old.number < x
+            → self.new.place ≡ SomePlace.Ask 0 }
     {
         match number_in(answer) {
             Some(number) => self.took_late_min(p, number),
@@ -291,6 +313,8 @@ impl Lead {
         ensures named { self.new.named ≡ self.old.named }
         ensures note { result ≡ SomeNote.Working }
         ensures going { self.new.under_way ≡ going_after self.old.under_way result }
+        ensures leads { (number : ℕ) → answer ≡ SomeAnswer.Number number
+            → leads_at self.new.place ≡ true }
     {
         match number_in(answer) {
             Some(number) => self.took_late_fuo(p, number, known),
@@ -313,6 +337,8 @@ impl Lead {
         ensures named { self.new.named ≡ self.old.named }
         ensures note { NotesEnter p answer result }
         ensures going { self.new.under_way ≡ going_after self.old.under_way result }
+        ensures ended { (fence : SomeFence) → answer ≡ SomeAnswer.Lost fence
+            → self.new.place ≡ SomePlace.Ask 0 }
     {
         match lost_in(answer) {
             Some(fence) => self.lost_min(p, fence),
@@ -335,6 +361,7 @@ impl Lead {
         ensures note { length self.old.up ≡ 7
             → NotesJoin p (nat_lt (get_or self.old.up p 0) (length known.now)) answer result }
         ensures going { self.new.under_way ≡ going_after self.old.under_way result }
+        ensures leads { answer ≡ SomeAnswer.Done → leads_at self.new.place ≡ true }
     {
         match answer {
             Answer::Missed => self.missed_min(p),
@@ -366,6 +393,8 @@ impl Lead {
         ensures named { self.new.named ≡ self.old.named }
         ensures note { NotesHead self.old q known.now answer result }
         ensures going { self.new.under_way ≡ going_after self.old.under_way result }
+        ensures leads { (number : ℕ) → answer ≡ SomeAnswer.Number number
+            → leads_at self.new.place ≡ true }
     {
         match number_in(answer) {
             Some(number) => self.took_head(q, candidate, number, known),
@@ -387,6 +416,9 @@ impl Lead {
         ensures named { self.new.named ≡ self.old.named }
         ensures note { NotesEnter p answer result }
         ensures going { self.new.under_way ≡ going_after self.old.under_way result }
+        ensures leads { answer ≡ SomeAnswer.Entered → leads_at self.new.place ≡ true }
+        ensures ended { (fence : SomeFence) → answer ≡ SomeAnswer.Lost fence
+            → self.new.place ≡ SomePlace.Ask 0 }
     {
         match lost_in(answer) {
             Some(fence) => self.lost_place(p, known.len() as u64, fence),
@@ -428,6 +460,7 @@ impl Lead {
         ensures named { self.new.named ≡ self.old.named }
         ensures note { NotesPut (length known.now) offer result }
         ensures going { self.new.under_way ≡ going_after self.old.under_way result }
+        ensures leads { answer ≡ SomeAnswer.Done → leads_at self.new.place ≡ true }
     {
         match answer {
             Answer::Missed => self.missed_slot(p, end_of(known), offer.value),

@@ -18,6 +18,8 @@ ghost use Rattle.mu_lead.specs.Notes.{value_committed};
 ghost use Rattle.mu_lead.specs.Standing.{HoldsAt, Stands, StandsFor, Takes, TakesLook};
 ghost use Rattle.mu_lead.specs.Saying.{is_working_or_lost, note_of_fence, note_of_learning, note_of_raise, value_seen};
 ghost use Rattle.mu_lead.specs.declared.note.Note.{Note as SomeNote};
+ghost use Rattle.mu_lead.specs.Beside.{leads_at};
+ghost use Rattle.mu_lead.specs.Gathering.{LeadsBy};
 ghost use Rattle.mu_lead.specs.Going.{going_after};
 ghost use Rattle.mu_pace.specs.Members.{IsNextMember, members_from};
 ghost use Rattle.mu_pace.specs.Weights.{Stage};
@@ -61,6 +63,7 @@ impl Lead {
         ensures named { self.new.named ≡ self.old.named }
         ensures note { result ≡ SomeNote.Working }
         ensures going { self.new.under_way ≡ going_after self.old.under_way result }
+        ensures leads { leads_at self.new.place ≡ true }
     {
         self.up = with_number(self.up, p, u);
         self.reach = with_fuo(self.reach, p, u);
@@ -90,6 +93,7 @@ impl Lead {
             → IsNextBehind self.now.config self.now.id mine self.now.up 0 None
             → MayGoOn self.now.config self.now.id mine 0)
             → RoomsAt self.now.config self.now.id mine self.now.written.items result }
+        ensures leads { leads_at result ≡ true }
     {
         let from = self.farther(source, p);
         match next_member(&self.leading, p.saturating_add(1), self.config.replicas) {
@@ -114,6 +118,7 @@ impl Lead {
             → (IsNextBehind self.now.config self.now.id mine self.now.up 0 None
             → MayGoOn self.now.config self.now.id mine 0)
             → RoomsAt self.now.config self.now.id mine self.now.written.items result }
+        ensures leads { leads_at result ≡ true }
     {
         if (known.len() as u64) < self.up_of(source) {
             Place::Learn(source)
@@ -135,6 +140,7 @@ impl Lead {
         ensures note { length known.now < 65536
             → result ≡ note_of_learning (length known.now) answer }
         ensures going { self.new.under_way ≡ going_after self.old.under_way result }
+        ensures leads { leads_at self.new.place ≡ true }
     {
         if is_past(answer) {
             self.place = Place::Outrun;
@@ -180,6 +186,7 @@ impl Lead {
             → (IsNextBehind self.now.config self.now.id mine self.now.up p None
             → MayGoOn self.now.config self.now.id mine (passed_over self.now.config then))
             → RoomsAt self.now.config self.now.id mine self.now.written.items result }
+        ensures leads { leads_at result ≡ true }
     {
         match self.next_behind(p, known) {
             Some(q) => self.bring_up(q, then),
@@ -197,6 +204,7 @@ impl Lead {
             → known.now ≡ known_of self.now.config self.now.id mine
             → MayGoOn self.now.config self.now.id mine (passed_over self.now.config then)
             → RoomsAt self.now.config self.now.id mine self.now.written.items result }
+        ensures leads { leads_at result ≡ true }
     {
         match then {
             Then::Late => self.late_from(0, known),
@@ -229,6 +237,7 @@ impl Lead {
             → HoldsAt mine self.now result }
         ensures rooms { (mine : List SomeEvent) → MayBringUp self.now.config self.now.id mine p then
             → RoomsAt self.now.config self.now.id mine self.now.written.items result }
+        ensures leads { leads_at result ≡ true }
     {
         if self.is_near(p) {
             Place::LookBehind(p, then)
@@ -251,6 +260,7 @@ impl Lead {
         ensures named { self.new.named ≡ self.old.named }
         ensures note { result ≡ SomeNote.Working }
         ensures going { self.new.under_way ≡ going_after self.old.under_way result }
+        ensures leads { leads_at self.new.place ≡ true }
     {
         self.reach = with_fuo(self.reach, p, self.up_of(p));
         self.place = Place::LookBehind(p, then);
@@ -271,6 +281,7 @@ impl Lead {
         ensures named { self.new.named ≡ self.old.named }
         ensures note { result ≡ SomeNote.Working }
         ensures going { self.new.under_way ≡ going_after self.old.under_way result }
+        ensures leads { leads_at self.new.place ≡ true }
     {
         if is_past(answer) {
             self.place = Place::FenceBehind(p, then);
@@ -298,6 +309,7 @@ impl Lead {
         ensures named { self.new.named ≡ self.old.named }
         ensures note { result ≡ SomeNote.Working }
         ensures going { self.new.under_way ≡ going_after self.old.under_way result }
+        ensures leads { leads_at self.new.place ≡ true }
     {
         let event = Event {
             by: self.id,
@@ -315,6 +327,7 @@ impl Lead {
             (SomeVerb.PutSlot p (get_or self.old.up p 0) self.old.number
             (get_or known.now (get_or self.old.up p 0) 0))
             SomeAnswer.Done self.new }
+        ensures leads { leads_at self.new.place ≡ true }
         ensures quiet { value_committed result ≡ None }
         ensures config { self.new.config ≡ self.old.config }
         ensures id { self.new.id ≡ self.old.id }
@@ -336,7 +349,8 @@ impl Lead {
 
     /// The place after what `p` lacked was put.
     fn after_put_behind(&self, p: u8, then: Then, known: &[u16]) -> Place
-        ensures { (mine : List SomeEvent) → Stands mine self.now
+        ensures leads { leads_at result ≡ true }
+        ensures stands { (mine : List SomeEvent) → Stands mine self.now
             → known.now ≡ known_of self.now.config self.now.id mine
             → Behind self.now.config self.now.id self.now.number mine self.now.up self.now.reach p
             then
@@ -362,6 +376,7 @@ impl Lead {
         ensures named { self.new.named ≡ self.old.named }
         ensures note { result ≡ note_of_raise p then }
         ensures going { self.new.under_way ≡ going_after self.old.under_way result }
+        ensures leads { leads_at self.new.place ≡ true }
     {
         self.reach = with_fuo(self.reach, p, self.up_of(p));
         match then {
@@ -403,6 +418,7 @@ impl Lead {
         ensures rooms { (values : List ℕ)
             → KeepsEnding self.old (SomePlace.FenceBehind p then) values (SomeVerb.Fence p)
             (SomeAnswer.Seen fence) self.new }
+        ensures leads { LeadsBy self.old (SomeVerb.Fence p) (SomeAnswer.Seen fence) self.new }
         ensures quiet { value_committed result ≡ None }
         ensures config { self.new.config ≡ self.old.config }
         ensures id { self.new.id ≡ self.old.id }

@@ -15,6 +15,8 @@ ghost use Rattle.mu_lead.specs.Standing.{At, StandsFor, Takes};
 ghost use Rattle.mu_leading.specs.Leadership.{StandsForLeadership};
 ghost use Rattle.mu_lead.specs.Saying.{TellsAfter};
 ghost use Rattle.mu_lead.specs.declared.note.Note.{Note as SomeNote};
+ghost use Rattle.mu_lead.specs.Beside.{leads_at};
+ghost use Rattle.mu_lead.specs.Gathering.{FollowsAsk, FollowsFence, FollowsRound, reads_first};
 ghost use Rattle.mu_lead.specs.Going.{going_after};
 ghost use Rattle.mu_lead.specs.Confirmations.{ConfirmsAt, KeepsConfirmation, NoneIsAwaited, is_gathering};
 ghost use Rattle.mu_model.specs.Diligence.{is_confirmed as is_confirmed_by};
@@ -44,6 +46,8 @@ impl Lead {
             → self.now.config.replicas ≤ 7 → IsWaiting self.now.config self.now.id mine
             → RoomsAt self.now.config self.now.id mine written result }
         ensures gathers { is_gathering result ≡ true }
+        ensures follows { self.now.config.replicas ≤ 7
+            → FollowsAsk self.now.config.replicas p result }
     {
         let next = p.saturating_add(1);
         if next < self.config.replicas {
@@ -61,6 +65,8 @@ impl Lead {
             → KeepsRooms self.old (SomePlace.Ask p) values (SomeVerb.Ask p) SomeAnswer.Done
             self.new }
         ensures gathers { is_gathering self.new.place ≡ true }
+        ensures follows { self.old.config.replicas ≤ 7
+            → FollowsAsk self.old.config.replicas p self.new.place }
         ensures quiet { value_committed result ≡ None }
         ensures config { self.new.config ≡ self.old.config }
         ensures id { self.new.id ≡ self.old.id }
@@ -95,6 +101,8 @@ impl Lead {
             (SomeAnswer.Seen fence) self.new }
         ensures confirms { KeepsConfirmation self.old (SomePlace.Confirm round p) (SomeVerb.Fence p)
             (SomeAnswer.Seen fence) self.new }
+        ensures follows { self.old.config.replicas ≤ 7
+            → FollowsFence self.old.config.replicas round p self.new.place }
         ensures quiet { value_committed result ≡ None }
         ensures config { self.new.config ≡ self.old.config }
         ensures id { self.new.id ≡ self.old.id }
@@ -156,6 +164,7 @@ impl Lead {
             → (is_confirmed_by self.now.config self.now.id mine ≡ false
             → NoneIsAwaited self.now.config self.now.id mine)
             → ConfirmsAt self.now.config self.now.id mine result }
+        ensures follows { FollowsRound round result }
     {
         if self.is_confirmed() {
             self.first_to_read()
@@ -204,6 +213,7 @@ impl Lead {
             → Confirmed self.now.config self.now.id mine
             → IsInTime (confirming self.now.config self.now.id) mine
             → ConfirmsAt self.now.config self.now.id mine result }
+        ensures reads { reads_first result ≡ true }
     {
         match next_noted(&self.leading, 0, self.config.replicas) {
             Some(q) => Place::ReadMin(q),
@@ -219,6 +229,7 @@ impl Lead {
         ensures rooms { (values : List ℕ)
             → KeepsRooms self.old (SomePlace.ReadMin p) values (SomeVerb.Min p)
             (SomeAnswer.Number min) self.new }
+        ensures leads { leads_at self.new.place ≡ true }
         ensures quiet { value_committed result ≡ None }
         ensures config { self.new.config ≡ self.old.config }
         ensures id { self.new.id ≡ self.old.id }
@@ -261,6 +272,7 @@ impl Lead {
             → ((q : ℕ) → is_member self.now.id q mine ≡ false)
             → IsLed self.now.config self.now.id mine Stage.EnterMin
             → RoomsAt self.now.config self.now.id mine written result }
+        ensures leads { leads_at result ≡ true }
     {
         match next_noted(&self.leading, 0, self.config.replicas) {
             Some(q) => Place::EnterMin(q),
@@ -282,6 +294,7 @@ impl Lead {
         ensures named { self.new.named ≡ self.old.named }
         ensures note { result ≡ SomeNote.Working }
         ensures going { self.new.under_way ≡ going_after self.old.under_way result }
+        ensures leads { leads_at self.new.place ≡ true }
     {
         let event = Event {
             by: self.id,
@@ -307,6 +320,7 @@ impl Lead {
         ensures named { self.new.named ≡ self.old.named }
         ensures note { result ≡ SomeNote.Working }
         ensures going { self.new.under_way ≡ going_after self.old.under_way result }
+        ensures leads { leads_at self.new.place ≡ true }
     {
         let event = Event {
             by: self.id,

@@ -7,6 +7,7 @@ ghost use Rattle.mu_model.specs.declared.event.Verb.{Verb as SomeVerb};
 ghost use Rattle.mu_model.specs.Knowledge.{known as known_of};
 ghost use Rattle.mu_model.specs.Leaderships.{noted_grant};
 ghost use Rattle.mu_model.specs.Parts.{IsPossible};
+ghost use Rattle.mu_lead.specs.Beside.{leads_at};
 ghost use Rattle.mu_lead.specs.declared.place.Place.{Place as SomePlace};
 ghost use Rattle.mu_lead.specs.Leading.{Level};
 ghost use Rattle.mu_lead.specs.Notes.{note_of_min, value_committed};
@@ -35,6 +36,7 @@ impl Lead {
             → known.now ≡ known_of self.now.config self.now.id mine
             → MayGoOn self.now.config self.now.id mine p
             → RoomsAt self.now.config self.now.id mine self.now.written.items result }
+        ensures leads { leads_at result ≡ true }
     {
         match next_stranger(&self.leading, p, self.config.replicas) {
             Some(q) => Place::LateFence(q),
@@ -65,6 +67,7 @@ impl Lead {
         ensures named { self.new.named ≡ self.old.named }
         ensures note { result ≡ SomeNote.Working }
         ensures going { self.new.under_way ≡ going_after self.old.under_way result }
+        ensures leads { leads_at self.new.place ≡ true }
     {
         let event = Event {
             by: self.id,
@@ -96,6 +99,7 @@ impl Lead {
         ensures id { self.new.id ≡ self.old.id }
         ensures named { self.new.named ≡ self.old.named }
         ensures going { self.new.under_way ≡ going_after self.old.under_way result }
+        ensures high { self.old.number < min → self.new.place ≡ SomePlace.Ask 0 }
     {
         let event = Event {
             by: self.id,
@@ -130,6 +134,7 @@ impl Lead {
         ensures named { self.new.named ≡ self.old.named }
         ensures note { result ≡ SomeNote.Working }
         ensures going { self.new.under_way ≡ going_after self.old.under_way result }
+        ensures leads { leads_at self.new.place ≡ true }
     {
         self.reach = with_fuo(self.reach, p, u);
         if (known.len() as u64) < u {
@@ -157,6 +162,7 @@ impl Lead {
         ensures named { self.new.named ≡ self.old.named }
         ensures note { result ≡ SomeNote.Working }
         ensures going { self.new.under_way ≡ going_after self.old.under_way result }
+        ensures leads { leads_at self.new.place ≡ true }
     {
         let event = Event {
             by: self.id,
@@ -182,6 +188,7 @@ impl Lead {
         ensures note { length self.old.up ≡ 7
             → result ≡ note_of_join p (nat_lt (get_or self.old.up p 0) (length known.now)) }
         ensures going { self.new.under_way ≡ going_after self.old.under_way result }
+        ensures leads { leads_at self.new.place ≡ true }
     {
         let event = Event {
             by: self.id,

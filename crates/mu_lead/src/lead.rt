@@ -10,13 +10,16 @@ ghost use Rattle.mu_model.specs.Parts.{IsPossible};
 ghost use Rattle.mu_leading.specs.Leadership.{StandsForLeadership};
 ghost use Rattle.mu_lead.specs.Beside.{leads_at};
 ghost use Rattle.mu_lead.specs.declared.note.Note.{Note as SomeNote};
+ghost use Rattle.mu_lead.specs.Causes.{CausesAt, CausesNext};
 ghost use Rattle.mu_lead.specs.Confirmations.{ConfirmsAt, ConfirmsDue, ConfirmsNext};
+ghost use Rattle.mu_lead.specs.Elections.{ElectsAt, ElectsNext};
 ghost use Rattle.mu_lead.specs.Evidence.{ExplainsAt, ExplainsDue, ExplainsNext};
 ghost use Rattle.mu_lead.specs.Raising.{RaisesAt, RaisesDue, RaisesNext};
 ghost use Rattle.mu_lead.specs.Resigning.{IsTold};
 ghost use Rattle.mu_lead.specs.Rooms.{HasRooms, RoomsDue, RoomsNext, gives_up};
 ghost use Rattle.mu_lead.specs.Sets.{is_bit};
 ghost use Rattle.mu_lead.specs.Standing.{HasHeeded, StandsFor, TakesDue, TakesNext, TellsDue, TellsFailed, TellsNext, verb_of};
+ghost use Rattle.mu_lead.specs.Gathering.{GoesDue};
 ghost use Rattle.mu_lead.specs.Going.{begins_at, going_after};
 ghost use Rattle.mu_lead.specs.Saying.{NotesDue, SaysNext, is_working as is_working_note};
 ghost use Rattle.mu_lead.specs.Welcomes.{JoinsAt, JoinsDue, JoinsNext};
@@ -72,6 +75,8 @@ impl Lead {
         ensures raises { IfOk result (λ lead. RaisesAt lead.config lead.id [] lead.place) }
         ensures confirms { IfOk result (λ lead. ConfirmsAt lead.config lead.id [] lead.place) }
         ensures joins { IfOk result (λ lead. JoinsAt lead.config lead.id [] lead.place) }
+        ensures causes { IfOk result (λ lead. CausesAt lead.config lead.id [] lead.place) }
+        ensures elects { IfOk result (λ lead. ElectsAt lead.config lead.id [] lead.place) }
         ensures unnamed { IfOk result (λ lead. lead.named ≡ false) }
         ensures idle { IfOk result (λ lead. lead.under_way ≡ false) }
     {
@@ -287,6 +292,8 @@ impl Lead {
         ensures raises { RaisesNext mine self.old known.now answer self.new }
         ensures confirms { ConfirmsNext mine self.old answer self.new }
         ensures joins { JoinsNext mine self.old known.now answer self.new }
+        ensures causes { CausesNext mine self.old answer self.new }
+        ensures elects { ElectsNext mine self.old known.now answer self.new }
         ensures tells { TellsNext mine self.old known.now answer result }
         ensures config { self.new.config ≡ self.old.config }
         ensures id { self.new.id ≡ self.old.id }
@@ -312,6 +319,7 @@ impl Lead {
         ensures raises { RaisesDue self.old known.now answer self.new }
         ensures confirms { ConfirmsDue self.old answer self.new }
         ensures joins { JoinsDue self.old known.now answer self.new }
+        ensures goes { GoesDue self.old answer self.new }
         ensures tells { TellsDue self.old known.now answer result }
         ensures config { self.new.config ≡ self.old.config }
         ensures id { self.new.id ≡ self.old.id }

@@ -2,7 +2,9 @@
 #![tactic(auto)]
 
 ghost use Rattle.mu_lead.specs.Beside.{OthersKeep};
+ghost use Rattle.mu_lead.specs.Causes.{LeadersAskWithCause};
 ghost use Rattle.mu_lead.specs.Confirmations.{MinimaComeInTime};
+ghost use Rattle.mu_lead.specs.Elections.{ElectionsComeInTime};
 ghost use Rattle.mu_lead.specs.Evidence.{EvidenceComesInTime};
 ghost use Rattle.mu_lead.specs.Raising.{RaisesComeInTime};
 ghost use Rattle.mu_lead.specs.Resigning.{BeatsKeepCounts, CountsAreInTime};
@@ -73,4 +75,15 @@ pub fn beats_keep_counts()
 /// do.
 pub fn counts_are_in_time()
     ensures { CountsAreInTime }
+{}
+
+/// A named leader asks with cause, also beside what the other machines do, and they never ask.
+pub fn leaders_ask_with_cause()
+    ensures { LeadersAskWithCause }
+{}
+
+/// Who has to ask asks each region and reads each fence in time, also beside what the other machines
+/// do.
+pub fn elections_come_in_time()
+    ensures { ElectionsComeInTime }
 {}

@@ -57,6 +57,7 @@ impl Lead {
         ensures id { self.new.id ≡ self.old.id }
         ensures named { self.new.named ≡ self.old.named }
         ensures going { self.new.under_way ≡ going_after self.old.under_way result }
+        ensures ended { self.new.place ≡ SomePlace.Ask 0 }
     {
         let event = Event {
             by: self.id,
@@ -82,6 +83,7 @@ impl Lead {
         ensures named { self.new.named ≡ self.old.named }
         ensures note { result ≡ SomeNote.Aborted (SomeCause.Lost p fence) }
         ensures going { self.new.under_way ≡ going_after self.old.under_way result }
+        ensures ended { self.new.place ≡ SomePlace.Ask 0 }
     {
         self.lost(p, Target::Min, fence)
     }
@@ -102,6 +104,7 @@ impl Lead {
         ensures named { self.new.named ≡ self.old.named }
         ensures note { result ≡ SomeNote.Aborted (SomeCause.Lost p fence) }
         ensures going { self.new.under_way ≡ going_after self.old.under_way result }
+        ensures ended { self.new.place ≡ SomePlace.Ask 0 }
     {
         self.lost(p, self.place_of(position), fence)
     }

@@ -12,6 +12,7 @@ ghost use Rattle.mu_model.specs.Parts.{IsPossible};
 ghost use Rattle.mu_model.specs.Room.{reserve};
 ghost use Rattle.mu_leading.specs.Leadership.{StandsForLeadership};
 ghost use Rattle.mu_model.specs.declared.config.Config.{Config};
+ghost use Rattle.mu_lead.specs.Beside.{leads_at};
 ghost use Rattle.mu_lead.specs.declared.place.Sight.{Sight as SomeSight};
 ghost use Rattle.mu_lead.specs.declared.place.Place.{Place as SomePlace};
 ghost use Rattle.mu_lead.specs.Leading.{Level, end_of as end_of_known};
@@ -52,6 +53,7 @@ impl Lead {
             → IsNextStranger self.now.config self.now.id mine p None
             → MayGoOn self.now.config self.now.id mine p
             → RoomsAt self.now.config self.now.id mine self.now.written.items result }
+        ensures leads { leads_at result ≡ true }
     {
         if knows_all(&self.config, known) {
             match next_stranger(&self.leading, 0, self.config.replicas) {
@@ -122,6 +124,7 @@ impl Lead {
             → ((k : ℕ) → k ≤ members self.now.config self.now.id mine
             → IsLed self.now.config self.now.id mine (Stage.LookAt k))
             → RoomsAt self.now.config self.now.id mine self.now.written.items result }
+        ensures leads { leads_at result ≡ true }
     {
         match self.next_low(q, known) {
             Some(p) => Place::ReadHead(p, candidate),
@@ -141,13 +144,11 @@ impl Lead {
         ensures stands { (mine : List SomeEvent) → HasHeeded mine self.old → StandsFor mine self.old
             → self.old.place ≡ SomePlace.ReadHead q candidate
             → IsPossible self.old.config self.old.id
-            (record
-            { by = self.old.id; verb = SomeVerb.Head q; answer = SomeAnswer.Number head }
+            (record { by = self.old.id; verb = SomeVerb.Head q; answer = SomeAnswer.Number head }
             ∷ mine)
             → known.now ≡ known_of self.old.config self.old.id mine
             → StandsFor
-            (record
-            { by = self.old.id; verb = SomeVerb.Head q; answer = SomeAnswer.Number head }
+            (record { by = self.old.id; verb = SomeVerb.Head q; answer = SomeAnswer.Number head }
             ∷ mine)
             self.new }
         ensures rooms { KeepsRooms self.old (SomePlace.ReadHead q candidate) known.now
@@ -173,6 +174,7 @@ impl Lead {
             && (get_or self.old.failed q false
             && nat_lt (length known.now + 0) (head + self.old.config.ring))) }
         ensures going { self.new.under_way ≡ going_after self.old.under_way result }
+        ensures leads { leads_at self.new.place ≡ true }
     {
         self.heads = with_number(self.heads, q, head);
         if self.leaves_room(head, reserve_of(&self.config), known) {
@@ -227,6 +229,7 @@ impl Lead {
         ensures named { self.new.named ≡ self.old.named }
         ensures note { result ≡ note_of_look position (length known.now) answer }
         ensures going { self.new.under_way ≡ going_after self.old.under_way result }
+        ensures leads { leads_at self.new.place ≡ true }
     {
         if is_past(answer) {
             self.place = Place::Outrun;
@@ -264,6 +267,7 @@ impl Lead {
             → ((k : ℕ) → 1 ≤ k → k ≤ members self.now.config self.now.id mine
             → IsLed self.now.config self.now.id mine (Stage.EnterAt k))
             → RoomsAt self.now.config self.now.id mine self.now.written.items result }
+        ensures leads { leads_at result ≡ true }
     {
         match next_member(&self.leading, p.saturating_add(1), self.config.replicas) {
             Some(q) => Place::Look(q, end_of(known), candidate, best),
@@ -287,6 +291,7 @@ impl Lead {
             → ((k : ℕ) → 1 ≤ k → k ≤ members self.now.config self.now.id mine
             → IsLed self.now.config self.now.id mine (Stage.EnterAt k))
             → RoomsAt self.now.config self.now.id mine self.now.written.items result }
+        ensures leads { leads_at result ≡ true }
     {
         match best {
             Some(sight) => self.offer(Offer {
@@ -319,6 +324,7 @@ impl Lead {
             → ((k : ℕ) → 1 ≤ k → k ≤ members self.now.config self.now.id mine
             → IsLed self.now.config self.now.id mine (Stage.EnterAt k))
             → RoomsAt self.now.config self.now.id mine self.now.written.items result }
+        ensures leads { leads_at result ≡ true }
     {
         match next_offer(&self.config, self.id, known) {
             None => Place::Rest,
@@ -349,6 +355,7 @@ impl Lead {
             → ((k : ℕ) → 1 ≤ k → k ≤ members self.now.config self.now.id mine
             → IsLed self.now.config self.now.id mine (Stage.EnterAt k))
             → RoomsAt self.now.config self.now.id mine self.now.written.items result }
+        ensures leads { leads_at result ≡ true }
     {
         Place::Enter(self.first_member(), offer)
     }
@@ -367,6 +374,7 @@ impl Lead {
         ensures named { self.new.named ≡ self.old.named }
         ensures note { result ≡ SomeNote.Working }
         ensures going { self.new.under_way ≡ going_after self.old.under_way result }
+        ensures leads { leads_at self.new.place ≡ true }
     {
         let event = Event {
             by: self.id,
@@ -413,6 +421,7 @@ impl Lead {
         ensures named { self.new.named ≡ self.old.named }
         ensures note { NotesPut (length known.now) offer result }
         ensures going { self.new.under_way ≡ going_after self.old.under_way result }
+        ensures leads { leads_at self.new.place ≡ true }
     {
         let position = end_of(known);
         let event = Event {
@@ -449,6 +458,7 @@ impl Lead {
         ensures named { self.new.named ≡ self.old.named }
         ensures note { result ≡ SomeNote.Working }
         ensures going { self.new.under_way ≡ going_after self.old.under_way result }
+        ensures leads { leads_at self.new.place ≡ true }
     {
         self.reach = with_fuo(self.reach, p, known.len() as u64);
         match next_member(&self.leading, p.saturating_add(1), self.config.replicas) {

@@ -13,6 +13,7 @@ ghost use Rattle.mu_model.specs.Picks.{entry_of, larger as larger_entry};
 ghost use Rattle.mu_model.specs.Room.{reserve};
 ghost use Rattle.mu_leading.specs.Leadership.{StandsForLeadership};
 ghost use Rattle.mu_model.specs.declared.config.Config.{Config};
+ghost use Rattle.mu_lead.specs.Beside.{leads_at};
 ghost use Rattle.mu_lead.specs.declared.place.Sight.{Sight as SomeSight};
 ghost use Rattle.mu_lead.specs.declared.place.Place.{Place as SomePlace};
 ghost use Rattle.mu_lead.specs.Leading.{Level, end_of as end_of_known};
@@ -61,6 +62,7 @@ impl Lead {
             → ((k : ℕ) → 1 ≤ k → k ≤ members self.now.config self.now.id mine
             → IsLed self.now.config self.now.id mine (Stage.EnterAt k))
             → RoomsAt self.now.config self.now.id mine self.now.written.items result }
+        ensures leads { leads_at result ≡ true }
     {
         match self.next_unwritten(first, last) {
             Some(j) => Place::Write(j, last, offer),
@@ -86,6 +88,7 @@ impl Lead {
         ensures named { self.new.named ≡ self.old.named }
         ensures note { result ≡ SomeNote.Working }
         ensures going { self.new.under_way ≡ going_after self.old.under_way result }
+        ensures leads { leads_at self.new.place ≡ true }
     {
         let count = self.next_word(j).saturating_add(1);
         note_words(&mut self.written, j, count);

@@ -1,5 +1,7 @@
 use Rattle.mu_lead.proofs.RoomsAsking.{out_again}
 use Rattle.mu_lead.proofs.Confirms.{is_no_majority, round_again}
+use Rattle.std.proofs.Common.{ap, arith, inl, inr, refl}
+use Rattle.mu_lead.specs.declared.place.Place.{Place}
 use Rattle.mu_lead.proofs.lead.Lead.after_round.Goals as goal
 
 pub returns-then-is_confirmed-clause-stands : goal.returns-then-is_confirmed-clause-stands
@@ -23,3 +25,12 @@ pub returns-else-round-lt15-clause-confirms : goal.returns-else-round-lt15-claus
 returns-else-round-lt15-clause-confirms c = λ mine few own held in_time none.
     let l = c.args.self.now in
     none (is_no_majority l.config l.id mine c.is_confirmed.result c.if-is_confirmed.false (c.is_confirmed.ensures mine few own held).1)
+
+pub returns-then-is_confirmed-clause-follows : goal.returns-then-is_confirmed-clause-follows
+returns-then-is_confirmed-clause-follows c = inr (inr c.first_to_read.ensures.reads)
+
+pub returns-then-round-lt15-clause-follows : goal.returns-then-round-lt15-clause-follows
+returns-then-round-lt15-clause-follows c = let next = c.saturating_add.ensures in let low = c.if-round-lt15.true in inl (omega (arith, low), ap (λ k. Place.Confirm k 0) (omega (arith, next, low)))
+
+pub returns-else-round-lt15-clause-follows : goal.returns-else-round-lt15-clause-follows
+returns-else-round-lt15-clause-follows c = let high = c.if-round-lt15.false in inr (inl (omega (arith, high), refl))

@@ -33,3 +33,9 @@ pub returns-in-Some-clause-confirms : goal.returns-in-Some-clause-confirms
 returns-in-Some-clause-confirms c = λ mine s is possible turn confirms.
     let l = c.args.self.now in
     subst (λ a. ConfirmsAt l.config l.id (event_by l.id (Verb.Fence c.args.p) a ∷ mine) c.took_fence.new.self.place) (sym c.in-Some.ensures) (c.took_fence.ensures.confirms mine s is (subst (λ a. IsPossible l.config l.id (event_by l.id (Verb.Fence c.args.p) a ∷ mine)) c.in-Some.ensures possible) turn confirms)
+
+pub returns-in-Some-clause-follows : goal.returns-in-Some-clause-follows
+returns-in-Some-clause-follows c = λ fence seen few. c.took_fence.ensures.follows few
+
+pub returns-in-None-clause-follows : goal.returns-in-None-clause-follows
+returns-in-None-clause-follows c = λ fence seen few. absurd (c.in-None.ensures fence seen)

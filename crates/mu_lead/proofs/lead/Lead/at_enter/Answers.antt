@@ -52,3 +52,12 @@ returns-in-Some-clause-rooms c = λ mine s is possible told turn rooms.
     let ring : 0 < l.config.ring = (let low = s.config.ring.0 in omega (arith, low)) in
     subst (λ a. HasRooms (event_by l.id (Verb.Enter c.args.p t) a ∷ mine) c.lost_place.new.self) (sym c.in-Some.ensures)
     (c.lost_place.ensures.rooms ring mine (Stage.EnterAt (members_from l.config l.id c.args.p mine)) s.config turn led.placed)
+
+pub returns-in-None-clause-leads : goal.returns-in-None-clause-leads
+returns-in-None-clause-leads c = λ entered. c.entered_new.ensures.leads
+
+pub returns-in-None-clause-ended : goal.returns-in-None-clause-ended
+returns-in-None-clause-ended c = λ fence lost. absurd (c.in-None.ensures fence lost)
+
+pub returns-in-Some-clause-ended : goal.returns-in-Some-clause-ended
+returns-in-Some-clause-ended c = λ fence lost. c.lost_place.ensures.ended

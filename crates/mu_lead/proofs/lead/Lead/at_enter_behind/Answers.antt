@@ -58,3 +58,12 @@ returns-in-Some-clause-rooms c = λ values mine s is possible told turn rooms.
     subst (λ a. HasRooms (event_by l.id (Verb.Enter c.args.p t) a ∷ mine) c.lost_place.new.self) (sym c.in-Some.ensures)
     (subst (λ u. HasRooms (event_by l.id (Verb.Enter c.args.p (Target.Place (u % l.config.ring))) (Answer.Lost c.in-Some.fence) ∷ mine) c.lost_place.new.self) up_is
     (c.lost_place.ensures.rooms ring mine (Stage.Bring (lag_of l.config l.id mine c.args.p c.args.then) Bringing.Enter) s.config turn led.placed))
+
+pub returns-in-None-clause-leads : goal.returns-in-None-clause-leads
+returns-in-None-clause-leads c = λ entered. c.entered_behind.ensures.leads
+
+pub returns-in-None-clause-ended : goal.returns-in-None-clause-ended
+returns-in-None-clause-ended c = λ fence lost. absurd (c.in-None.ensures fence lost)
+
+pub returns-in-Some-clause-ended : goal.returns-in-Some-clause-ended
+returns-in-Some-clause-ended c = λ fence lost. c.lost_place.ensures.ended

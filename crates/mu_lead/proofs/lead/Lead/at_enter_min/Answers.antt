@@ -48,3 +48,12 @@ returns-in-Some-clause-rooms c = λ values mine s is possible told turn rooms.
     let l = c.args.self.now in
     let numbering = rw is at rooms in
     subst (λ a. HasRooms (event_by l.id (Verb.Enter c.args.p Target.Min) a ∷ mine) c.lost_min.new.self) (sym c.in-Some.ensures) (c.lost_min.ensures.rooms mine Stage.EnterMin s.config turn numbering.led.placed)
+
+pub returns-in-None-clause-leads : goal.returns-in-None-clause-leads
+returns-in-None-clause-leads c = λ entered. c.entered_min.ensures.leads
+
+pub returns-in-None-clause-ended : goal.returns-in-None-clause-ended
+returns-in-None-clause-ended c = λ fence lost. absurd (c.in-None.ensures fence lost)
+
+pub returns-in-Some-clause-ended : goal.returns-in-Some-clause-ended
+returns-in-Some-clause-ended c = λ fence lost. c.lost_min.ensures.ended

@@ -7,6 +7,7 @@ use Rattle.mu_model.specs.declared.event.Verb.{Verb}
 use Rattle.mu_model.specs.Leaderships.{is_over}
 use Rattle.mu_model.specs.Parts.{IsPossible}
 use Rattle.mu_lead.specs.Rooms.{HasRooms}
+use Rattle.mu_lead.specs.Gathering.{LeadsBy}
 use Rattle.mu_lead.proofs.lead.Lead.at_fence_behind.Goals as goal
 
 pub returns-in-None-clause-stands : goal.returns-in-None-clause-stands
@@ -26,3 +27,9 @@ returns-in-Some-clause-rooms c = λ values mine s is possible told turn over roo
     let l = c.args.self.now in
     subst (λ a. HasRooms (event_by l.id (Verb.Fence c.args.p) a ∷ mine) c.took_fence_behind.new.self) (sym c.in-Some.ensures) (c.took_fence_behind.ensures.rooms values mine s is (subst (λ a. IsPossible l.config l.id (event_by l.id (Verb.Fence c.args.p) a ∷ mine)) c.in-Some.ensures possible) told turn
     (subst (λ a. is_over l.id (event_by l.id (Verb.Fence c.args.p) a ∷ mine) ≡ true) c.in-Some.ensures over) rooms)
+
+pub returns-in-None-clause-leads : goal.returns-in-None-clause-leads
+returns-in-None-clause-leads c = λ mine s possible. let l = c.args.self.now in let x = sees_fence l.config l.id c.args.p c.args.answer mine possible in absurd (c.in-None.ensures x.0 x.1)
+
+pub returns-in-Some-clause-leads : goal.returns-in-Some-clause-leads
+returns-in-Some-clause-leads c = subst (λ a. LeadsBy c.args.self.now (Verb.Fence c.args.p) a c.took_fence_behind.new.self) (sym c.in-Some.ensures) c.took_fence_behind.ensures.leads

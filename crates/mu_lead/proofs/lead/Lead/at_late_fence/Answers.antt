@@ -26,3 +26,9 @@ pub returns-in-Some-clause-welcomed : goal.returns-in-Some-clause-welcomed
 returns-in-Some-clause-welcomed c = λ mine s is possible granted.
     let l = c.args.self.now in
     c.took_late_fence.ensures.welcomed mine s is (subst (λ a. IsPossible l.config l.id (event_by l.id (Verb.Fence c.args.p) a ∷ mine)) c.in-Some.ensures possible) (subst (λ a. is_some (noted_grant l.id c.args.p (event_by l.id (Verb.Fence c.args.p) a ∷ mine)) ≡ true) c.in-Some.ensures granted)
+
+pub returns-in-Some-clause-leads : goal.returns-in-Some-clause-leads
+returns-in-Some-clause-leads c = λ number told. c.took_late_fence.ensures.leads
+
+pub returns-in-None-clause-leads : goal.returns-in-None-clause-leads
+returns-in-None-clause-leads c = λ number told. absurd (c.in-None.ensures number told)

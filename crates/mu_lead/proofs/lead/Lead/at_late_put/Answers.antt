@@ -44,3 +44,6 @@ returns-in-Missed-clause-missed c = λ missed. c.missed_min.ensures.missed
 
 pub returns-in_default-clause-missed : goal.returns-in_default-clause-missed
 returns-in_default-clause-missed c = λ missed. absurd (c.in_default.not-Missed missed)
+
+pub returns-in_default-clause-leads : goal.returns-in_default-clause-leads
+returns-in_default-clause-leads c = λ done. c.took_late_put.ensures.leads

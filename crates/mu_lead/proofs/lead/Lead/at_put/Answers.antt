@@ -99,3 +99,6 @@ returns-in-Missed-clause-raises c = λ mine s is possible told turn raised.
     let v = Verb.PutSlot c.args.p (length c.args.known.now) l.number c.args.offer.value in
     subst (λ a. RaisesAt l.config l.id (event_by l.id v a ∷ mine) c.missed_slot.new.self.place) (sym c.in-Missed.is)
     (raised_anywhere l.config l.id (event_by l.id v Answer.Missed ∷ mine) c.missed_slot.new.self.place (raised_on l.config l.id mine (event_by l.id v Answer.Missed) (not_more (length (commits l.config l.id mine))) raised))
+
+pub returns-in_default-clause-leads : goal.returns-in_default-clause-leads
+returns-in_default-clause-leads c = λ done. c.took_put.ensures.leads

@@ -75,3 +75,6 @@ returns-in-Missed-clause-rooms c = λ mine s is possible told turn over rooms.
     (subst (λ i. HasRooms (event_by l.id (Verb.PutSlot c.args.p i l.number (get_or c.args.known.now u 0)) Answer.Missed ∷ mine) c.missed_slot.new.self) position
     (subst (λ w. HasRooms (event_by l.id (Verb.PutSlot c.args.p c.narrow.result l.number w) Answer.Missed ∷ mine) c.missed_slot.new.self) (c.lacked.ensures s.tables.ups fits)
     (c.missed_slot.ensures.rooms mine (Stage.Bring (lag_of l.config l.id mine c.args.p c.args.then) Bringing.Put) s.config turn led.placed)))
+
+pub returns-in_default-clause-leads : goal.returns-in_default-clause-leads
+returns-in_default-clause-leads c = λ done. c.took_put_behind.ensures.leads

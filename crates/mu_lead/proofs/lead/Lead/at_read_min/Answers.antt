@@ -16,3 +16,9 @@ pub returns-in-Some-clause-rooms : goal.returns-in-Some-clause-rooms
 returns-in-Some-clause-rooms c = λ values mine s is possible told turn rooms.
     let l = c.args.self.now in
     subst (λ a. HasRooms (event_by l.id (Verb.Min c.args.p) a ∷ mine) c.took_min.new.self) (sym c.in-Some.ensures) (c.took_min.ensures.rooms values mine s is (subst (λ a. IsPossible l.config l.id (event_by l.id (Verb.Min c.args.p) a ∷ mine)) c.in-Some.ensures possible) told turn rooms)
+
+pub returns-in-Some-clause-leads : goal.returns-in-Some-clause-leads
+returns-in-Some-clause-leads c = λ number told. c.took_min.ensures.leads
+
+pub returns-in-None-clause-leads : goal.returns-in-None-clause-leads
+returns-in-None-clause-leads c = λ number told. absurd (c.in-None.ensures number told)

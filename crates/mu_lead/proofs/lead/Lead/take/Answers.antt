@@ -6,6 +6,8 @@ use Rattle.mu_lead.proofs.Going.{goes_idle}
 use Rattle.mu_lead.proofs.Rows.{working_is}
 use Rattle.mu_lead.proofs.Says.{says_idle, says_next}
 use Rattle.mu_lead.proofs.lead.Lead.take.Goals.{else-is_working-via-then-is_working+else-knows_all, else-is_working-via-else-is_working}
+use Rattle.mu_lead.proofs.Causes.{causes_next}
+use Rattle.mu_lead.proofs.Elections.{elects_next}
 use Rattle.mu_lead.proofs.lead.Lead.take.Goals as goal
 
 pub returns-then-knows_all-clause-says : goal.returns-then-knows_all-clause-says
@@ -36,3 +38,15 @@ returns-then-knows_all-clause-going g c =
     let l = c.args.self.now in
     let note = c.take_answer-note.result in
     goes_idle (begins_at l.place || l.under_way) c.take_answer-note.new.self.under_way note (working_is note (sym c.is_working.ensures ∙ c.if-is_working.true)) c.take_answer-note.ensures.going
+
+pub returns-then-knows_all-clause-causes : goal.returns-then-knows_all-clause-causes
+returns-then-knows_all-clause-causes g c = let l = c.args.self.now in let took = c.take_answer-note in causes_next g.mine l took.new.self c.args.answer c.requires.0 took.ensures.goes
+
+pub returns-then-knows_all-clause-elects : goal.returns-then-knows_all-clause-elects
+returns-then-knows_all-clause-elects g c = let l = c.args.self.now in let took = c.take_answer-note in elects_next g.mine l took.new.self c.args.known.now c.args.answer c.requires.0 c.requires.1 took.ensures.stands took.ensures.goes took.ensures.config took.ensures.id
+
+pub returns-else-is_working-clause-causes : goal.returns-else-is_working-clause-causes
+returns-else-is_working-clause-causes g c = let l = c.args.self.now in let took = c.take_answer-note in causes_next g.mine l took.new.self c.args.answer c.requires.0 took.ensures.goes
+
+pub returns-else-is_working-clause-elects : goal.returns-else-is_working-clause-elects
+returns-else-is_working-clause-elects g c = let l = c.args.self.now in let took = c.take_answer-note in elects_next g.mine l took.new.self c.args.known.now c.args.answer c.requires.0 c.requires.1 took.ensures.stands took.ensures.goes took.ensures.config took.ensures.id

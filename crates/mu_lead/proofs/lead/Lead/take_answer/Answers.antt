@@ -7,7 +7,7 @@ use Rattle.mu_lead.proofs.Taking.{takes_any, takes_head, takes_known, takes_look
 use Rattle.mu_lead.proofs.Replies.{answer_is}
 use Rattle.mu_model.proofs.Basics.{event_by}
 use Rattle.mu_model.specs.Parts.{IsPossible}
-use Rattle.std.proofs.Common.{subst}
+use Rattle.std.proofs.Common.{ap, subst}
 use Rattle.mu_lead.specs.Standing.{StandsFor}
 use Rattle.mu_model.specs.Knowledge.{known}
 use Rattle.mu_lead.proofs.Telling.{put_any, tells_put, tells_quiet}
@@ -22,6 +22,8 @@ use Rattle.mu_lead.specs.Raising.{RaisesAt}
 use Rattle.mu_lead.proofs.Raises.{raises_behind, raises_known, raises_plain}
 use Rattle.mu_lead.proofs.Confirms.{confirms_ask, confirms_fence, confirms_led, confirms_min, later_read}
 use Rattle.mu_lead.proofs.Joins.{joins_ask, joins_enter, joins_evidence, joins_fence, joins_fuo, joins_member, joins_min, joins_plain, joins_put, joins_round}
+use Rattle.mu_lead.proofs.Gathering.{goes_ask, goes_enter, goes_evidence, goes_fence, goes_fence_behind, goes_fuo, goes_head, goes_late_fence, goes_late_min, goes_min, goes_led, goes_put, goes_put_min}
+use Rattle.mu_lead.specs.Beside.{leads_at}
 use Rattle.mu_lead.proofs.lead.Lead.take_answer.Goals as goal
 
 pub returns-in-Ask-clause-stands : goal.returns-in-Ask-clause-stands
@@ -743,3 +745,78 @@ returns-in-Raise-clause-joins c = joins_plain c.args.self.now c.took_raise.new.s
 
 pub returns-in-Evidence-clause-joins : goal.returns-in-Evidence-clause-joins
 returns-in-Evidence-clause-joins c = joins_evidence c.args.self.now c.at_evidence.new.self c.in-Evidence.p c.args.known.now c.args.answer c.in-Evidence.is c.at_evidence.ensures.ended
+
+pub returns-in-Ask-clause-goes : goal.returns-in-Ask-clause-goes
+returns-in-Ask-clause-goes c = goes_ask c.args.self.now c.took_ask.new.self c.in-Ask.p c.args.answer c.in-Ask.is c.took_ask.ensures.follows
+
+pub returns-in-Confirm-clause-goes : goal.returns-in-Confirm-clause-goes
+returns-in-Confirm-clause-goes c = goes_fence c.args.self.now c.at_confirm.new.self c.in-Confirm.round c.in-Confirm.p c.args.answer c.in-Confirm.is c.at_confirm.ensures.follows
+
+pub returns-in-ReadMin-clause-goes : goal.returns-in-ReadMin-clause-goes
+returns-in-ReadMin-clause-goes c = goes_min c.args.self.now c.at_read_min.new.self c.in-ReadMin.p c.args.answer c.in-ReadMin.is c.at_read_min.ensures.leads
+
+pub returns-in-EnterMin-clause-goes : goal.returns-in-EnterMin-clause-goes
+returns-in-EnterMin-clause-goes c = goes_enter c.args.self.now c.at_enter_min.new.self (Place.EnterMin c.in-EnterMin.p) c.in-EnterMin.p (λ xs. Target.Min) c.args.answer c.in-EnterMin.is (λ xs. refl) refl c.at_enter_min.ensures.leads c.at_enter_min.ensures.ended
+
+pub returns-in-PutMin-clause-goes : goal.returns-in-PutMin-clause-goes
+returns-in-PutMin-clause-goes c = goes_put_min c.args.self.now c.at_put_min.new.self (Place.PutMin c.in-PutMin.p) c.in-PutMin.p c.args.answer c.in-PutMin.is (λ xs. refl) refl c.at_put_min.ensures.leads c.at_put_min.ensures.missed
+
+pub returns-in-ReadFuo-clause-goes : goal.returns-in-ReadFuo-clause-goes
+returns-in-ReadFuo-clause-goes c = goes_fuo c.args.self.now c.at_read_fuo.new.self (Place.ReadFuo c.in-ReadFuo.p c.in-ReadFuo.source) c.in-ReadFuo.p c.args.answer c.in-ReadFuo.is (λ xs. refl) refl c.at_read_fuo.ensures.leads
+
+pub returns-in-Learn-clause-goes : goal.returns-in-Learn-clause-goes
+returns-in-Learn-clause-goes c = goes_led c.args.self.now c.took_learning.new.self (Place.Learn c.in-Learn.p) c.args.answer c.in-Learn.is refl c.took_learning.ensures.leads
+
+pub returns-in-WidenBehind-clause-goes : goal.returns-in-WidenBehind-clause-goes
+returns-in-WidenBehind-clause-goes c = goes_led c.args.self.now c.took_widening.new.self (Place.WidenBehind c.in-WidenBehind.p c.in-WidenBehind.then) c.args.answer c.in-WidenBehind.is refl c.took_widening.ensures.leads
+
+pub returns-in-LookBehind-clause-goes : goal.returns-in-LookBehind-clause-goes
+returns-in-LookBehind-clause-goes c = goes_led c.args.self.now c.took_look_behind.new.self (Place.LookBehind c.in-LookBehind.p c.in-LookBehind.then) c.args.answer c.in-LookBehind.is refl c.took_look_behind.ensures.leads
+
+pub returns-in-EnterBehind-clause-goes : goal.returns-in-EnterBehind-clause-goes
+returns-in-EnterBehind-clause-goes c = goes_enter c.args.self.now c.at_enter_behind.new.self (Place.EnterBehind c.in-EnterBehind.p c.in-EnterBehind.then) c.in-EnterBehind.p (λ xs. Target.Place (get_or c.args.self.now.up c.in-EnterBehind.p 0 % c.args.self.now.config.ring)) c.args.answer c.in-EnterBehind.is (λ xs. refl) refl c.at_enter_behind.ensures.leads c.at_enter_behind.ensures.ended
+
+pub returns-in-PutBehind-clause-goes : goal.returns-in-PutBehind-clause-goes
+returns-in-PutBehind-clause-goes c = goes_put c.args.self.now c.at_put_behind.new.self (Place.PutBehind c.in-PutBehind.p c.in-PutBehind.then) c.in-PutBehind.p (λ xs. get_or c.args.self.now.up c.in-PutBehind.p 0) (λ xs. get_or xs (get_or c.args.self.now.up c.in-PutBehind.p 0) 0) c.args.answer c.in-PutBehind.is (λ xs. refl) refl c.at_put_behind.ensures.leads c.at_put_behind.ensures.missed
+
+pub returns-in-RaiseBehind-clause-goes : goal.returns-in-RaiseBehind-clause-goes
+returns-in-RaiseBehind-clause-goes c = goes_led c.args.self.now c.took_raise_behind.new.self (Place.RaiseBehind c.in-RaiseBehind.p c.in-RaiseBehind.then) c.args.answer c.in-RaiseBehind.is refl c.took_raise_behind.ensures.leads
+
+pub returns-in-FenceBehind-clause-goes : goal.returns-in-FenceBehind-clause-goes
+returns-in-FenceBehind-clause-goes c = goes_fence_behind c.args.self.now c.at_fence_behind.new.self (Place.FenceBehind c.in-FenceBehind.p c.in-FenceBehind.then) c.in-FenceBehind.p c.args.answer c.in-FenceBehind.is (λ xs. refl) refl c.at_fence_behind.ensures.leads
+
+pub returns-in-LateFence-clause-goes : goal.returns-in-LateFence-clause-goes
+returns-in-LateFence-clause-goes c = goes_late_fence c.args.self.now c.at_late_fence.new.self c.in-LateFence.p c.args.answer c.in-LateFence.is c.at_late_fence.ensures.leads
+
+pub returns-in-LateMin-clause-goes : goal.returns-in-LateMin-clause-goes
+returns-in-LateMin-clause-goes c = goes_late_min c.args.self.now c.at_late_min.new.self c.in-LateMin.p c.args.answer c.in-LateMin.is c.at_late_min.ensures.low c.at_late_min.ensures.high
+
+pub returns-in-LateFuo-clause-goes : goal.returns-in-LateFuo-clause-goes
+returns-in-LateFuo-clause-goes c = goes_fuo c.args.self.now c.at_late_fuo.new.self (Place.LateFuo c.in-LateFuo.p) c.in-LateFuo.p c.args.answer c.in-LateFuo.is (λ xs. refl) refl c.at_late_fuo.ensures.leads
+
+pub returns-in-LateEnter-clause-goes : goal.returns-in-LateEnter-clause-goes
+returns-in-LateEnter-clause-goes c = goes_enter c.args.self.now c.at_late_enter.new.self (Place.LateEnter c.in-LateEnter.p) c.in-LateEnter.p (λ xs. Target.Min) c.args.answer c.in-LateEnter.is (λ xs. refl) refl (λ entered. ap leads_at (c.at_late_enter.ensures.entered entered)) c.at_late_enter.ensures.ended
+
+pub returns-in-LatePut-clause-goes : goal.returns-in-LatePut-clause-goes
+returns-in-LatePut-clause-goes c = goes_put_min c.args.self.now c.at_late_put.new.self (Place.LatePut c.in-LatePut.p) c.in-LatePut.p c.args.answer c.in-LatePut.is (λ xs. refl) refl c.at_late_put.ensures.leads c.at_late_put.ensures.missed
+
+pub returns-in-ReadHead-clause-goes : goal.returns-in-ReadHead-clause-goes
+returns-in-ReadHead-clause-goes c = goes_head c.args.self.now c.at_read_head.new.self (Place.ReadHead c.in-ReadHead.q c.in-ReadHead.candidate) c.in-ReadHead.q c.args.answer c.in-ReadHead.is (λ xs. refl) refl c.at_read_head.ensures.leads
+
+pub returns-in-Look-clause-goes : goal.returns-in-Look-clause-goes
+returns-in-Look-clause-goes c = goes_led c.args.self.now c.took_look.new.self (Place.Look c.in-Look.p c.in-Look.i c.in-Look.candidate c.in-Look.best) c.args.answer c.in-Look.is refl c.took_look.ensures.leads
+
+pub returns-in-Write-clause-goes : goal.returns-in-Write-clause-goes
+returns-in-Write-clause-goes c = goes_led c.args.self.now c.took_write.new.self (Place.Write c.in-Write.j c.in-Write.last c.in-Write.offer) c.args.answer c.in-Write.is refl c.took_write.ensures.leads
+
+pub returns-in-Enter-clause-goes : goal.returns-in-Enter-clause-goes
+returns-in-Enter-clause-goes c = goes_enter c.args.self.now c.at_enter.new.self (Place.Enter c.in-Enter.p c.in-Enter.offer) c.in-Enter.p (λ xs. Target.Place (length xs % c.args.self.now.config.ring)) c.args.answer c.in-Enter.is (λ xs. refl) refl c.at_enter.ensures.leads c.at_enter.ensures.ended
+
+pub returns-in-Put-clause-goes : goal.returns-in-Put-clause-goes
+returns-in-Put-clause-goes c = goes_put c.args.self.now c.at_put.new.self (Place.Put c.in-Put.p c.in-Put.offer) c.in-Put.p (λ xs. length xs) (λ xs. c.in-Put.offer.value) c.args.answer c.in-Put.is (λ xs. refl) refl c.at_put.ensures.leads c.at_put.ensures.missed
+
+pub returns-in-Raise-clause-goes : goal.returns-in-Raise-clause-goes
+returns-in-Raise-clause-goes c = goes_led c.args.self.now c.took_raise.new.self (Place.Raise c.in-Raise.p) c.args.answer c.in-Raise.is refl c.took_raise.ensures.leads
+
+pub returns-in-Evidence-clause-goes : goal.returns-in-Evidence-clause-goes
+returns-in-Evidence-clause-goes c = goes_evidence c.args.self.now c.at_evidence.new.self c.in-Evidence.p c.args.answer c.in-Evidence.is c.at_evidence.ensures.ended

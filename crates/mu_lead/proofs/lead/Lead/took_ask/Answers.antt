@@ -39,3 +39,9 @@ returns-else-p-eq0-clause-rooms c = λ values mine s is possible told turn rooms
     let here = rw is at s.at in
     let waiting = rw is at rooms in
     c.after_ask-self-else-p-eq0.ensures.rooms _ l.written.items here.region s.config.replicas.1 (rooms_ask l.config l.id c.args.p Answer.Done mine c.if-p-eq0.false turn (waiting.1 c.if-p-eq0.false))
+
+pub returns-then-p-eq0-clause-follows : goal.returns-then-p-eq0-clause-follows
+returns-then-p-eq0-clause-follows c = c.after_ask-self.ensures.follows
+
+pub returns-else-p-eq0-clause-follows : goal.returns-else-p-eq0-clause-follows
+returns-else-p-eq0-clause-follows c = c.after_ask-self-else-p-eq0.ensures.follows

@@ -7,6 +7,8 @@ use Rattle.mu_model.proofs.Basics.{event_by}
 use Rattle.mu_lead.proofs.Rounds.{at_last, not_yet}
 use Rattle.mu_lead.proofs.RoomsAsking.{rooms_fence}
 use Rattle.mu_lead.proofs.Confirms.{last_fence, next_fence, unconfirmed_fence}
+use Rattle.std.proofs.Common.{ap, inl, inr}
+use Rattle.mu_lead.specs.declared.place.Place.{Place}
 use Rattle.mu_lead.proofs.lead.Lead.took_fence.Goals as goal
 
 pub returns-then-next-self-clause-stands : goal.returns-then-next-self-clause-stands
@@ -78,3 +80,9 @@ returns-else-next-self-clause-confirms c = λ mine s is possible turn room.
     let here = rw is at s.at in
     let few = s.config.replicas.1 in
     c.after_round-self.ensures.confirms _ few s.inside (c.take.ensures l.config mine few possible s.leading) (last_fence l.config l.id c.args.p (Answer.Seen c.args.fence) mine here.1.region room) (unconfirmed_fence l.config l.id c.args.p (Answer.Seen c.args.fence) mine turn)
+
+pub returns-then-next-self-clause-follows : goal.returns-then-next-self-clause-follows
+returns-then-next-self-clause-follows c = λ few. let next = c.saturating_add-next.ensures in let low = c.if-next-self.true in inl (ap (Place.Confirm c.args.round) (omega (arith, next, low, few)))
+
+pub returns-else-next-self-clause-follows : goal.returns-else-next-self-clause-follows
+returns-else-next-self-clause-follows c = λ few. let next = c.saturating_add-next.ensures in let high = c.if-next-self.false in inr (omega (arith, next, high, few), c.after_round-self.ensures.follows)

@@ -1,4 +1,4 @@
-use Rattle.std.proofs.Common.{ap, arith, inl, refl, sym, ◌∙◌, ◌∷◌}
+use Rattle.std.proofs.Common.{ap, arith, inl, inr, refl, sym, ◌∙◌, ◌∷◌}
 use Rattle.mu_lead.proofs.Tables.{tables_kept}
 use Rattle.mu_lead.proofs.Lates.{fence_event, near_held}
 use Rattle.mu_lead.specs.Saying.{note_of_fence}
@@ -65,3 +65,12 @@ returns-else-is_over-clause-rooms c = λ values mine s is possible told turn ove
     let l = c.args.self.now in
     let leading = c.take.ensures l.config mine s.config.replicas.1 possible s.leading in
     absurd (true≢false (sym over ∙ (sym (c.is_over.ensures l.id (fence_event l.id c.args.p c.args.fence ∷ mine) leading) ∙ c.if-is_over.false)))
+
+pub returns-then-is_over-clause-leads : goal.returns-then-is_over-clause-leads
+returns-then-is_over-clause-leads c = λ mine s possible.
+    let l = c.args.self.now in
+    let leading = c.take.ensures l.config mine s.config.replicas.1 possible s.leading in
+    inr (sym (c.is_over.ensures l.id (fence_event l.id c.args.p c.args.fence ∷ mine) leading) ∙ c.if-is_over.true, refl)
+
+pub returns-else-is_over-clause-leads : goal.returns-else-is_over-clause-leads
+returns-else-is_over-clause-leads c = λ mine s possible. inl refl

@@ -47,7 +47,7 @@ returns-clause-stands c = λ mine s is possible told.
       inside = s.inside;
       leading = leading;
       tables = tables;
-      at = c.after_put_behind-self.ensures (e ∷ mine) (record { possible = possible; config = s.config; inside = s.inside; leading = leading; tables = tables }) (told ∙ sym same)
+      at = c.after_put_behind-self.ensures.stands (e ∷ mine) (record { possible = possible; config = s.config; inside = s.inside; leading = leading; tables = tables }) (told ∙ sym same)
           (behind_put l.config l.id l.number v p u mine l.up c.with_number-self.result l.reach c.args.then lacks c.with_number-self.ensures.others all behind)
           (subst (λ values. get_or c.with_number-self.result p 0 ≤ length values) (sym same) all);
     }

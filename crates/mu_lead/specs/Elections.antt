@@ -1,0 +1,104 @@
+-- The counts of steps since each region was asked and its fence read, at each place of a leader: who
+-- has to ask does both in time.
+use Rattle.std.specs.Prelude.{List, Some, false, true, ℕ, ◌*◌, ◌+◌, ◌<◌, ◌∷◌, ◌≡◌, ◌≤◌, ◌⊎◌}
+use Rattle.mu_agree.specs.Paces.{asks_or_rests, steps_since}
+use Rattle.mu_model.specs.declared.config.Config.{Config}
+use Rattle.mu_model.specs.declared.event.Answer.{Answer}
+use Rattle.mu_model.specs.declared.event.Event.{Event}
+use Rattle.mu_model.specs.declared.event.Verb.{Verb}
+use Rattle.mu_model.specs.Knowledge.{known}
+use Rattle.mu_model.specs.Parts.{IsPossible}
+use Rattle.mu_model.specs.Steps.{has_min, is_asking, is_fencing, is_named}
+use Rattle.mu_model.specs.Stretches.{is_replication}
+use Rattle.mu_pace.specs.Keeping.{AsksLately}
+use Rattle.mu_lead.specs.declared.lead.Lead.{Lead}
+use Rattle.mu_lead.specs.declared.place.Place.{Place}
+use Rattle.mu_lead.specs.Beside.{is_beside, leads_at}
+use Rattle.mu_lead.specs.Offering.{AtRest}
+use Rattle.mu_lead.specs.Standing.{StandsFor, known_told, verb_of}
+
+-- how many replication events came since r asked q, or did not have to
+abbrev pub since_ask : Config → ℕ → ℕ → List Event → ℕ
+since_ask c r q mine = steps_since (asks_or_rests c r (is_asking q)) mine
+
+-- and since it read the fence of q, or did not have to ask
+abbrev pub since_fence : Config → ℕ → ℕ → List Event → ℕ
+since_fence c r q mine = steps_since (asks_or_rests c r (is_fencing q)) mine
+
+-- the region p is asked next: those below were asked in turn, the others before 16 rounds
+pub record AsksNext (c : Config) (r : ℕ) (mine : List Event) (p : ℕ) : Type 0 where
+  pub asked : (q : ℕ) → q < p → since_ask c r q mine + q < p
+  pub asks :
+      (q : ℕ) → p ≤ q → q < c.replicas → since_ask c r q mine + q < 17 * c.replicas + p
+  pub fences : (q : ℕ) → q < c.replicas → since_fence c r q mine ≤ c.replicas + p
+
+-- the fence of p is read next, in this round: those below were read in turn, the others before the
+-- asks or in the round before
+pub record FencesNext (c : Config) (r : ℕ) (mine : List Event) (round p : ℕ) : Type 0 where
+  pub asks :
+      (q : ℕ) → q < c.replicas
+      → since_ask c r q mine + q < (round + 1) * c.replicas + p
+  pub fenced : (q : ℕ) → q < p → since_fence c r q mine + q < p
+  pub fences :
+      (q : ℕ) → p ≤ q → q < c.replicas → since_fence c r q mine ≤ 2 * c.replicas + p
+
+-- so many steps are left at least to ask each region, and to read each fence
+pub record HasStepsLeft (c : Config) (r : ℕ) (mine : List Event) (left : ℕ) : Type 0 where
+  pub asks : (q : ℕ) → q < c.replicas → since_ask c r q mine + left ≤ 17 * c.replicas
+  pub fences : (q : ℕ) → q < c.replicas → since_fence c r q mine + left ≤ 17 * c.replicas
+
+-- a minimum was read, and each step in a leadership that leads needs no ask
+pub record HasLed (c : Config) (r : ℕ) (mine : List Event) : Type 0 where
+  pub read : has_min r mine ≡ true
+  pub left : HasStepsLeft c r mine 0
+
+-- a minimum is read next, and there is a step left for the first one
+pub record ReadsNext (c : Config) (r : ℕ) (mine : List Event) : Type 0 where
+  pub first : has_min r mine ≡ false → HasStepsLeft c r mine 1
+  pub later : has_min r mine ≡ true → HasStepsLeft c r mine 0
+
+-- what holds of asks at a place; where a put has missed, the replica has just led
+abbrev pub ElectsAt : Config → ℕ → List Event → Place → Type 0
+ElectsAt c r mine (Place.Ask p) = AsksNext c r mine p
+ElectsAt c r mine (Place.Confirm round p) = FencesNext c r mine round p
+ElectsAt c r mine (Place.ReadMin p) = ReadsNext c r mine
+ElectsAt c r mine (Place.Evidence p) = HasStepsLeft c r mine (17 * c.replicas)
+ElectsAt c r mine place = HasLed c r mine
+
+-- by the answer to the verb that was due, a replication event, and with these values known, the
+-- leader comes to a place where regions are asked in time
+abbrev pub ElectsNext : List Event → Lead → List ℕ → Answer → Lead → Type 0
+ElectsNext mine old values answer new =
+    (verb : Verb) → verb_of old (known old.config old.id mine) ≡ Some verb
+    → IsPossible old.config old.id (record { by = old.id; verb = verb; answer = answer } ∷ mine)
+    → values ≡ known_told old.config old.id mine old.id verb answer
+    → is_replication mine (record { by = old.id; verb = verb; answer = answer }) ≡ true
+    → ElectsAt old.config old.id mine old.place
+    → ElectsAt old.config old.id (record { by = old.id; verb = verb; answer = answer } ∷ mine)
+    new.place
+
+-- what the other machines do in the background leaves the counts of asks; so do their replication
+-- events where the replica isn't named, though the leader gives up, and where nothing is due; and
+-- each ask and fence is in time
+pub record ElectionsComeInTime : Type 0 where
+  pub beside :
+      (c : Config) (r : ℕ) (mine : List Event) (place : Place) (verb : Verb) (answer : Answer)
+      → is_replication mine (record { by = r; verb = verb; answer = answer }) ≡ false
+      → is_beside (leads_at place) verb ≡ true → ElectsAt c r mine place
+      → ElectsAt c r (record { by = r; verb = verb; answer = answer } ∷ mine) place
+  pub unnamed :
+      (c : Config) (r : ℕ) (mine : List Event) (old new : Place) (verb : Verb) (answer : Answer)
+      → is_replication mine (record { by = r; verb = verb; answer = answer }) ≡ true
+      → is_named c r mine ≡ false → is_beside (leads_at old) verb ≡ true
+      → (new ≡ old) ⊎ (new ≡ Place.Ask 0) → ElectsAt c r mine old
+      → ElectsAt c r (record { by = r; verb = verb; answer = answer } ∷ mine) new
+  pub rest :
+      (c : Config) (r : ℕ) (mine : List Event) (verb : Verb) (answer : Answer)
+      → is_replication mine (record { by = r; verb = verb; answer = answer }) ≡ true
+      → is_beside (leads_at Place.Rest) verb ≡ true → AtRest c r mine
+      → ElectsAt c r mine Place.Rest
+      → ElectsAt c r (record { by = r; verb = verb; answer = answer } ∷ mine) Place.Rest
+  pub in_time :
+      (past : List Event) (e : Event) (lead : Lead) → StandsFor (e ∷ past) lead
+      → ElectsAt lead.config lead.id (e ∷ past) lead.place
+      → AsksLately lead.config lead.id past e
