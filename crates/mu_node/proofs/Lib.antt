@@ -1,5 +1,4 @@
 pub mod Bits
-pub mod Causes
 pub mod Heads
 pub mod Lasts
 pub mod Leading

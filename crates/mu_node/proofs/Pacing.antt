@@ -34,9 +34,11 @@ use Rattle.mu_lead.specs.Rooms.{RoomsAt, RoomsNext, gives_up}
 use Rattle.mu_lead.specs.Standing.{At, StandsFor, known_told, verb_at, verb_of}
 use Rattle.mu_lead.specs.Welcomes.{JoinsNext}
 use Rattle.mu_lead.proofs.Confirms.{minima_come_in_time}
-use Rattle.mu_node.specs.Causes.{CausesAt, CausesNext, ElectsAt, ElectsNext}
+use Rattle.mu_lead.specs.Causes.{CausesAt, CausesNext}
+use Rattle.mu_lead.specs.Elections.{ElectsAt, ElectsNext}
 use Rattle.mu_lead.specs.Resigning.{CountsAt, IsTold, KeepsCounts}
-use Rattle.mu_node.proofs.Causes.{elections_come_in_time, leaders_ask_with_cause}
+use Rattle.mu_lead.proofs.Causes.{leaders_ask_with_cause}
+use Rattle.mu_lead.proofs.Elections.{elections_come_in_time}
 use Rattle.mu_lead.proofs.Resigning.{beats_keep_counts, counts_are_in_time}
 use Rattle.mu_node.specs.Due.{IsIdle, lead_due}
 use Rattle.mu_node.specs.Node.{StandsForLead}
@@ -71,7 +73,7 @@ pub record TakesPaces (mine : List Event) (old : Lead) (values : List ℕ) (answ
   pub raises : RaisesNext mine old values answer new
   pub confirms : ConfirmsNext mine old answer new
   pub joins : JoinsNext mine old values answer new
-  pub causes : CausesNext mine old values answer new
+  pub causes : CausesNext mine old answer new
   pub elects : ElectsNext mine old values answer new
 
 -- of its own configuration and id
@@ -86,7 +88,7 @@ own_led mine old new verb answer values same_c same_r takes odd is possible told
     confirms = takes.confirms verb is possible odd paces.counts.confirms;
     joins = takes.joins verb is possible told odd paces.counts.joins;
   };
-  causes = takes.causes verb is possible told odd paces.counts.rooms paces.causes;
+  causes = takes.causes verb is possible paces.causes;
   elects = takes.elects verb is possible told odd paces.elects;
 }
 

@@ -1,5 +1,4 @@
 pub mod Beats
-pub mod Causes
 pub mod Cycle
 pub mod Due
 pub mod Journal

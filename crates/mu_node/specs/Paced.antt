@@ -6,8 +6,9 @@ use Rattle.mu_model.specs.Steps.{is_named}
 use Rattle.mu_model.specs.Stretches.{is_odd}
 use Rattle.mu_lead.specs.declared.lead.Lead.{Lead}
 use Rattle.mu_lead.specs.declared.place.Place.{Place}
+use Rattle.mu_lead.specs.Causes.{CausesAt}
+use Rattle.mu_lead.specs.Elections.{ElectsAt}
 use Rattle.mu_lead.specs.Resigning.{CountsAt}
-use Rattle.mu_node.specs.Causes.{CausesAt, ElectsAt}
 
 -- at the place, with so many words of each row written, each count has room, an ask has its cause,
 -- and regions are asked in time

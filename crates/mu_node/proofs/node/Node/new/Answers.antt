@@ -33,8 +33,8 @@ returns-clause-stands c = record {
       confirms = c.in_ok-new.ensures.confirms;
       joins = c.in_ok-new.ensures.joins;
     };
-    causes = ?;
-    elects = ?;
+    causes = c.in_ok-new.ensures.causes;
+    elects = c.in_ok-new.ensures.elects;
   });
   led = tt;
 }

@@ -39,8 +39,8 @@ returns-clause-stands g c follows possible =
       raises = c.take-note.ensures.raises;
       confirms = c.take-note.ensures.confirms;
       joins = c.take-note.ensures.joins;
-      causes = ?;
-      elects = ?;
+      causes = c.take-note.ensures.causes;
+      elects = c.take-note.ensures.elects;
     } in
     let odd = c.requires.1.1.1.1.0 in
     let before : HasPaces k r mine old = led_paces k r mine old verb odd due (subst (λ l. HasPlannedPaces k r mine l) (sym c.note.ensures.lead) held.paces) in
