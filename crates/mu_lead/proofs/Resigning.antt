@@ -1,5 +1,5 @@
 -- The counts of a leader in what isn't the answer to a verb of its own.
-use Rattle.std.proofs.Common.{◌≡◌, ◌≢◌, ℕ, ◌+◌, ◌-◌, ◌≤◌, ◌⊎◌, inl, inr, Bool, true, false, ◌&&◌, ◌==◌, List, [], ◌∷◌, None, Some, length, refl, sym, ◌∙◌, ap, subst, arith, true≢false}
+use Rattle.std.proofs.Common.{◌≡◌, ℕ, ◌+◌, ◌-◌, ◌≤◌, ◌⊎◌, inl, inr, Bool, true, false, ◌&&◌, ◌==◌, List, [], ◌∷◌, None, Some, length, refl, sym, ◌∙◌, subst, arith, true≢false}
 use Rattle.std.specs.Prelude.{if◌then◌else◌, is_some, nat_le, not}
 use Rattle.std.specs.declared.option.Option.{Option}
 use Rattle.std.proofs.lemmas.Bool.{eqb-true, le-leb}
@@ -10,17 +10,16 @@ use Rattle.mu_model.specs.declared.event.Verb.{Verb}
 use Rattle.mu_model.specs.Contents.{IsConfig}
 use Rattle.mu_model.specs.Diligence.{was_unnamed}
 use Rattle.mu_model.specs.Ends.{outrun, outrun_by}
-use Rattle.mu_model.specs.Histories.{earlier_or, has}
+use Rattle.mu_model.specs.Histories.{earlier_or}
 use Rattle.mu_model.specs.Knowledge.{commits, known}
-use Rattle.mu_model.specs.Leaderships.{has_begun, is_member}
+use Rattle.mu_model.specs.Leaderships.{has_begun}
 use Rattle.mu_model.specs.Picks.{is_past, is_past_look, look_answer}
-use Rattle.mu_model.specs.Steps.{has_min, is_named}
+use Rattle.mu_model.specs.Steps.{is_named}
 use Rattle.mu_model.specs.Stretches.{is_replication}
 use Rattle.mu_model.proofs.Basics.{none_some}
 use Rattle.mu_pace.specs.Away.{IsAway, IsFresh}
 use Rattle.mu_pace.specs.Closing.{AreClosed, OpensNone}
-use Rattle.mu_pace.specs.Counters.{HasRoom, IsInTime}
-use Rattle.mu_pace.specs.Watches.{confirming, explaining, joining, raising}
+use Rattle.mu_pace.specs.Watches.{confirming}
 use Rattle.mu_pace.specs.Weights.{Stage}
 use Rattle.mu_pace.proofs.Away.{away_is_in_time}
 use Rattle.mu_pace.proofs.Beside.{not_more}
@@ -31,13 +30,10 @@ use Rattle.mu_pace.proofs.Placed.{places_lead}
 use Rattle.mu_pace.proofs.Rooms.{kinds_of_step}
 use Rattle.mu_lead.specs.declared.lead.Lead.{Lead}
 use Rattle.mu_lead.specs.declared.place.Place.{Place}
-use Rattle.mu_lead.specs.Confirmations.{ConfirmsAt, HasRead}
-use Rattle.mu_lead.specs.Evidence.{ExplainsAt}
+use Rattle.mu_lead.specs.Confirmations.{ConfirmsAt}
 use Rattle.mu_lead.specs.Offering.{AtOutrun, AtRest, has_seen_past}
-use Rattle.mu_lead.specs.Raising.{RaisesAt}
 use Rattle.mu_lead.specs.Resigning.{BeatsKeepCounts, CountsAreInTime, CountsAt, HasCounts, IsTold, beat_of}
 use Rattle.mu_lead.specs.Rooms.{IsLed, IsOut, RoomsAt, gives_up, sizes_of, stage_of}
-use Rattle.mu_lead.specs.Welcomes.{JoinsAt, WaitsToJoin}
 use Rattle.mu_lead.proofs.Confirms.{minima_come_in_time}
 use Rattle.mu_lead.proofs.Joins.{followers_join_in_time, joins_anywhere}
 use Rattle.mu_lead.proofs.Misses.{evidence_comes_in_time, explained_anywhere}

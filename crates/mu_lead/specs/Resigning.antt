@@ -1,6 +1,6 @@
--- The counts of a leader in what isn't the answer to a verb of its own: the background, and the turns
--- in which it has nothing due and beats, as where another replica is named, also right after it gave
--- up, and where it rests.
+-- The counts of a leader in what isn't the answer to a verb of its own: the background, and the
+-- turns in which it has nothing due and beats, as where another replica is named, also right after
+-- it gave up, and where it rests.
 use Rattle.std.specs.Prelude.{List, None, false, if◌then◌else◌, true, ℕ, ◌∷◌, ◌≡◌, ◌⊎◌}
 use Rattle.mu_model.specs.declared.config.Config.{Config}
 use Rattle.mu_model.specs.declared.event.Answer.{Answer}

@@ -81,7 +81,7 @@ pub record IsLed (c : Config) (r : ℕ) (mine : List Event) (stage : Stage) : Ty
 abbrev pub IsPlaced : Config → ℕ → List Event → List ℕ → Place → Type 0
 IsPlaced c r mine written place = IsLed c r mine (stage_of c r mine written place)
 
--- no leadership is under way, or r was left unnamed in it: only late followers are waited for, and a
+-- no leadership is under way, or r was unnamed in it: only late followers are waited for, and a
 -- background look may count
 pub record IsOut (c : Config) (r : ℕ) (mine : List Event) : Type 0 where
   pub left : (leads r mine ≡ false) ⊎ (was_unnamed c r mine ≡ true)
