@@ -50,5 +50,10 @@ pub mod Saying
 pub mod Says
 pub mod Sights
 pub mod Tables
+pub mod TakeConfirms
+pub mod TakeEvidence
+pub mod TakeJoins
+pub mod TakeRaises
+pub mod TakeRooms
 pub mod Taking
 pub mod Telling
