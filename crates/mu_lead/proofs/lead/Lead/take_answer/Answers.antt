@@ -1,3 +1,9 @@
+mod Confirms
+mod Evidence
+mod Joins
+mod Raises
+mod Rooms
+
 use Rattle.std.proofs.Common.{get_or, length, refl, sym, subst, ◌%◌, ◌∷◌}
 use Rattle.mu_model.specs.declared.event.Target.{Target}
 use Rattle.mu_model.specs.declared.event.Verb.{Verb}
@@ -12,11 +18,11 @@ use Rattle.mu_model.specs.Knowledge.{known}
 use Rattle.mu_lead.proofs.Telling.{put_any, tells_put, tells_quiet}
 use Rattle.mu_lead.proofs.Going.{goes_asked, goes_on}
 use Rattle.mu_lead.proofs.Saying.{notes_at}
-use Rattle.mu_lead.proofs.TakeRooms.{returns-in-Ask-clause-rooms, returns-in-Confirm-clause-rooms, returns-in-ReadMin-clause-rooms, returns-in-EnterMin-clause-rooms, returns-in-PutMin-clause-rooms, returns-in-ReadFuo-clause-rooms, returns-in-Learn-clause-rooms, returns-in-WidenBehind-clause-rooms, returns-in-LookBehind-clause-rooms, returns-in-EnterBehind-clause-rooms, returns-in-PutBehind-clause-rooms, returns-in-RaiseBehind-clause-rooms, returns-in-FenceBehind-clause-rooms, returns-in-LateFence-clause-rooms, returns-in-LateMin-clause-rooms, returns-in-LateFuo-clause-rooms, returns-in-LateEnter-clause-rooms, returns-in-LatePut-clause-rooms, returns-in-ReadHead-clause-rooms, returns-in-Look-clause-rooms, returns-in-Write-clause-rooms, returns-in-Enter-clause-rooms, returns-in-Put-clause-rooms, returns-in-Raise-clause-rooms, returns-in-Evidence-clause-rooms}
-use Rattle.mu_lead.proofs.TakeEvidence.{returns-in-Ask-clause-evidence, returns-in-Confirm-clause-evidence, returns-in-ReadMin-clause-evidence, returns-in-EnterMin-clause-evidence, returns-in-ReadFuo-clause-evidence, returns-in-Learn-clause-evidence, returns-in-WidenBehind-clause-evidence, returns-in-LookBehind-clause-evidence, returns-in-EnterBehind-clause-evidence, returns-in-RaiseBehind-clause-evidence, returns-in-FenceBehind-clause-evidence, returns-in-LateFence-clause-evidence, returns-in-LateMin-clause-evidence, returns-in-LateFuo-clause-evidence, returns-in-LateEnter-clause-evidence, returns-in-ReadHead-clause-evidence, returns-in-Look-clause-evidence, returns-in-Write-clause-evidence, returns-in-Enter-clause-evidence, returns-in-Raise-clause-evidence, returns-in-PutMin-clause-evidence, returns-in-LatePut-clause-evidence, returns-in-PutBehind-clause-evidence, returns-in-Put-clause-evidence, returns-in-Evidence-clause-evidence}
-use Rattle.mu_lead.proofs.TakeRaises.{returns-in-Ask-clause-raises, returns-in-Confirm-clause-raises, returns-in-ReadMin-clause-raises, returns-in-EnterMin-clause-raises, returns-in-PutMin-clause-raises, returns-in-ReadFuo-clause-raises, returns-in-Learn-clause-raises, returns-in-WidenBehind-clause-raises, returns-in-LookBehind-clause-raises, returns-in-EnterBehind-clause-raises, returns-in-RaiseBehind-clause-raises, returns-in-FenceBehind-clause-raises, returns-in-LateFence-clause-raises, returns-in-LateMin-clause-raises, returns-in-LateFuo-clause-raises, returns-in-LateEnter-clause-raises, returns-in-LatePut-clause-raises, returns-in-ReadHead-clause-raises, returns-in-Look-clause-raises, returns-in-Write-clause-raises, returns-in-Enter-clause-raises, returns-in-Evidence-clause-raises, returns-in-PutBehind-clause-raises, returns-in-Put-clause-raises, returns-in-Raise-clause-raises}
-use Rattle.mu_lead.proofs.TakeConfirms.{returns-in-Ask-clause-confirms, returns-in-Confirm-clause-confirms, returns-in-ReadMin-clause-confirms, returns-in-EnterMin-clause-confirms, returns-in-PutMin-clause-confirms, returns-in-ReadFuo-clause-confirms, returns-in-Learn-clause-confirms, returns-in-WidenBehind-clause-confirms, returns-in-LookBehind-clause-confirms, returns-in-EnterBehind-clause-confirms, returns-in-PutBehind-clause-confirms, returns-in-RaiseBehind-clause-confirms, returns-in-FenceBehind-clause-confirms, returns-in-LateFence-clause-confirms, returns-in-LateMin-clause-confirms, returns-in-LateFuo-clause-confirms, returns-in-LateEnter-clause-confirms, returns-in-LatePut-clause-confirms, returns-in-ReadHead-clause-confirms, returns-in-Look-clause-confirms, returns-in-Write-clause-confirms, returns-in-Enter-clause-confirms, returns-in-Put-clause-confirms, returns-in-Raise-clause-confirms, returns-in-Evidence-clause-confirms}
-use Rattle.mu_lead.proofs.TakeJoins.{returns-in-Ask-clause-joins, returns-in-Confirm-clause-joins, returns-in-ReadMin-clause-joins, returns-in-EnterMin-clause-joins, returns-in-PutMin-clause-joins, returns-in-ReadFuo-clause-joins, returns-in-Learn-clause-joins, returns-in-WidenBehind-clause-joins, returns-in-LookBehind-clause-joins, returns-in-EnterBehind-clause-joins, returns-in-PutBehind-clause-joins, returns-in-RaiseBehind-clause-joins, returns-in-FenceBehind-clause-joins, returns-in-LateFence-clause-joins, returns-in-LateMin-clause-joins, returns-in-LateFuo-clause-joins, returns-in-LateEnter-clause-joins, returns-in-LatePut-clause-joins, returns-in-ReadHead-clause-joins, returns-in-Look-clause-joins, returns-in-Write-clause-joins, returns-in-Enter-clause-joins, returns-in-Put-clause-joins, returns-in-Raise-clause-joins, returns-in-Evidence-clause-joins}
+use Rattle.mu_lead.proofs.lead.Lead.take_answer.Answers.Rooms.{returns-in-Ask-clause-rooms, returns-in-Confirm-clause-rooms, returns-in-ReadMin-clause-rooms, returns-in-EnterMin-clause-rooms, returns-in-PutMin-clause-rooms, returns-in-ReadFuo-clause-rooms, returns-in-Learn-clause-rooms, returns-in-WidenBehind-clause-rooms, returns-in-LookBehind-clause-rooms, returns-in-EnterBehind-clause-rooms, returns-in-PutBehind-clause-rooms, returns-in-RaiseBehind-clause-rooms, returns-in-FenceBehind-clause-rooms, returns-in-LateFence-clause-rooms, returns-in-LateMin-clause-rooms, returns-in-LateFuo-clause-rooms, returns-in-LateEnter-clause-rooms, returns-in-LatePut-clause-rooms, returns-in-ReadHead-clause-rooms, returns-in-Look-clause-rooms, returns-in-Write-clause-rooms, returns-in-Enter-clause-rooms, returns-in-Put-clause-rooms, returns-in-Raise-clause-rooms, returns-in-Evidence-clause-rooms}
+use Rattle.mu_lead.proofs.lead.Lead.take_answer.Answers.Evidence.{returns-in-Ask-clause-evidence, returns-in-Confirm-clause-evidence, returns-in-ReadMin-clause-evidence, returns-in-EnterMin-clause-evidence, returns-in-ReadFuo-clause-evidence, returns-in-Learn-clause-evidence, returns-in-WidenBehind-clause-evidence, returns-in-LookBehind-clause-evidence, returns-in-EnterBehind-clause-evidence, returns-in-RaiseBehind-clause-evidence, returns-in-FenceBehind-clause-evidence, returns-in-LateFence-clause-evidence, returns-in-LateMin-clause-evidence, returns-in-LateFuo-clause-evidence, returns-in-LateEnter-clause-evidence, returns-in-ReadHead-clause-evidence, returns-in-Look-clause-evidence, returns-in-Write-clause-evidence, returns-in-Enter-clause-evidence, returns-in-Raise-clause-evidence, returns-in-PutMin-clause-evidence, returns-in-LatePut-clause-evidence, returns-in-PutBehind-clause-evidence, returns-in-Put-clause-evidence, returns-in-Evidence-clause-evidence}
+use Rattle.mu_lead.proofs.lead.Lead.take_answer.Answers.Raises.{returns-in-Ask-clause-raises, returns-in-Confirm-clause-raises, returns-in-ReadMin-clause-raises, returns-in-EnterMin-clause-raises, returns-in-PutMin-clause-raises, returns-in-ReadFuo-clause-raises, returns-in-Learn-clause-raises, returns-in-WidenBehind-clause-raises, returns-in-LookBehind-clause-raises, returns-in-EnterBehind-clause-raises, returns-in-RaiseBehind-clause-raises, returns-in-FenceBehind-clause-raises, returns-in-LateFence-clause-raises, returns-in-LateMin-clause-raises, returns-in-LateFuo-clause-raises, returns-in-LateEnter-clause-raises, returns-in-LatePut-clause-raises, returns-in-ReadHead-clause-raises, returns-in-Look-clause-raises, returns-in-Write-clause-raises, returns-in-Enter-clause-raises, returns-in-Evidence-clause-raises, returns-in-PutBehind-clause-raises, returns-in-Put-clause-raises, returns-in-Raise-clause-raises}
+use Rattle.mu_lead.proofs.lead.Lead.take_answer.Answers.Confirms.{returns-in-Ask-clause-confirms, returns-in-Confirm-clause-confirms, returns-in-ReadMin-clause-confirms, returns-in-EnterMin-clause-confirms, returns-in-PutMin-clause-confirms, returns-in-ReadFuo-clause-confirms, returns-in-Learn-clause-confirms, returns-in-WidenBehind-clause-confirms, returns-in-LookBehind-clause-confirms, returns-in-EnterBehind-clause-confirms, returns-in-PutBehind-clause-confirms, returns-in-RaiseBehind-clause-confirms, returns-in-FenceBehind-clause-confirms, returns-in-LateFence-clause-confirms, returns-in-LateMin-clause-confirms, returns-in-LateFuo-clause-confirms, returns-in-LateEnter-clause-confirms, returns-in-LatePut-clause-confirms, returns-in-ReadHead-clause-confirms, returns-in-Look-clause-confirms, returns-in-Write-clause-confirms, returns-in-Enter-clause-confirms, returns-in-Put-clause-confirms, returns-in-Raise-clause-confirms, returns-in-Evidence-clause-confirms}
+use Rattle.mu_lead.proofs.lead.Lead.take_answer.Answers.Joins.{returns-in-Ask-clause-joins, returns-in-Confirm-clause-joins, returns-in-ReadMin-clause-joins, returns-in-EnterMin-clause-joins, returns-in-PutMin-clause-joins, returns-in-ReadFuo-clause-joins, returns-in-Learn-clause-joins, returns-in-WidenBehind-clause-joins, returns-in-LookBehind-clause-joins, returns-in-EnterBehind-clause-joins, returns-in-PutBehind-clause-joins, returns-in-RaiseBehind-clause-joins, returns-in-FenceBehind-clause-joins, returns-in-LateFence-clause-joins, returns-in-LateMin-clause-joins, returns-in-LateFuo-clause-joins, returns-in-LateEnter-clause-joins, returns-in-LatePut-clause-joins, returns-in-ReadHead-clause-joins, returns-in-Look-clause-joins, returns-in-Write-clause-joins, returns-in-Enter-clause-joins, returns-in-Put-clause-joins, returns-in-Raise-clause-joins, returns-in-Evidence-clause-joins}
 use Rattle.mu_lead.proofs.lead.Lead.take_answer.Goals as goal
 
 pub returns-in-Ask-clause-stands : goal.returns-in-Ask-clause-stands
