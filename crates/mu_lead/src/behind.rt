@@ -6,34 +6,32 @@ ghost use Rattle.mu_model.specs.declared.event.Event.{Event as SomeEvent};
 ghost use Rattle.mu_model.specs.declared.event.Target.{Target as SomeTarget};
 ghost use Rattle.mu_model.specs.declared.event.Verb.{Verb as SomeVerb};
 ghost use Rattle.mu_model.specs.Knowledge.{known as known_of};
-ghost use Rattle.mu_model.specs.Leaderships.{is_member, is_over};
-ghost use Rattle.mu_model.specs.Parts.{IsPossible};
+ghost use Rattle.mu_model.specs.Leaderships.{is_member};
 ghost use Rattle.mu_model.specs.Picks.{is_past as is_past_answer};
 ghost use Rattle.mu_model.specs.Placing.{is_within_ring};
 ghost use Rattle.mu_leading.specs.Leadership.{StandsForLeadership};
 ghost use Rattle.mu_lead.specs.declared.place.Place.{Place as SomePlace};
-ghost use Rattle.mu_lead.specs.Leading.{AtWiden, Behind, HasMost, HaveAtMost, HaveFew, IsDone, IsMember, Leads, Level, RaisedBelow, end_of as end_of_known};
+ghost use Rattle.mu_lead.specs.Leading.{AtWiden, Behind, HasMost, HasPutNone, HaveAtMost, HaveFew, IsClear, IsDone, IsMember, Leads, Level, RaisedBelow, end_of as end_of_known};
 ghost use Rattle.mu_lead.specs.Sets.{IsFirst};
 ghost use Rattle.mu_lead.specs.Notes.{value_committed};
-ghost use Rattle.mu_lead.specs.Standing.{HoldsAt, Stands, StandsFor, Takes, TakesLook};
-ghost use Rattle.mu_lead.specs.Saying.{is_working_or_lost, note_of_fence, note_of_learning, note_of_raise, value_seen};
+ghost use Rattle.mu_lead.specs.Standing.{HoldsAt, Stands, Takes, TakesLook};
+ghost use Rattle.mu_lead.specs.Saying.{note_of_learning, note_of_raise, value_seen};
 ghost use Rattle.mu_lead.specs.declared.note.Note.{Note as SomeNote};
 ghost use Rattle.mu_lead.specs.Beside.{leads_at};
-ghost use Rattle.mu_lead.specs.Gathering.{LeadsBy};
 ghost use Rattle.mu_lead.specs.Going.{going_after};
 ghost use Rattle.mu_pace.specs.Members.{IsNextMember, members_from};
-ghost use Rattle.mu_pace.specs.Weights.{Stage};
+ghost use Rattle.mu_pace.specs.Weights.{Bringing, Stage};
 ghost use Rattle.mu_lead.specs.declared.place.Then.{Then as SomeThen};
 ghost use Rattle.mu_lead.specs.Onward.{IsNextBehind, MayBringUp, MayGoOn, passed_over};
-ghost use Rattle.mu_lead.specs.Rooms.{IsLed, KeepsEnding, KeepsRooms, KeepsLook, RoomsAt};
+ghost use Rattle.mu_lead.specs.Rooms.{IsLed, KeepsLook, KeepsRooms, RoomsAt, lag_of};
 
 use crate::arrays::{with_fuo, with_number};
 use crate::lead::Lead;
-use crate::note::{AbortCause, Note};
+use crate::note::Note;
 use crate::place::{Place, Then};
 use crate::positions::end_of;
 use crate::regions::next_member;
-use mu_model::{Answer, Event, Fence, Verb};
+use mu_model::{Answer, Event, Verb};
 
 impl Lead {
     /// The region of the greater FUO, the first at a tie.
@@ -78,6 +76,7 @@ impl Lead {
             → is_member self.now.id p mine ≡ true
             → Leads self.now.config self.now.id self.now.number mine
             → RaisedBelow self.now.id mine self.now.up self.now.reach (p + 1)
+            → HasPutNone self.now.id mine
             → IsMember self.now.config self.now.id mine source
             → HasMost self.now.id mine self.now.up p source → HoldsAt mine self.now result }
         ensures rooms { (mine : List SomeEvent) → Stands mine self.now
@@ -108,6 +107,7 @@ impl Lead {
             → known.now ≡ known_of self.now.config self.now.id mine
             → Leads self.now.config self.now.id self.now.number mine
             → RaisedBelow self.now.id mine self.now.up self.now.reach self.now.config.replicas
+            → HasPutNone self.now.id mine
             → IsMember self.now.config self.now.id mine (Some source)
             → HaveAtMost self.now.config self.now.id mine self.now.up (get_or self.now.up source 0)
             → HoldsAt mine self.now result }
@@ -174,6 +174,7 @@ impl Lead {
             → known.now ≡ known_of self.now.config self.now.id mine
             → Leads self.now.config self.now.id self.now.number mine
             → RaisedBelow self.now.id mine self.now.up self.now.reach self.now.config.replicas
+            → IsClear self.now.id mine self.now.up
             → ((k : ℕ) → k < self.now.config.replicas → is_member self.now.id k mine ≡ true
             → IsDone then k p
             → end_of_known self.now.config self.now.id mine ≤ get_or self.now.up k 0)
@@ -328,6 +329,10 @@ impl Lead {
             (get_or known.now (get_or self.old.up p 0) 0))
             SomeAnswer.Done self.new }
         ensures leads { leads_at self.new.place ≡ true }
+        ensures rooms { KeepsRooms self.old (SomePlace.PutBehind p then) known.now
+            (SomeVerb.PutSlot p (get_or self.old.up p 0) self.old.number
+            (get_or known.now (get_or self.old.up p 0) 0))
+            SomeAnswer.Done self.new }
         ensures quiet { value_committed result ≡ None }
         ensures config { self.new.config ≡ self.old.config }
         ensures id { self.new.id ≡ self.old.id }
@@ -356,6 +361,11 @@ impl Lead {
             then
             → get_or self.now.up p 0 ≤ end_of_known self.now.config self.now.id mine
             → HoldsAt mine self.now result }
+        ensures rooms { (mine : List SomeEvent)
+            → MayBringUp self.now.config self.now.id mine p then
+            → IsLed self.now.config self.now.id mine
+            (Stage.Bring (lag_of self.now.config self.now.id mine p then) Bringing.Raise)
+            → RoomsAt self.now.config self.now.id mine self.now.written.items result }
     {
         if self.up_of(p) < known.len() as u64 {
             self.bring_up(p, then)
@@ -408,53 +418,6 @@ impl Lead {
             }
         }
         up
-    }
-
-    /// The fence after a look that found what `p` lacks overwritten.
-    pub fn took_fence_behind(&mut self, p: u8, then: Then, fence: Fence) -> Note
-        ensures stands { (values : List ℕ)
-            → Takes self.old (SomePlace.FenceBehind p then) values (SomeVerb.Fence p)
-            (SomeAnswer.Seen fence) self.new }
-        ensures rooms { (values : List ℕ)
-            → KeepsEnding self.old (SomePlace.FenceBehind p then) values (SomeVerb.Fence p)
-            (SomeAnswer.Seen fence) self.new }
-        ensures leads { LeadsBy self.old (SomeVerb.Fence p) (SomeAnswer.Seen fence) self.new }
-        ensures quiet { value_committed result ≡ None }
-        ensures config { self.new.config ≡ self.old.config }
-        ensures id { self.new.id ≡ self.old.id }
-        ensures named { self.new.named ≡ self.old.named }
-        ensures note { is_working_or_lost result ≡ true }
-        ensures going { self.new.under_way ≡ going_after self.old.under_way result }
-        ensures over { (mine : List SomeEvent) → StandsFor mine self.old
-            → IsPossible self.old.config self.old.id
-            (record
-            { by = self.old.id; verb = SomeVerb.Fence p; answer = SomeAnswer.Seen fence }
-            ∷ mine)
-            → result
-            ≡ note_of_fence p fence
-            (is_over self.old.id
-            (record {
-              by = self.old.id;
-              verb = SomeVerb.Fence p;
-              answer = SomeAnswer.Seen
-                  fence;
-            }
-            ∷ mine)) }
-    {
-        let event = Event {
-            by: self.id,
-            verb: Verb::Fence(p),
-            answer: Answer::Seen(fence),
-        };
-        self.leading.take(self.id, &event);
-        if self.leading.is_over() {
-            self.under_way = false;
-            self.place = Place::Ask(0);
-            Note::Aborted(AbortCause::Lost { replica: p, fence })
-        } else {
-            self.place = Place::LookBehind(p, then);
-            Note::Working
-        }
     }
 }
 

@@ -82,7 +82,7 @@ own_led : (mine : List Event) (old new : Lead) (verb : Verb) (answer : Answer) (
     → HasPaces old.config old.id (event_by old.id verb answer ∷ mine) new
 own_led mine old new verb answer values same_c same_r takes odd is possible told paces = record {
   counts = record {
-    rooms = of_node (λ k i. RoomsAt k i (event_by old.id verb answer ∷ mine) new.written.items new.place) old.config old.id new same_c same_r (takes.rooms verb is possible told odd ? paces.counts.rooms);
+    rooms = of_node (λ k i. RoomsAt k i (event_by old.id verb answer ∷ mine) new.written.items new.place) old.config old.id new same_c same_r (takes.rooms verb is possible told odd paces.counts.rooms);
     evidence = takes.evidence verb is odd paces.counts.evidence;
     raises = takes.raises verb is possible told odd paces.counts.raises;
     confirms = takes.confirms verb is possible odd paces.counts.confirms;
