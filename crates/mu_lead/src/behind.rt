@@ -6,7 +6,8 @@ ghost use Rattle.mu_model.specs.declared.event.Event.{Event as SomeEvent};
 ghost use Rattle.mu_model.specs.declared.event.Target.{Target as SomeTarget};
 ghost use Rattle.mu_model.specs.declared.event.Verb.{Verb as SomeVerb};
 ghost use Rattle.mu_model.specs.Knowledge.{known as known_of};
-ghost use Rattle.mu_model.specs.Leaderships.{is_member};
+ghost use Rattle.mu_model.specs.Leaderships.{is_member, is_over};
+ghost use Rattle.mu_model.specs.Parts.{IsPossible};
 ghost use Rattle.mu_model.specs.Picks.{is_past as is_past_answer};
 ghost use Rattle.mu_model.specs.Placing.{is_within_ring};
 ghost use Rattle.mu_leading.specs.Leadership.{StandsForLeadership};
@@ -14,10 +15,11 @@ ghost use Rattle.mu_lead.specs.declared.place.Place.{Place as SomePlace};
 ghost use Rattle.mu_lead.specs.Leading.{AtWiden, Behind, HasMost, HasPutNone, HaveAtMost, HaveFew, IsClear, IsDone, IsMember, Leads, Level, RaisedBelow, end_of as end_of_known};
 ghost use Rattle.mu_lead.specs.Sets.{IsFirst};
 ghost use Rattle.mu_lead.specs.Notes.{value_committed};
-ghost use Rattle.mu_lead.specs.Standing.{HoldsAt, Stands, Takes, TakesLook};
-ghost use Rattle.mu_lead.specs.Saying.{note_of_learning, note_of_raise, value_seen};
+ghost use Rattle.mu_lead.specs.Standing.{HoldsAt, Stands, StandsFor, Takes, TakesLook};
+ghost use Rattle.mu_lead.specs.Saying.{is_working_or_lost, note_of_fence, note_of_learning, note_of_raise, value_seen};
 ghost use Rattle.mu_lead.specs.declared.note.Note.{Note as SomeNote};
 ghost use Rattle.mu_lead.specs.Beside.{leads_at};
+ghost use Rattle.mu_lead.specs.Gathering.{LeadsBy};
 ghost use Rattle.mu_lead.specs.Going.{going_after};
 ghost use Rattle.mu_pace.specs.Members.{IsNextMember, members_from};
 ghost use Rattle.mu_pace.specs.Weights.{Bringing, Stage};
@@ -27,11 +29,11 @@ ghost use Rattle.mu_lead.specs.Rooms.{IsLed, KeepsLook, KeepsRooms, RoomsAt, lag
 
 use crate::arrays::{with_fuo, with_number};
 use crate::lead::Lead;
-use crate::note::Note;
+use crate::note::{AbortCause, Note};
 use crate::place::{Place, Then};
 use crate::positions::end_of;
 use crate::regions::next_member;
-use mu_model::{Answer, Event, Verb};
+use mu_model::{Answer, Event, Fence, Verb};
 
 impl Lead {
     /// The region of the greater FUO, the first at a tie.
@@ -401,23 +403,51 @@ impl Lead {
         }
     }
 
-    /// Up to where each region has what is known, where the members have all below `u`.
-    pub fn brought_to(&self, u: u64) -> [u64; 7]
-        ensures long { length result ≡ length self.now.up }
-        ensures members { (mine : List SomeEvent) → (p : ℕ) → p < 7 → length self.now.up ≡ 7
-            → StandsForLeadership self.now.id mine self.now.leading
-            → is_member self.now.id p mine ≡ true → get_or result p 0 ≡ u }
-        ensures others { (mine : List SomeEvent) → (p : ℕ)
-            → StandsForLeadership self.now.id mine self.now.leading
-            → is_member self.now.id p mine ≡ false → get_or result p 0 ≡ get_or self.now.up p 0 }
-    {
-        let mut up = self.up;
-        for p in 0..7u8 {
-            if self.leading.is_member(p) {
-                up[usize::from(p)] = u;
+    /// The fence after a look that found what `p` lacks overwritten.
+    pub fn took_fence_behind(&mut self, p: u8, then: Then, fence: Fence) -> Note
+        ensures stands { (values : List ℕ)
+            → Takes self.old (SomePlace.FenceBehind p then) values (SomeVerb.Fence p)
+            (SomeAnswer.Seen fence) self.new }
+        ensures rooms { (values : List ℕ)
+            → KeepsRooms self.old (SomePlace.FenceBehind p then) values (SomeVerb.Fence p)
+            (SomeAnswer.Seen fence) self.new }
+        ensures leads { LeadsBy self.old (SomeVerb.Fence p) (SomeAnswer.Seen fence) self.new }
+        ensures quiet { value_committed result ≡ None }
+        ensures config { self.new.config ≡ self.old.config }
+        ensures id { self.new.id ≡ self.old.id }
+        ensures named { self.new.named ≡ self.old.named }
+        ensures note { is_working_or_lost result ≡ true }
+        ensures going { self.new.under_way ≡ going_after self.old.under_way result }
+        ensures over { (mine : List SomeEvent) → StandsFor mine self.old
+            → IsPossible self.old.config self.old.id
+            (record
+            { by = self.old.id; verb = SomeVerb.Fence p; answer = SomeAnswer.Seen fence }
+            ∷ mine)
+            → result
+            ≡ note_of_fence p fence
+            (is_over self.old.id
+            (record {
+              by = self.old.id;
+              verb = SomeVerb.Fence p;
+              answer = SomeAnswer.Seen
+                  fence;
             }
+            ∷ mine)) }
+    {
+        let event = Event {
+            by: self.id,
+            verb: Verb::Fence(p),
+            answer: Answer::Seen(fence),
+        };
+        self.leading.take(self.id, &event);
+        if self.leading.is_over() {
+            self.under_way = false;
+            self.place = Place::Ask(0);
+            Note::Aborted(AbortCause::Lost { replica: p, fence })
+        } else {
+            self.place = Place::LookBehind(p, then);
+            Note::Working
         }
-        up
     }
 }
 

@@ -4,22 +4,19 @@ ghost use Rattle.mu_model.specs.declared.event.Answer.{Answer as SomeAnswer};
 ghost use Rattle.mu_model.specs.declared.event.Event.{Event as SomeEvent};
 ghost use Rattle.mu_model.specs.declared.event.Target.{Target as SomeTarget};
 ghost use Rattle.mu_model.specs.declared.event.Verb.{Verb as SomeVerb};
-ghost use Rattle.mu_model.specs.Leaderships.{has_begun, is_over};
-ghost use Rattle.mu_model.specs.Parts.{IsPossible};
+ghost use Rattle.mu_model.specs.Leaderships.{has_begun};
 ghost use Rattle.mu_lead.specs.declared.note.AbortCause.{AbortCause as SomeCause};
 ghost use Rattle.mu_lead.specs.declared.note.Note.{Note as SomeNote};
 ghost use Rattle.mu_lead.specs.Confirming.{IsEnteredNow};
-ghost use Rattle.mu_lead.specs.Gathering.{LeadsBy};
 ghost use Rattle.mu_lead.specs.Notes.{value_committed};
-ghost use Rattle.mu_lead.specs.Saying.{is_working_or_lost, note_of_fence};
-ghost use Rattle.mu_lead.specs.Standing.{StandsFor, Takes, TakesAt, TakesFrom};
+ghost use Rattle.mu_lead.specs.Standing.{TakesAt, TakesFrom};
 ghost use Rattle.mu_lead.specs.Going.{going_after};
 ghost use Rattle.mu_lead.specs.declared.place.Place.{Place as SomePlace};
 ghost use Rattle.mu_lead.specs.Rooms.{KeepsRooms, LeavesRooms};
 
 use crate::lead::Lead;
 use crate::note::{AbortCause, Note};
-use crate::place::{Place, Then};
+use crate::place::Place;
 use mu_model::{Answer, Event, Fence, Target, Verb};
 
 impl Lead {
@@ -46,53 +43,6 @@ impl Lead {
         self.under_way = false;
         self.place = Place::Ask(0);
         lost_by(p, fence)
-    }
-
-    /// The fence after a look that found what `p` lacks overwritten.
-    pub fn took_fence_behind(&mut self, p: u8, then: Then, fence: Fence) -> Note
-        ensures stands { (values : List ℕ)
-            → Takes self.old (SomePlace.FenceBehind p then) values (SomeVerb.Fence p)
-            (SomeAnswer.Seen fence) self.new }
-        ensures rooms { (values : List ℕ)
-            → KeepsRooms self.old (SomePlace.FenceBehind p then) values (SomeVerb.Fence p)
-            (SomeAnswer.Seen fence) self.new }
-        ensures leads { LeadsBy self.old (SomeVerb.Fence p) (SomeAnswer.Seen fence) self.new }
-        ensures quiet { value_committed result ≡ None }
-        ensures config { self.new.config ≡ self.old.config }
-        ensures id { self.new.id ≡ self.old.id }
-        ensures named { self.new.named ≡ self.old.named }
-        ensures note { is_working_or_lost result ≡ true }
-        ensures going { self.new.under_way ≡ going_after self.old.under_way result }
-        ensures over { (mine : List SomeEvent) → StandsFor mine self.old
-            → IsPossible self.old.config self.old.id
-            (record
-            { by = self.old.id; verb = SomeVerb.Fence p; answer = SomeAnswer.Seen fence }
-            ∷ mine)
-            → result
-            ≡ note_of_fence p fence
-            (is_over self.old.id
-            (record {
-              by = self.old.id;
-              verb = SomeVerb.Fence p;
-              answer = SomeAnswer.Seen
-                  fence;
-            }
-            ∷ mine)) }
-    {
-        let event = Event {
-            by: self.id,
-            verb: Verb::Fence(p),
-            answer: Answer::Seen(fence),
-        };
-        self.leading.take(self.id, &event);
-        if self.leading.is_over() {
-            self.under_way = false;
-            self.place = Place::Ask(0);
-            Note::Aborted(AbortCause::Lost { replica: p, fence })
-        } else {
-            self.place = Place::LookBehind(p, then);
-            Note::Working
-        }
     }
 
     /// The enter of `p` was lost.
