@@ -4,6 +4,7 @@ pub mod Bits
 pub mod Bringing
 pub mod Commits
 pub mod Confirms
+pub mod Copying
 pub mod Due
 pub mod Going
 pub mod Held
@@ -28,6 +29,7 @@ pub mod RoomsAsking
 pub mod RoomsBeside
 pub mod RoomsBringing
 pub mod RoomsBrought
+pub mod RoomsCopying
 pub mod RoomsFollowers
 pub mod RoomsHeads
 pub mod RoomsInTime

@@ -12,7 +12,7 @@ ghost use Rattle.mu_model.specs.Picks.{is_past as is_past_answer};
 ghost use Rattle.mu_model.specs.Placing.{is_within_ring};
 ghost use Rattle.mu_leading.specs.Leadership.{StandsForLeadership};
 ghost use Rattle.mu_lead.specs.declared.place.Place.{Place as SomePlace};
-ghost use Rattle.mu_lead.specs.Leading.{AtWiden, Behind, HasMost, HaveAtMost, HaveFew, IsDone, IsMember, Leads, Level, RaisedBelow, end_of as end_of_known};
+ghost use Rattle.mu_lead.specs.Leading.{AtWiden, Behind, HasMost, HasPutNone, HaveAtMost, HaveFew, IsClear, IsDone, IsMember, Leads, Level, RaisedBelow, end_of as end_of_known};
 ghost use Rattle.mu_lead.specs.Sets.{IsFirst};
 ghost use Rattle.mu_lead.specs.Notes.{value_committed};
 ghost use Rattle.mu_lead.specs.Standing.{HoldsAt, Stands, StandsFor, Takes, TakesLook};
@@ -20,10 +20,10 @@ ghost use Rattle.mu_lead.specs.Saying.{is_working_or_lost, note_of_fence, note_o
 ghost use Rattle.mu_lead.specs.declared.note.Note.{Note as SomeNote};
 ghost use Rattle.mu_lead.specs.Going.{going_after};
 ghost use Rattle.mu_pace.specs.Members.{IsNextMember, members_from};
-ghost use Rattle.mu_pace.specs.Weights.{Stage};
+ghost use Rattle.mu_pace.specs.Weights.{Bringing, Stage};
 ghost use Rattle.mu_lead.specs.declared.place.Then.{Then as SomeThen};
 ghost use Rattle.mu_lead.specs.Onward.{IsNextBehind, MayBringUp, MayGoOn, passed_over};
-ghost use Rattle.mu_lead.specs.Rooms.{IsLed, KeepsEnding, KeepsRooms, KeepsLook, RoomsAt};
+ghost use Rattle.mu_lead.specs.Rooms.{IsLed, KeepsLook, KeepsRooms, RoomsAt, lag_of};
 
 use crate::arrays::{with_fuo, with_number};
 use crate::lead::Lead;
@@ -75,6 +75,7 @@ impl Lead {
             → is_member self.now.id p mine ≡ true
             → Leads self.now.config self.now.id self.now.number mine
             → RaisedBelow self.now.id mine self.now.up self.now.reach (p + 1)
+            → HasPutNone self.now.id mine
             → IsMember self.now.config self.now.id mine source
             → HasMost self.now.id mine self.now.up p source → HoldsAt mine self.now result }
         ensures rooms { (mine : List SomeEvent) → Stands mine self.now
@@ -104,6 +105,7 @@ impl Lead {
             → known.now ≡ known_of self.now.config self.now.id mine
             → Leads self.now.config self.now.id self.now.number mine
             → RaisedBelow self.now.id mine self.now.up self.now.reach self.now.config.replicas
+            → HasPutNone self.now.id mine
             → IsMember self.now.config self.now.id mine (Some source)
             → HaveAtMost self.now.config self.now.id mine self.now.up (get_or self.now.up source 0)
             → HoldsAt mine self.now result }
@@ -168,6 +170,7 @@ impl Lead {
             → known.now ≡ known_of self.now.config self.now.id mine
             → Leads self.now.config self.now.id self.now.number mine
             → RaisedBelow self.now.id mine self.now.up self.now.reach self.now.config.replicas
+            → IsClear self.now.id mine self.now.up
             → ((k : ℕ) → k < self.now.config.replicas → is_member self.now.id k mine ≡ true
             → IsDone then k p
             → end_of_known self.now.config self.now.id mine ≤ get_or self.now.up k 0)
@@ -315,6 +318,10 @@ impl Lead {
             (SomeVerb.PutSlot p (get_or self.old.up p 0) self.old.number
             (get_or known.now (get_or self.old.up p 0) 0))
             SomeAnswer.Done self.new }
+        ensures rooms { KeepsRooms self.old (SomePlace.PutBehind p then) known.now
+            (SomeVerb.PutSlot p (get_or self.old.up p 0) self.old.number
+            (get_or known.now (get_or self.old.up p 0) 0))
+            SomeAnswer.Done self.new }
         ensures quiet { value_committed result ≡ None }
         ensures config { self.new.config ≡ self.old.config }
         ensures id { self.new.id ≡ self.old.id }
@@ -336,12 +343,17 @@ impl Lead {
 
     /// The place after what `p` lacked was put.
     fn after_put_behind(&self, p: u8, then: Then, known: &[u16]) -> Place
-        ensures { (mine : List SomeEvent) → Stands mine self.now
+        ensures stands { (mine : List SomeEvent) → Stands mine self.now
             → known.now ≡ known_of self.now.config self.now.id mine
             → Behind self.now.config self.now.id self.now.number mine self.now.up self.now.reach p
             then
             → get_or self.now.up p 0 ≤ end_of_known self.now.config self.now.id mine
             → HoldsAt mine self.now result }
+        ensures rooms { (mine : List SomeEvent)
+            → MayBringUp self.now.config self.now.id mine p then
+            → IsLed self.now.config self.now.id mine
+            (Stage.Bring (lag_of self.now.config self.now.id mine p then) Bringing.Raise)
+            → RoomsAt self.now.config self.now.id mine self.now.written.items result }
     {
         if self.up_of(p) < known.len() as u64 {
             self.bring_up(p, then)
@@ -401,7 +413,7 @@ impl Lead {
             → Takes self.old (SomePlace.FenceBehind p then) values (SomeVerb.Fence p)
             (SomeAnswer.Seen fence) self.new }
         ensures rooms { (values : List ℕ)
-            → KeepsEnding self.old (SomePlace.FenceBehind p then) values (SomeVerb.Fence p)
+            → KeepsRooms self.old (SomePlace.FenceBehind p then) values (SomeVerb.Fence p)
             (SomeAnswer.Seen fence) self.new }
         ensures quiet { value_committed result ≡ None }
         ensures config { self.new.config ≡ self.old.config }
