@@ -19,7 +19,7 @@ use Rattle.mu_model.proofs.Owned.{noted-part}
 use Rattle.mu_agree.proofs.Access.{last_close, must_drain-part, noting}
 use Rattle.mu_agree.proofs.Legal.{legal_induction, made}
 use Rattle.mu_agree.specs.Possible.{PartsShowMisses, entered_under}
-use Rattle.mu_agree.proofs.Possible.{Stands, answered, at_event, same_fence, stands}
+use Rattle.mu_agree.proofs.Possible.{answered, at_event, earlier, same_fence}
 
 -- the region is closing, or was granted on since the grant g
 abbrev pub IsMoved : ℕ → ℕ → List Event → Type 0
@@ -117,22 +117,6 @@ entered_under-part r p (e ∷ past) = go (e.by == r) refl (entered_under-part r 
     go : (t : Bool) → (e.by == r) ≡ t → entered_under r p (part r past) ≡ entered_under r p past → entered_under r p (cond t (e ∷ part r past) (part r past)) ≡ entered_under r p (e ∷ past)
     go true h ih = ap (λ o. cond (is_enter_of r p e) o (entered_under r p (part r past))) (noted-part r p past) ∙ ap (cond (is_enter_of r p e) (noted_grant r p past)) ih
     go false h ih = ih ∙ ap (λ t. cond t (noted_grant r p past) (entered_under r p past)) (sym (enters-own r p e h))
-
--- where an earlier event of a part stands in the history
-earlier : (c : Config) (r : ℕ) (past between mine : List Event) (e : Event) → IsLegalHistory c past → part r past ≡ between ++ e ∷ mine → Stands c r past mine e
-earlier c r past [] mine e h k = stands c r past mine e h k
-earlier c r past (b ∷ between) mine e h k =
-    let s = stands c r past (between ++ e ∷ mine) b h k in
-    let t = earlier c r s.older between mine e s.legal s.part_is in
-    record {
-      newer = s.newer ++ b ∷ t.newer;
-      older = t.older;
-      is = s.is ∙ ap (λ z. s.newer ++ b ∷ z) t.is ∙ sym (append_assoc s.newer (b ∷ t.newer) (e ∷ t.older));
-      part_is = t.part_is;
-      own = t.own;
-      legal = t.legal;
-      follows = t.follows;
-    }
 
 -- a put that missed was drained
 missed_drained : (c : Config) (r p : ℕ) (v : Verb) (past : List Event) → is_missed_at_verb p v (answer_of c r past v) ≡ true → drained r p past ≡ true

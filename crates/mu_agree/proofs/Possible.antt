@@ -4,6 +4,7 @@ use Rattle.std.specs.declared.option.Option.{Option}
 use Rattle.std.specs.Prelude.{nat_lt, if◌then◌else◌}
 use Rattle.std.specs.List.{slice_get}
 use Rattle.std.proofs.lemmas.Bool.{cases_eq}
+use Rattle.std.proofs.lemmas.List.{append_assoc}
 use Rattle.mu_model.specs.declared.config.Config.{Config}
 use Rattle.mu_model.specs.declared.event.Event.{Event}
 use Rattle.mu_model.specs.declared.event.Verb.{Verb}
@@ -63,6 +64,22 @@ stands c r (f ∷ past) mine e h k = go (f.by == r) refl k (stands c r past mine
     go false o k ih =
         let s = ih k in
         record { newer = f ∷ s.newer; older = s.older; is = ap (λ z. f ∷ z) s.is; part_is = s.part_is; own = s.own; legal = s.legal; follows = s.follows }
+
+-- where an earlier event of a part stands in the history
+pub earlier : (c : Config) (r : ℕ) (past between mine : List Event) (e : Event) → IsLegalHistory c past → part r past ≡ between ++ e ∷ mine → Stands c r past mine e
+earlier c r past [] mine e h k = stands c r past mine e h k
+earlier c r past (b ∷ between) mine e h k =
+    let s = stands c r past (between ++ e ∷ mine) b h k in
+    let t = earlier c r s.older between mine e s.legal s.part_is in
+    record {
+      newer = s.newer ++ b ∷ t.newer;
+      older = t.older;
+      is = s.is ∙ ap (λ z. s.newer ++ b ∷ z) t.is ∙ sym (append_assoc s.newer (b ∷ t.newer) (e ∷ t.older));
+      part_is = t.part_is;
+      own = t.own;
+      legal = t.legal;
+      follows = t.follows;
+    }
 
 pub at_event : (c : Config) (r : ℕ) (mine : List Event) (e : Event) (p : IsPossible c r (e ∷ mine)) → Stands c r p.past mine e
 at_event c r mine e p = stands c r p.past mine e p.legal p.is
@@ -176,9 +193,9 @@ grant_lost c r p j g u past h l n f ul pl a =
     ]
 
 pub parts_move_law : PartsMove
-parts_move_law c r p j g u mine e f x poss l ev ea n fu ul pl fv fa same =
-    let s = at_event c r (e ∷ mine) f poss in
-    let t = stands c r s.older mine e s.legal s.part_is in
+parts_move_law c r p j g u mine between e f x poss l ev ea n fu ul pl fv fa same =
+    let s = at_event c r (between ++ e ∷ mine) f poss in
+    let t = earlier c r s.older between mine e s.legal s.part_is in
     let past_look : answer_of c r t.older (Verb.Look p j) ≡ Answer.Past = ap (λ z. answer_of c z t.older (Verb.Look p j)) (sym t.own) ∙ ap (λ z. answer_of c e.by t.older z) (sym ev) ∙ sym t.follows.answer ∙ ea in
     let lost = grant_lost c r p j g u t.older t.legal l (subst (λ z. noted_grant r p z ≡ Some g) (sym t.part_is) n) (subst (λ z. fuo_under r p g (leadership r z) ≡ Some u) (sym t.part_is) fu) ul (subst (λ z. put_end r p (leadership r z) ≤ j + c.ring) (sym t.part_is) pl) past_look in
     let up : fence_grant p t.older ≤ fence_grant p s.older = subst (λ z. fence_grant p t.older ≤ fence_grant p z) (sym t.is) (let a = grant_rises p (e ∷ []) t.older in let b = grant_rises p t.newer (e ∷ t.older) in omega arith) in

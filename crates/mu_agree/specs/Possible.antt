@@ -72,12 +72,11 @@ PartsKeep =
     (c : Config) (r p i : ℕ) (mine : List Event) (e : Event) → IsPossible c r (e ∷ mine)
     → e.verb ≡ Verb.Look p i → length (known c r mine) ≤ i → e.answer ≡ Answer.Past → c.version ≡ 2
 
--- a fence that is read right after a `Past` look at what r still has to bring to p shows another
--- grant
+-- after a `Past` look at what r still has to bring to p each fence of p shows another grant
 abbrev pub PartsMove : Type 0
 PartsMove =
-    (c : Config) (r p j g u : ℕ) (mine : List Event) (e f : Event) (x : Fence)
-    → IsPossible c r (f ∷ e ∷ mine) → p < c.replicas → e.verb ≡ Verb.Look p j
+    (c : Config) (r p j g u : ℕ) (mine between : List Event) (e f : Event) (x : Fence)
+    → IsPossible c r (f ∷ (between ++ e ∷ mine)) → p < c.replicas → e.verb ≡ Verb.Look p j
     → e.answer ≡ Answer.Past
     → noted_grant r p mine ≡ Some g → fuo_under r p g (leadership r mine) ≡ Some u → u ≤ j
     → put_end r p (leadership r mine) ≤ j + c.ring

@@ -139,7 +139,7 @@ may_put_new c r b v p mine up reach ring brought reached at =
       enter.region,
       o.within,
       record {
-        within_ring = λ version. reached (end_of c r mine) c.ring (within_reach (end_of c r mine) c.ring (get_or up p 0) (get_or reach p None) ring have (o.raised p enter.region enter.member));
+        within_ring = λ version. reached (end_of c r mine) c.ring (within_reach (end_of c r mine) c.ring (get_or up p 0) (get_or reach p None) ring have (o.raised p enter.region enter.member).0);
         not_over = o.goes_on;
         carried = o.carried;
         member = enter.member;

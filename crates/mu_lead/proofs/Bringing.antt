@@ -1,5 +1,5 @@
 -- Catching up, and bringing up members that are behind.
-use Rattle.std.proofs.Common.{Bool, List, None, Some, ap, arith, cond, false, get_or, inl, inr, length, refl, subst, sym, true, true≢false, ℕ, ◌%◌, ◌&&◌, ◌+◌, ◌<◌, ◌==◌, ◌∙◌, ◌∷◌, ◌≡◌, ◌≢◌, ◌≤◌}
+use Rattle.std.proofs.Common.{Bool, List, None, Some, [], ap, arith, cond, false, get_or, inl, inr, length, refl, subst, sym, true, true≢false, ℕ, ◌%◌, ◌&&◌, ◌+◌, ◌<◌, ◌==◌, ◌∙◌, ◌∷◌, ◌≡◌, ◌≢◌, ◌≤◌, ◌⊎◌}
 use Rattle.std.specs.Prelude.{nat_lt}
 use Rattle.std.specs.List.{slice_get}
 use Rattle.std.specs.declared.option.Option.{Option}
@@ -18,19 +18,21 @@ use Rattle.mu_model.specs.Picks.{is_past}
 use Rattle.mu_model.specs.Placing.{is_caught_up_at, is_known_put, is_within_ring, looked_before_entering}
 use Rattle.mu_model.proofs.Basics.{event_by, or_true, same_number, true_or}
 use Rattle.mu_lead.specs.declared.place.Then.{Then}
-use Rattle.mu_lead.specs.Leading.{AtEnterBehind, AtPutBehind, AtRaiseBehind, AtReadFuo, AtWiden, Behind, Brought, HasMost, HaveAtMost, HaveBelow, HaveFew, IsDone, IsLeft, IsMember, IsRaised, Leads, Level, Near, RaisedBelow, end_of, looked_at}
+use Rattle.mu_lead.specs.Leading.{AtEnterBehind, AtFenceBehind, AtPutBehind, AtRaiseBehind, AtReadFuo, AtWiden, Behind, Brought, HasMost, HasPutNone, HaveAtMost, HaveBelow, HaveFew, IsClear, IsDone, IsLeft, IsMember, IsRaised, IsRead, Leads, Level, Near, RaisedBelow, end_of, is_put_at, looked_at}
 use Rattle.mu_lead.specs.Sets.{IsFirst}
-use Rattle.mu_lead.proofs.Keeping.{leads_kept, raise_event, raised_other}
+use Rattle.mu_lead.proofs.Copying.{fuo_read_other, put_elsewhere, puts_low, read_less}
+use Rattle.mu_lead.proofs.Keeping.{fuo_event, leads_kept, raise_event, raised_other}
 use Rattle.mu_lead.proofs.Tables.{brought_kept, caught_up_with}
 
 -- the next member's FUO is read
-pub reads_more : (c : Config) (r b p q from s : ℕ) (mine : List Event) (up : List ℕ) (reach : List (Option ℕ)) → from ≡ p + 1 → Leads c r b mine → RaisedBelow r mine up reach (p + 1) → IsMember c r mine (Some s) → HasMost r mine up (p + 1) (Some s)
+pub reads_more : (c : Config) (r b p q from s : ℕ) (mine : List Event) (up : List ℕ) (reach : List (Option ℕ)) → from ≡ p + 1 → Leads c r b mine → RaisedBelow r mine up reach (p + 1) → HasPutNone r mine → IsMember c r mine (Some s) → HasMost r mine up (p + 1) (Some s)
     → IsFirst (λ k. is_member r k mine) from c.replicas (Some q) → AtReadFuo c r b mine up reach q (Some s)
-reads_more c r b p q from s mine up reach is leads raised source few first = record {
+reads_more c r b p q from s mine up reach is leads raised unput source few first = record {
   region = first.1;
   member = first.2;
   leads = leads;
   raised = λ k low member. elim (cases_lt k (p + 1)) [ inl below ↦ raised k below member | inr above ↦ absurd (true≢false (sym member ∙ first.3 k (omega (arith, above, is)) low)) ];
+  unput = unput;
   from = source;
   few = (
     (let low = few.0 in let above = first.0 in omega (arith, low, above, is)),
@@ -73,24 +75,30 @@ most_still r p s mine up few less = (
 -- the FUO of p was read
 pub raised_read : (c : Config) (r b p u : ℕ) (mine : List Event) (up up' : List ℕ) (reach reach' : List (Option ℕ)) (held : Option ℕ) → RaisedBelow r mine up reach p → get_or up' p 0 ≡ u
     → ((k : ℕ) → k ≢ p → get_or up' k 0 ≡ get_or up k 0) → ((k : ℕ) → k ≢ p → get_or reach' k None ≡ get_or reach k None)
-    → IsRaised up' reach' p → RaisedBelow r mine up' reach' (p + 1)
-raised_read c r b p u mine up up' reach reach' held raised here ups reaches now k low member = elim (cases_eq k p) [
-  | inl same ↦ subst (λ x. IsRaised up' reach' x) (sym same) now
-  | inr other ↦ raised_other p k up up' reach reach' other ups reaches (raised k (omega (arith, low, other)) member)
+    → IsRaised up' reach' p → IsRead r mine p (get_or up' p 0) → RaisedBelow r mine up' reach' (p + 1)
+raised_read c r b p u mine up up' reach reach' held raised here ups reaches now read k low member = elim (cases_eq k p) [
+  | inl same ↦ subst (λ x. IsRaised up' reach' x × IsRead r mine x (get_or up' x 0)) (sym same) (now, read)
+  | inr other ↦ (let old = raised k (omega (arith, low, other)) member in (raised_other p k up up' reach reach' other ups reaches old.0, subst (λ x. IsRead r mine k x) (sym (ups k other)) old.1))
 ]
 
+-- a FUO that is read leaves those of the regions below it as they were
+pub raised_before : (r p u : ℕ) (mine : List Event) (up : List ℕ) (reach : List (Option ℕ)) → RaisedBelow r mine up reach p → RaisedBelow r (fuo_event r p u ∷ mine) up reach p
+raised_before r p u mine up reach raised k low member = (let old = raised k low member in (old.0, fuo_read_other r p k u (get_or up k 0) mine (λ same. omega (arith, low, same)) old.1))
+
 -- a member behind, the first one
-pub first_behind : (c : Config) (r b p q : ℕ) (mine : List Event) (up : List ℕ) (reach : List (Option ℕ)) (on : Then) → Leads c r b mine → RaisedBelow r mine up reach c.replicas
+pub first_behind : (c : Config) (r b p q : ℕ) (mine : List Event) (up : List ℕ) (reach : List (Option ℕ)) (on : Then) → Leads c r b mine → RaisedBelow r mine up reach c.replicas → IsClear r mine up
     → ((k : ℕ) → k < c.replicas → is_member r k mine ≡ true → IsDone on k p → end_of c r mine ≤ get_or up k 0)
     → HaveFew c r mine up on p → IsFirst (λ k. is_member r k mine && nat_lt (get_or up k 0) (end_of c r mine)) p c.replicas (Some q) → AtWiden c r b mine up reach q on
-first_behind c r b p q mine up reach on leads raised done few first =
+first_behind c r b p q mine up reach on leads raised clear done few first =
     let both = and_split (is_member r q mine) (nat_lt (get_or up q 0) (end_of c r mine)) first.2 in
     record {
       behind = record {
         region = first.1;
         member = both.0;
         leads = leads;
-        raised = λ k region other member. raised k region member;
+        raised = λ k region other member. (raised k region member).0;
+        read = λ k region member. (raised k region member).1;
+        clear = clear;
         have = λ k region other member. done_to on done k region member;
         few = λ k region member. (let at = few k region member in (at.0, λ left. at.1 (left_from on k left)));
       };
@@ -148,6 +156,8 @@ near_widened c r b p mine up reach reach' on at reaches near =
         member = h.member;
         leads = leads_kept c r b r (Verb.RaiseFuo p (get_or up p 0)) Answer.Done mine refl h.leads;
         raised = λ k region other member. raised_other p k up up reach reach' other (λ j differs. refl) reaches (h.raised k region other member);
+        read = h.read;
+        clear = h.clear;
         have = h.have;
         few = h.few;
       };
@@ -183,6 +193,8 @@ behind_looked c r b p i answer mine up reach on same h = record {
   member = h.member;
   leads = leads_kept c r b r (Verb.Look p i) answer mine refl h.leads;
   raised = h.raised;
+  read = h.read;
+  clear = h.clear;
   have = λ k region other member done. subst (λ values. length values ≤ get_or up k 0) (sym same) (h.have k region other member done);
   few = λ k region member. subst (λ values. (get_or up k 0 ≤ length values) × (IsLeft on (p + 1) k → get_or up k 0 < length values)) (sym same) (h.few k region member);
 }
@@ -200,6 +212,31 @@ near_looked c r b p answer mine up reach on at =
 -- a look that found no later entry
 pub looked_now : (c : Config) (r p i : ℕ) (answer : Answer) (mine : List Event) → is_member r p mine ≡ true → is_past answer ≡ false → looked_at c r p i (look_event r p i answer ∷ mine) ≡ true
 looked_now c r p i answer mine member not_past = rw (member, same_number r, same_number p, same_number i, not_past) refl
+
+-- which answers are past
+past_is : (a : Answer) → is_past a ≡ true → a ≡ Answer.Past
+past_is Answer.Past is = refl
+past_is a is = absurd (true≢false (sym is))
+
+-- a look that found what p lacks overwritten
+pub fences_behind : (c : Config) (r b p : ℕ) (answer : Answer) (mine : List Event) (up : List ℕ) (reach : List (Option ℕ)) (on : Then) → Near c r b mine up reach p on → is_past answer ≡ true
+    → AtFenceBehind c r b (look_event r p (get_or up p 0) answer ∷ mine) up reach p on
+fences_behind c r b p answer mine up reach on at past =
+    let h = at.behind in
+    let held = h.leads.held p h.region h.member in
+    record {
+      near = near_looked c r b p answer mine up reach on at;
+      past = record {
+        since = [];
+        before = mine;
+        is = ap (λ a. look_event r p (get_or up p 0) a ∷ mine) (past_is answer past);
+        grant = held.grant;
+        noted = held.noted;
+        joined = held.joined;
+        read = h.read p h.region h.member held.grant held.noted;
+        puts = puts_low r p (get_or up p 0) (leadership r mine) (λ j high. h.clear p j h.member high);
+      };
+    }
 
 pub enters_behind : (c : Config) (r b p : ℕ) (answer : Answer) (mine : List Event) (up : List ℕ) (reach : List (Option ℕ)) (on : Then) → Near c r b mine up reach p on → is_past answer ≡ false
     → AtEnterBehind c r b (look_event r p (get_or up p 0) answer ∷ mine) up reach p on
@@ -231,7 +268,7 @@ puts_behind c r b p mine up reach on at =
     let h = n.behind in
     record {
       near = record {
-        behind = record { region = h.region; member = h.member; leads = leads_entered c r b p (get_or up p 0 % c.ring) mine h.leads; raised = h.raised; have = h.have; few = h.few };
+        behind = record { region = h.region; member = h.member; leads = leads_entered c r b p (get_or up p 0 % c.ring) mine h.leads; raised = h.raised; read = h.read; clear = h.clear; have = h.have; few = h.few };
         lacks = n.lacks;
         near = n.near;
       };
@@ -285,18 +322,20 @@ brought_put c r b v p u mine low is old =
     }
 
 -- what p has one entry more of
-pub behind_put : (c : Config) (r b v p u : ℕ) (mine : List Event) (up up' : List ℕ) (reach : List (Option ℕ)) (on : Then) → u < end_of c r mine → ((k : ℕ) → k ≢ p → get_or up' k 0 ≡ get_or up k 0) → get_or up' p 0 ≤ end_of c r mine
+pub behind_put : (c : Config) (r b v p u : ℕ) (mine : List Event) (up up' : List ℕ) (reach : List (Option ℕ)) (on : Then) → u < end_of c r mine → ((k : ℕ) → k ≢ p → get_or up' k 0 ≡ get_or up k 0) → get_or up p 0 ≡ u → get_or up' p 0 ≡ u + 1
     → Behind c r b mine up reach p on → Behind c r b (put_event r p u b v ∷ mine) up' reach p on
-behind_put c r b v p u mine up up' reach on low ups next h =
+behind_put c r b v p u mine up up' reach on low ups was here h =
     let same = put_known c r p u b v mine low in
     record {
       region = h.region;
       member = h.member;
       leads = leads_put c r b p u v mine low h.leads;
       raised = λ k region other member. raised_other p k up up' reach reach other ups (λ j differs. refl) (h.raised k region other member);
+      read = λ k region member. read_now k (h.read k region member) (cases_eq k p);
+      clear = λ q j member high. clear_now q j member high (cases_eq q p);
       have = λ k region other member done. subst (λ x. end_of c r (put_event r p u b v ∷ mine) ≤ x) (sym (ups k other)) (subst (λ values. length values ≤ get_or up k 0) (sym same) (h.have k region other member done));
       few = λ k region member. subst (λ values. (get_or up' k 0 ≤ length values) × (IsLeft on (p + 1) k → get_or up' k 0 < length values)) (sym same) (elim (cases_eq k p) [
-        | inl here ↦ subst (λ x. (get_or up' x 0 ≤ end_of c r mine) × (IsLeft on (p + 1) x → get_or up' x 0 < end_of c r mine)) (sym here) (next, λ left. absurd (not_left on left))
+        | inl same_p ↦ subst (λ x. (get_or up' x 0 ≤ end_of c r mine) × (IsLeft on (p + 1) x → get_or up' x 0 < end_of c r mine)) (sym same_p) (omega (arith, here, low), λ left. absurd (not_left on left))
         | inr other ↦ subst (λ x. (x ≤ end_of c r mine) × (IsLeft on (p + 1) k → x < end_of c r mine)) (sym (ups k other)) (h.few k region member)
       ]);
     }
@@ -306,13 +345,29 @@ behind_put c r b v p u mine up up' reach on low ups next h =
     not_left Then.Position left = absurd (omega (arith, left))
     not_left Then.Joined left = left
 
+    read_now : (k : ℕ) → IsRead r mine k (get_or up k 0) → (k ≡ p) ⊎ (k ≢ p) → IsRead r mine k (get_or up' k 0)
+    read_now k read (inl same) = read_less r k (get_or up k 0) (get_or up' k 0) mine (subst (λ x. get_or up x 0 ≤ get_or up' x 0) (sym same) (omega (arith, was, here))) read
+    read_now k read (inr other) = subst (λ x. IsRead r mine k x) (sym (ups k other)) read
+
+    clear_now : (q j : ℕ) → is_member r q mine ≡ true → get_or up' q 0 ≤ j → (q ≡ p) ⊎ (q ≢ p) → has (λ e. is_put_at r q j e.by e.verb) (put_event r p u b v ∷ leadership r mine) ≡ false
+    clear_now q j member high (inl same) =
+        let above : u + 1 ≤ j = (let at_p = subst (λ x. get_or up' x 0 ≤ j) same high in omega (arith, at_p, here)) in
+        put_elsewhere r p u q j (has (λ e. is_put_at r q j e.by e.verb) (leadership r mine)) (λ is at. omega (arith, above, at))
+        (h.clear q j member (subst (λ x. get_or up x 0 ≤ j) (sym same) (omega (arith, above, was))))
+    clear_now q j member high (inr other) =
+        put_elsewhere r p u q j (has (λ e. is_put_at r q j e.by e.verb) (leadership r mine)) (λ is at. other (sym is))
+        (h.clear q j member (subst (λ x. x ≤ j) (ups q other) high))
+
 -- all that is known is raised at p
 pub raised_behind : (c : Config) (r b p : ℕ) (mine : List Event) (up : List ℕ) (reach reach' : List (Option ℕ)) (on : Then) → AtRaiseBehind c r b mine up reach p on → ((k : ℕ) → k ≢ p → get_or reach' k None ≡ get_or reach k None)
     → IsRaised up reach' p → RaisedBelow r (raise_event r p (get_or up p 0) ∷ mine) up reach' c.replicas
-raised_behind c r b p mine up reach reach' on at reaches now k region member = elim (cases_eq k p) [
-  | inl same ↦ subst (λ x. IsRaised up reach' x) (sym same) now
-  | inr other ↦ raised_other p k up up reach reach' other (λ j differs. refl) reaches (at.behind.raised k region other member)
-]
+raised_behind c r b p mine up reach reach' on at reaches now k region member = (
+  elim (cases_eq k p) [
+    | inl same ↦ subst (λ x. IsRaised up reach' x) (sym same) now
+    | inr other ↦ raised_other p k up up reach reach' other (λ j differs. refl) reaches (at.behind.raised k region other member)
+  ],
+  at.behind.read k region member,
+)
 
 -- p and all before it have what is known
 pub done_behind : (c : Config) (r b p from : ℕ) (mine : List Event) (up : List ℕ) (reach : List (Option ℕ)) (on : Then) → from ≡ p + 1 → AtRaiseBehind c r b mine up reach p on

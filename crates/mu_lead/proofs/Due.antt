@@ -57,7 +57,7 @@ needs_at c r b mine up reach heads written place verb config own possible t at i
     go (Place.EnterBehind p then) at is = by (Verb.Enter p (Target.Place (get_or up p 0 % c.ring))) is (let b = at.near.behind in may_enter_place c r p (get_or up p 0) mine ring b.region b.member b.leads.goes_on)
     go (Place.PutBehind p then) at is = by (Verb.PutSlot p (get_or up p 0) b (get_or (known c r mine) (get_or up p 0) 0)) is (may_put_behind c r b p mine up reach then possible (t.brought p) (t.reached p) at)
     go (Place.RaiseBehind p then) at is = by (Verb.RaiseFuo p (get_or up p 0)) is (may_raise c r p (get_or up p 0) (get_or up p 0) mine at.behind.region (omega arith) (let same = at.done in omega (arith, same)) (t.brought p))
-    go (Place.FenceBehind p then) at is = by (Verb.Fence p) is (at.behind.region, at.behind.leads.begun)
+    go (Place.FenceBehind p then) at is = by (Verb.Fence p) is (at.near.behind.region, at.near.behind.leads.begun)
     go (Place.LateFence p) at is = by (Verb.Fence p) is (at.region, at.level.leads.begun)
     go (Place.LateMin p) at is = by (Verb.Min p) is (at.late.region, at.granted, at.late.level.leads.goes_on)
     go (Place.LateFuo p) at is = by (Verb.Fuo p) is at.late.region

@@ -286,7 +286,7 @@ leads_on c r b mine up reach written verb values (Place.LookBehind p on) leading
 leads_on c r b mine up reach written verb values (Place.EnterBehind p on) leading due at = at.near.behind.leads.goes_on
 leads_on c r b mine up reach written verb values (Place.PutBehind p on) leading due at = at.near.behind.leads.goes_on
 leads_on c r b mine up reach written verb values (Place.RaiseBehind p on) leading due at = at.behind.leads.goes_on
-leads_on c r b mine up reach written verb values (Place.FenceBehind p on) leading due at = at.behind.leads.goes_on
+leads_on c r b mine up reach written verb values (Place.FenceBehind p on) leading due at = at.near.behind.leads.goes_on
 leads_on c r b mine up reach written verb values (Place.LateFence p) leading due at = at.level.leads.goes_on
 leads_on c r b mine up reach written verb values (Place.LateMin p) leading due at = at.late.level.leads.goes_on
 leads_on c r b mine up reach written verb values (Place.LateFuo p) leading due at = at.late.level.leads.goes_on

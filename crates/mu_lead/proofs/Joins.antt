@@ -142,7 +142,7 @@ joins_member old new p then values answer at mine verb s due possible told turn 
     let e = event_by r (Verb.Fence p) answer in
     subst (λ w. JoinsAt c r (event_by r w answer ∷ mine) new.place) same
     (joins_anywhere c r (e ∷ mine) new.place (none_fenced c r p answer mine
-    (joined (is_fencing p e) (is_some (proposal_number r mine)) (not (is_over r mine)) (is_member r p mine) (is_some (noted_grant r p (e ∷ mine))) here.behind.member)
+    (joined (is_fencing p e) (is_some (proposal_number r mine)) (not (is_over r mine)) (is_member r p mine) (is_some (noted_grant r p (e ∷ mine))) here.near.behind.member)
     (subst (JoinsAt c r mine) at joins)))
 
 -- whoever is welcomed has four steps

@@ -1,25 +1,28 @@
 -- Late followers that join.
-use Rattle.std.proofs.Common.{Bool, List, None, Some, ap, arith, false, get_or, inl, inr, is_some, refl, subst, sym, true, true≢false, ℕ, ◌&&◌, ◌<◌, ◌==◌, ◌||◌, ◌∙◌, ◌∷◌, ◌≡◌, ◌≢◌, ◌≤◌}
-use Rattle.std.specs.Prelude.{nat_le, nat_lt, not}
+use Rattle.std.proofs.Common.{Bool, List, None, Some, ap, arith, false, get_or, inl, inr, is_some, refl, subst, sym, true, true≢false, ℕ, ◌&&◌, ◌<◌, ◌==◌, ◌||◌, ◌∙◌, ◌∷◌, ◌≡◌, ◌≢◌, ◌≤◌, ◌⊎◌}
+use Rattle.std.specs.Prelude.{nat_le, nat_lt, not, ◌++◌}
 use Rattle.std.specs.declared.option.Option.{Option}
 use Rattle.std.proofs.lemmas.Bool.{and_from, and_parts, cases_eq, le-leb, le-ltb, leb-true, ne_eqb}
-use Rattle.std.proofs.Common.{eqb-true}
 use Rattle.mu_model.specs.Parts.{IsPossible}
-use Rattle.mu_agree.proofs.Readings.{parts_hold_law}
+use Rattle.mu_agree.specs.Agreement.{fuo_under}
+use Rattle.mu_agree.proofs.Possible.{parts_move_law}
 use Rattle.mu_model.specs.declared.config.Config.{Config}
 use Rattle.mu_model.specs.declared.event.Answer.{Answer}
 use Rattle.mu_model.specs.declared.event.Event.{Event}
 use Rattle.mu_model.specs.declared.event.Fence.{Fence}
 use Rattle.mu_model.specs.declared.event.Target.{Target}
 use Rattle.mu_model.specs.declared.event.Verb.{Verb}
-use Rattle.mu_model.specs.Histories.{count_below, earlier_or}
-use Rattle.mu_model.specs.Leaderships.{grant_at_joining, grant_for, is_above, is_changed, is_member, is_over, majority_of, noted_grant, proposal_number}
+use Rattle.mu_model.specs.Bounds.{is_at_most}
+use Rattle.mu_model.specs.Histories.{count_below, earlier_or, has}
+use Rattle.mu_model.specs.Leaderships.{grant_at_joining, is_above, is_changed, is_member, is_over, leadership, majority_of, noted_grant, proposal_number}
 use Rattle.mu_model.proofs.Basics.{event_by, none_some, same_number, same_some}
 use Rattle.mu_agree.proofs.Counting.{count_more}
 use Rattle.mu_lead.specs.declared.place.Then.{Then}
 use Rattle.mu_lead.specs.Confirming.{HasGrant}
-use Rattle.mu_lead.specs.Leading.{AtLateEnter, AtLateFuo, AtLateMin, AtLatePut, AtWiden, IsRaised, Late, Leads, Level, Near, end_of}
+use Rattle.mu_lead.specs.Leading.{AtLateEnter, AtLateFuo, AtLateMin, AtLatePut, AtWiden, IsRaised, IsRead, Late, Leads, Level, SawPast, end_of, is_put_at}
+use Rattle.mu_lead.proofs.Copying.{fuo_read_now, fuo_read_other, none_put, stranger_clear}
 use Rattle.mu_lead.proofs.Keeping.{fuo_event, leads_kept, raised_other}
+use Rattle.mu_lead.proofs.Puts.{member_within}
 use Rattle.mu_lead.proofs.Numbering.{held_joined, joining_other, landed_min, member_now, member_still, read_now}
 
 -- the event of a fence that was read
@@ -31,6 +34,16 @@ is_quiet None f true over none on = on
 is_quiet None f false over none on = on
 is_quiet (Some g) f by over none on = absurd (true≢false none)
 
+-- the fence of a region leaves what is noted of the others
+noted_still : (r p q : ℕ) (f : Fence) (mine : List Event) → p ≢ q → noted_grant r q (fence_event r p f ∷ mine) ≡ noted_grant r q mine
+noted_still r p q f mine other = go (ne_eqb p q other)
+  where
+    go : (p == q) ≡ false → noted_grant r q (fence_event r p f ∷ mine) ≡ noted_grant r q mine
+    go other = rw (same_number r, other) refl
+
+stranger_other : (r p q : ℕ) (mine : List Event) → is_member r p mine ≡ false → is_member r q mine ≡ true → p ≢ q
+stranger_other r p q mine stranger member same = true≢false (sym member ∙ subst (λ x. is_member r x mine ≡ false) same stranger)
+
 -- the fence of a region that is no member ends nothing
 leads_fenced : (c : Config) (r b p : ℕ) (f : Fence) (mine : List Event) → is_member r p mine ≡ false → Leads c r b mine → Leads c r b (fence_event r p f ∷ mine)
 leads_fenced c r b p f mine stranger l = record {
@@ -38,15 +51,17 @@ leads_fenced c r b p f mine stranger l = record {
   goes_on = is_quiet (grant_at_joining r p mine) f (r == r) (is_over r mine) stranger l.goes_on;
   numbered = l.numbered;
   carried = l.carried;
-  held = λ q region member. (let h = l.held q region member in record { grant = h.grant; noted = noted_still q (ne_eqb p q (λ same. true≢false (sym member ∙ subst (λ x. is_member r x mine ≡ false) same stranger))) ∙ h.noted; joined = h.joined });
+  held = λ q region member. (let h = l.held q region member in record { grant = h.grant; noted = noted_still r p q f mine (stranger_other r p q mine stranger member) ∙ h.noted; joined = h.joined });
   unput = l.unput;
 }
-  where
-    noted_still : (q : ℕ) → (p == q) ≡ false → noted_grant r q (fence_event r p f ∷ mine) ≡ noted_grant r q mine
-    noted_still q other = rw (same_number r, other) refl
 
 pub level_fenced : (c : Config) (r b p : ℕ) (f : Fence) (mine : List Event) (up : List ℕ) (reach : List (Option ℕ)) → is_member r p mine ≡ false → Level c r b mine up reach → Level c r b (fence_event r p f ∷ mine) up reach
-level_fenced c r b p f mine up reach stranger l = record { leads = leads_fenced c r b p f mine stranger l.leads; have = l.have; raised = l.raised; few = l.few }
+level_fenced c r b p f mine up reach stranger l = record {
+  leads = leads_fenced c r b p f mine stranger l.leads;
+  have = l.have;
+  raised = λ k low member. (let old = l.raised k low member in (old.0, λ g noted. old.1 g (sym (noted_still r p k f mine (stranger_other r p k mine stranger member)) ∙ noted)));
+  few = l.few;
+}
 
 -- the late follower names the leader
 pub late_noted : (c : Config) (r b p : ℕ) (f : Fence) (mine : List Event) (up : List ℕ) (reach : List (Option ℕ)) → Late c r b mine up reach p → is_some (noted_grant r p (fence_event r p f ∷ mine)) ≡ true → AtLateMin c r b (fence_event r p f ∷ mine) up reach p
@@ -93,7 +108,10 @@ level_read : (c : Config) (r b p u : ℕ) (mine : List Event) (up up' : List ℕ
 level_read c r b p u mine up up' reach reach' stranger ups reaches l = record {
   leads = leads_kept c r b r (Verb.Fuo p) (Answer.Number u) mine refl l.leads;
   have = λ k region member. subst (λ x. end_of c r mine ≤ x) (sym (ups k (other k member))) (l.have k region member);
-  raised = λ k region member. raised_other p k up up' reach reach' (other k member) ups reaches (l.raised k region member);
+  raised = λ k region member. (let old = l.raised k region member in (
+    raised_other p k up up' reach reach' (other k member) ups reaches old.0,
+    subst (λ x. IsRead r (fuo_event r p u ∷ mine) k x) (sym (ups k (other k member))) (fuo_read_other r p k u (get_or up k 0) mine (stranger_other r p k mine stranger member) old.1),
+  ));
   few = λ k region member. subst (λ x. x ≤ end_of c r mine) (sym (ups k (other k member))) (l.few k region member);
 }
   where
@@ -116,6 +134,7 @@ late_read c r b p u mine up up' reach reach' ups reaches here low raised at = re
   };
   short = omega (arith, here, low);
   raised = raised;
+  read = fuo_read_now r p u (get_or up' p 0) mine (omega (arith, here));
 }
 
 -- the event of an `Enter` for the minimum
@@ -153,6 +172,7 @@ late_entered c r b p mine up reach at =
         };
         short = at.short;
         raised = at.raised;
+        read = at.read;
       };
       entered = rw (same_number r, same_number p) refl;
       under = rw (same_number r, same_number p) refl;
@@ -181,8 +201,8 @@ was_member : (r p q b : ℕ) (mine : List Event) → q ≢ p → is_member r q (
 was_member r p q b mine other member = sym (ap is_some (joining_other r p q b mine (λ same. other (sym same)))) ∙ member
 
 -- the late follower joined, and is behind
-pub late_behind : (c : Config) (r b p : ℕ) (mine : List Event) (up : List ℕ) (reach : List (Option ℕ)) → AtLatePut c r b mine up reach p → get_or up p 0 < end_of c r mine → AtWiden c r b (landed_min r p b ∷ mine) up reach p Then.Joined
-late_behind c r b p mine up reach at lacks =
+pub late_behind : (c : Config) (r b p : ℕ) (mine : List Event) (up : List ℕ) (reach : List (Option ℕ)) → IsPossible c r mine → AtLatePut c r b mine up reach p → get_or up p 0 < end_of c r mine → AtWiden c r b (landed_min r p b ∷ mine) up reach p Then.Joined
+late_behind c r b p mine up reach possible at lacks =
     let t = at.entering.told in
     let l = t.late.level in
     record {
@@ -190,7 +210,12 @@ late_behind c r b p mine up reach at lacks =
         region = t.late.region;
         member = member_now r p b mine;
         leads = leads_joined c r b p mine t.late.region t.granted l.leads;
-        raised = λ k region other member. l.raised k region (was_member r p k b mine other member);
+        raised = λ k region other member. (l.raised k region (was_member r p k b mine other member)).0;
+        read = λ k region member. elim (cases_eq k p) [
+          | inl same ↦ subst (λ x. IsRead r mine x (get_or up x 0)) (sym same) at.entering.read
+          | inr other ↦ (l.raised k region (was_member r p k b mine other member)).1
+        ];
+        clear = λ q j member high. clear_now q j high (cases_eq q p) member;
         have = λ k region other member done. l.have k region (was_member r p k b mine other member);
         few = λ k region member. (
           elim (cases_eq k p) [
@@ -202,6 +227,13 @@ late_behind c r b p mine up reach at lacks =
       };
       lacks = lacks;
     }
+  where
+    clear_now : (q j : ℕ) → get_or up q 0 ≤ j → (q ≡ p) ⊎ (q ≢ p) → is_member r q (landed_min r p b ∷ mine) ≡ true → has (λ e. is_put_at r q j e.by e.verb) (leadership r mine) ≡ false
+    clear_now q j high (inl same) member = stranger_clear c r q j mine possible (subst (λ x. is_member r x mine ≡ false) (sym same) at.entering.told.late.stranger)
+    clear_now q j high (inr other) member =
+        let l = at.entering.told.late.level in
+        let was = was_member r p q b mine other member in
+        none_put r q j (leadership r mine) (l.leads.unput j (let all = l.have q (member_within c r q mine possible was) was in omega (arith, all, high)))
 
 -- the late follower joined, and has what is known
 pub late_level : (c : Config) (r b p : ℕ) (mine : List Event) (up : List ℕ) (reach : List (Option ℕ)) → AtLatePut c r b mine up reach p → end_of c r mine ≤ get_or up p 0 → Level c r b (landed_min r p b ∷ mine) up reach
@@ -215,7 +247,7 @@ late_level c r b p mine up reach at has =
         | inr other ↦ l.have k region (was_member r p k b mine other member)
       ];
       raised = λ k region member. elim (cases_eq k p) [
-        | inl same ↦ subst (λ x. IsRaised up reach x) (sym same) at.entering.raised
+        | inl same ↦ subst (λ x. IsRaised up reach x × IsRead r mine x (get_or up x 0)) (sym same) (at.entering.raised, at.entering.read)
         | inr other ↦ l.raised k region (was_member r p k b mine other member)
       ];
       few = λ k region member. elim (cases_eq k p) [
@@ -224,54 +256,22 @@ late_level c r b p mine up reach at has =
       ];
     }
 
-changed_not : (g : ℕ) (f : Fence) → (f.closing || not (f.grant == g)) ≡ false → (f.closing ≡ false) × (f.grant ≡ g)
-changed_not g f is = go f.closing (f.grant == g) refl is
+-- the fence of a member that was seen past ends the leadership
+pub fence_ends : (c : Config) (r p i : ℕ) (f : Fence) (mine : List Event) → IsPossible c r (fence_event r p f ∷ mine) → p < c.replicas → SawPast r mine p i → is_over r (fence_event r p f ∷ mine) ≡ true
+fence_ends c r p i f mine possible region saw =
+    let look = event_by r (Verb.Look p i) Answer.Past in
+    let same = subst (λ z. IsPossible c r (fence_event r p f ∷ z)) saw.is possible in
+    let puts = saw.puts in
+    over (λ is. by_read (fuo_under r p saw.grant (leadership r saw.before)) refl saw.read
+    (λ u at low. parts_move_law c r p i saw.grant u saw.before saw.since look (fence_event r p f) f same region refl refl saw.noted at low (omega (arith, puts)) refl refl is))
   where
-    go : (x y : Bool) → (f.grant == g) ≡ y → (x || not y) ≡ false → (x ≡ false) × (f.grant ≡ g)
-    go true y same none = absurd (true≢false none)
-    go false true same none = (refl, eqb-true f.grant g same)
-    go false false same none = absurd (true≢false none)
+    by_read : (o : Option ℕ) → fuo_under r p saw.grant (leadership r saw.before) ≡ o → is_at_most i o ≡ true → ((u : ℕ) → fuo_under r p saw.grant (leadership r saw.before) ≡ Some u → u ≤ i → ⊥) → ⊥
+    by_read None at low moved = true≢false (sym low)
+    by_read (Some u) at low moved = moved u at (leb-true u i low)
 
-not_changed : (t s : Bool) → (t || s) ≡ false → t ≡ false
-not_changed true s none = absurd (true≢false none)
-not_changed false s none = refl
+    changed : (x y on : Bool) → y ≡ false → (x || not y) || on ≡ true
+    changed true y on none = refl
+    changed false y on none = rw none refl
 
--- the fence of a member that ends nothing shows the grant of its joining
-held_fenced : (c : Config) (r p : ℕ) (f : Fence) (mine : List Event) → IsPossible c r (fence_event r p f ∷ mine) → is_over r (fence_event r p f ∷ mine) ≡ false → HasGrant r p mine → HasGrant r p (fence_event r p f ∷ mine)
-held_fenced c r p f mine possible goes_on h =
-    let quiet = not_changed ((r == r) && is_changed (grant_at_joining r p mine) f) (is_over r mine) goes_on in
-    let same = changed_not h.grant f (here (same_number r) h.joined quiet) in
-    let owner = parts_hold_law c r p h.grant f mine (fence_event r p f) possible h.noted refl refl same.1 in
-    record { grant = h.grant; noted = rw (same_number r, same_number p) (noted_of owner same.0 same.1); joined = h.joined }
-  where
-    here : (r == r) ≡ true → grant_at_joining r p mine ≡ Some (Some h.grant) → ((r == r) && is_changed (grant_at_joining r p mine) f) ≡ false → (f.closing || not (f.grant == h.grant)) ≡ false
-    here own joined quiet = sym (ap (λ t. t && is_changed (Some (Some h.grant)) f) own) ∙ sym (ap (λ o. (r == r) && is_changed o f) joined) ∙ quiet
-
-    noted_of : f.owner ≡ Some r → f.closing ≡ false → f.grant ≡ h.grant → grant_for r (Some f) ≡ Some h.grant
-    noted_of owner unclosed same = rw (owner, unclosed, same_number r) (ap Some same)
-
--- the fence of a member that ends nothing keeps the leadership
-pub leads_held : (c : Config) (r b p : ℕ) (f : Fence) (mine : List Event) → IsPossible c r (fence_event r p f ∷ mine) → is_over r (fence_event r p f ∷ mine) ≡ false → Leads c r b mine → Leads c r b (fence_event r p f ∷ mine)
-leads_held c r b p f mine possible goes_on l = record {
-  begun = l.begun;
-  goes_on = goes_on;
-  numbered = l.numbered;
-  carried = l.carried;
-  held = λ q region member. elim (cases_eq p q) [
-    | inl same ↦ subst (λ x. HasGrant r x (fence_event r p f ∷ mine)) same (held_fenced c r p f mine possible goes_on (subst (λ x. HasGrant r x mine) (sym same) (l.held q region member)))
-    | inr other ↦ other_held q (ne_eqb p q other) (l.held q region member)
-  ];
-  unput = l.unput;
-}
-  where
-    other_held : (q : ℕ) → (p == q) ≡ false → HasGrant r q mine → HasGrant r q (fence_event r p f ∷ mine)
-    other_held q other h = record { grant = h.grant; noted = rw (same_number r, other) h.noted; joined = h.joined }
-
-pub near_held : (c : Config) (r b p : ℕ) (f : Fence) (mine : List Event) (up : List ℕ) (reach : List (Option ℕ)) (on : Then) → IsPossible c r (fence_event r p f ∷ mine) → is_over r (fence_event r p f ∷ mine) ≡ false → Near c r b mine up reach p on → Near c r b (fence_event r p f ∷ mine) up reach p on
-near_held c r b p f mine up reach on possible goes_on n =
-    let h = n.behind in
-    record {
-      behind = record { region = h.region; member = h.member; leads = leads_held c r b p f mine possible goes_on h.leads; raised = h.raised; have = h.have; few = h.few };
-      lacks = n.lacks;
-      near = n.near;
-    }
+    over : (f.grant ≢ saw.grant) → is_over r (fence_event r p f ∷ mine) ≡ true
+    over other = rw (same_number r, saw.joined) (changed f.closing (f.grant == saw.grant) (is_over r mine) (ne_eqb f.grant saw.grant other))

@@ -5,6 +5,7 @@ pub mod Bringing
 pub mod Causes
 pub mod Commits
 pub mod Confirms
+pub mod Copying
 pub mod Due
 pub mod ElectionSteps
 pub mod Elections
@@ -33,6 +34,7 @@ pub mod RoomsAsking
 pub mod RoomsBeside
 pub mod RoomsBringing
 pub mod RoomsBrought
+pub mod RoomsCopying
 pub mod RoomsFollowers
 pub mod RoomsHeads
 pub mod RoomsInTime

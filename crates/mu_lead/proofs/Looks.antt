@@ -326,6 +326,7 @@ enters_new c r b v first mine up reach candidate best l may is =
         held = leads.held;
         have = l.level.have;
         raised = l.level.raised;
+        few = l.level.few;
         within = (let low = l.roomy.within in omega (arith, low));
         new = new_picked c r b v mine up reach candidate best l may;
         below = λ q low member. absurd (true≢false (sym member ∙ is.3 q (omega arith) low));

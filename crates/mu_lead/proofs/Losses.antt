@@ -210,7 +210,7 @@ lost_at mine old values answer note place verb heeded s at notes due = go place 
     go (Place.RaiseBehind p Then.Joined) at is due = turn (Place.RaiseBehind p Then.Joined) (Verb.RaiseFuo p (get_or old.up p 0)) due (λ possible told. loses_none old.id mine (Place.RaiseBehind p Then.Joined) (Verb.RaiseFuo p (get_or old.up p 0)) answer note (ap is_lost is) refl refl)
     go (Place.RaiseBehind p Then.Late) at is due = turn (Place.RaiseBehind p Then.Late) (Verb.RaiseFuo p (get_or old.up p 0)) due (λ possible told. loses_none old.id mine (Place.RaiseBehind p Then.Late) (Verb.RaiseFuo p (get_or old.up p 0)) answer note (ap is_lost is) refl refl)
     go (Place.RaiseBehind p Then.Position) at is due = turn (Place.RaiseBehind p Then.Position) (Verb.RaiseFuo p (get_or old.up p 0)) due (λ possible told. loses_none old.id mine (Place.RaiseBehind p Then.Position) (Verb.RaiseFuo p (get_or old.up p 0)) answer note (ap is_lost is) refl refl)
-    go (Place.FenceBehind p on) at is due = turn (Place.FenceBehind p on) (Verb.Fence p) due (λ possible told. let x = sees_fence old.config old.id p answer mine possible in behind_says old.id p x.0 mine on answer note x.1 at.behind.member (at.behind.leads.held p at.behind.region at.behind.member) at.behind.leads.goes_on (subst (λ a. note ≡ note_of_fence p x.0 (is_over old.id (event_by old.id (Verb.Fence p) a ∷ mine))) x.1 (is.1 mine x.0 s possible x.1)))
+    go (Place.FenceBehind p on) at is due = turn (Place.FenceBehind p on) (Verb.Fence p) due (λ possible told. let x = sees_fence old.config old.id p answer mine possible in behind_says old.id p x.0 mine on answer note x.1 at.near.behind.member (at.near.behind.leads.held p at.near.behind.region at.near.behind.member) at.near.behind.leads.goes_on (subst (λ a. note ≡ note_of_fence p x.0 (is_over old.id (event_by old.id (Verb.Fence p) a ∷ mine))) x.1 (is.1 mine x.0 s possible x.1)))
     go (Place.LateFence p) at is due = turn (Place.LateFence p) (Verb.Fence p) due (λ possible told. fence_quiet old.id p mine (Place.LateFence p) answer note (ap is_lost is) refl at.stranger)
     go (Place.LateMin p) at is due = turn (Place.LateMin p) (Verb.Min p) due (λ possible told. let x = tells_min old.config old.id p answer mine possible in let small = min_small old.config old.id p x.0 mine s.config (subst (λ a. IsPossible old.config old.id (event_by old.id (Verb.Min p) a ∷ mine)) x.1 possible) in loses_none old.id mine (Place.LateMin p) (Verb.Min p) answer note (ap is_lost (is x.0 x.1 small) ∙ min_quiet is_lost p x.0 (nat_lt old.number x.0) refl (λ p m. refl)) refl refl)
     go (Place.LateFuo p) at is due = turn (Place.LateFuo p) (Verb.Fuo p) due (λ possible told. loses_none old.id mine (Place.LateFuo p) (Verb.Fuo p) answer note (ap is_lost is) refl refl)

@@ -16,7 +16,7 @@ use Rattle.mu_model.proofs.Basics.{event_by, none_some, or_true, same_number, sa
 use Rattle.mu_agree.proofs.Counting.{count_more}
 use Rattle.mu_agree.proofs.Landings.{has_since}
 use Rattle.mu_lead.specs.Confirming.{AtEnterMin, AtPutMin, AtReadMin, HasGrant, HoldsGrants, Numbered, Telling, greatest_min}
-use Rattle.mu_lead.specs.Leading.{AtReadFuo, Leads}
+use Rattle.mu_lead.specs.Leading.{AtReadFuo, HasPutNone, Leads}
 use Rattle.mu_lead.specs.Sets.{IsFirst}
 
 granted : (t : Bool) (x g : ℕ) → cond t (Some x) None ≡ Some g → (x == g) ≡ true
@@ -265,12 +265,13 @@ joins_all c r b p from mine own at is none =
     }
 
 -- the first member's FUO is read first
-pub reads_first : (c : Config) (r b q : ℕ) (mine : List Event) (up : List ℕ) (reach : List (Option ℕ)) → Leads c r b mine → IsFirst (λ k. is_member r k mine) 0 c.replicas (Some q) → AtReadFuo c r b mine up reach q None
-reads_first c r b q mine up reach leads first = record {
+pub reads_first : (c : Config) (r b q : ℕ) (mine : List Event) (up : List ℕ) (reach : List (Option ℕ)) → Leads c r b mine → HasPutNone r mine → IsFirst (λ k. is_member r k mine) 0 c.replicas (Some q) → AtReadFuo c r b mine up reach q None
+reads_first c r b q mine up reach leads unput first = record {
   region = first.1;
   member = first.2;
   leads = leads;
   raised = λ k low member. absurd (true≢false (sym member ∙ first.3 k (omega arith) low));
+  unput = unput;
   from = tt;
   few = λ k low. first.3 k (omega arith) low;
 }

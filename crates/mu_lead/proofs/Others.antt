@@ -191,25 +191,25 @@ at_on c r b (Verb.Look q i) answer mine up reach written place leading beside po
 at_on c r b verb answer mine up reach written (Place.ReadMin p) leading beside possible at = record { region = at.region; granted = at.granted; telling = record { fresh = record { begun = at.telling.fresh.begun; goes_on = at.telling.fresh.goes_on; unnumbered = at.telling.fresh.unnumbered; alone = at.telling.fresh.alone; unput = at.telling.fresh.unput }; confirmed = record { own = at.telling.confirmed.own; many = at.telling.confirmed.many }; told = at.telling.told; low = at.telling.low } }
 at_on c r b verb answer mine up reach written (Place.EnterMin p) leading beside possible at = record { region = at.region; granted = at.granted; numbered = record { begun = at.numbered.begun; goes_on = at.numbered.goes_on; allowed = number_beside c r verb answer mine b (proposal_number r mine) beside at.numbered.allowed; confirmed = record { own = at.numbered.confirmed.own; many = at.numbered.confirmed.many }; told = at.numbered.told; low = at.numbered.low; unput = at.numbered.unput }; below = record { joined = at.below.joined; held = λ q region member. (let h = at.below.held q region member in record { grant = h.grant; noted = h.noted; joined = h.joined }) } }
 at_on c r b verb answer mine up reach written (Place.PutMin p) leading beside possible at = record { entering = record { region = at.entering.region; granted = at.entering.granted; numbered = record { begun = at.entering.numbered.begun; goes_on = at.entering.numbered.goes_on; allowed = number_beside c r verb answer mine b (proposal_number r mine) beside at.entering.numbered.allowed; confirmed = record { own = at.entering.numbered.confirmed.own; many = at.entering.numbered.confirmed.many }; told = at.entering.numbered.told; low = at.entering.numbered.low; unput = at.entering.numbered.unput }; below = record { joined = at.entering.below.joined; held = λ q region member. (let h = at.entering.below.held q region member in record { grant = h.grant; noted = h.noted; joined = h.joined }) } }; entered = at.entered; under = at.under }
-at_on c r b verb answer mine up reach written (Place.ReadFuo p source) leading beside possible at = record { region = at.region; member = at.member; leads = leads_kept c r b r verb answer mine refl at.leads; raised = at.raised; from = source_calm c r r verb answer mine source refl at.from; few = most_on r p mine (event_by r verb answer ∷ mine) up source (λ q. refl) at.few }
-at_on c r b verb answer mine up reach written (Place.Learn p) leading beside possible at = record { region = at.region; member = at.member; leads = leads_kept c r b r verb answer mine refl at.leads; raised = at.raised; lacks = at.lacks; few = at.few }
-at_on c r b verb answer mine up reach written (Place.WidenBehind p on) leading beside possible at = record { behind = record { region = at.behind.region; member = at.behind.member; leads = leads_kept c r b r verb answer mine refl at.behind.leads; raised = at.behind.raised; have = at.behind.have; few = at.behind.few }; lacks = at.lacks }
-at_on c r b verb answer mine up reach written (Place.LookBehind p on) leading beside possible at = record { behind = record { region = at.behind.region; member = at.behind.member; leads = leads_kept c r b r verb answer mine refl at.behind.leads; raised = at.behind.raised; have = at.behind.have; few = at.behind.few }; lacks = at.lacks; near = at.near }
-at_on c r b verb answer mine up reach written (Place.EnterBehind p on) leading beside possible at = record { near = record { behind = record { region = at.near.behind.region; member = at.near.behind.member; leads = leads_kept c r b r verb answer mine refl at.near.behind.leads; raised = at.near.behind.raised; have = at.near.behind.have; few = at.near.behind.few }; lacks = at.near.lacks; near = at.near.near }; looked = rw at.near.behind.member at.looked }
-at_on c r b verb answer mine up reach written (Place.PutBehind p on) leading beside possible at = record { near = record { behind = record { region = at.near.behind.region; member = at.near.behind.member; leads = leads_kept c r b r verb answer mine refl at.near.behind.leads; raised = at.near.behind.raised; have = at.near.behind.have; few = at.near.behind.few }; lacks = at.near.lacks; near = at.near.near }; entered = at.entered; under = at.under; looked = rw at.near.behind.member at.looked }
-at_on c r b verb answer mine up reach written (Place.RaiseBehind p on) leading beside possible at = record { behind = record { region = at.behind.region; member = at.behind.member; leads = leads_kept c r b r verb answer mine refl at.behind.leads; raised = at.behind.raised; have = at.behind.have; few = at.behind.few }; done = at.done }
-at_on c r b verb answer mine up reach written (Place.FenceBehind p on) leading beside possible at = record { behind = record { region = at.behind.region; member = at.behind.member; leads = leads_kept c r b r verb answer mine refl at.behind.leads; raised = at.behind.raised; have = at.behind.have; few = at.behind.few }; lacks = at.lacks; near = at.near }
+at_on c r b verb answer mine up reach written (Place.ReadFuo p source) leading beside possible at = record { region = at.region; member = at.member; leads = leads_kept c r b r verb answer mine refl at.leads; raised = at.raised; unput = at.unput; from = source_calm c r r verb answer mine source refl at.from; few = most_on r p mine (event_by r verb answer ∷ mine) up source (λ q. refl) at.few }
+at_on c r b verb answer mine up reach written (Place.Learn p) leading beside possible at = record { region = at.region; member = at.member; leads = leads_kept c r b r verb answer mine refl at.leads; raised = at.raised; unput = at.unput; lacks = at.lacks; few = at.few }
+at_on c r b verb answer mine up reach written (Place.WidenBehind p on) leading beside possible at = record { behind = record { region = at.behind.region; member = at.behind.member; leads = leads_kept c r b r verb answer mine refl at.behind.leads; raised = at.behind.raised; read = at.behind.read; clear = at.behind.clear; have = at.behind.have; few = at.behind.few }; lacks = at.lacks }
+at_on c r b verb answer mine up reach written (Place.LookBehind p on) leading beside possible at = record { behind = record { region = at.behind.region; member = at.behind.member; leads = leads_kept c r b r verb answer mine refl at.behind.leads; raised = at.behind.raised; read = at.behind.read; clear = at.behind.clear; have = at.behind.have; few = at.behind.few }; lacks = at.lacks; near = at.near }
+at_on c r b verb answer mine up reach written (Place.EnterBehind p on) leading beside possible at = record { near = record { behind = record { region = at.near.behind.region; member = at.near.behind.member; leads = leads_kept c r b r verb answer mine refl at.near.behind.leads; raised = at.near.behind.raised; read = at.near.behind.read; clear = at.near.behind.clear; have = at.near.behind.have; few = at.near.behind.few }; lacks = at.near.lacks; near = at.near.near }; looked = rw at.near.behind.member at.looked }
+at_on c r b verb answer mine up reach written (Place.PutBehind p on) leading beside possible at = record { near = record { behind = record { region = at.near.behind.region; member = at.near.behind.member; leads = leads_kept c r b r verb answer mine refl at.near.behind.leads; raised = at.near.behind.raised; read = at.near.behind.read; clear = at.near.behind.clear; have = at.near.behind.have; few = at.near.behind.few }; lacks = at.near.lacks; near = at.near.near }; entered = at.entered; under = at.under; looked = rw at.near.behind.member at.looked }
+at_on c r b verb answer mine up reach written (Place.RaiseBehind p on) leading beside possible at = record { behind = record { region = at.behind.region; member = at.behind.member; leads = leads_kept c r b r verb answer mine refl at.behind.leads; raised = at.behind.raised; read = at.behind.read; clear = at.behind.clear; have = at.behind.have; few = at.behind.few }; done = at.done }
+at_on c r b verb answer mine up reach written (Place.FenceBehind p on) leading beside possible at = record { near = record { behind = record { region = at.near.behind.region; member = at.near.behind.member; leads = leads_kept c r b r verb answer mine refl at.near.behind.leads; raised = at.near.behind.raised; read = at.near.behind.read; clear = at.near.behind.clear; have = at.near.behind.have; few = at.near.behind.few }; lacks = at.near.lacks; near = at.near.near }; past = record { since = event_by r verb answer ∷ at.past.since; before = at.past.before; is = ap (λ past. event_by r verb answer ∷ past) at.past.is; grant = at.past.grant; noted = at.past.noted; joined = at.past.joined; read = at.past.read; puts = at.past.puts } }
 at_on c r b verb answer mine up reach written (Place.LateFence p) leading beside possible at = record { region = at.region; stranger = at.stranger; level = record { leads = leads_kept c r b r verb answer mine refl at.level.leads; have = at.level.have; raised = at.level.raised; few = at.level.few } }
 at_on c r b verb answer mine up reach written (Place.LateMin p) leading beside possible at = record { late = record { region = at.late.region; stranger = at.late.stranger; level = record { leads = leads_kept c r b r verb answer mine refl at.late.level.leads; have = at.late.level.have; raised = at.late.level.raised; few = at.late.level.few } }; granted = at.granted }
 at_on c r b verb answer mine up reach written (Place.LateFuo p) leading beside possible at = record { late = record { region = at.late.region; stranger = at.late.stranger; level = record { leads = leads_kept c r b r verb answer mine refl at.late.level.leads; have = at.late.level.have; raised = at.late.level.raised; few = at.late.level.few } }; granted = at.granted; told = at.told; low = at.low }
-at_on c r b verb answer mine up reach written (Place.LateEnter p) leading beside possible at = record { told = record { late = record { region = at.told.late.region; stranger = at.told.late.stranger; level = record { leads = leads_kept c r b r verb answer mine refl at.told.late.level.leads; have = at.told.late.level.have; raised = at.told.late.level.raised; few = at.told.late.level.few } }; granted = at.told.granted; told = at.told.told; low = at.told.low }; short = at.short; raised = at.raised }
-at_on c r b verb answer mine up reach written (Place.LatePut p) leading beside possible at = record { entering = record { told = record { late = record { region = at.entering.told.late.region; stranger = at.entering.told.late.stranger; level = record { leads = leads_kept c r b r verb answer mine refl at.entering.told.late.level.leads; have = at.entering.told.late.level.have; raised = at.entering.told.late.level.raised; few = at.entering.told.late.level.few } }; granted = at.entering.told.granted; told = at.entering.told.told; low = at.entering.told.low }; short = at.entering.short; raised = at.entering.raised }; entered = at.entered; under = at.under }
+at_on c r b verb answer mine up reach written (Place.LateEnter p) leading beside possible at = record { told = record { late = record { region = at.told.late.region; stranger = at.told.late.stranger; level = record { leads = leads_kept c r b r verb answer mine refl at.told.late.level.leads; have = at.told.late.level.have; raised = at.told.late.level.raised; few = at.told.late.level.few } }; granted = at.told.granted; told = at.told.told; low = at.told.low }; short = at.short; raised = at.raised; read = at.read }
+at_on c r b verb answer mine up reach written (Place.LatePut p) leading beside possible at = record { entering = record { told = record { late = record { region = at.entering.told.late.region; stranger = at.entering.told.late.stranger; level = record { leads = leads_kept c r b r verb answer mine refl at.entering.told.late.level.leads; have = at.entering.told.late.level.have; raised = at.entering.told.late.level.raised; few = at.entering.told.late.level.few } }; granted = at.entering.told.granted; told = at.entering.told.told; low = at.entering.told.low }; short = at.entering.short; raised = at.entering.raised; read = at.entering.read }; entered = at.entered; under = at.under }
 at_on c r b verb answer mine up reach written (Place.ReadHead p candidate) leading beside possible at = record { region = at.region; unmarked = at.unmarked; level = record { leads = leads_kept c r b r verb answer mine refl at.level.leads; have = at.level.have; raised = at.level.raised; few = at.level.few }; roomy = roomy_more c r p (event_by r verb answer) mine candidate possible refl refl at.roomy }
 at_on c r b verb answer mine up reach written (Place.Look p u candidate best) leading beside possible at = record { region = at.region; member = at.member; position = at.position; looking = record { level = record { leads = leads_kept c r b r verb answer mine refl at.looking.level.leads; have = at.looking.level.have; raised = at.looking.level.raised; few = at.looking.level.few }; roomy = roomy_more c r c.replicas (event_by r verb answer) mine candidate possible refl refl at.looking.roomy; looked = λ q low member. (let d = at.looking.looked q low member in record { good = rw member d.good; last = d.last; clear = d.clear; empty = d.empty }); shows = at.looking.shows } }
 at_on c r b verb answer mine up reach written (Place.Write u last offer) leading beside possible at = (let w = at.0.writing in (record { writing = record { looking = record { level = record { leads = leads_kept c r b r verb answer mine refl w.looking.level.leads; have = w.looking.level.have; raised = w.looking.level.raised; few = w.looking.level.few }; roomy = roomy_more c r c.replicas (event_by r verb answer) mine None possible refl refl w.looking.roomy; looked = λ q low member. (let d = w.looking.looked q low member in record { good = rw member d.good; last = d.last; clear = d.clear; empty = d.empty }); shows = w.looking.shows }; first = w.first; value = w.value; own = w.own; batch = record { batch = w.batch.batch; row = w.batch.row; next = w.batch.next }; last_row = w.last_row; from = w.from; to = w.to; below = w.below }; inside = at.0.inside }, at.1))
-at_on c r b verb answer mine up reach written (Place.Enter p offer) leading beside possible at = (record { region = at.0.region; member = at.0.member; offering = record { begun = at.0.offering.begun; goes_on = at.0.offering.goes_on; numbered = at.0.offering.numbered; carried = at.0.offering.carried; held = λ q region member. (let h = at.0.offering.held q region member in record { grant = h.grant; noted = h.noted; joined = h.joined }); have = at.0.offering.have; raised = at.0.offering.raised; within = at.0.offering.within; new = new_beside c r verb answer mine (end_of c r mine) offer.value beside possible at.0.offering.new; below = at.0.offering.below; above = at.0.offering.above; unput = at.0.offering.unput }; looked = λ q more region member. rw member (at.0.looked q more region member) }, shows_kept c r (end_of c r mine) r verb answer mine offer.adopted (keeps_beside verb beside) at.1)
-at_on c r b verb answer mine up reach written (Place.Put p offer) leading beside possible at = (record { entering = record { region = at.0.entering.region; member = at.0.entering.member; offering = record { begun = at.0.entering.offering.begun; goes_on = at.0.entering.offering.goes_on; numbered = at.0.entering.offering.numbered; carried = at.0.entering.offering.carried; held = λ q region member. (let h = at.0.entering.offering.held q region member in record { grant = h.grant; noted = h.noted; joined = h.joined }); have = at.0.entering.offering.have; raised = at.0.entering.offering.raised; within = at.0.entering.offering.within; new = new_beside c r verb answer mine (end_of c r mine) offer.value beside possible at.0.entering.offering.new; below = at.0.entering.offering.below; above = at.0.entering.offering.above; unput = at.0.entering.offering.unput }; looked = λ q more region member. rw member (at.0.entering.looked q more region member) }; entered = at.0.entered; under = at.0.under; looked_before = rw at.0.entering.member at.0.looked_before }, shows_kept c r (end_of c r mine) r verb answer mine offer.adopted (keeps_beside verb beside) at.1)
-at_on c r b verb answer mine up reach written (Place.Raise p) leading beside possible at = record { region = at.region; member = at.member; leads = leads_kept c r b r verb answer mine refl at.leads; have = at.have; raised = at.raised }
+at_on c r b verb answer mine up reach written (Place.Enter p offer) leading beside possible at = (record { region = at.0.region; member = at.0.member; offering = record { begun = at.0.offering.begun; goes_on = at.0.offering.goes_on; numbered = at.0.offering.numbered; carried = at.0.offering.carried; held = λ q region member. (let h = at.0.offering.held q region member in record { grant = h.grant; noted = h.noted; joined = h.joined }); have = at.0.offering.have; raised = at.0.offering.raised; few = at.0.offering.few; within = at.0.offering.within; new = new_beside c r verb answer mine (end_of c r mine) offer.value beside possible at.0.offering.new; below = at.0.offering.below; above = at.0.offering.above; unput = at.0.offering.unput }; looked = λ q more region member. rw member (at.0.looked q more region member) }, shows_kept c r (end_of c r mine) r verb answer mine offer.adopted (keeps_beside verb beside) at.1)
+at_on c r b verb answer mine up reach written (Place.Put p offer) leading beside possible at = (record { entering = record { region = at.0.entering.region; member = at.0.entering.member; offering = record { begun = at.0.entering.offering.begun; goes_on = at.0.entering.offering.goes_on; numbered = at.0.entering.offering.numbered; carried = at.0.entering.offering.carried; held = λ q region member. (let h = at.0.entering.offering.held q region member in record { grant = h.grant; noted = h.noted; joined = h.joined }); have = at.0.entering.offering.have; raised = at.0.entering.offering.raised; few = at.0.entering.offering.few; within = at.0.entering.offering.within; new = new_beside c r verb answer mine (end_of c r mine) offer.value beside possible at.0.entering.offering.new; below = at.0.entering.offering.below; above = at.0.entering.offering.above; unput = at.0.entering.offering.unput }; looked = λ q more region member. rw member (at.0.entering.looked q more region member) }; entered = at.0.entered; under = at.0.under; looked_before = rw at.0.entering.member at.0.looked_before }, shows_kept c r (end_of c r mine) r verb answer mine offer.adopted (keeps_beside verb beside) at.1)
+at_on c r b verb answer mine up reach written (Place.Raise p) leading beside possible at = record { region = at.region; member = at.member; leads = leads_kept c r b r verb answer mine refl at.leads; have = at.have; raised = at.raised; read = at.read }
 at_on c r b verb answer mine up reach written Place.Outrun leading beside possible at = record { region = at.region; within = at.within; member = at.member; past = at.past }
 at_on c r b verb answer mine up reach written Place.Rest leading beside possible at = record { all = at.all; members = at.members }
 at_on c r b verb answer mine up reach written (Place.Ask p) leading beside possible at = absurd (true≢false (sym leading))

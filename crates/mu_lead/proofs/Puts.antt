@@ -23,10 +23,11 @@ use Rattle.mu_model.proofs.Scans.{each_all}
 use Rattle.mu_agree.proofs.Landings.{has_implied, has_more}
 use Rattle.mu_agree.proofs.Possible.{parts_shorten_law}
 use Rattle.mu_lead.specs.Confirming.{HasGrant, HoldsGrants}
-use Rattle.mu_lead.specs.Leading.{AtRaise, Brought, HaveBelow, HoldsTables, IsRaised, Level, end_of, looked_at}
+use Rattle.mu_lead.specs.Leading.{AtRaise, Brought, HaveAtMost, HaveBelow, HoldsTables, IsRaised, IsRead, Level, end_of, looked_at}
 use Rattle.mu_lead.specs.Offering.{AtEnter, AtPut, Offering, took}
 use Rattle.mu_lead.specs.Sets.{IsFirst}
 use Rattle.mu_lead.proofs.Bringing.{enter_event, looked_then, put_event}
+use Rattle.mu_lead.proofs.Copying.{read_less}
 use Rattle.mu_lead.proofs.Keeping.{leads_kept, raise_event, raised_other}
 use Rattle.mu_lead.proofs.Tables.{brought_kept, caught_up_with}
 
@@ -56,6 +57,7 @@ puts_new c r b v p mine up reach at =
           held = held_same c r (enter_event r p s) mine o.held (λ q h. record { grant = h.grant; noted = h.noted; joined = h.joined }) (λ q member. member);
           have = o.have;
           raised = o.raised;
+          few = o.few;
           within = o.within;
           new = new_entered c r p s (end_of c r mine) v mine o.new;
           below = o.below;
@@ -205,6 +207,7 @@ enters_next c r b v p q from mine up reach at is first =
         held = held_same c r (put_event r p i b v) mine o.held (λ k h. record { grant = h.grant; noted = h.noted; joined = h.joined }) (λ k member. member);
         have = subst (λ values. HaveBelow r mine up c.replicas (length values)) (sym same) o.have;
         raised = o.raised;
+        few = subst (λ values. HaveAtMost c r mine up (length values)) (sym same) o.few;
         within = subst (λ values. length values ≤ row_count c + reserve c) (sym same) o.within;
         new = subst (λ x. IsNew c r (put_event r p i b v ∷ mine) x v) (sym (ap length same)) (new_put c r p i b v mine same o.new);
         below = subst (λ x. (k : ℕ) → k < q → is_member r k mine ≡ true → took r k x b v (put_event r p i b v ∷ mine) ≡ true) (sym (ap length same)) (below_put c r b v p q mine up reach o none);
@@ -308,18 +311,22 @@ raises_first c r b v p first mine up up' reach at more members is =
       };
       have = λ q region member. members q region member ∙ sym long;
       raised = λ q low member. absurd (true≢false (sym member ∙ is.3 q (omega arith) low));
+      read = λ q region member. read_less r q (get_or up q 0) (get_or up' q 0) mine (let now = members q region member in let before = o.few q region member in omega (arith, now, before)) (o.raised q region member).1;
     }
 
 -- the FUO of p is raised over what was committed
 raised_more : (c : Config) (r b p q : ℕ) (mine : List Event) (up : List ℕ) (reach reach' : List (Option ℕ)) → AtRaise c r b mine up reach p → ((k : ℕ) → k ≢ p → get_or reach' k None ≡ get_or reach k None) → IsRaised up reach' p
-    → ((k : ℕ) → p + 1 ≤ k → k < q → is_member r k mine ≡ false) → (k : ℕ) → k < q → is_member r k mine ≡ true → IsRaised up reach' k
-raised_more c r b p q mine up reach reach' at reaches now none k low member = elim (cases_eq k p) [
-  | inl same ↦ subst (λ x. IsRaised up reach' x) (sym same) now
-  | inr other ↦ elim (cases_lt k p) [
-    | inl less ↦ raised_other p k up up reach reach' other (λ j differs. refl) reaches (at.raised k less member)
-    | inr more ↦ absurd (true≢false (sym member ∙ none k (omega (arith, more, other)) low))
-  ]
-]
+    → ((k : ℕ) → p + 1 ≤ k → k < q → is_member r k mine ≡ false) → (k : ℕ) → k < q → k < c.replicas → is_member r k mine ≡ true → IsRaised up reach' k × IsRead r mine k (get_or up k 0)
+raised_more c r b p q mine up reach reach' at reaches now none k low region member = (
+  elim (cases_eq k p) [
+    | inl same ↦ subst (λ x. IsRaised up reach' x) (sym same) now
+    | inr other ↦ elim (cases_lt k p) [
+      | inl less ↦ raised_other p k up up reach reach' other (λ j differs. refl) reaches (at.raised k less member).0
+      | inr more ↦ absurd (true≢false (sym member ∙ none k (omega (arith, more, other)) low))
+    ]
+  ],
+  at.read k region member,
+)
 
 pub raises_next : (c : Config) (r b p q from : ℕ) (mine : List Event) (up : List ℕ) (reach reach' : List (Option ℕ)) → AtRaise c r b mine up reach p → ((k : ℕ) → k ≢ p → get_or reach' k None ≡ get_or reach k None) → IsRaised up reach' p
     → from ≡ p + 1 → IsFirst (λ k. is_member r k mine) from c.replicas (Some q) → AtRaise c r b (raise_event r p (end_of c r mine) ∷ mine) up reach' q
@@ -328,7 +335,8 @@ raises_next c r b p q from mine up reach reach' at reaches now is first = record
   member = first.2;
   leads = leads_kept c r b r (Verb.RaiseFuo p (end_of c r mine)) Answer.Done mine refl at.leads;
   have = at.have;
-  raised = raised_more c r b p q mine up reach reach' at reaches now (λ k more low. first.3 k (omega (arith, more, is)) low);
+  raised = λ k low. raised_more c r b p q mine up reach reach' at reaches now (λ j more below. first.3 j (omega (arith, more, is)) below) k low (let within = first.1 in omega (arith, low, within));
+  read = at.read;
 }
 
 pub raised_all : (c : Config) (r b p from : ℕ) (mine : List Event) (up : List ℕ) (reach reach' : List (Option ℕ)) → AtRaise c r b mine up reach p → ((k : ℕ) → k ≢ p → get_or reach' k None ≡ get_or reach k None) → IsRaised up reach' p
@@ -337,7 +345,7 @@ raised_all c r b p from mine up reach reach' at reaches now is none = record {
   leads = leads_kept c r b r (Verb.RaiseFuo p (end_of c r mine)) Answer.Done mine refl at.leads;
   have = λ k region member. (let same = at.have k region member in omega (arith, same));
   few = λ k region member. (let same = at.have k region member in omega (arith, same));
-  raised = raised_more c r b p c.replicas mine up reach reach' at reaches now (λ k more low. none k (omega (arith, more, is)) low);
+  raised = λ k low. raised_more c r b p c.replicas mine up reach reach' at reaches now (λ j more below. none j (omega (arith, more, is)) below) k low low;
 }
 
 -- less is brought where more is

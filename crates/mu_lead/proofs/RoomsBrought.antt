@@ -47,7 +47,7 @@ pub none_brought : (c : Config) (r : ℕ) (mine : List Event) (up : List ℕ) (r
     → (k : ℕ) → is_member r k mine ≡ true → is_brought_up c r k mine ≡ true
 none_brought c r mine up reach heads written possible tables have raised k member =
     let low = member_within c r k mine possible member in
-    brought_up c r k mine up reach heads written tables (have k low member) (raised k low member)
+    brought_up c r k mine up reach heads written tables (have k low member) (raised k low member).0
 
 pub level_brought : (c : Config) (r b : ℕ) (mine : List Event) (up : List ℕ) (reach : List (Option ℕ)) (heads written : List ℕ) → IsPossible c r mine → HoldsTables c r mine up reach heads written → Level c r b mine up reach
     → (k : ℕ) → is_member r k mine ≡ true → is_brought_up c r k mine ≡ true

@@ -1,18 +1,22 @@
 -- What holds once the number is put at a majority: what each region has, and what is brought to
 -- those that are behind.
-use Rattle.std.specs.Prelude.{Bool, List, None, Some, false, get_or, is_some, length, nat_lt, true, ℕ, ◌%◌, ◌+◌, ◌<◌, ◌≡◌, ◌≢◌, ◌≤◌}
+use Rattle.std.specs.Prelude.{Bool, List, None, Some, false, get_or, is_some, length, nat_lt, true, ℕ, ◌%◌, ◌&&◌, ◌++◌, ◌+◌, ◌<◌, ◌==◌, ◌∷◌, ◌≡◌, ◌≢◌, ◌≤◌}
 use Rattle.std.specs.declared.option.Option.{Option}
 use Rattle.mu_model.specs.declared.config.Config.{Config}
+use Rattle.mu_model.specs.declared.event.Answer.{Answer}
 use Rattle.mu_model.specs.declared.event.Event.{Event}
 use Rattle.mu_model.specs.declared.event.Target.{Target}
+use Rattle.mu_model.specs.declared.event.Verb.{Verb}
+use Rattle.mu_model.specs.Bounds.{is_at_most}
 use Rattle.mu_model.specs.Contents.{row_count}
 use Rattle.mu_model.specs.Entering.{has_read_min, last_opened, open_target}
 use Rattle.mu_model.specs.Histories.{has, since}
 use Rattle.mu_model.specs.Knowledge.{is_filled, known, wrote}
-use Rattle.mu_model.specs.Leaderships.{has_begun, has_quorum, is_member, is_over, leadership, noted_grant, proposal_number}
+use Rattle.mu_model.specs.Leaderships.{grant_at_joining, has_begun, has_quorum, is_member, is_over, leadership, noted_grant, proposal_number}
 use Rattle.mu_model.specs.Picks.{first_value, look_answer}
 use Rattle.mu_model.specs.Placing.{fuo_read_or_raised, is_caught_up_at, is_good_look, is_slot_put_at, is_within_ring, looked_before_entering, reaches_head, since_joining}
 use Rattle.mu_model.specs.Room.{last_head, reserve}
+use Rattle.mu_agree.specs.Agreement.{fuo_under, put_end}
 use Rattle.mu_lead.specs.declared.place.Then.{Then}
 use Rattle.mu_lead.specs.Confirming.{HoldsGrants, IsEnteredNow, last_min}
 
@@ -63,9 +67,37 @@ pub record Leads (c : Config) (r b : ℕ) (mine : List Event) : Type 0 where
 abbrev pub IsRaised : List ℕ → List (Option ℕ) → ℕ → Type 0
 IsRaised up reach p = reaches_head (get_or up p 0) (get_or reach p None) ≡ true
 
--- the members below p are raised
+-- the FUO of p that was read last under the noted grant is at most u
+abbrev pub IsRead : ℕ → List Event → ℕ → ℕ → Type 0
+IsRead r mine p u =
+    (g : ℕ) → noted_grant r p mine ≡ Some g
+    → is_at_most u (fuo_under r p g (leadership r mine)) ≡ true
+
+-- the FUOs of the members below p were read, and none is above what the member has
+abbrev pub ReadBelow : ℕ → List Event → List ℕ → ℕ → Type 0
+ReadBelow r mine up p =
+    (q : ℕ) → q < p → is_member r q mine ≡ true → IsRead r mine q (get_or up q 0)
+
+-- the FUOs of the members below p were read, and are raised
 abbrev pub RaisedBelow : ℕ → List Event → List ℕ → List (Option ℕ) → ℕ → Type 0
-RaisedBelow r mine up reach p = (q : ℕ) → q < p → is_member r q mine ≡ true → IsRaised up reach q
+RaisedBelow r mine up reach p =
+    (q : ℕ) → q < p → is_member r q mine ≡ true
+    → IsRaised up reach q × IsRead r mine q (get_or up q 0)
+
+-- r put no entry in its leadership
+abbrev pub HasPutNone : ℕ → List Event → Type 0
+HasPutNone r mine = (i : ℕ) → first_value r i mine ≡ None
+
+-- the step of r puts an entry at position j of p
+abbrev pub is_put_at : ℕ → ℕ → ℕ → ℕ → Verb → Bool
+is_put_at r p j by (Verb.PutSlot q i b v) = (by == r) && ((q == p) && (i == j))
+is_put_at r p j by _ = false
+
+-- r put no entry in its leadership at a member beyond what the member has
+abbrev pub IsClear : ℕ → List Event → List ℕ → Type 0
+IsClear r mine up =
+    (q j : ℕ) → is_member r q mine ≡ true → get_or up q 0 ≤ j
+    → has (λ e. is_put_at r q j e.by e.verb) (leadership r mine) ≡ false
 
 -- the members below p have all below u
 abbrev pub HaveBelow : ℕ → List Event → List ℕ → ℕ → ℕ → Type 0
@@ -102,6 +134,7 @@ pub record AtReadFuo (c : Config) (r b : ℕ) (mine : List Event) (up : List ℕ
   pub member : is_member r p mine ≡ true
   pub leads : Leads c r b mine
   pub raised : RaisedBelow r mine up reach p
+  pub unput : HasPutNone r mine
   pub from : IsMember c r mine source
   pub few : HasMost r mine up p source
 
@@ -111,6 +144,7 @@ pub record AtLearn (c : Config) (r b : ℕ) (mine : List Event) (up : List ℕ)
   pub member : is_member r p mine ≡ true
   pub leads : Leads c r b mine
   pub raised : RaisedBelow r mine up reach c.replicas
+  pub unput : HasPutNone r mine
   pub lacks : end_of c r mine < get_or up p 0
   pub few : HaveAtMost c r mine up (get_or up p 0)
 
@@ -137,6 +171,8 @@ pub record Behind (c : Config) (r b : ℕ) (mine : List Event) (up : List ℕ) (
   pub member : is_member r p mine ≡ true
   pub leads : Leads c r b mine
   pub raised : (q : ℕ) → q < c.replicas → q ≢ p → is_member r q mine ≡ true → IsRaised up reach q
+  pub read : ReadBelow r mine up c.replicas
+  pub clear : IsClear r mine up
   pub have :
       (q : ℕ) → q < c.replicas → q ≢ p → is_member r q mine ≡ true → IsDone then q p
       → end_of c r mine ≤ get_or up q 0
@@ -173,6 +209,25 @@ pub record AtPutBehind (c : Config) (r b : ℕ) (mine : List Event) (up : List �
   pub under : IsEnteredNow r p mine
   pub looked : looked_before_entering c r p (get_or up p 0) mine ≡ true
 
+-- r saw p past at position i; it had noted p and read its FUO, and had put no entry there from i on
+pub record SawPast (r : ℕ) (mine : List Event) (p i : ℕ) : Type 0 where
+  pub since : List Event
+  pub before : List Event
+  pub is :
+      mine
+      ≡ since ++ record { by = r; verb = Verb.Look p i; answer = Answer.Past } ∷ before
+  pub grant : ℕ
+  pub noted : noted_grant r p before ≡ Some grant
+  pub joined : grant_at_joining r p mine ≡ Some (Some grant)
+  pub read : is_at_most i (fuo_under r p grant (leadership r before)) ≡ true
+  pub puts : put_end r p (leadership r before) ≤ i
+
+-- a look found what p lacks overwritten
+pub record AtFenceBehind (c : Config) (r b : ℕ) (mine : List Event) (up : List ℕ)
+    (reach : List (Option ℕ)) (p : ℕ) (then : Then) : Type 0 where
+  pub near : Near c r b mine up reach p then
+  pub past : SawPast r mine p (get_or up p 0)
+
 -- p has all that is known
 pub record AtRaiseBehind (c : Config) (r b : ℕ) (mine : List Event) (up : List ℕ)
     (reach : List (Option ℕ)) (p : ℕ) (then : Then) : Type 0 where
@@ -203,6 +258,7 @@ pub record AtLateEnter (c : Config) (r b : ℕ) (mine : List Event) (up : List �
   pub told : AtLateFuo c r b mine up reach p
   pub short : get_or up p 0 ≤ end_of c r mine
   pub raised : IsRaised up reach p
+  pub read : IsRead r mine p (get_or up p 0)
 
 pub record AtLatePut (c : Config) (r b : ℕ) (mine : List Event) (up : List ℕ)
     (reach : List (Option ℕ)) (p : ℕ) : Type 0 where
@@ -218,3 +274,4 @@ pub record AtRaise (c : Config) (r b : ℕ) (mine : List Event) (up : List ℕ)
   pub leads : Leads c r b mine
   pub have : (q : ℕ) → q < c.replicas → is_member r q mine ≡ true → get_or up q 0 ≡ end_of c r mine
   pub raised : RaisedBelow r mine up reach p
+  pub read : ReadBelow r mine up c.replicas

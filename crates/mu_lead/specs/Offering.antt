@@ -17,7 +17,7 @@ use Rattle.mu_model.specs.Room.{is_mark_candidate, last_head, reserve}
 use Rattle.mu_lead.specs.declared.place.Offer.{Offer}
 use Rattle.mu_lead.specs.declared.place.Sight.{Sight}
 use Rattle.mu_lead.specs.Confirming.{HoldsGrants, IsEnteredNow}
-use Rattle.mu_lead.specs.Leading.{HaveBelow, Level, RaisedBelow, end_of, looked_at}
+use Rattle.mu_lead.specs.Leading.{HaveAtMost, HaveBelow, Level, RaisedBelow, end_of, looked_at}
 
 -- a mark of q is known, or the head of q that was read last leaves room for position i and for so
 -- many more
@@ -182,6 +182,7 @@ pub record Offering (c : Config) (r b v : ℕ) (mine : List Event) (up : List �
   pub held : HoldsGrants c r mine
   pub have : HaveBelow r mine up c.replicas (end_of c r mine)
   pub raised : RaisedBelow r mine up reach c.replicas
+  pub few : HaveAtMost c r mine up (end_of c r mine)
   pub within : end_of c r mine ≤ row_count c + reserve c
   pub new : IsNew c r mine (end_of c r mine) v
   pub below :

@@ -150,16 +150,6 @@ KeepsLook old place values p i answer new =
     → HasRooms mine old
     → HasRooms (record { by = old.id; verb = Verb.Look p i; answer = answer } ∷ mine) new
 
--- the same of a step that ends the leadership
-abbrev pub KeepsEnding : Lead → Place → List ℕ → Verb → Answer → Lead → Type 0
-KeepsEnding old place values verb answer new =
-    (mine : List Event) → StandsFor mine old → old.place ≡ place
-    → IsPossible old.config old.id (record { by = old.id; verb = verb; answer = answer } ∷ mine)
-    → values ≡ known_told old.config old.id mine old.id verb answer
-    → is_replication mine (record { by = old.id; verb = verb; answer = answer }) ≡ true
-    → is_over old.id (record { by = old.id; verb = verb; answer = answer } ∷ mine) ≡ true
-    → HasRooms mine old → HasRooms (record { by = old.id; verb = verb; answer = answer } ∷ mine) new
-
 -- the event ends the leadership, wherever in it the leader was
 abbrev pub LeavesRooms : List Event → Lead → Verb → Answer → Lead → Type 0
 LeavesRooms mine old verb answer new =
@@ -168,14 +158,7 @@ LeavesRooms mine old verb answer new =
     → IsPlacedAt old.config old.id (sizes_of old.config old.id mine) stage mine
     → HasRooms (record { by = old.id; verb = verb; answer = answer } ∷ mine) new
 
--- from which places a step, which ends the leadership or not, is shown to keep the rooms
-abbrev pub is_kept : Place → Bool → Bool
-is_kept (Place.PutBehind p then) ends = ends
-is_kept (Place.FenceBehind p then) ends = ends
-is_kept place ends = true
-
--- from these places, by the answer to the verb that was due, the leader comes to a place whose
--- counts have room
+-- by the answer to the verb that was due the leader comes to a place whose counts have room
 abbrev pub RoomsDue : Lead → List ℕ → Answer → Lead → Type 0
 RoomsDue old values answer new =
     (mine : List Event) (verb : Verb) → StandsFor mine old
@@ -184,9 +167,6 @@ RoomsDue old values answer new =
     → IsPossible old.config old.id (record { by = old.id; verb = verb; answer = answer } ∷ mine)
     → values ≡ known_told old.config old.id mine old.id verb answer
     → is_replication mine (record { by = old.id; verb = verb; answer = answer }) ≡ true
-    → is_kept old.place
-    (is_over old.id (record { by = old.id; verb = verb; answer = answer } ∷ mine))
-    ≡ true
     → HasRooms mine old
     → HasRooms (record { by = old.id; verb = verb; answer = answer } ∷ mine) new
 
@@ -197,9 +177,6 @@ RoomsNext mine old values answer new =
     → IsPossible old.config old.id (record { by = old.id; verb = verb; answer = answer } ∷ mine)
     → values ≡ known_told old.config old.id mine old.id verb answer
     → is_replication mine (record { by = old.id; verb = verb; answer = answer }) ≡ true
-    → is_kept old.place
-    (is_over old.id (record { by = old.id; verb = verb; answer = answer } ∷ mine))
-    ≡ true
     → HasRooms mine old
     → HasRooms (record { by = old.id; verb = verb; answer = answer } ∷ mine) new
 

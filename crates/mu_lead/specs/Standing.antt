@@ -14,7 +14,7 @@ use Rattle.mu_leading.specs.Leadership.{StandsForLeadership}
 use Rattle.mu_lead.specs.declared.lead.Lead.{Lead}
 use Rattle.mu_lead.specs.declared.place.Place.{Place}
 use Rattle.mu_lead.specs.Confirming.{AtAsk, AtConfirm, AtEnterMin, AtEvidence, AtPutMin, AtReadMin}
-use Rattle.mu_lead.specs.Leading.{AtEnterBehind, AtLateEnter, AtLateFuo, AtLateMin, AtLatePut, AtLearn, AtPutBehind, AtRaise, AtRaiseBehind, AtReadFuo, AtWiden, HoldsTables, Late, Near, end_of}
+use Rattle.mu_lead.specs.Leading.{AtEnterBehind, AtFenceBehind, AtLateEnter, AtLateFuo, AtLateMin, AtLatePut, AtLearn, AtPutBehind, AtRaise, AtRaiseBehind, AtReadFuo, AtWiden, HoldsTables, Late, Near, end_of}
 use Rattle.mu_lead.specs.Sets.{is_bit}
 use Rattle.mu_lead.specs.Notes.{value_committed}
 use Rattle.mu_lead.specs.declared.note.Note.{Note}
@@ -34,7 +34,7 @@ At c r b mine up reach written (Place.LookBehind p then) = Near c r b mine up re
 At c r b mine up reach written (Place.EnterBehind p then) = AtEnterBehind c r b mine up reach p then
 At c r b mine up reach written (Place.PutBehind p then) = AtPutBehind c r b mine up reach p then
 At c r b mine up reach written (Place.RaiseBehind p then) = AtRaiseBehind c r b mine up reach p then
-At c r b mine up reach written (Place.FenceBehind p then) = Near c r b mine up reach p then
+At c r b mine up reach written (Place.FenceBehind p then) = AtFenceBehind c r b mine up reach p then
 At c r b mine up reach written (Place.LateFence p) = Late c r b mine up reach p
 At c r b mine up reach written (Place.LateMin p) = AtLateMin c r b mine up reach p
 At c r b mine up reach written (Place.LateFuo p) = AtLateFuo c r b mine up reach p

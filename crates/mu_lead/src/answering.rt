@@ -19,7 +19,7 @@ ghost use Rattle.mu_lead.specs.Gathering.{FollowsFence, LeadsBy};
 ghost use Rattle.mu_lead.specs.Going.{going_after};
 ghost use Rattle.mu_lead.specs.Confirmations.{KeepsConfirmation};
 ghost use Rattle.mu_lead.specs.Raising.{KeepsRaises};
-ghost use Rattle.mu_lead.specs.Rooms.{KeepsEnding, KeepsRooms};
+ghost use Rattle.mu_lead.specs.Rooms.{KeepsRooms};
 
 use crate::lead::Lead;
 use crate::note::Note;
@@ -205,7 +205,7 @@ impl Lead {
             (SomeVerb.PutSlot p (get_or self.old.up p 0) self.old.number
             (get_or known.now (get_or self.old.up p 0) 0))
             answer self.new }
-        ensures rooms { KeepsEnding self.old (SomePlace.PutBehind p then) known.now
+        ensures rooms { KeepsRooms self.old (SomePlace.PutBehind p then) known.now
             (SomeVerb.PutSlot p (get_or self.old.up p 0) self.old.number
             (get_or known.now (get_or self.old.up p 0) 0))
             answer self.new }
@@ -230,7 +230,7 @@ impl Lead {
             → Takes self.old (SomePlace.FenceBehind p then) values (SomeVerb.Fence p) answer
             self.new }
         ensures rooms { (values : List ℕ)
-            → KeepsEnding self.old (SomePlace.FenceBehind p then) values (SomeVerb.Fence p) answer
+            → KeepsRooms self.old (SomePlace.FenceBehind p then) values (SomeVerb.Fence p) answer
             self.new }
         ensures leads { LeadsBy self.old (SomeVerb.Fence p) answer self.new }
         ensures quiet { value_committed result ≡ None }

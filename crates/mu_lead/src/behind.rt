@@ -12,7 +12,7 @@ ghost use Rattle.mu_model.specs.Picks.{is_past as is_past_answer};
 ghost use Rattle.mu_model.specs.Placing.{is_within_ring};
 ghost use Rattle.mu_leading.specs.Leadership.{StandsForLeadership};
 ghost use Rattle.mu_lead.specs.declared.place.Place.{Place as SomePlace};
-ghost use Rattle.mu_lead.specs.Leading.{AtWiden, Behind, HasMost, HaveAtMost, HaveFew, IsDone, IsMember, Leads, Level, RaisedBelow, end_of as end_of_known};
+ghost use Rattle.mu_lead.specs.Leading.{AtWiden, Behind, HasMost, HasPutNone, HaveAtMost, HaveFew, IsClear, IsDone, IsMember, Leads, Level, RaisedBelow, end_of as end_of_known};
 ghost use Rattle.mu_lead.specs.Sets.{IsFirst};
 ghost use Rattle.mu_lead.specs.Notes.{value_committed};
 ghost use Rattle.mu_lead.specs.Standing.{HoldsAt, Stands, StandsFor, Takes, TakesLook};
@@ -22,10 +22,10 @@ ghost use Rattle.mu_lead.specs.Beside.{leads_at};
 ghost use Rattle.mu_lead.specs.Gathering.{LeadsBy};
 ghost use Rattle.mu_lead.specs.Going.{going_after};
 ghost use Rattle.mu_pace.specs.Members.{IsNextMember, members_from};
-ghost use Rattle.mu_pace.specs.Weights.{Stage};
+ghost use Rattle.mu_pace.specs.Weights.{Bringing, Stage};
 ghost use Rattle.mu_lead.specs.declared.place.Then.{Then as SomeThen};
 ghost use Rattle.mu_lead.specs.Onward.{IsNextBehind, MayBringUp, MayGoOn, passed_over};
-ghost use Rattle.mu_lead.specs.Rooms.{IsLed, KeepsEnding, KeepsRooms, KeepsLook, RoomsAt};
+ghost use Rattle.mu_lead.specs.Rooms.{IsLed, KeepsLook, KeepsRooms, RoomsAt, lag_of};
 
 use crate::arrays::{with_fuo, with_number};
 use crate::lead::Lead;
@@ -78,6 +78,7 @@ impl Lead {
             → is_member self.now.id p mine ≡ true
             → Leads self.now.config self.now.id self.now.number mine
             → RaisedBelow self.now.id mine self.now.up self.now.reach (p + 1)
+            → HasPutNone self.now.id mine
             → IsMember self.now.config self.now.id mine source
             → HasMost self.now.id mine self.now.up p source → HoldsAt mine self.now result }
         ensures rooms { (mine : List SomeEvent) → Stands mine self.now
@@ -108,6 +109,7 @@ impl Lead {
             → known.now ≡ known_of self.now.config self.now.id mine
             → Leads self.now.config self.now.id self.now.number mine
             → RaisedBelow self.now.id mine self.now.up self.now.reach self.now.config.replicas
+            → HasPutNone self.now.id mine
             → IsMember self.now.config self.now.id mine (Some source)
             → HaveAtMost self.now.config self.now.id mine self.now.up (get_or self.now.up source 0)
             → HoldsAt mine self.now result }
@@ -174,6 +176,7 @@ impl Lead {
             → known.now ≡ known_of self.now.config self.now.id mine
             → Leads self.now.config self.now.id self.now.number mine
             → RaisedBelow self.now.id mine self.now.up self.now.reach self.now.config.replicas
+            → IsClear self.now.id mine self.now.up
             → ((k : ℕ) → k < self.now.config.replicas → is_member self.now.id k mine ≡ true
             → IsDone then k p
             → end_of_known self.now.config self.now.id mine ≤ get_or self.now.up k 0)
@@ -328,6 +331,10 @@ impl Lead {
             (get_or known.now (get_or self.old.up p 0) 0))
             SomeAnswer.Done self.new }
         ensures leads { leads_at self.new.place ≡ true }
+        ensures rooms { KeepsRooms self.old (SomePlace.PutBehind p then) known.now
+            (SomeVerb.PutSlot p (get_or self.old.up p 0) self.old.number
+            (get_or known.now (get_or self.old.up p 0) 0))
+            SomeAnswer.Done self.new }
         ensures quiet { value_committed result ≡ None }
         ensures config { self.new.config ≡ self.old.config }
         ensures id { self.new.id ≡ self.old.id }
@@ -356,6 +363,11 @@ impl Lead {
             then
             → get_or self.now.up p 0 ≤ end_of_known self.now.config self.now.id mine
             → HoldsAt mine self.now result }
+        ensures rooms { (mine : List SomeEvent)
+            → MayBringUp self.now.config self.now.id mine p then
+            → IsLed self.now.config self.now.id mine
+            (Stage.Bring (lag_of self.now.config self.now.id mine p then) Bringing.Raise)
+            → RoomsAt self.now.config self.now.id mine self.now.written.items result }
     {
         if self.up_of(p) < known.len() as u64 {
             self.bring_up(p, then)
@@ -391,32 +403,13 @@ impl Lead {
         }
     }
 
-    /// Up to where each region has what is known, where the members have all below `u`.
-    pub fn brought_to(&self, u: u64) -> [u64; 7]
-        ensures long { length result ≡ length self.now.up }
-        ensures members { (mine : List SomeEvent) → (p : ℕ) → p < 7 → length self.now.up ≡ 7
-            → StandsForLeadership self.now.id mine self.now.leading
-            → is_member self.now.id p mine ≡ true → get_or result p 0 ≡ u }
-        ensures others { (mine : List SomeEvent) → (p : ℕ)
-            → StandsForLeadership self.now.id mine self.now.leading
-            → is_member self.now.id p mine ≡ false → get_or result p 0 ≡ get_or self.now.up p 0 }
-    {
-        let mut up = self.up;
-        for p in 0..7u8 {
-            if self.leading.is_member(p) {
-                up[usize::from(p)] = u;
-            }
-        }
-        up
-    }
-
     /// The fence after a look that found what `p` lacks overwritten.
     pub fn took_fence_behind(&mut self, p: u8, then: Then, fence: Fence) -> Note
         ensures stands { (values : List ℕ)
             → Takes self.old (SomePlace.FenceBehind p then) values (SomeVerb.Fence p)
             (SomeAnswer.Seen fence) self.new }
         ensures rooms { (values : List ℕ)
-            → KeepsEnding self.old (SomePlace.FenceBehind p then) values (SomeVerb.Fence p)
+            → KeepsRooms self.old (SomePlace.FenceBehind p then) values (SomeVerb.Fence p)
             (SomeAnswer.Seen fence) self.new }
         ensures leads { LeadsBy self.old (SomeVerb.Fence p) (SomeAnswer.Seen fence) self.new }
         ensures quiet { value_committed result ≡ None }

@@ -65,7 +65,6 @@ pub fn followers_join_in_time()
     ensures { FollowersJoinInTime }
 {}
 
-<<<<<<< HEAD
 /// A beat in a turn of the leader leaves its counts as its place has them: where another replica is
 /// named, also right after it gave up, and where it rests.
 pub fn beats_keep_counts()
@@ -76,7 +75,8 @@ pub fn beats_keep_counts()
 /// do.
 pub fn counts_are_in_time()
     ensures { CountsAreInTime }
-=======
+{}
+
 /// A named leader asks with cause, also beside what the other machines do, and they never ask.
 pub fn leaders_ask_with_cause()
     ensures { LeadersAskWithCause }
@@ -86,5 +86,4 @@ pub fn leaders_ask_with_cause()
 /// do.
 pub fn elections_come_in_time()
     ensures { ElectionsComeInTime }
->>>>>>> 5aa471a8681c8c11d4a0072a9da402c121c7ff9c
 {}

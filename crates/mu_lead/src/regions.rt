@@ -1,12 +1,34 @@
 //! Regions by what a leader has done there.
-ghost use Rattle.std.specs.Prelude.{List, is_some, not, ℕ, ◌<◌, ◌≡◌, ◌≤◌};
+ghost use Rattle.std.specs.Prelude.{List, false, get_or, is_some, length, not, true, ℕ, ◌<◌, ◌≡◌, ◌≤◌};
 ghost use Rattle.mu_model.specs.declared.event.Event.{Event};
 ghost use Rattle.mu_model.specs.Histories.{count_below};
 ghost use Rattle.mu_model.specs.Leaderships.{is_member, noted_grant};
 ghost use Rattle.mu_leading.specs.Leadership.{StandsForLeadership};
 ghost use Rattle.mu_lead.specs.Sets.{IsFirst, bit, bits};
 
+use crate::lead::Lead;
 use mu_leading::Leadership;
+
+impl Lead {
+    /// Up to where each region has what is known, where the members have all below `u`.
+    pub fn brought_to(&self, u: u64) -> [u64; 7]
+        ensures long { length result ≡ length self.now.up }
+        ensures members { (mine : List Event) → (p : ℕ) → p < 7 → length self.now.up ≡ 7
+            → StandsForLeadership self.now.id mine self.now.leading
+            → is_member self.now.id p mine ≡ true → get_or result p 0 ≡ u }
+        ensures others { (mine : List Event) → (p : ℕ)
+            → StandsForLeadership self.now.id mine self.now.leading
+            → is_member self.now.id p mine ≡ false → get_or result p 0 ≡ get_or self.now.up p 0 }
+    {
+        let mut up = self.up;
+        for p in 0..7u8 {
+            if self.leading.is_member(p) {
+                up[usize::from(p)] = u;
+            }
+        }
+        up
+    }
+}
 
 /// The first member from `from` on, below `n`.
 pub fn next_member(leading: &Leadership, from: u8, n: u8) -> Option<u8>

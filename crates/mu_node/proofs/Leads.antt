@@ -165,6 +165,11 @@ pub fits_led : (c : Config) (r : ℕ) (mine : List Event) (lead : Lead) (leads :
 fits_led c r mine lead true due verb fits is some = (fits.0, sym fits.1 ∙ some)
 fits_led c r mine lead false due verb fits is some = absurd (true≢false (sym is))
 
+-- where none is, nothing is due
+pub fits_idle : (c : Config) (r : ℕ) (mine : List Event) (lead : Lead) (leads : Bool) (due : Option Verb) → FitsLead c r mine lead leads due → leads ≡ true → due ≡ None → lead_due c r mine lead ≡ None
+fits_idle c r mine lead true due fits is none = sym fits.1 ∙ none
+fits_idle c r mine lead false due fits is none = absurd (true≢false (sym is))
+
 -- in another turn the verb is not of the leader
 pub fits_other : (c : Config) (r : ℕ) (mine : List Event) (lead : Lead) (leads : Bool) (due : Option Verb) (verb : Verb) → FitsLead c r mine lead leads due → leads ≡ false → due ≡ Some verb → is_beside (leads_at lead.place) verb ≡ true
 fits_other c r mine lead true due verb fits is some = absurd (true≢false is)

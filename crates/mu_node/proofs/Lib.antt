@@ -7,6 +7,7 @@ pub mod Left
 pub mod Moving
 pub mod Open
 pub mod Paces
+pub mod Pacing
 pub mod Replaying
 pub mod Rounding
 pub mod Turning

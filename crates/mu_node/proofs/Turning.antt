@@ -30,10 +30,11 @@ use Rattle.mu_lead.specs.Standing.{verb_at, verb_of}
 use Rattle.mu_node.specs.declared.node.Node.{Node}
 use Rattle.mu_node.specs.Cycle.{IsBackgroundDue, handed, handed_before, other_at, place_now, read_at}
 use Rattle.mu_node.specs.Due.{lead_due, verb_or_beat}
-use Rattle.mu_node.specs.Node.{HasPlanned, StandsForNode}
+use Rattle.mu_node.specs.Node.{HasHeard, HasPlanned}
 use Rattle.mu_node.specs.Notes.{HasTold, MovesGoing, SaysTook, TellsNote, TellsTook, heed_note, note_before}
 use Rattle.mu_node.proofs.Leading.{odd_may}
 use Rattle.mu_node.proofs.Leads.{due_named, due_unresigned}
+use Rattle.mu_node.proofs.Pacing.{paces_odd}
 
 -- the verb neither reads asks nor is one of the host
 abbrev pub IsPlain : Verb → Type 0
@@ -142,7 +143,7 @@ made_follows c r mine lead leading due answer led cycle replays = go (is_odd (le
     ]
 
 -- in a turn of the leader nothing is handed on
-pub odd_planned : (c : Config) (r : ℕ) (mine : List Event) (node : Node) → is_odd (length mine) ≡ true → (leads_at node.lead.place ≡ true → is_named c r mine ≡ true) → StandsForNode c r mine node → HasPlanned c r mine node
+pub odd_planned : (c : Config) (r : ℕ) (mine : List Event) (node : Node) → is_odd (length mine) ≡ true → (leads_at node.lead.place ≡ true → is_named c r mine ≡ true) → HasHeard c r mine node → HasPlanned c r mine node
 odd_planned c r mine node odd named held = record {
   beside = held.beside;
   lead = held.lead;
@@ -150,6 +151,8 @@ odd_planned c r mine node odd named held = record {
   cycle = held.cycle;
   made = held.made;
   leads = odd_may c r mine odd (leads_at node.lead.place) named;
+  paces = paces_odd c r mine node.lead odd held.paces;
+  led = held.led;
 }
 
 -- nor in a background turn at another place

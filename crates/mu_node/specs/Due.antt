@@ -1,5 +1,5 @@
 -- The step that is due in a turn.
-use Rattle.std.specs.Prelude.{Bool, List, None, Some, false, if◌then◌else◌, true, ℕ, ◌==◌, ◌≡◌}
+use Rattle.std.specs.Prelude.{Bool, List, None, Some, false, if◌then◌else◌, length, true, ℕ, ◌==◌, ◌≡◌}
 use Rattle.std.specs.declared.option.Option.{Option}
 use Rattle.mu_model.specs.declared.config.Config.{Config}
 use Rattle.mu_model.specs.declared.event.Event.{Event}
@@ -7,6 +7,7 @@ use Rattle.mu_model.specs.declared.event.Verb.{Verb}
 use Rattle.mu_model.specs.Allowed.{Allowed}
 use Rattle.mu_model.specs.Knowledge.{known}
 use Rattle.mu_model.specs.Scores.{leader}
+use Rattle.mu_model.specs.Stretches.{is_odd}
 use Rattle.mu_lead.specs.declared.lead.Lead.{Lead}
 use Rattle.mu_lead.specs.Beside.{is_beside, leads_at}
 use Rattle.mu_lead.specs.Standing.{HasHeeded, verb_of}
@@ -25,6 +26,11 @@ pub record MayBeside (c : Config) (r : ℕ) (mine : List Event) (lead : Lead)
 -- the verb that the leader has due, in a turn of its own: of its place where the scores name r
 abbrev pub lead_due : Config → ℕ → List Event → Lead → Option Verb
 lead_due c r mine lead = if leader c r mine == r then verb_of lead (known c r mine) else None
+
+-- in a turn of the leader the verb is a beat, and nothing is due
+abbrev pub IsIdle : Config → ℕ → List Event → Lead → Verb → Type 0
+IsIdle c r mine lead verb =
+    is_odd (length mine) ≡ true → (lead_due c r mine lead ≡ None) × (verb ≡ Verb.Beat)
 
 -- the leader's verb is what it has due, and it heeded the scores; any other is not of the leader
 abbrev pub FitsLead : Config → ℕ → List Event → Lead → Bool → Option Verb → Type 0

@@ -1,10 +1,11 @@
 -- When a node stands for the events of replica r.
-use Rattle.std.specs.Prelude.{Bool, List, [], length, true, vec_capacity, ℕ, ◌+◌, ◌<◌, ◌∷◌, ◌≡◌, ◌≤◌}
+use Rattle.std.specs.Prelude.{Bool, List, [], length, not, true, vec_capacity, ℕ, ◌+◌, ◌<◌, ◌∷◌, ◌≡◌, ◌≤◌}
 use Rattle.mu_model.specs.declared.config.Config.{Config}
 use Rattle.mu_model.specs.declared.event.Event.{Event}
 use Rattle.mu_model.specs.Contents.{row_count}
 use Rattle.mu_model.specs.Histories.{history}
 use Rattle.mu_model.specs.Room.{reserve}
+use Rattle.mu_model.specs.Steps.{is_named}
 use Rattle.mu_grant.specs.Pace.{InCycleOrder}
 use Rattle.mu_grant.specs.Stands.{StandsFor as HostStandsFor}
 use Rattle.mu_follow.specs.declared.follow.Follow.{Follow}
@@ -15,7 +16,9 @@ use Rattle.mu_lead.specs.Standing.{StandsFor as LeadStandsFor}
 use Rattle.mu_node.specs.declared.node.Node.{Node}
 use Rattle.mu_node.specs.Cycle.{handed, handed_before}
 use Rattle.mu_node.specs.Journal.{WasMade, may_lead, may_lead_before}
+use Rattle.mu_node.specs.Paced.{HasPaces, HasPlannedPaces, PacesTold}
 use Rattle.mu_node.specs.Watch.{StandsForWatch}
+use Rattle.mu_pace.specs.Collecting.{LeaderKeeps}
 use Rattle.mu_pace.specs.Counters.{AtEachStep}
 
 -- its journal is these events, its parts but the leader stand for them, with what is said of the
@@ -49,22 +52,32 @@ pub record StandsForLead (c : Config) (r : ℕ) (mine : List Event) (lead : Lead
   pub id : lead.id ≡ r
   pub stands : LeadStandsFor mine lead
 
--- the node stands for the events, with its leader, which leads only where it may; it has handed on
--- so many entries, called the places of its cycle in their order, and made each event as it was due
-pub record HoldsNode (c : Config) (r : ℕ) (mine : List Event) (count : ℕ) (may : Bool)
-    (node : Node) : Type 0 where
+-- the node stands for the events, with its leader, which leads only where it may, and with what is
+-- said of its counts; it has handed on so many entries, called the places of its cycle in their
+-- order, and made each event as it was due and in time for all that a leader keeps
+pub record HoldsNode (Paces : Lead → Type 0) (c : Config) (r : ℕ) (mine : List Event) (count : ℕ)
+    (may : Bool) (node : Node) : Type 0 where
   pub beside : HoldsBeside c r mine node
   pub lead : StandsForLead c r mine node.lead
   pub handed : node.follow.progress.handed ≡ count
   pub cycle : InCycleOrder c r mine
   pub made : AtEachStep (WasMade c r) mine
   pub leads : leads_at node.lead.place ≡ true → may ≡ true
+  pub paces : Paces node.lead
+  pub led : AtEachStep (LeaderKeeps c r) mine
 
 -- the node stands for the events
 abbrev pub StandsForNode : Config → ℕ → List Event → Node → Type 0
-StandsForNode c r mine node = HoldsNode c r mine (handed_before c r mine)
+StandsForNode c r mine node =
+    HoldsNode (HasPaces c r mine) c r mine (handed_before c r mine) (may_lead_before c r mine) node
+
+-- the same once its leader was told whom the scores name
+abbrev pub HasHeard : Config → ℕ → List Event → Node → Type 0
+HasHeard c r mine node =
+    HoldsNode (PacesTold (not (is_named c r mine)) c r mine) c r mine (handed_before c r mine)
     (may_lead_before c r mine) node
 
 -- the same once the next step is planned, before which what is there is handed on
 abbrev pub HasPlanned : Config → ℕ → List Event → Node → Type 0
-HasPlanned c r mine node = HoldsNode c r mine (handed c r mine) (may_lead c r mine) node
+HasPlanned c r mine node =
+    HoldsNode (HasPlannedPaces c r mine) c r mine (handed c r mine) (may_lead c r mine) node

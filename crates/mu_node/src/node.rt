@@ -4,7 +4,7 @@ ghost use Rattle.mu_model.specs.declared.config.Config.{Config};
 ghost use Rattle.mu_model.specs.declared.event.Event.{Event as SomeEvent};
 ghost use Rattle.mu_model.specs.declared.script.Script.{Script};
 ghost use Rattle.mu_model.specs.Contents.{IsConfig};
-ghost use Rattle.mu_model.specs.Diligence.{GrantsInTime, ReadsInTime, Replays, TellsHeads};
+ghost use Rattle.mu_model.specs.Diligence.{GrantsInTime, IsDiligent, ReadsInTime, Replays, TellsHeads};
 ghost use Rattle.mu_model.specs.Ends.{outrun};
 ghost use Rattle.mu_model.specs.Parts.{IsPossible};
 ghost use Rattle.mu_node.specs.Node.{StandsForNode};
@@ -188,6 +188,7 @@ impl Node {
         ensures replays { Replays (P.config port.new) (P.number port.new) (P.part port.new) }
         ensures keeps { AtEachStep (KeepsBeside (P.config port.new) (P.number port.new))
             (P.part port.new) }
+        ensures diligent { IsDiligent (P.config port.new) (P.number port.new) (P.part port.new) }
     {
         let id = port.id();
         match self.end() {

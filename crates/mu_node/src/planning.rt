@@ -14,9 +14,9 @@ ghost use Rattle.mu_lead.specs.Beside.{is_beside, leads_at};
 ghost use Rattle.mu_lead.specs.Notes.{value_committed};
 ghost use Rattle.mu_lead.specs.Standing.{HasHeeded, TellsNext};
 ghost use Rattle.mu_node.specs.Cycle.{IsBackgroundDue};
-ghost use Rattle.mu_node.specs.Due.{FitsLead, lead_due, verb_or_beat};
+ghost use Rattle.mu_node.specs.Due.{FitsLead, IsIdle, lead_due, verb_or_beat};
 ghost use Rattle.mu_node.specs.Journal.{FollowsTurn};
-ghost use Rattle.mu_node.specs.Node.{AwaitsBeside, HasPlanned, HoldsBeside, StandsForNode};
+ghost use Rattle.mu_node.specs.Node.{AwaitsBeside, HasHeard, HasPlanned, HoldsBeside, StandsForNode};
 ghost use Rattle.mu_node.specs.Notes.{HasTold, SaysTook, TellsTook, heed_note, note_before};
 
 use crate::ending::as_head;
@@ -119,7 +119,7 @@ impl Node {
         requires possible { IsPossible self.old.follow.config self.old.id mine }
         requires short { length mine < self.old.follow.config.budget }
         requires stands { StandsForNode self.old.follow.config self.old.id mine self.old }
-        ensures stands { StandsForNode self.old.follow.config self.old.id mine self.new }
+        ensures stands { HasHeard self.old.follow.config self.old.id mine self.new }
         ensures config { self.new.follow.config ≡ self.old.follow.config }
         ensures id { self.new.id ≡ self.old.id }
         ensures stops { self.new.stops ≡ self.old.stops }
@@ -177,7 +177,7 @@ impl Node {
     fn heed(&mut self) -> Note
         ghost mine: { List SomeEvent }
         requires stands { StandsForNode self.old.follow.config self.old.id mine self.old }
-        ensures stands { StandsForNode self.old.follow.config self.old.id mine self.new }
+        ensures stands { HasHeard self.old.follow.config self.old.id mine self.new }
         ensures follow { self.new.follow ≡ self.old.follow }
         ensures id { self.new.id ≡ self.old.id }
         ensures stops { self.new.stops ≡ self.old.stops }
@@ -261,6 +261,7 @@ impl Node {
         requires room { 0 < self.old.journal.room }
         requires fits { FitsLead self.old.follow.config self.old.id mine self.old.lead plan.leads
             plan.due }
+        requires turn { plan.leads ≡ is_odd (length mine) }
         requires planned { HasPlanned self.old.follow.config self.old.id mine self.old }
         ensures stands { FollowsTurn self.old.follow.config id mine
             (record { by = id; verb = verb_or_beat plan.due; answer = answer })
@@ -298,6 +299,7 @@ impl Node {
         requires room { 0 < self.old.journal.room }
         ensures stands { (mine : List SomeEvent)
             → is_beside (leads_at self.old.lead.place) verb ≡ true
+            → IsIdle self.old.follow.config by mine self.old.lead verb
             → FollowsTurn self.old.follow.config by mine
             (record { by = by; verb = verb; answer = answer })
             → IsPossible self.old.follow.config by
@@ -319,6 +321,7 @@ impl Node {
         requires room { 0 < self.old.journal.room }
         requires heeded { HasHeeded mine self.old.lead }
         requires due { lead_due self.old.follow.config by mine self.old.lead ≡ Some verb }
+        requires turn { is_odd (length mine) ≡ true }
         requires planned { HasPlanned self.old.follow.config by mine self.old }
         ensures stands { FollowsTurn self.old.follow.config by mine
             (record { by = by; verb = verb; answer = answer })

@@ -3,10 +3,10 @@ use Rattle.mu_lead.proofs.Bringing.{most_all, read_all, reads_more}
 use Rattle.mu_lead.proofs.lead.Lead.after_fuo.Goals as goal
 
 pub returns-in-Some-clause-stands : goal.returns-in-Some-clause-stands
-returns-in-Some-clause-stands c = λ mine s same region member leads raised source few_ups. let l = c.args.self.now in let few = s.config.replicas.1 in let next = c.saturating_add.ensures in reads_more l.config l.id l.number c.args.p c.in-Some.q c.saturating_add.result c.farther-from.result mine l.up l.reach (omega (arith, next, region, few)) leads raised (c.farther-from.ensures.member mine source region member) (c.farther-from.ensures.most mine s.tables.ups few_ups) (c.in-Some.ensures l.id mine few s.leading)
+returns-in-Some-clause-stands c = λ mine s same region member leads raised unput source few_ups. let l = c.args.self.now in let few = s.config.replicas.1 in let next = c.saturating_add.ensures in reads_more l.config l.id l.number c.args.p c.in-Some.q c.saturating_add.result c.farther-from.result mine l.up l.reach (omega (arith, next, region, few)) leads raised unput (c.farther-from.ensures.member mine source region member) (c.farther-from.ensures.most mine s.tables.ups few_ups) (c.in-Some.ensures l.id mine few s.leading)
 
 pub returns-in-None-clause-stands : goal.returns-in-None-clause-stands
-returns-in-None-clause-stands c = λ mine s same region member leads raised source few_ups. let l = c.args.self.now in let few = s.config.replicas.1 in let next = c.saturating_add.ensures in c.learn_from.ensures.stands mine s same leads (read_all l.config l.id c.args.p c.saturating_add.result mine l.up l.reach (omega (arith, next, region, few)) raised (c.in-None.ensures l.id mine few s.leading)) (c.farther-from.ensures.member mine source region member) (most_all l.config l.id c.args.p c.saturating_add.result c.farther-from.result mine l.up (omega (arith, next, region, few)) (c.farther-from.ensures.most mine s.tables.ups few_ups) (c.in-None.ensures l.id mine few s.leading))
+returns-in-None-clause-stands c = λ mine s same region member leads raised unput source few_ups. let l = c.args.self.now in let few = s.config.replicas.1 in let next = c.saturating_add.ensures in c.learn_from.ensures.stands mine s same leads (read_all l.config l.id c.args.p c.saturating_add.result mine l.up l.reach (omega (arith, next, region, few)) raised (c.in-None.ensures l.id mine few s.leading)) unput (c.farther-from.ensures.member mine source region member) (most_all l.config l.id c.args.p c.saturating_add.result c.farther-from.result mine l.up (omega (arith, next, region, few)) (c.farther-from.ensures.most mine s.tables.ups few_ups) (c.in-None.ensures l.id mine few s.leading))
 
 pub returns-in-Some-clause-rooms : goal.returns-in-Some-clause-rooms
 returns-in-Some-clause-rooms c = λ mine s same region member raised nexts learn ups alls.

@@ -9,8 +9,6 @@ use Rattle.mu_agree.proofs.Readings.{known_within}
 use Rattle.mu_lead.proofs.Bringing.{config_small}
 use Rattle.mu_lead.proofs.Replies.{puts_slot_or}
 use Rattle.std.proofs.Common.{inr}
-use Rattle.std.proofs.Common.{true, true≢false, ◌≡◌}
-use Rattle.mu_model.specs.Leaderships.{is_over}
 use Rattle.mu_pace.specs.Weights.{Bringing, Stage}
 use Rattle.mu_lead.specs.Rooms.{HasRooms, lag_of}
 use Rattle.mu_lead.proofs.lead.Lead.at_put_behind.Goals as goal
@@ -48,17 +46,16 @@ pub returns-in_default-clause-missed : goal.returns-in_default-clause-missed
 returns-in_default-clause-missed c = λ missed. absurd (c.in_default.not-Missed missed)
 
 pub returns-in_default-clause-rooms : goal.returns-in_default-clause-rooms
-returns-in_default-clause-rooms c = λ mine s is possible told turn over rooms.
+returns-in_default-clause-rooms c = λ mine s is possible told turn rooms.
     let l = c.args.self.now in
-    let here = rw is at s.at in
     let v = Verb.PutSlot c.args.p (get_or l.up c.args.p 0) l.number (get_or c.args.known.now (get_or l.up c.args.p 0) 0) in
     elim (puts_slot_or l.config l.id c.args.p (get_or l.up c.args.p 0) l.number (get_or c.args.known.now (get_or l.up c.args.p 0) 0) c.args.answer mine possible) [
-      | inl done ↦ absurd (true≢false (sym (subst (λ a. is_over l.id (event_by l.id v a ∷ mine) ≡ true) done over) ∙ here.near.behind.leads.goes_on))
+      | inl done ↦ subst (λ a. HasRooms (event_by l.id v a ∷ mine) c.took_put_behind.new.self) (sym done) (c.took_put_behind.ensures.rooms mine s is (subst (λ a. IsPossible l.config l.id (event_by l.id v a ∷ mine)) done possible) told turn rooms)
       | inr missed ↦ absurd (c.in_default.not-Missed missed)
     ]
 
 pub returns-in-Missed-clause-rooms : goal.returns-in-Missed-clause-rooms
-returns-in-Missed-clause-rooms c = λ mine s is possible told turn over rooms.
+returns-in-Missed-clause-rooms c = λ mine s is possible told turn rooms.
     let l = c.args.self.now in
     let here = rw is at s.at in
     let led = rw is at rooms in

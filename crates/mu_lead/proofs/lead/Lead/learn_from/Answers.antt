@@ -1,19 +1,20 @@
 use Rattle.std.proofs.Common.{ap, arith, length}
+use Rattle.mu_lead.proofs.Copying.{clear_all}
 use Rattle.mu_lead.proofs.lead.Lead.learn_from.Goals as goal
 
 pub returns-then-known-up_of-clause-stands : goal.returns-then-known-up_of-clause-stands
-returns-then-known-up_of-clause-stands c = λ mine s same leads raised source few.
+returns-then-known-up_of-clause-stands c = λ mine s same leads raised unput source few.
     let up_is = c.up_of.ensures s.tables.ups in
     let long = ap length same in
     let more = c.if-known-up_of.true in
-    record { region = source.0; member = source.1; leads = leads; raised = raised; lacks = omega (arith, up_is, long, more); few = few }
+    record { region = source.0; member = source.1; leads = leads; raised = raised; unput = unput; lacks = omega (arith, up_is, long, more); few = few }
 
 pub returns-else-known-up_of-clause-stands : goal.returns-else-known-up_of-clause-stands
-returns-else-known-up_of-clause-stands c = λ mine s same leads raised source few.
+returns-else-known-up_of-clause-stands c = λ mine s same leads raised unput source few.
     let up_is = c.up_of.ensures s.tables.ups in
     let long = ap length same in
     let less = c.if-known-up_of.false in
-    c.bring_up_from.ensures.stands mine s same leads raised (λ k region member done. absurd (omega (arith, done))) (λ k region member. (let low = few k region member in (omega (arith, up_is, long, less, low), λ left. absurd left)))
+    c.bring_up_from.ensures.stands mine s same leads raised (clear_all c.args.self.now.id mine c.args.self.now.up unput) (λ k region member done. absurd (omega (arith, done))) (λ k region member. (let low = few k region member in (omega (arith, up_is, long, less, low), λ left. absurd left)))
 
 pub returns-then-known-up_of-clause-rooms : goal.returns-then-known-up_of-clause-rooms
 returns-then-known-up_of-clause-rooms c = λ mine s same learn ups alls. learn

@@ -1,6 +1,6 @@
-use Rattle.std.proofs.Common.{ap, arith, inl, inr, refl, sym, ◌∙◌, ◌∷◌}
+use Rattle.std.proofs.Common.{ap, arith, get_or, inl, inr, refl, sym, ◌∙◌, ◌∷◌}
 use Rattle.mu_lead.proofs.Tables.{tables_kept}
-use Rattle.mu_lead.proofs.Lates.{fence_event, near_held}
+use Rattle.mu_lead.proofs.Lates.{fence_ends, fence_event}
 use Rattle.mu_lead.specs.Saying.{note_of_fence}
 use Rattle.std.proofs.Common.{true≢false}
 use Rattle.mu_pace.specs.Weights.{Bringing, Stage}
@@ -29,18 +29,9 @@ pub returns-else-is_over-clause-stands : goal.returns-else-is_over-clause-stands
 returns-else-is_over-clause-stands c = λ values mine s is possible told.
     let l = c.args.self.now in
     let here = rw is at s.at in
-    let few = s.config.replicas.1 in
-    let p = c.args.p in
-    let e = fence_event l.id p c.args.fence in
-    let leading = c.take.ensures l.config mine few possible s.leading in
-    let tables = tables_kept l.config l.id e mine l.up l.reach l.heads l.written.items possible refl refl s.tables in
-    record {
-      config = s.config;
-      inside = s.inside;
-      leading = leading;
-      tables = tables;
-      at = near_held l.config l.id l.number p c.args.fence mine l.up l.reach c.args.then possible (sym (c.is_over.ensures l.id (e ∷ mine) leading) ∙ c.if-is_over.false) here;
-    }
+    let e = fence_event l.id c.args.p c.args.fence in
+    let leading = c.take.ensures l.config mine s.config.replicas.1 possible s.leading in
+    absurd (true≢false (sym (fence_ends l.config l.id c.args.p (get_or l.up c.args.p 0) c.args.fence mine possible here.near.behind.region here.past) ∙ (sym (c.is_over.ensures l.id (e ∷ mine) leading) ∙ c.if-is_over.false)))
 
 pub returns-then-is_over-clause-over : goal.returns-then-is_over-clause-over
 returns-then-is_over-clause-over c = λ mine s possible.
@@ -55,16 +46,20 @@ returns-else-is_over-clause-over c = λ mine s possible.
     ap (note_of_fence c.args.p c.args.fence) (sym c.if-is_over.false ∙ c.is_over.ensures l.id (fence_event l.id c.args.p c.args.fence ∷ mine) leading)
 
 pub returns-then-is_over-clause-rooms : goal.returns-then-is_over-clause-rooms
-returns-then-is_over-clause-rooms c = λ values mine s is possible told turn over rooms.
+returns-then-is_over-clause-rooms c = λ values mine s is possible told turn rooms.
     let l = c.args.self.now in
     let led = rw is at rooms in
+    let leading = c.take.ensures l.config mine s.config.replicas.1 possible s.leading in
+    let over = sym (c.is_over.ensures l.id (fence_event l.id c.args.p c.args.fence ∷ mine) leading) ∙ c.if-is_over.true in
     ((λ same. rooms_fenced l.config l.id c.args.p c.args.fence (Stage.Bring (lag_of l.config l.id mine c.args.p c.args.then) Bringing.Fence) mine s.config turn over led.placed), λ other. absurd (other refl))
 
 pub returns-else-is_over-clause-rooms : goal.returns-else-is_over-clause-rooms
-returns-else-is_over-clause-rooms c = λ values mine s is possible told turn over rooms.
+returns-else-is_over-clause-rooms c = λ values mine s is possible told turn rooms.
     let l = c.args.self.now in
+    let here = rw is at s.at in
+    let e = fence_event l.id c.args.p c.args.fence in
     let leading = c.take.ensures l.config mine s.config.replicas.1 possible s.leading in
-    absurd (true≢false (sym over ∙ (sym (c.is_over.ensures l.id (fence_event l.id c.args.p c.args.fence ∷ mine) leading) ∙ c.if-is_over.false)))
+    absurd (true≢false (sym (fence_ends l.config l.id c.args.p (get_or l.up c.args.p 0) c.args.fence mine possible here.near.behind.region here.past) ∙ (sym (c.is_over.ensures l.id (e ∷ mine) leading) ∙ c.if-is_over.false)))
 
 pub returns-then-is_over-clause-leads : goal.returns-then-is_over-clause-leads
 returns-then-is_over-clause-leads c = λ mine s possible.

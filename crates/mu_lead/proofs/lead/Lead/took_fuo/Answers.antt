@@ -3,7 +3,8 @@ use Rattle.mu_model.specs.declared.event.Verb.{Verb}
 use Rattle.mu_model.specs.declared.event.Answer.{Answer}
 use Rattle.mu_agree.proofs.Readings.{parts_reach_law}
 use Rattle.mu_lead.proofs.Keeping.{brought_read, fuo_event, leading_calm, leads_kept, most_on, most_up, raised_now, reached_read, source_calm, tables_reach, tables_up}
-use Rattle.mu_lead.proofs.Bringing.{raised_read}
+use Rattle.mu_lead.proofs.Bringing.{raised_before, raised_read}
+use Rattle.mu_lead.proofs.Copying.{fuo_read_now}
 use Rattle.mu_lead.proofs.Tables.{tables_kept}
 use Rattle.mu_lead.proofs.Bringing.{none_lacks}
 use Rattle.mu_lead.proofs.RoomsBrought.{none_brought}
@@ -30,14 +31,15 @@ returns-clause-stands c = λ mine s is possible told.
     let leading = leading_calm l.id l.id (Verb.Fuo c.args.p) (Answer.Number c.args.u) mine l.leading refl s.leading in
     let leads = leads_kept l.config l.id l.number l.id (Verb.Fuo c.args.p) (Answer.Number c.args.u) mine refl here.leads in
     let now = raised_now c.args.p c.args.u c.with_number-self.result (get_or l.reach c.args.p None) c.with_fuo-self.result (let at_p = c.with_number-self.ensures.here low in omega (arith, at_p)) (c.with_fuo-self.ensures.head wide) in
-    let raised = raised_read l.config l.id l.number c.args.p c.args.u (e ∷ mine) l.up c.with_number-self.result l.reach c.with_fuo-self.result (get_or l.reach c.args.p None) here.raised (c.with_number-self.ensures.here low) c.with_number-self.ensures.others c.with_fuo-self.ensures.others now in
+    let raised = raised_read l.config l.id l.number c.args.p c.args.u (e ∷ mine) l.up c.with_number-self.result l.reach c.with_fuo-self.result (get_or l.reach c.args.p None) (raised_before l.id c.args.p c.args.u mine l.up l.reach here.raised) (c.with_number-self.ensures.here low) c.with_number-self.ensures.others c.with_fuo-self.ensures.others now
+    (fuo_read_now l.id c.args.p c.args.u (get_or c.with_number-self.result c.args.p 0) mine (let at_p = c.with_number-self.ensures.here low in omega (arith, at_p))) in
     let from = source_calm l.config l.id l.id (Verb.Fuo c.args.p) (Answer.Number c.args.u) mine c.args.source refl here.from in
     record {
       config = s.config;
       inside = s.inside;
       leading = leading;
       tables = tables;
-      at = c.after_fuo-self.ensures.stands (e ∷ mine) (record { possible = possible; config = s.config; inside = s.inside; leading = leading; tables = tables }) told here.region here.member leads raised from (most_up l.id c.args.p (e ∷ mine) l.up c.with_number-self.result c.args.source c.with_number-self.ensures.others (most_on l.id c.args.p mine (e ∷ mine) l.up c.args.source (λ q. refl) here.few));
+      at = c.after_fuo-self.ensures.stands (e ∷ mine) (record { possible = possible; config = s.config; inside = s.inside; leading = leading; tables = tables }) told here.region here.member leads raised here.unput from (most_up l.id c.args.p (e ∷ mine) l.up c.with_number-self.result c.args.source c.with_number-self.ensures.others (most_on l.id c.args.p mine (e ∷ mine) l.up c.args.source (λ q. refl) here.few));
     }
 
 pub returns-clause-rooms : goal.returns-clause-rooms
@@ -59,7 +61,8 @@ returns-clause-rooms c = λ mine s is possible told turn rooms.
     let leading = leading_calm l.id l.id (Verb.Fuo c.args.p) (Answer.Number c.args.u) mine l.leading refl s.leading in
     let leads = leads_kept l.config l.id l.number l.id (Verb.Fuo c.args.p) (Answer.Number c.args.u) mine refl here.leads in
     let now = raised_now c.args.p c.args.u c.with_number-self.result (get_or l.reach c.args.p None) c.with_fuo-self.result (let at_p = c.with_number-self.ensures.here low in omega (arith, at_p)) (c.with_fuo-self.ensures.head wide) in
-    let raised = raised_read l.config l.id l.number c.args.p c.args.u (e ∷ mine) l.up c.with_number-self.result l.reach c.with_fuo-self.result (get_or l.reach c.args.p None) here.raised (c.with_number-self.ensures.here low) c.with_number-self.ensures.others c.with_fuo-self.ensures.others now in
+    let raised = raised_read l.config l.id l.number c.args.p c.args.u (e ∷ mine) l.up c.with_number-self.result l.reach c.with_fuo-self.result (get_or l.reach c.args.p None) (raised_before l.id c.args.p c.args.u mine l.up l.reach here.raised) (c.with_number-self.ensures.here low) c.with_number-self.ensures.others c.with_fuo-self.ensures.others now
+    (fuo_read_now l.id c.args.p c.args.u (get_or c.with_number-self.result c.args.p 0) mine (let at_p = c.with_number-self.ensures.here low in omega (arith, at_p))) in
     let from = source_calm l.config l.id l.id (Verb.Fuo c.args.p) (Answer.Number c.args.u) mine c.args.source refl here.from in
     let p = c.args.p in
     let u = c.args.u in

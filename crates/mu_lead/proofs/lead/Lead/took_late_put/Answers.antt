@@ -5,6 +5,7 @@ use Rattle.mu_lead.proofs.Lates.{late_behind, late_level}
 use Rattle.mu_lead.proofs.Numbering.{landed_min}
 use Rattle.mu_lead.proofs.RoomsBrought.{level_brought}
 use Rattle.mu_lead.proofs.RoomsFollowers.{rooms_joined_behind, rooms_joined_level}
+use Rattle.mu_agree.proofs.Possible.{parts_shorten_law}
 use Rattle.mu_lead.proofs.lead.Lead.took_late_put.Goals as goal
 
 pub returns-then-up_of-known-clause-stands : goal.returns-then-up_of-known-clause-stands
@@ -22,7 +23,7 @@ returns-then-up_of-known-clause-stands c = λ mine s is possible told.
       inside = s.inside;
       leading = leading;
       tables = tables;
-      at = c.bring_up-self.ensures.stands (e ∷ mine) (record { possible = possible; config = s.config; inside = s.inside; leading = leading; tables = tables }) (late_behind l.config l.id l.number p mine l.up l.reach here lacks);
+      at = c.bring_up-self.ensures.stands (e ∷ mine) (record { possible = possible; config = s.config; inside = s.inside; leading = leading; tables = tables }) (late_behind l.config l.id l.number p mine l.up l.reach (parts_shorten_law l.config l.id mine e possible).before here lacks);
     }
 
 pub returns-else-up_of-known-clause-stands : goal.returns-else-up_of-known-clause-stands

@@ -52,7 +52,7 @@ returns-else-is_past-clause-stands c = λ i mine s is position possible told.
       inside = s.inside;
       leading = leading;
       tables = tables;
-      at = c.learn_from-self.ensures.stands (e ∷ mine) (record { possible = possible; config = s.config; inside = s.inside; leading = leading; tables = tables }) told leads here.raised (here.region, here.member) here.few;
+      at = c.learn_from-self.ensures.stands (e ∷ mine) (record { possible = possible; config = s.config; inside = s.inside; leading = leading; tables = tables }) told leads here.raised here.unput (here.region, here.member) here.few;
     }
 
 pub returns-else-is_past-clause-going : goal.returns-else-is_past-clause-going

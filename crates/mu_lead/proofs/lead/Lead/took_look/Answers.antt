@@ -15,6 +15,9 @@ use Rattle.std.proofs.lemmas.Bool.{lt-ltb}
 use Rattle.mu_model.specs.Leaderships.{is_member}
 use Rattle.mu_lead.specs.Leading.{end_of}
 use Rattle.mu_lead.proofs.RoomsPosition.{none_passes, not_none, past_untaught, rooms_learnt_here, untaught}
+use Rattle.mu_lead.proofs.Copying.{clear_above}
+use Rattle.mu_lead.proofs.Puts.{member_within}
+use Rattle.mu_agree.proofs.Possible.{parts_shorten_law}
 use Rattle.mu_lead.proofs.lead.Lead.took_look.Goals as goal
 
 pub returns-then-is_past-clause-stands : goal.returns-then-is_past-clause-stands
@@ -52,7 +55,8 @@ returns-then-from-known-clause-stands c = λ mine s is position possible told.
       inside = s.inside;
       leading = leading;
       tables = tables;
-      at = c.bring_up_from-self.ensures.stands (e ∷ mine) (record { possible = possible; config = s.config; inside = s.inside; leading = leading; tables = tables }) told leads here.looking.level.raised (λ k region member done. absurd (omega (arith, done)))
+      at = c.bring_up_from-self.ensures.stands (e ∷ mine) (record { possible = possible; config = s.config; inside = s.inside; leading = leading; tables = tables }) told leads here.looking.level.raised
+          (clear_above l.id (end_of l.config l.id mine) mine l.up here.looking.level.leads.unput (λ q member. here.looking.level.have q (member_within l.config l.id q mine (parts_shorten_law l.config l.id mine e possible).before member) member)) (λ k region member done. absurd (omega (arith, done)))
           (λ k region member. (let from = c.from.ensures in let long = ap length told in let more = c.if-from-known.true in let position = here.position in let few_ups = here.looking.level.few k region member in (omega (arith, from, long, more, position, few_ups), λ left. omega (arith, from, long, more, position, few_ups))));
     }
 

@@ -1,7 +1,7 @@
 use Rattle.std.proofs.Common.{get_or, refl, sym, ◌∙◌}
 use Rattle.mu_model.specs.declared.event.Verb.{Verb}
 use Rattle.mu_lead.proofs.Keeping.{leading_calm}
-use Rattle.mu_lead.proofs.Bringing.{enters_behind, look_event, near_looked}
+use Rattle.mu_lead.proofs.Bringing.{enters_behind, fences_behind, look_event}
 use Rattle.mu_lead.proofs.Tables.{tables_kept}
 use Rattle.mu_lead.proofs.RoomsBringing.{rooms_looked}
 use Rattle.mu_lead.proofs.Bringing.{look_known}
@@ -19,7 +19,7 @@ returns-then-is_past-clause-stands c = λ values mine s is possible told.
       inside = s.inside;
       leading = leading_calm l.id l.id (Verb.Look c.args.p (get_or l.up c.args.p 0)) c.args.answer mine l.leading refl s.leading;
       tables = tables_kept l.config l.id e mine l.up l.reach l.heads l.written.items possible refl refl s.tables;
-      at = near_looked l.config l.id l.number c.args.p c.args.answer mine l.up l.reach c.args.then here;
+      at = fences_behind l.config l.id l.number c.args.p c.args.answer mine l.up l.reach c.args.then here (sym c.is_past.ensures ∙ c.if-is_past.true);
     }
 
 pub returns-else-is_past-clause-stands : goal.returns-else-is_past-clause-stands

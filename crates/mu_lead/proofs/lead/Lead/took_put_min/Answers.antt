@@ -31,7 +31,7 @@ returns-in-None-clause-stands c = λ values mine s is possible told.
       inside = s.inside;
       leading = leading;
       tables = tables_kept l.config l.id _ mine l.up l.reach l.heads l.written.items possible refl refl s.tables;
-      at = reads_first l.config l.id l.number c.first_member.result _ l.up l.reach leads (c.first_member.ensures _ c.args.p few leading low (member_now l.id c.args.p l.number mine));
+      at = reads_first l.config l.id l.number c.first_member.result _ l.up l.reach leads here.entering.numbered.unput (c.first_member.ensures _ c.args.p few leading low (member_now l.id c.args.p l.number mine));
     }
 
 pub returns-in-Some-clause-rooms : goal.returns-in-Some-clause-rooms

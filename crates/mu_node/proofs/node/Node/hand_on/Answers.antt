@@ -3,6 +3,7 @@ use Rattle.std.proofs.lemmas.Bool.{eq-eqb, ne_eqb}
 use Rattle.mu_model.specs.Contents.{IsConfig}
 use Rattle.mu_node.specs.Cycle.{place_now}
 use Rattle.mu_node.proofs.Leading.{even_planned}
+use Rattle.mu_node.proofs.Pacing.{paces_even}
 use Rattle.mu_node.proofs.Turning.{handed_elsewhere, handed_here}
 use Rattle.mu_node.proofs.node.Node.hand_on.Goals as goal
 
@@ -33,6 +34,8 @@ returns-then-place-saturating_add-clause-stands c k r mine even at held =
       cycle = held.cycle;
       made = held.made;
       leads = λ leads. even_planned k r mine even (held.leads leads);
+      paces = paces_even k r mine c.args.self.now.lead even held.paces;
+      led = held.led;
     }
 
 pub returns-else-place-saturating_add-clause-stands : goal.returns-else-place-saturating_add-clause-stands
@@ -41,4 +44,13 @@ returns-else-place-saturating_add-clause-stands c k r mine even at held =
     let few = good.replicas.1 in
     let n = held.beside.replicas in
     let other : (place_now k mine == 2 * k.replicas + 20) ≡ false = ne_eqb (place_now k mine) (2 * k.replicas + 20) (λ e. absurd (c.if-place-saturating_add.false (omega (arith, at, e, few, n, c.saturating_add.ensures, c.saturating_mul.ensures)))) in
-    record { beside = held.beside; lead = held.lead; handed = held.handed ∙ sym (handed_elsewhere k r mine other); cycle = held.cycle; made = held.made; leads = λ leads. even_planned k r mine even (held.leads leads) }
+    record {
+      beside = held.beside;
+      lead = held.lead;
+      handed = held.handed ∙ sym (handed_elsewhere k r mine other);
+      cycle = held.cycle;
+      made = held.made;
+      leads = λ leads. even_planned k r mine even (held.leads leads);
+      paces = paces_even k r mine c.args.self.now.lead even held.paces;
+      led = held.led;
+    }

@@ -9,12 +9,14 @@ use Rattle.mu_lead.specs.Standing.{TellsFailed}
 use Rattle.mu_node.proofs.Leading.{rests_named}
 use Rattle.mu_node.proofs.Leads.{beside_lead, heed_due}
 use Rattle.mu_node.proofs.Moving.{to_own}
+use Rattle.mu_node.proofs.Pacing.{paces_told}
 use Rattle.mu_node.proofs.node.Node.heed.Goals as goal
 
 pub returns-clause-stands : goal.returns-clause-stands
 returns-clause-stands g c =
     let node = c.args.self.now in
     let held = c.requires in
+    let named = c.leader-leader.ensures node.follow.config node.id g.mine held.beside.watch in
     record {
       beside = beside_lead (StandsForFollow node.follow.config node.id g.mine) node.follow.config node.id g.mine node c.heed.new.self held.beside;
       lead = record { config = c.heed.ensures.config ∙ held.lead.config; id = c.heed.ensures.id ∙ held.lead.id; stands = c.heed.ensures.stands };
@@ -22,6 +24,8 @@ returns-clause-stands g c =
       cycle = held.cycle;
       made = held.made;
       leads = λ leads. held.leads (and_parts (leads_at node.lead.place) (not (nat_lt c.leader-leader.result node.lead.id)) (sym c.heed.ensures.rests ∙ leads)).0;
+      paces = paces_told node.follow.config node.id g.mine node.lead c.heed.new.self c.leader-leader.result named held.lead.id c.heed.ensures.told held.paces;
+      led = held.led;
     }
 
 pub returns-clause-named : goal.returns-clause-named

@@ -1,6 +1,7 @@
 use Rattle.std.proofs.Common.{◌∙◌, ap, arith, refl, sym}
 use Rattle.std.proofs.lemmas.Bool.{true≢false}
 use Rattle.mu_model.specs.Histories.{history}
+use Rattle.mu_node.proofs.Pacing.{paces_first}
 use Rattle.mu_node.proofs.node.Node.new.Goals as goal
 
 pub returns-clause-stands : goal.returns-clause-stands
@@ -24,4 +25,16 @@ returns-clause-stands c = record {
   cycle = tt;
   made = tt;
   leads = λ leads. absurd (true≢false (sym leads ∙ c.in_ok-new.ensures.rests));
+  paces = paces_first c.args.job.now.config c.args.id c.in_ok-new.field-0 c.in_ok-new.ensures.config c.in_ok-new.ensures.id (record {
+    counts = record {
+      rooms = c.in_ok-new.ensures.rooms;
+      evidence = c.in_ok-new.ensures.evidence;
+      raises = c.in_ok-new.ensures.raises;
+      confirms = c.in_ok-new.ensures.confirms;
+      joins = c.in_ok-new.ensures.joins;
+    };
+    causes = c.in_ok-new.ensures.causes;
+    elects = c.in_ok-new.ensures.elects;
+  });
+  led = tt;
 }

@@ -67,7 +67,7 @@ took-requires g c =
           omega (arith, short, room),
           (
             to_own (λ x i l. FitsLead x i l new.lead c.plan-plan.result.leads c.plan-plan.result.due) node.follow.config new.follow.config node.id new.id g.mine g.mine plan.config plan.id refl plan.fits,
-            to_own (λ x i l. HasPlanned x i l new) node.follow.config new.follow.config node.id new.id g.mine g.mine plan.config plan.id refl plan.planned,
+            (plan.leads, to_own (λ x i l. HasPlanned x i l new) node.follow.config new.follow.config node.id new.id g.mine g.mine plan.config plan.id refl plan.planned),
           ),
         ),
       ),

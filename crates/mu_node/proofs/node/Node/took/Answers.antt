@@ -8,7 +8,7 @@ use Rattle.mu_node.specs.Journal.{FollowsTurn}
 use Rattle.mu_node.specs.Node.{HasPlanned, StandsForNode}
 use Rattle.mu_lead.specs.declared.lead.Lead.{Lead}
 use Rattle.mu_node.specs.Notes.{SaysTook, TellsTook}
-use Rattle.mu_node.proofs.Leads.{fits_led, fits_other}
+use Rattle.mu_node.proofs.Leads.{fits_idle, fits_led, fits_other}
 use Rattle.mu_node.proofs.Moving.{event_by}
 use Rattle.mu_node.proofs.node.Node.took.Goals as goal
 
@@ -19,7 +19,7 @@ took_led-requires g c =
     let id = c.args.id in
     let fits = subst (λ i. FitsLead k i g.mine node.lead c.args.plan.leads c.args.plan.due) (sym c.requires.0) c.requires.1.1.1.0 in
     let led = fits_led k id g.mine node.lead c.args.plan.leads c.args.plan.due c.in-Some.verb fits c.if-plan.true c.in-Some.is in
-    (c.requires.1.0, (c.requires.1.1.0, (led.0, (led.1, subst (λ i. HasPlanned k i g.mine node) (sym c.requires.0) c.requires.1.1.1.1))))
+    (c.requires.1.0, (c.requires.1.1.0, (led.0, (led.1, (sym c.requires.1.1.1.1.0 ∙ c.if-plan.true, subst (λ i. HasPlanned k i g.mine node) (sym c.requires.0) c.requires.1.1.1.1.1)))))
 
 pub returns-then-plan-clause-stands : goal.returns-then-plan-clause-stands
 returns-then-plan-clause-stands g c =
@@ -43,9 +43,9 @@ returns-else-plan-clause-stands g c =
     let made : verb_or_beat c.args.plan.due ≡ c.in-Some.verb = ap verb_or_beat c.in-Some.is in
     let fits = subst (λ i. FitsLead k i g.mine node.lead c.args.plan.leads c.args.plan.due) (sym c.requires.0) c.requires.1.1.1.0 in
     let beside = fits_other k id g.mine node.lead c.args.plan.leads c.args.plan.due c.in-Some.verb fits c.if-plan.false c.in-Some.is in
-    let held = subst (λ i. HasPlanned k i g.mine node) (sym c.requires.0) c.requires.1.1.1.1 in
+    let held = subst (λ i. HasPlanned k i g.mine node) (sym c.requires.0) c.requires.1.1.1.1.1 in
     subst (λ v. FollowsTurn k id g.mine (event_by id v c.args.answer) → IsPossible k id (event_by id v c.args.answer ∷ g.mine) → StandsForNode k id (event_by id v c.args.answer ∷ g.mine) c.note_other.new.self) (sym made)
-    (λ follows possible. c.note_other.ensures.stands g.mine beside follows possible held)
+    (λ follows possible. c.note_other.ensures.stands g.mine beside (λ odd. absurd (true≢false (sym odd ∙ (sym c.requires.1.1.1.1.0 ∙ c.if-plan.false)))) follows possible held)
 
 pub returns-else-plan-clause-note : goal.returns-else-plan-clause-note
 returns-else-plan-clause-note g c = record {
@@ -60,9 +60,10 @@ returns-in-None-clause-stands g c =
     let k = node.follow.config in
     let id = c.args.id in
     let made : verb_or_beat c.args.plan.due ≡ Verb.Beat = ap verb_or_beat c.in-None.is in
-    let held = subst (λ i. HasPlanned k i g.mine node) (sym c.requires.0) c.requires.1.1.1.1 in
+    let fits = subst (λ i. FitsLead k i g.mine node.lead c.args.plan.leads c.args.plan.due) (sym c.requires.0) c.requires.1.1.1.0 in
+    let held = subst (λ i. HasPlanned k i g.mine node) (sym c.requires.0) c.requires.1.1.1.1.1 in
     subst (λ v. FollowsTurn k id g.mine (event_by id v c.args.answer) → IsPossible k id (event_by id v c.args.answer ∷ g.mine) → StandsForNode k id (event_by id v c.args.answer ∷ g.mine) c.note_other-in-None.new.self) (sym made)
-    (λ follows possible. c.note_other-in-None.ensures.stands g.mine refl follows possible held)
+    (λ follows possible. c.note_other-in-None.ensures.stands g.mine refl (λ odd. (fits_idle k id g.mine node.lead c.args.plan.leads c.args.plan.due fits (c.requires.1.1.1.1.0 ∙ odd) c.in-None.is, refl)) follows possible held)
 
 pub returns-in-None-clause-note : goal.returns-in-None-clause-note
 returns-in-None-clause-note g c = record {

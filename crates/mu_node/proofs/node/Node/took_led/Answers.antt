@@ -11,9 +11,11 @@ use Rattle.mu_lead.specs.Saying.{Says}
 use Rattle.mu_lead.specs.Standing.{known_told}
 use Rattle.mu_node.specs.Due.{lead_due}
 use Rattle.mu_node.specs.Node.{StandsForLead}
+use Rattle.mu_node.specs.Paced.{HasPaces, HasPlannedPaces}
 use Rattle.mu_node.proofs.Leading.{due_leads_on}
 use Rattle.mu_node.proofs.Leads.{lead_says, lead_takes, lead_tells, led_beside, led_told}
 use Rattle.mu_node.proofs.Moving.{event_by}
+use Rattle.mu_node.proofs.Pacing.{TakesPaces, kept_led, led_paces, paces_led}
 use Rattle.mu_node.proofs.node.Node.took_led.Goals as goal
 
 pub learn-requires : goal.learn-requires
@@ -25,12 +27,25 @@ returns-clause-stands g c follows possible =
     let r = c.args.by in
     let verb = c.args.verb in
     let mine = g.mine in
-    let held = c.requires.1.1.1.1 in
+    let held = c.requires.1.1.1.1.1 in
     let values = c.known-known.result.now in
     let old = c.note.new.self.lead in
     let lead = subst (λ l. StandsForLead k r mine l) (sym c.note.ensures.lead) held.lead in
     let due = subst (λ l. lead_due k r mine l ≡ Some verb) (sym c.note.ensures.lead) c.requires.1.1.1.0 in
     let told = led_told k r mine verb c.args.answer c.note.new.self values (λ none. c.note.ensures.stands mine possible held.beside none) (λ entry some. c.note.ensures.awaits mine entry possible held.beside some) (λ l n h. c.known-known.ensures k r l n h) in
+    let takes : TakesPaces mine old values c.args.answer c.take-note.new.self = record {
+      rooms = c.take-note.ensures.rooms;
+      evidence = c.take-note.ensures.evidence;
+      raises = c.take-note.ensures.raises;
+      confirms = c.take-note.ensures.confirms;
+      joins = c.take-note.ensures.joins;
+      causes = c.take-note.ensures.causes;
+      elects = c.take-note.ensures.elects;
+    } in
+    let odd = c.requires.1.1.1.1.0 in
+    let before : HasPaces k r mine old = led_paces k r mine old verb odd due (subst (λ l. HasPlannedPaces k r mine l) (sym c.note.ensures.lead) held.paces) in
+    let paces = paces_led k r mine old c.take-note.new.self verb c.args.answer values lead c.take-note.ensures.config c.take-note.ensures.id takes odd due possible told before in
+    let taken = lead_takes k r mine old c.take-note.new.self verb c.args.answer values lead c.take-note.ensures.config c.take-note.ensures.id c.take-note.ensures.stands due possible told in
     record {
       beside = led_beside k r mine verb c.args.answer c.note.new.self c.learn.new.self c.take-note.new.self values (length values) c.take-note.result c.requires.0 possible
           (λ none. c.note.ensures.stands mine possible held.beside none)
@@ -40,12 +55,13 @@ returns-clause-stands g c follows possible =
           (lead_tells k r mine old verb c.args.answer values c.take-note.result lead c.take-note.ensures.tells due possible told)
           (λ none. c.learn.ensures.none none)
           (λ value is few committed waits. c.learn.ensures.stands k r mine (event_by r verb c.args.answer) value is few possible committed waits);
-      lead = subst (λ l. StandsForLead k r (event_by r verb c.args.answer ∷ mine) l) (sym c.learn.ensures.lead)
-          (lead_takes k r mine old c.take-note.new.self verb c.args.answer values lead c.take-note.ensures.config c.take-note.ensures.id c.take-note.ensures.stands due possible told);
+      lead = subst (λ l. StandsForLead k r (event_by r verb c.args.answer ∷ mine) l) (sym c.learn.ensures.lead) taken;
       handed = c.learn.ensures.handed ∙ (c.note.ensures.handed ∙ held.handed);
       cycle = (held.cycle, follows.cycle);
       made = (held.made, follows.made);
       leads = λ leads. due_leads_on k r mine c.args.self.now.lead verb (event_by r verb c.args.answer) c.requires.1.1.1.0;
+      paces = subst (λ l. HasPaces k r (event_by r verb c.args.answer ∷ mine) l) (sym c.learn.ensures.lead) paces;
+      led = (held.led, kept_led k r mine old c.take-note.new.self verb c.args.answer due lead before taken paces);
     }
 
 pub returns-clause-note : goal.returns-clause-note
@@ -53,7 +69,7 @@ returns-clause-note g c =
     let k = c.args.self.now.follow.config in
     let r = c.args.by in
     let mine = g.mine in
-    let held = c.requires.1.1.1.1 in
+    let held = c.requires.1.1.1.1.1 in
     let values = c.known-known.result.now in
     let old = c.note.new.self.lead in
     let lead = subst (λ l. StandsForLead k r mine l) (sym c.note.ensures.lead) held.lead in
@@ -76,7 +92,7 @@ returns-clause-says g c =
     let k = c.args.self.now.follow.config in
     let r = c.args.by in
     let mine = g.mine in
-    let held = c.requires.1.1.1.1 in
+    let held = c.requires.1.1.1.1.1 in
     let values = c.known-known.result.now in
     let old = c.note.new.self.lead in
     let answer = c.args.answer in

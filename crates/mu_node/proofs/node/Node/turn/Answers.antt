@@ -6,7 +6,7 @@ use Rattle.mu_node.proofs.Leading.{is_going}
 use Rattle.mu_node.proofs.Left.{is_left, steps_within}
 use Rattle.mu_node.proofs.Paces.{keeps_beside, replays_in_time}
 use Rattle.mu_node.proofs.Rounding.{keeps_rounds, raised_in_time}
-use Rattle.mu_pace.proofs.Cycles.{rounds_read_in_time, rounds_tell_heads}
+use Rattle.mu_pace.proofs.Cycles.{machines_are_diligent, rounds_read_in_time, rounds_tell_heads}
 use Rattle.mu_node.proofs.node.Node.turn.Goals as goal
 
 pub step-requires : goal.step-requires
@@ -107,3 +107,20 @@ returns-in-None-clause-keeps g c =
     let stands = c.step.ensures.stands in
     let possible = c.step.ensures.possible in
     keeps_beside k r mine stands.beside.follow.inside possible stands.cycle stands.made
+
+pub returns-in-Some-clause-diligent : goal.returns-in-Some-clause-diligent
+returns-in-Some-clause-diligent g c =
+    let k = g.P.Port.config c.args.port.now in
+    let r = g.P.Port.number c.args.port.now in
+    let mine = g.P.Port.part c.args.port.now in
+    let stands = c.requires.stands in
+    machines_are_diligent k r mine (keeps_beside k r mine stands.beside.follow.inside c.id-id.ensures.possible stands.cycle stands.made) stands.led
+
+pub returns-in-None-clause-diligent : goal.returns-in-None-clause-diligent
+returns-in-None-clause-diligent g c =
+    let now = c.step.new.port in
+    let k = g.P.Port.config now in
+    let r = g.P.Port.number now in
+    let mine = g.P.Port.part now in
+    let stands = c.step.ensures.stands in
+    machines_are_diligent k r mine (keeps_beside k r mine stands.beside.follow.inside c.step.ensures.possible stands.cycle stands.made) stands.led
