@@ -14,6 +14,7 @@ use Rattle.mu_model.specs.Room.{reserve}
 use Rattle.mu_known.specs.declared.commit.Commit.{Commit}
 use Rattle.mu_known.specs.Commits.{pair_of}
 use Rattle.mu_node.specs.declared.result.NodeResult.{NodeResult}
+use Rattle.mu_node.specs.Paces.{IsDiligentBeside}
 use Rattle.mu_cluster.specs.declared.lists.Lists.{Lists}
 use Rattle.mu_cluster.specs.declared.lists.OutcomeRoom.{OutcomeRoom}
 use Rattle.mu_cluster.specs.Rooms.{IsAnswerRoom}
@@ -55,6 +56,7 @@ pub record Leaves (c : Config) (script : Script) (r : ℕ) (mine : List Event)
   pub end : End
   pub end_at : slice_get ends r ≡ Some end
   pub obeys : Obeys c script r mine end
+  pub paces : IsDiligentBeside c r mine
 
 -- the lists hold what the first n replicas left
 pub record HoldsLists (c : Config) (script : Script) (events : List Event) (n : ℕ)

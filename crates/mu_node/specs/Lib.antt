@@ -4,5 +4,6 @@ pub mod Due
 pub mod Journal
 pub mod Node
 pub mod Notes
+pub mod Paces
 pub mod Turns
 pub mod Watch

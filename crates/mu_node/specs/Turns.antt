@@ -14,6 +14,7 @@ use Rattle.mu_port.specs.Telling.{Tells}
 use Rattle.mu_known.specs.Commits.{pair_of}
 use Rattle.mu_node.specs.declared.result.NodeResult.{NodeResult}
 use Rattle.mu_node.specs.declared.turn.Turn.{Turn}
+use Rattle.mu_node.specs.Paces.{IsDiligentBeside}
 
 -- one step of r: its part and the list that is told get its event
 pub record IsOneStep (c : Config) (r : ℕ) (mine now : List Event)
@@ -41,8 +42,9 @@ IsTurn c script r mine now before after (Turn.Took note) =
 IsTurn c script r mine now before after (Turn.Ended end) =
     EndsBy c script r mine end × (now ≡ mine) × (after ≡ before)
 
--- what a replica leaves is what the definitions give of its events
+-- what a replica leaves is what the definitions give of its events, which keep these paces
 pub record IsResult (c : Config) (r : ℕ) (mine : List Event) (result : NodeResult) : Type 0 where
   pub journal : history result.journal.events ≡ mine
   pub log : result.log ≡ applied c r mine
   pub commits : map pair_of result.commits ≡ commits c r mine
+  pub paces : IsDiligentBeside c r mine
