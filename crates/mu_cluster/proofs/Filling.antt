@@ -30,12 +30,14 @@ use Rattle.mu_known.proofs.Placed.{is_possible}
 use Rattle.mu_known.specs.declared.commit.Commit.{Commit}
 use Rattle.mu_known.specs.Commits.{pair_of}
 use Rattle.mu_node.specs.declared.result.NodeResult.{NodeResult}
+use Rattle.mu_model.specs.Diligence.{IsDiligent}
 use Rattle.mu_node.specs.Turns.{IsResult, TellsEnd}
 use Rattle.mu_cluster.specs.declared.lists.Lists.{Lists}
 use Rattle.mu_outcome.specs.declared.outcome.Outcome.{Outcome}
 use Rattle.mu_cluster.specs.declared.rounds.Seat.{Seat}
 use Rattle.mu_outcome.specs.Entries.{commands_in, commands_of, longest}
 use Rattle.mu_cluster.specs.Lists.{Adds, HasRoom, HoldsLists, Leaves}
+use Rattle.mu_cluster.specs.Paces.{AreDiligent}
 use Rattle.mu_outcome.specs.Outcomes.{IsRun, commits_of, events_of, journal_of, log_of, or_empty}
 use Rattle.mu_outcome.specs.Runs.{IsRunOver}
 use Rattle.mu_cluster.specs.Rounds.{EndsNowhereBefore, MayTake, Played, Sits, id_of, part_of}
@@ -60,6 +62,7 @@ leaves_front c script r mine js ks ls ms cs ds es fs was = record {
   end = was.end;
   end_at = get_front es fs r was.end was.end_at;
   obeys = was.obeys;
+  diligent = was.diligent;
 }
 
 -- the same of lists that are equal to these
@@ -99,6 +102,7 @@ held_left c script events n old new result was adds before ends is told = record
       end = end.0;
       end_at = get_push_here old.ends.items n end.0 (sym was.room.ends.0);
       obeys = record { ends = end.1.1; first = λ newer older other same some there. before newer older other same some there };
+      diligent = is.diligent;
     }
 
     both : (r : ℕ) → Leaves c script r (part_of r events) (old.journals.items ++ result.journal ∷ []) (old.logs.items ++ result.log ∷ []) (old.commits.items ++ result.commits ∷ []) (old.ends.items ++ end.0 ∷ [])
@@ -163,6 +167,14 @@ run_over o events lists legal js ls cs es held whole answered = record {
 
     part_at : (r : ℕ) → r < o.job.config.replicas → slice_get (map events_of o.journals) r ≡ Some (part r events)
     part_at r low = let l = left r low in get_map events_of o.journals r l.journal l.journal_at ∙ ap (λ x. Some x) (journal_part r l.journal.events events l.journal_is)
+
+-- the journals are diligent, as those of the replicas were
+pub diligent_of : (o : Outcome) (events : List Event) (lists : Lists) → o.journals ≡ lists.journals.items → HoldsLists o.job.config o.job.script events o.job.config.replicas lists → AreDiligent o
+diligent_of o events lists js held r low =
+    let l = held.each r low in
+    let at = ap (λ j. slice_get j r) js ∙ l.journal_at in
+    let own : history (journal_of o r) ≡ part_of r events = ap (λ x. history (or_empty x)) (get_map events_of o.journals r l.journal at) ∙ l.journal_is in
+    subst (λ h. IsDiligent o.job.config r h) (sym own) l.diligent
 
 -- what a replay leaves is a run of its job
 pub run_of : (o : Outcome) (order : Record) (lists : Lists) (seats : List Seat) (rounds : ℕ) → o.order ≡ Some order → IsLegal o.job.config order.events → o.journals ≡ lists.journals.items → o.logs ≡ lists.logs.items

@@ -6,6 +6,7 @@ use Rattle.mu_model.specs.declared.event.Event.{Event}
 use Rattle.mu_model.specs.declared.script.End.{End}
 use Rattle.mu_model.specs.declared.script.Script.{Script}
 use Rattle.mu_model.specs.Contents.{row_count}
+use Rattle.mu_model.specs.Diligence.{IsDiligent}
 use Rattle.mu_model.specs.Ends.{Obeys}
 use Rattle.mu_model.specs.Histories.{history}
 use Rattle.mu_model.specs.Journals.{Record}
@@ -55,6 +56,7 @@ pub record Leaves (c : Config) (script : Script) (r : ℕ) (mine : List Event)
   pub end : End
   pub end_at : slice_get ends r ≡ Some end
   pub obeys : Obeys c script r mine end
+  pub diligent : IsDiligent c r mine
 
 -- the lists hold what the first n replicas left
 pub record HoldsLists (c : Config) (script : Script) (events : List Event) (n : ℕ)

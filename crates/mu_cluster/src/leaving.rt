@@ -6,6 +6,7 @@ ghost use Rattle.mu_model.specs.Legal.{IsLegal};
 ghost use Rattle.mu_model.specs.Parts.{HasParts};
 ghost use Rattle.mu_cluster.specs.Branches.{AreLeft};
 ghost use Rattle.mu_cluster.specs.Lists.{HasRoom, HoldsLists, IsOutcomeRoom};
+ghost use Rattle.mu_cluster.specs.Paces.{AreDiligent};
 ghost use Rattle.mu_outcome.specs.Runs.{IsThreadRun};
 
 use crate::lists::{Lists, OutcomeRoom};
@@ -28,6 +29,7 @@ pub(crate) fn gathered_outcome(
     requires left { AreLeft job.config job.script gathered.parts nodes.items }
     ensures job { result.job ≡ job }
     ensures run { IsThreadRun result }
+    ensures diligent { AreDiligent result }
 {
     let OutcomeRoom { answers, lists } = room;
     let Lists {

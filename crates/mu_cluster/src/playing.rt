@@ -2,6 +2,7 @@
 ghost use Rattle.std.specs.Prelude.{IfOk, [], ◌≡◌};
 ghost use Rattle.mu_input.specs.Heads.{HaveHeads};
 ghost use Rattle.mu_model.specs.Contents.{IsConfig};
+ghost use Rattle.mu_cluster.specs.Paces.{AreDiligent};
 ghost use Rattle.mu_outcome.specs.Outcomes.{Agrees, IsRun, IsWithinJob};
 
 use crate::lists::OutcomeRoom;
@@ -24,6 +25,7 @@ pub fn replay(alloc: Global, job: Job) -> Result<Outcome, NoMemory>
     requires heads { HaveHeads job.config.width job.commands job.config.rows }
     ensures job { IfOk result (λ outcome. outcome.job ≡ job) }
     ensures run { IfOk result IsRun }
+    ensures diligent { IfOk result AreDiligent }
     ensures agrees { IfOk result Agrees }
     ensures reach { IfOk result IsWithinJob }
 {
@@ -43,6 +45,7 @@ pub fn replay_over<M: Memory>(alloc: Global, job: Job, memory: M) -> Result<Outc
     requires empty { M.events memory ≡ [] }
     ensures job { IfOk result (λ outcome. outcome.job ≡ job) }
     ensures run { IfOk result IsRun }
+    ensures diligent { IfOk result AreDiligent }
     ensures agrees { IfOk result Agrees }
     ensures reach { IfOk result IsWithinJob }
 {

@@ -2,6 +2,7 @@
 ghost use Rattle.std.specs.Prelude.{IfOk, ◌≡◌};
 ghost use Rattle.mu_input.specs.Heads.{HaveHeads};
 ghost use Rattle.mu_model.specs.Contents.{IsConfig};
+ghost use Rattle.mu_cluster.specs.Paces.{AreDiligent};
 ghost use Rattle.mu_outcome.specs.Outcomes.{Agrees, IsWithinJob};
 ghost use Rattle.mu_outcome.specs.Runs.{IsThreadRun};
 
@@ -33,6 +34,7 @@ pub fn run<R: Threads + Wait + Sync, G: Gate + Sync>(
     requires heads { HaveHeads job.config.width job.commands job.config.rows }
     ensures job { IfOk result (λ outcome. outcome.job ≡ job) }
     ensures run { IfOk result IsThreadRun }
+    ensures diligent { IfOk result AreDiligent }
     ensures agrees { IfOk result Agrees }
     ensures reach { IfOk result IsWithinJob }
 {

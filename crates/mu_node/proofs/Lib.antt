@@ -1,4 +1,5 @@
 pub mod Bits
+pub mod Diligent
 pub mod Heads
 pub mod Lasts
 pub mod Leading

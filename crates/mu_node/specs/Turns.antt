@@ -7,6 +7,7 @@ use Rattle.mu_model.specs.declared.event.Event.{Event}
 use Rattle.mu_model.specs.declared.event.Verb.{Verb}
 use Rattle.mu_model.specs.declared.script.End.{End}
 use Rattle.mu_model.specs.declared.script.Script.{Script}
+use Rattle.mu_model.specs.Diligence.{IsDiligent}
 use Rattle.mu_model.specs.Ends.{EndsBy}
 use Rattle.mu_model.specs.Histories.{history}
 use Rattle.mu_model.specs.Knowledge.{applied, commits}
@@ -41,8 +42,9 @@ IsTurn c script r mine now before after (Turn.Took note) =
 IsTurn c script r mine now before after (Turn.Ended end) =
     EndsBy c script r mine end × (now ≡ mine) × (after ≡ before)
 
--- what a replica leaves is what the definitions give of its events
+-- what a replica leaves is what the definitions give of its events, and these are diligent
 pub record IsResult (c : Config) (r : ℕ) (mine : List Event) (result : NodeResult) : Type 0 where
   pub journal : history result.journal.events ≡ mine
   pub log : result.log ≡ applied c r mine
   pub commits : map pair_of result.commits ≡ commits c r mine
+  pub diligent : IsDiligent c r mine

@@ -10,19 +10,22 @@ use Rattle.mu_outcome.specs.Entries.{commands_in, longest}
 use Rattle.mu_outcome.specs.Outcomes.{Agrees, IsRun}
 use Rattle.mu_outcome.specs.Runs.{IsThreadRun}
 use Rattle.mu_outcome.proofs.Completing.{completes_over, few_told, session_told}
+use Rattle.mu_cluster.specs.Paces.{AreDiligent}
 use Rattle.mu_cluster.proofs.Agreeing.{over_order}
 use Rattle.mu_top.specs.Commands.{IsReplay, IsThreaded}
 
-pub replay_of : (o : Outcome) (job : Job) → o.job ≡ job → IsConfig job.config → HaveHeads job.config.width job.commands job.config.rows → IsRun o → Agrees o → IsReplay o
-replay_of o job same good have run agrees = record {
+pub replay_of : (o : Outcome) (job : Job) → o.job ≡ job → IsConfig job.config → HaveHeads job.config.width job.commands job.config.rows → IsRun o → AreDiligent o → Agrees o → IsReplay o
+replay_of o job same good have run diligent agrees = record {
   run = run;
+  diligent = diligent;
   agrees = agrees;
   completes = completes_over o run.order.events (subst (λ (j : Job). IsConfig j.config) (sym same) good) (subst (λ (j : Job). HaveHeads j.config.width j.commands j.config.rows) (sym same) have) (over_order o run) agrees;
 }
 
-pub threaded_of : (o : Outcome) (job : Job) → o.job ≡ job → IsConfig job.config → HaveHeads job.config.width job.commands job.config.rows → IsThreadRun o → Agrees o → IsThreaded o
-threaded_of o job same good have run agrees = record {
+pub threaded_of : (o : Outcome) (job : Job) → o.job ≡ job → IsConfig job.config → HaveHeads job.config.width job.commands job.config.rows → IsThreadRun o → AreDiligent o → Agrees o → IsThreaded o
+threaded_of o job same good have run diligent agrees = record {
   run = run;
+  diligent = diligent;
   agrees = agrees;
   completes = completes_over o run.events (subst (λ (j : Job). IsConfig j.config) (sym same) good) (subst (λ (j : Job). HaveHeads j.config.width j.commands j.config.rows) (sym same) have) run.over agrees;
 }

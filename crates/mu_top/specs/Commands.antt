@@ -5,6 +5,7 @@ use Rattle.mu_input.specs.Grammar.{job}
 use Rattle.mu_input.specs.Readings.{Fits, Leaves}
 use Rattle.mu_input.specs.Bulk.{bulk_job}
 use Rattle.mu_input.specs.declared.job.InputEnd.{InputEnd}
+use Rattle.mu_cluster.specs.Paces.{AreDiligent}
 use Rattle.mu_outcome.specs.declared.outcome.Outcome.{Outcome}
 use Rattle.mu_outcome.specs.Completion.{Completes}
 use Rattle.mu_outcome.specs.Entries.{commands_in, longest}
@@ -17,12 +18,14 @@ use Rattle.snap_reads.specs.Lives.{AreAllSights}
 -- was cut short
 pub record IsReplay (o : Outcome) : Type 0 where
   pub run : IsRun o
+  pub diligent : AreDiligent o
   pub agrees : Agrees o
   pub completes : Completes o
 
 -- the outcome is a run of its job by threads, and the same holds of it
 pub record IsThreaded (o : Outcome) : Type 0 where
   pub run : IsThreadRun o
+  pub diligent : AreDiligent o
   pub agrees : Agrees o
   pub completes : Completes o
 

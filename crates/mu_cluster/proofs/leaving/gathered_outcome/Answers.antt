@@ -11,7 +11,7 @@ use Rattle.mu_outcome.specs.Entries.{commands_in, longest}
 use Rattle.mu_outcome.specs.Outcomes.{events_of}
 use Rattle.mu_outcome.specs.Runs.{IsRunOver}
 use Rattle.mu_cluster.proofs.Branching.{one_list, parts_same}
-use Rattle.mu_cluster.proofs.Filling.{few_commands_in, logs_within, run_over}
+use Rattle.mu_cluster.proofs.Filling.{few_commands_in, logs_within, diligent_of, run_over}
 use Rattle.mu_outcome.proofs.LongestLogs.{longest_within}
 use Rattle.mu_cluster.proofs.leaving.gathered_outcome.Goals as goal
 
@@ -55,3 +55,14 @@ returns-clause-run c =
       events = one.0;
       over = over;
     }
+
+pub returns-clause-diligent : goal.returns-clause-diligent
+returns-clause-diligent c =
+    let job = c.args.job in
+    let k = job.config in
+    let lists = c.left_by-journals.result in
+    let g = c.args.gathered in
+    let one = one_list k g (map (λ j. j.events) c.parts.result.now) c.requires.config c.parts.ensures.parts c.parts.ensures.list in
+    let held = c.left_by-journals.ensures one.0 one.1.0 one.1.1 in
+    let o : Outcome = record { job = job; journals = c.from_vec.result; logs = c.from_vec-2.result; commits = c.from_vec-3.result; replies = c.answered-replies.result; ends = c.from_vec-4.result; order = None; gathered = Some g } in
+    diligent_of o one.0 lists c.from_vec.ensures held

@@ -3,4 +3,4 @@ use Rattle.mu_top.proofs.running.ran.Goals as goal
 
 pub returns-clause-run : goal.returns-clause-run
 returns-clause-run g c =
-    threaded_of c.in_ok-run.field-0 c.in_ok-job.job c.in_ok-run.ensures.job c.in_ok-job.ensures.config c.in_ok-job.ensures.heads c.in_ok-run.ensures.run c.in_ok-run.ensures.agrees
+    threaded_of c.in_ok-run.field-0 c.in_ok-job.job c.in_ok-run.ensures.job c.in_ok-job.ensures.config c.in_ok-job.ensures.heads c.in_ok-run.ensures.run c.in_ok-run.ensures.diligent c.in_ok-run.ensures.agrees

@@ -8,7 +8,7 @@ use Rattle.mu_outcome.specs.declared.outcome.Outcome.{Outcome}
 use Rattle.mu_outcome.specs.Entries.{commands_in, longest}
 use Rattle.mu_cluster.specs.Lists.{HoldsLists}
 use Rattle.mu_cluster.specs.Rounds.{Played}
-use Rattle.mu_cluster.proofs.Filling.{few_commands_in, logs_within, run_of}
+use Rattle.mu_cluster.proofs.Filling.{few_commands_in, logs_within, diligent_of, run_of}
 use Rattle.mu_outcome.proofs.LongestLogs.{longest_within}
 use Rattle.mu_cluster.proofs.lists.OutcomeRoom.outcome.Goals as goal
 
@@ -39,3 +39,13 @@ returns-clause-run c =
     let long = c.longest.ensures ∙ (ap longest c.as_slice-2.ensures.value ∙ ap longest (sym c.from_vec-2.ensures)) in
     run_of o order lists c.args.seats.items c.requires.played.0 refl legal c.from_vec.ensures c.from_vec-2.ensures c.from_vec-3.ensures c.from_vec-4.ensures held played c.requires.ended
     (c.answered-replies.ensures ∙ ap (λ l. replies (commands_in job l)) long)
+
+pub returns-clause-diligent : goal.returns-clause-diligent
+returns-clause-diligent c =
+    let job = c.args.job in
+    let k = job.config in
+    let order = c.args.order in
+    let lists = c.filled-journals.result in
+    let held = subst (λ l. HoldsLists k job.script l k.replicas lists) c.as_slice.ensures c.filled-journals.ensures in
+    let o : Outcome = record { job = job; journals = c.from_vec.result; logs = c.from_vec-2.result; commits = c.from_vec-3.result; replies = c.answered-replies.result; ends = c.from_vec-4.result; order = Some order; gathered = None } in
+    diligent_of o order.events lists c.from_vec.ensures held

@@ -5,6 +5,7 @@ use Rattle.mu_agree.proofs.Readings.{known_within}
 use Rattle.mu_known.proofs.Fetched.{front_fits}
 use Rattle.mu_known.specs.Commits.{pair_of}
 use Rattle.mu_follow.proofs.Kept.{applied_is, few_commits}
+use Rattle.mu_node.proofs.Diligent.{journal_is_diligent}
 use Rattle.mu_node.proofs.node.Node.into_result.Goals as goal
 
 pub returns-clause-is : goal.returns-clause-is
@@ -26,4 +27,5 @@ returns-clause-is c k r mine good possible held =
       journal = held.beside.journal;
       log = c.from_vec.ensures ∙ (log ∙ is);
       commits = ap (map pair_of) (c.from_vec-2.ensures ∙ list) ∙ listed;
+      diligent = journal_is_diligent k r mine c.args.self possible held;
     }

@@ -2,11 +2,12 @@ use Rattle.std.proofs.Common.{[], refl, subst}
 use Rattle.mu_model.specs.declared.script.Script.{Script}
 use Rattle.mu_node.specs.Turns.{TellsEnd}
 use Rattle.mu_grant.proofs.Rounds.{cycles}
+use Rattle.mu_node.proofs.Diligent.{journal_is_diligent}
 use Rattle.mu_node.proofs.Leading.{is_going}
 use Rattle.mu_node.proofs.Left.{is_left, steps_within}
 use Rattle.mu_node.proofs.Paces.{keeps_beside, replays_in_time}
 use Rattle.mu_node.proofs.Rounding.{keeps_rounds, raised_in_time}
-use Rattle.mu_pace.proofs.Cycles.{machines_are_diligent, rounds_read_in_time, rounds_tell_heads}
+use Rattle.mu_pace.proofs.Cycles.{rounds_read_in_time, rounds_tell_heads}
 use Rattle.mu_node.proofs.node.Node.turn.Goals as goal
 
 pub step-requires : goal.step-requires
@@ -114,7 +115,7 @@ returns-in-Some-clause-diligent g c =
     let r = g.P.Port.number c.args.port.now in
     let mine = g.P.Port.part c.args.port.now in
     let stands = c.requires.stands in
-    machines_are_diligent k r mine (keeps_beside k r mine stands.beside.follow.inside c.id-id.ensures.possible stands.cycle stands.made) stands.led
+    journal_is_diligent k r mine c.args.self.now c.id-id.ensures.possible stands
 
 pub returns-in-None-clause-diligent : goal.returns-in-None-clause-diligent
 returns-in-None-clause-diligent g c =
@@ -123,4 +124,4 @@ returns-in-None-clause-diligent g c =
     let r = g.P.Port.number now in
     let mine = g.P.Port.part now in
     let stands = c.step.ensures.stands in
-    machines_are_diligent k r mine (keeps_beside k r mine stands.beside.follow.inside c.step.ensures.possible stands.cycle stands.made) stands.led
+    journal_is_diligent k r mine c.step.new.self c.step.ensures.possible stands
