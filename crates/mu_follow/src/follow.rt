@@ -146,11 +146,11 @@ impl Follow {
             knowing: KnownLog::new(alloc, config)?,
             rows: HeldRows::new(alloc, config)?,
             own_log: FilledLog::new(alloc, config)?,
-            heads: Published::none(),
+            heads: Published::new(),
             completion: Completion::new(alloc, config)?,
             commits: Vec::with_capacity(alloc, positions_in(config))?,
             outrun: None,
-            progress: Progress::none(),
+            progress: Progress::new(),
         })
     }
 

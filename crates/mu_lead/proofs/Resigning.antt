@@ -40,7 +40,7 @@ use Rattle.mu_lead.proofs.Misses.{evidence_comes_in_time, explained_anywhere}
 use Rattle.mu_lead.proofs.Raises.{raised_anywhere, raises_come_in_time}
 use Rattle.mu_lead.proofs.RoomsBeside.{others_keep_rooms}
 use Rattle.mu_lead.proofs.RoomsInTime.{rooms_are_in_time}
-use Rattle.mu_lead.proofs.RoomsQuiet.{silent, sized}
+use Rattle.mu_lead.proofs.RoomsQuiet.{silent_verbs_are_silent, config_is_sized}
 
 -- a beat opens no count
 and_false : (t : Bool) → (t && false) ≡ false
@@ -49,7 +49,7 @@ and_false false = refl
 
 beat_opens_none : (c : Config) (r : ℕ) (answer : Answer) (mine : List Event) → OpensNone c r mine (beat_of r answer)
 beat_opens_none c r answer mine =
-    let quiet = silent c r mine r Verb.Beat answer refl in
+    let quiet = silent_verbs_are_silent c r mine r Verb.Beat answer refl in
     record {
       milestone = quiet.no_milestone;
       missed = λ p. refl;
@@ -76,7 +76,7 @@ out_closed c r answer mine was closed = record { left = inr was; away = away_clo
 led_closed : (c : Config) (r : ℕ) (answer : Answer) (stage : Stage) (mine : List Event) → IsConfig c → AreClosed c r (beat_of r answer ∷ mine) → IsLed c r mine stage → IsLed c r (beat_of r answer ∷ mine) stage
 led_closed c r answer stage mine is closed at =
     let now = beat_of r answer ∷ mine in
-    record { read = at.read; placed = counts_close.placed c r (sizes_of c r now) stage now (sized c r now is) (record { replicas = refl; width = refl; members = refl }) at.placed.place closed }
+    record { read = at.read; placed = counts_close.placed c r (sizes_of c r now) stage now (config_is_sized c r now is) (record { replicas = refl; width = refl; members = refl }) at.placed.place closed }
 
 rooms_closed : (c : Config) (r : ℕ) (answer : Answer) (mine : List Event) (written : List ℕ) (place : Place) → IsConfig c → was_unnamed c r (beat_of r answer ∷ mine) ≡ true → AreClosed c r (beat_of r answer ∷ mine) → RoomsAt c r mine written place → RoomsAt c r (beat_of r answer ∷ mine) written place
 rooms_closed c r answer mine written (Place.Ask p) is was closed at = ((λ first. out_closed c r answer mine was closed), λ other. record { unread = (at.1 other).unread; fresh = fresh_closed c r answer mine closed })
@@ -154,7 +154,7 @@ rests c r mine written answer is turn rest at =
     record {
       rooms = record {
         read = at.rooms.read;
-        placed = places_lead.known c r (sizes_of c r mine) Stage.Rest Stage.Rest mine e (sized c r mine is) at.rooms.placed (record {
+        placed = places_lead.known c r (sizes_of c r mine) Stage.Rest Stage.Rest mine e (config_is_sized c r mine is) at.rooms.placed (record {
           turn = turn;
           known = rest.all;
           place = at.rooms.placed.place;

@@ -26,7 +26,7 @@ use Rattle.mu_lead.specs.Rooms.{IsLed, IsPlaced, lag_of, sizes_of}
 use Rattle.mu_lead.proofs.Bringing.{put_event}
 use Rattle.mu_lead.proofs.Raises.{copy_commits_none}
 use Rattle.mu_lead.proofs.RoomsBringing.{bring_place}
-use Rattle.mu_lead.proofs.RoomsQuiet.{no_heads, quiet_milestone, sized}
+use Rattle.mu_lead.proofs.RoomsQuiet.{no_heads, quiet_milestone, config_is_sized}
 
 -- a put of what is known is a copy, where none was made at the position and the first FUO that was
 -- read isn't above it
@@ -47,7 +47,7 @@ asks_copying s next edge near (Lag.Joined q) k = elim (cases_lt q k) [
 copies_on : (c : Config) (r : ℕ) (next : Bringing) (l : Lag) (mine : List Event) (e : Event) → IsConfig c → is_replication mine e ≡ true → is_milestone c r mine e ≡ false → is_copying c r mine e ≡ true → members c r (e ∷ mine) ≡ members c r mine
     → ((l : Lag) → Copies (sizes_of c r mine) (Stage.Bring l Bringing.Put) (Stage.Bring l next)) → ((q k : ℕ) → q < k → AsksCopying (sizes_of c r mine) k (Stage.Bring (Lag.Joined q) Bringing.Put) (Stage.Bring (Lag.Joined q) next))
     → IsPlace (sizes_of c r mine) (Stage.Bring l next) → IsPlacedAt c r (sizes_of c r mine) (Stage.Bring l Bringing.Put) mine → IsPlacedAt c r (sizes_of c r mine) (Stage.Bring l next) (e ∷ mine)
-copies_on c r next l mine e is turn quiet copying same edge near place at = places_lead.copy c r (sizes_of c r mine) (Stage.Bring l Bringing.Put) (Stage.Bring l next) mine e (sized c r mine is) at (record {
+copies_on c r next l mine e is turn quiet copying same edge near place at = places_lead.copy c r (sizes_of c r mine) (Stage.Bring l Bringing.Put) (Stage.Bring l next) mine e (config_is_sized c r mine is) at (record {
   turn = turn;
   edge = edge l;
   place = place;

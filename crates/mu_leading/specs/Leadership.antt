@@ -33,9 +33,9 @@ pub record StandsForRegionNotes (r p : ℕ) (mine : List Event) (notes : RegionN
 
 -- the same of every region
 abbrev pub StandForRegionNotes : ℕ → List Event → List RegionNotes → Type 0
-StandForRegionNotes r mine dealings =
-    (p : ℕ) (dealing : RegionNotes) → slice_get dealings p ≡ Some dealing
-    → StandsForRegionNotes r p mine dealing
+StandForRegionNotes r mine all =
+    (p : ℕ) (notes : RegionNotes) → slice_get all p ≡ Some notes
+    → StandsForRegionNotes r p mine notes
 
 -- the state stands for the events of r
 pub record StandsForLeadership (r : ℕ) (mine : List Event) (state : Leadership) : Type 0 where
@@ -48,7 +48,7 @@ pub record StandsForLeadership (r : ℕ) (mine : List Event) (state : Leadership
       state.greatest_minimum
       ≡ greatest (λ e. any_min_read r e.by e.verb e.answer) (leadership r mine)
   pub put : state.greatest_number ≡ greatest (λ e. number_put r e.by e.verb) mine
-  pub dealings : StandForRegionNotes r mine state.dealings
+  pub notes : StandForRegionNotes r mine state.notes
 
 -- the fence that the verb reads is of one of the first n regions
 abbrev pub ReadsWithin : ℕ → Verb → Type 0

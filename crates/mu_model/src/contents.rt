@@ -118,7 +118,7 @@ fn rows_of_client(config: &Config, client: u64, n: u64, j: u16) -> u64
 }
 
 /// How many commands of the client the entry `v` holds.
-pub fn commands_of(config: &Config, client: u64, v: u16) -> u64
+pub fn count_of_commands(config: &Config, client: u64, v: u16) -> u64
     ensures is { result ≡ length (numbers_in config.now client (rows_of config.now v)) }
     ensures few { result ≤ 256 }
 {

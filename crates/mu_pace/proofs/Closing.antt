@@ -16,8 +16,9 @@ use Rattle.mu_pace.specs.Watches.{asking_after, bringing_up, confirming, explain
 use Rattle.mu_pace.specs.Weights.{IsPlace, IsSized, Sizes, Stage, weight}
 use Rattle.mu_pace.proofs.Asking.{asking_falls}
 use Rattle.mu_pace.proofs.Beside.{unallowed}
-use Rattle.mu_pace.proofs.Placed.{asks_anew, closed_brought, same_limit, shut, true_right, unnamed_leaves}
+use Rattle.mu_pace.proofs.Placed.{asks_anew, closed_brought, same_limit, shut, unnamed_leaves}
 use Rattle.mu_pace.proofs.Rooms.{kinds_of_step}
+use Rattle.mu_model.proofs.Basics.{or_true}
 
 -- a replication event before which another is named turns away, whatever is waited for
 unnamed_turns : (c : Config) (r : ℕ) (met : List Event → Event → Bool) (past : List Event) (e : Event) → is_replication past e ≡ true → is_named c r past ≡ false → turns_away c r met past e ≡ true
@@ -39,7 +40,7 @@ unnamed c r past e t n o = record {
   asking = λ p. asks_anew c r p past e (2 * limit_now c r (e ∷ past)) (omega arith) (unnamed_leaves c r (λ before f. not (leads r before) || is_fencing p f) past e t n);
   joining = λ p. shut (joining c r p) past e (unallowed (is_welcoming c r p) (λ now. 4) past e (o.welcoming p)) (unnamed_leaves c r (is_answer_to_welcome c r p) past e t n);
   bringing = λ p. shut (bringing_up c r p) past e (unallowed (falls_behind c r p) (limit_now c r) past e (o.behind p))
-      (true_right (is_brought_up c r p (e ∷ past)) (leaves c r (is_over_after r) past e) (unnamed_leaves c r (is_over_after r) past e t n));
+      (or_true (is_brought_up c r p (e ∷ past)) (leaves c r (is_over_after r) past e) (unnamed_leaves c r (is_over_after r) past e t n));
 }
 
 fresh : (c : Config) (r : ℕ) (now : List Event) → AreClosed c r now → IsFresh c r now

@@ -93,9 +93,9 @@ impl Replica {
         Ok(Replica {
             replica,
             steps: 0,
-            leadership: Leadership::none(replica),
+            leadership: Leadership::new(replica),
             grants: Grants::new(config.replicas, replica),
-            heads: Heads::none(config, replica),
+            heads: Heads::new(config, replica),
             known_log: KnownLog::new(alloc, config)?,
             held_rows: HeldRows::new(alloc, config)?,
             landed_puts: LandedPuts::new(alloc, config)?,

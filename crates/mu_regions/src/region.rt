@@ -7,8 +7,9 @@ ghost use Rattle.mu_model.specs.Answers.{answer_of, drained, entered_or_lost, pu
 ghost use Rattle.mu_model.specs.Contents.{row_count};
 ghost use Rattle.mu_model.specs.Leaderships.{noted_grant};
 ghost use Rattle.mu_model.specs.Regions.{asks, fence, region_log, row_word};
-ghost use Rattle.mu_regions.specs.Range.{InRange, IsNear, is_beat_verb, is_read_alone, read_at};
+ghost use Rattle.mu_regions.specs.Range.{InRange, IsNear, is_read_alone, read_at};
 ghost use Rattle.mu_regions.specs.Stands.{Holds};
+ghost use Rattle.mu_model.specs.Steps.{is_beat_verb};
 
 use crate::effects::{
     beats_after, fence_after, fuo_after, head_after, minimum_after, note_ask, note_drain,
@@ -62,7 +63,7 @@ fn is_beat(verb: &Verb) -> bool
 
 impl Region {
     /// The region before any event. Takes memory for its log and for the rows of its replica.
-    pub fn empty(alloc: Global, id: u8, config: &Config) -> Result<Region, NoMemory>
+    pub fn new(alloc: Global, id: u8, config: &Config) -> Result<Region, NoMemory>
         requires { row_count config.now ≤ 1500 }
         ensures { IfOk result (λ region. Holds config.now id [] region) }
     {

@@ -75,7 +75,7 @@ impl Regions {
     {
         let mut regions = Vec::with_capacity(alloc, usize::from(config.replicas))?;
         for id in 0..config.replicas {
-            regions.push_reserved(Region::empty(alloc, id, config)?);
+            regions.push_reserved(Region::new(alloc, id, config)?);
         }
         Ok(Regions {
             ring: config.ring,
