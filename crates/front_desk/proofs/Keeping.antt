@@ -9,11 +9,11 @@ use Rattle.crossbeam_queue.proofs.Lists.{at_set, at_last, at_longer, set_else}
 use Rattle.kv_store.specs.Commands.{Request}
 use Rattle.mu_input.specs.declared.TheConstants.{MOST_SENDERS}
 use Rattle.mu_input.specs.Senders.{HaveSenders}
-use Rattle.front_desk.specs.Arrivals.{commands_of, IsArrival}
+use Rattle.front_desk.specs.Arrivals.{commands_by, IsArrival}
 use Rattle.front_desk.specs.Line.{entry, entry_of, without, whole_hand, sending_hand, spent_hand, after_first, first_alone, united, HasSent, HasTaken, KnowsItsPart, HasEntry, HasTheTaken, KeepsOrder, Delivers}
 use Rattle.front_desk.specs.declared.line.Entry.{Entry}
 use Rattle.front_desk.specs.declared.line.Hand.{Hand}
-use Rattle.front_desk.proofs.Clients.{commands_of-append, commands_of-own, commands_of-other, none_beyond, whole_arrival}
+use Rattle.front_desk.proofs.Clients.{commands_by-append, commands_by-own, commands_by-other, none_beyond, whole_arrival}
 
 some_is : {A : Type 0} → (x y : A) → Some x ≡ Some y → x ≡ y
 some_is x y e = cc
@@ -145,7 +145,7 @@ sends n pass client xs x v is own few = subst (λ u. Pushes KeepsOrder n pass u 
     pushes items views room h at = (w, record { owner = h.owner; sent = sent; taker = h.taker; got = h.got; delivered = delivered; beyond = beyond; held = held; taking = takes_set views pass h.taker (sending_hand client xs) w at (λ on. on) h.taking; parts = parts }, refl)
       where
         sent : ℕ → List Request
-        sent q = h.sent q ++ commands_of q (x ∷ [])
+        sent q = h.sent q ++ commands_by q (x ∷ [])
 
         mine : KnowsItsPart h.owner h.sent h.taker h.got pass (sending_hand client xs)
         mine = h.parts pass (sending_hand client xs) at
@@ -153,11 +153,11 @@ sends n pass client xs x v is own few = subst (λ u. Pushes KeepsOrder n pass u 
         its : (h.owner client ≡ pass) × (xs ≡ h.sent client)
         its = mine.entries client (entry client xs) (ap (λ b. if b then Some (entry client xs) else None) (eq-eqb client client refl))
 
-        delivered : (q : ℕ) → commands_of q (h.got ++ (items ++ x ∷ [])) ≡ sent q
-        delivered q = ap (commands_of q) (sym (append_assoc h.got items (x ∷ []))) ∙ (commands_of-append q (h.got ++ items) (x ∷ []) ∙ ap (λ l. l ++ commands_of q (x ∷ [])) (h.delivered q))
+        delivered : (q : ℕ) → commands_by q (h.got ++ (items ++ x ∷ [])) ≡ sent q
+        delivered q = ap (commands_by q) (sym (append_assoc h.got items (x ∷ []))) ∙ (commands_by-append q (h.got ++ items) (x ∷ []) ∙ ap (λ l. l ++ commands_by q (x ∷ [])) (h.delivered q))
 
         other : (q : ℕ) → q ≢ client → sent q ≡ h.sent q
-        other q apart = ap (λ l. h.sent q ++ l) (commands_of-other q x [] (λ e. apart (sym e ∙ own))) ∙ append-nil (h.sent q)
+        other q apart = ap (λ l. h.sent q ++ l) (commands_by-other q x [] (λ e. apart (sym e ∙ own))) ∙ append-nil (h.sent q)
 
         beyond : (q : ℕ) → MOST_SENDERS ≤ q → sent q ≡ []
         beyond q past = other q (λ e. absurd (omega (arith, past, e, few))) ∙ h.beyond q past
@@ -171,7 +171,7 @@ sends n pass client xs x v is own few = subst (λ u. Pushes KeepsOrder n pass u 
         new = record {
           entries = λ q e k.
               let t = only (entry client (xs ++ x ∷ [])) q e k in
-              let grown : xs ++ x ∷ [] ≡ sent client = ap (λ l. l ++ x ∷ []) its.1 ∙ ap (λ l. h.sent client ++ l) (sym (commands_of-own client x [] own)) in
+              let grown : xs ++ x ∷ [] ≡ sent client = ap (λ l. l ++ x ∷ []) its.1 ∙ ap (λ l. h.sent client ++ l) (sym (commands_by-own client x [] own)) in
               (ap h.owner t.0 ∙ its.0, ap (λ (y : Entry). y.commands) (sym t.1) ∙ (grown ∙ sym (ap sent t.0)));
           takes = λ e. no_false e;
         }
@@ -197,8 +197,8 @@ takes pass v may x items views h at = (w, record { owner = h.owner; sent = h.sen
     its : (pass ≡ h.taker) × (v.taken ≡ h.got)
     its = mine.takes may
 
-    delivered : (q : ℕ) → commands_of q ((h.got ++ x ∷ []) ++ items) ≡ h.sent q
-    delivered q = ap (commands_of q) (append_assoc h.got (x ∷ []) items) ∙ h.delivered q
+    delivered : (q : ℕ) → commands_by q ((h.got ++ x ∷ []) ++ items) ≡ h.sent q
+    delivered q = ap (commands_by q) (append_assoc h.got (x ∷ []) items) ∙ h.delivered q
 
     parts : (j : ℕ) (u : Hand) → get_elem? (set views pass w) j ≡ opt.some u → KnowsItsPart h.owner h.sent h.taker (h.got ++ x ∷ []) j u
     parts = all_set (λ j u. KnowsItsPart h.owner h.sent h.taker (h.got ++ x ∷ []) j u) views pass w
@@ -370,14 +370,14 @@ learns pass v may items views h at =
     let mine = h.parts pass v at in
     let got = (mine.takes may).1 in
     record {
-      each = λ client e is. ap (λ l. commands_of client (l ++ items)) got ∙ (h.delivered client ∙ sym (mine.entries client e is).1);
-      beyond = λ client past. ap (λ l. commands_of client (l ++ items)) got ∙ (h.delivered client ∙ h.beyond client past);
+      each = λ client e is. ap (λ l. commands_by client (l ++ items)) got ∙ (h.delivered client ∙ sym (mine.entries client e is).1);
+      beyond = λ client past. ap (λ l. commands_by client (l ++ items)) got ∙ (h.delivered client ∙ h.beyond client past);
     }
 
 -- the hand that has taken everything in: the entries of all four clients, and what was taken
 abbrev pub full_hand : List Request → List Request → Hand
 full_hand given arrived = record {
-  entries = entry 0 (commands_of 0 given) ∷ entry 1 (commands_of 1 given) ∷ entry 2 (commands_of 2 given) ∷ entry 3 (commands_of 3 given) ∷ [];
+  entries = entry 0 (commands_by 0 given) ∷ entry 1 (commands_by 1 given) ∷ entry 2 (commands_by 2 given) ∷ entry 3 (commands_by 3 given) ∷ [];
   takes = true;
   taken = arrived;
 }
@@ -394,8 +394,8 @@ arrival given arrived left v is delivers senders count = whole_arrival given arr
     full = subst (λ u. Delivers u left) is delivers
 
     all : IsArrival given (arrived ++ left)
-    all zero = full.each 0 (entry 0 (commands_of 0 given)) refl
-    all (suc zero) = full.each 1 (entry 1 (commands_of 1 given)) refl
-    all (suc (suc zero)) = full.each 2 (entry 2 (commands_of 2 given)) refl
-    all (suc (suc (suc zero))) = full.each 3 (entry 3 (commands_of 3 given)) refl
+    all zero = full.each 0 (entry 0 (commands_by 0 given)) refl
+    all (suc zero) = full.each 1 (entry 1 (commands_by 1 given)) refl
+    all (suc (suc zero)) = full.each 2 (entry 2 (commands_by 2 given)) refl
+    all (suc (suc (suc zero))) = full.each 3 (entry 3 (commands_by 3 given)) refl
     all (suc (suc (suc (suc client)))) = full.beyond (suc (suc (suc (suc client)))) (omega arith) ∙ sym (none_beyond given senders (suc (suc (suc (suc client)))) (omega arith))

@@ -3,13 +3,13 @@ use Rattle.std.specs.Prelude.{ℕ, ◌≡◌, ◌==◌, List, [], ◌∷◌, if�
 use Rattle.kv_store.specs.Commands.{Request}
 
 -- the commands of a client, in their order
-abbrev pub commands_of : ℕ → List Request → List Request
-commands_of client [] = []
-commands_of client (command ∷ commands) =
-    if command.client == client then command ∷ commands_of client commands
-    else commands_of client commands
+abbrev pub commands_by : ℕ → List Request → List Request
+commands_by client [] = []
+commands_by client (command ∷ commands) =
+    if command.client == client then command ∷ commands_by client commands
+    else commands_by client commands
 
 -- of each client, the commands that arrived are those that were given: whole, in order and each
 -- once; and there are no others
 abbrev pub IsArrival : List Request → List Request → Type 0
-IsArrival given arrived = (client : ℕ) → commands_of client arrived ≡ commands_of client given
+IsArrival given arrived = (client : ℕ) → commands_by client arrived ≡ commands_by client given

@@ -5,7 +5,7 @@ use mathlib.Core.Option as opt
 use lib.ListN.{get_elem?}
 use Rattle.kv_store.specs.Commands.{Request}
 use Rattle.mu_input.specs.declared.TheConstants.{MOST_SENDERS}
-use Rattle.front_desk.specs.Arrivals.{commands_of}
+use Rattle.front_desk.specs.Arrivals.{commands_by}
 use Rattle.front_desk.specs.declared.line.Entry.{Entry}
 use Rattle.front_desk.specs.declared.line.Hand.{Hand}
 
@@ -105,7 +105,7 @@ pub record KeepsOrder (standing : List Request) (views : List Hand) : Type 0 whe
   pub sent : ℕ → List Request
   pub taker : ℕ
   pub got : List Request
-  pub delivered : (client : ℕ) → commands_of client (got ++ standing) ≡ sent client
+  pub delivered : (client : ℕ) → commands_by client (got ++ standing) ≡ sent client
   pub beyond : (client : ℕ) → MOST_SENDERS ≤ client → sent client ≡ []
   pub held : (client : ℕ) → client < MOST_SENDERS → HasEntry views (owner client) client
   pub taking : HasTheTaken views taker
@@ -118,5 +118,5 @@ pub record KeepsOrder (standing : List Request) (views : List Hand) : Type 0 whe
 pub record Delivers (v : Hand) (standing : List Request) : Type 0 where
   pub each :
       (client : ℕ) (e : Entry) → entry_of client v.entries ≡ Some e
-      → commands_of client (v.taken ++ standing) ≡ e.commands
-  pub beyond : (client : ℕ) → MOST_SENDERS ≤ client → commands_of client (v.taken ++ standing) ≡ []
+      → commands_by client (v.taken ++ standing) ≡ e.commands
+  pub beyond : (client : ℕ) → MOST_SENDERS ≤ client → commands_by client (v.taken ++ standing) ≡ []

@@ -5,7 +5,7 @@ ghost use Rattle.kv_store.specs.Sessions.{IsInSession};
 ghost use Rattle.mu_input.specs.Batches.{rows_of};
 ghost use Rattle.mu_input.specs.Senders.{HaveSenders, IsForDesk};
 ghost use Rattle.mu_model.specs.Contents.{IsConfig};
-ghost use Rattle.front_desk.specs.Arrivals.{commands_of, IsArrival};
+ghost use Rattle.front_desk.specs.Arrivals.{commands_by, IsArrival};
 ghost use Rattle.front_desk.specs.Collected.{IsCollected};
 ghost use Rattle.front_desk.specs.Line.{taking_hand, whole_hand};
 ghost use Rattle.front_desk.specs.Sendings.{BothSend};
@@ -116,8 +116,8 @@ fn pass_through<R: Threads + Wait + Sync, G: Gate + Sync>(
     requires few { length commands.now ≤ MOST_COMMANDS }
     requires empty { room.items ≡ [] }
     requires room { length commands.now ≤ vec_capacity room }
-    ensures front { BothSend line.now 0 (λ sender. commands_of sender commands.now) result.1.0 }
-    ensures back { BothSend line.now 2 (λ sender. commands_of sender commands.now) result.1.1 }
+    ensures front { BothSend line.now 0 (λ sender. commands_by sender commands.now) result.1.0 }
+    ensures back { BothSend line.now 2 (λ sender. commands_by sender commands.now) result.1.1 }
     ensures pass { IsPassOf line.now result.0.0 }
     ensures hand { view result.0.0 ≡ taking_hand result.0.1.items }
     ensures count { length result.0.1.items ≡ length commands.now }
@@ -136,8 +136,8 @@ fn pass_through<R: Threads + Wait + Sync, G: Gate + Sync>(
             requires { BothSend line.now 0 (λ _. []) front × BothSend line.now 2 (λ _. []) back
                 × (length commands.now ≤ MOST_COMMANDS) }
             ensures { BothSend line.entry.now 0
-                (λ sender. commands_of sender commands.entry.now) result.0
-                × BothSend line.entry.now 2 (λ sender. commands_of sender commands.entry.now)
+                (λ sender. commands_by sender commands.entry.now) result.0
+                × BothSend line.entry.now 2 (λ sender. commands_by sender commands.entry.now)
                 result.1 }
         { send_all(rt, line, front, back, commands, gate) },
     )

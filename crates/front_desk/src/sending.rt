@@ -1,7 +1,7 @@
 //! The sending of commands, a branch for each client.
 ghost use Rattle.std.specs.Prelude.{◌≡◌, ◌+◌, ◌<◌, ◌≤◌, [], ◌∷◌, ◌++◌, length};
 ghost use Rattle.crossbeam_queue.specs.Passes.{view, IsPassOf};
-ghost use Rattle.front_desk.specs.Arrivals.{commands_of};
+ghost use Rattle.front_desk.specs.Arrivals.{commands_by};
 ghost use Rattle.front_desk.specs.Line.{sending_hand};
 ghost use Rattle.front_desk.specs.Sendings.{sent_by, Sends, BothSend};
 
@@ -50,7 +50,7 @@ fn send<R: Wait, G: Gate>(
     requires hand { Sends line.now client [] pass }
     requires client { client < MOST_SENDERS }
     requires few { length commands.now ≤ MOST_COMMANDS }
-    ensures { Sends line.now client (commands_of client commands.now) result }
+    ensures { Sends line.now client (commands_by client commands.now) result }
 {
     let mut count: u32 = 0;
     for command in commands {
@@ -75,7 +75,7 @@ fn send_two<R: Threads + Wait + Sync, G: Gate + Sync>(
     requires hands { BothSend line.now client (λ _. []) pair }
     requires client { client + 1 < MOST_SENDERS }
     requires few { length commands.now ≤ MOST_COMMANDS }
-    ensures { BothSend line.now client (λ sender. commands_of sender commands.now) result }
+    ensures { BothSend line.now client (λ sender. commands_by sender commands.now) result }
 {
     let Pair { low, high } = pair;
     let next = client + 1;
@@ -84,12 +84,12 @@ fn send_two<R: Threads + Wait + Sync, G: Gate + Sync>(
         move ||
             requires { Sends line.now client [] low × (client < MOST_SENDERS)
                 × (length commands.now ≤ MOST_COMMANDS) }
-            ensures { Sends line.entry.now client (commands_of client commands.entry.now) result }
+            ensures { Sends line.entry.now client (commands_by client commands.entry.now) result }
         { send(rt, line, low, client, commands, gate) },
         move ||
             requires { Sends line.now next [] high × (next < MOST_SENDERS)
                 × (length commands.now ≤ MOST_COMMANDS) }
-            ensures { Sends line.entry.now next (commands_of next commands.entry.now) result }
+            ensures { Sends line.entry.now next (commands_by next commands.entry.now) result }
         { send(rt, line, high, next, commands, gate) },
     );
     Pair { low, high }
@@ -107,20 +107,20 @@ pub fn send_all<R: Threads + Wait + Sync, G: Gate + Sync>(
     requires front { BothSend line.now 0 (λ _. []) front }
     requires back { BothSend line.now 2 (λ _. []) back }
     requires few { length commands.now ≤ MOST_COMMANDS }
-    ensures front { BothSend line.now 0 (λ sender. commands_of sender commands.now) result.0 }
-    ensures back { BothSend line.now 2 (λ sender. commands_of sender commands.now) result.1 }
+    ensures front { BothSend line.now 0 (λ sender. commands_by sender commands.now) result.0 }
+    ensures back { BothSend line.now 2 (λ sender. commands_by sender commands.now) result.1 }
 {
     thread::join(
         rt,
         move ||
             requires { BothSend line.now 0 (λ _. []) front × (length commands.now ≤ MOST_COMMANDS) }
             ensures { BothSend line.entry.now 0
-                (λ sender. commands_of sender commands.entry.now) result }
+                (λ sender. commands_by sender commands.entry.now) result }
         { send_two(rt, line, front, 0, commands, gate) },
         move ||
             requires { BothSend line.now 2 (λ _. []) back × (length commands.now ≤ MOST_COMMANDS) }
             ensures { BothSend line.entry.now 2
-                (λ sender. commands_of sender commands.entry.now) result }
+                (λ sender. commands_by sender commands.entry.now) result }
         { send_two(rt, line, back, 2, commands, gate) },
     )
 }

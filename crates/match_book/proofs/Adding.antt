@@ -19,7 +19,7 @@ use Rattle.match_book.specs.Laws.{left_of, quantity_of, quantity_of_op, quantity
 use Rattle.match_book.specs.Ledgers.{HaveDifferentIds, IsLedgerOf, IsMatched, IsObeyed, IsOpStep, Ledger, after_other, after_trades, id_of, is_named, leaving, remaining, takes_part, traded, with_left}
 use Rattle.match_book.specs.Orders.{instruction_of}
 use Rattle.match_book.specs.Places.{arranged, is_same}
-use Rattle.match_book.proofs.Parting.{all_back, clash, either}
+use Rattle.match_book.proofs.Parting.{all_back, not_both, by_cases}
 use Rattle.match_book.proofs.Arranging.{arranged_lessened}
 use Rattle.match_book.proofs.Filling.{filled_split}
 use Rattle.match_book.proofs.Ledgers.{matched_determined}
@@ -44,8 +44,8 @@ clash_of e = cc
 -- of two different orders at most one is this one
 only_one : (id one another : Id) → is_same one another ≡ false → (is_same id one ≡ true → is_same id another ≡ false)
 only_one id one another apart e =
-    either (is_same id another)
-    (λ f. clash (is_same one another) (subst (λ x. is_same x another ≡ true) (same_ids id one e) f) apart)
+    by_cases (is_same id another)
+    (λ f. not_both (is_same one another) (subst (λ x. is_same x another ≡ true) (same_ids id one e) f) apart)
     (λ f. f)
 
 split_part : (a b : Bool) (left rest : ℕ) → (a ≡ true → b ≡ false) → left ≤ rest → cond b (rest - left) 0 + cond (a || b) left 0 ≡ cond b rest 0 + cond a left 0
@@ -83,7 +83,7 @@ filled_adds_up id index order left (best ∷ queue) apart =
 
 left_with : (id : Id) (order : Resting) (left : ℕ) → left_of id (cons_option (with_left order left) []) ≡ own id order.id left
 left_with id order left =
-    either (left == 0)
+    by_cases (left == 0)
     (λ e. let none : left ≡ 0 = grind (arith, nat_tests) in ap (λ o. left_of id (cons_option o [])) (with_none order left none) ∙ sym (nothing (is_same id order.id) left none))
     (λ e. let more : 0 < left = grind (arith, nat_tests) in
     let one = left_more id (leaving order left) [] in

@@ -1,5 +1,5 @@
 -- The arrangement is in order, and stays so as orders come, change and go.
-use Rattle.std.proofs.Common.{◌≡◌, ◌&&◌, ◌⊎◌, inl, inr, ℕ, zero, suc, subst, ◌<◌, ◌≤◌, Bool, true, false, not, cond, List, [], ◌∷◌, ◌++◌, length, get_or, take, drop, None, Some, refl, sym, ap, ◌∙◌, arith, append_assoc, append-nil}
+use Rattle.std.proofs.Common.{◌≡◌, ◌⊎◌, inl, inr, ℕ, zero, suc, subst, ◌<◌, ◌≤◌, Bool, true, false, not, cond, List, [], ◌∷◌, ◌++◌, length, get_or, take, drop, None, Some, refl, sym, ap, ◌∙◌, arith, append_assoc, append-nil}
 use Rattle.std.specs.declared.option.Option.{Option}
 use Rattle.std.specs.List.{AllByRecursion, AllWithin, filter, filter_map, cons_option}
 use Rattle.std.specs.List.Sorted.{IsPartitionPoint, IsPartitionedBy}
@@ -11,10 +11,11 @@ use Rattle.std.specs.List.Sorted.{IsPermutation}
 use Rattle.std.proofs.lemmas.List.Sorted.{IsPermutation-cons, IsPermutation-filter_both, IsPermutation-middle, IsPermutation-refl, IsPermutation-sym, IsPermutation-trans}
 use Rattle.match_book.specs.Ledgers.{leaving}
 use Rattle.match_book.specs.Places.{IsInOrder, arranged, goes_first}
-use Rattle.match_book.proofs.Parting.{clash, either, not_is, all_append, all_fail, all_filter, all_imply, all_pass, filter_middle, filter_other, filter_parted, filters_clash, filters_turn}
+use Rattle.match_book.proofs.Parting.{not_both, by_cases, not_is, all_append, all_fail, all_filter, all_imply, all_pass, filter_middle, filter_other, filter_parted, filters_clash, filters_turn}
 use Rattle.match_book.proofs.Placing.{ahead_closed, goes_first_weak}
 use Rattle.match_book.specs.declared.order.Side.{Side}
 use Rattle.match_book.specs.Filling.{is_ahead}
+use Rattle.std.proofs.lemmas.Bool.{and_parts}
 
 -- whatever isn't placed after one that passes, passes
 abbrev pub IsClosed : (Resting → Bool) → Type 0
@@ -22,7 +23,7 @@ IsClosed p = (one another : Resting) → goes_first another one ≡ false → p 
 
 -- what goes first of one goes first of all that it is not after
 pub closed_before : (order : Resting) → IsClosed (λ one. goes_first one order)
-closed_before order one another after first = either (goes_first one order) (λ e. e) (λ e. clash (goes_first another order) first (goes_first_weak.chain another one order after e))
+closed_before order one another after first = by_cases (goes_first one order) (λ e. e) (λ e. not_both (goes_first another order) first (goes_first_weak.chain another one order after e))
 
 -- what an order doesn't go before
 pub closed_upto : (order : Resting) → IsClosed (λ one. not (goes_first order one))
@@ -32,16 +33,16 @@ closed_upto order one another after upto = ap not (goes_first_weak.chain order a
 pub parted : (p : Resting → Bool) → IsClosed p → (orders : List Resting) → IsInOrder orders → filter p orders ++ filter (λ order. not (p order)) orders ≡ orders
 parted p closed [] is = refl
 parted p closed (order ∷ orders) is =
-    either (p order)
+    by_cases (p order)
     (λ e. ap (λ b. cond b (order ∷ filter p orders) (filter p orders) ++ cond (not b) (order ∷ filter (λ o. not (p o)) orders) (filter (λ o. not (p o)) orders)) e ∙ ap (λ rest. order ∷ rest) (parted p closed orders is.1))
     (λ e.
-    let fail : AllByRecursion (λ o. p o ≡ false) (order ∷ orders) = (e, all_imply (λ o. goes_first o order ≡ false) (λ o. p o ≡ false) (λ o after. either (p o) (λ f. clash (p order) (closed order o after f) e) (λ f. f)) orders is.0) in
+    let fail : AllByRecursion (λ o. p o ≡ false) (order ∷ orders) = (e, all_imply (λ o. goes_first o order ≡ false) (λ o. p o ≡ false) (λ o after. by_cases (p o) (λ f. not_both (p order) (closed order o after f) e) (λ f. f)) orders is.0) in
     let front : filter p (order ∷ orders) ≡ [] = filter_parted p [] (order ∷ orders) tt fail in
     let back : filter (λ o. not (p o)) (order ∷ orders) ≡ order ∷ orders = filter_other p [] (order ∷ orders) tt fail in
     ap (λ xs. xs ++ filter (λ o. not (p o)) (order ∷ orders)) front ∙ back)
 
 front_at : {X : Type 0} (p : X → Bool) (front back : List X) → AllByRecursion (λ x. p x ≡ true) front → AllByRecursion (λ x. p x ≡ false) back → (i j : ℕ) (d : X) → i ≤ j → j < length (front ++ back) → p (get_or (front ++ back) j d) ≡ true → p (get_or (front ++ back) i d) ≡ true
-front_at p [] back pass fail i j d le below e = clash (p (get_or back j d)) e (All-from_recursion (λ x. p x ≡ false) back fail j d below)
+front_at p [] back pass fail i j d le below e = not_both (p (get_or back j d)) e (All-from_recursion (λ x. p x ≡ false) back fail j d below)
 front_at p (x ∷ front) back pass fail zero j d le below e = pass.0
 front_at p (x ∷ front) back pass fail (suc i) zero d le below e = absurd (omega arith)
 front_at p (x ∷ front) back pass fail (suc i) (suc j) d le below e = front_at p front back pass.1 fail i j d (omega arith) (omega arith) e
@@ -150,7 +151,7 @@ arranged_lessened h less (first ∷ later) =
     ∙ sym (filter_map-append h (filter (λ o. goes_first o first) (arranged later)) (first ∷ filter (λ o. not (goes_first o first)) (arranged later)))
 
 choose_pass : (p : Resting → Bool) (order : Resting) → (cond (p order) (Some order) None ≡ None) ⊎ ((left : ℕ) × (cond (p order) (Some order) None ≡ Some (leaving order left)))
-choose_pass p order = either (p order) (λ e. inr (order.left, ap (λ b. cond b (Some order) None) e)) (λ e. inl (ap (λ b. cond b (Some order) None) e))
+choose_pass p order = by_cases (p order) (λ e. inr (order.left, ap (λ b. cond b (Some order) None) e)) (λ e. inl (ap (λ b. cond b (Some order) None) e))
 
 cons_cond : (b : Bool) (order : Resting) (orders : List Resting) → cons_option (cond b (Some order) None) orders ≡ cond b (order ∷ orders) orders
 cons_cond true order orders = refl
@@ -180,7 +181,7 @@ last_earlier order first sorted e =
     let a = filter u (filter p sorted) in
     let b = filter v (filter p sorted) in
     let d = filter v (filter n sorted) in
-    let never : filter n (filter u sorted) ≡ [] = filters_clash n u (λ o f. either (n o) (λ g. clash (goes_first order first) e (goes_first_weak.chain order o first (not_is (goes_first order o) f) (not_is (goes_first o first) g))) (λ g. g)) sorted in
+    let never : filter n (filter u sorted) ≡ [] = filters_clash n u (λ o f. by_cases (n o) (λ g. not_both (goes_first order first) e (goes_first_weak.chain order o first (not_is (goes_first order o) f) (not_is (goes_first o first) g))) (λ g. g)) sorted in
     let one : filter p (with_last order sorted) ≡ a ++ order ∷ b = through p true (filter u sorted) order (filter v sorted) e ∙ ap (λ xs. xs ++ order ∷ filter p (filter v sorted)) (filters_turn p u sorted) ∙ ap (λ xs. a ++ order ∷ xs) (filters_turn p v sorted) in
     let two : filter n (with_last order sorted) ≡ d = through n false (filter u sorted) order (filter v sorted) (ap not e) ∙ ap (λ xs. xs ++ filter n (filter v sorted)) never ∙ filters_turn n v sorted in
     let three : filter u (filter p sorted ++ first ∷ filter n sorted) ≡ a = through u false (filter p sorted) first (filter n sorted) (ap not e) ∙ ap (λ xs. a ++ xs) (filters_turn u n sorted ∙ never) ∙ append-nil a in
@@ -199,7 +200,7 @@ last_later order first sorted e =
     let a = filter u (filter p sorted) in
     let c = filter u (filter n sorted) in
     let d = filter v (filter n sorted) in
-    let never : filter v (filter p sorted) ≡ [] = filters_clash v p (λ o f. either (v o) (λ g. clash (goes_first o first) f (goes_first_weak.chain o order first (goes_first_weak.one_way order o g) e)) (λ g. g)) sorted in
+    let never : filter v (filter p sorted) ≡ [] = filters_clash v p (λ o f. by_cases (v o) (λ g. not_both (goes_first o first) f (goes_first_weak.chain o order first (goes_first_weak.one_way order o g) e)) (λ g. g)) sorted in
     let one : filter p (with_last order sorted) ≡ a = through p false (filter u sorted) order (filter v sorted) e ∙ ap (λ xs. xs ++ filter p (filter v sorted)) (filters_turn p u sorted) ∙ ap (λ xs. a ++ xs) (filters_turn p v sorted ∙ never) ∙ append-nil a in
     let two : filter n (with_last order sorted) ≡ c ++ order ∷ d = through n true (filter u sorted) order (filter v sorted) (ap not e) ∙ ap (λ xs. xs ++ order ∷ filter n (filter v sorted)) (filters_turn n u sorted) ∙ ap (λ xs. c ++ order ∷ xs) (filters_turn n v sorted) in
     let three : filter u (filter p sorted ++ first ∷ filter n sorted) ≡ a ++ first ∷ c = through u true (filter p sorted) first (filter n sorted) (ap not e) in
@@ -214,7 +215,7 @@ pub arranged_last : (book : List Resting) (order : Resting) → arranged (book +
 arranged_last [] order = refl
 arranged_last (first ∷ later) order =
     ap (λ xs. filter (λ o. goes_first o first) xs ++ first ∷ filter (λ o. not (goes_first o first)) xs) (arranged_last later order)
-    ∙ either (goes_first order first) (last_earlier order first (arranged later)) (last_later order first (arranged later))
+    ∙ by_cases (goes_first order first) (last_earlier order first (arranged later)) (last_later order first (arranged later))
 
 -- as many of each order
 pub arranged_permutes : (book : List Resting) → IsPermutation book (arranged book)
@@ -229,15 +230,11 @@ arranged_permutes (first ∷ later) =
     let moved = IsPermutation-sym whole (first ∷ (front ++ back)) (IsPermutation-middle front first back) in
     IsPermutation-trans (first ∷ later) (first ∷ arranged later) whole (IsPermutation-cons first later (arranged later) (arranged_permutes later)) (IsPermutation-trans (first ∷ arranged later) (first ∷ (front ++ back)) whole split moved)
 
-both_true : (a b : Bool) → (a && b) ≡ true → (a ≡ true) × (b ≡ true)
-both_true true b e = (refl, e)
-both_true false b e = cc
-
 -- what stands with an order that stands with another goes first of neither
 level : (order first o : Resting) → stands_with order first ≡ true → stands_with order o ≡ true → goes_first o first ≡ false
 level order first o one two =
-    let a = both_true (not (goes_first order first)) (not (goes_first first order)) one in
-    let b = both_true (not (goes_first order o)) (not (goes_first o order)) two in
+    let a = and_parts (not (goes_first order first)) (not (goes_first first order)) one in
+    let b = and_parts (not (goes_first order o)) (not (goes_first o order)) two in
     goes_first_weak.chain o order first (not_is (goes_first o order) b.1) (not_is (goes_first order first) a.0)
 
 -- those of one symbol, side and price stand in order of arrival
@@ -251,9 +248,9 @@ arrival_kept order (first ∷ later) =
     let back = filter n (arranged later) in
     let all : filter t front ++ filter t back ≡ filter t later = sym (filter-append t front back) ∙ ap (filter t) (parted p (closed_before first) (arranged later) (arranged_in_order later)) ∙ arrival_kept order later in
     filter_middle t front first back
-    ∙ either (t first)
+    ∙ by_cases (t first)
     (λ e.
-    let none : filter t front ≡ [] = filters_clash t p (λ o f. either (t o) (λ g. clash (goes_first o first) f (level order first o e g)) (λ g. g)) (arranged later) in
+    let none : filter t front ≡ [] = filters_clash t p (λ o f. by_cases (t o) (λ g. not_both (goes_first o first) f (level order first o e g)) (λ g. g)) (arranged later) in
     let rest : filter t back ≡ filter t later = sym (ap (λ xs. xs ++ filter t back) none) ∙ all in
     ap (λ xs. xs ++ cond (t first) (first ∷ filter t back) (filter t back)) none
     ∙ ap (λ xs. cond (t first) (first ∷ xs) xs) rest)

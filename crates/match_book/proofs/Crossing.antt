@@ -19,7 +19,7 @@ use Rattle.match_book.specs.Filling.{before_others, filled, from_others, is_ahea
 use Rattle.match_book.specs.Ledgers.{HaveDifferentIds, IsLedgerOf, IsMatched, IsObeyed, IsOpStep, Ledger, after_trades, id_of, is_named, leaving, remaining, traded, with_left}
 use Rattle.match_book.specs.Orders.{instruction_of}
 use Rattle.match_book.specs.Places.{IsInOrder, arranged, crosses, goes_first, is_equal_side, meet, other}
-use Rattle.match_book.proofs.Parting.{all_append, all_fail, all_filter, all_imply, all_pass, either, parted_all}
+use Rattle.match_book.proofs.Parting.{all_append, all_fail, all_filter, all_imply, all_pass, by_cases, parted_all}
 use Rattle.match_book.proofs.Arranging.{Lessens, arranged_in_order, arranged_lessened, in_order_filter}
 use Rattle.match_book.proofs.Filling.{filled_split}
 use Rattle.match_book.proofs.Ledgers.{matched_determined}
@@ -115,7 +115,7 @@ remaining_free index order book own different some left =
 
 with_free : (order : Resting) (left : ℕ) (book : List Resting) → AreFree book → (0 < left → IsFree order book) → AreFree (book ++ cons_option (with_left order left) [])
 with_free order left book are free =
-    either (left == 0)
+    by_cases (left == 0)
     (λ e. let none : left ≡ 0 = grind (arith, nat_tests) in subst (λ o. AreFree (book ++ cons_option o [])) (sym (with_none order left none)) (subst AreFree (sym (append-nil book)) are))
     (λ e. let more : 0 < left = grind (arith, nat_tests) in subst (λ o. AreFree (book ++ cons_option o [])) (sym (with_some order left more)) (free_last book (leaving order left) are (free more)))
 

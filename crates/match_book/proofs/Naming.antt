@@ -16,8 +16,9 @@ use Rattle.match_book.specs.declared.order.Side.TheVariants.{Buy, Sell}
 use Rattle.match_book.specs.Filling.{is_ahead}
 use Rattle.match_book.specs.Ledgers.{is_named}
 use Rattle.match_book.specs.Places.{is_same, side_placing}
-use Rattle.match_book.proofs.Parting.{all_imply, all_pass, clash, either, filter_all}
-use Rattle.match_book.proofs.Remaining.{AreDifferent, IsApart, both_of, same_ids}
+use Rattle.match_book.proofs.Parting.{all_imply, all_pass, not_both, by_cases, filter_all}
+use Rattle.match_book.proofs.Remaining.{AreDifferent, IsApart, same_ids}
+use Rattle.std.proofs.lemmas.Bool.{and_parts}
 
 and_false : (b : Bool) → (b && false) ≡ false
 and_false true = refl
@@ -32,17 +33,17 @@ equal_not_ahead Equal Sell e = refl
 -- no order of a symbol stands ahead of the symbol
 pub named_not_ahead : (id : Id) (symbol : List ℕ) (order : Resting) → is_ahead symbol Buy order ≡ true → is_named id symbol order ≡ false
 named_not_ahead id symbol order ahead =
-    either (bytes_eq symbol order.symbol)
+    by_cases (bytes_eq symbol order.symbol)
     (λ e.
     let same : symbol ≡ order.symbol = (bytes_eq-Decides symbol order.symbol).0 e in
     let tie : bytes_eq order.symbol symbol ≡ true = (bytes_eq-Decides order.symbol symbol).1 (sym same) in
     let equal : is_eq (slice_cmp nat_cmp order.symbol symbol) ≡ true = sym (texts_ties order.symbol symbol) ∙ tie in
-    clash (is_ahead symbol Buy order) ahead (equal_not_ahead (slice_cmp nat_cmp order.symbol symbol) order.side equal))
+    not_both (is_ahead symbol Buy order) ahead (equal_not_ahead (slice_cmp nat_cmp order.symbol symbol) order.side equal))
     (λ e. ap (λ b. is_same id order.id && b) e ∙ and_false (is_same id order.id))
 
 others_unnamed : (id : Id) (symbol : List ℕ) (order : Resting) (orders : List Resting) → is_named id symbol order ≡ true → IsApart order.id orders → AllByRecursion (λ o. not (is_named id symbol o) ≡ true) orders
 others_unnamed id symbol order orders named apart =
-    let same : id ≡ order.id = same_ids id order.id (both_of (is_same id order.id) (bytes_eq symbol order.symbol) named).0 in
+    let same : id ≡ order.id = same_ids id order.id (and_parts (is_same id order.id) (bytes_eq symbol order.symbol) named).0 in
     all_imply (λ o. is_same order.id o.id ≡ false) (λ o. not (is_named id symbol o) ≡ true)
     (λ o e. ap not (ap (λ b. b && bytes_eq symbol o.symbol) (subst (λ i. is_same i o.id ≡ false) (sym same) e))) orders apart
 
@@ -54,7 +55,7 @@ filter_named id symbol (order ∷ orders) different =
     let n = position_or_len p orders in
     let rest = λ (b : Bool). cond (not b) (order ∷ filter (λ o. not (p o)) orders) (filter (λ o. not (p o)) orders) in
     let place = λ (b : Bool). cond (not b) (1 + n) 0 in
-    either (p order)
+    by_cases (p order)
     (λ e. ap rest e ∙ filter_all (λ o. not (p o)) orders (others_unnamed id symbol order orders e different.0) ∙ sym (ap (λ b. remove (order ∷ orders) (place b)) e))
     (λ e. let next : 1 + n ≡ suc n = omega arith in ap rest e ∙ ap (λ xs. order ∷ xs) (filter_named id symbol orders different.1) ∙ sym (ap (λ b. remove (order ∷ orders) (place b)) e ∙ ap (remove (order ∷ orders)) next))
 

@@ -4,13 +4,13 @@ use Rattle.std.specs.List.{AllByRecursion, filter}
 use Rattle.std.proofs.lemmas.List.Elements.{filter-append}
 
 -- both cases of a test
-pub either : {A : Type 0} (b : Bool) → (b ≡ true → A) → (b ≡ false → A) → A
-either true f g = f refl
-either false f g = g refl
+pub by_cases : {A : Type 0} (b : Bool) → (b ≡ true → A) → (b ≡ false → A) → A
+by_cases true f g = f refl
+by_cases false f g = g refl
 
-pub clash : {A : Type 0} (b : Bool) → b ≡ true → b ≡ false → A
-clash true e f = cc
-clash false e f = cc
+pub not_both : {A : Type 0} (b : Bool) → b ≡ true → b ≡ false → A
+not_both true e f = cc
+not_both false e f = cc
 
 pub not_is : (b : Bool) → not b ≡ true → b ≡ false
 not_is true e = cc

@@ -10,7 +10,7 @@ use Rattle.match_book.specs.declared.order.Side.{Side}
 use Rattle.match_book.specs.declared.order.Side.TheVariants.{Buy, Sell}
 use Rattle.match_book.specs.Places.{crosses, goes_first, is_equal_side, meet, other, placing, price_placing, side_placing}
 use Rattle.match_book.specs.Filling.{is_ahead}
-use Rattle.match_book.proofs.Parting.{clash, either}
+use Rattle.match_book.proofs.Parting.{not_both, by_cases}
 use Rattle.std.proofs.lemmas.Bool.Decides.{nat_tests}
 
 -- the side and the price alone
@@ -94,7 +94,7 @@ not_before_spot Greater s p e = refl
 pub ahead_closed : (symbol : List ℕ) (side : Side) (one another : Resting) → goes_first another one ≡ false → is_ahead symbol side another ≡ true → is_ahead symbol side one ≡ true
 ahead_closed symbol side one another after ahead =
     let spot : is_lt (spot_placing (another.symbol, another.side) (one.symbol, one.side)) ≡ false = not_before_spot (slice_cmp nat_cmp another.symbol one.symbol) (side_placing another.side one.side) (price_placing another.side another.price one.price) after in
-    either (is_ahead symbol side one) (λ e. e) (λ e. clash (is_ahead symbol side another) ahead (spots_weak.chain (another.symbol, another.side) (one.symbol, one.side) (symbol, side) spot e))
+    by_cases (is_ahead symbol side one) (λ e. e) (λ e. not_both (is_ahead symbol side another) ahead (spots_weak.chain (another.symbol, another.side) (one.symbol, one.side) (symbol, side) spot e))
 
 price_meets : (p q : ℕ) → nat_le q p ≡ not (is_lt (nat_cmp p q))
 price_meets p q = grind (arith, nat_tests)

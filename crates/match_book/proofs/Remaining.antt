@@ -11,10 +11,11 @@ use Rattle.match_book.specs.declared.order.Trade.{Trade}
 use Rattle.match_book.specs.Filling.{filled}
 use Rattle.match_book.specs.Ledgers.{buyer, leaving, remaining, takes_part, trade_with, traded, with_left}
 use Rattle.match_book.specs.Places.{is_same}
-use Rattle.match_book.proofs.Parting.{either}
+use Rattle.match_book.proofs.Parting.{by_cases}
 use Rattle.match_book.proofs.Arranging.{Lessens}
 use Rattle.match_book.proofs.Filling.{filled_cases, filled_split}
 use Rattle.match_book.proofs.Trading.{HaveSomeLeft}
+use Rattle.std.proofs.lemmas.Bool.{and_parts}
 
 pub same_number : (m n : ℕ) → (m == n) ≡ (n == m)
 same_number m n = grind (arith, nat_tests)
@@ -26,14 +27,10 @@ same_turn one another = ap (λ b. b && one.number == another.number) (same_numbe
 pub same_itself : (id : Id) → is_same id id ≡ true
 same_itself id = ap (λ b. b && id.number == id.number) ((Decides-eqb id.client id.client).1 refl) ∙ (Decides-eqb id.number id.number).1 refl
 
-pub both_of : (a b : Bool) → (a && b) ≡ true → (a ≡ true) × (b ≡ true)
-both_of true b e = (refl, e)
-both_of false b e = cc
-
 -- one id
 pub same_ids : (one another : Id) → is_same one another ≡ true → one ≡ another
 same_ids one another e =
-    let parts = both_of (one.client == another.client) (one.number == another.number) e in
+    let parts = and_parts (one.client == another.client) (one.number == another.number) e in
     let client : one.client ≡ another.client = (Decides-eqb one.client another.client).0 parts.0 in
     let number : one.number ≡ another.number = (Decides-eqb one.number another.number).0 parts.1 in
     ap (λ n. record { client = n; number = one.number }) client ∙ ap (λ n. record { client = another.client; number = n }) number
@@ -162,11 +159,11 @@ remaining_filled index order left (best ∷ queue) own different some =
 pub remaining_lessens : (trades : List Trade) → Lessens (remaining trades)
 remaining_lessens trades order =
     let n = order.left - traded order.id trades in
-    either (n == 0) (λ e. inl (ap (λ b. cond b None (Some (leaving order n))) e)) (λ e. inr (n, ap (λ b. cond b None (Some (leaving order n))) e))
+    by_cases (n == 0) (λ e. inl (ap (λ b. cond b None (Some (leaving order n))) e)) (λ e. inr (n, ap (λ b. cond b None (Some (leaving order n))) e))
 
 some_with : (order : Resting) (left : ℕ) (orders : List Resting) → HaveSomeLeft orders → HaveSomeLeft (cons_option (with_left order left) orders)
 some_with order left orders some =
-    either (left == 0)
+    by_cases (left == 0)
     (λ e. let none : left ≡ 0 = grind (arith, nat_tests) in subst (λ o. HaveSomeLeft (cons_option o orders)) (sym (with_none order left none)) some)
     (λ e. let more : 1 ≤ left = grind (arith, nat_tests) in subst (λ o. HaveSomeLeft (cons_option o orders)) (sym (with_some order left more)) (more, some))
 

@@ -8,7 +8,7 @@ use Rattle.kv_store.specs.Sessions.{CountsFrom, IsInSession, numbers_of}
 use Rattle.match_book.specs.declared.order.Id.{Id}
 use Rattle.match_book.specs.Ledgers.{HaveDifferentIds, id_of}
 use Rattle.match_book.specs.Places.{is_same}
-use Rattle.match_book.proofs.Parting.{either}
+use Rattle.match_book.proofs.Parting.{by_cases}
 use Rattle.match_book.proofs.Remaining.{same_number}
 use Rattle.match_book.proofs.Sound.{times_placed}
 
@@ -39,7 +39,7 @@ once_counted n first (number ∷ numbers) counts =
     let is : number ≡ first = counts.0 in
     let more = counted_more n number numbers in
     let rest = once_counted n (first + 1) numbers counts.1 in
-    either (n == number)
+    by_cases (n == number)
     (λ e. let same : n ≡ number = (Decides-eqb n number).0 e in
     let none = none_below n (first + 1) numbers counts.1 (omega arith) in
     let one : number_if (n == number) ≡ 1 = ap number_if e in

@@ -14,10 +14,11 @@ use Rattle.match_book.specs.declared.order.Resting.{Resting}
 use Rattle.match_book.specs.Ledgers.{HaveDifferentIds, IsLedgerOf, IsMatched, IsObeyed, IsOpStep, IsStep, LeadsTo, Ledger, empty_ledger, id_of, is_named, leaving, queue_for, remaining, trades_with}
 use Rattle.match_book.specs.Orders.{instruction_of}
 use Rattle.match_book.specs.Places.{arranged, goes_first, is_same}
-use Rattle.match_book.proofs.Parting.{all_append, all_filter, either}
+use Rattle.match_book.proofs.Parting.{all_append, all_filter, by_cases}
 use Rattle.match_book.proofs.Arranging.{Lessens}
 use Rattle.match_book.proofs.Trading.{HaveSomeLeft}
 use Rattle.match_book.proofs.Remaining.{AreDifferent, IsApart, remaining_lessens, remaining_some, same_itself}
+use Rattle.match_book.proofs.Fronts.{different_front}
 
 -- a sum over the arrangement is the sum over the book
 pub sum_arranged : (f : Resting → ℕ) (book : List Resting) → sum_by f (arranged book) ≡ sum_by f book
@@ -49,7 +50,7 @@ pub apart_from : (id : Id) (orders : List Resting) → times id orders ≡ 0 →
 apart_from id [] none = tt
 apart_from id (order ∷ orders) none =
     let more = times_more id order orders in (
-      either (is_same id order.id) (λ e. let one : times id (order ∷ orders) ≡ 1 + times id orders = more ∙ ap (λ b. cond b 1 0 + times id orders) e in absurd (omega arith)) (λ e. e),
+      by_cases (is_same id order.id) (λ e. let one : times id (order ∷ orders) ≡ 1 + times id orders = more ∙ ap (λ b. cond b 1 0 + times id orders) e in absurd (omega arith)) (λ e. e),
       apart_from id orders (omega arith),
     )
 
@@ -154,12 +155,6 @@ apart_new commands command ledger once sound =
 pub different_book : (commands : List Request) (command : Request) (ledger : Ledger) → HaveDifferentIds (commands ++ command ∷ []) → IsSound commands ledger → AreDifferent (arranged ledger.book)
 different_book commands command ledger once sound =
     different_from (arranged ledger.book) (λ id. let a = sum_arranged (λ (o : Resting). cond (is_same id o.id) 1 0) ledger.book in let b = once_each commands command ledger once sound id in omega arith)
-
-different_front : (commands others : List Request) → HaveDifferentIds (commands ++ others) → HaveDifferentIds commands
-different_front commands others once id =
-    let f : Request → ℕ = λ c. cond (is_same id (id_of c)) 1 0 in
-    let all = once id in
-    omega (arith, sum_by-append f commands others)
 
 -- what each step keeps
 abbrev pub IsKept : (List Request → Ledger → Type 0) → Type 0

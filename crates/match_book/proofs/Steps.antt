@@ -7,7 +7,7 @@ use Rattle.match_book.specs.declared.order.Resting.{Resting}
 use Rattle.match_book.specs.Filling.{Filled, before_others, filled, from_others, is_ahead, rested}
 use Rattle.match_book.specs.Ledgers.{IsMatched, Ledger, after_trades, leaving, queue_for, remaining, traded, trades_with, with_left}
 use Rattle.match_book.specs.Places.{arranged, crosses, goes_first, is_same, other}
-use Rattle.match_book.proofs.Parting.{all_back, all_fail, all_filter, all_front, either, filters_clash}
+use Rattle.match_book.proofs.Parting.{all_back, all_fail, all_filter, all_front, by_cases, filters_clash}
 use Rattle.match_book.proofs.Placing.{crosses_is, mirror}
 use Rattle.match_book.proofs.Arranging.{arranged_in_order, arranged_last, arranged_lessened, closed_ahead, in_order_filter, parted, with_last}
 use Rattle.match_book.proofs.Trading.{HaveSomeLeft, amounts, amounts_are_traded, filled_trades}
@@ -79,7 +79,7 @@ arranged_remaining index order book own different some =
 
 rested_is : (order : Resting) (left : ℕ) (book : List Resting) → arranged (book ++ cons_option (with_left order left) []) ≡ rested order left (arranged book)
 rested_is order left book =
-    either (left == 0)
+    by_cases (left == 0)
     (λ e. let none : left ≡ 0 = grind (arith, nat_tests) in
     ap (λ o. arranged (book ++ cons_option o [])) (with_none order left none) ∙ ap arranged (append-nil book) ∙ sym (ap (λ b. cond b (arranged book) (with_last (leaving order left) (arranged book))) e))
     (λ e. let more : 0 < left = grind (arith, nat_tests) in

@@ -7,7 +7,7 @@ use Rattle.match_book.specs.declared.order.Resting.{Resting}
 use Rattle.match_book.specs.Filling.{filled, is_ahead}
 use Rattle.match_book.specs.Ledgers.{AreTraded, trade_with, trades_with}
 use Rattle.match_book.specs.Places.{IsInOrder, crosses, goes_first, other}
-use Rattle.match_book.proofs.Parting.{all_imply, clash, either, filter_parted}
+use Rattle.match_book.proofs.Parting.{all_imply, not_both, by_cases, filter_parted}
 use Rattle.match_book.proofs.Placing.{crosses_is, goes_first_weak, mirror}
 use Rattle.match_book.proofs.Filling.{filled_split, filled_stop}
 
@@ -80,8 +80,8 @@ end_enough (suc left) = inr (refl, omega arith)
 pub amounts_are_traded : (left : ℕ) (queue : List Resting) → HaveSomeLeft queue → AreTraded left queue (amounts left queue)
 amounts_are_traded left [] some = record { few = omega arith; whole = λ k d below. absurd (omega arith); last = λ k d at. absurd (omega arith); enough = end_enough left }
 amounts_are_traded left (best ∷ queue) some =
-    either (nat_lt 0 left)
-    (λ a. either (nat_lt left best.left)
+    by_cases (nat_lt 0 left)
+    (λ a. by_cases (nat_lt left best.left)
     (λ c. let one : 0 < left = grind (arith, nat_tests) in let part : left < best.left = grind (arith, nat_tests) in
     subst (AreTraded left (best ∷ queue)) (sym (amounts_part left best queue one part)) (part_traded left best queue (omega arith) part))
     (λ c. let one : 0 < left = grind (arith, nat_tests) in let whole : best.left ≤ left = grind (arith, nat_tests) in
@@ -104,7 +104,7 @@ sum_within left queue quantities (inr e) = omega arith
 
 one_is : (left : ℕ) (best : Resting) (queue : List Resting) (a : ℕ) → 1 ≤ a → a ≤ best.left → (sum (a ∷ []) ≡ left) ⊎ ((a ∷ [] ≡ map (λ (resting : Resting). resting.left) (best ∷ queue)) × (sum (a ∷ []) < left)) → a ∷ [] ≡ amounts left (best ∷ queue)
 one_is left best queue a some few (inl e) =
-    either (nat_lt left best.left)
+    by_cases (nat_lt left best.left)
     (λ c. let part : left < best.left = grind (arith, nat_tests) in let is : a ≡ left = omega (arith, sum_cons a [], e) in ap (λ n. n ∷ []) is ∙ sym (amounts_part left best queue (omega arith) part))
     (λ c. let whole : best.left ≤ left = grind (arith, nat_tests) in let same : a ≡ left = omega (arith, sum_cons a [], e) in let is : a ≡ best.left = omega arith in ap (λ n. n ∷ []) is ∙ sym (ap (λ xs. best.left ∷ xs) (amounts_none (left - best.left) queue (omega arith))) ∙ sym (amounts_whole left best queue (omega arith) whole))
 one_is left best [] a some few (inr e) = let is : a ≡ best.left = cc in let below : a < left = omega (arith, sum_cons a [], e.1) in ap (λ n. n ∷ []) is ∙ sym (amounts_whole left best [] (omega arith) (omega arith))
@@ -138,7 +138,7 @@ and_false false = refl
 
 stopped : (left : ℕ) (b : Bool) → (left ≡ 0) ⊎ (b ≡ false) → b ≡ true → left ≡ 0
 stopped left b (inl e) f = e
-stopped left b (inr e) f = clash b f e
+stopped left b (inr e) f = not_both b f e
 
 -- no order of those that don't stand ahead and aren't placed before one that isn't crossed is crossed
 pub none_crossed : (order best : Resting) (queue : List Resting) → is_ahead order.symbol (other order.side) best ≡ false → crosses order best ≡ false → AllByRecursion (λ o. goes_first o best ≡ false) queue → AllByRecursion (λ o. crosses order o ≡ false) queue
@@ -146,9 +146,9 @@ none_crossed order best queue here free after =
     let m = mirror order in
     let first : not (goes_first m best) ≡ false = sym (ap (λ b. not b && not (goes_first m best)) here) ∙ sym (crosses_is order best) ∙ free in
     all_imply (λ o. goes_first o best ≡ false) (λ o. crosses order o ≡ false) (λ o e.
-    either (goes_first m o)
+    by_cases (goes_first m o)
     (λ f. crosses_is order o ∙ ap (λ b. not (is_ahead order.symbol (other order.side) o) && not b) f ∙ and_false (not (is_ahead order.symbol (other order.side) o)))
-    (λ f. clash (not (goes_first m best)) (ap not (goes_first_weak.chain m o best f e)) first)) queue after
+    (λ f. not_both (not (goes_first m best)) (ap not (goes_first_weak.chain m o best f e)) first)) queue after
 
 trades_none : (index : ℕ) (order : Resting) (queue : List Resting) → trades_with index order queue [] ≡ []
 trades_none index order [] = refl
@@ -159,7 +159,7 @@ pub filled_trades : (index : ℕ) (order : Resting) (left : ℕ) (queue : List R
     (filled index order left queue).trades ≡ trades_with index order (filter (crosses order) queue) (amounts left (filter (crosses order) queue))
 filled_trades index order left [] is here = refl
 filled_trades index order left (best ∷ queue) is here =
-    either (crosses order best)
+    by_cases (crosses order best)
     (λ e.
     let crossed : filter (crosses order) (best ∷ queue) ≡ best ∷ filter (crosses order) queue = ap (λ b. cond b (best ∷ filter (crosses order) queue) (filter (crosses order) queue)) e in
     filled_split (λ f. f.trades ≡ trades_with index order (filter (crosses order) (best ∷ queue)) (amounts left (filter (crosses order) (best ∷ queue)))) index order best left queue

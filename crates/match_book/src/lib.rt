@@ -36,7 +36,7 @@ pub fn books_are_arranged()
 {}
 
 /// Commands lead to one ledger alone.
-pub fn determined()
+pub fn ledgers_are_determined()
     ensures { IsDetermined }
 {}
 
@@ -46,7 +46,7 @@ pub fn sessions_differ()
 {}
 
 /// In no symbol is the best price of a buy at or above the best price of a sell.
-pub fn uncrossed()
+pub fn books_are_uncrossed()
     ensures { IsUncrossed }
 {}
 

@@ -21,7 +21,7 @@ use Rattle.mu_model.proofs.Owned.{IsOwnTest, IsOwn, newest-part, since-part, has
 use Rattle.std.proofs.lemmas.List.{reverse-append, append_assoc}
 use mathlib.Core.List.{reverse}
 use Rattle.mu_agree.proofs.Entering.{slot_entered}
-use Rattle.mu_agree.proofs.Legal.{made, legal_induction, legal_older}
+use Rattle.mu_agree.proofs.Legal.{event_after, legal_induction, legal_older}
 use Rattle.mu_model.proofs.Basics.{same_some}
 
 -- what r noted of p is a grant that was given, and while it stands r is the owner
@@ -42,27 +42,27 @@ noting_seen r f g e = go (not f.closing && owner_is r f.owner) refl e
     go true h k = let i : f.grant ≡ g = same_some f.grant g k in (omega arith, λ _. noted_now r g f.owner (and_parts (not f.closing) (owner_is r f.owner) h).1)
     go false h k = cc
 
-noting_ask : (c : Config) (r p by q : ℕ) (past : List Event) → Noting r p past → (t : Bool) → is_first_ask r by (Verb.Ask q) ≡ t → Noting r p (made c past by (Verb.Ask q) ∷ past)
+noting_ask : (c : Config) (r p by q : ℕ) (past : List Event) → Noting r p past → (t : Bool) → is_first_ask r by (Verb.Ask q) ≡ t → Noting r p (event_after c past by (Verb.Ask q) ∷ past)
 noting_ask c r p by q past n true h = rw h (λ g e. cc)
 noting_ask c r p by q past n false h = rw h n
 
-noting_fence : (c : Config) (r p by q : ℕ) (past : List Event) → Noting r p past → (t : Bool) → ((by == r) && (q == p)) ≡ t → Noting r p (made c past by (Verb.Fence q) ∷ past)
+noting_fence : (c : Config) (r p by q : ℕ) (past : List Event) → Noting r p past → (t : Bool) → ((by == r) && (q == p)) ≡ t → Noting r p (event_after c past by (Verb.Fence q) ∷ past)
 noting_fence c r p by q past n true h =
     rw h (subst (λ x. NotedIs r (grant_for r (Some (fence x past))) (fence_grant p past) (fence_owner p past)) (sym (eqb-true q p (and_parts (by == r) (q == p) h).1)) (noting_seen r (fence p past)))
 noting_fence c r p by q past n false h = rw h n
 
-noting_grant : (c : Config) (r p by w : ℕ) (past : List Event) → Noting r p past → (t : Bool) → (by == p) ≡ t → Noting r p (made c past by (Verb.Grant w) ∷ past)
+noting_grant : (c : Config) (r p by w : ℕ) (past : List Event) → Noting r p past → (t : Bool) → (by == p) ≡ t → Noting r p (event_after c past by (Verb.Grant w) ∷ past)
 noting_grant c r p by w past n true h = rw h (λ g e. (omega (arith, (n g e).0), λ k. absurd (omega (arith, (n g e).0))))
 noting_grant c r p by w past n false h = rw h n
 
-noting_step : (c : Config) (r p by : ℕ) (v : Verb) (past : List Event) → Noting r p past → Noting r p (made c past by v ∷ past)
+noting_step : (c : Config) (r p by : ℕ) (v : Verb) (past : List Event) → Noting r p past → Noting r p (event_after c past by v ∷ past)
 noting_step c r p by (Verb.Ask q) past n = noting_ask c r p by q past n (is_first_ask r by (Verb.Ask q)) refl
 noting_step c r p by (Verb.Fence q) past n = noting_fence c r p by q past n ((by == r) && (q == p)) refl
 noting_step c r p by (Verb.Grant w) past n = noting_grant c r p by w past n (by == p) refl
 noting_step c r p by v past n = n
 
-pub noting : (c : Config) (r p : ℕ) (past : List Event) → IsLegalHistory c past → Noting r p past
-noting c r p = legal_induction c (Noting r p) (λ g e. cc) (λ past by v h may n. noting_step c r p by v past n)
+pub noted_grant_is_owned : (c : Config) (r p : ℕ) (past : List Event) → IsLegalHistory c past → Noting r p past
+noted_grant_is_owned c r p = legal_induction c (Noting r p) (λ g e. cc) (λ past by v h may n. noting_step c r p by v past n)
 
 -- what r holds of a region, by its fence, the last answer of `Close` and whether it was drained since
 pub record Held (r : ℕ) (owner : Option ℕ) (target : Target) (closing : Bool) (seen : Option Fence) (drained_since : Bool) : Type 0 where
@@ -120,22 +120,22 @@ last_close-part r past = newest-part (λ e. close_seen r e.by e.verb e.answer) r
 pub must_drain-part : (r : ℕ) (past : List Event) → must_drain r (part r past) ≡ must_drain r past
 must_drain-part r past = ap (λ t. t && names_target (last_close r (part r past))) (closing-part r past) ∙ ap (λ o. fence_closing r past && names_target o) (last_close-part r past)
 
-opened_ask : (c : Config) (r p by q : ℕ) (past : List Event) → Opened r p past → (t : Bool) → is_first_ask r by (Verb.Ask q) ≡ t → Opened r p (made c past by (Verb.Ask q) ∷ past)
+opened_ask : (c : Config) (r p by q : ℕ) (past : List Event) → Opened r p past → (t : Bool) → is_first_ask r by (Verb.Ask q) ≡ t → Opened r p (event_after c past by (Verb.Ask q) ∷ past)
 opened_ask c r p by q past o true h = rw h (λ t e. cc)
 opened_ask c r p by q past o false h = rw h o
 
 pub no_target : (t : Target) → Some Target.None ≡ Some t → has_target t ≡ true → ⊥
 no_target t e f = true≢false (sym f ∙ ap has_target (sym (same_some Target.None t e)))
 
-opened_put_min : (c : Config) (r p by q b : ℕ) (past : List Event) → Opened r p past → (t : Bool) → ((by == r) && (q == p)) ≡ t → Opened r p (made c past by (Verb.PutMin q b) ∷ past)
+opened_put_min : (c : Config) (r p by q b : ℕ) (past : List Event) → Opened r p past → (t : Bool) → ((by == r) && (q == p)) ≡ t → Opened r p (event_after c past by (Verb.PutMin q b) ∷ past)
 opened_put_min c r p by q b past o true h = rw h (λ t e f g. absurd (no_target t e f))
 opened_put_min c r p by q b past o false h = rw h o
 
-opened_put_slot : (c : Config) (r p by q i b v : ℕ) (past : List Event) → Opened r p past → (t : Bool) → ((by == r) && (q == p)) ≡ t → Opened r p (made c past by (Verb.PutSlot q i b v) ∷ past)
+opened_put_slot : (c : Config) (r p by q i b v : ℕ) (past : List Event) → Opened r p past → (t : Bool) → ((by == r) && (q == p)) ≡ t → Opened r p (event_after c past by (Verb.PutSlot q i b v) ∷ past)
 opened_put_slot c r p by q i b v past o true h = rw h (λ t e f g. absurd (no_target t e f))
 opened_put_slot c r p by q i b v past o false h = rw h o
 
-opened_close : (c : Config) (r p by : ℕ) (past : List Event) → Opened r p past → (t : Bool) → (by == p) ≡ t → Opened r p (made c past by Verb.Close ∷ past)
+opened_close : (c : Config) (r p by : ℕ) (past : List Event) → Opened r p past → (t : Bool) → (by == p) ≡ t → Opened r p (event_after c past by Verb.Close ∷ past)
 opened_close c r p by past o true h =
     rw h (λ t e f g. let k = o t e f g in record {
       by_owner = k.by_owner;
@@ -144,7 +144,7 @@ opened_close c r p by past o true h =
     })
 opened_close c r p by past o false h = rw h o
 
-opened_drain : (c : Config) (r p by : ℕ) (past : List Event) → Opened r p past → (t : Bool) → (by == p) ≡ t → Opened r p (made c past by Verb.Drain ∷ past)
+opened_drain : (c : Config) (r p by : ℕ) (past : List Event) → Opened r p past → (t : Bool) → (by == p) ≡ t → Opened r p (event_after c past by Verb.Drain ∷ past)
 opened_drain c r p by past o true h = rw h (λ t e f g. absurd (true≢false g))
 opened_drain c r p by past o false h = rw h o
 
@@ -158,7 +158,7 @@ not_granted p r past k needs =
     let facts = k.closed needs.0 in
     true≢false (sym (needs.1 (and_from (fence_closing p past) (names_target (last_close p past)) needs.0 facts.0)) ∙ facts.1)
 
-opened_grant : (c : Config) (r p by w : ℕ) (past : List Event) → Needs c by (part by past) (Verb.Grant w) → Opened r p past → (t : Bool) → (by == p) ≡ t → Opened r p (made c past by (Verb.Grant w) ∷ past)
+opened_grant : (c : Config) (r p by w : ℕ) (past : List Event) → Needs c by (part by past) (Verb.Grant w) → Opened r p past → (t : Bool) → (by == p) ≡ t → Opened r p (event_after c past by (Verb.Grant w) ∷ past)
 opened_grant c r p by w past may o true h =
     rw h (λ t e f g. absurd (not_granted p r past (o t e f g) (grant_needs c p w past (subst (λ x. Needs c x (part x past) (Verb.Grant w)) (eqb-true by p h) may))))
 opened_grant c r p by w past may o false h = rw h o
@@ -202,10 +202,10 @@ opened_enter r p by q t past ht n o a e true hx true hy = rw (hx, hy) (λ t' e' 
 opened_enter r p by q t past ht n o a e true hx false hy = rw (hx, hy) o
 opened_enter r p by q t past ht n o a e false hx y hy = rw hx o
 
-opened_step : (c : Config) (r p by : ℕ) (v : Verb) (past : List Event) → IsLegalHistory c past → Needs c by (part by past) v → Opened r p past → Opened r p (made c past by v ∷ past)
+opened_step : (c : Config) (r p by : ℕ) (v : Verb) (past : List Event) → IsLegalHistory c past → Needs c by (part by past) v → Opened r p past → Opened r p (event_after c past by v ∷ past)
 opened_step c r p by (Verb.Ask q) past h may o = opened_ask c r p by q past o (is_first_ask r by (Verb.Ask q)) refl
 opened_step c r p by (Verb.Enter q t) past h may o =
-    opened_enter r p by q t past (enter_target c by (part by past) q t may.1) (noting c r p past h) o (entered_or_lost (noted_grant by q past) (fence q past)) refl (by == r) refl (q == p) refl
+    opened_enter r p by q t past (enter_target c by (part by past) q t may.1) (noted_grant_is_owned c r p past h) o (entered_or_lost (noted_grant by q past) (fence q past)) refl (by == r) refl (q == p) refl
 opened_step c r p by (Verb.PutMin q b) past h may o = opened_put_min c r p by q b past o ((by == r) && (q == p)) refl
 opened_step c r p by (Verb.PutSlot q i b v) past h may o = opened_put_slot c r p by q i b v past o ((by == r) && (q == p)) refl
 opened_step c r p by Verb.Close past h may o = opened_close c r p by past o (by == p) refl
@@ -213,30 +213,30 @@ opened_step c r p by Verb.Drain past h may o = opened_drain c r p by past o (by 
 opened_step c r p by (Verb.Grant w) past h may o = opened_grant c r p by w past may o (by == p) refl
 opened_step c r p by v past h may o = o
 
-pub opened : (c : Config) (r p : ℕ) (past : List Event) → IsLegalHistory c past → Opened r p past
-opened c r p = legal_induction c (Opened r p) (λ t e. cc) (λ past by v h may o. opened_step c r p by v past h may.may o)
+pub opened_is_held : (c : Config) (r p : ℕ) (past : List Event) → IsLegalHistory c past → Opened r p past
+opened_is_held c r p = legal_induction c (Opened r p) (λ t e. cc) (λ past by v h may o. opened_step c r p by v past h may.may o)
 
 -- a region drained under this grant is closing, and was drained since it closed
 abbrev pub Drained : ℕ → List Event → Type 0
 Drained p past = has (is_drain_of p) (since (is_grant_of p) past) ≡ true → (fence_closing p past ≡ true) × (drained_since_close p past ≡ true)
 
-drained_close : (c : Config) (p by : ℕ) (past : List Event) → Needs c by (part by past) Verb.Close → Drained p past → (t : Bool) → (by == p) ≡ t → Drained p (made c past by Verb.Close ∷ past)
+drained_close : (c : Config) (p by : ℕ) (past : List Event) → Needs c by (part by past) Verb.Close → Drained p past → (t : Bool) → (by == p) ≡ t → Drained p (event_after c past by Verb.Close ∷ past)
 drained_close c p by past may d true h =
     let k : fence_closing p past ≡ false = sym (closing-part p past) ∙ (subst (λ x. Needs c x (part x past) Verb.Close) (eqb-true by p h) may).0 in
     rw h (λ e. absurd (true≢false (sym (d e).0 ∙ k)))
 drained_close c p by past may d false h = rw h d
 
-drained_drain : (c : Config) (p by : ℕ) (past : List Event) → Needs c by (part by past) Verb.Drain → Drained p past → (t : Bool) → (by == p) ≡ t → Drained p (made c past by Verb.Drain ∷ past)
+drained_drain : (c : Config) (p by : ℕ) (past : List Event) → Needs c by (part by past) Verb.Drain → Drained p past → (t : Bool) → (by == p) ≡ t → Drained p (event_after c past by Verb.Drain ∷ past)
 drained_drain c p by past may d true h =
     let k : must_drain p past ≡ true = sym (must_drain-part p past) ∙ (subst (λ x. Needs c x (part x past) Verb.Drain) (eqb-true by p h) may).0 in
     rw h (λ e. ((and_parts (fence_closing p past) (names_target (last_close p past)) k).0, refl))
 drained_drain c p by past may d false h = rw h d
 
-drained_grant : (c : Config) (p by w : ℕ) (past : List Event) → Drained p past → (t : Bool) → (by == p) ≡ t → Drained p (made c past by (Verb.Grant w) ∷ past)
+drained_grant : (c : Config) (p by w : ℕ) (past : List Event) → Drained p past → (t : Bool) → (by == p) ≡ t → Drained p (event_after c past by (Verb.Grant w) ∷ past)
 drained_grant c p by w past d true h = rw h (λ e. absurd (true≢false (sym e)))
 drained_grant c p by w past d false h = rw h d
 
-drained_step : (c : Config) (p by : ℕ) (v : Verb) (past : List Event) → Needs c by (part by past) v → Drained p past → Drained p (made c past by v ∷ past)
+drained_step : (c : Config) (p by : ℕ) (v : Verb) (past : List Event) → Needs c by (part by past) v → Drained p past → Drained p (event_after c past by v ∷ past)
 drained_step c p by Verb.Close past may d = drained_close c p by past may d (by == p) refl
 drained_step c p by Verb.Drain past may d = drained_drain c p by past may d (by == p) refl
 drained_step c p by (Verb.Grant w) past may d = drained_grant c p by w past d (by == p) refl
@@ -277,10 +277,10 @@ put_done_undrained true e = cc
 put_done_undrained false e = refl
 
 pub min_holds : (c : Config) (r p b : ℕ) (past : List Event) → IsLegalHistory c past → Needs c r (part r past) (Verb.PutMin p b) → put_answer (drained r p past) ≡ Answer.Done → Holds r p past
-min_holds c r p b past h may e = opened c r p past h Target.Min (sym (open_target-part r p past) ∙ may.1.entered) refl (put_done_undrained (drained r p past) e)
+min_holds c r p b past h may e = opened_is_held c r p past h Target.Min (sym (open_target-part r p past) ∙ may.1.entered) refl (put_done_undrained (drained r p past) e)
 
 pub slot_holds : (c : Config) (r p i b v : ℕ) (past : List Event) → IsLegalHistory c past → Needs c r (part r past) (Verb.PutSlot p i b v) → put_answer (drained r p past) ≡ Answer.Done → Holds r p past
-slot_holds c r p i b v past h may e = opened c r p past h (Target.Place (i % c.ring)) (sym (open_target-part r p past) ∙ slot_entered c r p i b v (part r past) may.2) refl (put_done_undrained (drained r p past) e)
+slot_holds c r p i b v past h may e = opened_is_held c r p past h (Target.Place (i % c.ring)) (sym (open_target-part r p past) ∙ slot_entered c r p i b v (part r past) may.2) refl (put_done_undrained (drained r p past) e)
 
 landing_answer : (p q b : ℕ) (a : Answer) → is_landing p (Verb.PutMin q b) a ≡ true → (a ≡ Answer.Done) × (q ≡ p)
 landing_answer p q b Answer.Done e = (refl, eqb-true q p e)

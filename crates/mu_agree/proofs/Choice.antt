@@ -14,61 +14,61 @@ use Rattle.mu_model.specs.Legal.{IsLegalHistory}
 use Rattle.mu_model.specs.Picks.{entry_of, first_value, highest_accepted, is_joining, is_past_look, larger, last_look, look_answer, may_pick_at, may_propose, pick, since_last_joining}
 use Rattle.mu_model.specs.Placing.{IsNew, MayPutSlot}
 use Rattle.mu_model.specs.Regions.{region_min}
-use Rattle.mu_agree.proofs.Legal.{made}
+use Rattle.mu_agree.proofs.Legal.{event_after}
 use Rattle.mu_agree.proofs.Minimum.{rises_step}
 use Rattle.mu_model.proofs.Scans.{all_at}
 use Rattle.mu_agree.proofs.Counting.{Member, share, some_below, count_more}
-use Rattle.mu_agree.proofs.Landed.{landed, lands_no_more}
+use Rattle.mu_agree.proofs.Landed.{has_landed, lands_no_more}
 use Rattle.mu_agree.proofs.Looks.{LookSays, looks_say, member_reached}
-use Rattle.mu_agree.proofs.Offers.{offered, offer_stays}
+use Rattle.mu_agree.proofs.Offers.{first_offered, offer_stays}
 use Rattle.mu_model.proofs.Basics.{same_some}
 
 -- v is chosen at i under the number b
 abbrev pub Chosen : Config → ℕ → ℕ → ℕ → List Event → Type 0
-Chosen c i b v past = majority_of c.replicas ≤ count_below c.replicas (λ p. landed p i b v past)
+Chosen c i b v past = majority_of c.replicas ≤ count_below c.replicas (λ p. has_landed p i b v past)
 
 -- the number b has another value
 pub record Other (i b w : ℕ) (past : List Event) : Type 0 where
   pub u : ℕ
-  pub is : offered i b past ≡ Some u
+  pub is : first_offered i b past ≡ Some u
   pub differs : u ≡ w → ⊥
 
 -- a majority will never take w under b
 abbrev pub Many : Config → ℕ → ℕ → ℕ → List Event → Type 0
-Many c i b w past = majority_of c.replicas ≤ count_below c.replicas (λ p. nat_lt b (region_min p past) && not (landed p i b w past))
+Many c i b w past = majority_of c.replicas ≤ count_below c.replicas (λ p. nat_lt b (region_min p past) && not (has_landed p i b w past))
 
 abbrev pub Blocked : Config → ℕ → ℕ → ℕ → List Event → Type 0
 Blocked c i b w past = Other i b w past ⊎ Many c i b w past
 
-many_stays : (c : Config) (i b w by : ℕ) (v : Verb) (past : List Event) → IsLegalHistory c past → Needs c by (part by past) v → Many c i b w past → Many c i b w (made c past by v ∷ past)
+many_stays : (c : Config) (i b w by : ℕ) (v : Verb) (past : List Event) → IsLegalHistory c past → Needs c by (part by past) v → Many c i b w past → Many c i b w (event_after c past by v ∷ past)
 many_stays c i b w by v past h may m =
-    let k = count_more c.replicas (λ p. nat_lt b (region_min p past) && not (landed p i b w past)) (λ p. nat_lt b (region_min p (made c past by v ∷ past)) && not (landed p i b w (made c past by v ∷ past))) at in
+    let k = count_more c.replicas (λ p. nat_lt b (region_min p past) && not (has_landed p i b w past)) (λ p. nat_lt b (region_min p (event_after c past by v ∷ past)) && not (has_landed p i b w (event_after c past by v ∷ past))) at in
     omega arith
   where
-    at : (p : ℕ) → p < c.replicas → (nat_lt b (region_min p past) && not (landed p i b w past)) ≡ true → (nat_lt b (region_min p (made c past by v ∷ past)) && not (landed p i b w (made c past by v ∷ past))) ≡ true
+    at : (p : ℕ) → p < c.replicas → (nat_lt b (region_min p past) && not (has_landed p i b w past)) ≡ true → (nat_lt b (region_min p (event_after c past by v ∷ past)) && not (has_landed p i b w (event_after c past by v ∷ past))) ≡ true
     at p k e =
-        let x = and_parts (nat_lt b (region_min p past)) (not (landed p i b w past)) e in
+        let x = and_parts (nat_lt b (region_min p past)) (not (has_landed p i b w past)) e in
         let l = ltb-true b (region_min p past) x.0 in
-        let rise : region_min p past ≤ region_min p (made c past by v ∷ past) = rises_step c p by (region_min p past) v past h may (omega arith) in
-        let f = lands_no_more c p i b w by v past h may l (not-true (landed p i b w past) x.1) in
-        and_from (nat_lt b (region_min p (made c past by v ∷ past))) (not (landed p i b w (made c past by v ∷ past))) (lt-ltb b (region_min p (made c past by v ∷ past)) (omega arith)) (ap not f)
+        let rise : region_min p past ≤ region_min p (event_after c past by v ∷ past) = rises_step c p by (region_min p past) v past h may (omega arith) in
+        let f = lands_no_more c p i b w by v past h may l (not-true (has_landed p i b w past) x.1) in
+        and_from (nat_lt b (region_min p (event_after c past by v ∷ past))) (not (has_landed p i b w (event_after c past by v ∷ past))) (lt-ltb b (region_min p (event_after c past by v ∷ past)) (omega arith)) (ap not f)
 
-pub blocked_stays : (c : Config) (i b w by : ℕ) (v : Verb) (past : List Event) → IsLegalHistory c past → Needs c by (part by past) v → Blocked c i b w past → Blocked c i b w (made c past by v ∷ past)
-blocked_stays c i b w by v past h may (inl o) = inl (record { u = o.u; is = offer_stays i b o.u (made c past by v) past o.is; differs = o.differs })
+pub blocked_stays : (c : Config) (i b w by : ℕ) (v : Verb) (past : List Event) → IsLegalHistory c past → Needs c by (part by past) v → Blocked c i b w past → Blocked c i b w (event_after c past by v ∷ past)
+blocked_stays c i b w by v past h may (inl o) = inl (record { u = o.u; is = offer_stays i b o.u (event_after c past by v) past o.is; differs = o.differs })
 blocked_stays c i b w by v past h may (inr m) = inr (many_stays c i b w by v past h may m)
 
 -- somebody took what is chosen
-pub chosen_somewhere : (c : Config) (i b v : ℕ) (past : List Event) → Chosen c i b v past → Member c.replicas (λ p. landed p i b v past)
-chosen_somewhere c i b v past h = some_below c.replicas (λ p. landed p i b v past) (omega arith)
+pub chosen_somewhere : (c : Config) (i b v : ℕ) (past : List Event) → Chosen c i b v past → Member c.replicas (λ p. has_landed p i b v past)
+chosen_somewhere c i b v past h = some_below c.replicas (λ p. has_landed p i b v past) (omega arith)
 
 -- what is blocked isn't chosen, where what landed under the number is its offer
-pub not_chosen : (c : Config) (i b w : ℕ) (past : List Event) → ((p : ℕ) → landed p i b w past ≡ true → offered i b past ≡ Some w) → Blocked c i b w past → Chosen c i b w past → ⊥
+pub not_chosen : (c : Config) (i b w : ℕ) (past : List Event) → ((p : ℕ) → has_landed p i b w past ≡ true → first_offered i b past ≡ Some w) → Blocked c i b w past → Chosen c i b w past → ⊥
 not_chosen c i b w past f (inl o) h = let m = chosen_somewhere c i b w past h in o.differs (same_some o.u w (sym o.is ∙ f m.who m.passes))
 not_chosen c i b w past f (inr k) h =
-    let m = share c.replicas (λ p. landed p i b w past) (λ p. nat_lt b (region_min p past) && not (landed p i b w past)) h k in
-    let x = and_parts (landed m.who i b w past) (nat_lt b (region_min m.who past) && not (landed m.who i b w past)) m.passes in
-    let y = (and_parts (nat_lt b (region_min m.who past)) (not (landed m.who i b w past)) x.1).1 in
-    true≢false (sym x.0 ∙ not-true (landed m.who i b w past) y)
+    let m = share c.replicas (λ p. has_landed p i b w past) (λ p. nat_lt b (region_min p past) && not (has_landed p i b w past)) h k in
+    let x = and_parts (has_landed m.who i b w past) (nat_lt b (region_min m.who past) && not (has_landed m.who i b w past)) m.passes in
+    let y = (and_parts (nat_lt b (region_min m.who past)) (not (has_landed m.who i b w past)) x.1).1 in
+    true≢false (sym x.0 ∙ not-true (has_landed m.who i b w past) y)
 
 -- the best of the looks at members
 pub entry_is : (o : Option Answer) (z : ℕ × ℕ) → entry_of o ≡ Some z → o ≡ Some (Answer.Entry z.0 z.1)
@@ -160,7 +160,7 @@ pub record Seeing (c : Config) (r i b v : ℕ) (past : List Event) : Type 0 wher
   pub not_past : (p : ℕ) → p < c.replicas → is_member r p (part r past) ≡ true → last_look r p i (part r past) ≡ Some Answer.Past → ⊥
   pub picked : pick c r (part r past) v (highest_accepted r i (part r past) c.replicas) ≡ true
 
-not_seen : (b n w p i : ℕ) (past : List Event) (a : Answer) → LookSays b p i past a → (a ≡ Answer.Past → ⊥) → ((z : ℕ × ℕ) → entry_of (Some a) ≡ Some z → z.0 < n) → n < b → landed p i n w past ≡ false
+not_seen : (b n w p i : ℕ) (past : List Event) (a : Answer) → LookSays b p i past a → (a ≡ Answer.Past → ⊥) → ((z : ℕ × ℕ) → entry_of (Some a) ≡ Some z → z.0 < n) → n < b → has_landed p i n w past ≡ false
 not_seen b n w p i past Answer.Empty s f g l = s n w l
 not_seen b n w p i past (Answer.Entry m v) s f g l = s.1 n w (g (m, v) refl) l
 not_seen b n w p i past Answer.Past s f g l = absurd (f refl)
@@ -175,35 +175,35 @@ not_seen b n w p i past (Answer.Number x) s f g l = absurd s
 members_block : (c : Config) (r i b v n w : ℕ) (past : List Event) → IsLegalHistory c past → Seeing c r i b v past
     → ((p : ℕ) → p < c.replicas → is_member r p (part r past) ≡ true → (z : ℕ × ℕ) → entry_of (last_look r p i (part r past)) ≡ Some z → z.0 < n) → n < b → Many c i n w past
 members_block c r i b v n w past h s f l =
-    let k = count_more c.replicas (λ p. is_member r p (part r past)) (λ p. nat_lt n (region_min p past) && not (landed p i n w past)) at in let q = s.carried in omega arith
+    let k = count_more c.replicas (λ p. is_member r p (part r past)) (λ p. nat_lt n (region_min p past) && not (has_landed p i n w past)) at in let q = s.carried in omega arith
   where
-    seen : (p : ℕ) → p < c.replicas → is_member r p (part r past) ≡ true → (o : Option Answer) → last_look r p i (part r past) ≡ o → is_some o ≡ true → landed p i n w past ≡ false
+    seen : (p : ℕ) → p < c.replicas → is_member r p (part r past) ≡ true → (o : Option Answer) → last_look r p i (part r past) ≡ o → is_some o ≡ true → has_landed p i n w past ≡ false
     seen p k m None e t = cc
     seen p k m (Some a) e t = not_seen b n w p i past a (looks_say c r p i past h a b e m s.number) (λ q. s.not_past p k m (e ∙ ap Some q)) (λ z q. f p k m z (ap entry_of e ∙ q)) l
 
-    at : (p : ℕ) → p < c.replicas → is_member r p (part r past) ≡ true → (nat_lt n (region_min p past) && not (landed p i n w past)) ≡ true
+    at : (p : ℕ) → p < c.replicas → is_member r p (part r past) ≡ true → (nat_lt n (region_min p past) && not (has_landed p i n w past)) ≡ true
     at p k m =
         let t = member_reached c r p past h m in
         let x : t.b ≡ b = same_some t.b b (sym t.is ∙ s.number) in
         let y = t.below in
-        and_from (nat_lt n (region_min p past)) (not (landed p i n w past)) (lt-ltb n (region_min p past) (omega arith))
+        and_from (nat_lt n (region_min p past)) (not (has_landed p i n w past)) (lt-ltb n (region_min p past) (omega arith))
         (ap not (seen p k m (last_look r p i (part r past)) refl (s.looked p k m)))
 
 -- either no lower number can be chosen any more, or the value is that of the greatest number that a look found, and none between can
 pub data Found (c : Config) (r i b v : ℕ) (past : List Event) : Type 0 where
-  free : highest_accepted r i (part r past) c.replicas ≡ None → ((n w : ℕ) → n < b → Many c i n w past) → Found c r i b v past
-  taken : (m p : ℕ) → highest_accepted r i (part r past) c.replicas ≡ Some (m, v) → landed p i m v past ≡ true → ((n w : ℕ) → m < n → n < b → Many c i n w past) → Found c r i b v past
+  none_accepted : highest_accepted r i (part r past) c.replicas ≡ None → ((n w : ℕ) → n < b → Many c i n w past) → Found c r i b v past
+  takes_highest : (m p : ℕ) → highest_accepted r i (part r past) c.replicas ≡ Some (m, v) → has_landed p i m v past ≡ true → ((n w : ℕ) → m < n → n < b → Many c i n w past) → Found c r i b v past
 
 pub found : (c : Config) (r i b v : ℕ) (past : List Event) → IsLegalHistory c past → Seeing c r i b v past → Found c r i b v past
 found c r i b v past h s = go (highest_accepted r i (part r past) c.replicas) refl s.picked
   where
     go : (o : Option (ℕ × ℕ)) → highest_accepted r i (part r past) c.replicas ≡ o → pick c r (part r past) v o ≡ true → Found c r i b v past
-    go None e k = free e (λ n w l. members_block c r i b v n w past h s (λ p q m z t. (let x : None ≡ Some z = sym (best_none r i c.replicas (part r past) e p q m) ∙ t in cc)) l)
+    go None e k = none_accepted e (λ n w l. members_block c r i b v n w past h s (λ p q m z t. (let x : None ≡ Some z = sym (best_none r i c.replicas (part r past) e p q m) ∙ t in cc)) l)
     go (Some y) e k =
         let f = best_from r i c.replicas (part r past) y e in
         let is : y.1 ≡ v = eqb-true y.1 v k in
         let says = looks_say c r f.p i past h (Answer.Entry y.0 y.1) b f.look f.member s.number in
-        taken y.0 f.p (e ∙ ap (λ x. Some (y.0, x)) is) (subst (λ x. landed f.p i y.0 x past ≡ true) is says.0)
+        takes_highest y.0 f.p (e ∙ ap (λ x. Some (y.0, x)) is) (subst (λ x. has_landed f.p i y.0 x past ≡ true) is says.0)
         (λ n w j l. members_block c r i b v n w past h s (λ p q m z t. (let x = best_most r i c.replicas (part r past) y e p q m z t in omega arith)) l)
 
 -- a look at the last joining's members is a look of the leadership

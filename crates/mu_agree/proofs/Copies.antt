@@ -13,7 +13,7 @@ use Rattle.mu_model.specs.Leaderships.{is_first_ask, leadership, proposal_number
 use Rattle.mu_model.specs.Legal.{IsLegalHistory}
 use Rattle.mu_model.specs.Placing.{MayPutSlot}
 use Rattle.mu_model.specs.Regions.{region_log, region_min}
-use Rattle.mu_agree.proofs.Legal.{made}
+use Rattle.mu_agree.proofs.Legal.{event_after}
 use Rattle.mu_agree.proofs.Numbers.{number-part, numbered}
 use Rattle.mu_agree.proofs.Minimum.{min_lands}
 use Rattle.mu_agree.proofs.Members.{slot_number}
@@ -22,7 +22,7 @@ use Rattle.mu_agree.proofs.Landings.{has_cases, has_implied}
 use Rattle.mu_agree.proofs.Landed.{lands_within, get_put_same}
 use Rattle.mu_agree.proofs.Looks.{member_reached, Reached, number_back}
 use Rattle.mu_agree.proofs.Offers.{at_part', of_one}
-use Rattle.mu_agree.proofs.Early.{PutValue, copied, again, fresh, put_value}
+use Rattle.mu_agree.proofs.Early.{PutValue, copies_known, repeats_offer, offers_first, put_value}
 use Rattle.mu_agree.proofs.Settled.{Late, Copied, puts_it, has_put_it, min_of}
 use Rattle.mu_agree.proofs.Agreement.{value_at, put_first, firsts, slot_at, puts_at_members}
 use Rattle.mu_model.proofs.Basics.{same_some}
@@ -47,9 +47,9 @@ only_it c i V B maj r p q n w past h s m may = go (put_value c r q i n w past h 
     values = has_implied (λ e. puts_it i V r p e.by e.verb e.answer) (λ e. value_at r i V e.by e.verb) (λ e k. it_is_value i V r p e.by e.verb e.answer k) (leadership r (part r past)) m
 
     go : PutValue c r i n w past → w ≡ V
-    go (copied k) = s.knows r w k
-    go (again o f nx jn) = elim (firsts c r i V past h w f values) [ inl e ↦ e | inr l ↦ absurd (omega arith) ]
-    go (fresh o f nx fd g) = absurd (put_first r i V (leadership r (part r past)) values f)
+    go (copies_known k) = s.knows r w k
+    go (repeats_offer o f nx jn) = elim (firsts c r i V past h w f values) [ inl e ↦ e | inr l ↦ absurd (omega arith) ]
+    go (offers_first o f nx fd g) = absurd (put_first r i V (leadership r (part r past)) values f)
 
 copied_put : (c : Config) (i V B : ℕ) (maj : ℕ → Bool) (r p by q j n w : ℕ) (past : List Event) → IsLegalHistory c past → Needs c by (part by past) (Verb.PutSlot q j n w) → Late c i V B maj past
     → (a : Answer) → put_answer (drained by q past) ≡ a → (t : Bool) → (q == p) ≡ t → (u : Bool) → (j == i) ≡ u
@@ -84,7 +84,7 @@ copied_put c i V B maj r p by q j n w past h may s a e t hq u hj = at_part' (Cop
     own Answer.Done false u e hq hj hx = rw (hx, hq) (s.copied r p)
     own a t u e hq hj hx = s.copied r p
 
-copied_ask : (c : Config) (i V r p by q : ℕ) (past J : List Event) → Copied i V r p past J → (t : Bool) → is_first_ask r by (Verb.Ask q) ≡ t → Copied i V r p past (made c past by (Verb.Ask q) ∷ J)
+copied_ask : (c : Config) (i V r p by q : ℕ) (past J : List Event) → Copied i V r p past J → (t : Bool) → is_first_ask r by (Verb.Ask q) ≡ t → Copied i V r p past (event_after c past by (Verb.Ask q) ∷ J)
 copied_ask c i V r p by q past J s true h = rw h (λ m. absurd (true≢false (sym m)))
 copied_ask c i V r p by q past J s false h = rw h s
 
@@ -112,8 +112,8 @@ copied_min c i V B maj r p by q b past h may s a e t hq = at_part' (Copied i V r
     own Answer.Done false e hq hx = rw (hx, hq) (λ m o. s.copied r p m (number_back b (region_min p past) (region_min p past) (proposal_number r (part r past)) (member m) o))
     own a t e hq hx = rw hx (λ m o. s.copied r p m (number_back b (region_min p past) (region_min p past) (proposal_number r (part r past)) (member m) o))
 
-pub copied_step : (c : Config) (i V B : ℕ) (maj : ℕ → Bool) (r p by : ℕ) (v : Verb) (past : List Event) → IsLegalHistory c past → Needs c by (part by past) v → Late c i V B maj past → Copied i V r p (made c past by v ∷ past) (part r (made c past by v ∷ past))
-copied_step c i V B maj r p by (Verb.Ask q) past h may s = at_part' (Copied i V r p past) r (made c past by (Verb.Ask q)) past (λ _. s.copied r p) (λ _. copied_ask c i V r p by q past (part r past) (s.copied r p) (is_first_ask r by (Verb.Ask q)) refl)
+pub copied_step : (c : Config) (i V B : ℕ) (maj : ℕ → Bool) (r p by : ℕ) (v : Verb) (past : List Event) → IsLegalHistory c past → Needs c by (part by past) v → Late c i V B maj past → Copied i V r p (event_after c past by v ∷ past) (part r (event_after c past by v ∷ past))
+copied_step c i V B maj r p by (Verb.Ask q) past h may s = at_part' (Copied i V r p past) r (event_after c past by (Verb.Ask q)) past (λ _. s.copied r p) (λ _. copied_ask c i V r p by q past (part r past) (s.copied r p) (is_first_ask r by (Verb.Ask q)) refl)
 copied_step c i V B maj r p by (Verb.PutMin q b) past h may s = copied_min c i V B maj r p by q b past h may s (put_answer (drained by q past)) refl (q == p) refl
 copied_step c i V B maj r p by (Verb.PutSlot q j n w) past h may s = copied_put c i V B maj r p by q j n w past h may s (put_answer (drained by q past)) refl (q == p) refl (j == i) refl
-copied_step c i V B maj r p by v past h may s = at_part' (Copied i V r p past) r (made c past by v) past (λ _. s.copied r p) (λ _. s.copied r p)
+copied_step c i V B maj r p by v past h may s = at_part' (Copied i V r p past) r (event_after c past by v) past (λ _. s.copied r p) (λ _. s.copied r p)

@@ -20,15 +20,15 @@ use Rattle.mu_model.specs.Picks.{first_value, joined_since_first_put, may_propos
 use Rattle.mu_model.specs.Placing.{IsNew, MayPutSlot}
 use Rattle.mu_model.specs.Regions.{region_fuo, region_log}
 use Rattle.mu_agree.proofs.Joins.{joined_late, not_late}
-use Rattle.mu_agree.proofs.Legal.{made, legal_induction}
+use Rattle.mu_agree.proofs.Legal.{event_after, legal_induction}
 use Rattle.mu_model.proofs.Scans.{all_at}
 use Rattle.mu_agree.proofs.Counting.{count_more}
 use Rattle.mu_agree.proofs.Slots.{put_in'}
 use Rattle.mu_agree.proofs.Knowing.{Teaches, teaches, by_put, by_look}
 use Rattle.mu_agree.proofs.Landings.{no_gaps, at_part, has_more, has_since, has_implied, has_cases, has_of_part, look_reply, look_stands, length_put}
-use Rattle.mu_agree.proofs.Landed.{landed, slot_landed, is_put}
-use Rattle.mu_agree.proofs.Offers.{offered, offer_stays, first_is}
-use Rattle.mu_agree.proofs.Choice.{Chosen, Blocked, blocked_stays, Found, free, taken, found, Seeing, seeing}
+use Rattle.mu_agree.proofs.Landed.{has_landed, slot_landed, is_put}
+use Rattle.mu_agree.proofs.Offers.{first_offered, offer_stays, first_is}
+use Rattle.mu_agree.proofs.Choice.{Chosen, Blocked, blocked_stays, Found, none_accepted, takes_highest, found, Seeing, seeing}
 use Rattle.mu_model.proofs.Basics.{same_some}
 
 -- what every member of a leadership took is chosen
@@ -36,7 +36,7 @@ pub done_lands : (r p i b v by : ℕ) (verb : Verb) (a : Answer) → is_put_done
 done_lands r p i b v by (Verb.PutSlot q j n w) Answer.Done m = (and_parts (by == r) ((q == p) && ((j == i) && ((n == b) && (w == v)))) m).1
 done_lands r p i b v by verb a m = absurd (true≢false (sym m))
 
-pub landed_of : (r p i b v : ℕ) (e : Event) (past : List Event) → has (λ f. slot_landed p i b v f.verb f.answer) (e ∷ part r past) ≡ true → landed p i b v (e ∷ past) ≡ true
+pub landed_of : (r p i b v : ℕ) (e : Event) (past : List Event) → has (λ f. slot_landed p i b v f.verb f.answer) (e ∷ part r past) ≡ true → has_landed p i b v (e ∷ past) ≡ true
 landed_of r p i b v e past m =
     elim (has_cases (slot_landed p i b v e.verb e.answer) (has (λ f. slot_landed p i b v f.verb f.answer) (part r past)) m) [
       | inl k ↦ rw k refl
@@ -51,21 +51,21 @@ accepted_chosen c r i b v e past h =
     let y = and_parts (is_number (proposal_number r now) b) (has_quorum c r now && all) x.1 in
     let z = and_parts (has_quorum c r now) all y.1 in
     let m = leb-true (majority_of c.replicas) (count_below c.replicas (λ p. is_member r p now)) (and_parts (is_member r r now) (nat_le (majority_of c.replicas) (count_below c.replicas (λ p. is_member r p now))) z.0).1 in
-    let k = count_more c.replicas (λ p. is_member r p now) (λ p. landed p i b v (e ∷ past)) (λ p l f. took p (in_all (is_member r p now) (has (lands_entry r p i b v) (leadership r now)) f (all_at c.replicas (λ p. not (is_member r p now) || has (lands_entry r p i b v) (leadership r now)) z.1 p l))) in
+    let k = count_more c.replicas (λ p. is_member r p now) (λ p. has_landed p i b v (e ∷ past)) (λ p l f. took p (in_all (is_member r p now) (has (lands_entry r p i b v) (leadership r now)) f (all_at c.replicas (λ p. not (is_member r p now) || has (lands_entry r p i b v) (leadership r now)) z.1 p l))) in
     omega arith
   where
     in_all : (x y : Bool) → x ≡ true → (not x || y) ≡ true → y ≡ true
     in_all true y m k = k
     in_all false y m k = absurd (true≢false (sym m))
 
-    took : (p : ℕ) → has (lands_entry r p i b v) (leadership r (e ∷ part r past)) ≡ true → landed p i b v (e ∷ past) ≡ true
+    took : (p : ℕ) → has (lands_entry r p i b v) (leadership r (e ∷ part r past)) ≡ true → has_landed p i b v (e ∷ past) ≡ true
     took p k = landed_of r p i b v e past (has_implied (lands_entry r p i b v) (λ f. slot_landed p i b v f.verb f.answer) (λ f n. done_lands r p i b v f.by f.verb f.answer n) (e ∷ part r past) (has_since (lands_entry r p i b v) (begins_leadership r) (e ∷ part r past) k))
 
 -- an entry that was seen stands
 abbrev pub SeenStands : ℕ → ℕ → ℕ → List Event → Type 0
 SeenStands r p j past = has (entry_seen r p j) (part r past) ≡ true → j < length (region_log p past)
 
-longer : (c : Config) (p by : ℕ) (v : Verb) (past : List Event) → length (region_log p past) ≤ length (region_log p (made c past by v ∷ past))
+longer : (c : Config) (p by : ℕ) (v : Verb) (past : List Event) → length (region_log p past) ≤ length (region_log p (event_after c past by v ∷ past))
 longer c p by (Verb.PutSlot q j n w) past = go (put_answer (drained by q past))
   where
     at : (t : Bool) → length (region_log p past) ≤ length (cond t (put_in' (region_log p past) j (n, w)) (region_log p past))
@@ -77,9 +77,9 @@ longer c p by (Verb.PutSlot q j n w) past = go (put_answer (drained by q past))
     go a = omega arith
 longer c p by v past = omega arith
 
-seen_step : (c : Config) (r p j by : ℕ) (v : Verb) (past : List Event) → SeenStands r p j past → SeenStands r p j (made c past by v ∷ past)
+seen_step : (c : Config) (r p j by : ℕ) (v : Verb) (past : List Event) → SeenStands r p j past → SeenStands r p j (event_after c past by v ∷ past)
 seen_step c r p j by (Verb.Look q i) past s =
-    at_part (λ J. has (entry_seen r p j) J ≡ true → j < length (region_log p past)) r (made c past by (Verb.Look q i)) past s (λ _. go (look_reply c.ring (region_log q past) i) refl)
+    at_part (λ J. has (entry_seen r p j) J ≡ true → j < length (region_log p past)) r (event_after c past by (Verb.Look q i)) past s (λ _. go (look_reply c.ring (region_log q past) i) refl)
   where
     go : (a : Answer) → look_reply c.ring (region_log q past) i ≡ a → has (entry_seen r p j) (record { by = by; verb = Verb.Look q i; answer = a } ∷ part r past) ≡ true → j < length (region_log p past)
     go (Answer.Entry b v) e m = elim (has_cases ((by == r) && ((q == p) && (i == j))) (has (entry_seen r p j) (part r past)) m) [
@@ -92,9 +92,9 @@ seen_step c r p j by (Verb.Look q i) past s =
     go a e m = s m
 seen_step c r p j by (Verb.PutSlot q i b w) past s =
     let l = longer c p by (Verb.PutSlot q i b w) past in
-    at_part (λ J. has (entry_seen r p j) J ≡ true → j < length (region_log p (made c past by (Verb.PutSlot q i b w) ∷ past))) r (made c past by (Verb.PutSlot q i b w)) past
+    at_part (λ J. has (entry_seen r p j) J ≡ true → j < length (region_log p (event_after c past by (Verb.PutSlot q i b w) ∷ past))) r (event_after c past by (Verb.PutSlot q i b w)) past
     (λ m. let k = s m in omega arith) (λ _ m. let k = s m in omega arith)
-seen_step c r p j by v past s = at_part (λ J. has (entry_seen r p j) J ≡ true → j < length (region_log p past)) r (made c past by v) past s (λ _. s)
+seen_step c r p j by v past s = at_part (λ J. has (entry_seen r p j) J ≡ true → j < length (region_log p past)) r (event_after c past by v) past s (λ _. s)
 
 pub seen_stands : (c : Config) (r p j : ℕ) (past : List Event) → IsLegalHistory c past → SeenStands r p j past
 seen_stands c r p j = legal_induction c (SeenStands r p j) (λ m. cc) (λ past by v h may s. seen_step c r p j by v past s)
@@ -103,8 +103,8 @@ seen_stands c r p j = legal_induction c (SeenStands r p j) (λ m. cc) (λ past b
 abbrev pub Protected : ℕ → ℕ → List Event → Type 0
 Protected p i past = (i < region_fuo p past) ⊎ (i + 1 < length (region_log p past))
 
-pub trusted : (c : Config) (r p i : ℕ) (past : List Event) → IsLegalHistory c past → is_known_decided r (part r past) p i ≡ true → Protected p i past
-trusted c r p i past h m =
+pub trusted_is_protected : (c : Config) (r p i : ℕ) (past : List Event) → IsLegalHistory c past → is_known_decided r (part r past) p i ≡ true → Protected p i past
+trusted_is_protected c r p i past h m =
     elim (or_cases (nat_lt i (greatest_fuo_read r p (part r past))) ((p == r) && has (entry_seen r r (i + 1)) (part r past)) m) [
       | inl k ↦ (let x = ltb-true i (greatest_fuo_read r p (part r past)) k in let y = (no_gaps c p past h).read r in inl (omega arith))
       | inr k ↦ (let x = and_parts (p == r) (has (entry_seen r r (i + 1)) (part r past)) k in
@@ -113,11 +113,11 @@ trusted c r p i past h m =
     ]
 
 abbrev pub Safe : Config → ℕ → List Event → Type 0
-Safe c i past = (b v n w : ℕ) → offered i b past ≡ Some v → n < b → (v ≡ w → ⊥) → Blocked c i n w past
+Safe c i past = (b v n w : ℕ) → first_offered i b past ≡ Some v → n < b → (v ≡ w → ⊥) → Blocked c i n w past
 
 pub record Early (c : Config) (i : ℕ) (past : List Event) : Type 0 where
   pub unknown : (r : ℕ) → length (known c r (part r past)) ≤ i
-  pub own : (p b v : ℕ) → landed p i b v past ≡ true → offered i b past ≡ Some v
+  pub own : (p b v : ℕ) → has_landed p i b v past ≡ true → first_offered i b past ≡ Some v
   pub safe : Safe c i past
   pub short : (p : ℕ) → length (region_log p past) ≤ i + 1
   pub fuo : (p : ℕ) → region_fuo p past ≤ i
@@ -130,51 +130,51 @@ unprotected c i p past s (inr h) = let k = s.short p in omega arith
 pub position_within : (c : Config) (r p j b v : ℕ) (J : List Event) → MayPutSlot c r J p j b v → j ≤ length (known c r J)
 position_within c r p j b v J may = elim may.value [ inl k ↦ (let l = slice_get_within (known c r J) j v k in omega arith) | inr k ↦ (let l = k.next in omega arith) ]
 
-unknown_kept : (c : Config) (i by : ℕ) (v : Verb) (past : List Event) → IsLegalHistory c past → Early c i past → ((b x : ℕ) → Chosen c i b x (made c past by v ∷ past) → ⊥) → (r : ℕ) → length (known c r (part r (made c past by v ∷ past))) ≤ i
-unknown_kept c i by v past h s open' r = at_part (λ J. length (known c r J) ≤ i) r (made c past by v) past (s.unknown r) (λ _. go (learnt_by c r (part r past) (length (known c r (part r past))) by v (answer_of c by past v) (made c past by v ∷ part r past)) refl)
+unknown_kept : (c : Config) (i by : ℕ) (v : Verb) (past : List Event) → IsLegalHistory c past → Early c i past → ((b x : ℕ) → Chosen c i b x (event_after c past by v ∷ past) → ⊥) → (r : ℕ) → length (known c r (part r (event_after c past by v ∷ past))) ≤ i
+unknown_kept c i by v past h s open' r = at_part (λ J. length (known c r J) ≤ i) r (event_after c past by v) past (s.unknown r) (λ _. go (learnt_by c r (part r past) (length (known c r (part r past))) by v (answer_of c by past v) (event_after c past by v ∷ part r past)) refl)
   where
-    at : (x : ℕ) → i ≡ length (known c r (part r past)) → Teaches c r (part r past) (made c past by v ∷ part r past) (length (known c r (part r past))) x by v (answer_of c by past v) → ⊥
+    at : (x : ℕ) → i ≡ length (known c r (part r past)) → Teaches c r (part r past) (event_after c past by v ∷ part r past) (length (known c r (part r past))) x by v (answer_of c by past v) → ⊥
     at x e t = teach_not x e v (answer_of c by past v) refl t
       where
-        teach_not : (x : ℕ) → i ≡ length (known c r (part r past)) → (v' : Verb) (a : Answer) → made c past by v ≡ record { by = by; verb = v'; answer = a } → Teaches c r (part r past) (made c past by v ∷ part r past) (length (known c r (part r past))) x by v' a → ⊥
-        teach_not x e v' a k (by_put {b = b} o acc) = open' b x (accepted_chosen c r i b x (made c past by v) past (subst (λ z. is_accepted_by_all c r (made c past by v ∷ part r past) z b x ≡ true) (sym e) acc))
-        teach_not x e v' a k (by_look {p = p} o tr) = unprotected c i p past s (trusted c r p i past h (subst (λ z. is_known_decided r (part r past) p z ≡ true) (sym e) tr))
+        teach_not : (x : ℕ) → i ≡ length (known c r (part r past)) → (v' : Verb) (a : Answer) → event_after c past by v ≡ record { by = by; verb = v'; answer = a } → Teaches c r (part r past) (event_after c past by v ∷ part r past) (length (known c r (part r past))) x by v' a → ⊥
+        teach_not x e v' a k (by_put {b = b} o acc) = open' b x (accepted_chosen c r i b x (event_after c past by v) past (subst (λ z. is_accepted_by_all c r (event_after c past by v ∷ part r past) z b x ≡ true) (sym e) acc))
+        teach_not x e v' a k (by_look {p = p} o tr) = unprotected c i p past s (trusted_is_protected c r p i past h (subst (λ z. is_known_decided r (part r past) p z ≡ true) (sym e) tr))
 
-    go : (o : Option ℕ) → learnt_by c r (part r past) (length (known c r (part r past))) by v (answer_of c by past v) (made c past by v ∷ part r past) ≡ o → length (grown (known c r (part r past)) o) ≤ i
+    go : (o : Option ℕ) → learnt_by c r (part r past) (length (known c r (part r past))) by v (answer_of c by past v) (event_after c past by v ∷ part r past) ≡ o → length (grown (known c r (part r past)) o) ≤ i
     go None e = s.unknown r
     go (Some x) e =
         let l = length_push (known c r (part r past)) x in
         let m = s.unknown r in
         elim (cases_lt (length (known c r (part r past))) i) [
           | inl k ↦ omega arith
-          | inr k ↦ absurd (at x (omega arith) (teaches c r (length (known c r (part r past))) x by v (answer_of c by past v) (part r past) (made c past by v ∷ part r past) e))
+          | inr k ↦ absurd (at x (omega arith) (teaches c r (length (known c r (part r past))) x by v (answer_of c by past v) (part r past) (event_after c past by v ∷ part r past) e))
         ]
 
 -- where the value of a put at i comes from
 pub data PutValue (c : Config) (r i b v : ℕ) (past : List Event) : Type 0 where
-  copied : slice_get (known c r (part r past)) i ≡ Some v → PutValue c r i b v past
-  again : offered i b past ≡ Some v → first_value r i (part r past) ≡ Some v → i ≡ length (known c r (part r past)) → joined_late r i (part r past) ≡ false → PutValue c r i b v past
-  fresh : offered i b past ≡ None → first_value r i (part r past) ≡ None → i ≡ length (known c r (part r past)) → Found c r i b v past → Seeing c r i b v past → PutValue c r i b v past
+  copies_known : slice_get (known c r (part r past)) i ≡ Some v → PutValue c r i b v past
+  repeats_offer : first_offered i b past ≡ Some v → first_value r i (part r past) ≡ Some v → i ≡ length (known c r (part r past)) → joined_late r i (part r past) ≡ false → PutValue c r i b v past
+  offers_first : first_offered i b past ≡ None → first_value r i (part r past) ≡ None → i ≡ length (known c r (part r past)) → Found c r i b v past → Seeing c r i b v past → PutValue c r i b v past
 
 pub put_value : (c : Config) (r p i b v : ℕ) (past : List Event) → IsLegalHistory c past → MayPutSlot c r (part r past) p i b v → PutValue c r i b v past
-put_value c r p i b v past h may = elim may.value [ inl k ↦ copied k | inr new ↦ go (first_value r i (part r past)) refl new ]
+put_value c r p i b v past h may = elim may.value [ inl k ↦ copies_known k | inr new ↦ go (first_value r i (part r past)) refl new ]
   where
     go : (o : Option ℕ) → first_value r i (part r past) ≡ o → IsNew c r (part r past) i v → PutValue c r i b v past
-    go None e new = let s = seeing c r p i b v past may new e in fresh (first_is c r i past h b may.numbered ∙ e) e new.next (found c r i b v past h s) s
+    go None e new = let s = seeing c r p i b v past may new e in offers_first (first_is c r i past h b may.numbered ∙ e) e new.next (found c r i b v past h s) s
     go (Some f) e new =
         let k : ((v == f) && not (joined_since_first_put r i (part r past))) ≡ true = subst (λ o. may_propose c r (part r past) i v o ≡ true) e new.value in
         let x = and_parts (v == f) (not (joined_since_first_put r i (part r past))) k in
         let same : f ≡ v = sym (eqb-true v f x.0) in
-        again (first_is c r i past h b may.numbered ∙ e ∙ ap Some same) (e ∙ ap Some same) new.next (not_late r i f (part r past) e (not-true (joined_since_first_put r i (part r past)) x.1))
+        repeats_offer (first_is c r i past h b may.numbered ∙ e ∙ ap Some same) (e ∙ ap Some same) new.next (not_late r i f (part r past) e (not-true (joined_since_first_put r i (part r past)) x.1))
 
 -- a first offer blocks every other value under lower numbers
 pub fresh_safe : (c : Config) (r i b v : ℕ) (past : List Event) → Found c r i b v past
-    → ((m p : ℕ) → landed p i m v past ≡ true → (offered i m past ≡ Some v) × ((n w : ℕ) → n < m → (v ≡ w → ⊥) → Blocked c i n w past))
+    → ((m p : ℕ) → has_landed p i m v past ≡ true → (first_offered i m past ≡ Some v) × ((n w : ℕ) → n < m → (v ≡ w → ⊥) → Blocked c i n w past))
     → (n w : ℕ) → n < b → (v ≡ w → ⊥) → Blocked c i n w past
-fresh_safe c r i b v past (free _ many) low n w l d = inr (many n w l)
-fresh_safe c r i b v past (taken m p _ at many) low n w l d =
+fresh_safe c r i b v past (none_accepted _ many) low n w l d = inr (many n w l)
+fresh_safe c r i b v past (takes_highest m p _ at many) low n w l d =
     elim (cases_order n m) [
-      | inl e ↦ inl (record { u = v; is = subst (λ z. offered i z past ≡ Some v) (sym e) (low m p at).0; differs = d })
+      | inl e ↦ inl (record { u = v; is = subst (λ z. first_offered i z past ≡ Some v) (sym e) (low m p at).0; differs = d })
       | inr o ↦ elim o [ inl k ↦ (low m p at).1 n w k d | inr k ↦ inr (many n w k l) ]
     ]
 
@@ -182,13 +182,13 @@ pub past_end : (xs : List ℕ) (i v : ℕ) → length xs ≤ i → slice_get xs 
 past_end xs i v l e = let k = slice_get_within xs i v e in omega arith
 
 early_value : (c : Config) (i by q b w : ℕ) (past : List Event) → IsLegalHistory c past → Early c i past → MayPutSlot c by (part by past) q i b w
-    → (offered i b past ≡ Some w) ⊎ ((offered i b past ≡ None) × ((n x : ℕ) → n < b → (w ≡ x → ⊥) → Blocked c i n x past))
+    → (first_offered i b past ≡ Some w) ⊎ ((first_offered i b past ≡ None) × ((n x : ℕ) → n < b → (w ≡ x → ⊥) → Blocked c i n x past))
 early_value c i by q b w past h s may = go (put_value c by q i b w past h may)
   where
-    go : PutValue c by i b w past → (offered i b past ≡ Some w) ⊎ ((offered i b past ≡ None) × ((n x : ℕ) → n < b → (w ≡ x → ⊥) → Blocked c i n x past))
-    go (copied k) = absurd (past_end (known c by (part by past)) i w (s.unknown by) k)
-    go (again o _ _ _) = inl o
-    go (fresh o _ _ f _) = inr (o, fresh_safe c by i b w past f (λ m p l. (s.own p m w l, λ n x k d. s.safe m w n x (s.own p m w l) k d)))
+    go : PutValue c by i b w past → (first_offered i b past ≡ Some w) ⊎ ((first_offered i b past ≡ None) × ((n x : ℕ) → n < b → (w ≡ x → ⊥) → Blocked c i n x past))
+    go (copies_known k) = absurd (past_end (known c by (part by past)) i w (s.unknown by) k)
+    go (repeats_offer o _ _ _) = inl o
+    go (offers_first o _ _ f _) = inr (o, fresh_safe c by i b w past f (λ m p l. (s.own p m w l, λ n x k d. s.safe m w n x (s.own p m w l) k d)))
 
 -- the offer under b after a put at i under b
 pub offered_now : (w : ℕ) (o : Option ℕ) → ((o ≡ Some w) ⊎ (o ≡ None)) → earlier_or (Some w) o ≡ Some w
@@ -197,26 +197,26 @@ offered_now w (Some x) (inl k) = k
 offered_now w (Some x) (inr k) = cc
 
 pub early_own : (c : Config) (i by q j n w : ℕ) (past : List Event) → IsLegalHistory c past → Early c i past → Needs c by (part by past) (Verb.PutSlot q j n w)
-    → (a : Answer) → (p b v : ℕ) → landed p i b v (record { by = by; verb = Verb.PutSlot q j n w; answer = a } ∷ past) ≡ true → offered i b (record { by = by; verb = Verb.PutSlot q j n w; answer = a } ∷ past) ≡ Some v
+    → (a : Answer) → (p b v : ℕ) → has_landed p i b v (record { by = by; verb = Verb.PutSlot q j n w; answer = a } ∷ past) ≡ true → first_offered i b (record { by = by; verb = Verb.PutSlot q j n w; answer = a } ∷ past) ≡ Some v
 early_own c i by q j n w past h s may Answer.Done p b v m = go ((q == p) && ((j == i) && ((n == b) && (w == v)))) refl m
   where
     f : Event
     f = record { by = by; verb = Verb.PutSlot q j n w; answer = Answer.Done }
 
-    go : (t : Bool) → ((q == p) && ((j == i) && ((n == b) && (w == v)))) ≡ t → cond t true (landed p i b v past) ≡ true → offered i b (record { by = by; verb = Verb.PutSlot q j n w; answer = Answer.Done } ∷ past) ≡ Some v
+    go : (t : Bool) → ((q == p) && ((j == i) && ((n == b) && (w == v)))) ≡ t → cond t true (has_landed p i b v past) ≡ true → first_offered i b (record { by = by; verb = Verb.PutSlot q j n w; answer = Answer.Done } ∷ past) ≡ Some v
     go false k l = offer_stays i b v (record { by = by; verb = Verb.PutSlot q j n w; answer = Answer.Done }) past (s.own p b v l)
     go true k l =
         let x = is_put p i b v q j n w k in
         let at : MayPutSlot c by (part by past) q i b w = subst (λ z. MayPutSlot c by (part by past) q i z w) x.number (subst (λ z. MayPutSlot c by (part by past) q z n w) x.position may.2) in
         let e1 : (j == i) ≡ true = eq-eqb j i x.position in
         let e2 : (n == b) ≡ true = eq-eqb n b x.number in
-        rw (e1, e2) (offered_now w (offered i b past) (elim (early_value c i by q b w past h s at) [ inl o ↦ inl o | inr o ↦ inr o.0 ]) ∙ ap Some x.value)
+        rw (e1, e2) (offered_now w (first_offered i b past) (elim (early_value c i by q b w past h s at) [ inl o ↦ inl o | inr o ↦ inr o.0 ]) ∙ ap Some x.value)
 early_own c i by q j n w past h s may a p b v m = offer_stays i b v (record { by = by; verb = Verb.PutSlot q j n w; answer = a }) past (s.own p b v m)
 
-pub early_safe : (c : Config) (i by q j n w : ℕ) (past : List Event) → IsLegalHistory c past → Early c i past → Needs c by (part by past) (Verb.PutSlot q j n w) → Safe c i (made c past by (Verb.PutSlot q j n w) ∷ past)
-early_safe c i by q j n w past h s may b v m x e l d = blocked_stays c i m x by (Verb.PutSlot q j n w) past h may (go (offered i b past) refl ((j == i) && (n == b)) refl e)
+pub early_safe : (c : Config) (i by q j n w : ℕ) (past : List Event) → IsLegalHistory c past → Early c i past → Needs c by (part by past) (Verb.PutSlot q j n w) → Safe c i (event_after c past by (Verb.PutSlot q j n w) ∷ past)
+early_safe c i by q j n w past h s may b v m x e l d = blocked_stays c i m x by (Verb.PutSlot q j n w) past h may (go (first_offered i b past) refl ((j == i) && (n == b)) refl e)
   where
-    go : (o : Option ℕ) → offered i b past ≡ o → (t : Bool) → ((j == i) && (n == b)) ≡ t → earlier_or (cond t (Some w) None) o ≡ Some v → Blocked c i m x past
+    go : (o : Option ℕ) → first_offered i b past ≡ o → (t : Bool) → ((j == i) && (n == b)) ≡ t → earlier_or (cond t (Some w) None) o ≡ Some v → Blocked c i m x past
     go (Some y) k true ht e' = s.safe b v m x (k ∙ e') l d
     go o k false ht e' = s.safe b v m x (k ∙ e') l d
     go None k true ht e' =
@@ -247,7 +247,7 @@ early_fuo c i by q u p past s k true = let l = s.fuo p in omega arith
 early_fuo c i by q u p past s k false = s.fuo p
 
 -- one step before the choice, where it chooses nothing
-pub early_step : (c : Config) (i by : ℕ) (v : Verb) (past : List Event) → IsLegalHistory c past → Needs c by (part by past) v → Early c i past → ((b x : ℕ) → Chosen c i b x (made c past by v ∷ past) → ⊥) → Early c i (made c past by v ∷ past)
+pub early_step : (c : Config) (i by : ℕ) (v : Verb) (past : List Event) → IsLegalHistory c past → Needs c by (part by past) v → Early c i past → ((b x : ℕ) → Chosen c i b x (event_after c past by v ∷ past) → ⊥) → Early c i (event_after c past by v ∷ past)
 early_step c i by (Verb.PutSlot q j n w) past h may s open' = record {
   unknown = unknown_kept c i by (Verb.PutSlot q j n w) past h s open';
   own = early_own c i by q j n w past h s may (put_answer (drained by q past));

@@ -1,5 +1,5 @@
 -- Where a look showed an entry the log has one for good.
-use Rattle.std.proofs.Common.{◌≡◌, ℕ, ◌+◌, ◌<◌, ◌≤◌, Bool, true, false, cond, ◌==◌, ◌&&◌, List, [], ◌∷◌, ◌++◌, length, refl, sym, ◌∙◌, ap, arith, Some, None, subst, eqb-true, true≢false, set, ◌⊎◌, inl, inr}
+use Rattle.std.proofs.Common.{◌≡◌, ℕ, ◌+◌, ◌<◌, ◌≤◌, Bool, true, false, ◌==◌, ◌&&◌, List, [], ◌∷◌, ◌++◌, length, refl, sym, ◌∙◌, ap, arith, Some, None, subst, eqb-true, true≢false, set, inl, inr}
 use Rattle.std.specs.declared.option.Option.{Option}
 use Rattle.std.specs.Prelude.{nat_lt, if◌then◌else◌}
 use Rattle.std.specs.List.{slice_get}
@@ -22,12 +22,11 @@ use Rattle.mu_model.specs.Placing.{fuo_read_or_raised}
 use Rattle.mu_model.specs.Regions.{fence, fence_grant, log_with, region_fuo, region_head, region_log, region_min}
 use Rattle.mu_model.specs.Room.{last_head}
 use Rattle.mu_model.proofs.Owned.{noted-part}
-use Rattle.mu_agree.proofs.Access.{noting}
-use Rattle.mu_agree.proofs.Landings.{at_part, length_put}
-use Rattle.mu_agree.proofs.Legal.{legal_induction, made}
+use Rattle.mu_agree.proofs.Landings.{at_part, length_put, has_cases}
+use Rattle.mu_agree.proofs.Legal.{legal_induction, event_after}
 use Rattle.mu_agree.proofs.Minimum.{rises_step}
 use Rattle.mu_agree.proofs.Possible.{answered, at_event, same_fence}
-use Rattle.mu_agree.proofs.Prefixes.{get_below}
+use Rattle.mu_model.proofs.Lists.{item_below}
 use Rattle.mu_agree.proofs.Readings.{log_grows, number_is}
 use Rattle.mu_agree.proofs.Room.{heads_read}
 use Rattle.mu_agree.specs.Possible.{PartsStayFilled}
@@ -54,15 +53,11 @@ entry_answer r p j by q k (Answer.Entry b v) h =
     let m = and_parts (q == p) (k == j) (and_parts (by == r) ((q == p) && (k == j)) h).1 in (refl, eqb-true q p m.0, eqb-true k j m.1)
 entry_answer r p j by q k a h = absurd (true≢false (sym h))
 
-one_of : (t u : Bool) → cond t true u ≡ true → (t ≡ true) ⊎ (u ≡ true)
-one_of true u h = inl refl
-one_of false u h = inr h
-
-entry_step : (c : Config) (r p j by : ℕ) (v : Verb) (past : List Event) → Shown r p j past → Shown r p j (made c past by v ∷ past)
-entry_step c r p j by (Verb.Look q i) past s = at_part (λ J. has (entry_seen r p j) J ≡ true → j < length (region_log p past)) r (made c past by (Verb.Look q i)) past s (λ _. here)
+entry_step : (c : Config) (r p j by : ℕ) (v : Verb) (past : List Event) → Shown r p j past → Shown r p j (event_after c past by v ∷ past)
+entry_step c r p j by (Verb.Look q i) past s = at_part (λ J. has (entry_seen r p j) J ≡ true → j < length (region_log p past)) r (event_after c past by (Verb.Look q i)) past s (λ _. here)
   where
-    here : has (entry_seen r p j) (made c past by (Verb.Look q i) ∷ part r past) ≡ true → j < length (region_log p past)
-    here m = elim (one_of (is_entry_seen r p j by (Verb.Look q i) (answer_of c by past (Verb.Look q i))) (has (entry_seen r p j) (part r past)) m) [
+    here : has (entry_seen r p j) (event_after c past by (Verb.Look q i) ∷ part r past) ≡ true → j < length (region_log p past)
+    here m = elim (has_cases (is_entry_seen r p j by (Verb.Look q i) (answer_of c by past (Verb.Look q i))) (has (entry_seen r p j) (part r past)) m) [
       | inl new ↦
           let f = entry_answer r p j by q i (answer_of c by past (Verb.Look q i)) new in
           let low = entry_within c.ring i (region_log q past) (nat_lt (i + c.ring) (length (region_log q past))) f.0 in
@@ -71,10 +66,10 @@ entry_step c r p j by (Verb.Look q i) past s = at_part (λ J. has (entry_seen r 
     ]
 entry_step c r p j by v past s =
     let up = log_grows p v (answer_of c by past v) (region_log p past) in
-    let on : has (entry_seen r p j) (part r past) ≡ true → j < length (region_log p (made c past by v ∷ past)) = (λ k. let l = s k in omega arith) in
-    at_part (λ J. has (entry_seen r p j) J ≡ true → j < length (region_log p (made c past by v ∷ past))) r (made c past by v) past on (λ _. keep)
+    let on : has (entry_seen r p j) (part r past) ≡ true → j < length (region_log p (event_after c past by v ∷ past)) = (λ k. let l = s k in omega arith) in
+    at_part (λ J. has (entry_seen r p j) J ≡ true → j < length (region_log p (event_after c past by v ∷ past))) r (event_after c past by v) past on (λ _. keep)
   where
-    keep : has (entry_seen r p j) (made c past by v ∷ part r past) ≡ true → j < length (region_log p (made c past by v ∷ past))
+    keep : has (entry_seen r p j) (event_after c past by v ∷ part r past) ≡ true → j < length (region_log p (event_after c past by v ∷ past))
     keep k = let up = log_grows p v (answer_of c by past v) (region_log p past) in let l = s k in omega arith
 
 entries_shown : (c : Config) (r p j : ℕ) (past : List Event) → IsLegalHistory c past → Shown r p j past
@@ -89,5 +84,5 @@ pub parts_stay_filled_law : PartsStayFilled
 parts_stay_filled_law c r p i j mine e poss seen l v none =
     let s = at_event c r mine e poss in
     let long : j < length (region_log p s.older) = entries_shown c r p j s.older s.legal (subst (λ z. has (entry_seen r p j) z ≡ true) (sym s.part_is) seen) in
-    let there = get_below (region_log p s.older) i (omega arith) in
+    let there = item_below (region_log p s.older) i (omega arith) in
     is_empty (nat_lt (i + c.ring) (length (region_log p s.older))) (slice_get (region_log p s.older) i) there.0 there.1 (sym (answered c r mine e (Verb.Look p i) poss v) ∙ none)

@@ -16,8 +16,8 @@ use Rattle.mu_model.specs.Serving.{must_drain, names_target}
 use Rattle.mu_model.specs.Steps.{is_missed_at_verb}
 use Rattle.mu_model.proofs.Basics.{none_some}
 use Rattle.mu_model.proofs.Owned.{noted-part}
-use Rattle.mu_agree.proofs.Access.{last_close, must_drain-part, noting}
-use Rattle.mu_agree.proofs.Legal.{legal_induction, made}
+use Rattle.mu_agree.proofs.Access.{last_close, must_drain-part, noted_grant_is_owned}
+use Rattle.mu_agree.proofs.Legal.{legal_induction, event_after}
 use Rattle.mu_agree.specs.Possible.{PartsShowMisses, entered_under}
 use Rattle.mu_agree.proofs.Possible.{Stands, answered, at_event, same_fence, stands}
 
@@ -73,31 +73,31 @@ under_on r p e past n d s g k =
     later old (inr h) = (moved_on p g e past old.given (old.moved h)).1
 
 -- an `Enter` of r at p: it was noted, and nothing was drained since
-under_entered : (c : Config) (r p by : ℕ) (past : List Event) (v : Verb) → IsLegalHistory c past → is_enter_of r p (made c past by v) ≡ true → EntersUnder r p (made c past by v ∷ past)
+under_entered : (c : Config) (r p by : ℕ) (past : List Event) (v : Verb) → IsLegalHistory c past → is_enter_of r p (event_after c past by v) ≡ true → EntersUnder r p (event_after c past by v ∷ past)
 under_entered c r p by past v h n g k =
     let is : noted_grant r p past ≡ Some g = ap (λ t. cond t (noted_grant r p past) (entered_under r p past)) (sym n) ∙ k in
-    record { given = grows (noting c r p past h g is).0; moved = λ m. absurd (true≢false (sym m ∙ ap (λ t. has (is_drain_of p) (cond t [] (made c past by v ∷ since (is_enter_of r p) past))) n)) }
+    record { given = grows (noted_grant_is_owned c r p past h g is).0; moved = λ m. absurd (true≢false (sym m ∙ ap (λ t. has (is_drain_of p) (cond t [] (event_after c past by v ∷ since (is_enter_of r p) past))) n)) }
   where
-    grows : g ≤ fence_grant p past → g ≤ fence_grant p (made c past by v ∷ past)
-    grows l = go (is_grant_of p (made c past by v))
+    grows : g ≤ fence_grant p past → g ≤ fence_grant p (event_after c past by v ∷ past)
+    grows l = go (is_grant_of p (event_after c past by v))
       where
         go : (t : Bool) → g ≤ cond t (fence_grant p past + 1) (fence_grant p past)
         go true = omega arith
         go false = l
 
 -- who drains is closing
-drains_closed : (c : Config) (p by : ℕ) (v : Verb) (past : List Event) → Needs c by (part by past) v → is_drain_of p (made c past by v) ≡ true → fence_closing p past ≡ true
+drains_closed : (c : Config) (p by : ℕ) (v : Verb) (past : List Event) → Needs c by (part by past) v → is_drain_of p (event_after c past by v) ≡ true → fence_closing p past ≡ true
 drains_closed c p by Verb.Drain past may d =
     let here : must_drain p past ≡ true = sym (must_drain-part p past) ∙ (subst (λ z. Needs c z (part z past) Verb.Drain) (eqb-true by p d) may).0 in
     (and_parts (fence_closing p past) (names_target (last_close p past)) here).0
 drains_closed c p by v past may d = absurd (true≢false (sym d))
 
-under_step : (c : Config) (r p by : ℕ) (v : Verb) (past : List Event) → IsLegalHistory c past → Allowed c by (part by past) v → EntersUnder r p past → EntersUnder r p (made c past by v ∷ past)
-under_step c r p by v past h may s = go (is_enter_of r p (made c past by v)) refl
+under_step : (c : Config) (r p by : ℕ) (v : Verb) (past : List Event) → IsLegalHistory c past → Allowed c by (part by past) v → EntersUnder r p past → EntersUnder r p (event_after c past by v ∷ past)
+under_step c r p by v past h may s = go (is_enter_of r p (event_after c past by v)) refl
   where
-    go : (t : Bool) → is_enter_of r p (made c past by v) ≡ t → EntersUnder r p (made c past by v ∷ past)
+    go : (t : Bool) → is_enter_of r p (event_after c past by v) ≡ t → EntersUnder r p (event_after c past by v ∷ past)
     go true n = under_entered c r p by past v h n
-    go false n = under_on r p (made c past by v) past n (drains_closed c p by v past may.may) s
+    go false n = under_on r p (event_after c past by v) past n (drains_closed c p by v past may.may) s
 
 under : (c : Config) (r p : ℕ) (past : List Event) → IsLegalHistory c past → EntersUnder r p past
 under c r p = legal_induction c (EntersUnder r p) (λ g k. absurd (none_some g k)) (λ past by v h may s. under_step c r p by v past h may s)

@@ -17,16 +17,16 @@ use Rattle.mu_model.specs.Leaderships.{begins_leadership, is_member, leadership,
 use Rattle.mu_model.specs.Legal.{IsLegalHistory}
 use Rattle.mu_model.specs.Placing.{MayPutSlot}
 use Rattle.mu_model.specs.Regions.{region_fuo, region_log, region_min}
-use Rattle.mu_agree.proofs.Legal.{made}
+use Rattle.mu_agree.proofs.Legal.{event_after}
 use Rattle.mu_agree.proofs.Numbers.{number-part}
 use Rattle.mu_agree.proofs.Members.{slot_number}
 use Rattle.mu_agree.proofs.Slots.{put_in'}
 use Rattle.mu_agree.proofs.Knowing.{Teaches, teaches, by_put, by_look}
 use Rattle.mu_agree.proofs.Landings.{look_reply, has_since, has_implied}
-use Rattle.mu_agree.proofs.Landed.{landed, slot_landed, landed_facts, lands_within, get_put_same}
-use Rattle.mu_agree.proofs.Offers.{offered, at_part', of_one}
+use Rattle.mu_agree.proofs.Landed.{has_landed, slot_landed, landed_facts, lands_within, get_put_same}
+use Rattle.mu_agree.proofs.Offers.{first_offered, at_part', of_one}
 use Rattle.mu_agree.proofs.Choice.{Chosen, not_chosen}
-use Rattle.mu_agree.proofs.Early.{Protected, accepted_chosen, done_lands, landed_of, trusted, PutValue, copied, again, fresh, put_value, past_end, offered_now}
+use Rattle.mu_agree.proofs.Early.{Protected, accepted_chosen, done_lands, landed_of, trusted_is_protected, PutValue, copies_known, repeats_offer, offers_first, put_value, past_end, offered_now}
 use Rattle.mu_agree.proofs.Late.{Base, chosen_is, base_step}
 use Rattle.mu_agree.proofs.Tame.{Tame, knowing, under, known_longer}
 use Rattle.mu_agree.proofs.Settled.{Late, Settled, Know, Shows, settled_kept, settled_step}
@@ -39,7 +39,7 @@ put by q j n w = record { by = by; verb = Verb.PutSlot q j n w; answer = Answer.
 
 -- a put that landed and after which its writer knows i settles a region
 put_settles : (c : Config) (i V B : ℕ) (maj : ℕ → Bool) (p by q j n w : ℕ) (past : List Event) → IsLegalHistory c past → Needs c by (part by past) (Verb.PutSlot q j n w)
-    → n ≤ region_min p past → (n < region_min p past → (offered i n (put by q j n w ∷ past) ≡ Some V) × Chosen c i n V (put by q j n w ∷ past))
+    → n ≤ region_min p past → (n < region_min p past → (first_offered i n (put by q j n w ∷ past) ≡ Some V) × Chosen c i n V (put by q j n w ∷ past))
     → i < length (known c by (put by q j n w ∷ part by past)) → Shows i V p (put by q j n w ∷ past) → Settled c i V B maj p (put by q j n w ∷ past)
 put_settles c i V B maj p by q j n w past h may low lower after sh = record { shows = sh; tame = λ r. at_part' (λ J. is_member r p J ≡ true → proposal_number r J ≡ Some (region_min p past) → Tame c i V B maj r J (put by q j n w ∷ past)) r (put by q j n w) past (λ hx m o. other r hx o) (λ hx m o. knowing (subst (λ z. i < length (known c z (put by q j n w ∷ part z past))) (eqb-true by r hx) after)) }
   where
@@ -76,18 +76,18 @@ there_settles c i V B maj p by q j n w past h al ans base' len len' hp = go (lea
     legal : IsLegalHistory c (record { by = by; verb = Verb.PutSlot q j n w; answer = Answer.Done } ∷ past)
     legal = (h, record { allowed = al; answer = sym ans })
 
-    lands : landed p i n w (record { by = by; verb = Verb.PutSlot q j n w; answer = Answer.Done } ∷ past) ≡ true
+    lands : has_landed p i n w (record { by = by; verb = Verb.PutSlot q j n w; answer = Answer.Done } ∷ past) ≡ true
     lands = landed_of by p i n w (record { by = by; verb = Verb.PutSlot q j n w; answer = Answer.Done }) past
         (has_implied (lands_entry by p i n w) (λ f. slot_landed p i n w f.verb f.answer) (λ f m. done_lands by p i n w f.by f.verb f.answer m) (record { by = by; verb = Verb.PutSlot q j n w; answer = Answer.Done } ∷ part by past)
         (has_since (lands_entry by p i n w) (begins_leadership by) (record { by = by; verb = Verb.PutSlot q j n w; answer = Answer.Done } ∷ part by past) hp))
 
-    offer : MayPutSlot c by (part by past) q i n w → (offered i n past ≡ Some w) ⊎ (offered i n past ≡ None)
+    offer : MayPutSlot c by (part by past) q i n w → (first_offered i n past ≡ Some w) ⊎ (first_offered i n past ≡ None)
     offer may = from (put_value c by q i n w past h may)
       where
-        from : PutValue c by i n w past → (offered i n past ≡ Some w) ⊎ (offered i n past ≡ None)
-        from (copied k) = absurd (past_end (known c by (part by past)) i w (omega arith) k)
-        from (again o f nx jn) = inl o
-        from (fresh o f nx fd g) = inr o
+        from : PutValue c by i n w past → (first_offered i n past ≡ Some w) ⊎ (first_offered i n past ≡ None)
+        from (copies_known k) = absurd (past_end (known c by (part by past)) i w (omega arith) k)
+        from (repeats_offer o f nx jn) = inl o
+        from (offers_first o f nx fd g) = inr o
 
     finish : j ≡ i → is_accepted_by_all c by (record { by = by; verb = Verb.PutSlot q j n w; answer = Answer.Done } ∷ part by past) i n w ≡ true → Settled c i V B maj p (record { by = by; verb = Verb.PutSlot q j n w; answer = Answer.Done } ∷ past)
     finish ej acc = put_settles c i V B maj p by q j n w past h al.may ((landed_facts c p (put by q j n w ∷ past) legal).least i n w lands) (λ l. (mine, ch)) (omega arith) sh
@@ -101,11 +101,11 @@ there_settles c i V B maj p by q j n w past h al ans base' len len' hp = go (lea
         ch : Chosen c i n V (record { by = by; verb = Verb.PutSlot q j n w; answer = Answer.Done } ∷ past)
         ch = subst (λ z. Chosen c i n z (record { by = by; verb = Verb.PutSlot q j n w; answer = Answer.Done } ∷ past)) is ch'
 
-        mine : offered i n (record { by = by; verb = Verb.PutSlot q j n w; answer = Answer.Done } ∷ past) ≡ Some V
+        mine : first_offered i n (record { by = by; verb = Verb.PutSlot q j n w; answer = Answer.Done } ∷ past) ≡ Some V
         mine =
             let e1 : (j == i) ≡ true = eq-eqb j i ej in
             let e2 : (n == n) ≡ true = eq-eqb n n refl in
-            rw (e1, e2) (offered_now w (offered i n past) (offer (subst (λ z. MayPutSlot c by (part by past) q z n w) ej al.may.2)) ∙ ap Some is)
+            rw (e1, e2) (offered_now w (first_offered i n past) (offer (subst (λ z. MayPutSlot c by (part by past) q z n w) ej al.may.2)) ∙ ap Some is)
 
         sh : Shows i V p (record { by = by; verb = Verb.PutSlot q j n w; answer = Answer.Done } ∷ past)
         sh y k = elim (cases_eq y.1 V) [
@@ -113,7 +113,7 @@ there_settles c i V B maj p by q j n w past h al ans base' len len' hp = go (lea
           | inr d ↦ absurd (wrong d)
         ]
           where
-            facts : landed p i y.0 y.1 (record { by = by; verb = Verb.PutSlot q j n w; answer = Answer.Done } ∷ past) ≡ true
+            facts : has_landed p i y.0 y.1 (record { by = by; verb = Verb.PutSlot q j n w; answer = Answer.Done } ∷ past) ≡ true
             facts = (landed_facts c p (record { by = by; verb = Verb.PutSlot q j n w; answer = Answer.Done } ∷ past) legal).in_log i y.0 y.1 k
 
             above : n ≤ y.0
@@ -121,7 +121,7 @@ there_settles c i V B maj p by q j n w past h al ans base' len len' hp = go (lea
 
             wrong : (y.1 ≡ V → ⊥) → ⊥
             wrong d = let o = base'.own p y.0 y.1 facts d in let ab = above in elim (cases_eq n y.0) [
-              | inl e ↦ d (same_some y.1 V (sym o ∙ ap (λ z. offered i z (record { by = by; verb = Verb.PutSlot q j n w; answer = Answer.Done } ∷ past)) (sym e) ∙ mine))
+              | inl e ↦ d (same_some y.1 V (sym o ∙ ap (λ z. first_offered i z (record { by = by; verb = Verb.PutSlot q j n w; answer = Answer.Done } ∷ past)) (sym e) ∙ mine))
               | inr ne ↦ not_chosen c i n V (record { by = by; verb = Verb.PutSlot q j n w; answer = Answer.Done } ∷ past) (λ p' m. mine) (base'.safe_offers y.0 y.1 n V o d (omega arith) d) ch
             ]
 
@@ -133,7 +133,7 @@ there_settles c i V B maj p by q j n w past h al ans base' len len' hp = go (lea
         let k = accepted_of c by i x by (part by past) (put by q j n w ∷ part by past) (Verb.PutSlot q j n w) Answer.Done (subst (λ z. Teaches c by (part by past) (put by q j n w ∷ part by past) z x by (Verb.PutSlot q j n w) Answer.Done) len t) q j n w refl in
         finish k.0 k.2
 
-filled_fuo : (c : Config) (i V B : ℕ) (maj : ℕ → Bool) (r p by q : ℕ) (past : List Event) → Late c i V B maj past → is_filled c r p (made c past by (Verb.Fuo q) ∷ part r past) i ≡ true → Settled c i V B maj p past
+filled_fuo : (c : Config) (i V B : ℕ) (maj : ℕ → Bool) (r p by q : ℕ) (past : List Event) → Late c i V B maj past → is_filled c r p (event_after c past by (Verb.Fuo q) ∷ part r past) i ≡ true → Settled c i V B maj p past
 filled_fuo c i V B maj r p by q past s h =
     elim (or_cases ((by == r) && ((q == p) && nat_lt i (region_fuo q past))) (is_filled c r p (part r past) i) h) [
       | inl k ↦ (let m = and_parts (q == p) (nat_lt i (region_fuo q past)) (and_parts (by == r) ((q == p) && nat_lt i (region_fuo q past)) k).1 in
@@ -164,7 +164,7 @@ filled_look c i V B maj r p by q j past h s (Answer.Entry b v) m =
     go None e len l = absurd (omega arith)
     go (Some x) e len l =
         let t = teaches c r (length (known c r (part r past))) x by (Verb.Look q j) (Answer.Entry b v) (part r past) (record { by = by; verb = Verb.Look q j; answer = Answer.Entry b v } ∷ part r past) e in
-        trusted c r q i past h (subst (λ z. is_known_decided r (part r past) q z ≡ true) len (trust_of c r (length (known c r (part r past))) x by (part r past) (record { by = by; verb = Verb.Look q j; answer = Answer.Entry b v } ∷ part r past) (Verb.Look q j) (Answer.Entry b v) t q j refl))
+        trusted_is_protected c r q i past h (subst (λ z. is_known_decided r (part r past) q z ≡ true) len (trust_of c r (length (known c r (part r past))) x by (part r past) (record { by = by; verb = Verb.Look q j; answer = Answer.Entry b v } ∷ part r past) (Verb.Look q j) (Answer.Entry b v) t q j refl))
 filled_look c i V B maj r p by q j past h s a m = s.filled r p m
 
 pub value_is : (o : Option ℕ) (w : ℕ) → is_value o w ≡ true → o ≡ Some w
@@ -192,23 +192,23 @@ filled_put c i V B maj p by q j n w past h al kn Answer.Done ans base' old m =
     ]
 filled_put c i V B maj p by q j n w past h al kn a ans base' old m = old m
 
-filled_kept : (c : Config) (i V B : ℕ) (maj : ℕ → Bool) (r p by : ℕ) (v : Verb) (past : List Event) → IsLegalHistory c past → Allowed c by (part by past) v → Late c i V B maj past → Base c i V B maj (made c past by v ∷ past)
-    → is_filled c r p (part r (made c past by v ∷ past)) i ≡ true → Settled c i V B maj p (made c past by v ∷ past)
-filled_kept c i V B maj r p by (Verb.Fuo q) past h al s base' = at_part' (λ J. is_filled c r p J i ≡ true → Settled c i V B maj p (made c past by (Verb.Fuo q) ∷ past)) r (made c past by (Verb.Fuo q)) past
+filled_kept : (c : Config) (i V B : ℕ) (maj : ℕ → Bool) (r p by : ℕ) (v : Verb) (past : List Event) → IsLegalHistory c past → Allowed c by (part by past) v → Late c i V B maj past → Base c i V B maj (event_after c past by v ∷ past)
+    → is_filled c r p (part r (event_after c past by v ∷ past)) i ≡ true → Settled c i V B maj p (event_after c past by v ∷ past)
+filled_kept c i V B maj r p by (Verb.Fuo q) past h al s base' = at_part' (λ J. is_filled c r p J i ≡ true → Settled c i V B maj p (event_after c past by (Verb.Fuo q) ∷ past)) r (event_after c past by (Verb.Fuo q)) past
     (λ _ m. settled_step c i V B maj p by (Verb.Fuo q) past h al.may s.base s.knows (s.filled r p m)) (λ _ m. settled_step c i V B maj p by (Verb.Fuo q) past h al.may s.base s.knows (filled_fuo c i V B maj r p by q past s m))
-filled_kept c i V B maj r p by (Verb.Look q j) past h al s base' = at_part' (λ J. is_filled c r p J i ≡ true → Settled c i V B maj p (made c past by (Verb.Look q j) ∷ past)) r (made c past by (Verb.Look q j)) past
+filled_kept c i V B maj r p by (Verb.Look q j) past h al s base' = at_part' (λ J. is_filled c r p J i ≡ true → Settled c i V B maj p (event_after c past by (Verb.Look q j) ∷ past)) r (event_after c past by (Verb.Look q j)) past
     (λ _ m. settled_step c i V B maj p by (Verb.Look q j) past h al.may s.base s.knows (s.filled r p m)) (λ _ m. settled_step c i V B maj p by (Verb.Look q j) past h al.may s.base s.knows (filled_look c i V B maj r p by q j past h s (look_reply c.ring (region_log q past) j) m))
-filled_kept c i V B maj r p by (Verb.PutSlot q j n w) past h al s base' = at_part' (λ J. is_filled c r p J i ≡ true → Settled c i V B maj p (made c past by (Verb.PutSlot q j n w) ∷ past)) r (made c past by (Verb.PutSlot q j n w)) past
+filled_kept c i V B maj r p by (Verb.PutSlot q j n w) past h al s base' = at_part' (λ J. is_filled c r p J i ≡ true → Settled c i V B maj p (event_after c past by (Verb.PutSlot q j n w) ∷ past)) r (event_after c past by (Verb.PutSlot q j n w)) past
     (λ _ m. old r m)
-    (λ hx. subst (λ z. is_filled c z p (made c past by (Verb.PutSlot q j n w) ∷ part z past) i ≡ true → Settled c i V B maj p (made c past by (Verb.PutSlot q j n w) ∷ past)) (eqb-true by r hx) (filled_put c i V B maj p by q j n w past h al s.knows (put_answer (drained by q past)) refl base' (old by)))
+    (λ hx. subst (λ z. is_filled c z p (event_after c past by (Verb.PutSlot q j n w) ∷ part z past) i ≡ true → Settled c i V B maj p (event_after c past by (Verb.PutSlot q j n w) ∷ past)) (eqb-true by r hx) (filled_put c i V B maj p by q j n w past h al s.knows (put_answer (drained by q past)) refl base' (old by)))
   where
-    old : (r : ℕ) → is_filled c r p (part r past) i ≡ true → Settled c i V B maj p (made c past by (Verb.PutSlot q j n w) ∷ past)
+    old : (r : ℕ) → is_filled c r p (part r past) i ≡ true → Settled c i V B maj p (event_after c past by (Verb.PutSlot q j n w) ∷ past)
     old r m = settled_step c i V B maj p by (Verb.PutSlot q j n w) past h al.may s.base s.knows (s.filled r p m)
-filled_kept c i V B maj r p by v past h al s base' = at_part' (λ J. is_filled c r p J i ≡ true → Settled c i V B maj p (made c past by v ∷ past)) r (made c past by v) past
+filled_kept c i V B maj r p by v past h al s base' = at_part' (λ J. is_filled c r p J i ≡ true → Settled c i V B maj p (event_after c past by v ∷ past)) r (event_after c past by v) past
     (λ _ m. settled_step c i V B maj p by v past h al.may s.base s.knows (s.filled r p m)) (λ _ m. settled_step c i V B maj p by v past h al.may s.base s.knows (s.filled r p m))
 
 -- one step after the choice
-pub late_step : (c : Config) (i V B : ℕ) (maj : ℕ → Bool) (by : ℕ) (v : Verb) (past : List Event) → IsLegalHistory c past → Allowed c by (part by past) v → Late c i V B maj past → Late c i V B maj (made c past by v ∷ past)
+pub late_step : (c : Config) (i V B : ℕ) (maj : ℕ → Bool) (by : ℕ) (v : Verb) (past : List Event) → IsLegalHistory c past → Allowed c by (part by past) v → Late c i V B maj past → Late c i V B maj (event_after c past by v ∷ past)
 late_step c i V B maj by v past h al s = record {
   base = base';
   knows = knows_kept c i V B maj by v past h s base';
@@ -217,5 +217,5 @@ late_step c i V B maj by v past h al s = record {
   copied = λ r p. copied_step c i V B maj r p by v past h al.may s;
 }
   where
-    base' : Base c i V B maj (made c past by v ∷ past)
+    base' : Base c i V B maj (event_after c past by v ∷ past)
     base' = base_step c i V B maj by v past h al.may s.base (s.knows by)

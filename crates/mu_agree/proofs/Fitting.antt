@@ -17,12 +17,11 @@ use Rattle.mu_model.specs.Knowledge.{known}
 use Rattle.mu_model.specs.Legal.{IsLegalHistory}
 use Rattle.mu_model.specs.Room.{reserve}
 use Rattle.mu_agree.proofs.Phases.{one_chosen}
-use Rattle.mu_agree.proofs.Prefixes.{get_below}
 use Rattle.mu_agree.proofs.Room.{mark_version}
 use Rattle.mu_agree.proofs.Sound.{Fits, by_batch, by_mark, Sound, chosen_sound, some_fails}
 use Rattle.mu_model.proofs.Scans.{session_append}
 use Rattle.mu_agree.proofs.Sessions.{AreChosen, known_are_chosen, marked_once, mark_no_batch, mark_place, row_within, batch_numbers, length_counted, same_list}
-use Rattle.mu_model.proofs.Lists.{get_front}
+use Rattle.mu_model.proofs.Lists.{get_front, item_below}
 
 -- each entry has a place of its own: the row with which its batch begins, or one beyond the rows
 abbrev pub key : Config → ℕ → ℕ
@@ -68,7 +67,7 @@ batch_once c i j v w past g h a b bv bw same l = go (chosen_sound c i v past h a
     go (by_mark q m n) f = mark_no_batch c q v g m bv
     go (by_batch x y z) (by_mark q m n) = mark_no_batch c q w g m bw
     go (by_batch x y z) (by_batch x' y' z') =
-        let at = get_below sw.values i (let k = sw.count in omega arith) in
+        let at = item_below sw.values i (let k = sw.count in omega arith) in
         let ch = sw.chosen i at.0 at.1 in
         let is : at.0 ≡ v = one_chosen c i ch.0 at.0 a.0 v past h ch.1 a.1 in
         let s = split sw.values i v (at.1 ∙ ap Some is) in

@@ -11,7 +11,7 @@ use Rattle.mu_model.specs.Answers.{drained, put_answer}
 use Rattle.mu_model.specs.Histories.{has, part}
 use Rattle.mu_model.specs.Legal.{IsLegalHistory}
 use Rattle.mu_model.specs.Regions.{region_log, region_min}
-use Rattle.mu_agree.proofs.Legal.{made, legal_induction}
+use Rattle.mu_agree.proofs.Legal.{event_after, legal_induction}
 use Rattle.mu_agree.proofs.Minimum.{rises_step}
 use Rattle.mu_agree.proofs.Members.{slot_number}
 use Rattle.mu_agree.proofs.Slots.{put_in', get_put}
@@ -23,8 +23,8 @@ abbrev pub slot_landed : ℕ → ℕ → ℕ → ℕ → Verb → Answer → Boo
 slot_landed p i b v (Verb.PutSlot q j n w) Answer.Done = (q == p) && ((j == i) && ((n == b) && (w == v)))
 slot_landed p i b v _ _ = false
 
-abbrev pub landed : ℕ → ℕ → ℕ → ℕ → List Event → Bool
-landed p i b v past = has (λ e. slot_landed p i b v e.verb e.answer) past
+abbrev pub has_landed : ℕ → ℕ → ℕ → ℕ → List Event → Bool
+has_landed p i b v past = has (λ e. slot_landed p i b v e.verb e.answer) past
 
 -- what a put that landed says
 pub record IsPut (p i b v q j n w : ℕ) : Type 0 where
@@ -67,9 +67,9 @@ pub lands_within : (c : Config) (p by i b v : ℕ) (past : List Event) → IsLeg
 lands_within c p by i b v past h may = below_all c by p i 0 past (no_gaps c p past h) may.2.caught_up
 
 pub record LandedFacts (p : ℕ) (past : List Event) : Type 0 where
-  pub in_log : (i b v : ℕ) → slice_get (region_log p past) i ≡ Some (b, v) → landed p i b v past ≡ true
-  pub most : (i b v : ℕ) (y : ℕ × ℕ) → landed p i b v past ≡ true → slice_get (region_log p past) i ≡ Some y → b ≤ y.0
-  pub least : (i b v : ℕ) → landed p i b v past ≡ true → b ≤ region_min p past
+  pub in_log : (i b v : ℕ) → slice_get (region_log p past) i ≡ Some (b, v) → has_landed p i b v past ≡ true
+  pub most : (i b v : ℕ) (y : ℕ × ℕ) → has_landed p i b v past ≡ true → slice_get (region_log p past) i ≡ Some y → b ≤ y.0
+  pub least : (i b v : ℕ) → has_landed p i b v past ≡ true → b ≤ region_min p past
 
 facts_put : (c : Config) (p by q j n w : ℕ) (past : List Event) → IsLegalHistory c past → Needs c by (part by past) (Verb.PutSlot q j n w) → LandedFacts p past
     → (a : Answer) → put_answer (drained by q past) ≡ a → (t : Bool) → (q == p) ≡ t
@@ -82,9 +82,9 @@ facts_put c p by q j n w past h may f Answer.Done e true hq = record { in_log = 
     room : j ≤ length (region_log p past)
     room = subst (λ x. j ≤ length (region_log x past)) (eqb-true q p hq) (lands_within c q by j n w past h may)
 
-    in_log' : (i b v : ℕ) → slice_get (put_in' (region_log p past) j (n, w)) i ≡ Some (b, v) → cond ((j == i) && ((n == b) && (w == v))) true (landed p i b v past) ≡ true
+    in_log' : (i b v : ℕ) → slice_get (put_in' (region_log p past) j (n, w)) i ≡ Some (b, v) → cond ((j == i) && ((n == b) && (w == v))) true (has_landed p i b v past) ≡ true
     in_log' i b v k = elim (get_put (region_log p past) j i (n, w) (b, v) k) [
-      | inl m ↦ or_true ((j == i) && ((n == b) && (w == v))) (landed p i b v past) (f.in_log i b v m)
+      | inl m ↦ or_true ((j == i) && ((n == b) && (w == v))) (has_landed p i b v past) (f.in_log i b v m)
       | inr m ↦ (let x : b ≡ n = ap (λ z. z.0) m.1 in let y : v ≡ w = ap (λ z. z.1) m.1 in rw (m.0, x, y, self j, self n, self w) refl)
     ]
       where
@@ -92,16 +92,16 @@ facts_put c p by q j n w past h may f Answer.Done e true hq = record { in_log = 
         or_true true u g = refl
         or_true false u g = g
 
-    most' : (i b v : ℕ) (y : ℕ × ℕ) → cond ((j == i) && ((n == b) && (w == v))) true (landed p i b v past) ≡ true → slice_get (put_in' (region_log p past) j (n, w)) i ≡ Some y → b ≤ y.0
+    most' : (i b v : ℕ) (y : ℕ × ℕ) → cond ((j == i) && ((n == b) && (w == v))) true (has_landed p i b v past) ≡ true → slice_get (put_in' (region_log p past) j (n, w)) i ≡ Some y → b ≤ y.0
     most' i b v y k l = go (j == i) refl ((n == b) && (w == v)) refl k
       where
-        go : (t : Bool) → (j == i) ≡ t → (u : Bool) → ((n == b) && (w == v)) ≡ u → cond (t && u) true (landed p i b v past) ≡ true → b ≤ y.0
+        go : (t : Bool) → (j == i) ≡ t → (u : Bool) → ((n == b) && (w == v)) ≡ u → cond (t && u) true (has_landed p i b v past) ≡ true → b ≤ y.0
         go true ht u hu m =
             let z : (n, w) ≡ y = same_some (n, w) y (sym (get_put_same (region_log p past) j (n, w) room) ∙ ap (slice_get (put_in' (region_log p past) j (n, w))) (eqb-true j i ht) ∙ l) in
             let first : n ≡ y.0 = ap (λ x. x.0) z in
             below u hu m first
           where
-            below : (u : Bool) → ((n == b) && (w == v)) ≡ u → cond u true (landed p i b v past) ≡ true → n ≡ y.0 → b ≤ y.0
+            below : (u : Bool) → ((n == b) && (w == v)) ≡ u → cond u true (has_landed p i b v past) ≡ true → n ≡ y.0 → b ≤ y.0
             below true hu m first = let o = eqb-true n b (and_parts (n == b) (w == v) hu).0 in omega arith
             below false hu m first = let o = f.least i b v m in let nm = num in omega arith
         go false ht u hu m = elim (get_put (region_log p past) j i (n, w) y l) [
@@ -109,16 +109,16 @@ facts_put c p by q j n w past h may f Answer.Done e true hq = record { in_log = 
           | inr o ↦ absurd (eqb-false j i ht (sym o.0))
         ]
 
-    least' : (i b v : ℕ) → cond ((j == i) && ((n == b) && (w == v))) true (landed p i b v past) ≡ true → b ≤ region_min p past
+    least' : (i b v : ℕ) → cond ((j == i) && ((n == b) && (w == v))) true (has_landed p i b v past) ≡ true → b ≤ region_min p past
     least' i b v k = go ((j == i) && ((n == b) && (w == v))) refl k
       where
-        go : (t : Bool) → ((j == i) && ((n == b) && (w == v))) ≡ t → cond t true (landed p i b v past) ≡ true → b ≤ region_min p past
+        go : (t : Bool) → ((j == i) && ((n == b) && (w == v))) ≡ t → cond t true (has_landed p i b v past) ≡ true → b ≤ region_min p past
         go true ht m = let o = eqb-true n b (and_parts (n == b) (w == v) (and_parts (j == i) ((n == b) && (w == v)) ht).1).0 in let nm = num in omega arith
         go false ht m = f.least i b v m
 facts_put c p by q j n w past h may f Answer.Done e false hq = record { in_log = rw hq f.in_log; most = rw hq f.most; least = rw hq f.least }
 facts_put c p by q j n w past h may f a e t hq = record { in_log = f.in_log; most = f.most; least = f.least }
 
-facts_step : (c : Config) (p by : ℕ) (v : Verb) (past : List Event) → IsLegalHistory c past → Needs c by (part by past) v → LandedFacts p past → LandedFacts p (made c past by v ∷ past)
+facts_step : (c : Config) (p by : ℕ) (v : Verb) (past : List Event) → IsLegalHistory c past → Needs c by (part by past) v → LandedFacts p past → LandedFacts p (event_after c past by v ∷ past)
 facts_step c p by (Verb.PutSlot q j n w) past h may f = facts_put c p by q j n w past h may f (put_answer (drained by q past)) refl (q == p) refl
 facts_step c p by (Verb.PutMin q b) past h may f = record { in_log = f.in_log; most = f.most; least = λ i n v k. rises_step c p by n (Verb.PutMin q b) past h may (f.least i n v k) }
 facts_step c p by v past h may f = record { in_log = f.in_log; most = f.most; least = f.least }
@@ -127,7 +127,7 @@ pub landed_facts : (c : Config) (p : ℕ) (past : List Event) → IsLegalHistory
 landed_facts c p = legal_induction c (LandedFacts p) (record { in_log = λ i b v k. cc; most = λ i b v y k. cc; least = λ i b v k. cc }) (λ past by v h may f. facts_step c p by v past h may.may f)
 
 -- what landed stands within the log
-pub landed_within : (c : Config) (p i b v : ℕ) (past : List Event) → IsLegalHistory c past → landed p i b v past ≡ true → i < length (region_log p past)
+pub landed_within : (c : Config) (p i b v : ℕ) (past : List Event) → IsLegalHistory c past → has_landed p i b v past ≡ true → i < length (region_log p past)
 landed_within c p i b v past h k =
     (no_gaps c p past h).stands i (has_implied (λ e. slot_landed p i b v e.verb e.answer) (λ e. is_landed_at p i e.verb e.answer) (λ e m. at e.verb e.answer m) past k)
   where
@@ -136,13 +136,13 @@ landed_within c p i b v past h k =
     at verb a m = absurd (true≢false (sym m))
 
 -- a number below the minimum lands no more
-pub lands_no_more : (c : Config) (p i b w by : ℕ) (v : Verb) (past : List Event) → IsLegalHistory c past → Needs c by (part by past) v → b < region_min p past → landed p i b w past ≡ false → landed p i b w (made c past by v ∷ past) ≡ false
+pub lands_no_more : (c : Config) (p i b w by : ℕ) (v : Verb) (past : List Event) → IsLegalHistory c past → Needs c by (part by past) v → b < region_min p past → has_landed p i b w past ≡ false → has_landed p i b w (event_after c past by v ∷ past) ≡ false
 lands_no_more c p i b w by (Verb.PutSlot q j n x) past h may l f = go (put_answer (drained by q past)) refl
   where
-    go : (a : Answer) → put_answer (drained by q past) ≡ a → landed p i b w (record { by = by; verb = Verb.PutSlot q j n x; answer = a } ∷ past) ≡ false
+    go : (a : Answer) → put_answer (drained by q past) ≡ a → has_landed p i b w (record { by = by; verb = Verb.PutSlot q j n x; answer = a } ∷ past) ≡ false
     go Answer.Done e = at ((q == p) && ((j == i) && ((n == b) && (x == w)))) refl
       where
-        at : (t : Bool) → ((q == p) && ((j == i) && ((n == b) && (x == w)))) ≡ t → cond t true (landed p i b w past) ≡ false
+        at : (t : Bool) → ((q == p) && ((j == i) && ((n == b) && (x == w)))) ≡ t → cond t true (has_landed p i b w past) ≡ false
         at true k =
             let o = is_put p i b w q j n x k in
             let m : n ≡ region_min p past = slot_number c by q j n x past h may e ∙ ap (λ z. region_min z past) o.at in
@@ -152,5 +152,5 @@ lands_no_more c p i b w by (Verb.PutSlot q j n x) past h may l f = go (put_answe
 lands_no_more c p i b w by v past h may l f = f
 
 -- what landed before has landed
-pub landed_stays : (p i b w : ℕ) (e : Event) (past : List Event) → landed p i b w past ≡ true → landed p i b w (e ∷ past) ≡ true
+pub landed_stays : (p i b w : ℕ) (e : Event) (past : List Event) → has_landed p i b w past ≡ true → has_landed p i b w (e ∷ past) ≡ true
 landed_stays p i b w e past h = has_more (λ f. slot_landed p i b w f.verb f.answer) e past h

@@ -18,7 +18,7 @@ use Rattle.mu_model.specs.Leaderships.{begins_leadership, leadership}
 use Rattle.mu_model.specs.Legal.{IsLegalHistory}
 use Rattle.mu_model.specs.Placing.{is_caught_up_at, is_known_put}
 use Rattle.mu_model.specs.Regions.{region_fuo, region_log}
-use Rattle.mu_agree.proofs.Legal.{made, legal_induction}
+use Rattle.mu_agree.proofs.Legal.{event_after, legal_induction}
 use Rattle.mu_agree.proofs.Slots.{put_in'}
 
 -- a put landed at p in position i
@@ -118,12 +118,12 @@ at_part P r e past a b = go (e.by == r) refl
     go true h = b h
     go false h = a
 
-gaps_fuo : (c : Config) (p by q : ℕ) (past : List Event) → NoGaps c p past → NoGaps c p (made c past by (Verb.Fuo q) ∷ past)
+gaps_fuo : (c : Config) (p by q : ℕ) (past : List Event) → NoGaps c p past → NoGaps c p (event_after c past by (Verb.Fuo q) ∷ past)
 gaps_fuo c p by q past g = record {
   stands = g.stands;
   fuo = g.fuo;
-  read = λ r. at_part (λ J. greatest_fuo_read r p J ≤ region_fuo p past) r (made c past by (Verb.Fuo q)) past (g.read r) (λ _. read_own r ((by == r) && (q == p)) refl);
-  filled = λ r j. at_part (λ J. is_filled c r p J j ≡ true → j < length (region_log p past)) r (made c past by (Verb.Fuo q)) past (g.filled r j) (λ _ h. filled_own r j h);
+  read = λ r. at_part (λ J. greatest_fuo_read r p J ≤ region_fuo p past) r (event_after c past by (Verb.Fuo q)) past (g.read r) (λ _. read_own r ((by == r) && (q == p)) refl);
+  filled = λ r j. at_part (λ J. is_filled c r p J j ≡ true → j < length (region_log p past)) r (event_after c past by (Verb.Fuo q)) past (g.filled r j) (λ _ h. filled_own r j h);
 }
   where
     read_own : (r : ℕ) (t : Bool) → ((by == r) && (q == p)) ≡ t → max_with (cond t (Some (region_fuo q past)) None) (greatest_fuo_read r p (part r past)) ≤ region_fuo p past
@@ -139,12 +139,12 @@ gaps_fuo c p by q past g = record {
           | inr k ↦ g.filled r j k
         ]
 
-gaps_raise : (c : Config) (p by q u : ℕ) (past : List Event) → Needs c by (part by past) (Verb.RaiseFuo q u) → NoGaps c p past → NoGaps c p (made c past by (Verb.RaiseFuo q u) ∷ past)
+gaps_raise : (c : Config) (p by q u : ℕ) (past : List Event) → Needs c by (part by past) (Verb.RaiseFuo q u) → NoGaps c p past → NoGaps c p (event_after c past by (Verb.RaiseFuo q u) ∷ past)
 gaps_raise c p by q u past may g = record {
   stands = g.stands;
   fuo = fuo_kept (q == p) refl;
-  read = λ r. at_part (λ J. greatest_fuo_read r p J ≤ max_with (cond (q == p) (Some u) None) (region_fuo p past)) r (made c past by (Verb.RaiseFuo q u)) past (raised (q == p) r) (λ _. raised (q == p) r);
-  filled = λ r j. at_part (λ J. is_filled c r p J j ≡ true → j < length (region_log p past)) r (made c past by (Verb.RaiseFuo q u)) past (g.filled r j) (λ _. g.filled r j);
+  read = λ r. at_part (λ J. greatest_fuo_read r p J ≤ max_with (cond (q == p) (Some u) None) (region_fuo p past)) r (event_after c past by (Verb.RaiseFuo q u)) past (raised (q == p) r) (λ _. raised (q == p) r);
+  filled = λ r j. at_part (λ J. is_filled c r p J j ≡ true → j < length (region_log p past)) r (event_after c past by (Verb.RaiseFuo q u)) past (g.filled r j) (λ _. g.filled r j);
 }
   where
     raised : (t : Bool) (r : ℕ) → greatest_fuo_read r p (part r past) ≤ max_with (cond t (Some u) None) (region_fuo p past)
@@ -275,7 +275,7 @@ gaps_put c p by q i b v past may g a = record {
   filled = λ r j. at_part (λ J. is_filled c r p J j ≡ true → j < length (region_log p past)) r (record { by = by; verb = Verb.PutSlot q i b v; answer = a }) past (g.filled r j) (λ _. g.filled r j);
 }
 
-gaps_step : (c : Config) (p by : ℕ) (v : Verb) (past : List Event) → Needs c by (part by past) v → NoGaps c p past → NoGaps c p (made c past by v ∷ past)
+gaps_step : (c : Config) (p by : ℕ) (v : Verb) (past : List Event) → Needs c by (part by past) v → NoGaps c p past → NoGaps c p (event_after c past by v ∷ past)
 gaps_step c p by (Verb.Fuo q) past may g = gaps_fuo c p by q past g
 gaps_step c p by (Verb.RaiseFuo q u) past may g = gaps_raise c p by q u past may g
 gaps_step c p by (Verb.Look q i) past may g = gaps_look c p by q i past g (look_reply c.ring (region_log q past) i) refl
@@ -283,8 +283,8 @@ gaps_step c p by (Verb.PutSlot q i b w) past may g = gaps_put c p by q i b w pas
 gaps_step c p by v past may g = record {
   stands = g.stands;
   fuo = g.fuo;
-  read = λ r. at_part (λ J. greatest_fuo_read r p J ≤ region_fuo p past) r (made c past by v) past (g.read r) (λ _. g.read r);
-  filled = λ r j. at_part (λ J. is_filled c r p J j ≡ true → j < length (region_log p past)) r (made c past by v) past (g.filled r j) (λ _. g.filled r j);
+  read = λ r. at_part (λ J. greatest_fuo_read r p J ≤ region_fuo p past) r (event_after c past by v) past (g.read r) (λ _. g.read r);
+  filled = λ r j. at_part (λ J. is_filled c r p J j ≡ true → j < length (region_log p past)) r (event_after c past by v) past (g.filled r j) (λ _. g.filled r j);
 }
 
 pub no_gaps : (c : Config) (p : ℕ) (past : List Event) → IsLegalHistory c past → NoGaps c p past

@@ -10,15 +10,15 @@ use Rattle.mu_model.specs.Histories.{part}
 use Rattle.mu_model.specs.Legal.{IsLegalHistory}
 
 -- the event that a verb of `by` makes after the history
-abbrev pub made : Config → List Event → ℕ → Verb → Event
-made c past by v = record { by = by; verb = v; answer = answer_of c by past v }
+abbrev pub event_after : Config → List Event → ℕ → Verb → Event
+event_after c past by v = record { by = by; verb = v; answer = answer_of c by past v }
 
 abbrev with_answer : Event → Answer → Event
 with_answer e a = record { by = e.by; verb = e.verb; answer = a }
 
 -- what holds of the empty history and is kept by each step holds of every legal one
 pub legal_induction : (c : Config) (P : List Event → Type 0) → P []
-    → ((past : List Event) (by : ℕ) (v : Verb) → IsLegalHistory c past → Allowed c by (part by past) v → P past → P (made c past by v ∷ past))
+    → ((past : List Event) (by : ℕ) (v : Verb) → IsLegalHistory c past → Allowed c by (part by past) v → P past → P (event_after c past by v ∷ past))
     → (past : List Event) → IsLegalHistory c past → P past
 legal_induction c P base step [] h = base
 legal_induction c P base step (e ∷ past) h =
@@ -27,7 +27,7 @@ legal_induction c P base step (e ∷ past) h =
 
 -- the same from a legal history on
 pub legal_onward : (c : Config) (P : List Event → Type 0) (older : List Event) → P older
-    → ((past : List Event) (by : ℕ) (v : Verb) → IsLegalHistory c past → Allowed c by (part by past) v → P past → P (made c past by v ∷ past))
+    → ((past : List Event) (by : ℕ) (v : Verb) → IsLegalHistory c past → Allowed c by (part by past) v → P past → P (event_after c past by v ∷ past))
     → (newer : List Event) → IsLegalHistory c (newer ++ older) → P (newer ++ older)
 legal_onward c P older base step [] h = base
 legal_onward c P older base step (e ∷ newer) h =

@@ -18,9 +18,9 @@ use Rattle.mu_model.specs.Legal.{IsLegalHistory}
 use Rattle.mu_model.specs.Regions.{fence, fence_grant, fence_owner, region_min}
 use Rattle.mu_model.specs.Serving.{has_target}
 use Rattle.mu_agree.proofs.Entering.{slot_entered}
-use Rattle.mu_agree.proofs.Legal.{made, legal_induction}
+use Rattle.mu_agree.proofs.Legal.{event_after, legal_induction}
 use Rattle.mu_agree.proofs.Numbers.{number-part}
-use Rattle.mu_agree.proofs.Access.{opened, min_holds, put_done_undrained, entered_facts, open_target-part, grant_needs, not_granted, no_target}
+use Rattle.mu_agree.proofs.Access.{opened_is_held, min_holds, put_done_undrained, entered_facts, open_target-part, grant_needs, not_granted, no_target}
 use Rattle.mu_agree.proofs.Minimum.{first_by, not_other}
 use Rattle.mu_model.proofs.Basics.{same_some}
 use Rattle.mu_model.proofs.Owned.{begins-own, noted-part}
@@ -78,11 +78,11 @@ JoinedIs r joined grant owner num least = (g : ℕ) → joined ≡ Some g → (g
 abbrev pub Joining : ℕ → ℕ → List Event → Type 0
 Joining r p past = JoinedIs r (join_grant r p past) (fence_grant p past) (fence_owner p past) (proposal_number r past) (region_min p past)
 
-joining_ask : (c : Config) (r p by q : ℕ) (past : List Event) → Joining r p past → (t : Bool) → is_first_ask r by (Verb.Ask q) ≡ t → Joining r p (made c past by (Verb.Ask q) ∷ past)
+joining_ask : (c : Config) (r p by q : ℕ) (past : List Event) → Joining r p past → (t : Bool) → is_first_ask r by (Verb.Ask q) ≡ t → Joining r p (event_after c past by (Verb.Ask q) ∷ past)
 joining_ask c r p by q past s true h = rw h (λ g e. cc)
 joining_ask c r p by q past s false h = rw h s
 
-joining_grant : (c : Config) (r p by w : ℕ) (past : List Event) → Joining r p past → (t : Bool) → (by == p) ≡ t → Joining r p (made c past by (Verb.Grant w) ∷ past)
+joining_grant : (c : Config) (r p by w : ℕ) (past : List Event) → Joining r p past → (t : Bool) → (by == p) ≡ t → Joining r p (event_after c past by (Verb.Grant w) ∷ past)
 joining_grant c r p by w past s true h = rw h (λ g e. (omega (arith, (s g e).0), λ k. absurd (omega (arith, (s g e).0))))
 joining_grant c r p by w past s false h = rw h s
 
@@ -112,7 +112,7 @@ joining_put c r p by q b past h may s Answer.Done e false hx false hy = rw (hx, 
 joining_put c r p by q b past h may s a e true hx y hy = rw hx (λ g k. ((s g k).0, λ i. (((s g k).1 i).0, number_stays b (region_min p past) (proposal_number r past) ((s g k).1 i).1)))
 joining_put c r p by q b past h may s a e false hx y hy = rw hx s
 
-joining_step : (c : Config) (r p by : ℕ) (v : Verb) (past : List Event) → IsLegalHistory c past → Needs c by (part by past) v → Joining r p past → Joining r p (made c past by v ∷ past)
+joining_step : (c : Config) (r p by : ℕ) (v : Verb) (past : List Event) → IsLegalHistory c past → Needs c by (part by past) v → Joining r p past → Joining r p (event_after c past by v ∷ past)
 joining_step c r p by (Verb.Ask q) past h may s = joining_ask c r p by q past s (is_first_ask r by (Verb.Ask q)) refl
 joining_step c r p by (Verb.PutMin q b) past h may s = joining_put c r p by q b past h may s (put_answer (drained by q past)) refl (by == r) refl (q == p) refl
 joining_step c r p by (Verb.Grant w) past h may s = joining_grant c r p by w past s (by == p) refl
@@ -125,7 +125,7 @@ joining c r p = legal_induction c (Joining r p) (λ g e. cc) (λ past by v h may
 abbrev pub OpenNoted : ℕ → ℕ → List Event → Type 0
 OpenNoted r p past = (t : Target) (g : ℕ) → open_target r p past ≡ Some t → has_target t ≡ true → drained r p past ≡ false → noted_grant r p past ≡ Some g → g ≡ fence_grant p past
 
-note_ask : (c : Config) (r p by q : ℕ) (past : List Event) → OpenNoted r p past → (t : Bool) → is_first_ask r by (Verb.Ask q) ≡ t → OpenNoted r p (made c past by (Verb.Ask q) ∷ past)
+note_ask : (c : Config) (r p by q : ℕ) (past : List Event) → OpenNoted r p past → (t : Bool) → is_first_ask r by (Verb.Ask q) ≡ t → OpenNoted r p (event_after c past by (Verb.Ask q) ∷ past)
 note_ask c r p by q past s true h = rw h (λ t g e. cc)
 note_ask c r p by q past s false h = rw h s
 
@@ -136,26 +136,26 @@ seen_grant r g f e = go (not f.closing && owner_is r f.owner) e
     go true e = sym (same_some f.grant g e)
     go false e = cc
 
-note_fence : (c : Config) (r p by q : ℕ) (past : List Event) → OpenNoted r p past → (x : Bool) → (by == r) ≡ x → (y : Bool) → (q == p) ≡ y → OpenNoted r p (made c past by (Verb.Fence q) ∷ past)
+note_fence : (c : Config) (r p by q : ℕ) (past : List Event) → OpenNoted r p past → (x : Bool) → (by == r) ≡ x → (y : Bool) → (q == p) ≡ y → OpenNoted r p (event_after c past by (Verb.Fence q) ∷ past)
 note_fence c r p by q past s true hx true hy = rw (hx, hy) (λ t g e f d n. seen_grant r g (fence q past) n ∙ ap (λ z. fence_grant z past) (eqb-true q p hy))
 note_fence c r p by q past s true hx false hy = rw (hx, hy) s
 note_fence c r p by q past s false hx y hy = rw hx s
 
-note_put_min : (c : Config) (r p by q b : ℕ) (past : List Event) → OpenNoted r p past → (t : Bool) → ((by == r) && (q == p)) ≡ t → OpenNoted r p (made c past by (Verb.PutMin q b) ∷ past)
+note_put_min : (c : Config) (r p by q b : ℕ) (past : List Event) → OpenNoted r p past → (t : Bool) → ((by == r) && (q == p)) ≡ t → OpenNoted r p (event_after c past by (Verb.PutMin q b) ∷ past)
 note_put_min c r p by q b past s true h = rw h (λ t g e f. absurd (no_target t e f))
 note_put_min c r p by q b past s false h = rw h s
 
-note_put_slot : (c : Config) (r p by q i b v : ℕ) (past : List Event) → OpenNoted r p past → (t : Bool) → ((by == r) && (q == p)) ≡ t → OpenNoted r p (made c past by (Verb.PutSlot q i b v) ∷ past)
+note_put_slot : (c : Config) (r p by q i b v : ℕ) (past : List Event) → OpenNoted r p past → (t : Bool) → ((by == r) && (q == p)) ≡ t → OpenNoted r p (event_after c past by (Verb.PutSlot q i b v) ∷ past)
 note_put_slot c r p by q i b v past s true h = rw h (λ t g e f. absurd (no_target t e f))
 note_put_slot c r p by q i b v past s false h = rw h s
 
-note_drain : (c : Config) (r p by : ℕ) (past : List Event) → OpenNoted r p past → (t : Bool) → (by == p) ≡ t → OpenNoted r p (made c past by Verb.Drain ∷ past)
+note_drain : (c : Config) (r p by : ℕ) (past : List Event) → OpenNoted r p past → (t : Bool) → (by == p) ≡ t → OpenNoted r p (event_after c past by Verb.Drain ∷ past)
 note_drain c r p by past s true h = rw h (λ t g e f d. cc)
 note_drain c r p by past s false h = rw h s
 
-note_grant : (c : Config) (r p by w : ℕ) (past : List Event) → IsLegalHistory c past → Needs c by (part by past) (Verb.Grant w) → OpenNoted r p past → (t : Bool) → (by == p) ≡ t → OpenNoted r p (made c past by (Verb.Grant w) ∷ past)
+note_grant : (c : Config) (r p by w : ℕ) (past : List Event) → IsLegalHistory c past → Needs c by (part by past) (Verb.Grant w) → OpenNoted r p past → (t : Bool) → (by == p) ≡ t → OpenNoted r p (event_after c past by (Verb.Grant w) ∷ past)
 note_grant c r p by w past h may s true k =
-    rw k (λ t g e f d n. absurd (not_granted p r past (opened c r p past h t e f d) (grant_needs c p w past (subst (λ x. Needs c x (part x past) (Verb.Grant w)) (eqb-true by p k) may))))
+    rw k (λ t g e f d n. absurd (not_granted p r past (opened_is_held c r p past h t e f d) (grant_needs c p w past (subst (λ x. Needs c x (part x past) (Verb.Grant w)) (eqb-true by p k) may))))
 note_grant c r p by w past h may s false k = rw k s
 
 note_enter : (r p by q : ℕ) (t : Target) (past : List Event) → OpenNoted r p past
@@ -172,7 +172,7 @@ note_enter r p by q t past s a e true hx true hy = rw (hx, hy) (λ t' g e' f. ab
 note_enter r p by q t past s a e true hx false hy = rw (hx, hy) s
 note_enter r p by q t past s a e false hx y hy = rw hx s
 
-note_step : (c : Config) (r p by : ℕ) (v : Verb) (past : List Event) → IsLegalHistory c past → Needs c by (part by past) v → OpenNoted r p past → OpenNoted r p (made c past by v ∷ past)
+note_step : (c : Config) (r p by : ℕ) (v : Verb) (past : List Event) → IsLegalHistory c past → Needs c by (part by past) v → OpenNoted r p past → OpenNoted r p (event_after c past by v ∷ past)
 note_step c r p by (Verb.Ask q) past h may s = note_ask c r p by q past s (is_first_ask r by (Verb.Ask q)) refl
 note_step c r p by (Verb.Fence q) past h may s = note_fence c r p by q past s (by == r) refl (q == p) refl
 note_step c r p by (Verb.Enter q t) past h may s = note_enter r p by q t past s (entered_or_lost (noted_grant by q past) (fence q past)) refl (by == r) refl (q == p) refl
@@ -202,7 +202,7 @@ pair_lands grant n None (Some x) f s = absurd (let e : Some x ≡ None = s.none 
 pair_lands grant n (Some o) None f s = record { is = λ g e. (let k : None ≡ Some g = s.is g e in cc); none = λ e. cc }
 pair_lands grant n (Some o) (Some x) f s = record { is = s.is; none = λ e. cc }
 
-pair_ask : (c : Config) (r p by q : ℕ) (past : List Event) → JoinNoted r p past → (t : Bool) → is_first_ask r by (Verb.Ask q) ≡ t → JoinNoted r p (made c past by (Verb.Ask q) ∷ past)
+pair_ask : (c : Config) (r p by q : ℕ) (past : List Event) → JoinNoted r p past → (t : Bool) → is_first_ask r by (Verb.Ask q) ≡ t → JoinNoted r p (event_after c past by (Verb.Ask q) ∷ past)
 pair_ask c r p by q past s true h = rw h pair_none
 pair_ask c r p by q past s false h = rw h s
 
@@ -222,7 +222,7 @@ pair_put c r p by q b past h may s Answer.Done e true hx false hy = rw (hx, hy) 
 pair_put c r p by q b past h may s Answer.Done e false hx y hy = rw hx s
 pair_put c r p by q b past h may s a e x hx y hy = s
 
-pair_step : (c : Config) (r p by : ℕ) (v : Verb) (past : List Event) → IsLegalHistory c past → Needs c by (part by past) v → JoinNoted r p past → JoinNoted r p (made c past by v ∷ past)
+pair_step : (c : Config) (r p by : ℕ) (v : Verb) (past : List Event) → IsLegalHistory c past → Needs c by (part by past) v → JoinNoted r p past → JoinNoted r p (event_after c past by v ∷ past)
 pair_step c r p by (Verb.Ask q) past h may s = pair_ask c r p by q past s (is_first_ask r by (Verb.Ask q)) refl
 pair_step c r p by (Verb.PutMin q b) past h may s = pair_put c r p by q b past h may s (put_answer (drained by q past)) refl (by == r) refl (q == p) refl
 pair_step c r p by v past h may s = s
@@ -234,7 +234,7 @@ join_noted c r p = legal_induction c (JoinNoted r p) pair_none (λ past by v h m
 abbrev pub StaysNoted : ℕ → ℕ → List Event → Type 0
 StaysNoted r p past = (o : Option ℕ) (g : ℕ) → is_over r past ≡ false → grant_at_joining r p past ≡ Some o → noted_grant r p past ≡ Some g → o ≡ Some g
 
-stays_ask : (c : Config) (r p by q : ℕ) (past : List Event) → StaysNoted r p past → (t : Bool) → is_first_ask r by (Verb.Ask q) ≡ t → StaysNoted r p (made c past by (Verb.Ask q) ∷ past)
+stays_ask : (c : Config) (r p by q : ℕ) (past : List Event) → StaysNoted r p past → (t : Bool) → is_first_ask r by (Verb.Ask q) ≡ t → StaysNoted r p (event_after c past by (Verb.Ask q) ∷ past)
 stays_ask c r p by q past s true h = rw h (λ o g v j. cc)
 stays_ask c r p by q past s false h = rw h s
 
@@ -247,7 +247,7 @@ unchanged o (Some (Some x)) f g e h k = sym (same_some (Some x) o e) ∙ ap Some
     not_not true e = refl
     not_not false e = cc
 
-stays_fence : (c : Config) (r p by q : ℕ) (past : List Event) → StaysNoted r p past → (x : Bool) → (by == r) ≡ x → (y : Bool) → (q == p) ≡ y → StaysNoted r p (made c past by (Verb.Fence q) ∷ past)
+stays_fence : (c : Config) (r p by q : ℕ) (past : List Event) → StaysNoted r p past → (x : Bool) → (by == r) ≡ x → (y : Bool) → (q == p) ≡ y → StaysNoted r p (event_after c past by (Verb.Fence q) ∷ past)
 stays_fence c r p by q past s true hx true hy =
     rw (hx, hy) (λ o g v j n.
     unchanged o (grant_at_joining r q past) (fence q past) g (ap (λ z. grant_at_joining r z past) (eqb-true q p hy) ∙ j) (or_parts (is_changed (grant_at_joining r q past) (fence q past)) (is_over r past) v).0 (seen_grant r g (fence q past) n))
@@ -274,7 +274,7 @@ stays_enter : (r p by q : ℕ) (t : Target) (past : List Event) → StaysNoted r
 stays_enter r p by q t past s (Answer.Lost f) = λ o g w j n. s o g (or_parts (by == r) (is_over r past) w).1 j n
 stays_enter r p by q t past s a = s
 
-stays_step : (c : Config) (r p by : ℕ) (v : Verb) (past : List Event) → StaysNoted r p past → StaysNoted r p (made c past by v ∷ past)
+stays_step : (c : Config) (r p by : ℕ) (v : Verb) (past : List Event) → StaysNoted r p past → StaysNoted r p (event_after c past by v ∷ past)
 stays_step c r p by (Verb.Ask q) past s = stays_ask c r p by q past s (is_first_ask r by (Verb.Ask q)) refl
 stays_step c r p by (Verb.Fence q) past s = stays_fence c r p by q past s (by == r) refl (q == p) refl
 stays_step c r p by (Verb.Min q) past s = λ o g w j n. s o g (or_parts ((by == r) && is_above (proposal_number r past) (region_min q past)) (is_over r past) w).1 j n
@@ -298,15 +298,15 @@ member_least c r p g past (Some o) h e m v n k =
 abbrev pub OpenPlace : ℕ → ℕ → List Event → Type 0
 OpenPlace r p past = (s : ℕ) → open_target r p past ≡ Some (Target.Place s) → drained r p past ≡ false → proposal_number r past ≡ Some (region_min p past)
 
-place_ask : (c : Config) (r p by q : ℕ) (past : List Event) → OpenPlace r p past → (t : Bool) → is_first_ask r by (Verb.Ask q) ≡ t → OpenPlace r p (made c past by (Verb.Ask q) ∷ past)
+place_ask : (c : Config) (r p by q : ℕ) (past : List Event) → OpenPlace r p past → (t : Bool) → is_first_ask r by (Verb.Ask q) ≡ t → OpenPlace r p (event_after c past by (Verb.Ask q) ∷ past)
 place_ask c r p by q past s true h = rw h (λ t e. cc)
 place_ask c r p by q past s false h = rw h s
 
-place_put_slot : (c : Config) (r p by q i b v : ℕ) (past : List Event) → OpenPlace r p past → (t : Bool) → ((by == r) && (q == p)) ≡ t → OpenPlace r p (made c past by (Verb.PutSlot q i b v) ∷ past)
+place_put_slot : (c : Config) (r p by q i b v : ℕ) (past : List Event) → OpenPlace r p past → (t : Bool) → ((by == r) && (q == p)) ≡ t → OpenPlace r p (event_after c past by (Verb.PutSlot q i b v) ∷ past)
 place_put_slot c r p by q i b v past s true h = rw h (λ t e. cc)
 place_put_slot c r p by q i b v past s false h = rw h s
 
-place_drain : (c : Config) (r p by : ℕ) (past : List Event) → OpenPlace r p past → (t : Bool) → (by == p) ≡ t → OpenPlace r p (made c past by Verb.Drain ∷ past)
+place_drain : (c : Config) (r p by : ℕ) (past : List Event) → OpenPlace r p past → (t : Bool) → (by == p) ≡ t → OpenPlace r p (event_after c past by Verb.Drain ∷ past)
 place_drain c r p by past s true h = rw h (λ t e d. cc)
 place_drain c r p by past s false h = rw h s
 
@@ -315,7 +315,7 @@ place_put : (c : Config) (r p by q b : ℕ) (past : List Event) → IsLegalHisto
     → OpenPlace r p (record { by = by; verb = Verb.PutMin q b; answer = a } ∷ past)
 place_put c r p by q b past h may s Answer.Done e true hx true hy = rw (hx, hy) (λ t e d. cc)
 place_put c r p by q b past h may s Answer.Done e true hx false hy = rw (hx, hy) (λ t e d. number_stays b (region_min p past) (proposal_number r past) (s t e d))
-place_put c r p by q b past h may s Answer.Done e false hx true hy = rw (hx, hy) (λ t e' d. absurd (not_other c r p by q b past h may e hx hy (opened c r p past h (Target.Place t) e' refl d).by_owner))
+place_put c r p by q b past h may s Answer.Done e false hx true hy = rw (hx, hy) (λ t e' d. absurd (not_other c r p by q b past h may e hx hy (opened_is_held c r p past h (Target.Place t) e' refl d).by_owner))
 place_put c r p by q b past h may s Answer.Done e false hx false hy = rw (hx, hy) s
 place_put c r p by q b past h may s a e true hx true hy = rw (hx, hy) (λ t e d. cc)
 place_put c r p by q b past h may s a e true hx false hy = rw (hx, hy) (λ t e d. number_stays b (region_min p past) (proposal_number r past) (s t e d))
@@ -343,7 +343,7 @@ place_enter c r p by q t past h may s a e true hx true hy = rw (hx, hy) (λ x e 
 place_enter c r p by q t past h may s a e true hx false hy = rw (hx, hy) s
 place_enter c r p by q t past h may s a e false hx y hy = rw hx s
 
-place_step : (c : Config) (r p by : ℕ) (v : Verb) (past : List Event) → IsLegalHistory c past → Needs c by (part by past) v → OpenPlace r p past → OpenPlace r p (made c past by v ∷ past)
+place_step : (c : Config) (r p by : ℕ) (v : Verb) (past : List Event) → IsLegalHistory c past → Needs c by (part by past) v → OpenPlace r p past → OpenPlace r p (event_after c past by v ∷ past)
 place_step c r p by (Verb.Ask q) past h may s = place_ask c r p by q past s (is_first_ask r by (Verb.Ask q)) refl
 place_step c r p by (Verb.Enter q t) past h may s = place_enter c r p by q t past h may.1 s (entered_or_lost (noted_grant by q past) (fence q past)) refl (by == r) refl (q == p) refl
 place_step c r p by (Verb.PutMin q b) past h may s = place_put c r p by q b past h may s (put_answer (drained by q past)) refl (by == r) refl (q == p) refl

@@ -19,14 +19,14 @@ use Rattle.mu_model.specs.Leaderships.{begins_leadership, is_first_ask, leadersh
 use Rattle.mu_model.specs.Legal.{IsLegalHistory}
 use Rattle.mu_model.specs.Regions.{fence, fence_grant, fence_owner, region_min}
 use Rattle.mu_model.proofs.Owned.{IsOwnTest, IsOwn, newest-part, since-part, has-part, begins-own, noted-part}
-use Rattle.mu_agree.proofs.Legal.{made, legal_induction, legal_onward}
-use Rattle.mu_agree.proofs.Numbers.{top, number-part, fresh_by, fresh}
-use Rattle.mu_agree.proofs.Access.{noting, opened, min_holds, put_done_undrained, entered_holds, entered_facts, open_target-part}
+use Rattle.mu_agree.proofs.Legal.{event_after, legal_induction, legal_onward}
+use Rattle.mu_agree.proofs.Numbers.{greatest_own_put, number-part, fresh_by, fresh}
+use Rattle.mu_agree.proofs.Access.{noted_grant_is_owned, opened_is_held, min_holds, put_done_undrained, entered_holds, entered_facts, open_target-part}
 use Rattle.mu_model.proofs.Basics.{same_some}
 
 -- the number of the leadership is the greatest that was put
 abbrev pub TopIs : ℕ → List Event → Type 0
-TopIs r past = (m : ℕ) → proposal_number r past ≡ Some m → top r past ≡ m
+TopIs r past = (m : ℕ) → proposal_number r past ≡ Some m → greatest_own_put r past ≡ m
 
 -- the number of a leadership is the one that its first put had
 pub number_first : (r b : ℕ) (past : List Event) (o : Option ℕ) → number_allowed r past b o → (m : ℕ) → o ≡ Some m → b ≡ m
@@ -42,15 +42,15 @@ top_case : (t b : ℕ) (o : Option ℕ) → (o ≡ None → t < b) → ((m : ℕ
 top_case t b None f g k m e = let i : b ≡ m = same_some b m e in let j : t < b = f refl in omega arith
 top_case t b (Some x) f g k m e = let i : b ≡ m = g m e in let j : t ≡ m = k m e in omega arith
 
-top_put : (c : Config) (r by p b : ℕ) (past : List Event) → MayPutMin by (part by past) p b → TopIs r past → (t : Bool) → (by == r) ≡ t → TopIs r (made c past by (Verb.PutMin p b) ∷ past)
-top_put c r by p b past may s true h = rw h (top_case (top r past) b (proposal_number r past) (λ e. (fresh_by r by p b past may h e).0) (first_by r by p b past may h) s)
+top_put : (c : Config) (r by p b : ℕ) (past : List Event) → MayPutMin by (part by past) p b → TopIs r past → (t : Bool) → (by == r) ≡ t → TopIs r (event_after c past by (Verb.PutMin p b) ∷ past)
+top_put c r by p b past may s true h = rw h (top_case (greatest_own_put r past) b (proposal_number r past) (λ e. (fresh_by r by p b past may h e).0) (first_by r by p b past may h) s)
 top_put c r by p b past may s false h = rw h s
 
-top_ask : (c : Config) (r by q : ℕ) (past : List Event) → TopIs r past → (t : Bool) → is_first_ask r by (Verb.Ask q) ≡ t → TopIs r (made c past by (Verb.Ask q) ∷ past)
+top_ask : (c : Config) (r by q : ℕ) (past : List Event) → TopIs r past → (t : Bool) → is_first_ask r by (Verb.Ask q) ≡ t → TopIs r (event_after c past by (Verb.Ask q) ∷ past)
 top_ask c r by q past s true h = rw h (λ m e. cc)
 top_ask c r by q past s false h = rw h s
 
-top_step : (c : Config) (r by : ℕ) (v : Verb) (past : List Event) → Needs c by (part by past) v → TopIs r past → TopIs r (made c past by v ∷ past)
+top_step : (c : Config) (r by : ℕ) (v : Verb) (past : List Event) → Needs c by (part by past) v → TopIs r past → TopIs r (event_after c past by v ∷ past)
 top_step c r by (Verb.Ask q) past may s = top_ask c r by q past s (is_first_ask r by (Verb.Ask q)) refl
 top_step c r by (Verb.PutMin p b) past may s = top_put c r by p b past may.1 s (by == r) refl
 top_step c r by v past may s = s
@@ -59,11 +59,11 @@ pub top_is : (c : Config) (r : ℕ) (past : List Event) → IsLegalHistory c pas
 top_is c r = legal_induction c (TopIs r) (λ m e. cc) (λ past by v h may s. top_step c r by v past may.may s)
 
 -- all that r put is at most what it may put next
-at_most_next : (r b : ℕ) (past : List Event) (o : Option ℕ) → (o ≡ None → top r past < b) → ((m : ℕ) → o ≡ Some m → b ≡ m) → ((m : ℕ) → o ≡ Some m → top r past ≡ m) → top r past ≤ b
-at_most_next r b past None f g k = let j : top r past < b = f refl in omega arith
-at_most_next r b past (Some x) f g k = let i : b ≡ x = g x refl in let j : top r past ≡ x = k x refl in omega arith
+at_most_next : (r b : ℕ) (past : List Event) (o : Option ℕ) → (o ≡ None → greatest_own_put r past < b) → ((m : ℕ) → o ≡ Some m → b ≡ m) → ((m : ℕ) → o ≡ Some m → greatest_own_put r past ≡ m) → greatest_own_put r past ≤ b
+at_most_next r b past None f g k = let j : greatest_own_put r past < b = f refl in omega arith
+at_most_next r b past (Some x) f g k = let i : b ≡ x = g x refl in let j : greatest_own_put r past ≡ x = k x refl in omega arith
 
-pub top_below : (c : Config) (r p b : ℕ) (past : List Event) → IsLegalHistory c past → MayPutMin r (part r past) p b → top r past ≤ b
+pub top_below : (c : Config) (r p b : ℕ) (past : List Event) → IsLegalHistory c past → MayPutMin r (part r past) p b → greatest_own_put r past ≤ b
 top_below c r p b past h may =
     at_most_next r b past (proposal_number r past) (λ e. (fresh r p b past may e).0)
     (λ m e. number_first r b (part r past) (proposal_number r (part r past)) may.numbered m (number-part r past ∙ e)) (top_is c r past h)
@@ -72,7 +72,7 @@ top_below c r p b past h may =
 abbrev pub Seen' : ℕ → ℕ → List Event → Type 0
 Seen' r p past = (g : ℕ) → has (λ e. grant_seen r p g e.by e.verb e.answer) past ≡ true → g ≤ fence_grant p past
 
-seen_fence : (c : Config) (r p by q : ℕ) (past : List Event) → Seen' r p past → (x : Bool) → (by == r) ≡ x → (y : Bool) → (q == p) ≡ y → Seen' r p (made c past by (Verb.Fence q) ∷ past)
+seen_fence : (c : Config) (r p by q : ℕ) (past : List Event) → Seen' r p past → (x : Bool) → (by == r) ≡ x → (y : Bool) → (q == p) ≡ y → Seen' r p (event_after c past by (Verb.Fence q) ∷ past)
 seen_fence c r p by q past s true hx true hy = rw (hx, hy) (λ g. go g (fence_grant q past == g) refl)
   where
     go : (g : ℕ) (t : Bool) → (fence_grant q past == g) ≡ t → cond t true (has (λ e. grant_seen r p g e.by e.verb e.answer) past) ≡ true → g ≤ fence_grant p past
@@ -81,14 +81,14 @@ seen_fence c r p by q past s true hx true hy = rw (hx, hy) (λ g. go g (fence_gr
 seen_fence c r p by q past s true hx false hy = rw (hx, hy) s
 seen_fence c r p by q past s false hx y hy = rw hx s
 
-seen_ask : (c : Config) (r p by q : ℕ) (past : List Event) → Seen' r p past → (t : Bool) → is_first_ask r by (Verb.Ask q) ≡ t → Seen' r p (made c past by (Verb.Ask q) ∷ past)
+seen_ask : (c : Config) (r p by q : ℕ) (past : List Event) → Seen' r p past → (t : Bool) → is_first_ask r by (Verb.Ask q) ≡ t → Seen' r p (event_after c past by (Verb.Ask q) ∷ past)
 seen_ask c r p by q past s t h = s
 
-seen_grant : (c : Config) (r p by w : ℕ) (past : List Event) → Seen' r p past → (t : Bool) → (by == p) ≡ t → Seen' r p (made c past by (Verb.Grant w) ∷ past)
+seen_grant : (c : Config) (r p by w : ℕ) (past : List Event) → Seen' r p past → (t : Bool) → (by == p) ≡ t → Seen' r p (event_after c past by (Verb.Grant w) ∷ past)
 seen_grant c r p by w past s true h = rw h (λ g e. let k : g ≤ fence_grant p past = s g e in omega arith)
 seen_grant c r p by w past s false h = rw h s
 
-seen_step : (c : Config) (r p by : ℕ) (v : Verb) (past : List Event) → Seen' r p past → Seen' r p (made c past by v ∷ past)
+seen_step : (c : Config) (r p by : ℕ) (v : Verb) (past : List Event) → Seen' r p past → Seen' r p (event_after c past by v ∷ past)
 seen_step c r p by (Verb.Ask q) past s = seen_ask c r p by q past s (is_first_ask r by (Verb.Ask q)) refl
 seen_step c r p by (Verb.Fence q) past s = seen_fence c r p by q past s (by == r) refl (q == p) refl
 seen_step c r p by (Verb.Grant w) past s = seen_grant c r p by w past s (by == p) refl
@@ -98,16 +98,16 @@ pub seen_law : (c : Config) (r p : ℕ) (past : List Event) → IsLegalHistory c
 seen_law c r p = legal_induction c (Seen' r p) (λ g e. cc) (λ past by v h may s. seen_step c r p by v past s)
 
 -- a test that passes is enough
-pub more : (t b : Bool) → b ≡ true → cond t true b ≡ true
-more true b h = refl
-more false b h = h
+pub second_passes : (t b : Bool) → b ≡ true → cond t true b ≡ true
+second_passes true b h = refl
+second_passes false b h = h
 
 pub read_under_seen : (r p g : ℕ) (past : List Event) → min_read_under r p g past ≡ true → has (λ e. grant_seen r p g e.by e.verb e.answer) past ≡ true
 read_under_seen r p g [] e = cc
 read_under_seen r p g (e ∷ past) h =
     elim (or_cases (is_some (min_read r p e.by e.verb e.answer) && has (λ f. grant_seen r p g f.by f.verb f.answer) past) (min_read_under r p g past) h) [
-      | inl k ↦ more (grant_seen r p g e.by e.verb e.answer) (has (λ f. grant_seen r p g f.by f.verb f.answer) past) (and_parts (is_some (min_read r p e.by e.verb e.answer)) (has (λ f. grant_seen r p g f.by f.verb f.answer) past) k).1
-      | inr k ↦ more (grant_seen r p g e.by e.verb e.answer) (has (λ f. grant_seen r p g f.by f.verb f.answer) past) (read_under_seen r p g past k)
+      | inl k ↦ second_passes (grant_seen r p g e.by e.verb e.answer) (has (λ f. grant_seen r p g f.by f.verb f.answer) past) (and_parts (is_some (min_read r p e.by e.verb e.answer)) (has (λ f. grant_seen r p g f.by f.verb f.answer) past) k).1
+      | inr k ↦ second_passes (grant_seen r p g e.by e.verb e.answer) (has (λ f. grant_seen r p g f.by f.verb f.answer) past) (read_under_seen r p g past k)
     ]
 
 abbrev pub last_read : ℕ → ℕ → List Event → ℕ
@@ -115,12 +115,12 @@ last_read r p past = or_zero (newest (λ e. min_read r p e.by e.verb e.answer) p
 
 -- while r owns p under the grant with which it read the minimum, the minimum is what it read or put
 abbrev pub MinKnown : ℕ → ℕ → List Event → Type 0
-MinKnown r p past = (g : ℕ) → g ≡ fence_grant p past → fence_owner p past ≡ Some r → min_read_under r p g past ≡ true → region_min p past ≤ max (last_read r p past) (top r past)
+MinKnown r p past = (g : ℕ) → g ≡ fence_grant p past → fence_owner p past ≡ Some r → min_read_under r p g past ≡ true → region_min p past ≤ max (last_read r p past) (greatest_own_put r past)
 
-known_ask : (c : Config) (r p by q : ℕ) (past : List Event) → MinKnown r p past → (t : Bool) → is_first_ask r by (Verb.Ask q) ≡ t → MinKnown r p (made c past by (Verb.Ask q) ∷ past)
+known_ask : (c : Config) (r p by q : ℕ) (past : List Event) → MinKnown r p past → (t : Bool) → is_first_ask r by (Verb.Ask q) ≡ t → MinKnown r p (event_after c past by (Verb.Ask q) ∷ past)
 known_ask c r p by q past s t h = s
 
-known_min : (c : Config) (r p by q : ℕ) (past : List Event) → MinKnown r p past → (x : Bool) → (by == r) ≡ x → (y : Bool) → (q == p) ≡ y → MinKnown r p (made c past by (Verb.Min q) ∷ past)
+known_min : (c : Config) (r p by q : ℕ) (past : List Event) → MinKnown r p past → (x : Bool) → (by == r) ≡ x → (y : Bool) → (q == p) ≡ y → MinKnown r p (event_after c past by (Verb.Min q) ∷ past)
 known_min c r p by q past s true hx true hy = rw (hx, hy) (λ g e o m. let i : region_min q past ≡ region_min p past = ap (λ x. region_min x past) (eqb-true q p hy) in omega arith)
 known_min c r p by q past s true hx false hy = rw (hx, hy) s
 known_min c r p by q past s false hx y hy = rw hx s
@@ -144,12 +144,12 @@ known_put c r p by q b past h may s Answer.Done e false hx false hy = rw (hx, hy
 known_put c r p by q b past h may s a e true hx y hy = rw hx (λ g e o m. let k = s g e o m in omega arith)
 known_put c r p by q b past h may s a e false hx y hy = rw hx s
 
-known_grant : (c : Config) (r p by w : ℕ) (past : List Event) → IsLegalHistory c past → MinKnown r p past → (t : Bool) → (by == p) ≡ t → MinKnown r p (made c past by (Verb.Grant w) ∷ past)
+known_grant : (c : Config) (r p by w : ℕ) (past : List Event) → IsLegalHistory c past → MinKnown r p past → (t : Bool) → (by == p) ≡ t → MinKnown r p (event_after c past by (Verb.Grant w) ∷ past)
 known_grant c r p by w past h s true k =
     rw k (λ g e o m. absurd (let n : g ≤ fence_grant p past = seen_law c r p past h g (read_under_seen r p g past m) in omega arith))
 known_grant c r p by w past h s false k = rw k s
 
-known_step : (c : Config) (r p by : ℕ) (v : Verb) (past : List Event) → IsLegalHistory c past → Needs c by (part by past) v → MinKnown r p past → MinKnown r p (made c past by v ∷ past)
+known_step : (c : Config) (r p by : ℕ) (v : Verb) (past : List Event) → IsLegalHistory c past → Needs c by (part by past) v → MinKnown r p past → MinKnown r p (event_after c past by v ∷ past)
 known_step c r p by (Verb.Ask q) past h may s = known_ask c r p by q past s (is_first_ask r by (Verb.Ask q)) refl
 known_step c r p by (Verb.Min q) past h may s = known_min c r p by q past s (by == r) refl (q == p) refl
 known_step c r p by (Verb.PutMin q b) past h may s = known_put c r p by q b past h may s (put_answer (drained by q past)) refl (by == r) refl (q == p) refl
@@ -201,22 +201,22 @@ entered_read c r p g Target.Min past may e n =
     sym (read_under-part r p g past) ∙ since_under r p (part r past) g (noted_grant r p (part r past)) (noted-part r p past ∙ n) may.2
 
 abbrev pub OpenMin : ℕ → ℕ → List Event → Type 0
-OpenMin r p past = open_target r p past ≡ Some Target.Min → drained r p past ≡ false → region_min p past ≤ max (last_read r p past) (top r past)
+OpenMin r p past = open_target r p past ≡ Some Target.Min → drained r p past ≡ false → region_min p past ≤ max (last_read r p past) (greatest_own_put r past)
 
-open_ask : (c : Config) (r p by q : ℕ) (past : List Event) → OpenMin r p past → (t : Bool) → is_first_ask r by (Verb.Ask q) ≡ t → OpenMin r p (made c past by (Verb.Ask q) ∷ past)
+open_ask : (c : Config) (r p by q : ℕ) (past : List Event) → OpenMin r p past → (t : Bool) → is_first_ask r by (Verb.Ask q) ≡ t → OpenMin r p (event_after c past by (Verb.Ask q) ∷ past)
 open_ask c r p by q past s true h = rw h (λ e d. cc)
 open_ask c r p by q past s false h = rw h s
 
-open_min : (c : Config) (r p by q : ℕ) (past : List Event) → OpenMin r p past → (x : Bool) → (by == r) ≡ x → (y : Bool) → (q == p) ≡ y → OpenMin r p (made c past by (Verb.Min q) ∷ past)
+open_min : (c : Config) (r p by q : ℕ) (past : List Event) → OpenMin r p past → (x : Bool) → (by == r) ≡ x → (y : Bool) → (q == p) ≡ y → OpenMin r p (event_after c past by (Verb.Min q) ∷ past)
 open_min c r p by q past s true hx true hy = rw (hx, hy) (λ e d. let i : region_min q past ≡ region_min p past = ap (λ x. region_min x past) (eqb-true q p hy) in omega arith)
 open_min c r p by q past s true hx false hy = rw (hx, hy) s
 open_min c r p by q past s false hx y hy = rw hx s
 
-open_drain : (c : Config) (r p by : ℕ) (past : List Event) → OpenMin r p past → (t : Bool) → (by == p) ≡ t → OpenMin r p (made c past by Verb.Drain ∷ past)
+open_drain : (c : Config) (r p by : ℕ) (past : List Event) → OpenMin r p past → (t : Bool) → (by == p) ≡ t → OpenMin r p (event_after c past by Verb.Drain ∷ past)
 open_drain c r p by past s true h = rw h (λ e d. cc)
 open_drain c r p by past s false h = rw h s
 
-open_slot : (c : Config) (r p by q i b v : ℕ) (past : List Event) → OpenMin r p past → (t : Bool) → ((by == r) && (q == p)) ≡ t → OpenMin r p (made c past by (Verb.PutSlot q i b v) ∷ past)
+open_slot : (c : Config) (r p by q i b v : ℕ) (past : List Event) → OpenMin r p past → (t : Bool) → ((by == r) && (q == p)) ≡ t → OpenMin r p (event_after c past by (Verb.PutSlot q i b v) ∷ past)
 open_slot c r p by q i b v past s true h = rw h (λ e d. cc)
 open_slot c r p by q i b v past s false h = rw h s
 
@@ -225,7 +225,7 @@ open_put : (c : Config) (r p by q b : ℕ) (past : List Event) → IsLegalHistor
     → OpenMin r p (record { by = by; verb = Verb.PutMin q b; answer = a } ∷ past)
 open_put c r p by q b past h may s Answer.Done e true hx true hy = rw (hx, hy) (λ e d. cc)
 open_put c r p by q b past h may s Answer.Done e true hx false hy = rw (hx, hy) (λ e d. let k = s e d in omega arith)
-open_put c r p by q b past h may s Answer.Done e false hx true hy = rw (hx, hy) (λ e' d. absurd (not_other c r p by q b past h may e hx hy (opened c r p past h Target.Min e' refl d).by_owner))
+open_put c r p by q b past h may s Answer.Done e false hx true hy = rw (hx, hy) (λ e' d. absurd (not_other c r p by q b past h may e hx hy (opened_is_held c r p past h Target.Min e' refl d).by_owner))
 open_put c r p by q b past h may s Answer.Done e false hx false hy = rw (hx, hy) s
 open_put c r p by q b past h may s a e true hx true hy = rw (hx, hy) (λ e d. cc)
 open_put c r p by q b past h may s a e true hx false hy = rw (hx, hy) (λ e d. let k = s e d in omega arith)
@@ -240,7 +240,7 @@ open_enter c r p by q t past h may s Answer.Entered e true hx true hy =
     let may_p = subst (λ z. MayEnter c by (part by past) z t) (eqb-true q p hy) may in
     let may_r = subst (λ z. MayEnter c z (part z past) p t) (eqb-true by r hx) may_p in
     let k = entered_facts (noted_grant r p past) (fence p past) at_r in
-    let o = entered_holds r p past (noting c r p past h) at_r in
+    let o = entered_holds r p past (noted_grant_is_owned c r p past h) at_r in
     rw (hx, hy) (λ e' d. min_known c r p past h k.g (sym k.same) o.0 (entered_read c r p k.g t past may_r (same_some t Target.Min e') k.is))
 open_enter c r p by q t past h may s Answer.Entered e true hx false hy = rw (hx, hy) s
 open_enter c r p by q t past h may s Answer.Entered e false hx y hy = rw hx s
@@ -248,7 +248,7 @@ open_enter c r p by q t past h may s a e true hx true hy = rw (hx, hy) (λ e d. 
 open_enter c r p by q t past h may s a e true hx false hy = rw (hx, hy) s
 open_enter c r p by q t past h may s a e false hx y hy = rw hx s
 
-open_step : (c : Config) (r p by : ℕ) (v : Verb) (past : List Event) → IsLegalHistory c past → Needs c by (part by past) v → OpenMin r p past → OpenMin r p (made c past by v ∷ past)
+open_step : (c : Config) (r p by : ℕ) (v : Verb) (past : List Event) → IsLegalHistory c past → Needs c by (part by past) v → OpenMin r p past → OpenMin r p (event_after c past by v ∷ past)
 open_step c r p by (Verb.Ask q) past h may s = open_ask c r p by q past s (is_first_ask r by (Verb.Ask q)) refl
 open_step c r p by (Verb.Min q) past h may s = open_min c r p by q past s (by == r) refl (q == p) refl
 open_step c r p by (Verb.Enter q t) past h may s = open_enter c r p by q t past h may.1 s (entered_or_lost (noted_grant by q past) (fence q past)) refl (by == r) refl (q == p) refl
@@ -276,7 +276,7 @@ rises_put c p by q b m past h may s Answer.Done e true hy =
 rises_put c p by q b m past h may s Answer.Done e false hy = rw hy s
 rises_put c p by q b m past h may s a e y hy = s
 
-pub rises_step : (c : Config) (p by m : ℕ) (v : Verb) (past : List Event) → IsLegalHistory c past → Needs c by (part by past) v → m ≤ region_min p past → m ≤ region_min p (made c past by v ∷ past)
+pub rises_step : (c : Config) (p by m : ℕ) (v : Verb) (past : List Event) → IsLegalHistory c past → Needs c by (part by past) v → m ≤ region_min p past → m ≤ region_min p (event_after c past by v ∷ past)
 rises_step c p by m (Verb.PutMin q b) past h may s = rises_put c p by q b m past h may s (put_answer (drained by q past)) refl (q == p) refl
 rises_step c p by m v past h may s = s
 

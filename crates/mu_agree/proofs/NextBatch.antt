@@ -202,8 +202,9 @@ later_above c g i j li lj e l =
     let at : i + 1 + (j - (i + 1)) ≡ j = omega arith in
     let same : rows_before c (client_of c i) (i + 1 + (j - (i + 1))) ≡ rows_before c (client_of c j) j = ap (rows_before c (client_of c i)) at ∙ ap (λ z. rows_before c z j) e in omega arith
 
-one_row : (c : Config) → IsConfig c → (i j : ℕ) → i < row_count c → j < row_count c → client_of c i ≡ client_of c j → number_of c i ≡ number_of c j → i ≡ j
-one_row c g i j li lj e n = elim (cases_order i j) [
+-- rows of the same client and number are one
+pub same_number_same_row : (c : Config) → IsConfig c → (i j : ℕ) → i < row_count c → j < row_count c → client_of c i ≡ client_of c j → number_of c i ≡ number_of c j → i ≡ j
+same_number_same_row c g i j li lj e n = elim (cases_order i j) [
   | inl same ↦ same
   | inr (inl l) ↦ absurd (let k = later_above c g i j li lj e l in omega arith)
   | inr (inr l) ↦ absurd (let k = later_above c g j i lj li (sym e) l in omega arith)
@@ -247,7 +248,7 @@ next_begins c g values (suc j) s l n = go (rest_of c j) refl
         subst (λ z. includes (number_of c j) z ≡ true) (sym (s (client_of c j))) (counted_has (command_count c (client_of c j) values) 1 (number_of c j) (omega arith) (omega arith)) in
         let found = row_in c (client_of c j) (number_of c j) values held in
         let there = in_entries c g found.row values found.there in
-        let same : found.row ≡ j = one_row c g found.row j there.within (omega arith) found.owner found.number in
+        let same : found.row ≡ j = same_number_same_row c g found.row j there.within (omega arith) found.owner found.number in
         let more : includes (j + 1) (rows_in c values) ≡ true = subst (λ z. includes (z + 1) (rows_in c values) ≡ true) same (there.next k (ap (rest_of c) same ∙ e)) in
         let again : includes (number_of c (j + 1)) (session c (client_of c (j + 1)) values) ≡ true = number_in c (j + 1) values more in
         let few = counted_only (command_count c (client_of c (j + 1)) values) 1 (number_of c (j + 1)) (subst (λ z. includes (number_of c (j + 1)) z ≡ true) (s (client_of c (j + 1))) again) in
@@ -272,7 +273,7 @@ above_known c g values row s l away = elim (cases_lt (command_count c (client_of
 ]
   where
     is_there : RowOf c (client_of c row) (number_of c row) (rows_in c values) → ⊥
-    is_there found = true≢false (sym found.there ∙ ap (λ z. includes z (rows_in c values)) (one_row c g found.row row (in_entries c g found.row values found.there).within l found.owner found.number) ∙ away)
+    is_there found = true≢false (sym found.there ∙ ap (λ z. includes z (rows_in c values)) (same_number_same_row c g found.row row (in_entries c g found.row values found.there).within l found.owner found.number) ∙ away)
 
 -- the first row of a client that isn't there is the next
 next_at : (c : Config) → IsConfig c → (values : List ℕ) (client most : ℕ) → IsInSession c values → most ≤ row_count c → RowAfter c client (command_count c client values) most → HasNext c values

@@ -30,32 +30,32 @@ number-part r past =
     ∙ oldest-part (λ e. number_put r e.by e.verb) r (number_put-own r) (since (begins_leadership r) past)
 
 -- the greatest number that r put
-abbrev pub top : ℕ → List Event → ℕ
-top r past = greatest (λ e. number_put r e.by e.verb) past
+abbrev pub greatest_own_put : ℕ → List Event → ℕ
+greatest_own_put r past = greatest (λ e. number_put r e.by e.verb) past
 
-pub top-part : (r : ℕ) (past : List Event) → top r (part r past) ≡ top r past
-top-part r past = greatest-part (λ e. number_put r e.by e.verb) r (number_put-own r) past
+pub greatest_own_put-part : (r : ℕ) (past : List Event) → greatest_own_put r (part r past) ≡ greatest_own_put r past
+greatest_own_put-part r past = greatest-part (λ e. number_put r e.by e.verb) r (number_put-own r) past
 
 -- the number b was that of the n-th leadership of r, and is passed by each later one
 pub record Stands (r b n : ℕ) (past : List Event) : Type 0 where
-  pub put : b ≤ top r past
+  pub put : b ≤ greatest_own_put r past
   pub own : b % 8 ≡ r
   pub case : ((leaderships r past ≡ n) × (proposal_number r past ≡ Some b)) ⊎ ((n < leaderships r past) × ((m : ℕ) → proposal_number r past ≡ Some m → b < m))
 
 -- each number of a leadership under way was put, and is of its replica
 pub record Numbered (r : ℕ) (past : List Event) : Type 0 where
-  pub put : (m : ℕ) → proposal_number r past ≡ Some m → m ≤ top r past
+  pub put : (m : ℕ) → proposal_number r past ≡ Some m → m ≤ greatest_own_put r past
   pub own : (m : ℕ) → proposal_number r past ≡ Some m → m % 8 ≡ r
 
 -- where there is no number yet, a new one is above all that r put
-fresh_at : (r b : ℕ) (past : List Event) (o : Option ℕ) → number_allowed r past b o → o ≡ None → (top r past < b) × (b % 8 ≡ r)
+fresh_at : (r b : ℕ) (past : List Event) (o : Option ℕ) → number_allowed r past b o → o ≡ None → (greatest_own_put r past < b) × (b % 8 ≡ r)
 fresh_at r b past None h e = (h.3, h.0)
 fresh_at r b past (Some x) h e = cc
 
-pub fresh : (r p b : ℕ) (past : List Event) → MayPutMin r (part r past) p b → proposal_number r past ≡ None → (top r past < b) × (b % 8 ≡ r)
-fresh r p b past may e = rw (← top-part r past) (fresh_at r b (part r past) (proposal_number r (part r past)) may.numbered (number-part r past ∙ e))
+pub fresh : (r p b : ℕ) (past : List Event) → MayPutMin r (part r past) p b → proposal_number r past ≡ None → (greatest_own_put r past < b) × (b % 8 ≡ r)
+fresh r p b past may e = rw (← greatest_own_put-part r past) (fresh_at r b (part r past) (proposal_number r (part r past)) may.numbered (number-part r past ∙ e))
 
-pub fresh_by : (r by p b : ℕ) (past : List Event) → MayPutMin by (part by past) p b → (by == r) ≡ true → proposal_number r past ≡ None → (top r past < b) × (b % 8 ≡ r)
+pub fresh_by : (r by p b : ℕ) (past : List Event) → MayPutMin by (part by past) p b → (by == r) ≡ true → proposal_number r past ≡ None → (greatest_own_put r past < b) × (b % 8 ≡ r)
 fresh_by r by p b past may h = fresh r p b past (subst (λ x. MayPutMin x (part x past) p b) (eqb-true by r h) may)
 
 step_ask : (r b n by p : ℕ) (a : Answer) (past : List Event) → Stands r b n past → (t : Bool) → is_first_ask r by (Verb.Ask p) ≡ t → Stands r b n (record { by = by; verb = Verb.Ask p; answer = a } ∷ past)
@@ -68,7 +68,7 @@ put_case L n b b' None f (inl h) = cc
 put_case L n b b' None f (inr h) = inr (h.0, λ m e. subst (λ x. b < x) (same_some b' m e) (f refl))
 put_case L n b b' (Some x) f h = h
 
-step_put : (r b n by p b' : ℕ) (a : Answer) (past : List Event) → ((by == r) ≡ true → proposal_number r past ≡ None → (top r past < b') × (b' % 8 ≡ r)) → Stands r b n past → (t : Bool) → (by == r) ≡ t → Stands r b n (record { by = by; verb = Verb.PutMin p b'; answer = a } ∷ past)
+step_put : (r b n by p b' : ℕ) (a : Answer) (past : List Event) → ((by == r) ≡ true → proposal_number r past ≡ None → (greatest_own_put r past < b') × (b' % 8 ≡ r)) → Stands r b n past → (t : Bool) → (by == r) ≡ t → Stands r b n (record { by = by; verb = Verb.PutMin p b'; answer = a } ∷ past)
 step_put r b n by p b' a past new s true h = record { put = rw h (omega arith); own = s.own; case = rw h (put_case (leaderships r past) n b b' (proposal_number r past) (λ e. omega (arith, (new h e).0)) s.case) }
 step_put r b n by p b' a past new s false h = record { put = rw h s.put; own = s.own; case = rw h s.case }
 
@@ -89,8 +89,8 @@ top_case : (t b : ℕ) (o : Option ℕ) → ((m : ℕ) → o ≡ Some m → m �
 top_case t b None g m e = let k : b ≡ m = same_some b m e in omega arith
 top_case t b (Some x) g m e = let k : m ≤ t = g m e in omega arith
 
-number_step_put : (r by p b : ℕ) (a : Answer) (past : List Event) → ((by == r) ≡ true → proposal_number r past ≡ None → (top r past < b) × (b % 8 ≡ r)) → Numbered r past → (t : Bool) → (by == r) ≡ t → Numbered r (record { by = by; verb = Verb.PutMin p b; answer = a } ∷ past)
-number_step_put r by p b a past new s true h = record { put = rw h (top_case (top r past) b (proposal_number r past) s.put); own = rw h (number_case r b (proposal_number r past) (λ e. (new h e).1) s.own) }
+number_step_put : (r by p b : ℕ) (a : Answer) (past : List Event) → ((by == r) ≡ true → proposal_number r past ≡ None → (greatest_own_put r past < b) × (b % 8 ≡ r)) → Numbered r past → (t : Bool) → (by == r) ≡ t → Numbered r (record { by = by; verb = Verb.PutMin p b; answer = a } ∷ past)
+number_step_put r by p b a past new s true h = record { put = rw h (top_case (greatest_own_put r past) b (proposal_number r past) s.put); own = rw h (number_case r b (proposal_number r past) (λ e. (new h e).1) s.own) }
 number_step_put r by p b a past new s false h = record { put = rw h s.put; own = rw h s.own }
 
 number_step : (c : Config) (r by : ℕ) (v : Verb) (a : Answer) (past : List Event) → Needs c by (part by past) v → Numbered r past → Numbered r (record { by = by; verb = v; answer = a } ∷ past)

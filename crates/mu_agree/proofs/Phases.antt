@@ -17,15 +17,15 @@ use Rattle.mu_model.specs.Knowledge.{grown, is_filled, is_value, known, lands_en
 use Rattle.mu_model.specs.Leaderships.{is_first_ask, leadership, majority_of, proposal_number}
 use Rattle.mu_model.specs.Legal.{IsLegalHistory}
 use Rattle.mu_model.specs.Regions.{region_fuo, region_log, region_min}
-use Rattle.mu_agree.proofs.Legal.{made, legal_induction}
+use Rattle.mu_agree.proofs.Legal.{event_after, legal_induction}
 use Rattle.mu_agree.proofs.Counting.{count_more}
 use Rattle.mu_agree.proofs.Knowing.{Teaches, teaches, by_put, by_look}
 use Rattle.mu_agree.proofs.Landings.{at_part, look_reply, has_cases, has_implied}
-use Rattle.mu_agree.proofs.Landed.{landed, landed_facts, landed_stays}
+use Rattle.mu_agree.proofs.Landed.{has_landed, landed_facts, landed_stays}
 use Rattle.mu_agree.proofs.Looks.{member_reached, number_back}
-use Rattle.mu_agree.proofs.Offers.{offered, at_part'}
+use Rattle.mu_agree.proofs.Offers.{first_offered, at_part'}
 use Rattle.mu_agree.proofs.Choice.{Chosen}
-use Rattle.mu_agree.proofs.Early.{Protected, Early, early_start, early_step, early_own, early_safe, early_short, unprotected, position_within, accepted_chosen, trusted, past_end}
+use Rattle.mu_agree.proofs.Early.{Protected, Early, early_start, early_step, early_own, early_safe, early_short, unprotected, position_within, accepted_chosen, trusted_is_protected, past_end}
 use Rattle.mu_agree.proofs.Late.{Base, base_start, chosen_is, chosen_now}
 use Rattle.mu_agree.proofs.Tame.{known_longer}
 use Rattle.mu_agree.proofs.Settled.{Late, Settled, Know, Copied, puts_it, has_put_it}
@@ -36,9 +36,9 @@ use Rattle.mu_model.proofs.Basics.{same_some}
 
 -- a put of a leadership carries its number
 abbrev pub Carries : ℕ → ℕ → ℕ → ℕ → List Event → List Event → Type 0
-Carries i V r p past J = (b : ℕ) → has_put_it i V r p J ≡ true → proposal_number r J ≡ Some b → landed p i b V past ≡ true
+Carries i V r p past J = (b : ℕ) → has_put_it i V r p J ≡ true → proposal_number r J ≡ Some b → has_landed p i b V past ≡ true
 
-carries_ask : (c : Config) (i V r p by q : ℕ) (past J : List Event) → Carries i V r p past J → (t : Bool) → is_first_ask r by (Verb.Ask q) ≡ t → Carries i V r p past (made c past by (Verb.Ask q) ∷ J)
+carries_ask : (c : Config) (i V r p by q : ℕ) (past J : List Event) → Carries i V r p past J → (t : Bool) → is_first_ask r by (Verb.Ask q) ≡ t → Carries i V r p past (event_after c past by (Verb.Ask q) ∷ J)
 carries_ask c i V r p by q past J s true h = rw h (λ b m. absurd (true≢false (sym m)))
 carries_ask c i V r p by q past J s false h = rw h s
 
@@ -57,13 +57,13 @@ carries_put c i V r p by q j n w past may s hx a b m o = s b m o
 carries_min : (c : Config) (i V r p by q b : ℕ) (past : List Event) → IsLegalHistory c past → Carries i V r p past (part r past) → (by == r) ≡ true → (a : Answer) → Carries i V r p past (record { by = by; verb = Verb.PutMin q b; answer = a } ∷ part r past)
 carries_min c i V r p by q b past h s hx a = rw hx (λ n m o. s n m (number_back b n (region_min p past) (proposal_number r (part r past)) (member_reached c r p past h (puts_at_members c r p past h (has_implied (λ e. puts_it i V r p e.by e.verb e.answer) (λ e. slot_at r p e.by e.verb) (λ e k. it_is_at i V r p e.by e.verb e.answer k) (leadership r (part r past)) m))) o))
 
-carries_step : (c : Config) (i V r p by : ℕ) (v : Verb) (past : List Event) → IsLegalHistory c past → Needs c by (part by past) v → Carries i V r p past (part r past) → Carries i V r p (made c past by v ∷ past) (part r (made c past by v ∷ past))
-carries_step c i V r p by (Verb.Ask q) past h may s = at_part (Carries i V r p past) r (made c past by (Verb.Ask q)) past s (λ _. carries_ask c i V r p by q past (part r past) s (is_first_ask r by (Verb.Ask q)) refl)
-carries_step c i V r p by (Verb.PutMin q b) past h may s = at_part (Carries i V r p past) r (made c past by (Verb.PutMin q b)) past s (λ hx. carries_min c i V r p by q b past h s hx (put_answer (drained by q past)))
-carries_step c i V r p by (Verb.PutSlot q j n w) past h may s = at_part (Carries i V r p (made c past by (Verb.PutSlot q j n w) ∷ past)) r (made c past by (Verb.PutSlot q j n w)) past
-    (λ b m o. landed_stays p i b V (made c past by (Verb.PutSlot q j n w)) past (s b m o))
+carries_step : (c : Config) (i V r p by : ℕ) (v : Verb) (past : List Event) → IsLegalHistory c past → Needs c by (part by past) v → Carries i V r p past (part r past) → Carries i V r p (event_after c past by v ∷ past) (part r (event_after c past by v ∷ past))
+carries_step c i V r p by (Verb.Ask q) past h may s = at_part (Carries i V r p past) r (event_after c past by (Verb.Ask q)) past s (λ _. carries_ask c i V r p by q past (part r past) s (is_first_ask r by (Verb.Ask q)) refl)
+carries_step c i V r p by (Verb.PutMin q b) past h may s = at_part (Carries i V r p past) r (event_after c past by (Verb.PutMin q b)) past s (λ hx. carries_min c i V r p by q b past h s hx (put_answer (drained by q past)))
+carries_step c i V r p by (Verb.PutSlot q j n w) past h may s = at_part (Carries i V r p (event_after c past by (Verb.PutSlot q j n w) ∷ past)) r (event_after c past by (Verb.PutSlot q j n w)) past
+    (λ b m o. landed_stays p i b V (event_after c past by (Verb.PutSlot q j n w)) past (s b m o))
     (λ hx. carries_put c i V r p by q j n w past (subst (λ z. Needs c z (part z past) (Verb.PutSlot q j n w)) (eqb-true by r hx) may) s hx (put_answer (drained by q past)))
-carries_step c i V r p by v past h may s = at_part (Carries i V r p past) r (made c past by v) past s (λ _. s)
+carries_step c i V r p by v past h may s = at_part (Carries i V r p past) r (event_after c past by v) past s (λ _. s)
 
 carries : (c : Config) (i V r p : ℕ) (past : List Event) → IsLegalHistory c past → Carries i V r p past (part r past)
 carries c i V r p = legal_induction c (λ past. Carries i V r p past (part r past)) (λ b m. absurd (true≢false (sym m))) (λ past by v h may s. carries_step c i V r p by v past h may.may s)
@@ -76,7 +76,7 @@ more_known : (c : Config) (i r p : ℕ) (e : Event) (past J : List Event) → (i
 more_known c i r p e past J (inl k) = inl (let l = known_longer c r e J in omega arith)
 more_known c i r p e past J (inr k) = inr k
 
-fk_fuo : (c : Config) (i r p by q : ℕ) (past J : List Event) → FilledKnown c i r p past J → FilledKnown c i r p past (made c past by (Verb.Fuo q) ∷ J)
+fk_fuo : (c : Config) (i r p by q : ℕ) (past J : List Event) → FilledKnown c i r p past J → FilledKnown c i r p past (event_after c past by (Verb.Fuo q) ∷ J)
 fk_fuo c i r p by q past J s h = elim (or_cases ((by == r) && ((q == p) && nat_lt i (region_fuo q past))) (is_filled c r p J i) h) [
   | inl k ↦ (let m = and_parts (q == p) (nat_lt i (region_fuo q past)) (and_parts (by == r) ((q == p) && nat_lt i (region_fuo q past)) k).1 in
       inr (subst (λ z. i < region_fuo z past) (eqb-true q p m.0) (ltb-true i (region_fuo q past) m.1)))
@@ -117,80 +117,80 @@ fk_raise c i r p by q u past J (inl k) t = inl k
 fk_raise c i r p by q u past J (inr k) true = inr (omega arith)
 fk_raise c i r p by q u past J (inr k) false = inr k
 
-fk_step : (c : Config) (i r p by : ℕ) (v : Verb) (past : List Event) → FilledKnown c i r p past (part r past) → FilledKnown c i r p (made c past by v ∷ past) (part r (made c past by v ∷ past))
-fk_step c i r p by (Verb.Fuo q) past s = at_part (FilledKnown c i r p past) r (made c past by (Verb.Fuo q)) past s (λ _. fk_fuo c i r p by q past (part r past) s)
-fk_step c i r p by (Verb.Look q j) past s = at_part (FilledKnown c i r p past) r (made c past by (Verb.Look q j)) past s (λ _. fk_look c i r p by q j past (part r past) s (look_reply c.ring (region_log q past) j))
-fk_step c i r p by (Verb.PutSlot q j n w) past s = at_part (FilledKnown c i r p past) r (made c past by (Verb.PutSlot q j n w)) past s (λ _. fk_put c i r p by q j n w past (part r past) s (put_answer (drained by q past)))
-fk_step c i r p by (Verb.RaiseFuo q u) past s = at_part (FilledKnown c i r p (made c past by (Verb.RaiseFuo q u) ∷ past)) r (made c past by (Verb.RaiseFuo q u)) past (λ m. fk_raise c i r p by q u past (part r past) (s m) (q == p)) (λ _ m. fk_raise c i r p by q u past (part r past) (s m) (q == p))
-fk_step c i r p by v past s = at_part (FilledKnown c i r p past) r (made c past by v) past s (λ _ m. more_known c i r p (made c past by v) past (part r past) (s m))
+fk_step : (c : Config) (i r p by : ℕ) (v : Verb) (past : List Event) → FilledKnown c i r p past (part r past) → FilledKnown c i r p (event_after c past by v ∷ past) (part r (event_after c past by v ∷ past))
+fk_step c i r p by (Verb.Fuo q) past s = at_part (FilledKnown c i r p past) r (event_after c past by (Verb.Fuo q)) past s (λ _. fk_fuo c i r p by q past (part r past) s)
+fk_step c i r p by (Verb.Look q j) past s = at_part (FilledKnown c i r p past) r (event_after c past by (Verb.Look q j)) past s (λ _. fk_look c i r p by q j past (part r past) s (look_reply c.ring (region_log q past) j))
+fk_step c i r p by (Verb.PutSlot q j n w) past s = at_part (FilledKnown c i r p past) r (event_after c past by (Verb.PutSlot q j n w)) past s (λ _. fk_put c i r p by q j n w past (part r past) s (put_answer (drained by q past)))
+fk_step c i r p by (Verb.RaiseFuo q u) past s = at_part (FilledKnown c i r p (event_after c past by (Verb.RaiseFuo q u) ∷ past)) r (event_after c past by (Verb.RaiseFuo q u)) past (λ m. fk_raise c i r p by q u past (part r past) (s m) (q == p)) (λ _ m. fk_raise c i r p by q u past (part r past) (s m) (q == p))
+fk_step c i r p by v past s = at_part (FilledKnown c i r p past) r (event_after c past by v) past s (λ _ m. more_known c i r p (event_after c past by v) past (part r past) (s m))
 
 filled_known : (c : Config) (i r p : ℕ) (past : List Event) → IsLegalHistory c past → FilledKnown c i r p past (part r past)
 filled_known c i r p = legal_induction c (λ past. FilledKnown c i r p past (part r past)) (λ m. absurd (true≢false (sym m))) (λ past by v h may s. fk_step c i r p by v past s)
 
 -- the put that chooses
 late_start : (c : Config) (i by q j n w : ℕ) (past : List Event) → IsLegalHistory c past → Allowed c by (part by past) (Verb.PutSlot q j n w) → Early c i past
-    → Chosen c i n w (made c past by (Verb.PutSlot q j n w) ∷ past)
-    → Late c i w n (λ p. landed p i n w (made c past by (Verb.PutSlot q j n w) ∷ past)) (made c past by (Verb.PutSlot q j n w) ∷ past)
+    → Chosen c i n w (event_after c past by (Verb.PutSlot q j n w) ∷ past)
+    → Late c i w n (λ p. has_landed p i n w (event_after c past by (Verb.PutSlot q j n w) ∷ past)) (event_after c past by (Verb.PutSlot q j n w) ∷ past)
 late_start c i by q j n w past h al s ch = record { base = base'; knows = knows'; settled = λ p k. absurd (none p k); filled = filled'; copied = copied' }
   where
     f : Event
-    f = made c past by (Verb.PutSlot q j n w)
+    f = event_after c past by (Verb.PutSlot q j n w)
 
-    legal : IsLegalHistory c (made c past by (Verb.PutSlot q j n w) ∷ past)
+    legal : IsLegalHistory c (event_after c past by (Verb.PutSlot q j n w) ∷ past)
     legal = (h, record { allowed = al; answer = refl })
 
-    own' : (p b v : ℕ) → landed p i b v (made c past by (Verb.PutSlot q j n w) ∷ past) ≡ true → offered i b (made c past by (Verb.PutSlot q j n w) ∷ past) ≡ Some v
+    own' : (p b v : ℕ) → has_landed p i b v (event_after c past by (Verb.PutSlot q j n w) ∷ past) ≡ true → first_offered i b (event_after c past by (Verb.PutSlot q j n w) ∷ past) ≡ Some v
     own' = early_own c i by q j n w past h s al.may (put_answer (drained by q past))
 
-    base' : Base c i w n (λ p. landed p i n w (made c past by (Verb.PutSlot q j n w) ∷ past)) (made c past by (Verb.PutSlot q j n w) ∷ past)
-    base' = base_start c i w n (made c past by (Verb.PutSlot q j n w) ∷ past) own' (early_safe c i by q j n w past h s al.may) ch
+    base' : Base c i w n (λ p. has_landed p i n w (event_after c past by (Verb.PutSlot q j n w) ∷ past)) (event_after c past by (Verb.PutSlot q j n w) ∷ past)
+    base' = base_start c i w n (event_after c past by (Verb.PutSlot q j n w) ∷ past) own' (early_safe c i by q j n w past h s al.may) ch
 
     within : j ≤ i
     within = let k = position_within c by q j n w (part by past) al.may.2 in let l = s.unknown by in omega arith
 
-    none : (p : ℕ) → Protected p i (made c past by (Verb.PutSlot q j n w) ∷ past) → ⊥
+    none : (p : ℕ) → Protected p i (event_after c past by (Verb.PutSlot q j n w) ∷ past) → ⊥
     none p (inl k) = let l = s.fuo p in omega arith
     none p (inr k) = let l = early_short c i by q j n w p past s within (put_answer (drained by q past)) in omega arith
 
     nothing : Know c i w past
     nothing r x k = absurd (past_end (known c r (part r past)) i x (s.unknown r) k)
 
-    taught_is : (r x : ℕ) (v : Verb) (a : Answer) → Teaches c r (part r past) (made c past by (Verb.PutSlot q j n w) ∷ part r past) i x by v a → x ≡ w
-    taught_is r x v a (by_put {b = b} o acc) = chosen_is c i w n (λ p. landed p i n w (made c past by (Verb.PutSlot q j n w) ∷ past)) (made c past by (Verb.PutSlot q j n w) ∷ past) base' b x (accepted_chosen c r i b x (made c past by (Verb.PutSlot q j n w)) past acc)
-    taught_is r x v a (by_look {p = p} o tr) = absurd (unprotected c i p past s (trusted c r p i past h tr))
+    taught_is : (r x : ℕ) (v : Verb) (a : Answer) → Teaches c r (part r past) (event_after c past by (Verb.PutSlot q j n w) ∷ part r past) i x by v a → x ≡ w
+    taught_is r x v a (by_put {b = b} o acc) = chosen_is c i w n (λ p. has_landed p i n w (event_after c past by (Verb.PutSlot q j n w) ∷ past)) (event_after c past by (Verb.PutSlot q j n w) ∷ past) base' b x (accepted_chosen c r i b x (event_after c past by (Verb.PutSlot q j n w)) past acc)
+    taught_is r x v a (by_look {p = p} o tr) = absurd (unprotected c i p past s (trusted_is_protected c r p i past h tr))
 
-    knows' : Know c i w (made c past by (Verb.PutSlot q j n w) ∷ past)
-    knows' r x = at_part (λ J. slice_get (known c r J) i ≡ Some x → x ≡ w) r (made c past by (Verb.PutSlot q j n w)) past (nothing r x)
-        (λ _. go (learnt_by c r (part r past) (length (known c r (part r past))) by (Verb.PutSlot q j n w) (put_answer (drained by q past)) (made c past by (Verb.PutSlot q j n w) ∷ part r past)) refl)
+    knows' : Know c i w (event_after c past by (Verb.PutSlot q j n w) ∷ past)
+    knows' r x = at_part (λ J. slice_get (known c r J) i ≡ Some x → x ≡ w) r (event_after c past by (Verb.PutSlot q j n w)) past (nothing r x)
+        (λ _. go (learnt_by c r (part r past) (length (known c r (part r past))) by (Verb.PutSlot q j n w) (put_answer (drained by q past)) (event_after c past by (Verb.PutSlot q j n w) ∷ part r past)) refl)
       where
-        go : (o : Option ℕ) → learnt_by c r (part r past) (length (known c r (part r past))) by (Verb.PutSlot q j n w) (put_answer (drained by q past)) (made c past by (Verb.PutSlot q j n w) ∷ part r past) ≡ o → slice_get (grown (known c r (part r past)) o) i ≡ Some x → x ≡ w
+        go : (o : Option ℕ) → learnt_by c r (part r past) (length (known c r (part r past))) by (Verb.PutSlot q j n w) (put_answer (drained by q past)) (event_after c past by (Verb.PutSlot q j n w) ∷ part r past) ≡ o → slice_get (grown (known c r (part r past)) o) i ≡ Some x → x ≡ w
         go None e k = nothing r x k
         go (Some y) e k = elim (get_more (known c r (part r past)) i y x k) [
           | inl m ↦ nothing r x m
           | inr m ↦ m.1 ∙ taught_is r y (Verb.PutSlot q j n w) (put_answer (drained by q past))
-              (subst (λ z. Teaches c r (part r past) (made c past by (Verb.PutSlot q j n w) ∷ part r past) z y by (Verb.PutSlot q j n w) (put_answer (drained by q past))) (sym m.0)
-              (teaches c r (length (known c r (part r past))) y by (Verb.PutSlot q j n w) (put_answer (drained by q past)) (part r past) (made c past by (Verb.PutSlot q j n w) ∷ part r past) e))
+              (subst (λ z. Teaches c r (part r past) (event_after c past by (Verb.PutSlot q j n w) ∷ part r past) z y by (Verb.PutSlot q j n w) (put_answer (drained by q past))) (sym m.0)
+              (teaches c r (length (known c r (part r past))) y by (Verb.PutSlot q j n w) (put_answer (drained by q past)) (part r past) (event_after c past by (Verb.PutSlot q j n w) ∷ part r past) e))
         ]
 
     unfilled : (r p : ℕ) → is_filled c r p (part r past) i ≡ true → ⊥
     unfilled r p m = elim (filled_known c i r p past h m) [ inl k ↦ (let l = s.unknown r in omega arith) | inr k ↦ (let l = s.fuo p in omega arith) ]
 
-    filled' : (r p : ℕ) → is_filled c r p (part r (made c past by (Verb.PutSlot q j n w) ∷ past)) i ≡ true → Settled c i w n (λ p. landed p i n w (made c past by (Verb.PutSlot q j n w) ∷ past)) p (made c past by (Verb.PutSlot q j n w) ∷ past)
-    filled' r p = at_part' (λ J. is_filled c r p J i ≡ true → Settled c i w n (λ p. landed p i n w (made c past by (Verb.PutSlot q j n w) ∷ past)) p (made c past by (Verb.PutSlot q j n w) ∷ past)) r (made c past by (Verb.PutSlot q j n w)) past
+    filled' : (r p : ℕ) → is_filled c r p (part r (event_after c past by (Verb.PutSlot q j n w) ∷ past)) i ≡ true → Settled c i w n (λ p. has_landed p i n w (event_after c past by (Verb.PutSlot q j n w) ∷ past)) p (event_after c past by (Verb.PutSlot q j n w) ∷ past)
+    filled' r p = at_part' (λ J. is_filled c r p J i ≡ true → Settled c i w n (λ p. has_landed p i n w (event_after c past by (Verb.PutSlot q j n w) ∷ past)) p (event_after c past by (Verb.PutSlot q j n w) ∷ past)) r (event_after c past by (Verb.PutSlot q j n w)) past
         (λ _ m. absurd (unfilled r p m))
-        (λ hx. subst (λ z. is_filled c z p (made c past by (Verb.PutSlot q j n w) ∷ part z past) i ≡ true → Settled c i w n (λ p. landed p i n w (made c past by (Verb.PutSlot q j n w) ∷ past)) p (made c past by (Verb.PutSlot q j n w) ∷ past)) (eqb-true by r hx)
-        (filled_put c i w n (λ p. landed p i n w (made c past by (Verb.PutSlot q j n w) ∷ past)) p by q j n w past h al nothing (put_answer (drained by q past)) refl base' (λ m. absurd (unfilled by p m))))
+        (λ hx. subst (λ z. is_filled c z p (event_after c past by (Verb.PutSlot q j n w) ∷ part z past) i ≡ true → Settled c i w n (λ p. has_landed p i n w (event_after c past by (Verb.PutSlot q j n w) ∷ past)) p (event_after c past by (Verb.PutSlot q j n w) ∷ past)) (eqb-true by r hx)
+        (filled_put c i w n (λ p. has_landed p i n w (event_after c past by (Verb.PutSlot q j n w) ∷ past)) p by q j n w past h al nothing (put_answer (drained by q past)) refl base' (λ m. absurd (unfilled by p m))))
 
-    copied' : (r p : ℕ) → Copied i w r p (made c past by (Verb.PutSlot q j n w) ∷ past) (part r (made c past by (Verb.PutSlot q j n w) ∷ past))
+    copied' : (r p : ℕ) → Copied i w r p (event_after c past by (Verb.PutSlot q j n w) ∷ past) (part r (event_after c past by (Verb.PutSlot q j n w) ∷ past))
     copied' r p m o y k =
         let b : ℕ = region_min p past in
-        let at = carries c i w r p (made c past by (Verb.PutSlot q j n w) ∷ past) legal b m o in
-        let facts = landed_facts c p (made c past by (Verb.PutSlot q j n w) ∷ past) legal in
+        let at = carries c i w r p (event_after c past by (Verb.PutSlot q j n w) ∷ past) legal b m o in
+        let facts = landed_facts c p (event_after c past by (Verb.PutSlot q j n w) ∷ past) legal in
         let y_at = facts.in_log i y.0 y.1 k in
         let low = facts.most i b w y at k in
         let high = facts.least i y.0 y.1 y_at in
         let same : y.0 ≡ region_min p past = omega arith in
-        same_some y.1 w (sym (own' p y.0 y.1 y_at) ∙ ap (λ z. offered i z (made c past by (Verb.PutSlot q j n w) ∷ past)) same ∙ own' p b w at)
+        same_some y.1 w (sym (own' p y.0 y.1 y_at) ∙ ap (λ z. first_offered i z (event_after c past by (Verb.PutSlot q j n w) ∷ past)) same ∙ own' p b w at)
 
 -- before the choice, or after it
 pub data Phase (c : Config) (i : ℕ) (past : List Event) : Type 0 where
@@ -200,7 +200,7 @@ pub data Phase (c : Config) (i : ℕ) (past : List Event) : Type 0 where
 -- a put chooses nothing but its own value
 other_count : (c : Config) (i by q j n w b x : ℕ) (past : List Event) → (a : Answer) → ((n == b) && (w == x)) ≡ false → Chosen c i b x (record { by = by; verb = Verb.PutSlot q j n w; answer = a } ∷ past) → Chosen c i b x past
 other_count c i by q j n w b x past Answer.Done e h =
-    let k = count_more c.replicas (λ p. landed p i b x (record { by = by; verb = Verb.PutSlot q j n w; answer = Answer.Done } ∷ past)) (λ p. landed p i b x past) (λ p l m. go (q == p) (j == i) (landed p i b x past) (rw e at m)) in omega arith
+    let k = count_more c.replicas (λ p. has_landed p i b x (record { by = by; verb = Verb.PutSlot q j n w; answer = Answer.Done } ∷ past)) (λ p. has_landed p i b x past) (λ p l m. go (q == p) (j == i) (has_landed p i b x past) (rw e at m)) in omega arith
   where
     go : (t u y : Bool) → cond (t && (u && false)) true y ≡ true → y ≡ true
     go true true y m = m
@@ -208,27 +208,27 @@ other_count c i by q j n w b x past Answer.Done e h =
     go false u y m = m
 other_count c i by q j n w b x past a e h = h
 
-phase_put : (c : Config) (i by q j n w : ℕ) (past : List Event) → IsLegalHistory c past → Allowed c by (part by past) (Verb.PutSlot q j n w) → Early c i past → ((b x : ℕ) → Chosen c i b x past → ⊥) → Phase c i (made c past by (Verb.PutSlot q j n w) ∷ past)
-phase_put c i by q j n w past h al s open' = go (nat_le (majority_of c.replicas) (count_below c.replicas (λ p. landed p i n w (made c past by (Verb.PutSlot q j n w) ∷ past)))) refl
+phase_put : (c : Config) (i by q j n w : ℕ) (past : List Event) → IsLegalHistory c past → Allowed c by (part by past) (Verb.PutSlot q j n w) → Early c i past → ((b x : ℕ) → Chosen c i b x past → ⊥) → Phase c i (event_after c past by (Verb.PutSlot q j n w) ∷ past)
+phase_put c i by q j n w past h al s open' = go (nat_le (majority_of c.replicas) (count_below c.replicas (λ p. has_landed p i n w (event_after c past by (Verb.PutSlot q j n w) ∷ past)))) refl
   where
-    go : (t : Bool) → nat_le (majority_of c.replicas) (count_below c.replicas (λ p. landed p i n w (made c past by (Verb.PutSlot q j n w) ∷ past))) ≡ t → Phase c i (made c past by (Verb.PutSlot q j n w) ∷ past)
-    go true e = after w n (λ p. landed p i n w (made c past by (Verb.PutSlot q j n w) ∷ past)) (late_start c i by q j n w past h al s (leb-true (majority_of c.replicas) (count_below c.replicas (λ p. landed p i n w (made c past by (Verb.PutSlot q j n w) ∷ past))) e))
+    go : (t : Bool) → nat_le (majority_of c.replicas) (count_below c.replicas (λ p. has_landed p i n w (event_after c past by (Verb.PutSlot q j n w) ∷ past))) ≡ t → Phase c i (event_after c past by (Verb.PutSlot q j n w) ∷ past)
+    go true e = after w n (λ p. has_landed p i n w (event_after c past by (Verb.PutSlot q j n w) ∷ past)) (late_start c i by q j n w past h al s (leb-true (majority_of c.replicas) (count_below c.replicas (λ p. has_landed p i n w (event_after c past by (Verb.PutSlot q j n w) ∷ past))) e))
     go false e = before (early_step c i by (Verb.PutSlot q j n w) past h al.may s still) still
       where
-        still : (b x : ℕ) → Chosen c i b x (made c past by (Verb.PutSlot q j n w) ∷ past) → ⊥
+        still : (b x : ℕ) → Chosen c i b x (event_after c past by (Verb.PutSlot q j n w) ∷ past) → ⊥
         still b x k = at ((n == b) && (w == x)) refl
           where
-            low : count_below c.replicas (λ p. landed p i n w (made c past by (Verb.PutSlot q j n w) ∷ past)) < majority_of c.replicas
-            low = leb-false (majority_of c.replicas) (count_below c.replicas (λ p. landed p i n w (made c past by (Verb.PutSlot q j n w) ∷ past))) e
+            low : count_below c.replicas (λ p. has_landed p i n w (event_after c past by (Verb.PutSlot q j n w) ∷ past)) < majority_of c.replicas
+            low = leb-false (majority_of c.replicas) (count_below c.replicas (λ p. has_landed p i n w (event_after c past by (Verb.PutSlot q j n w) ∷ past))) e
 
             at : (t : Bool) → ((n == b) && (w == x)) ≡ t → ⊥
             at false m = open' b x (other_count c i by q j n w b x past (put_answer (drained by q past)) m k)
             at true m =
                 let y = and_parts (n == b) (w == x) m in
-                let k' : Chosen c i n w (made c past by (Verb.PutSlot q j n w) ∷ past) = subst (λ z. Chosen c i n z (made c past by (Verb.PutSlot q j n w) ∷ past)) (sym (eqb-true w x y.1)) (subst (λ z. Chosen c i z x (made c past by (Verb.PutSlot q j n w) ∷ past)) (sym (eqb-true n b y.0)) k) in
+                let k' : Chosen c i n w (event_after c past by (Verb.PutSlot q j n w) ∷ past) = subst (λ z. Chosen c i n z (event_after c past by (Verb.PutSlot q j n w) ∷ past)) (sym (eqb-true w x y.1)) (subst (λ z. Chosen c i z x (event_after c past by (Verb.PutSlot q j n w) ∷ past)) (sym (eqb-true n b y.0)) k) in
                 let l = low in omega arith
 
-phase_step : (c : Config) (i by : ℕ) (v : Verb) (past : List Event) → IsLegalHistory c past → Allowed c by (part by past) v → Phase c i past → Phase c i (made c past by v ∷ past)
+phase_step : (c : Config) (i by : ℕ) (v : Verb) (past : List Event) → IsLegalHistory c past → Allowed c by (part by past) v → Phase c i past → Phase c i (event_after c past by v ∷ past)
 phase_step c i by (Verb.PutSlot q j n w) past h al (before s o) = phase_put c i by q j n w past h al s o
 phase_step c i by v past h al (after V B maj s) = after V B maj (late_step c i V B maj by v past h al s)
 phase_step c i by v past h al (before s o) = before (early_step c i by v past h al.may s o) o
@@ -236,7 +236,7 @@ phase_step c i by v past h al (before s o) = before (early_step c i by v past h 
 pub phase : (c : Config) (i : ℕ) (past : List Event) → IsLegalHistory c past → Phase c i past
 phase c i = legal_induction c (Phase c i) (before (early_start c i) (λ b x k. nobody c i b x k)) (λ past by v h al s. phase_step c i by v past h al s)
   where
-    zero_count : (n i b x : ℕ) → count_below n (λ p. landed p i b x []) ≡ 0
+    zero_count : (n i b x : ℕ) → count_below n (λ p. has_landed p i b x []) ≡ 0
     zero_count zero i b x = refl
     zero_count (suc n) i b x = zero_count n i b x
 

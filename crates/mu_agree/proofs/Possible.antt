@@ -22,10 +22,10 @@ use Rattle.mu_model.specs.Parts.{IsPossible}
 use Rattle.mu_model.specs.Regions.{fence, fence_grant, is_grant_of, region_fuo, region_log}
 use Rattle.mu_model.specs.declared.event.Fence.{Fence}
 use Rattle.mu_agree.proofs.Landings.{no_gaps}
-use Rattle.mu_agree.proofs.Prefixes.{get_below}
+use Rattle.mu_model.proofs.Lists.{item_below}
 use Rattle.mu_agree.proofs.Room.{look_kept, mark_version, past_long}
 use Rattle.mu_model.proofs.Owned.{IsOwn, has-part, greatest-part, noted-part}
-use Rattle.mu_agree.proofs.Access.{noting}
+use Rattle.mu_agree.proofs.Access.{noted_grant_is_owned}
 use Rattle.mu_agree.proofs.Minimum.{leadership-part, grant_seen-own}
 use Rattle.mu_agree.proofs.Reach.{log_under}
 use Rattle.mu_agree.proofs.Sound.{chosen_sound}
@@ -98,7 +98,7 @@ parts_read_right_law c r i v t k mine e g p kn b l m ev =
 
 -- a look below a FUO that was read
 not_empty : (ring i : ℕ) (log : List (ℕ × ℕ)) → i < length log → (if nat_lt (i + ring) (length log) then Answer.Past else shown (slice_get log i)) ≡ Answer.Empty → ⊥
-not_empty ring i log l e = go (nat_lt (i + ring) (length log)) (get_below log i l) e
+not_empty ring i log l e = go (nat_lt (i + ring) (length log)) (item_below log i l) e
   where
     go : (t : Bool) → (x : ℕ × ℕ) × (slice_get log i ≡ Some x) → (if t then Answer.Past else shown (slice_get log i)) ≡ Answer.Empty → ⊥
     go true x e = cc
@@ -164,7 +164,7 @@ same_fence x y e = cc
 grant_lost : (c : Config) (r p j g u : ℕ) (past : List Event) → IsLegalHistory c past → p < c.replicas → noted_grant r p (part r past) ≡ Some g → fuo_under r p g (leadership r (part r past)) ≡ Some u
     → u ≤ j → put_end r p (leadership r (part r past)) ≤ j + c.ring → answer_of c r past (Verb.Look p j) ≡ Answer.Past → g < fence_grant p past
 grant_lost c r p j g u past h l n f ul pl a =
-    let note = noting c r p past h g (sym (noted-part r p past) ∙ n) in
+    let note = noted_grant_is_owned c r p past h g (sym (noted-part r p past) ∙ n) in
     let low = note.0 in
     elim (cases_eq g (fence_grant p past)) [
       | inr d ↦ omega arith

@@ -1,13 +1,13 @@
 -- Known lists agree, and what a FUO covers stays.
-use Rattle.std.proofs.Common.{◌≡◌, ℕ, zero, suc, ◌<◌, ◌≤◌, ◌⊎◌, inl, inr, List, [], ◌∷◌, ◌++◌, length, reverse, refl, sym, ◌∙◌, ap, arith, Some, None, subst}
+use Rattle.std.proofs.Common.{◌≡◌, ℕ, zero, suc, ◌<◌, ◌≤◌, ◌⊎◌, inl, inr, List, [], ◌∷◌, ◌++◌, reverse, refl, sym, ◌∙◌, ap, arith, Some, None, subst}
 use Rattle.std.specs.declared.option.Option.{Option}
 use Rattle.std.specs.List.{slice_get}
 use Rattle.std.proofs.lemmas.List.{reverse-append}
 use Rattle.mu_model.specs.declared.config.Config.{Config}
 use Rattle.mu_model.specs.declared.event.Event.{Event}
-use Rattle.mu_agree.specs.Agreement.{Begins, FuoIsKept, KnownAgree}
+use Rattle.mu_agree.specs.Agreement.{FuoIsKept, KnownAgree}
 use Rattle.mu_model.specs.Chosen.{IsChosen}
-use Rattle.mu_model.specs.Histories.{greatest, history, max_with, part}
+use Rattle.mu_model.specs.Histories.{greatest, history, max_with, part, IsPrefixOf}
 use Rattle.mu_model.specs.Knowledge.{known}
 use Rattle.mu_model.specs.Legal.{IsLegalHistory}
 use Rattle.mu_model.specs.Regions.{fuo_raised, region_fuo, region_log}
@@ -15,16 +15,17 @@ use Rattle.mu_agree.proofs.Legal.{legal_older}
 use Rattle.mu_agree.proofs.Landings.{no_gaps}
 use Rattle.mu_agree.proofs.Tame.{chosen_stays}
 use Rattle.mu_agree.proofs.Phases.{one_chosen, known_chosen, fuo_chosen}
+use Rattle.mu_model.proofs.Lists.{item_below}
 
 -- lists that agree where both have an element
-pub lists_agree : (xs ys : List ℕ) → ((i v w : ℕ) → slice_get xs i ≡ Some v → slice_get ys i ≡ Some w → v ≡ w) → Begins xs ys ⊎ Begins ys xs
+pub lists_agree : (xs ys : List ℕ) → ((i v w : ℕ) → slice_get xs i ≡ Some v → slice_get ys i ≡ Some w → v ≡ w) → IsPrefixOf xs ys ⊎ IsPrefixOf ys xs
 lists_agree [] ys f = inl (ys, refl)
 lists_agree (x ∷ xs) [] f = inr (x ∷ xs, refl)
 lists_agree (x ∷ xs) (y ∷ ys) f = go (f 0 x y refl refl) (lists_agree xs ys (λ i v w a b. f (suc i) v w a b))
   where
-    go : x ≡ y → Begins xs ys ⊎ Begins ys xs → Begins (x ∷ xs) (y ∷ ys) ⊎ Begins (y ∷ ys) (x ∷ xs)
-    go e (inl b) = inl (b.0, ap (λ z. z ∷ (xs ++ b.0)) e ∙ ap (λ z. y ∷ z) b.1)
-    go e (inr b) = inr (b.0, ap (λ z. z ∷ (ys ++ b.0)) (sym e) ∙ ap (λ z. x ∷ z) b.1)
+    go : x ≡ y → IsPrefixOf xs ys ⊎ IsPrefixOf ys xs → IsPrefixOf (x ∷ xs) (y ∷ ys) ⊎ IsPrefixOf (y ∷ ys) (x ∷ xs)
+    go e (inl b) = inl (b.0, ap (λ z. y ∷ z) b.1 ∙ ap (λ z. z ∷ (xs ++ b.0)) (sym e))
+    go e (inr b) = inr (b.0, ap (λ z. x ∷ z) b.1 ∙ ap (λ z. z ∷ (ys ++ b.0)) e)
 
 -- two known entries at one position are one value
 pub known_agree : (c : Config) (r s : ℕ) (past : List Event) → IsLegalHistory c past → (i v w : ℕ) → slice_get (known c r (part r past)) i ≡ Some v → slice_get (known c s (part s past)) i ≡ Some w → v ≡ w
@@ -49,11 +50,6 @@ greatest_along tells (e ∷ newer) older = go (tells e) (greatest_along tells ne
     go None l = l
     go (Some x) l = omega arith
 
-pub get_below : {A : Type 0} (xs : List A) (i : ℕ) → i < length xs → (x : A) × (slice_get xs i ≡ Some x)
-get_below [] i l = absurd (omega arith)
-get_below (x ∷ xs) zero l = (x, refl)
-get_below (x ∷ xs) (suc i) l = get_below xs i (omega arith)
-
 fuo_kept : (c : Config) (p i : ℕ) (newer older : List Event) → IsLegalHistory c (newer ++ older) → i < region_fuo p older
     → (n : ℕ) × ((v : ℕ) × ((slice_get (region_log p (newer ++ older)) i ≡ Some (n, v)) × IsChosen c older i v))
 fuo_kept c p i newer older h l =
@@ -64,8 +60,8 @@ fuo_kept c p i newer older h l =
     let l' : i < region_fuo p (newer ++ older) = omega arith in
     let f1 = old.fuo in
     let f2 = new.fuo in
-    let y = get_below (region_log p older) i (omega arith) in
-    let z = get_below (region_log p (newer ++ older)) i (omega arith) in
+    let y = item_below (region_log p older) i (omega arith) in
+    let z = item_below (region_log p (newer ++ older)) i (omega arith) in
     let cy = fuo_chosen c p i y.0 older was l y.1 in
     let cz = fuo_chosen c p i z.0 (newer ++ older) h l' z.1 in
     let k = chosen_along c i y.0.1 newer older (cy.b, cy.is) in

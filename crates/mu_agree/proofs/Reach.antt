@@ -17,9 +17,9 @@ use Rattle.mu_model.specs.Knowledge.{fuo_read}
 use Rattle.mu_model.specs.Leaderships.{is_first_ask, leadership}
 use Rattle.mu_model.specs.Legal.{IsLegalHistory}
 use Rattle.mu_model.specs.Regions.{fence_grant, fence_owner, region_fuo, region_log}
-use Rattle.mu_agree.proofs.Legal.{made, legal_induction}
+use Rattle.mu_agree.proofs.Legal.{event_after, legal_induction}
 use Rattle.mu_agree.proofs.Access.{slot_holds}
-use Rattle.mu_agree.proofs.Minimum.{seen_law, one_owner, more}
+use Rattle.mu_agree.proofs.Minimum.{seen_law, one_owner, second_passes}
 use Rattle.mu_agree.proofs.Landed.{lands_within}
 use Rattle.mu_agree.proofs.Room.{log_near, length_put_room}
 use Rattle.mu_model.proofs.Basics.{same_some}
@@ -33,15 +33,15 @@ under_seen r p g u (e ∷ past) h = go (fuo_read r p e.by e.verb e.answer) (has 
   where
     go : (o : Option ℕ) (t : Bool) → has (λ f. grant_seen r p g f.by f.verb f.answer) past ≡ t → newer_or (kept_if t o) (fuo_under r p g past) ≡ Some u → (fuo_under r p g past ≡ Some u → has (λ f. grant_seen r p g f.by f.verb f.answer) past ≡ true)
         → cond (grant_seen r p g e.by e.verb e.answer) true (has (λ f. grant_seen r p g f.by f.verb f.answer) past) ≡ true
-    go o true ht h ih = more (grant_seen r p g e.by e.verb e.answer) (has (λ f. grant_seen r p g f.by f.verb f.answer) past) ht
-    go None false ht h ih = more (grant_seen r p g e.by e.verb e.answer) (has (λ f. grant_seen r p g f.by f.verb f.answer) past) (ih h)
-    go (Some x) false ht h ih = more (grant_seen r p g e.by e.verb e.answer) (has (λ f. grant_seen r p g f.by f.verb f.answer) past) (ih h)
+    go o true ht h ih = second_passes (grant_seen r p g e.by e.verb e.answer) (has (λ f. grant_seen r p g f.by f.verb f.answer) past) ht
+    go None false ht h ih = second_passes (grant_seen r p g e.by e.verb e.answer) (has (λ f. grant_seen r p g f.by f.verb f.answer) past) (ih h)
+    go (Some x) false ht h ih = second_passes (grant_seen r p g e.by e.verb e.answer) (has (λ f. grant_seen r p g f.by f.verb f.answer) past) (ih h)
 
-reach_ask : (c : Config) (r p by q : ℕ) (past : List Event) → LogUnder c r p past → (t : Bool) → is_first_ask r by (Verb.Ask q) ≡ t → LogUnder c r p (made c past by (Verb.Ask q) ∷ past)
+reach_ask : (c : Config) (r p by q : ℕ) (past : List Event) → LogUnder c r p past → (t : Bool) → is_first_ask r by (Verb.Ask q) ≡ t → LogUnder c r p (event_after c past by (Verb.Ask q) ∷ past)
 reach_ask c r p by q past s true h = rw h (λ g u e o m. cc)
 reach_ask c r p by q past s false h = rw h s
 
-reach_fuo : (c : Config) (r p by q : ℕ) (past : List Event) → p < c.replicas → IsLegalHistory c past → LogUnder c r p past → (t : Bool) → ((by == r) && (q == p)) ≡ t → LogUnder c r p (made c past by (Verb.Fuo q) ∷ past)
+reach_fuo : (c : Config) (r p by q : ℕ) (past : List Event) → p < c.replicas → IsLegalHistory c past → LogUnder c r p past → (t : Bool) → ((by == r) && (q == p)) ≡ t → LogUnder c r p (event_after c past by (Verb.Fuo q) ∷ past)
 reach_fuo c r p by q past l h s true k = rw k (λ g u e o m. go (has (λ f. grant_seen r p g f.by f.verb f.answer) (leadership r past)) g u e o m)
   where
     go : (t : Bool) (g u : ℕ) → g ≡ fence_grant p past → fence_owner p past ≡ Some r → newer_or (kept_if t (Some (region_fuo q past))) (fuo_under r p g (leadership r past)) ≡ Some u → length (region_log p past) ≤ max (u + c.ring) (put_end r p (leadership r past))
@@ -52,7 +52,7 @@ reach_fuo c r p by q past l h s true k = rw k (λ g u e o m. go (has (λ f. gran
     go false g u e o m = s g u e o m
 reach_fuo c r p by q past l h s false k = rw k s
 
-reach_grant : (c : Config) (r p by w : ℕ) (past : List Event) → IsLegalHistory c past → LogUnder c r p past → (t : Bool) → (by == p) ≡ t → LogUnder c r p (made c past by (Verb.Grant w) ∷ past)
+reach_grant : (c : Config) (r p by w : ℕ) (past : List Event) → IsLegalHistory c past → LogUnder c r p past → (t : Bool) → (by == p) ≡ t → LogUnder c r p (event_after c past by (Verb.Grant w) ∷ past)
 reach_grant c r p by w past h s true k =
     rw k (λ g u e o m. absurd (let n : g ≤ fence_grant p past = seen_law c r p past h g (has_since (λ f. grant_seen r p g f.by f.verb f.answer) (begins_leadership r) past (under_seen r p g u (leadership r past) m)) in omega arith))
 reach_grant c r p by w past h s false k = rw k s
@@ -70,7 +70,7 @@ reach_put c r p by q j n w past h may s Answer.Done a false hx true hy = rw (hx,
 reach_put c r p by q j n w past h may s Answer.Done a false hx false hy = rw (hx, hy) s
 reach_put c r p by q j n w past h may s b a x hx y hy = s
 
-reach_step : (c : Config) (r p by : ℕ) (v : Verb) (past : List Event) → p < c.replicas → IsLegalHistory c past → Needs c by (part by past) v → LogUnder c r p past → LogUnder c r p (made c past by v ∷ past)
+reach_step : (c : Config) (r p by : ℕ) (v : Verb) (past : List Event) → p < c.replicas → IsLegalHistory c past → Needs c by (part by past) v → LogUnder c r p past → LogUnder c r p (event_after c past by v ∷ past)
 reach_step c r p by (Verb.Ask q) past l h may s = reach_ask c r p by q past s (is_first_ask r by (Verb.Ask q)) refl
 reach_step c r p by (Verb.Fuo q) past l h may s = reach_fuo c r p by q past l h s ((by == r) && (q == p)) refl
 reach_step c r p by (Verb.Grant w) past l h may s = reach_grant c r p by w past h s (by == p) refl

@@ -25,11 +25,12 @@ use Rattle.mu_model.specs.Room.{head_read, last_head, reserve}
 use Rattle.mu_model.proofs.Basics.{same_some}
 use Rattle.mu_model.proofs.Owned.{noted-part}
 use Rattle.mu_agree.specs.Possible.{PartsClimb, PartsCount, PartsHold, PartsReach, PartsStayPast}
-use Rattle.mu_agree.proofs.Access.{noting}
+use Rattle.mu_agree.proofs.Access.{noted_grant_is_owned}
 use Rattle.mu_agree.proofs.Landings.{at_part, greatest_since}
-use Rattle.mu_agree.proofs.Legal.{legal_induction, made}
-use Rattle.mu_agree.proofs.Numbers.{number-part, numbered, top, top-part}
+use Rattle.mu_agree.proofs.Legal.{legal_induction, event_after}
+use Rattle.mu_agree.proofs.Numbers.{number-part, numbered, greatest_own_put, greatest_own_put-part}
 use Rattle.mu_agree.proofs.Possible.{at_event, parts_shorten_law, same_fence}
+use Rattle.mu_model.proofs.Budgets.{part_within_budget}
 
 -- a head that was read is at most the head
 abbrev pub HeadLow : ℕ → ℕ → List Event → Type 0
@@ -44,15 +45,15 @@ raised_low : (x y z : ℕ) (t : Bool) → y ≤ z → y ≤ max_with (cond t (So
 raised_low x y z true h = omega arith
 raised_low x y z false h = h
 
-head_step : (c : Config) (r q by : ℕ) (v : Verb) (past : List Event) → HeadLow r q past → HeadLow r q (made c past by v ∷ past)
+head_step : (c : Config) (r q by : ℕ) (v : Verb) (past : List Event) → HeadLow r q past → HeadLow r q (event_after c past by v ∷ past)
 head_step c r q by (Verb.Head p) past h =
-    at_part (λ J. last_head r q J ≤ region_head q past) r (made c past by (Verb.Head p)) past h
+    at_part (λ J. last_head r q J ≤ region_head q past) r (event_after c past by (Verb.Head p)) past h
     (λ own. pick_low (by == r) (p == q) (region_head p past) (region_head q past) (newest (λ g. head_read r q g.by g.verb g.answer) (part r past))
     (λ same. let z : p ≡ q = eqb-true p q same in subst (λ x. region_head x past ≤ region_head q past) (sym z) (omega arith)) h)
 head_step c r q by (Verb.RaiseHead x) past h =
-    at_part (λ J. last_head r q J ≤ max_with (cond (by == q) (Some x) None) (region_head q past)) r (made c past by (Verb.RaiseHead x)) past
+    at_part (λ J. last_head r q J ≤ max_with (cond (by == q) (Some x) None) (region_head q past)) r (event_after c past by (Verb.RaiseHead x)) past
     (raised_low x (last_head r q (part r past)) (region_head q past) (by == q) h) (λ own. raised_low x (last_head r q (part r past)) (region_head q past) (by == q) h)
-head_step c r q by v past h = at_part (λ J. last_head r q J ≤ region_head q past) r (made c past by v) past h (λ own. h)
+head_step c r q by v past h = at_part (λ J. last_head r q J ≤ region_head q past) r (event_after c past by v) past h (λ own. h)
 
 heads_low : (c : Config) (r q : ℕ) (past : List Event) → IsLegalHistory c past → HeadLow r q past
 heads_low c r q = legal_induction c (HeadLow r q) (omega arith) (λ past by v h may n. head_step c r q by v past n)
@@ -93,7 +94,7 @@ known_within c r (e ∷ mine) possible = let s = parts_shorten_law c r mine e po
 abbrev pub FuoWithin : Config → ℕ → List Event → Type 0
 FuoWithin c p past = region_fuo p past ≤ row_count c + reserve c + 1
 
-fuo_step : (c : Config) (p by : ℕ) (v : Verb) (past : List Event) → IsLegalHistory c past → Needs c by (part by past) v → FuoWithin c p past → FuoWithin c p (made c past by v ∷ past)
+fuo_step : (c : Config) (p by : ℕ) (v : Verb) (past : List Event) → IsLegalHistory c past → Needs c by (part by past) v → FuoWithin c p past → FuoWithin c p (event_after c past by v ∷ past)
 fuo_step c p by (Verb.RaiseFuo q u) past legal may h = go (q == p)
   where
     go : (t : Bool) → max_with (cond t (Some u) None) (region_fuo p past) ≤ row_count c + reserve c + 1
@@ -114,7 +115,7 @@ pub parts_hold_law : PartsHold
 parts_hold_law c r p g f mine e possible noted verb answer same =
     let s = at_event c r mine e possible in
     let is : f ≡ fence p s.older = same_fence f (fence p s.older) (sym answer ∙ s.follows.answer ∙ ap (answer_of c e.by s.older) verb) in
-    let note = noting c r p s.older s.legal g (sym (noted-part r p s.older) ∙ subst (λ J. noted_grant r p J ≡ Some g) (sym s.part_is) noted) in
+    let note = noted_grant_is_owned c r p s.older s.legal g (sym (noted-part r p s.older) ∙ subst (λ J. noted_grant r p J ≡ Some g) (sym s.part_is) noted) in
     let grant : g ≡ fence_grant p s.older = sym same ∙ ap (λ x. x.grant) is in
     ap (λ x. x.owner) is ∙ note.1 grant
 
@@ -128,14 +129,14 @@ abbrev pub greatest_put : List Event → ℕ
 greatest_put past = greatest (λ e. number_of_put e.verb) past
 
 -- what r put is no more than that
-top_low : (r : ℕ) (past : List Event) → top r past ≤ greatest_put past
+top_low : (r : ℕ) (past : List Event) → greatest_own_put r past ≤ greatest_put past
 top_low r [] = omega arith
 top_low r (e ∷ past) = go e.verb (top_low r past)
   where
-    go : (v : Verb) → top r past ≤ greatest_put past → max_with (number_put r e.by v) (top r past) ≤ max_with (number_of_put v) (greatest_put past)
+    go : (v : Verb) → greatest_own_put r past ≤ greatest_put past → max_with (number_put r e.by v) (greatest_own_put r past) ≤ max_with (number_of_put v) (greatest_put past)
     go (Verb.PutMin p b) h = by_test (e.by == r)
       where
-        by_test : (t : Bool) → max_with (cond t (Some b) None) (top r past) ≤ max b (greatest_put past)
+        by_test : (t : Bool) → max_with (cond t (Some b) None) (greatest_own_put r past) ≤ max b (greatest_put past)
         by_test true = omega arith
         by_test false = omega arith
     go v h = h
@@ -158,17 +159,17 @@ min_low p (e ∷ past) = go e.verb e.answer (min_low p past)
 abbrev pub ReadLow : ℕ → List Event → Type 0
 ReadLow r past = greatest (λ e. any_min_read r e.by e.verb e.answer) (part r past) ≤ greatest_put past
 
-read_step : (c : Config) (r by : ℕ) (v : Verb) (past : List Event) → ReadLow r past → ReadLow r (made c past by v ∷ past)
+read_step : (c : Config) (r by : ℕ) (v : Verb) (past : List Event) → ReadLow r past → ReadLow r (event_after c past by v ∷ past)
 read_step c r by (Verb.Min p) past h =
-    at_part (λ J. greatest (λ e. any_min_read r e.by e.verb e.answer) J ≤ greatest_put past) r (made c past by (Verb.Min p)) past h (λ own. go (by == r))
+    at_part (λ J. greatest (λ e. any_min_read r e.by e.verb e.answer) J ≤ greatest_put past) r (event_after c past by (Verb.Min p)) past h (λ own. go (by == r))
   where
     go : (t : Bool) → max_with (cond t (Some (region_min p past)) None) (greatest (λ e. any_min_read r e.by e.verb e.answer) (part r past)) ≤ greatest_put past
     go true = let low = min_low p past in let old : greatest (λ e. any_min_read r e.by e.verb e.answer) (part r past) ≤ greatest_put past = h in omega arith
     go false = h
 read_step c r by (Verb.PutMin p b) past h =
     let old : greatest (λ e. any_min_read r e.by e.verb e.answer) (part r past) ≤ greatest_put past = h in
-    at_part (λ J. greatest (λ e. any_min_read r e.by e.verb e.answer) J ≤ max b (greatest_put past)) r (made c past by (Verb.PutMin p b)) past (omega arith) (λ own. omega arith)
-read_step c r by v past h = at_part (λ J. greatest (λ e. any_min_read r e.by e.verb e.answer) J ≤ greatest_put past) r (made c past by v) past h (λ own. h)
+    at_part (λ J. greatest (λ e. any_min_read r e.by e.verb e.answer) J ≤ max b (greatest_put past)) r (event_after c past by (Verb.PutMin p b)) past (omega arith) (λ own. omega arith)
+read_step c r by v past h = at_part (λ J. greatest (λ e. any_min_read r e.by e.verb e.answer) J ≤ greatest_put past) r (event_after c past by v) past h (λ own. h)
 
 reads_low : (c : Config) (r : ℕ) (past : List Event) → IsLegalHistory c past → ReadLow r past
 reads_low c r = legal_induction c (ReadLow r) (omega arith) (λ past by v h may n. read_step c r by v past n)
@@ -186,14 +187,14 @@ number_low c r b m past None few inside legal low is allowed =
     let reads = reads_low c r past legal in
     let since = greatest_since (λ e. any_min_read r e.by e.verb e.answer) (begins_leadership r) (part r past) in
     let puts = top_low r past in
-    let same = top-part r past in
-    least_low r (greatest (λ e. any_min_read r e.by e.verb e.answer) (leadership r (part r past))) (top r (part r past)) m b (omega arith) (omega arith) (omega arith) allowed.4
+    let same = greatest_own_put-part r past in
+    least_low r (greatest (λ e. any_min_read r e.by e.verb e.answer) (leadership r (part r past))) (greatest_own_put r (part r past)) m b (omega arith) (omega arith) (omega arith) allowed.4
 number_low c r b m past (Some first) few inside legal low is allowed =
     let put = (numbered c r past legal).put first (sym (number-part r past) ∙ sym is) in
     let puts = top_low r past in
     omega (arith, allowed, put, puts, low)
 
-count_step : (c : Config) (by : ℕ) (v : Verb) (past : List Event) → c.replicas ≤ 7 → IsLegalHistory c past → Allowed c by (part by past) v → CountLow past → CountLow (made c past by v ∷ past)
+count_step : (c : Config) (by : ℕ) (v : Verb) (past : List Event) → c.replicas ≤ 7 → IsLegalHistory c past → Allowed c by (part by past) v → CountLow past → CountLow (event_after c past by v ∷ past)
 count_step c by (Verb.PutMin p b) past few legal may h =
     let m = may.may.1 in
     let low = number_low c by b (length past) past (proposal_number by (part by past)) few may.replica legal h refl m.numbered in
@@ -203,14 +204,6 @@ count_step c by v past few legal may h = let old : greatest_put past ≤ 8 * len
 
 counts_low : (c : Config) (past : List Event) → c.replicas ≤ 7 → IsLegalHistory c past → CountLow past
 counts_low c past few = legal_induction c CountLow (omega arith) (λ past by v h may n. count_step c by v past few h may n) past
-
--- no part is longer than the budget
-pub part_short : (c : Config) (r : ℕ) (past : List Event) → IsLegalHistory c past → length (part r past) ≤ c.budget
-part_short c r [] legal = omega arith
-part_short c r (e ∷ past) legal = at_part (λ J. length J ≤ c.budget) r e past (part_short c r past legal.0) (λ own. let low = legal.1.allowed.budget in let is = eqb-true e.by r own in let least : length (part r past) < c.budget = subst (λ x. length (part x past) < c.budget) is low in one_more (length (part r past)) c.budget least)
-  where
-    one_more : (n m : ℕ) → n < m → suc n ≤ m
-    one_more n m low = omega arith
 
 -- how many events the first n replicas made
 abbrev pub events_of : ℕ → List Event → ℕ
@@ -247,7 +240,7 @@ all_events c (e ∷ past) legal = let more = events_more c.replicas e past legal
 -- seven replicas make few events
 few_events : (c : Config) (n : ℕ) (past : List Event) → n ≤ 7 → c.budget ≤ 131071 → IsLegalHistory c past → events_of n past ≤ n * 131071
 few_events c zero past few low legal = omega arith
-few_events c (suc n) past few low legal = let one = part_short c n past legal in let rest = few_events c n past (omega arith) low legal in omega arith
+few_events c (suc n) past few low legal = let one = part_within_budget c n past legal in let rest = few_events c n past (omega arith) low legal in omega arith
 
 history_short : (c : Config) (past : List Event) → IsConfig c → IsLegalHistory c past → length past ≤ 917497
 history_short c past config legal =
@@ -266,9 +259,9 @@ parts_count_law c r mine config possible =
     let reads = reads_low c r past legal in
     let since = greatest_since (λ e. any_min_read r e.by e.verb e.answer) (begins_leadership r) (part r past) in
     let puts = top_low r past in
-    let same = top-part r past in
-    let counts : (greatest (λ e. any_min_read r e.by e.verb e.answer) (leadership r (part r past)) < 8000000) × (top r (part r past) < 8000000) = (omega arith, omega arith) in
-    subst (λ J. (greatest (λ e. any_min_read r e.by e.verb e.answer) (leadership r J) < 8000000) × (top r J < 8000000)) possible.is counts
+    let same = greatest_own_put-part r past in
+    let counts : (greatest (λ e. any_min_read r e.by e.verb e.answer) (leadership r (part r past)) < 8000000) × (greatest_own_put r (part r past) < 8000000) = (omega arith, omega arith) in
+    subst (λ J. (greatest (λ e. any_min_read r e.by e.verb e.answer) (leadership r J) < 8000000) × (greatest_own_put r J < 8000000)) possible.is counts
 
 -- a look that was past stays past
 abbrev pub PastStands : Config → ℕ → ℕ → ℕ → List Event → Type 0
@@ -312,14 +305,14 @@ past_now c r by p i q j past old is = go (by == r) (q == p) refl (j == i) refl i
     go true false same u at is = old is
     go false t same u at is = old is
 
-past_step : (c : Config) (r p i by : ℕ) (v : Verb) (past : List Event) → PastStands c r p i past → PastStands c r p i (made c past by v ∷ past)
+past_step : (c : Config) (r p i by : ℕ) (v : Verb) (past : List Event) → PastStands c r p i past → PastStands c r p i (event_after c past by v ∷ past)
 past_step c r p i by (Verb.Look q j) past old =
-    at_part (λ J. has (λ e. is_past_look (look_answer r p i e.by e.verb e.answer)) J ≡ true → i + c.ring < length (region_log p past)) r (made c past by (Verb.Look q j)) past old (λ own. past_now c r by p i q j past old)
+    at_part (λ J. has (λ e. is_past_look (look_answer r p i e.by e.verb e.answer)) J ≡ true → i + c.ring < length (region_log p past)) r (event_after c past by (Verb.Look q j)) past old (λ own. past_now c r by p i q j past old)
 past_step c r p i by (Verb.PutSlot q j b v) past old =
     let more = log_grows p (Verb.PutSlot q j b v) (answer_of c by past (Verb.PutSlot q j b v)) (region_log p past) in
-    at_part (λ J. has (λ e. is_past_look (look_answer r p i e.by e.verb e.answer)) J ≡ true → i + c.ring < length (log_with p (Verb.PutSlot q j b v) (answer_of c by past (Verb.PutSlot q j b v)) (region_log p past))) r (made c past by (Verb.PutSlot q j b v)) past
+    at_part (λ J. has (λ e. is_past_look (look_answer r p i e.by e.verb e.answer)) J ≡ true → i + c.ring < length (log_with p (Verb.PutSlot q j b v) (answer_of c by past (Verb.PutSlot q j b v)) (region_log p past))) r (event_after c past by (Verb.PutSlot q j b v)) past
     (λ is. (let low = old is in omega (arith, low, more))) (λ own is. (let low = old is in omega (arith, low, more)))
-past_step c r p i by v past old = at_part (λ J. has (λ e. is_past_look (look_answer r p i e.by e.verb e.answer)) J ≡ true → i + c.ring < length (region_log p past)) r (made c past by v) past old (λ own. old)
+past_step c r p i by v past old = at_part (λ J. has (λ e. is_past_look (look_answer r p i e.by e.verb e.answer)) J ≡ true → i + c.ring < length (region_log p past)) r (event_after c past by v) past old (λ own. old)
 
 past_stands : (c : Config) (r p i : ℕ) (past : List Event) → IsLegalHistory c past → PastStands c r p i past
 past_stands c r p i = legal_induction c (PastStands c r p i) (λ is. absurd (true≢false (sym is))) (λ past by v h may n. past_step c r p i by v past n)

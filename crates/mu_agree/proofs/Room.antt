@@ -20,7 +20,7 @@ use Rattle.mu_model.specs.Legal.{IsLegalHistory, MayFollow}
 use Rattle.mu_model.specs.Placing.{IsNew, MayPutSlot, fuo_read_or_raised, is_within_ring, reaches_head}
 use Rattle.mu_model.specs.Regions.{region_fuo, region_head, region_log}
 use Rattle.mu_model.specs.Room.{head_read, last_head}
-use Rattle.mu_agree.proofs.Legal.{made, legal_induction, legal_older}
+use Rattle.mu_agree.proofs.Legal.{event_after, legal_induction, legal_older}
 use Rattle.mu_agree.proofs.Access.{reversed_at}
 use Rattle.mu_agree.proofs.Slots.{put_in'}
 use Rattle.mu_model.proofs.Scans.{all_at, front_length}
@@ -66,13 +66,13 @@ head_rises : (q h : ℕ) (past : List Event) (t : Bool) → region_head q past �
 head_rises q h past true = omega arith
 head_rises q h past false = omega arith
 
-heads_step : (c : Config) (r q by : ℕ) (v : Verb) (past : List Event) → HeadsRead r q past → HeadsRead r q (made c past by v ∷ past)
-heads_step c r q by (Verb.Head p) past s = at_part (λ J. last_head r q J ≤ region_head q past) r (made c past by (Verb.Head p)) past s (λ _. heads_read_own r q by p past s ((by == r) && (p == q)) refl)
+heads_step : (c : Config) (r q by : ℕ) (v : Verb) (past : List Event) → HeadsRead r q past → HeadsRead r q (event_after c past by v ∷ past)
+heads_step c r q by (Verb.Head p) past s = at_part (λ J. last_head r q J ≤ region_head q past) r (event_after c past by (Verb.Head p)) past s (λ _. heads_read_own r q by p past s ((by == r) && (p == q)) refl)
 heads_step c r q by (Verb.RaiseHead h) past s =
     let up = head_rises q h past (by == q) in
-    let s' : last_head r q (part r past) ≤ region_head q (made c past by (Verb.RaiseHead h) ∷ past) = omega arith in
-    at_part (λ J. last_head r q J ≤ region_head q (made c past by (Verb.RaiseHead h) ∷ past)) r (made c past by (Verb.RaiseHead h)) past s' (λ _. s')
-heads_step c r q by v past s = at_part (λ J. last_head r q J ≤ region_head q past) r (made c past by v) past s (λ _. s)
+    let s' : last_head r q (part r past) ≤ region_head q (event_after c past by (Verb.RaiseHead h) ∷ past) = omega arith in
+    at_part (λ J. last_head r q J ≤ region_head q (event_after c past by (Verb.RaiseHead h) ∷ past)) r (event_after c past by (Verb.RaiseHead h)) past s' (λ _. s')
+heads_step c r q by v past s = at_part (λ J. last_head r q J ≤ region_head q past) r (event_after c past by v) past s (λ _. s)
 
 pub heads_read : (c : Config) (r q : ℕ) (past : List Event) → IsLegalHistory c past → HeadsRead r q past
 heads_read c r q = legal_induction c (HeadsRead r q) (omega arith) (λ past by v h may s. heads_step c r q by v past s)
@@ -121,13 +121,13 @@ room_slot c q by p' j n w past l h may s Answer.Done p = elim (room_to_put c q b
     go false e k o = o
 room_slot c q by p' j n w past l h may s a p = elim (s p) [ inl o ↦ inl o | inr m ↦ inr (marked_stays c q (record { by = by; verb = Verb.PutSlot p' j n w; answer = a }) past m) ]
 
-room_step : (c : Config) (q by : ℕ) (v : Verb) (past : List Event) → q < c.replicas → IsLegalHistory c past → Needs c by (part by past) v → HasRoom c q past → HasRoom c q (made c past by v ∷ past)
+room_step : (c : Config) (q by : ℕ) (v : Verb) (past : List Event) → q < c.replicas → IsLegalHistory c past → Needs c by (part by past) v → HasRoom c q past → HasRoom c q (event_after c past by v ∷ past)
 room_step c q by (Verb.PutSlot p' j n w) past l h may s = room_slot c q by p' j n w past l h may s (put_answer (drained by p' past))
 room_step c q by (Verb.RaiseHead k) past l h may s = λ p. elim (s p) [
   | inl o ↦ inl (let up = head_rises q k past (by == q) in omega arith)
-  | inr m ↦ inr (marked_stays c q (made c past by (Verb.RaiseHead k)) past m)
+  | inr m ↦ inr (marked_stays c q (event_after c past by (Verb.RaiseHead k)) past m)
 ]
-room_step c q by v past l h may s = λ p. elim (s p) [ inl o ↦ inl o | inr m ↦ inr (marked_stays c q (made c past by v) past m) ]
+room_step c q by v past l h may s = λ p. elim (s p) [ inl o ↦ inl o | inr m ↦ inr (marked_stays c q (event_after c past by v) past m) ]
 
 pub room : (c : Config) (q : ℕ) (past : List Event) → q < c.replicas → IsLegalHistory c past → HasRoom c q past
 room c q past l = legal_induction c (HasRoom c q) (λ p. inl (omega arith)) (λ past by v h may s. room_step c q by v past l h may.may s) past
@@ -156,12 +156,12 @@ covers_raise r p by q u h past s hx true e = rw hx (λ m. elim (has_cases (nat_l
 ])
 covers_raise r p by q u h past s hx false e = rw hx (λ m. s h m)
 
-covers_step : (c : Config) (r p by : ℕ) (v : Verb) (past : List Event) → CoversBelow r p past → CoversBelow r p (made c past by v ∷ past)
-covers_step c r p by (Verb.Fuo q) past s h = at_part (λ J. has (λ e. reaches_head h (fuo_read_or_raised r p e.by e.verb e.answer)) J ≡ true → h ≤ region_fuo p past) r (made c past by (Verb.Fuo q)) past (s h) (λ _. covers_read r p by q h past s ((by == r) && (q == p)) refl)
+covers_step : (c : Config) (r p by : ℕ) (v : Verb) (past : List Event) → CoversBelow r p past → CoversBelow r p (event_after c past by v ∷ past)
+covers_step c r p by (Verb.Fuo q) past s h = at_part (λ J. has (λ e. reaches_head h (fuo_read_or_raised r p e.by e.verb e.answer)) J ≡ true → h ≤ region_fuo p past) r (event_after c past by (Verb.Fuo q)) past (s h) (λ _. covers_read r p by q h past s ((by == r) && (q == p)) refl)
 covers_step c r p by (Verb.RaiseFuo q u) past s h =
-    at_part (λ J. has (λ e. reaches_head h (fuo_read_or_raised r p e.by e.verb e.answer)) J ≡ true → h ≤ region_fuo p (made c past by (Verb.RaiseFuo q u) ∷ past)) r (made c past by (Verb.RaiseFuo q u)) past
+    at_part (λ J. has (λ e. reaches_head h (fuo_read_or_raised r p e.by e.verb e.answer)) J ≡ true → h ≤ region_fuo p (event_after c past by (Verb.RaiseFuo q u) ∷ past)) r (event_after c past by (Verb.RaiseFuo q u)) past
     (λ m. let l = s h m in let up = fuo_rises p u past (q == p) in omega arith) (λ hx. covers_raise r p by q u h past s hx (q == p) refl)
-covers_step c r p by v past s h = at_part (λ J. has (λ e. reaches_head h (fuo_read_or_raised r p e.by e.verb e.answer)) J ≡ true → h ≤ region_fuo p past) r (made c past by v) past (s h) (λ _. s h)
+covers_step c r p by v past s h = at_part (λ J. has (λ e. reaches_head h (fuo_read_or_raised r p e.by e.verb e.answer)) J ≡ true → h ≤ region_fuo p past) r (event_after c past by v) past (s h) (λ _. s h)
 
 pub covers_below : (c : Config) (r p : ℕ) (past : List Event) → IsLegalHistory c past → CoversBelow r p past
 covers_below c r p = legal_induction c (CoversBelow r p) (λ h m. absurd (true≢false (sym m))) (λ past by v h may s. covers_step c r p by v past s)
@@ -176,7 +176,7 @@ head_raise c r by k past h may s true hx =
     let l = covers_below c r r past h k m.1 in omega arith
 head_raise c r by k past h may s false hx = s
 
-head_step : (c : Config) (r by : ℕ) (v : Verb) (past : List Event) → IsLegalHistory c past → Needs c by (part by past) v → HeadBelow r past → HeadBelow r (made c past by v ∷ past)
+head_step : (c : Config) (r by : ℕ) (v : Verb) (past : List Event) → IsLegalHistory c past → Needs c by (part by past) v → HeadBelow r past → HeadBelow r (event_after c past by v ∷ past)
 head_step c r by (Verb.RaiseHead k) past h may s = head_raise c r by k past h may s (by == r) refl
 head_step c r by (Verb.RaiseFuo q u) past h may s = let up = fuo_rises r u past (q == r) in omega arith
 head_step c r by v past h may s = s
@@ -198,11 +198,11 @@ head_known_raise c r by k past may s true hx =
     let f = front_length c r (part r past) (known c r (part r past)) in omega arith
 head_known_raise c r by k past may s false hx = s
 
-head_known_step : (c : Config) (r by : ℕ) (v : Verb) (past : List Event) → Needs c by (part by past) v → HeadKnown c r past → HeadKnown c r (made c past by v ∷ past)
+head_known_step : (c : Config) (r by : ℕ) (v : Verb) (past : List Event) → Needs c by (part by past) v → HeadKnown c r past → HeadKnown c r (event_after c past by v ∷ past)
 head_known_step c r by (Verb.RaiseHead k) past may s =
     let l = head_known_raise c r by k past may s (by == r) refl in
-    at_part (λ J. region_head r (made c past by (Verb.RaiseHead k) ∷ past) ≤ length (known c r J)) r (made c past by (Verb.RaiseHead k)) past l (λ _. l)
-head_known_step c r by v past may s = at_part (λ J. region_head r past ≤ length (known c r J)) r (made c past by v) past s (λ _. let l = known_longer c r (made c past by v) (part r past) in omega arith)
+    at_part (λ J. region_head r (event_after c past by (Verb.RaiseHead k) ∷ past) ≤ length (known c r J)) r (event_after c past by (Verb.RaiseHead k)) past l (λ _. l)
+head_known_step c r by v past may s = at_part (λ J. region_head r past ≤ length (known c r J)) r (event_after c past by v) past s (λ _. let l = known_longer c r (event_after c past by v) (part r past) in omega arith)
 
 pub head_known : (c : Config) (r : ℕ) (past : List Event) → IsLegalHistory c past → HeadKnown c r past
 head_known c r = legal_induction c (HeadKnown c r) (omega arith) (λ past by v h may s. head_known_step c r by v past may.may s)
@@ -261,7 +261,7 @@ log_put c p by p' j n w past two h may s Answer.Done true e =
 log_put c p by p' j n w past two h may s Answer.Done false e = rw e s
 log_put c p by p' j n w past two h may s a t e = s
 
-log_step : (c : Config) (p by : ℕ) (v : Verb) (past : List Event) → c.version ≡ 2 → IsLegalHistory c past → Needs c by (part by past) v → LogNear c p past → LogNear c p (made c past by v ∷ past)
+log_step : (c : Config) (p by : ℕ) (v : Verb) (past : List Event) → c.version ≡ 2 → IsLegalHistory c past → Needs c by (part by past) v → LogNear c p past → LogNear c p (event_after c past by v ∷ past)
 log_step c p by (Verb.PutSlot p' j n w) past two h may s = log_put c p by p' j n w past two h may s (put_answer (drained by p' past)) (p' == p) refl
 log_step c p by (Verb.RaiseFuo q u) past two h may s = let up = fuo_rises p u past (q == p) in omega arith
 log_step c p by v past two h may s = s

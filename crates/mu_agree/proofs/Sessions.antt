@@ -18,14 +18,13 @@ use Rattle.mu_model.specs.Histories.{all_below, history, newer_or, newest, or_ze
 use Rattle.mu_model.specs.Knowledge.{known, wrote, wrote_batch}
 use Rattle.mu_model.specs.Legal.{IsLegalHistory}
 use Rattle.mu_model.specs.Regions.{row_word, word_written}
-use Rattle.mu_agree.proofs.Legal.{made, legal_induction, legal_older}
+use Rattle.mu_agree.proofs.Legal.{event_after, legal_induction, legal_older}
 use Rattle.mu_agree.proofs.Access.{reversed_at}
 use Rattle.mu_model.proofs.Scans.{all_at}
 use Rattle.mu_agree.proofs.Phases.{one_chosen, known_chosen}
-use Rattle.mu_agree.proofs.Prefixes.{get_below}
 use Rattle.mu_agree.proofs.Sound.{Fits, by_batch, by_mark, Sound, chosen_sound, all_sound, put_sound}
 use Rattle.mu_model.proofs.Basics.{same_some}
-use Rattle.mu_model.proofs.Lists.{get_front}
+use Rattle.mu_model.proofs.Lists.{get_front, item_below}
 
 -- laws of lists of numbers
 pub length_counted : (n k : ℕ) → length (counted n k) ≡ n
@@ -190,7 +189,7 @@ no_later_mark c q i j v w past g h a b m n l = go s.fits
     go (by_batch x y z) = mark_no_batch c q w g n x
     go (by_mark q' x z) =
         let same : q' ≡ q = (let e = mark_place c q w n in let f = mark_place c q' w x in omega arith) in
-        let y = get_below s.values i (let e = s.count in omega arith) in
+        let y = item_below s.values i (let e = s.count in omega arith) in
         let u = s.chosen i y.0 y.1 in
         let is : v ≡ y.0 = one_chosen c i a.0 v u.0 y.0 past h a.1 u.1 in
         true≢false (sym (is_marked c q s.values i y.0 y.1 (subst (λ t. is_mark c q t ≡ true) is m)) ∙ subst (λ t. marked c t s.values ≡ false) same z)
@@ -227,7 +226,7 @@ rows_come_first_law c earlier later e p i b v g h = rows_first c p i b v e (reve
 abbrev pub WordRight : Config → ℕ → ℕ → ℕ → List Event → Type 0
 WordRight c r j k past = wrote r j k past ≡ true → newest (λ e. word_written r j k e.by e.verb) past ≡ Some (config_word c j k)
 
-word_step : (c : Config) (r j k by : ℕ) (v : Verb) (past : List Event) → Needs c by (part by past) v → WordRight c r j k past → WordRight c r j k (made c past by v ∷ past)
+word_step : (c : Config) (r j k by : ℕ) (v : Verb) (past : List Event) → Needs c by (part by past) v → WordRight c r j k past → WordRight c r j k (event_after c past by v ∷ past)
 word_step c r j k by (Verb.WriteRow row word x) past may s = go ((by == r) && ((row == j) && (word == k))) refl
   where
     go : (t : Bool) → ((by == r) && ((row == j) && (word == k))) ≡ t → cond t true (wrote r j k past) ≡ true → newer_or (cond t (Some x) None) (newest (λ e. word_written r j k e.by e.verb) past) ≡ Some (config_word c j k)

@@ -17,7 +17,7 @@ use Rattle.mu_model.specs.Leaderships.{begins_leadership, is_first_ask, is_membe
 use Rattle.mu_model.specs.Legal.{IsLegalHistory}
 use Rattle.mu_model.specs.Placing.{MayPutSlot, is_known_put}
 use Rattle.mu_model.specs.Regions.{region_fuo, region_log, region_min}
-use Rattle.mu_agree.proofs.Legal.{made}
+use Rattle.mu_agree.proofs.Legal.{event_after}
 use Rattle.mu_agree.proofs.Numbers.{number-part, numbered, fresh_by}
 use Rattle.mu_agree.proofs.Minimum.{min_lands}
 use Rattle.mu_agree.proofs.Members.{slot_number}
@@ -99,42 +99,42 @@ other_min c i V B maj p by q b r past h may z hx Answer.Done false hq = rw hq (�
 other_min c i V B maj p by q b r past h may z hx a y hq = λ m o. other_tame c i V B maj r (record { by = by; verb = Verb.PutMin q b; answer = a }) (part r past) past (z.tame r m o)
 
 ask_settled : (c : Config) (i V B : ℕ) (maj : ℕ → Bool) (p by q r : ℕ) (past : List Event) → IsLegalHistory c past → Needs c by (part by past) (Verb.Ask q) → Base c i V B maj past → Know c i V past → Settled c i V B maj p past → (by == r) ≡ true → (t : Bool) → is_first_ask r by (Verb.Ask q) ≡ t
-    → TameAt c i V B maj r p (made c past by (Verb.Ask q) ∷ past) (made c past by (Verb.Ask q) ∷ part r past)
+    → TameAt c i V B maj r p (event_after c past by (Verb.Ask q) ∷ past) (event_after c past by (Verb.Ask q) ∷ part r past)
 ask_settled c i V B maj p by q r past h may s kn z hx true e = λ m o. absurd (gone m)
   where
-    gone : is_member r p (made c past by (Verb.Ask q) ∷ part r past) ≡ true → ⊥
+    gone : is_member r p (event_after c past by (Verb.Ask q) ∷ part r past) ≡ true → ⊥
     gone = rw e (λ m. true≢false (sym m))
 ask_settled c i V B maj p by q r past h may s kn z hx false e = λ m o. tame_own c i V B maj r by (Verb.Ask q) past h may s (kn r) (z.tame r (kept m) (kept_number o)) hx
   where
-    kept : is_member r p (made c past by (Verb.Ask q) ∷ part r past) ≡ true → is_member r p (part r past) ≡ true
+    kept : is_member r p (event_after c past by (Verb.Ask q) ∷ part r past) ≡ true → is_member r p (part r past) ≡ true
     kept = rw e (λ m. m)
 
-    kept_number : proposal_number r (made c past by (Verb.Ask q) ∷ part r past) ≡ Some (region_min p past) → proposal_number r (part r past) ≡ Some (region_min p past)
+    kept_number : proposal_number r (event_after c past by (Verb.Ask q) ∷ part r past) ≡ Some (region_min p past) → proposal_number r (part r past) ≡ Some (region_min p past)
     kept_number = rw e (λ m. m)
 
-pub settled_step : (c : Config) (i V B : ℕ) (maj : ℕ → Bool) (p by : ℕ) (v : Verb) (past : List Event) → IsLegalHistory c past → Needs c by (part by past) v → Base c i V B maj past → Know c i V past → Settled c i V B maj p past → Settled c i V B maj p (made c past by v ∷ past)
+pub settled_step : (c : Config) (i V B : ℕ) (maj : ℕ → Bool) (p by : ℕ) (v : Verb) (past : List Event) → IsLegalHistory c past → Needs c by (part by past) v → Base c i V B maj past → Know c i V past → Settled c i V B maj p past → Settled c i V B maj p (event_after c past by v ∷ past)
 settled_step c i V B maj p by (Verb.PutMin q b) past h may s kn z = record {
   shows = z.shows;
-  tame = λ r. at_part' (TameAt c i V B maj r p (made c past by (Verb.PutMin q b) ∷ past)) r (made c past by (Verb.PutMin q b)) past
+  tame = λ r. at_part' (TameAt c i V B maj r p (event_after c past by (Verb.PutMin q b) ∷ past)) r (event_after c past by (Verb.PutMin q b)) past
       (λ hx. other_min c i V B maj p by q b r past h may z hx (put_answer (drained by q past)) (q == p) refl)
       (λ hx. tame_min c i V B maj p by q b past h may s kn z (put_answer (drained by q past)) refl (q == p) refl r hx (is_member r q (part r past)) refl);
 }
 settled_step c i V B maj p by (Verb.PutSlot q j n w) past h may s kn z = record {
   shows = shows_put c i V B maj p by q j n w past h may s kn z (put_answer (drained by q past)) refl (q == p) refl;
-  tame = λ r. at_part' (TameAt c i V B maj r p (made c past by (Verb.PutSlot q j n w) ∷ past)) r (made c past by (Verb.PutSlot q j n w)) past
-      (λ hx m o. other_tame c i V B maj r (made c past by (Verb.PutSlot q j n w)) (part r past) past (z.tame r m o))
+  tame = λ r. at_part' (TameAt c i V B maj r p (event_after c past by (Verb.PutSlot q j n w) ∷ past)) r (event_after c past by (Verb.PutSlot q j n w)) past
+      (λ hx m o. other_tame c i V B maj r (event_after c past by (Verb.PutSlot q j n w)) (part r past) past (z.tame r m o))
       (λ hx m o. tame_own c i V B maj r by (Verb.PutSlot q j n w) past h may s (kn r) (z.tame r m o) hx);
 }
 settled_step c i V B maj p by (Verb.Ask q) past h may s kn z = record {
   shows = z.shows;
-  tame = λ r. at_part' (TameAt c i V B maj r p (made c past by (Verb.Ask q) ∷ past)) r (made c past by (Verb.Ask q)) past
-      (λ hx m o. other_tame c i V B maj r (made c past by (Verb.Ask q)) (part r past) past (z.tame r m o))
+  tame = λ r. at_part' (TameAt c i V B maj r p (event_after c past by (Verb.Ask q) ∷ past)) r (event_after c past by (Verb.Ask q)) past
+      (λ hx m o. other_tame c i V B maj r (event_after c past by (Verb.Ask q)) (part r past) past (z.tame r m o))
       (λ hx. ask_settled c i V B maj p by q r past h may s kn z hx (is_first_ask r by (Verb.Ask q)) refl);
 }
 settled_step c i V B maj p by v past h may s kn z = record {
   shows = z.shows;
-  tame = λ r. at_part' (TameAt c i V B maj r p (made c past by v ∷ past)) r (made c past by v) past
-      (λ hx m o. other_tame c i V B maj r (made c past by v) (part r past) past (z.tame r m o))
+  tame = λ r. at_part' (TameAt c i V B maj r p (event_after c past by v ∷ past)) r (event_after c past by v) past
+      (λ hx m o. other_tame c i V B maj r (event_after c past by v) (part r past) past (z.tame r m o))
       (λ hx m o. tame_own c i V B maj r by v past h may s (kn r) (z.tame r m o) hx);
 }
 
@@ -212,7 +212,7 @@ settled_slot c i V B maj p by q j n w past h may s Answer.Done e true hq (inr k)
 settled_slot c i V B maj p by q j n w past h may s Answer.Done e false hq k = s.settled p (rw hq at k)
 settled_slot c i V B maj p by q j n w past h may s a e t hq k = s.settled p k
 
-pub settled_kept : (c : Config) (i V B : ℕ) (maj : ℕ → Bool) (p by : ℕ) (v : Verb) (past : List Event) → IsLegalHistory c past → Needs c by (part by past) v → Late c i V B maj past → Protected p i (made c past by v ∷ past) → Settled c i V B maj p past
+pub settled_kept : (c : Config) (i V B : ℕ) (maj : ℕ → Bool) (p by : ℕ) (v : Verb) (past : List Event) → IsLegalHistory c past → Needs c by (part by past) v → Late c i V B maj past → Protected p i (event_after c past by v ∷ past) → Settled c i V B maj p past
 settled_kept c i V B maj p by (Verb.RaiseFuo q u) past h may s k = settled_raise c i V B maj p by q u past may s (q == p) refl k
 settled_kept c i V B maj p by (Verb.PutSlot q j n w) past h may s k = settled_slot c i V B maj p by q j n w past h may s (put_answer (drained by q past)) refl (q == p) refl k
 settled_kept c i V B maj p by v past h may s k = s.settled p k

@@ -13,7 +13,7 @@ use Rattle.mu_model.specs.Answers.{drained, put_answer}
 use Rattle.mu_model.specs.Histories.{part}
 use Rattle.mu_model.specs.Legal.{IsLegalHistory}
 use Rattle.mu_model.specs.Regions.{region_log, region_min}
-use Rattle.mu_agree.proofs.Legal.{made, legal_induction, legal_onward, legal_older}
+use Rattle.mu_agree.proofs.Legal.{event_after, legal_induction, legal_onward, legal_older}
 use Rattle.mu_agree.proofs.Minimum.{rises_step}
 use Rattle.mu_agree.proofs.Members.{slot_number}
 use Rattle.mu_model.proofs.Basics.{same_some}
@@ -57,7 +57,7 @@ below_slot c p by q i b v past h may s Answer.Done e true hy =
 below_slot c p by q i b v past h may s Answer.Done e false hy = rw hy s
 below_slot c p by q i b v past h may s a e y hy = s
 
-below_step : (c : Config) (p by : ℕ) (v : Verb) (past : List Event) → IsLegalHistory c past → Needs c by (part by past) v → LogBelow p past → LogBelow p (made c past by v ∷ past)
+below_step : (c : Config) (p by : ℕ) (v : Verb) (past : List Event) → IsLegalHistory c past → Needs c by (part by past) v → LogBelow p past → LogBelow p (event_after c past by v ∷ past)
 below_step c p by (Verb.PutSlot q i b v) past h may s = below_slot c p by q i b v past h may s (put_answer (drained by q past)) refl (q == p) refl
 below_step c p by (Verb.PutMin q b) past h may s = λ i y e. rises_step c p by y.0 (Verb.PutMin q b) past h may (s i y e)
 below_step c p by v past h may s = s
@@ -83,7 +83,7 @@ above_slot c p i n by q j b v past h may s Answer.Done e true hy = record {
 above_slot c p i n by q j b v past h may s Answer.Done e false hy = record { least = s.least; slot = rw hy s.slot }
 above_slot c p i n by q j b v past h may s a e y hy = record { least = s.least; slot = s.slot }
 
-above_step : (c : Config) (p i n by : ℕ) (v : Verb) (past : List Event) → IsLegalHistory c past → Needs c by (part by past) v → Above p i n past → Above p i n (made c past by v ∷ past)
+above_step : (c : Config) (p i n by : ℕ) (v : Verb) (past : List Event) → IsLegalHistory c past → Needs c by (part by past) v → Above p i n past → Above p i n (event_after c past by v ∷ past)
 above_step c p i n by (Verb.PutSlot q j b v) past h may s = above_slot c p i n by q j b v past h may s (put_answer (drained by q past)) refl (q == p) refl
 above_step c p i n by (Verb.PutMin q b) past h may s = record { least = rises_step c p by n (Verb.PutMin q b) past h may s.least; slot = s.slot }
 above_step c p i n by v past h may s = record { least = s.least; slot = s.slot }

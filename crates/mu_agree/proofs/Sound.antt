@@ -17,13 +17,13 @@ use Rattle.mu_model.specs.Legal.{IsLegalHistory}
 use Rattle.mu_model.specs.Picks.{is_mark_offer, is_offer, pick}
 use Rattle.mu_model.specs.Placing.{MayPutSlot}
 use Rattle.mu_model.specs.Room.{is_mark_candidate, reserve}
-use Rattle.mu_agree.proofs.Legal.{made, legal_induction}
+use Rattle.mu_agree.proofs.Legal.{event_after, legal_induction}
 use Rattle.mu_agree.proofs.Landings.{has_cases, has_more, has_implied, has_of_part}
-use Rattle.mu_agree.proofs.Landed.{slot_landed, landed}
-use Rattle.mu_agree.proofs.Offers.{slot_value, offered}
-use Rattle.mu_agree.proofs.Choice.{Found, free, taken, Seeing, chosen_somewhere}
+use Rattle.mu_agree.proofs.Landed.{slot_landed, has_landed}
+use Rattle.mu_agree.proofs.Offers.{slot_value, first_offered}
+use Rattle.mu_agree.proofs.Choice.{Found, none_accepted, takes_highest, Seeing, chosen_somewhere}
 use Rattle.mu_agree.proofs.Tame.{chosen_stays}
-use Rattle.mu_agree.proofs.Early.{PutValue, copied, again, fresh, put_value}
+use Rattle.mu_agree.proofs.Early.{PutValue, copies_known, repeats_offer, offers_first, put_value}
 use Rattle.mu_agree.proofs.Phases.{known_chosen}
 
 -- v was put at i, whether it landed or not
@@ -91,14 +91,14 @@ some_fails (suc n) f h = go (f n) refl h (some_fails n f)
     go false e k ih = record { who = n; below = omega arith; fails = e }
 
 -- an offer was put
-offered_tried : (i b v : ℕ) (past : List Event) → offered i b past ≡ Some v → tried i v past ≡ true
+offered_tried : (i b v : ℕ) (past : List Event) → first_offered i b past ≡ Some v → tried i v past ≡ true
 offered_tried i b v [] e = cc
 offered_tried i b v (f ∷ past) e = go f.verb e (offered_tried i b v past)
   where
-    go : (verb : Verb) → earlier_or (slot_value i b verb) (offered i b past) ≡ Some v → (offered i b past ≡ Some v → tried i v past ≡ true) → cond (is_try i v verb) true (tried i v past) ≡ true
-    go (Verb.PutSlot p j n w) e ih = at (j == i) refl (n == b) (offered i b past) refl e
+    go : (verb : Verb) → earlier_or (slot_value i b verb) (first_offered i b past) ≡ Some v → (first_offered i b past ≡ Some v → tried i v past ≡ true) → cond (is_try i v verb) true (tried i v past) ≡ true
+    go (Verb.PutSlot p j n w) e ih = at (j == i) refl (n == b) (first_offered i b past) refl e
       where
-        at : (t : Bool) → (j == i) ≡ t → (u : Bool) (o : Option ℕ) → offered i b past ≡ o → earlier_or (cond (t && u) (Some w) None) o ≡ Some v → cond (t && (w == v)) true (tried i v past) ≡ true
+        at : (t : Bool) → (j == i) ≡ t → (u : Bool) (o : Option ℕ) → first_offered i b past ≡ o → earlier_or (cond (t && u) (Some w) None) o ≡ Some v → cond (t && (w == v)) true (tried i v past) ≡ true
         at true h true None eo e = let k : w ≡ v = cc in rw (eq-eqb w v k) refl
         at true h true (Some z) eo e = more (w == v) (ih (eo ∙ e))
           where
@@ -113,7 +113,7 @@ offered_tried i b v (f ∷ past) e = go f.verb e (offered_tried i b v past)
         at false h u o eo e = ih (eo ∙ e)
     go verb e ih = ih e
 
-pub landed_tried : (p i b v : ℕ) (past : List Event) → landed p i b v past ≡ true → tried i v past ≡ true
+pub landed_tried : (p i b v : ℕ) (past : List Event) → has_landed p i b v past ≡ true → tried i v past ≡ true
 landed_tried p i b v past h = has_implied (λ e. slot_landed p i b v e.verb e.answer) (λ e. is_try i v e.verb) (λ e m. at e.verb e.answer m) past h
   where
     at : (verb : Verb) (a : Answer) → slot_landed p i b v verb a ≡ true → is_try i v verb ≡ true
@@ -154,18 +154,18 @@ put_sound c r p i b v past h s may = go (put_value c r p i b v past h may)
             by_mark f.who y.0 (not-true (marked c f.who (known c r (part r past))) w.0)
 
     first : i ≡ length (known c r (part r past)) → Found c r i b v past → Seeing c r i b v past → Sound c i v past
-    first nx (free e many) see = record {
+    first nx (none_accepted e many) see = record {
       values = known c r (part r past);
       count = sym nx;
       chosen = λ k x m. let y = known_chosen c r k x past h m in (y.b, y.is);
       fits = free_fits (subst (λ o. pick c r (part r past) v o ≡ true) e see.picked);
     }
-    first nx (taken m p e at many) see = s i v (landed_tried p i m v past at)
+    first nx (takes_highest m p e at many) see = s i v (landed_tried p i m v past at)
 
     go : PutValue c r i b v past → Sound c i v past
-    go (copied k) = let x = known_chosen c r i v past h k in s i v (chosen_tried c i v past (x.b, x.is))
-    go (again o f nx j) = s i v (offered_tried i b v past o)
-    go (fresh o f nx fd see) = first nx fd see
+    go (copies_known k) = let x = known_chosen c r i v past h k in s i v (chosen_tried c i v past (x.b, x.is))
+    go (repeats_offer o f nx j) = s i v (offered_tried i b v past o)
+    go (offers_first o f nx fd see) = first nx fd see
 
 sound_put : (c : Config) (by p j n w : ℕ) (past : List Event) → IsLegalHistory c past → Needs c by (part by past) (Verb.PutSlot p j n w) → AllSound c past → (a : Answer) → AllSound c (record { by = by; verb = Verb.PutSlot p j n w; answer = a } ∷ past)
 sound_put c by p j n w past h may s a i v m = elim (has_cases ((j == i) && (w == v)) (tried i v past) m) [
@@ -175,9 +175,9 @@ sound_put c by p j n w past h may s a i v m = elim (has_cases ((j == i) && (w ==
   | inr k ↦ sound_stays c i v (record { by = by; verb = Verb.PutSlot p j n w; answer = a }) past (s i v k)
 ]
 
-sound_step : (c : Config) (by : ℕ) (v : Verb) (past : List Event) → IsLegalHistory c past → Needs c by (part by past) v → AllSound c past → AllSound c (made c past by v ∷ past)
+sound_step : (c : Config) (by : ℕ) (v : Verb) (past : List Event) → IsLegalHistory c past → Needs c by (part by past) v → AllSound c past → AllSound c (event_after c past by v ∷ past)
 sound_step c by (Verb.PutSlot p j n w) past h may s = sound_put c by p j n w past h may s (put_answer (drained by p past))
-sound_step c by v past h may s = λ i x m. sound_stays c i x (made c past by v) past (s i x m)
+sound_step c by v past h may s = λ i x m. sound_stays c i x (event_after c past by v) past (s i x m)
 
 pub all_sound : (c : Config) (past : List Event) → IsLegalHistory c past → AllSound c past
 all_sound c = legal_induction c (AllSound c) (λ i v m. absurd (true≢false (sym m))) (λ past by v h may s. sound_step c by v past h may.may s)

@@ -19,15 +19,15 @@ use Rattle.mu_model.specs.Legal.{IsLegalHistory}
 use Rattle.mu_model.specs.Picks.{entry_of, first_value, last_look, since_last_joining, value_put}
 use Rattle.mu_model.specs.Placing.{MayPutSlot}
 use Rattle.mu_model.specs.Regions.{region_log}
-use Rattle.mu_agree.proofs.Legal.{made}
+use Rattle.mu_agree.proofs.Legal.{event_after}
 use Rattle.mu_agree.proofs.Joins.{joined_late}
 use Rattle.mu_agree.proofs.Counting.{Member, share, count_more}
 use Rattle.mu_agree.proofs.Members.{number_stays}
 use Rattle.mu_agree.proofs.Landings.{look_reply}
-use Rattle.mu_agree.proofs.Landed.{landed, landed_stays, landed_facts, landed_within}
-use Rattle.mu_agree.proofs.Offers.{offered, offer_stays}
-use Rattle.mu_agree.proofs.Choice.{Chosen, not_chosen, free, taken, Seeing, best_none, best_most}
-use Rattle.mu_agree.proofs.Early.{PutValue, copied, again, fresh, put_value, fresh_safe}
+use Rattle.mu_agree.proofs.Landed.{has_landed, landed_stays, landed_facts, landed_within}
+use Rattle.mu_agree.proofs.Offers.{first_offered, offer_stays}
+use Rattle.mu_agree.proofs.Choice.{Chosen, not_chosen, none_accepted, takes_highest, Seeing, best_none, best_most}
+use Rattle.mu_agree.proofs.Early.{PutValue, copies_known, repeats_offer, offers_first, put_value, fresh_safe}
 use Rattle.mu_agree.proofs.Late.{Base}
 use Rattle.mu_model.proofs.Basics.{same_some, none_some}
 
@@ -48,7 +48,7 @@ pub record Below (c : Config) (i V r : ℕ) (J past : List Event) : Type 0 where
   pub m : ℕ
   pub num : proposal_number r J ≡ Some m
   pub less : b < m
-  pub mine : offered i b past ≡ Some V
+  pub mine : first_offered i b past ≡ Some V
   pub chosen : Chosen c i b V past
 
 pub data Tame (c : Config) (i V B : ℕ) (maj : ℕ → Bool) (r : ℕ) (J past : List Event) : Type 0 where
@@ -86,24 +86,24 @@ pub tame_put : (c : Config) (i V B : ℕ) (maj : ℕ → Bool) (r q b w : ℕ) (
     → ((x : ℕ) → slice_get (known c r (part r past)) i ≡ Some x → x ≡ V) → Tame c i V B maj r (part r past) past → MayPutSlot c r (part r past) q i b w → w ≡ V
 tame_put c i V B maj r q b w past h s kn t may = elim (cases_eq w V) [ inl e ↦ e | inr d ↦ absurd (go d (put_value c r q i b w past h may) t) ]
   where
-    lower : (w ≡ V → ⊥) → Below c i V r (part r past) past → ((n : ℕ) → n < b → offered i n past ≡ Some V → Chosen c i n V past → ⊥) → ⊥
+    lower : (w ≡ V → ⊥) → Below c i V r (part r past) past → ((n : ℕ) → n < b → first_offered i n past ≡ Some V → Chosen c i n V past → ⊥) → ⊥
     lower d u f = let e : u.m ≡ b = same_some u.m b (sym u.num ∙ may.numbered) in let l = u.less in f u.b (omega arith) u.mine u.chosen
 
     go : (w ≡ V → ⊥) → PutValue c r i b w past → Tame c i V B maj r (part r past) past → ⊥
-    go d (copied k) t = d (kn w k)
-    go d (again o f nx jn) (knowing l) = omega arith
-    go d (again o f nx jn) (calm k) = true≢false (sym (k.joined w f d) ∙ jn)
-    go d (again o f nx jn) (under u) = lower d u (λ n l o' ch. not_chosen c i n V past (λ p k. o') (s.safe_offers b w n V o d l d) ch)
-    go d (fresh o f nx fd g) (knowing l) = omega arith
-    go d (fresh o f nx fd g) (under u) = lower d u (λ n l o' ch. not_chosen c i n V past (λ p k. o') (fresh_safe c r i b w past fd (λ m p k. (s.own p m w k d, λ n' y q' e. s.safe_offers m w n' y (s.own p m w k d) d q' e)) n V l d) ch)
-    go d (fresh o f nx (free e many) g) (calm k) = let x = shared_look c i V B maj r b w past s g k in none_some (x.m, x.u) (sym (best_none r i c.replicas (part r past) e x.p x.below x.member) ∙ x.look)
-    go d (fresh o f nx (taken m p e at many) g) (calm k) =
+    go d (copies_known k) t = d (kn w k)
+    go d (repeats_offer o f nx jn) (knowing l) = omega arith
+    go d (repeats_offer o f nx jn) (calm k) = true≢false (sym (k.joined w f d) ∙ jn)
+    go d (repeats_offer o f nx jn) (under u) = lower d u (λ n l o' ch. not_chosen c i n V past (λ p k. o') (s.safe_offers b w n V o d l d) ch)
+    go d (offers_first o f nx fd g) (knowing l) = omega arith
+    go d (offers_first o f nx fd g) (under u) = lower d u (λ n l o' ch. not_chosen c i n V past (λ p k. o') (fresh_safe c r i b w past fd (λ m p k. (s.own p m w k d, λ n' y q' e. s.safe_offers m w n' y (s.own p m w k d) d q' e)) n V l d) ch)
+    go d (offers_first o f nx (none_accepted e many) g) (calm k) = let x = shared_look c i V B maj r b w past s g k in none_some (x.m, x.u) (sym (best_none r i c.replicas (part r past) e x.p x.below x.member) ∙ x.look)
+    go d (offers_first o f nx (takes_highest m p e at many) g) (calm k) =
         let x = shared_look c i V B maj r b w past s g k in
         let l = best_most r i c.replicas (part r past) (m, w) e x.p x.below x.member (x.m, x.u) x.look in
         let y = x.late in d (s.above p m w (omega arith) at)
 
 pub chosen_stays : (c : Config) (i b v : ℕ) (e : Event) (past : List Event) → Chosen c i b v past → Chosen c i b v (e ∷ past)
-chosen_stays c i b v e past h = let k = count_more c.replicas (λ p. landed p i b v past) (λ p. landed p i b v (e ∷ past)) (λ p l m. landed_stays p i b v e past m) in omega arith
+chosen_stays c i b v e past h = let k = count_more c.replicas (λ p. has_landed p i b v past) (λ p. has_landed p i b v (e ∷ past)) (λ p l m. landed_stays p i b v e past m) in omega arith
 
 pub known_longer : (c : Config) (r : ℕ) (e : Event) (J : List Event) → length (known c r J) ≤ length (known c r (e ∷ J))
 known_longer c r e J = go (learnt_by c r J (length (known c r J)) e.by e.verb e.answer (e ∷ J))
@@ -138,7 +138,7 @@ min_tame c i V B maj r by q b J past t hx Answer.Done false hk = calm (record { 
 min_tame c i V B maj r by q b J past t hx Answer.Done true hk = same_tame c i V B maj r (record { by = by; verb = Verb.PutMin q b; answer = Answer.Done }) J past (rw hx (λ m k. number_stays b m (proposal_number r J) k)) (λ k. record { looks = rw (hx, hk) k.looks; joined = rw (hx, hk) k.joined }) t
 min_tame c i V B maj r by q b J past t hx a k hk = same_tame c i V B maj r (record { by = by; verb = Verb.PutMin q b; answer = a }) J past (rw hx (λ m k. number_stays b m (proposal_number r J) k)) (λ k. record { looks = k.looks; joined = k.joined }) t
 
-late_look : (c : Config) (i V B p : ℕ) (past : List Event) → IsLegalHistory c past → landed p i B V past ≡ true → (look_reply c.ring (region_log p past) i ≡ Answer.Past) ⊎ LateEntry B (look_reply c.ring (region_log p past) i)
+late_look : (c : Config) (i V B p : ℕ) (past : List Event) → IsLegalHistory c past → has_landed p i B V past ≡ true → (look_reply c.ring (region_log p past) i ≡ Answer.Past) ⊎ LateEntry B (look_reply c.ring (region_log p past) i)
 late_look c i V B p past h m = go (nat_lt (i + c.ring) (length (region_log p past)))
   where
     stands : (o : Option (ℕ × ℕ)) → slice_get (region_log p past) i ≡ o → LateEntry B (shown o)
@@ -154,7 +154,7 @@ late_look c i V B p past h m = go (nat_lt (i + c.ring) (length (region_log p pas
     go true = inl refl
     go false = inr (stands (slice_get (region_log p past) i) refl)
 
-look_calm : (c : Config) (i V B : ℕ) (maj : ℕ → Bool) (r by q j : ℕ) (past : List Event) → IsLegalHistory c past → Base c i V B maj past → (by == r) ≡ true → Calm c i V B maj r (part r past) → Calm c i V B maj r (made c past by (Verb.Look q j) ∷ part r past)
+look_calm : (c : Config) (i V B : ℕ) (maj : ℕ → Bool) (r by q j : ℕ) (past : List Event) → IsLegalHistory c past → Base c i V B maj past → (by == r) ≡ true → Calm c i V B maj r (part r past) → Calm c i V B maj r (event_after c past by (Verb.Look q j) ∷ part r past)
 look_calm c i V B maj r by q j past h s hx k = record { looks = λ p a l m. rw hx (at p a l m (q == p) refl (j == i) refl); joined = k.joined }
   where
     at : (p : ℕ) (a : Answer) → p < c.replicas → maj p ≡ true → (x : Bool) → (q == p) ≡ x → (y : Bool) → (j == i) ≡ y
@@ -201,18 +201,18 @@ slot_tame c i V B maj r by q j n w past h s kn t may hx a = go t (j == i) refl
         ]
           where
             from : PutValue c r i n w past → Tame c i V B maj r (record { by = by; verb = Verb.PutSlot q j n w; answer = a } ∷ part r past) (record { by = by; verb = Verb.PutSlot q j n w; answer = a } ∷ past)
-            from (copied m) = knowing (let l = slice_get_within (known c r (part r past)) i w m in let x = known_longer c r (record { by = by; verb = Verb.PutSlot q j n w; answer = a }) (part r past) in omega arith)
-            from (again o f1 nx jn) = calm (values (Some f) eo (λ x m. sym (same_some w x (sym f1 ∙ eo ∙ m)) ∙ is))
-            from (fresh o f1 nx fd g) = absurd (none_some f (sym f1 ∙ eo))
+            from (copies_known m) = knowing (let l = slice_get_within (known c r (part r past)) i w m in let x = known_longer c r (record { by = by; verb = Verb.PutSlot q j n w; answer = a }) (part r past) in omega arith)
+            from (repeats_offer o f1 nx jn) = calm (values (Some f) eo (λ x m. sym (same_some w x (sym f1 ∙ eo ∙ m)) ∙ is))
+            from (offers_first o f1 nx fd g) = absurd (none_some f (sym f1 ∙ eo))
 
 -- what is tame stays tame after an own step
 pub tame_own : (c : Config) (i V B : ℕ) (maj : ℕ → Bool) (r by : ℕ) (v : Verb) (past : List Event) → IsLegalHistory c past → Needs c by (part by past) v → Base c i V B maj past
-    → ((x : ℕ) → slice_get (known c r (part r past)) i ≡ Some x → x ≡ V) → Tame c i V B maj r (part r past) past → (by == r) ≡ true → Tame c i V B maj r (made c past by v ∷ part r past) (made c past by v ∷ past)
+    → ((x : ℕ) → slice_get (known c r (part r past)) i ≡ Some x → x ≡ V) → Tame c i V B maj r (part r past) past → (by == r) ≡ true → Tame c i V B maj r (event_after c past by v ∷ part r past) (event_after c past by v ∷ past)
 tame_own c i V B maj r by (Verb.Ask q) past h may s kn t hx = ask_tame c i V B maj r by q (part r past) past Answer.Done t (is_first_ask r by (Verb.Ask q)) refl
 tame_own c i V B maj r by (Verb.PutMin q b) past h may s kn t hx = min_tame c i V B maj r by q b (part r past) past t hx (put_answer (drained by q past)) (is_member r q (part r past)) refl
-tame_own c i V B maj r by (Verb.Look q j) past h may s kn t hx = same_tame c i V B maj r (made c past by (Verb.Look q j)) (part r past) past (λ m k. k) (look_calm c i V B maj r by q j past h s hx) t
+tame_own c i V B maj r by (Verb.Look q j) past h may s kn t hx = same_tame c i V B maj r (event_after c past by (Verb.Look q j)) (part r past) past (λ m k. k) (look_calm c i V B maj r by q j past h s hx) t
 tame_own c i V B maj r by (Verb.PutSlot q j n w) past h may s kn t hx = slot_tame c i V B maj r by q j n w past h s kn t (subst (λ z. Needs c z (part z past) (Verb.PutSlot q j n w)) (eqb-true by r hx) may) hx (put_answer (drained by q past))
-tame_own c i V B maj r by v past h may s kn t hx = same_tame c i V B maj r (made c past by v) (part r past) past (λ m k. k) (λ k. record { looks = k.looks; joined = k.joined }) t
+tame_own c i V B maj r by v past h may s kn t hx = same_tame c i V B maj r (event_after c past by v) (part r past) past (λ m k. k) (λ k. record { looks = k.looks; joined = k.joined }) t
 
 -- who has just joined is tame
 pub join_tame : (c : Config) (i V B : ℕ) (maj : ℕ → Bool) (r by q b : ℕ) (J past : List Event) → (by == r) ≡ true → is_member r q J ≡ false

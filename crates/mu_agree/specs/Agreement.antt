@@ -10,7 +10,7 @@ use Rattle.mu_model.specs.Answers.{answer_of}
 use Rattle.mu_model.specs.Chosen.{IsChosen}
 use Rattle.mu_model.specs.Contents.{is_mark}
 use Rattle.mu_model.specs.Entering.{grant_seen}
-use Rattle.mu_model.specs.Histories.{greatest, has, history, newer_or, part}
+use Rattle.mu_model.specs.Histories.{greatest, has, history, newer_or, part, IsPrefixOf}
 use Rattle.mu_model.specs.Knowledge.{fuo_read, known}
 use Rattle.mu_model.specs.Leaderships.{leadership}
 use Rattle.mu_model.specs.Legal.{IsLegal}
@@ -35,16 +35,12 @@ FuoIsChosen =
     → i < region_fuo p (history events) → slice_get (region_log p (history events)) i ≡ Some entry
     → IsChosen c (history events) i entry.1
 
--- one list begins the other
-abbrev pub Begins : List ℕ → List ℕ → Type 0
-Begins xs ys = (rest : List ℕ) × (xs ++ rest ≡ ys)
-
 -- of any two known lists one is a prefix of the other
 abbrev pub KnownAgree : Type 0
 KnownAgree =
     (c : Config) (events : List Event) (r s : ℕ) → IsLegal c events
-    → Begins (known c r (part r (history events))) (known c s (part s (history events)))
-    ⊎ Begins (known c s (part s (history events))) (known c r (part r (history events)))
+    → IsPrefixOf (known c r (part r (history events))) (known c s (part s (history events)))
+    ⊎ IsPrefixOf (known c s (part s (history events))) (known c r (part r (history events)))
 
 -- below the FUO of a region its log holds the chosen value, now and after every legal continuation
 abbrev pub FuoIsKept : Type 0

@@ -15,23 +15,22 @@ use Rattle.mu_model.specs.declared.event.Answer.{Answer}
 use Rattle.mu_model.specs.declared.event.Event.{Event}
 use Rattle.mu_model.specs.declared.event.Verb.{Verb}
 use Rattle.mu_model.specs.Contents.{IsConfig, IsInSession as IsListInSession, client_of, counted, is_batch, number_of, numbers_in, rest_of, row_count, rows_from, rows_of, session}
-use Rattle.mu_model.specs.Histories.{history, part}
+use Rattle.mu_model.specs.Histories.{history, part, IsPrefixOf}
 use Rattle.mu_model.specs.Knowledge.{applied, commits, grown, has_entry, is_accepted_by_all, is_known_decided, known}
 use Rattle.mu_model.proofs.Basics.{same_some}
 use Rattle.mu_model.proofs.Lists.{get_front, get_push_here, get_push_other}
-use Rattle.mu_model.proofs.Parts.{history-part}
+use Rattle.mu_model.proofs.Parts.{history-part, part_is_possible}
 use Rattle.mu_model.proofs.Scans.{session_append}
 use Rattle.mu_agree.proofs.Prefixes.{known_agree, lists_agree}
 use Rattle.mu_agree.proofs.Sessions.{known_in_session_law, known_stands_law}
 use Rattle.mu_agree.proofs.Readings.{known_within}
 use Rattle.mu_known.proofs.Fetched.{batch_there, front_fits}
-use Rattle.mu_known.proofs.Placed.{is_possible}
 use Rattle.mu_model.specs.Room.{reserve}
 use Rattle.std.proofs.lemmas.List.Elements.{All-from_get_or}
 use Rattle.mu_follow.proofs.Kept.{applied_is}
 use Rattle.mu_outcome.specs.declared.outcome.Outcome.{Outcome}
 use Rattle.mu_outcome.specs.Entries.{commands_in, commands_of}
-use Rattle.mu_outcome.specs.Outcomes.{Agrees, IsPrefixOf, IsRun, IsWithinJob, commits_of, events_of, journal_of, log_of, or_empty}
+use Rattle.mu_outcome.specs.Outcomes.{Agrees, IsRun, IsWithinJob, commits_of, events_of, journal_of, log_of, or_empty}
 use Rattle.mu_outcome.specs.Runs.{IsRunOver}
 
 -- what is applied is known
@@ -165,10 +164,7 @@ agrees_over o events good have run = record {
     known_at r i v low at = applied_known o.job.config r i v (part r (history events)) (subst (λ l. slice_get l i ≡ Some v) (log_is r low) at)
 
     prefixes : (r s : ℕ) → r < o.job.config.replicas → s < o.job.config.replicas → IsPrefixOf (log_of o r) (log_of o s) ⊎ IsPrefixOf (log_of o s) (log_of o r)
-    prefixes r s low there = elim (lists_agree (log_of o r) (log_of o s) (λ i v w a b. known_agree o.job.config r s (history events) run.legal i v w (known_at r i v low a) (known_at s i w there b))) [
-      | inl begins ↦ inl (begins.0, sym begins.1)
-      | inr begins ↦ inr (begins.0, sym begins.1)
-    ]
+    prefixes r s low there = lists_agree (log_of o r) (log_of o s) (λ i v w a b. known_agree o.job.config r s (history events) run.legal i v w (known_at r i v low a) (known_at s i w there b))
 
 reserve_few : (t : Bool) (n : ℕ) → n ≤ 7 → cond t n 0 ≤ 7
 reserve_few true n few = few
@@ -191,7 +187,7 @@ within_over o events good have run =
         let same = ap length (sym (ap or_empty at) ∙ is) in
         let mine = part r (history events) in
         let fits = front_fits (λ v. has_entry o.job.config r v mine) (known o.job.config r mine) in
-        let within = known_within o.job.config r mine (is_possible o.job.config r (history events) run.legal) in
+        let within = known_within o.job.config r mine (part_is_possible o.job.config r (history events) run.legal) in
         omega (arith, same, fits, within)
 
 -- the list of a replay is such a list

@@ -23,10 +23,9 @@ use Rattle.mu_model.specs.Parts.{HasParts, IsPossible}
 use Rattle.mu_model.specs.Room.{reserve}
 use Rattle.mu_model.proofs.Basics.{same_some}
 use Rattle.mu_model.proofs.Lists.{get_front, get_push_here}
-use Rattle.mu_model.proofs.Parts.{history-part}
+use Rattle.mu_model.proofs.Parts.{history-part, part_is_possible}
 use Rattle.mu_agree.proofs.Readings.{known_within}
 use Rattle.mu_known.proofs.Fetched.{batch_there, front_fits}
-use Rattle.mu_known.proofs.Placed.{is_possible}
 use Rattle.mu_known.specs.declared.commit.Commit.{Commit}
 use Rattle.mu_known.specs.Commits.{pair_of}
 use Rattle.mu_node.specs.declared.result.NodeResult.{NodeResult}
@@ -226,7 +225,7 @@ logs_within c script events lists legal held r log at =
     let leaves = held.each r (omega (arith, low, count)) in
     let is = ap length (same_some log (applied c r (part_of r events)) (sym at ∙ leaves.log_at)) in
     let fits = front_fits (λ v. has_entry c r v (part_of r events)) (known c r (part_of r events)) in
-    let within = known_within c r (part_of r events) (is_possible c r (history events) legal) in
+    let within = known_within c r (part_of r events) (part_is_possible c r (history events) legal) in
     omega (arith, is, fits, within)
 
 few_of : (job : Job) (v : ℕ) → IsConfig job.config → length (commands_of job v) ≤ 4

@@ -158,7 +158,7 @@ pub struct Coverage {
 
 impl Coverage {
     /// Nothing known of the log of the region `id`. Takes memory for its positions.
-    fn empty(alloc: Global, id: u8, config: &Config) -> Result<Coverage, NoMemory>
+    fn new(alloc: Global, id: u8, config: &Config) -> Result<Coverage, NoMemory>
         requires { row_count config.now ≤ 1500 }
         ensures { IfOk result (λ region. (r : ℕ) → HoldsCoverage config.now r id [] region) }
     {
@@ -244,7 +244,7 @@ impl FilledLogs {
     {
         let mut regions = Vec::with_capacity(alloc, 7)?;
         for id in 0..7u8 {
-            regions.push_reserved(Coverage::empty(alloc, id, config)?);
+            regions.push_reserved(Coverage::new(alloc, id, config)?);
         }
         Ok(FilledLogs { regions })
     }

@@ -18,13 +18,12 @@ use Rattle.mu_model.specs.Regions.{region_head}
 use Rattle.mu_model.specs.Room.{reserve}
 use Rattle.mu_model.specs.Scores.{least_below}
 use Rattle.mu_model.proofs.Basics.{none_some, same_some}
-use Rattle.mu_model.proofs.Scans.{each_all}
+use Rattle.mu_model.proofs.Scans.{each_all, least_below_fits}
 use Rattle.mu_agree.proofs.Possible.{parts_shorten_law}
 use Rattle.mu_agree.proofs.Readings.{parts_reach_law}
 use Rattle.mu_detect.proofs.Least.{least_found, least_next}
 use Rattle.mu_filled.specs.FilledLogs.{IsFilledTo}
 use Rattle.mu_known.proofs.Fetched.{batch_there}
-use Rattle.mu_follow.proofs.Full.{least_fits}
 use Rattle.mu_follow.specs.Due.{IsReplay, ahead_due, filled_known, first_word_of, fuo_due, head_due, look_due, next_due, next_word_of, other_head_due, other_of, own_fuo, raise_due, replay_due, row_read, row_under_way, rows_had, word_due}
 
 -- none below k passes: the least is not below it
@@ -52,7 +51,7 @@ least_below_fails (suc n) test j low small = go (least_below_fails n test j) (le
       | inl less ↦ ih (omega (arith, less, same)) less
       | inr more ↦ (let last : n ≡ j = omega (arith, more, small) in ap test (sym last) ∙ here)
     ])
-    go ih false all t here low = (let fits = least_fits n test in ih low (omega (arith, low, fits)))
+    go ih false all t here low = (let fits = least_below_fits n test in ih low (omega (arith, low, fits)))
 
 -- the least number of one more
 pub least_more : (test : ℕ → Bool) (n : ℕ) → least_below (n + 1) test ≡ (if least_below n test == n then (if test n then n else n + 1) else least_below n test)
@@ -145,7 +144,7 @@ filled_there : (c : Config) (r : ℕ) (mine : List Event) → all_below (filled_
 filled_there c r mine =
     let n = length (known c r mine) in
     let test : ℕ → Bool = λ j. not (is_filled c r r mine j) in
-    let fits = least_fits n test in
+    let fits = least_below_fits n test in
     each_all (filled_known c r mine) (is_filled c r r mine) (λ j low. not_false (is_filled c r r mine j) (least_below_fails n test j low (omega (arith, low, fits))))
 
 -- up to where the log is known to be filled, and known
@@ -219,7 +218,7 @@ meets_raise : (c : Config) (r handed place : ℕ) (mine : List Event) (leading :
 meets_raise c r handed place mine leading good inside few = go (place == 15) (place == 16) (place == 17)
   where
     fuo : Meets c r mine leading (fuo_due c r mine)
-    fuo = (let fits = least_fits (length (known c r mine)) (λ j. not (is_filled c r r mine j)) in
+    fuo = (let fits = least_below_fits (length (known c r mine)) (λ j. not (is_filled c r r mine j)) in
         meets_if c r mine leading (nat_lt (own_fuo r mine) (filled_known c r mine)) (Verb.RaiseFuo r (filled_known c r mine)) (λ is. ((inside, fits, filled_there c r mine), refl)))
 
     head : Meets c r mine leading (head_due r mine handed)

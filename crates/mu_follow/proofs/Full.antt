@@ -1,5 +1,5 @@
 -- Which rows a log holds with one more entry, and from where on it holds them all.
-use Rattle.std.proofs.Common.{◌≡◌, ℕ, zero, suc, ◌+◌, ◌%◌, ◌<◌, ◌≤◌, ◌==◌, Bool, true, false, List, [], ◌∷◌, ◌++◌, refl, sym, ap, ◌∙◌, inl, inr, arith, length, take, append_assoc, append-nil}
+use Rattle.std.proofs.Common.{◌≡◌, ℕ, zero, suc, ◌+◌, ◌%◌, ◌<◌, ◌≤◌, ◌==◌, Bool, true, false, List, [], ◌∷◌, ◌++◌, refl, sym, ap, ◌∙◌, inl, inr, arith, length, take, append-nil}
 use Rattle.std.specs.Prelude.{if◌then◌else◌, ◌||◌}
 use Rattle.std.proofs.lemmas.Bool.{cases_eq, eq-eqb, ne_eqb, true≢false}
 use Rattle.std.proofs.lemmas.List.{length-append, take-append-le, take_all}
@@ -7,7 +7,7 @@ use Rattle.mu_model.specs.declared.config.Config.{Config}
 use Rattle.mu_model.specs.Contents.{holds_all, includes, is_batch, rest_of, row_count, rows_from, rows_in, rows_of}
 use Rattle.mu_model.specs.Histories.{all_below}
 use Rattle.mu_model.specs.Scores.{least_below}
-use Rattle.mu_model.proofs.Scans.{all_at, each_all}
+use Rattle.mu_model.proofs.Scans.{all_at, each_all, rows_in-append}
 use Rattle.mu_follow.specs.Completion.{IsFirstMissing, full_of}
 
 -- what two stretches of rows include
@@ -19,14 +19,10 @@ includes_both j (x ∷ xs) ys = go (x == j) (includes_both j xs ys)
     go true ih = refl
     go false ih = ih
 
-rows_both : (c : Config) (xs ys : List ℕ) → rows_in c (xs ++ ys) ≡ rows_in c xs ++ rows_in c ys
-rows_both c [] ys = refl
-rows_both c (x ∷ xs) ys = ap (λ l. rows_of c x ++ l) (rows_both c xs ys) ∙ sym (append_assoc (rows_of c x) (rows_in c xs) (rows_in c ys))
-
 -- the rows of a log with one more entry
 pub includes_next : (c : Config) (j v : ℕ) (values : List ℕ) → includes j (rows_in c (values ++ v ∷ [])) ≡ (includes j (rows_in c values) || includes j (rows_of c v))
 includes_next c j v values =
-    ap (includes j) (rows_both c values (v ∷ []) ∙ ap (λ l. rows_in c values ++ l) (append-nil (rows_of c v))) ∙ includes_both j (rows_in c values) (rows_of c v)
+    ap (includes j) (rows_in-append c values (v ∷ []) ∙ ap (λ l. rows_in c values ++ l) (append-nil (rows_of c v))) ∙ includes_both j (rows_in c values) (rows_of c v)
 
 -- the rows of a batch with one more
 pub row_next : (n i j : ℕ) (had : Bool) → ((j == i + n) || (had || includes j (rows_from n i))) ≡ (had || includes j (rows_from (n + 1) i))
@@ -54,16 +50,6 @@ row_next n i j had = let one : n + 1 ≡ suc n = omega arith in moved (j == i + 
             → (if t then true else includes j (rows_from (suc n) (i + 1))) ≡ ((if t then true else includes j (rows_from n (i + 1))) || (j == i + suc n))
         go true ih e = refl
         go false ih e = ih ∙ ap (λ t. includes j (rows_from n (i + 1)) || t) e
-
--- no number is below the least one
-pub least_fits : (n : ℕ) (test : ℕ → Bool) → least_below n test ≤ n
-least_fits zero test = omega arith
-least_fits (suc n) test = go (least_below n test == n) (test n) (least_fits n test)
-  where
-    go : (s t : Bool) → least_below n test ≤ n → (if s then (if t then n else n + 1) else least_below n test) ≤ suc n
-    go true true fits = omega arith
-    go true false fits = omega arith
-    go false t fits = omega (arith, fits)
 
 -- tests that are the same below a number
 pub least_same : (n : ℕ) (f g : ℕ → Bool) → ((k : ℕ) → k < n → f k ≡ g k) → least_below n f ≡ least_below n g

@@ -26,8 +26,8 @@ pub applied_begins : (c : Config) (r : ℕ) (e : Event) (mine : List Event) → 
 applied_begins c r e mine =
     let begins = known_stays c r (e ∷ []) mine in
     let test : ℕ → Bool = λ v. has_entry c r v mine in
-    subst (λ values. take (length (applied c r mine)) values ≡ applied c r mine) begins.is
-    (take-append-le (length (applied c r mine)) (known c r mine) begins.rest (front_fits test (known c r mine)) ∙ front_begins test (known c r mine))
+    subst (λ values. take (length (applied c r mine)) values ≡ applied c r mine) (sym begins.1)
+    (take-append-le (length (applied c r mine)) (known c r mine) begins.0 (front_fits test (known c r mine)) ∙ front_begins test (known c r mine))
 
 -- what is applied begins what is known
 pub applied_is : (c : Config) (r : ℕ) (mine : List Event) → take (length (applied c r mine)) (known c r mine) ≡ applied c r mine

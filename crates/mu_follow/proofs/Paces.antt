@@ -1,5 +1,5 @@
 -- How soon a replayer raises its head.
-use Rattle.std.proofs.Common.{◌≡◌, ◌∙◌, ℕ, ◌+◌, ◌%◌, ◌≤◌, ◌⊎◌, inl, inr, Bool, true, false, None, Some, List, [], ◌∷◌, arith, length, refl, sym}
+use Rattle.std.proofs.Common.{◌≡◌, ◌∙◌, ℕ, ◌+◌, ◌%◌, ◌⊎◌, inl, inr, Bool, true, false, None, Some, List, [], ◌∷◌, arith, length, refl, sym}
 use Rattle.std.specs.Prelude.{if◌then◌else◌, min}
 use Rattle.std.specs.declared.option.Option.{Option}
 use Rattle.std.proofs.lemmas.Bool.{lt-ltb, ltb-true, true≢false}
@@ -8,7 +8,6 @@ use Rattle.mu_model.specs.declared.event.Answer.{Answer}
 use Rattle.mu_model.specs.declared.event.Event.{Event}
 use Rattle.mu_model.specs.declared.event.Verb.{Verb}
 use Rattle.mu_model.specs.Bounds.{cycle}
-use Rattle.mu_model.specs.Histories.{max_with}
 use Rattle.mu_model.specs.Knowledge.{applied}
 use Rattle.mu_model.specs.Placing.{fuo_read_or_raised}
 use Rattle.mu_model.specs.Regions.{region_head}
@@ -20,16 +19,12 @@ use Rattle.mu_pace.specs.Watches.{is_head_due, raising_head}
 use Rattle.mu_pace.proofs.Cycles.{closed_moments, steps_give, while_allows}
 use Rattle.mu_follow.specs.Due.{own_fuo}
 use Rattle.mu_follow.specs.Paces.{HeadsRiseInTime}
+use Rattle.mu_model.proofs.Counts.{max_with_grows}
 
 -- the head of a region stays where nobody raises one
 head_stays : (r by : ℕ) (verb : Verb) (answer : Answer) (past : List Event) → is_head_raise_verb verb ≡ false → region_head r (record { by = by; verb = verb; answer = answer } ∷ past) ≡ region_head r past
 head_stays r by (Verb.RaiseHead h) answer past no_raise = absurd (true≢false no_raise)
 head_stays r by verb answer past no_raise = refl
-
--- a greatest number never falls
-grows : (o : Option ℕ) (x : ℕ) → x ≤ max_with o x
-grows None x = omega arith
-grows (Some y) x = omega arith
 
 -- a head that may be raised still may after an event that raises none
 due_stays : (c : Config) (r : ℕ) (past : List Event) (e : Event) → is_head_raise e ≡ false → is_head_due c r past ≡ true → is_head_due c r (e ∷ past) ≡ true
@@ -37,7 +32,7 @@ due_stays c r past e no_raise due =
     let low = ltb-true (region_head r past) (min (length (applied c r past)) (own_fuo r past)) due in
     let same = head_stays r e.by e.verb e.answer past no_raise in
     let more = applied_grows c r past e in
-    let above = grows (fuo_read_or_raised r r e.by e.verb e.answer) (own_fuo r past) in
+    let above = max_with_grows (fuo_read_or_raised r r e.by e.verb e.answer) (own_fuo r past) in
     lt-ltb (region_head r (e ∷ past)) (min (length (applied c r (e ∷ past))) (own_fuo r (e ∷ past))) (omega (arith, low, same, more, above))
 
 -- while the count is open the head may be raised

@@ -52,7 +52,7 @@ fn row_after(held: Option<u16>, event: &Event) -> Option<u16>
 
 impl Progress {
     /// Nothing done.
-    pub fn none() -> Progress
+    pub fn new() -> Progress
         ensures fuo { (r : ℕ) → result.fuo ≡ own_fuo r [] }
         ensures row { result.row ≡ row_under_way [] }
         ensures handed { result.handed ≡ 0 }

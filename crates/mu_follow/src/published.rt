@@ -56,7 +56,7 @@ fn note_read(read: &mut [Option<u64>; 7], r: u8, event: &Event)
 
 impl Published {
     /// Nothing applied, and nothing read.
-    pub fn none() -> Published
+    pub fn new() -> Published
         ensures { (r : ℕ) → HoldsPublished r [] result }
     {
         Published {

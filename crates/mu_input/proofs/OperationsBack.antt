@@ -23,6 +23,7 @@ use Rattle.mu_input.specs.declared.bodies.BodyLine.{BodyLine}
 use Rattle.mu_input.specs.declared.bodies.BodyLine.TheVariants as body
 use Rattle.mu_input.specs.declared.cause.TheConstants.{CLIENT, OPERATION, KEY, VALUE, TOO_MANY}
 use Rattle.mu_input.proofs.SettingsBack.{numbered-spells}
+use Rattle.std.proofs.lemmas.Bool.{and_parts}
 
 -- the key and the texts of an operation are such as a line may have
 abbrev pub IsJudged : Op → Type 0
@@ -32,28 +33,23 @@ IsJudged (Del key) = is_key key ≡ true
 IsJudged (Swap key text) = (is_key key ≡ true) × (is_text text ≡ true)
 IsJudged (Cas key old new) = (is_key key ≡ true) × (is_short_text old ≡ true) × (is_short_text new ≡ true)
 
-both : (a b : Bool) → (a && b) ≡ true → (a ≡ true) × (b ≡ true)
-both true true e = (refl, refl)
-both true false e = cc
-both false b e = cc
-
 visible_above : (byte : ℕ) → is_visible byte ≡ true → SPACE < byte
 visible_above byte visible = grind (arith, nat_tests)
 
 visible_word : (bytes : List ℕ) → list_all is_visible bytes ≡ true → list_all (λ byte. nat_lt SPACE byte) bytes ≡ true
 visible_word [] all = refl
 visible_word (byte ∷ bytes) all =
-    let tests = both (is_visible byte) (list_all is_visible bytes) all in
+    let tests = and_parts (is_visible byte) (list_all is_visible bytes) all in
     let above : SPACE < byte = visible_above byte tests.0 in
     let here : nat_lt SPACE byte ≡ true = grind (arith, nat_tests) in
     ap (λ b. b && list_all (λ byte. nat_lt SPACE byte) bytes) here ∙ visible_word bytes tests.1
 
 -- a key or a text is one word
 one_field : (most : ℕ) (bytes : List ℕ) → is_word most bytes ≡ true → IsOneWord bytes
-one_field most bytes is = written bytes (visible_word bytes (both (nat_le 1 (length bytes) && nat_le (length bytes) most) (list_all is_visible bytes) is).1)
+one_field most bytes is = written bytes (visible_word bytes (and_parts (nat_le 1 (length bytes) && nat_le (length bytes) most) (list_all is_visible bytes) is).1)
 
 one_short : (bytes : List ℕ) → is_short_text bytes ≡ true → IsOneWord bytes
-one_short bytes is = one_field TEXT_BYTES bytes (both (is_text bytes) (nat_le (length bytes) 32) is).0
+one_short bytes is = one_field TEXT_BYTES bytes (and_parts (is_text bytes) (nat_le (length bytes) 32) is).0
 
 -- the words of an operation
 abbrev op_pieces : Op → List (List ℕ)
@@ -178,7 +174,7 @@ operation-judged (name ∷ key ∷ text ∷ []) =
 operation-judged (name ∷ key ∷ first ∷ second ∷ []) = by_test (bytes_eq name (codes "cas"))
   where
     by_test : (b : Bool) → AllJudged (cond b (judged key (is_short_text first && is_short_text second) (Cas key first second)) (Wrong OPERATION))
-    by_test true = judged-more key (is_short_text first && is_short_text second) (Cas key first second) (λ good all. let texts = both (is_short_text first) (is_short_text second) all in (good, texts.0, texts.1))
+    by_test true = judged-more key (is_short_text first && is_short_text second) (Cas key first second) (λ good all. let texts = and_parts (is_short_text first) (is_short_text second) all in (good, texts.0, texts.1))
     by_test false = tt
 operation-judged (name ∷ key ∷ first ∷ second ∷ more ∷ rest) = tt
 

@@ -29,6 +29,7 @@ use Rattle.mu_input.proofs.Fronts.{Gives}
 use Rattle.mu_input.proofs.SettingsBack.{numbered-spells, within-gives}
 use Rattle.mu_input.proofs.KeyOrder.{All-in_key_order, Pairs, Pairs-in_key_order, Pairs-push, in_key_order, in_key_order-twice, length-in_key_order}
 use Rattle.mu_input.proofs.StopsAndPauses.{pauses_of-filter, stops_of-filter}
+use Rattle.std.proofs.lemmas.Bool.{and_parts}
 
 abbrev of_stop : Stop → ℕ
 of_stop stop = stop.replica
@@ -142,15 +143,10 @@ before_it r k (pause ∷ pauses) all =
     (eqb_tells pause.replica r)
     ∙ before_it r k pauses (All-tail (λ (pause : Pause). of_pause pause ≡ r → pause.steps < k) pause pauses all)
 
-both : (a b : Bool) → (a && b) ≡ true → (a ≡ true) × (b ≡ true)
-both true true e = (refl, refl)
-both true false e = cc
-both false b e = cc
-
 paused_before : (r k : ℕ) (pauses : List Pause) → pauses_before r k pauses ≡ true → All (λ pause. of_pause pause ≡ r → pause.steps < k) pauses
 paused_before r k [] e = All-nil (λ (pause : Pause). of_pause pause ≡ r → pause.steps < k)
 paused_before r k (pause ∷ pauses) e =
-    let tests = both (not (pause.replica == r) || nat_lt pause.steps k) (pauses_before r k pauses) e in
+    let tests = and_parts (not (pause.replica == r) || nat_lt pause.steps k) (pauses_before r k pauses) e in
     All-cons (λ (pause : Pause). of_pause pause ≡ r → pause.steps < k) pause pauses
     (λ same. let mine : (pause.replica == r) ≡ true = (Decides-eqb pause.replica r).1 same in
     let less : nat_lt pause.steps k ≡ true = sym (ap (λ b. not b || nat_lt pause.steps k) mine) ∙ tests.0 in

@@ -19,6 +19,7 @@ use Rattle.mu_input.specs.declared.TheConstants.{MOST_REPLICAS, LEAST_RING, MOST
 use Rattle.mu_input.specs.declared.cause.TheConstants.{HEAD, REPLICAS, RING, BUDGET, BATCH}
 use Rattle.mu_input.specs.declared.heading.Settings.{Settings}
 use Rattle.mu_input.proofs.Fronts.{Gives, followed_by, gives_followed}
+use Rattle.std.proofs.lemmas.Bool.{and_parts}
 
 -- a name and a number
 pub numbered-spells : (name : List ℕ) (n : ℕ) → IsOneWord name → n < 2 ^ 64 → Spells (name ++ SPACE ∷ decimal n) (name ∷ decimal n ∷ [])
@@ -94,11 +95,6 @@ first_lines-one settings limits =
     last true = All-cons IsOneLine (codes "batch " ++ decimal settings.width) [] (numbered-spells (codes "batch") settings.width (written (codes "batch") refl) (omega (arith, limits.width_most))).one_line (All-nil IsOneLine)
     last false = All-nil IsOneLine
 
-both : (a b : Bool) → (a && b) ≡ true → (a ≡ true) × (b ≡ true)
-both true true e = (refl, refl)
-both true false e = cc
-both false b e = cc
-
 pub within-gives : (low high : ℕ) (said : Option ℕ) (n : ℕ) → within low high said ≡ Some n → (low ≤ n) × (n ≤ high)
 within-gives low high None n e = cc
 within-gives low high (Some m) n e = by_test (nat_le low m && nat_le m high) refl e
@@ -106,7 +102,7 @@ within-gives low high (Some m) n e = by_test (nat_le low m && nat_le m high) ref
     by_test : (b : Bool) → (nat_le low m && nat_le m high) ≡ b → cond b (Some m) None ≡ Some n → (low ≤ n) × (n ≤ high)
     by_test true is e =
         let same : m ≡ n = cc in
-        let tests = both (nat_le low m) (nat_le m high) is in
+        let tests = and_parts (nat_le low m) (nat_le m high) is in
         let first : low ≤ m = grind (arith, nat_tests) in
         let second : m ≤ high = grind (arith, nat_tests) in
         (omega (arith, same, first), omega (arith, same, second))

@@ -1,5 +1,5 @@
 -- What a trace is printed as is read back as its job and its events.
-use Rattle.std.proofs.Common.{◌≡◌, ℕ, ◌+◌, ◌≤◌, nat_lt, Bool, true, false, cond, ◌||◌, List, [], ◌∷◌, ◌++◌, length, map, codes, refl, sym, ap, subst, ◌∙◌, arith, append_assoc, append-nil}
+use Rattle.std.proofs.Common.{◌≡◌, ℕ, ◌+◌, ◌≤◌, nat_lt, Bool, true, false, cond, List, [], ◌∷◌, ◌++◌, length, map, codes, refl, sym, ap, subst, ◌∙◌, arith, append_assoc, append-nil}
 use Rattle.std.specs.List.{All}
 use Rattle.std.specs.Option.{option_map_or}
 use Rattle.std.proofs.lemmas.Bool.Decides.{nat_tests}
@@ -29,6 +29,7 @@ use Rattle.mu_input.proofs.Fronts.{Gives, fits_whole, followed_by, gives_followe
 use Rattle.mu_input.proofs.OperationsBack.{end-back as body_end-back, script-back as body_script-back}
 use Rattle.mu_input.proofs.ScriptBack.{IsScripted, pauses-one, script-back, script_at-gives, stops-one}
 use Rattle.mu_input.proofs.SettingsBack.{first_lines, first_lines-one, settings_at-back, settings_at-gives}
+use Rattle.std.proofs.lemmas.Bool.{or_parts}
 
 -- a job as its bytes spell it: of settings within their limits, of commands and of a script
 record IsJob (given : Job) : Type 0 where
@@ -60,14 +61,9 @@ no_stops : {A : Type 0} (xs : List A) → nat_lt 0 (length xs) ≡ false → xs 
 no_stops [] e = refl
 no_stops (x ∷ xs) e = let few : length (x ∷ xs) ≤ 0 = grind (arith, nat_tests) in absurd (omega (arith, few))
 
-neither : (a b : Bool) → (a || b) ≡ false → (a ≡ false) × (b ≡ false)
-neither false false e = (refl, refl)
-neither false true e = cc
-neither true b e = cc
-
 nothing : (script : Script) → has_lines script ≡ false → (let made : Script = record { stops = []; pauses = [] } in made) ≡ script
 nothing script none =
-    let tests = neither (nat_lt 0 (length script.stops)) (nat_lt 0 (length script.pauses)) none in
+    let tests = or_parts (nat_lt 0 (length script.stops)) (nat_lt 0 (length script.pauses)) none in
     ap (λ stops. let made : Script = record { stops = stops; pauses = [] } in made) (sym (no_stops script.stops tests.0))
     ∙ ap (λ pauses. let made : Script = record { stops = script.stops; pauses = pauses } in made) (sym (no_stops script.pauses tests.1))
 

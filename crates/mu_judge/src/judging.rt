@@ -8,7 +8,7 @@ ghost use Rattle.mu_judge.specs.Traces.{HasFault, JudgesAll, JudgesOne, JudgesPa
 
 use crate::cutting::cut;
 use mu_io::{ReadEnd, Sink, Source, WriteFault, read_all};
-use mu_judging::judged;
+use mu_judging::judge;
 use mu_outcome::Verdict;
 use mu_report::{Said, print};
 use std::alloc::Global;
@@ -131,7 +131,7 @@ fn judge_trace<K: Sink>(alloc: Global, bytes: &[u8], sink: &mut K) -> Result<boo
     ensures same_faults { OnOk result (K.faults sink.new ≡ K.faults sink.old) }
     ensures fault { OnErr result (Rose (K.faults sink.old) (K.faults sink.new)) }
 {
-    let said = judged(alloc, bytes);
+    let said = judge(alloc, bytes);
     print_verdict(sink, &said)
 }
 

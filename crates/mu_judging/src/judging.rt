@@ -12,7 +12,7 @@ use std::alloc::Global;
 /// What there is to say of the bytes of a trace: `Refused` exactly where they leave the grammar,
 /// with the first line that leaves it and the cause, and else `Judged`. `NoMemory` for want of
 /// memory. Takes the memory of the trace and of the states that its events lead to.
-pub fn judged(alloc: Global, bytes: &[u8]) -> Said
+pub fn judge(alloc: Global, bytes: &[u8]) -> Said
     requires { length bytes.now ≤ TRACE_LIMIT }
     ensures says { SaysOf bytes.now result }
     ensures short { IsShort result }

@@ -3,4 +3,4 @@
 
 mod judging;
 
-pub use judging::judged;
+pub use judging::judge;

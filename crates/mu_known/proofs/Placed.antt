@@ -5,8 +5,6 @@ use Rattle.mu_model.specs.declared.event.Event.{Event}
 use Rattle.mu_model.specs.declared.event.Verb.{Verb}
 use Rattle.mu_model.specs.Allowed.{Needs}
 use Rattle.mu_model.specs.Contents.{IsConfig}
-use Rattle.mu_model.specs.Histories.{part}
-use Rattle.mu_model.specs.Legal.{IsLegalHistory}
 use Rattle.mu_model.specs.Parts.{IsPossible}
 use Rattle.mu_agree.proofs.Possible.{parts_shorten_law}
 use Rattle.mu_known.specs.HeldRows.{IsOfRows}
@@ -29,7 +27,3 @@ of_rows c r mine verb few needs = tt
 -- the row and the word that the last event of a possible part names are there
 pub event_of_rows : (c : Config) (r : ℕ) (mine : List Event) (e : Event) → IsConfig c → IsPossible c r (e ∷ mine) → IsOfRows c e.verb
 event_of_rows c r mine e good possible = of_rows c r mine e.verb good.replicas.1 (parts_shorten_law c r mine e possible).allowed.may
-
--- the part of a replica is a possible one
-pub is_possible : (c : Config) (r : ℕ) (past : List Event) → IsLegalHistory c past → IsPossible c r (part r past)
-is_possible c r past legal = record { past = past; legal = legal; is = refl }

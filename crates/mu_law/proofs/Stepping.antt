@@ -1,36 +1,20 @@
 -- What the first events of a legal list come to, one event more at a time.
-use Rattle.std.proofs.Common.{◌≡◌, ◌≢◌, ℕ, suc, ◌<◌, ◌≤◌, ◌^◌, List, [], ◌∷◌, ◌==◌, false, length, take, drop, get_or, refl, sym, arith, subst}
+use Rattle.std.proofs.Common.{◌≡◌, ◌≢◌, ℕ, suc, ◌<◌, ◌≤◌, ◌^◌, List, [], ◌∷◌, ◌==◌, false, length, refl, sym, arith, subst}
 use Rattle.std.proofs.lemmas.Bool.{ne_eqb}
 use Rattle.mu_model.specs.declared.config.Config.{Config}
 use Rattle.mu_model.specs.declared.event.Event.{Event}
 use Rattle.mu_model.specs.Contents.{IsConfig}
-use Rattle.mu_model.specs.Histories.{history, part}
-use Rattle.mu_model.specs.Legal.{IsLegal, IsLegalHistory}
+use Rattle.mu_model.specs.Histories.{part}
+use Rattle.mu_model.specs.Legal.{IsLegalHistory}
 use Rattle.mu_model.specs.Parts.{IsPossible}
-use Rattle.mu_model.proofs.Basics.{same_number}
 use Rattle.mu_model.proofs.Budgets.{short_history}
 use Rattle.mu_parts.specs.Parts.{StandsForReplica}
 use Rattle.mu_parts.specs.declared.replica.Replica.{Replica}
-use Rattle.mu_agree.proofs.Legal.{legal_older}
-use Rattle.mu_outcome.proofs.Places.{history_at, read_there}
-
--- the event at an index of a legal list may come after those before it
-pub legal_there : (c : Config) (events : List Event) (i : ℕ) (d : Event) → IsLegal c events → i < length events → IsLegalHistory c (get_or events i d ∷ history (take i events))
-legal_there c events i d legal low =
-    legal_older c (history (drop (suc i) events)) (get_or events i d ∷ history (take i events))
-    (subst (λ l. IsLegalHistory c l) (history_at events i (get_or events i d) (read_there events i d low)) legal)
+use Rattle.mu_model.proofs.Parts.{part_of_maker, possible_for_maker}
 
 -- a legal history is short
 pub legal_is_short : (c : Config) (past : List Event) → IsConfig c → IsLegalHistory c past → length past < 2 ^ 20
 legal_is_short c past is legal = let most = short_history c past legal is.replicas.1 is.budget.1 in omega (arith, most)
-
--- the part of the replica that made the newest event
-pub part_of_maker : (e : Event) (past : List Event) → part e.by (e ∷ past) ≡ e ∷ part e.by past
-part_of_maker e past = rw (same_number e.by) refl
-
--- which is possible in a legal history
-pub possible_for_maker : (c : Config) (e : Event) (past : List Event) → IsLegalHistory c (e ∷ past) → IsPossible c e.by (e ∷ part e.by past)
-possible_for_maker c e past legal = record { past = e ∷ past; legal = legal; is = part_of_maker e past }
 
 -- a replica that isn't there makes nothing
 pub nothing_made : (c : Config) (r : ℕ) (past : List Event) → IsLegalHistory c past → c.replicas ≤ r → part r past ≡ []

@@ -1,7 +1,7 @@
 -- What the laws of agreement say of one list of events, in true order.
 use Rattle.std.specs.Prelude.{List, Some, false, length, true, ℕ, ◌%◌, ◌++◌, ◌+◌, ◌/◌, ◌<◌, ◌∷◌, ◌≡◌, ◌≤◌, ◌⊎◌}
 use Rattle.std.specs.List.{slice_get}
-use Rattle.mu_agree.specs.Agreement.{Begins, IsMarked}
+use Rattle.mu_agree.specs.Agreement.{IsMarked}
 use Rattle.mu_agree.specs.Laws.{is_landing}
 use Rattle.mu_model.specs.declared.config.Config.{Config}
 use Rattle.mu_model.specs.declared.event.Answer.{Answer}
@@ -10,7 +10,7 @@ use Rattle.mu_model.specs.declared.event.Verb.{Verb}
 use Rattle.mu_model.specs.Answers.{answer_of}
 use Rattle.mu_model.specs.Chosen.{IsChosen}
 use Rattle.mu_model.specs.Contents.{StandsForEntry, config_word, is_batch, is_mark, rest_of}
-use Rattle.mu_model.specs.Histories.{has, history, part, since}
+use Rattle.mu_model.specs.Histories.{has, history, part, since, IsPrefixOf}
 use Rattle.mu_model.specs.Knowledge.{known, wrote_batch}
 use Rattle.mu_model.specs.Leaderships.{leaderships, proposal_number}
 use Rattle.mu_model.specs.Legal.{IsLegal}
@@ -35,8 +35,8 @@ AreMarkedOnce c values =
 abbrev pub KnownListsAgree : Config → List Event → Type 0
 KnownListsAgree c events =
     (r s : ℕ)
-    → Begins (known c r (part r (history events))) (known c s (part s (history events)))
-    ⊎ Begins (known c s (part s (history events))) (known c r (part r (history events)))
+    → IsPrefixOf (known c r (part r (history events))) (known c s (part s (history events)))
+    ⊎ IsPrefixOf (known c s (part s (history events))) (known c r (part r (history events)))
 
 -- r knows v at i, and s knows w there
 pub record BothKnow (c : Config) (events : List Event) (r s i v w : ℕ) : Type 0 where

@@ -15,10 +15,10 @@ use Rattle.mu_model.specs.Room.{reserve}
 use Rattle.mu_model.specs.Knowledge.{fills, greatest_fuo_read, grown, is_accepted_by_all, is_filled, is_known_decided, is_value, known}
 use Rattle.mu_model.specs.Leaderships.{is_member, leadership}
 use Rattle.mu_model.specs.Picks.{is_past}
-use Rattle.mu_model.specs.Placing.{is_caught_up_at, is_known_put, is_within_ring, looked_before_entering}
+use Rattle.mu_model.specs.Placing.{is_caught_up_at, is_known_put, is_within_ring, looked_before_entering, has_looked_since}
 use Rattle.mu_model.proofs.Basics.{event_by, or_true, same_number, true_or}
 use Rattle.mu_lead.specs.declared.place.Then.{Then}
-use Rattle.mu_lead.specs.Leading.{AtEnterBehind, AtPutBehind, AtRaiseBehind, AtReadFuo, AtWiden, Behind, Brought, HasMost, HaveAtMost, HaveBelow, HaveFew, IsDone, IsLeft, IsMember, IsRaised, Leads, Level, Near, RaisedBelow, end_of, looked_at}
+use Rattle.mu_lead.specs.Leading.{AtEnterBehind, AtPutBehind, AtRaiseBehind, AtReadFuo, AtWiden, Behind, Brought, HasMost, HaveAtMost, HaveBelow, HaveFew, IsDone, IsLeft, IsMember, IsRaised, Leads, Level, Near, RaisedBelow, end_of}
 use Rattle.mu_lead.specs.Sets.{IsFirst}
 use Rattle.mu_lead.proofs.Keeping.{leads_kept, raise_event, raised_other}
 use Rattle.mu_lead.proofs.Tables.{brought_kept, caught_up_with}
@@ -198,7 +198,7 @@ near_looked c r b p answer mine up reach on at =
     }
 
 -- a look that found no later entry
-pub looked_now : (c : Config) (r p i : ℕ) (answer : Answer) (mine : List Event) → is_member r p mine ≡ true → is_past answer ≡ false → looked_at c r p i (look_event r p i answer ∷ mine) ≡ true
+pub looked_now : (c : Config) (r p i : ℕ) (answer : Answer) (mine : List Event) → is_member r p mine ≡ true → is_past answer ≡ false → has_looked_since c r p i (look_event r p i answer ∷ mine) ≡ true
 looked_now c r p i answer mine member not_past = rw (member, same_number r, same_number p, same_number i, not_past) refl
 
 pub enters_behind : (c : Config) (r b p : ℕ) (answer : Answer) (mine : List Event) (up : List ℕ) (reach : List (Option ℕ)) (on : Then) → Near c r b mine up reach p on → is_past answer ≡ false
@@ -222,7 +222,7 @@ leads_entered c r b p s mine l = record {
   unput = l.unput;
 }
 
-pub looked_then : (c : Config) (r p s i : ℕ) (mine : List Event) → is_member r p mine ≡ true → looked_at c r p i mine ≡ true → looked_before_entering c r p i (enter_event r p s ∷ mine) ≡ true
+pub looked_then : (c : Config) (r p s i : ℕ) (mine : List Event) → is_member r p mine ≡ true → has_looked_since c r p i mine ≡ true → looked_before_entering c r p i (enter_event r p s ∷ mine) ≡ true
 looked_then c r p s i mine member looked = rw (member, same_number r, same_number p) looked
 
 pub puts_behind : (c : Config) (r b p : ℕ) (mine : List Event) (up : List ℕ) (reach : List (Option ℕ)) (on : Then) → AtEnterBehind c r b mine up reach p on → AtPutBehind c r b (enter_event r p (get_or up p 0 % c.ring) ∷ mine) up reach p on

@@ -17,7 +17,7 @@ use Rattle.mu_lead.specs.Notes.{note_of_commit, value_committed}
 use Rattle.mu_lead.specs.Offering.{LooksEmpty, LooksShow, ShowsEntry, is_entry_look, is_full_look}
 use Rattle.mu_lead.specs.Saying.{Commits, SaysCommit}
 use Rattle.mu_lead.specs.Standing.{known_told}
-use Rattle.mu_lead.proofs.NoteKinds.{apart}
+use Rattle.mu_lead.proofs.NoteKinds.{differs_by_test}
 use Rattle.mu_lead.proofs.Rows.{grows_not, same_last}
 
 abbrev pub is_committed : Note → Bool
@@ -60,8 +60,8 @@ not_empty c r i mine s none = true≢false (sym (has_more (λ e. is_entry_look (
 pub commit_none : (c : Config) (r : ℕ) (mine : List Event) (verb : Verb) (answer : Answer) (values : List ℕ) (note : Note) → is_committed note ≡ false → is_adopted note ≡ false
     → known c r (event_by r verb answer ∷ mine) ≡ grown values (value_committed note) → values ≡ known_told c r mine r verb answer → SaysCommit c r mine verb answer note
 commit_none c r mine verb answer values note committed adopted tells told = record {
-  committed = λ i v. ((λ is. absurd (apart is_committed note (Note.Committed i v) committed refl is)), (λ row. absurd (nothing i v row.0)));
-  adopted = λ i v. ((λ is. absurd (apart is_adopted note (Note.Adopted i v) adopted refl is)), (λ row. absurd (nothing i v row.0)));
+  committed = λ i v. ((λ is. absurd (differs_by_test is_committed note (Note.Committed i v) committed refl is)), (λ row. absurd (nothing i v row.0)));
+  adopted = λ i v. ((λ is. absurd (differs_by_test is_adopted note (Note.Adopted i v) adopted refl is)), (λ row. absurd (nothing i v row.0)));
 }
   where
     nothing : (i v : ℕ) → Commits c r mine verb answer i v → ⊥
@@ -96,7 +96,7 @@ commit_says c r p b mine answer values offer note shows (inr is) tells same = go
         let grew = grew_by (Note.Adopted end offer.value) now refl in
         record {
           committed = λ i v. (
-            (λ same. absurd (apart is_committed note (Note.Committed i v) (ap is_committed now) refl same)),
+            (λ same. absurd (differs_by_test is_committed note (Note.Committed i v) (ap is_committed now) refl same)),
             (λ row. absurd (not_empty c r end mine shows (subst (LooksEmpty c r mine) row.0.position row.1))),
           );
           adopted = λ i v. (
@@ -112,7 +112,7 @@ commit_says c r p b mine answer values offer note shows (inr is) tells same = go
             (λ row. now ∙ ap (λ n. Note.Committed n offer.value) (sym row.0.position) ∙ ap (Note.Committed i) (same_last (known c r mine) offer.value v (sym grew ∙ row.0.grew))),
           );
           adopted = λ i v. (
-            (λ same. absurd (apart is_adopted note (Note.Adopted i v) (ap is_adopted now) refl same)),
+            (λ same. absurd (differs_by_test is_adopted note (Note.Adopted i v) (ap is_adopted now) refl same)),
             (λ row. absurd (not_empty c r end mine (subst (ShowsEntry c r mine) row.0.position row.1) shows)),
           );
         }

@@ -32,7 +32,7 @@ use Rattle.mu_lead.specs.Losses.{LosesEntering, LosesReading, SaysLost, is_unlik
 use Rattle.mu_lead.specs.Saying.{NotesAt, NotesDue, note_of_fence, value_seen}
 use Rattle.mu_lead.specs.Standing.{HasHeeded, HoldsAt, StandsFor, known_told, verb_at, verb_of}
 use Rattle.mu_lead.proofs.Replies.{enters_or, puts_min_or, sees_fence, tells_head, tells_min}
-use Rattle.mu_lead.proofs.NoteKinds.{apart, head_quiet, join_quiet, learning_quiet, look_quiet, min_quiet, put_quiet, round_quiet}
+use Rattle.mu_lead.proofs.NoteKinds.{differs_by_test, head_quiet, join_quiet, learning_quiet, look_quiet, min_quiet, put_quiet, round_quiet}
 use Rattle.mu_lead.proofs.Rows.{min_small}
 
 abbrev pub is_lost : Note → Bool
@@ -72,22 +72,22 @@ same_loss f g is = cc
 
 -- no other verb loses a region
 loses_none : (r : ℕ) (mine : List Event) (place : Place) (verb : Verb) (answer : Answer) (note : Note) → is_lost note ≡ false → is_enter verb ≡ false → is_fence verb ≡ false → SaysLost r mine place verb answer note
-loses_none r mine place verb answer note out enter read p f = ((λ is. absurd (apart is_lost note (Note.Aborted (AbortCause.Lost p f)) out refl is)), (λ loses. absurd (go loses)))
+loses_none r mine place verb answer note out enter read p f = ((λ is. absurd (differs_by_test is_lost note (Note.Aborted (AbortCause.Lost p f)) out refl is)), (λ loses. absurd (go loses)))
   where
     go : LosesEntering r mine verb answer p f ⊎ LosesReading r mine place verb answer p f → ⊥
-    go (inl e) = apart is_enter verb (Verb.Enter p e.target) enter refl e.entered
-    go (inr l) = apart is_fence verb (Verb.Fence p) read refl l.read
+    go (inl e) = differs_by_test is_enter verb (Verb.Enter p e.target) enter refl e.entered
+    go (inr l) = differs_by_test is_fence verb (Verb.Fence p) read refl l.read
 
 -- the fence of a region that is no member loses nothing
 fence_quiet : (r q : ℕ) (mine : List Event) (place : Place) (answer : Answer) (note : Note) → is_lost note ≡ false → is_evidence place ≡ false → is_member r q mine ≡ false → SaysLost r mine place (Verb.Fence q) answer note
-fence_quiet r q mine place answer note out evidence stranger p f = ((λ is. absurd (apart is_lost note (Note.Aborted (AbortCause.Lost p f)) out refl is)), (λ loses. absurd (go loses)))
+fence_quiet r q mine place answer note out evidence stranger p f = ((λ is. absurd (differs_by_test is_lost note (Note.Aborted (AbortCause.Lost p f)) out refl is)), (λ loses. absurd (go loses)))
   where
     why : (Verb.Fence q ≡ Verb.Fence p) → ((place ≡ Place.Evidence p) ⊎ (is_member r p mine ≡ true)) → ⊥
-    why read (inl at) = apart is_evidence place (Place.Evidence p) evidence refl at
+    why read (inl at) = differs_by_test is_evidence place (Place.Evidence p) evidence refl at
     why read (inr member) = true≢false (sym member ∙ ap (λ k. is_member r k mine) (sym (same_read q p read)) ∙ stranger)
 
     go : LosesEntering r mine (Verb.Fence q) answer p f ⊎ LosesReading r mine place (Verb.Fence q) answer p f → ⊥
-    go (inl e) = apart is_enter (Verb.Fence q) (Verb.Enter p e.target) refl refl e.entered
+    go (inl e) = differs_by_test is_enter (Verb.Fence q) (Verb.Enter p e.target) refl refl e.entered
     go (inr l) = why l.read l.why
 
 -- an `Enter` is lost by a fence that is closing or has another grant than the noted one
@@ -108,7 +108,7 @@ lost_unlike c r p t g mine possible =
 -- an `Enter`
 enter_says : (c : Config) (r q : ℕ) (t : Target) (mine : List Event) (place : Place) (answer : Answer) (note : Note) → IsPossible c r (event_by r (Verb.Enter q t) answer ∷ mine) → (answer ≡ Answer.Entered → note ≡ Note.Working) × ((f : Fence) → answer ≡ Answer.Lost f → note ≡ Note.Aborted (AbortCause.Lost q f)) → SaysLost r mine place (Verb.Enter q t) answer note
 enter_says c r q t mine place answer note possible notes p f = elim (enters_or c r q t answer mine possible) [
-  | inl entered ↦ ((λ is. absurd (apart is_lost note (Note.Aborted (AbortCause.Lost p f)) (ap is_lost (notes.0 entered)) refl is)), (λ loses. absurd (none entered loses)))
+  | inl entered ↦ ((λ is. absurd (differs_by_test is_lost note (Note.Aborted (AbortCause.Lost p f)) (ap is_lost (notes.0 entered)) refl is)), (λ loses. absurd (none entered loses)))
   | inr lost ↦ (
     (λ is. let s = same_lost q p lost.0 f (sym (notes.1 lost.0 lost.1) ∙ is) in inl (record {
       target = t;
@@ -121,16 +121,16 @@ enter_says c r q t mine place answer note possible notes p f = elim (enters_or c
 ]
   where
     none : answer ≡ Answer.Entered → LosesEntering r mine (Verb.Enter q t) answer p f ⊎ LosesReading r mine place (Verb.Enter q t) answer p f → ⊥
-    none entered (inl e) = apart is_loss answer (Answer.Lost f) (ap is_loss entered) refl e.lost
-    none entered (inr l) = apart is_fence (Verb.Enter q t) (Verb.Fence p) refl refl l.read
+    none entered (inl e) = differs_by_test is_loss answer (Answer.Lost f) (ap is_loss entered) refl e.lost
+    none entered (inr l) = differs_by_test is_fence (Verb.Enter q t) (Verb.Fence p) refl refl l.read
 
     so : (g : Fence) → answer ≡ Answer.Lost g → LosesEntering r mine (Verb.Enter q t) answer p f ⊎ LosesReading r mine place (Verb.Enter q t) answer p f → Note.Aborted (AbortCause.Lost q g) ≡ Note.Aborted (AbortCause.Lost p f)
     so g lost (inl e) = ap (λ k. Note.Aborted (AbortCause.Lost k g)) (same_entered q p t e.target e.entered) ∙ ap (λ h. Note.Aborted (AbortCause.Lost p h)) (same_loss g f (sym lost ∙ e.lost))
-    so g lost (inr l) = absurd (apart is_fence (Verb.Enter q t) (Verb.Fence p) refl refl l.read)
+    so g lost (inr l) = absurd (differs_by_test is_fence (Verb.Enter q t) (Verb.Fence p) refl refl l.read)
 
 -- a fence that is read where it is noted as lost
 read_so : (r q p : ℕ) (g f : Fence) (mine : List Event) (place : Place) (answer : Answer) → answer ≡ Answer.Seen g → LosesEntering r mine (Verb.Fence q) answer p f ⊎ LosesReading r mine place (Verb.Fence q) answer p f → Note.Aborted (AbortCause.Lost q g) ≡ Note.Aborted (AbortCause.Lost p f)
-read_so r q p g f mine place answer seen (inl e) = absurd (apart is_enter (Verb.Fence q) (Verb.Enter p e.target) refl refl e.entered)
+read_so r q p g f mine place answer seen (inl e) = absurd (differs_by_test is_enter (Verb.Fence q) (Verb.Enter p e.target) refl refl e.entered)
 read_so r q p g f mine place answer seen (inr l) = ap (λ k. Note.Aborted (AbortCause.Lost k g)) (same_read q p l.read) ∙ ap (λ h. Note.Aborted (AbortCause.Lost p h)) (same_seen g f (sym seen ∙ l.seen))
 
 -- after a put that missed the fence is closing or has another grant than the noted one
@@ -167,7 +167,7 @@ behind_says r q g mine on answer note seen member h goes_on notes p f = go (is_u
         or_none false = refl
 
     why : is_unlike r q mine g ≡ false → LosesEntering r mine (Verb.Fence q) answer p f ⊎ LosesReading r mine (Place.FenceBehind q on) (Verb.Fence q) answer p f → ⊥
-    why like (inl e) = apart is_enter (Verb.Fence q) (Verb.Enter p e.target) refl refl e.entered
+    why like (inl e) = differs_by_test is_enter (Verb.Fence q) (Verb.Enter p e.target) refl refl e.entered
     why like (inr l) = true≢false (sym l.unlike ∙ ap (λ k. is_unlike r k mine f) (sym (same_read q p l.read)) ∙ ap (is_unlike r q mine) (sym (same_seen g f (sym seen ∙ l.seen))) ∙ like)
 
     go : (t : Bool) → is_unlike r q mine g ≡ t → (note ≡ Note.Aborted (AbortCause.Lost p f)) ↔ (LosesEntering r mine (Verb.Fence q) answer p f ⊎ LosesReading r mine (Place.FenceBehind q on) (Verb.Fence q) answer p f)
@@ -181,7 +181,7 @@ behind_says r q g mine on answer note seen member h goes_on notes p f = go (is_u
           })),
           (λ loses. now ∙ read_so r q p g f mine (Place.FenceBehind q on) answer seen loses),
         )
-    go false like = ((λ is. absurd (apart is_lost note (Note.Aborted (AbortCause.Lost p f)) (ap is_lost (notes ∙ ap (note_of_fence q g) (over ∙ like))) refl is)), (λ loses. absurd (why like loses)))
+    go false like = ((λ is. absurd (differs_by_test is_lost note (Note.Aborted (AbortCause.Lost p f)) (ap is_lost (notes ∙ ap (note_of_fence q g) (over ∙ like))) refl is)), (λ loses. absurd (why like loses)))
 
 -- each place
 lost_at : (mine : List Event) (old : Lead) (values : List ℕ) (answer : Answer) (note : Note) (place : Place) (verb : Verb) → HasHeeded mine old → StandsFor mine old → HoldsAt mine old place → NotesAt old values answer note place

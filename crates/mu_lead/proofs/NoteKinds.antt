@@ -50,34 +50,34 @@ may_join (Place.RaiseBehind p Then.Joined) = true
 may_join (Place.LatePut p) = true
 may_join place = false
 
-pub apart : {A : Type 0} (test : A → Bool) (x y : A) → test x ≡ false → test y ≡ true → x ≡ y → ⊥
-apart test x y out holds is = true≢false (sym holds ∙ sym (ap test is) ∙ out)
+pub differs_by_test : {A : Type 0} (test : A → Bool) (x y : A) → test x ≡ false → test y ≡ true → x ≡ y → ⊥
+differs_by_test test x y out holds is = true≢false (sym holds ∙ sym (ap test is) ∙ out)
 
 pub none_higher : (r : ℕ) (mine : List Event) (verb : Verb) (answer : Answer) (note : Note) → is_higher note ≡ false → ((p m : ℕ) → ShowsHigher r mine verb answer p m → ⊥) → (p m : ℕ) → (note ≡ Note.Aborted (AbortCause.Higher p m)) ↔ ShowsHigher r mine verb answer p m
-none_higher r mine verb answer note out none p m = (λ is. absurd (apart is_higher note (Note.Aborted (AbortCause.Higher p m)) out refl is), λ shows. absurd (none p m shows))
+none_higher r mine verb answer note out none p m = (λ is. absurd (differs_by_test is_higher note (Note.Aborted (AbortCause.Higher p m)) out refl is), λ shows. absurd (none p m shows))
 
 pub none_room : (c : Config) (r : ℕ) (mine : List Event) (verb : Verb) (answer : Answer) (note : Note) → is_no_room note ≡ false → ((q h i : ℕ) → ShowsNoRoom c r mine verb answer q h i → ⊥) → (q h i : ℕ) → (note ≡ Note.NoRoom q h i) ↔ ShowsNoRoom c r mine verb answer q h i
-none_room c r mine verb answer note out none q h i = (λ is. absurd (apart is_no_room note (Note.NoRoom q h i) out refl is), λ shows. absurd (none q h i shows))
+none_room c r mine verb answer note out none q h i = (λ is. absurd (differs_by_test is_no_room note (Note.NoRoom q h i) out refl is), λ shows. absurd (none q h i shows))
 
 pub none_joined : (c : Config) (r : ℕ) (mine : List Event) (up : List ℕ) (place : Place) (answer : Answer) (note : Note) → is_joined note ≡ false → ((p : ℕ) → EndsJoining c r mine up place answer p → ⊥) → (p : ℕ) → (note ≡ Note.Joined p) ↔ EndsJoining c r mine up place answer p
-none_joined c r mine up place answer note out none p = (λ is. absurd (apart is_joined note (Note.Joined p) out refl is), λ ends. absurd (none p ends))
+none_joined c r mine up place answer note out none p = (λ is. absurd (differs_by_test is_joined note (Note.Joined p) out refl is), λ ends. absurd (none p ends))
 
 pub none_learnt : (c : Config) (r : ℕ) (mine : List Event) (verb : Verb) (answer : Answer) (note : Note) → is_learnt note ≡ false → ((i v : ℕ) → Teaches c r mine verb answer i v → ⊥) → (i v : ℕ) → (note ≡ Note.Learnt i v) ↔ Teaches c r mine verb answer i v
-none_learnt c r mine verb answer note out none i v = (λ is. absurd (apart is_learnt note (Note.Learnt i v) out refl is), λ teaches. absurd (none i v teaches))
+none_learnt c r mine verb answer note out none i v = (λ is. absurd (differs_by_test is_learnt note (Note.Learnt i v) out refl is), λ teaches. absurd (none i v teaches))
 
 -- what the verb rules out
 pub not_min : (r : ℕ) (mine : List Event) (verb : Verb) (answer : Answer) → is_min verb ≡ false → (p m : ℕ) → ShowsHigher r mine verb answer p m → ⊥
-not_min r mine verb answer out p m shows = apart is_min verb (Verb.Min p) out refl shows.asked
+not_min r mine verb answer out p m shows = differs_by_test is_min verb (Verb.Min p) out refl shows.asked
 
 pub not_head : (c : Config) (r : ℕ) (mine : List Event) (verb : Verb) (answer : Answer) → is_head verb ≡ false → (q h i : ℕ) → ShowsNoRoom c r mine verb answer q h i → ⊥
-not_head c r mine verb answer out q h i shows = apart is_head verb (Verb.Head q) out refl shows.asked
+not_head c r mine verb answer out q h i shows = differs_by_test is_head verb (Verb.Head q) out refl shows.asked
 
 pub not_look : (c : Config) (r : ℕ) (mine : List Event) (verb : Verb) (answer : Answer) → is_look verb ≡ false → (i v : ℕ) → Teaches c r mine verb answer i v → ⊥
-not_look c r mine verb answer out i v teaches = apart is_look verb (Verb.Look teaches.region i) out refl teaches.looked
+not_look c r mine verb answer out i v teaches = differs_by_test is_look verb (Verb.Look teaches.region i) out refl teaches.looked
 
 pub not_join : (c : Config) (r : ℕ) (mine : List Event) (up : List ℕ) (place : Place) (answer : Answer) → may_join place ≡ false → (p : ℕ) → EndsJoining c r mine up place answer p → ⊥
-not_join c r mine up place answer out p (inl raised) = apart may_join place (Place.RaiseBehind p Then.Joined) out refl raised
-not_join c r mine up place answer out p (inr put) = apart may_join place (Place.LatePut p) out refl put.0
+not_join c r mine up place answer out p (inl raised) = differs_by_test may_join place (Place.RaiseBehind p Then.Joined) out refl raised
+not_join c r mine up place answer out p (inr put) = differs_by_test may_join place (Place.LatePut p) out refl put.0
 
 -- a note of none of these kinds, where none of the rows holds
 pub says_none : (c : Config) (r : ℕ) (mine : List Event) (up : List ℕ) (place : Place) (verb : Verb) (answer : Answer) (note : Note) → is_higher note ≡ false → is_no_room note ≡ false → is_joined note ≡ false → is_learnt note ≡ false

@@ -15,7 +15,7 @@ use Rattle.mu_model.specs.Knowledge.{fills, greatest_fuo_read, grown, is_accepte
 use Rattle.mu_model.specs.Leaderships.{begins_leadership, grant_at_joining, has_quorum, is_member, is_over, leadership, noted_grant, proposal_number}
 use Rattle.mu_model.specs.Parts.{IsPossible}
 use Rattle.mu_model.specs.Picks.{first_value, is_joining, joined_since_first_put, may_propose, value_put}
-use Rattle.mu_model.specs.Placing.{IsNew, is_caught_up_at, is_known_put}
+use Rattle.mu_model.specs.Placing.{IsNew, is_caught_up_at, is_known_put, has_looked_since}
 use Rattle.mu_model.specs.Room.{last_head, reserve}
 use Rattle.mu_model.proofs.Basics.{event_by, none_some, or_true, same_number, true_or}
 use Rattle.mu_model.proofs.Lists.{get_push_here}
@@ -23,7 +23,7 @@ use Rattle.mu_model.proofs.Scans.{each_all}
 use Rattle.mu_agree.proofs.Landings.{has_implied, has_more}
 use Rattle.mu_agree.proofs.Possible.{parts_shorten_law}
 use Rattle.mu_lead.specs.Confirming.{HasGrant, HoldsGrants}
-use Rattle.mu_lead.specs.Leading.{AtRaise, Brought, HaveBelow, HoldsTables, IsRaised, Level, end_of, looked_at}
+use Rattle.mu_lead.specs.Leading.{AtRaise, Brought, HaveBelow, HoldsTables, IsRaised, Level, end_of}
 use Rattle.mu_lead.specs.Offering.{AtEnter, AtPut, Offering, took}
 use Rattle.mu_lead.specs.Sets.{IsFirst}
 use Rattle.mu_lead.proofs.Bringing.{enter_event, looked_then, put_event}
@@ -36,7 +36,7 @@ held_same c r e mine held on was q region member = on q (held q region (was q me
 new_entered : (c : Config) (r p s i v : ℕ) (mine : List Event) → IsNew c r mine i v → IsNew c r (enter_event r p s ∷ mine) i v
 new_entered c r p s i v mine n = record { next = n.next; room = n.room; reserve_kept = n.reserve_kept; none_past = n.none_past; value = n.value }
 
-looked_on : (c : Config) (r p s q i : ℕ) (mine : List Event) → is_member r q mine ≡ true → looked_at c r q i mine ≡ true → looked_at c r q i (enter_event r p s ∷ mine) ≡ true
+looked_on : (c : Config) (r p s q i : ℕ) (mine : List Event) → is_member r q mine ≡ true → has_looked_since c r q i mine ≡ true → has_looked_since c r q i (enter_event r p s ∷ mine) ≡ true
 looked_on c r p s q i mine member looked = rw member looked
 
 -- the region is entered for the offer
@@ -172,7 +172,7 @@ new_put c r p i b v mine same n = record {
   value = rw (same_number r, same_number i) (proposed_on c r p i b v mine (first_value r i mine) refl n.value);
 }
 
-looked_put : (c : Config) (r p i b v q : ℕ) (mine : List Event) → is_member r q mine ≡ true → p ≢ q → looked_at c r q i mine ≡ true → looked_at c r q i (put_event r p i b v ∷ mine) ≡ true
+looked_put : (c : Config) (r p i b v q : ℕ) (mine : List Event) → is_member r q mine ≡ true → p ≢ q → has_looked_since c r q i mine ≡ true → has_looked_since c r q i (put_event r p i b v ∷ mine) ≡ true
 looked_put c r p i b v q mine member other looked = rw (member, same_number r, ne_eqb p q other) looked
 
 below_put : (c : Config) (r b v p q : ℕ) (mine : List Event) (up : List ℕ) (reach : List (Option ℕ)) → Offering c r b v mine up reach p → ((k : ℕ) → p + 1 ≤ k → k < q → is_member r k mine ≡ false)
@@ -213,7 +213,7 @@ enters_next c r b v p q from mine up reach at is first =
         unput = subst (λ x. (k : ℕ) → x < k → first_value r k (put_event r p i b v ∷ mine) ≡ None) (sym (ap length same))
             (λ k more. rw (same_number r, ne_eqb i k (λ e. absurd (omega (arith, more, e)))) (o.unput k more));
       };
-      looked = subst (λ x. (k : ℕ) → q ≤ k → k < c.replicas → is_member r k mine ≡ true → looked_at c r k x (put_event r p i b v ∷ mine) ≡ true) (sym (ap length same))
+      looked = subst (λ x. (k : ℕ) → q ≤ k → k < c.replicas → is_member r k mine ≡ true → has_looked_since c r k x (put_event r p i b v ∷ mine) ≡ true) (sym (ap length same))
           (λ k more region member. looked_put c r p i b v k mine member (λ e. (let low = first.0 in omega (arith, low, is, e, more))) (at.entering.looked k (let low = first.0 in omega (arith, low, is, more)) region member));
     }
 

@@ -15,7 +15,7 @@ use Rattle.mu_pace.specs.Away.{TakesIdleStep}
 use Rattle.mu_pace.proofs.Away.{away_is_in_time}
 use Rattle.mu_lead.specs.Rooms.{IsOut, IsReading, IsWaiting}
 use Rattle.mu_lead.proofs.Asking.{begins_now}
-use Rattle.mu_lead.proofs.RoomsQuiet.{asked_no_milestone, silent}
+use Rattle.mu_lead.proofs.RoomsQuiet.{asked_no_milestone, silent_verbs_are_silent}
 
 -- a leadership without a `Min` isn't led
 pub unread_unled : (r : ℕ) (mine : List Event) → has_min r mine ≡ false → leads r mine ≡ false
@@ -45,7 +45,7 @@ rooms_ask c r p a mine other turn at = record {
 pub rooms_fence : (c : Config) (r p : ℕ) (f : Fence) (mine : List Event) → is_replication mine (event_by r (Verb.Fence p) (Answer.Seen f)) ≡ true → IsWaiting c r mine → IsWaiting c r (event_by r (Verb.Fence p) (Answer.Seen f) ∷ mine)
 rooms_fence c r p f mine turn at =
     let e = event_by r (Verb.Fence p) (Answer.Seen f) in
-    let quiet = silent c r mine r (Verb.Fence p) (Answer.Seen f) refl in
+    let quiet = silent_verbs_are_silent c r mine r (Verb.Fence p) (Answer.Seen f) refl in
     record {
       unread = at.unread;
       fresh = away_is_in_time.fresh_step c r mine e at.fresh (record { turn = turn; not_led = unread_unled r mine at.unread; no_milestone = quiet.no_milestone; none_behind = quiet.none_behind });

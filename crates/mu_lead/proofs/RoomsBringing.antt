@@ -19,7 +19,7 @@ use Rattle.mu_pace.proofs.Members.{counts_of_members}
 use Rattle.mu_lead.specs.declared.place.Place.{Place}
 use Rattle.mu_lead.specs.declared.place.Then.{Then}
 use Rattle.mu_lead.specs.Rooms.{IsLed, IsPlaced, lag_of, sizes_of}
-use Rattle.mu_lead.proofs.RoomsQuiet.{IsSilent, known_look_silent, silent, steps_on}
+use Rattle.mu_lead.proofs.RoomsQuiet.{IsSilent, known_look_silent, silent_verbs_are_silent, steps_on}
 
 -- one step of bringing up after another, whoever is brought up
 asks_bringing : (s : Sizes) (b next : Bringing) → ((l : Lag) → GoesOn s (Stage.Bring l b) (Stage.Bring l next)) → ((q k : ℕ) → q < k → AsksOn s k (Stage.Bring (Lag.Joined q) b) (Stage.Bring (Lag.Joined q) next))
@@ -52,7 +52,7 @@ pub rooms_widened : (c : Config) (r p u : ℕ) (mine : List Event) (written : Li
 rooms_widened c r p u mine written on is turn region member at = go on (bring_place c r p mine on Bringing.Look region member) at
   where
     on_with : (l : Lag) → IsPlace (sizes_of c r mine) (Stage.Bring l Bringing.Look) → IsLed c r mine (Stage.Bring l Bringing.Widen) → IsLed c r (event_by r (Verb.RaiseFuo p u) Answer.Done ∷ mine) (Stage.Bring l Bringing.Look)
-    on_with l place led = record { read = led.read; placed = brings_on c r Bringing.Widen Bringing.Look l mine (event_by r (Verb.RaiseFuo p u) Answer.Done) is turn (silent c r mine r (Verb.RaiseFuo p u) Answer.Done refl) widened (λ q k low. near_widened q low) place led.placed }
+    on_with l place led = record { read = led.read; placed = brings_on c r Bringing.Widen Bringing.Look l mine (event_by r (Verb.RaiseFuo p u) Answer.Done) is turn (silent_verbs_are_silent c r mine r (Verb.RaiseFuo p u) Answer.Done refl) widened (λ q k low. near_widened q low) place led.placed }
 
     go : (t : Then) → IsPlace (sizes_of c r mine) (Stage.Bring (lag_of c r mine p t) Bringing.Look) → IsPlaced c r mine written (Place.WidenBehind p t) → IsPlaced c r (event_by r (Verb.RaiseFuo p u) Answer.Done ∷ mine) written (Place.LookBehind p t)
     go Then.Late place led = on_with Lag.Behind place led
@@ -83,7 +83,7 @@ pub rooms_entered_behind : (c : Config) (r p : ℕ) (target : Target) (mine : Li
 rooms_entered_behind c r p target mine written on is turn region member at = go on (bring_place c r p mine on Bringing.Put region member) at
   where
     on_with : (l : Lag) → IsPlace (sizes_of c r mine) (Stage.Bring l Bringing.Put) → IsLed c r mine (Stage.Bring l Bringing.Enter) → IsLed c r (event_by r (Verb.Enter p target) Answer.Entered ∷ mine) (Stage.Bring l Bringing.Put)
-    on_with l place led = record { read = led.read; placed = brings_on c r Bringing.Enter Bringing.Put l mine (event_by r (Verb.Enter p target) Answer.Entered) is turn (silent c r mine r (Verb.Enter p target) Answer.Entered refl) entered (λ q k low. near_entered q low) place led.placed }
+    on_with l place led = record { read = led.read; placed = brings_on c r Bringing.Enter Bringing.Put l mine (event_by r (Verb.Enter p target) Answer.Entered) is turn (silent_verbs_are_silent c r mine r (Verb.Enter p target) Answer.Entered refl) entered (λ q k low. near_entered q low) place led.placed }
 
     go : (t : Then) → IsPlace (sizes_of c r mine) (Stage.Bring (lag_of c r mine p t) Bringing.Put) → IsPlaced c r mine written (Place.EnterBehind p t) → IsPlaced c r (event_by r (Verb.Enter p target) Answer.Entered ∷ mine) written (Place.PutBehind p t)
     go Then.Late place led = on_with Lag.Behind place led

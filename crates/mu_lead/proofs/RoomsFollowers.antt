@@ -22,7 +22,7 @@ use Rattle.mu_lead.specs.Onward.{MayBringUp, MayGoOn}
 use Rattle.mu_lead.specs.Rooms.{IsPlaced, sizes_of}
 use Rattle.mu_lead.proofs.RoomsMin.{more_sizes}
 use Rattle.mu_lead.proofs.RoomsOnward.{onward_join, onward_step}
-use Rattle.mu_lead.proofs.RoomsQuiet.{landed_no_milestone, silent, sized, steps_on}
+use Rattle.mu_lead.proofs.RoomsQuiet.{landed_no_milestone, silent_verbs_are_silent, config_is_sized, steps_on}
 
 fenced_here : (p k : ℕ) → p ≤ k → k ≤ p → is_fencing_verb k (Verb.Fence p) ≡ true
 fenced_here p k low high = let same : p ≡ k = omega arith in subst (λ q. (p == q) ≡ true) same (same_number p)
@@ -41,7 +41,7 @@ pub rooms_welcomed : (c : Config) (r p : ℕ) (f : Fence) (mine : List Event) (w
     → IsPlaced c r (event_by r (Verb.Fence p) (Answer.Seen f) ∷ mine) written (Place.LateMin p)
 rooms_welcomed c r p f mine written is turn region at = record {
   read = at.read;
-  placed = steps_on c r (Stage.LateFence p) (Stage.LateMin p) mine (event_by r (Verb.Fence p) (Answer.Seen f)) is turn (silent c r mine r (Verb.Fence p) (Answer.Seen f) refl) at.placed (welcomed p region) (at_late_min p region)
+  placed = steps_on c r (Stage.LateFence p) (Stage.LateMin p) mine (event_by r (Verb.Fence p) (Answer.Seen f)) is turn (silent_verbs_are_silent c r mine r (Verb.Fence p) (Answer.Seen f) refl) at.placed (welcomed p region) (at_late_min p region)
       (λ k low stranger. asks_welcomed (sizes_of c r mine) p k region) (λ level. inl refl);
 }
 
@@ -51,7 +51,7 @@ pub rooms_passed : (c : Config) (r p from : ℕ) (f : Fence) (mine : List Event)
 rooms_passed c r p from f mine written is turn region next at =
     let e = event_by r (Verb.Fence p) (Answer.Seen f) in
     subst (MayGoOn c r (e ∷ mine)) (sym next)
-    (onward_step c r (p + 1) (Stage.LateFence p) mine e is turn (silent c r mine r (Verb.Fence p) (Answer.Seen f) refl) refl at.read at (omega (arith, region)) (λ u goes. passed p u region goes)
+    (onward_step c r (p + 1) (Stage.LateFence p) mine e is turn (silent_verbs_are_silent c r mine r (Verb.Fence p) (Answer.Seen f) refl) refl at.read at (omega (arith, region)) (λ u goes. passed p u region goes)
     (record {
       nearer = λ k q low above stranger. inl (near_passed p q (omega (arith, low)) above);
       farther = λ k below stranger. elim (cases_lt k p) [
@@ -69,7 +69,7 @@ pub rooms_late_fuo : (c : Config) (r p u : ℕ) (mine : List Event) (written : L
     → IsPlaced c r (event_by r (Verb.Fuo p) (Answer.Number u) ∷ mine) written (Place.LateEnter p)
 rooms_late_fuo c r p u mine written is turn region at = record {
   read = at.read;
-  placed = steps_on c r (Stage.LateFuo p) (Stage.LateEnter p) mine (event_by r (Verb.Fuo p) (Answer.Number u)) is turn (silent c r mine r (Verb.Fuo p) (Answer.Number u) refl) at.placed (late_fuo p) (at_late_enter p region)
+  placed = steps_on c r (Stage.LateFuo p) (Stage.LateEnter p) mine (event_by r (Verb.Fuo p) (Answer.Number u)) is turn (silent_verbs_are_silent c r mine r (Verb.Fuo p) (Answer.Number u) refl) at.placed (late_fuo p) (at_late_enter p region)
       (λ k low stranger. inl (asks_fuo (sizes_of c r mine) p k)) (λ level. inl refl);
 }
 
@@ -79,7 +79,7 @@ pub rooms_ahead : (c : Config) (r p from u : ℕ) (mine : List Event) (written :
 rooms_ahead c r p from u mine written is turn region next at =
     let e = event_by r (Verb.Fuo p) (Answer.Number u) in
     subst (MayGoOn c r (e ∷ mine)) (sym next)
-    (onward_step c r (p + 1) (Stage.LateFuo p) mine e is turn (silent c r mine r (Verb.Fuo p) (Answer.Number u) refl) refl at.read at (omega (arith, region)) (λ t goes. ahead p t goes)
+    (onward_step c r (p + 1) (Stage.LateFuo p) mine e is turn (silent_verbs_are_silent c r mine r (Verb.Fuo p) (Answer.Number u) refl) refl at.read at (omega (arith, region)) (λ t goes. ahead p t goes)
     (record {
       nearer = λ k q low above stranger. inl (near_ahead p q (omega (arith, low)) above);
       farther = λ k below stranger. inl (le-leb k p (omega (arith, below)));
@@ -97,7 +97,7 @@ rooms_joined_behind c r p b mine written is turn region stranger at step first =
     let more = counts_of_members.joined c r p b mine region stranger in
     record {
       read = at.read;
-      placed = more_sizes c r (Stage.Bring (Lag.Joined p) step) mine (e ∷ mine) more (places_lead.join c r (sizes_of c r mine) (Stage.LatePut p) (Stage.Bring (Lag.Joined p) step) mine e (sized c r mine is) at.placed (record {
+      placed = more_sizes c r (Stage.Bring (Lag.Joined p) step) mine (e ∷ mine) more (places_lead.join c r (sizes_of c r mine) (Stage.LatePut p) (Stage.Bring (Lag.Joined p) step) mine e (config_is_sized c r mine is) at.placed (record {
         turn = turn;
         edge = joins_behind p step first;
         place = at_joined p step region;

@@ -28,7 +28,7 @@ use Rattle.mu_lead.specs.Rooms.{IsLed, IsPlaced, sizes_of}
 use Rattle.mu_lead.proofs.Looks.{head_event}
 use Rattle.mu_lead.proofs.Puts.{all_fails}
 use Rattle.mu_lead.proofs.RoomsOnward.{first_below, room_level, room_place}
-use Rattle.mu_lead.proofs.RoomsQuiet.{IsSilent, quiet_milestone, sized, steps_on}
+use Rattle.mu_lead.proofs.RoomsQuiet.{IsSilent, quiet_milestone, config_is_sized, steps_on}
 
 head_silent : (c : Config) (r q h : ℕ) (mine : List Event) → is_lagging c r mine (head_event r q h) ≡ false → IsSilent c r mine (head_event r q h)
 head_silent c r q h mine room = record {
@@ -46,7 +46,7 @@ rooms_head c r q h candidate u mine written is turn at edge place distant level 
     go false room = steps_on c r (Stage.ReadHead q) u mine (head_event r q h) is turn (head_silent c r q h mine room) at.placed edge place (λ k low stranger. inl (far (Stage.ReadHead q) u edge refl (distant k))) (λ high. inl refl)
     go true lags =
         let progress = steps_of_progress.lag c r mine (head_event r q h) turn lags in
-        places_lead.milestone c r (sizes_of c r mine) (Stage.ReadHead q) u mine (head_event r q h) (sized c r mine is) at.placed (record {
+        places_lead.milestone c r (sizes_of c r mine) (Stage.ReadHead q) u mine (head_event r q h) (config_is_sized c r mine is) at.placed (record {
           turn = turn;
           place = place;
           milestone = progress.0;
@@ -87,11 +87,11 @@ rooms_no_room c r q h candidate mine written is turn region unmarked low at =
     let s = sizes_of c r mine in
     let t = Stage.ReadHead q in
     let progress = steps_of_progress.lag c r mine e turn (head_lags c r q h mine region unmarked low) in
-    let heavy = weights_fall.heavy s (Stage.ReadHead q) (sized c r mine is) at.placed.place in
+    let heavy = weights_fall.heavy s (Stage.ReadHead q) (config_is_sized c r mine is) at.placed.place in
     record {
       asks = λ k first. record {
         read = at.read;
-        placed = places_lead.milestone c r s t (Stage.LateFence k) mine e (sized c r mine is) at.placed (record {
+        placed = places_lead.milestone c r s t (Stage.LateFence k) mine e (config_is_sized c r mine is) at.placed (record {
           turn = turn;
           place = at_late_fence k;
           milestone = progress.0;
@@ -106,7 +106,7 @@ rooms_no_room c r q h candidate mine written is turn region unmarked low at =
       again = λ k none first all. absurd (true≢false (sym first.2 ∙ none k first.0 first.1));
       beyond = λ u none room. record {
         read = at.read;
-        placed = places_lead.milestone c r s t u mine e (sized c r mine is) at.placed (record {
+        placed = places_lead.milestone c r s t u mine e (config_is_sized c r mine is) at.placed (record {
           turn = turn;
           place = room_place s u room;
           milestone = progress.0;

@@ -11,10 +11,10 @@ use Rattle.mu_pace.proofs.Away.{away_is_in_time}
 use Rattle.mu_pace.proofs.Placed.{places_lead}
 use Rattle.mu_lead.specs.declared.place.Place.{Place}
 use Rattle.mu_lead.specs.Rooms.{IsLed, IsReading, IsWaiting, RoomsAt, RoomsAreInTime, sizes_of, stage_of}
-use Rattle.mu_lead.proofs.RoomsQuiet.{sized}
+use Rattle.mu_lead.proofs.RoomsQuiet.{config_is_sized}
 
 led_in_time : (c : Config) (r : ℕ) (mine : List Event) (stage : Stage) → IsConfig c → IsLed c r mine stage → AreInTime c r mine
-led_in_time c r mine stage is at = places_lead.in_time c r (sizes_of c r mine) stage mine (sized c r mine is) at.placed
+led_in_time c r mine stage is at = places_lead.in_time c r (sizes_of c r mine) stage mine (config_is_sized c r mine is) at.placed
 
 waiting_in_time : (c : Config) (r : ℕ) (mine : List Event) → IsWaiting c r mine → AreInTime c r mine
 waiting_in_time c r mine at = away_is_in_time.in_time c r mine (away_is_in_time.fresh_is_away c r mine at.fresh)

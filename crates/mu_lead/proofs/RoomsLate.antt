@@ -19,7 +19,7 @@ use Rattle.mu_pace.proofs.Away.{away_is_in_time}
 use Rattle.mu_lead.specs.declared.place.Place.{Place}
 use Rattle.mu_lead.specs.Rooms.{IsOut, IsPlaced, sizes_of}
 use Rattle.mu_lead.proofs.RoomsMin.{min_now, over_unled, second}
-use Rattle.mu_lead.proofs.RoomsQuiet.{later_min_silent, silent, sized, steps_on}
+use Rattle.mu_lead.proofs.RoomsQuiet.{later_min_silent, silent_verbs_are_silent, config_is_sized, steps_on}
 
 asks_entering : (s : Sizes) (p k : ℕ) → AsksOn s k (Stage.LateEnter p) (Stage.LatePut p)
 asks_entering s p k = elim (cases_lt p k) [ inl low ↦ near_enter p low | inr high ↦ far (Stage.LateEnter p) (Stage.LatePut p) (late_enter p) (le-leb k p high) (le-leb k p high) ]
@@ -29,7 +29,7 @@ pub rooms_entered_late : (c : Config) (r p : ℕ) (mine : List Event) (written :
     → IsPlaced c r (event_by r (Verb.Enter p Target.Min) Answer.Entered ∷ mine) written (Place.LatePut p)
 rooms_entered_late c r p mine written is turn region at = record {
   read = at.read;
-  placed = steps_on c r (Stage.LateEnter p) (Stage.LatePut p) mine (event_by r (Verb.Enter p Target.Min) Answer.Entered) is turn (silent c r mine r (Verb.Enter p Target.Min) Answer.Entered refl) at.placed (late_enter p) (at_late_put p region)
+  placed = steps_on c r (Stage.LateEnter p) (Stage.LatePut p) mine (event_by r (Verb.Enter p Target.Min) Answer.Entered) is turn (silent_verbs_are_silent c r mine r (Verb.Enter p Target.Min) Answer.Entered refl) at.placed (late_enter p) (at_late_put p region)
       (λ k low stranger. inl (asks_entering (sizes_of c r mine) p k)) (λ level. inl refl);
 }
 
@@ -57,5 +57,5 @@ rooms_higher c r p b x mine written is turn numbered more at =
     let over : is_over r (e ∷ mine) ≡ true = rw (same_number r, numbered) (above_number b x (is_over r mine) more) in
     record {
       not_led = over_unled r (e ∷ mine) over;
-      away = away_is_in_time.over c r (sizes_of c r mine) (Stage.LateMin p) mine e (sized c r mine is) at.placed turn over quiet.no_milestone quiet.none_behind;
+      away = away_is_in_time.over c r (sizes_of c r mine) (Stage.LateMin p) mine e (config_is_sized c r mine is) at.placed turn over quiet.no_milestone quiet.none_behind;
     }

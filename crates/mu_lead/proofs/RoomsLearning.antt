@@ -22,7 +22,7 @@ use Rattle.mu_lead.specs.Onward.{MayBringUp, MayGoOn}
 use Rattle.mu_lead.specs.Rooms.{IsLed, sizes_of}
 use Rattle.mu_lead.proofs.Bringing.{look_event}
 use Rattle.mu_lead.proofs.RoomsOnward.{first_below, room_place}
-use Rattle.mu_lead.proofs.RoomsQuiet.{no_heads, quiet_milestone, sized}
+use Rattle.mu_lead.proofs.RoomsQuiet.{no_heads, quiet_milestone, config_is_sized}
 
 -- a past look teaches nothing
 pub past_none : (c : Config) (r p i : ℕ) (a : Answer) (mine : List Event) → is_past a ≡ true → known c r (look_event r p i a ∷ mine) ≡ known c r mine
@@ -40,7 +40,7 @@ learns_on : (c : Config) (r p i : ℕ) (a : Answer) (u : Stage) (mine : List Eve
     → (is_level u ≡ true → (k : ℕ) → is_member r k (look_event r p i a ∷ mine) ≡ true → is_brought_up c r k (look_event r p i a ∷ mine) ≡ true) → IsLed c r (look_event r p i a ∷ mine) u
 learns_on c r p i a u mine is turn more at edge place late levels = record {
   read = at.read;
-  placed = places_lead.copy c r (sizes_of c r mine) Stage.Learn u mine (look_event r p i a) (sized c r mine is) at.placed (record {
+  placed = places_lead.copy c r (sizes_of c r mine) Stage.Learn u mine (look_event r p i a) (config_is_sized c r mine is) at.placed (record {
     turn = turn;
     edge = edge;
     place = place;

@@ -25,7 +25,7 @@ use Rattle.mu_pace.proofs.Placed.{places_lead}
 use Rattle.mu_lead.specs.Rooms.{IsEnded, IsLed, IsNumbering, IsOut, IsPlaced, IsReading, sizes_of}
 use Rattle.mu_lead.specs.declared.place.Place.{Place}
 use Rattle.mu_lead.proofs.Numbering.{joining_other}
-use Rattle.mu_lead.proofs.RoomsQuiet.{first_min, landed_no_milestone, later_min, missed_min_silent, missed_slot_silent, silent, sized, steps_on}
+use Rattle.mu_lead.proofs.RoomsQuiet.{first_min, landed_no_milestone, later_min, missed_min_silent, missed_slot_silent, silent_verbs_are_silent, config_is_sized, steps_on}
 
 -- the region is entered
 pub rooms_entered : (c : Config) (r p : ℕ) (mine : List Event) → IsConfig c → is_replication mine (event_by r (Verb.Enter p Target.Min) Answer.Entered) ≡ true → IsNumbering c r mine p Stage.EnterMin
@@ -34,7 +34,7 @@ rooms_entered c r p mine is turn at =
     let e = event_by r (Verb.Enter p Target.Min) Answer.Entered in
     record {
       left = at.left;
-      led = record { read = at.led.read; placed = steps_on c r Stage.EnterMin Stage.PutMin mine e is turn (silent c r mine r (Verb.Enter p Target.Min) Answer.Entered refl) at.led.placed entered_min at_number (λ q low stranger. inl (far Stage.EnterMin Stage.PutMin entered_min refl refl)) (λ level. absurd (true≢false (sym level))) };
+      led = record { read = at.led.read; placed = steps_on c r Stage.EnterMin Stage.PutMin mine e is turn (silent_verbs_are_silent c r mine r (Verb.Enter p Target.Min) Answer.Entered refl) at.led.placed entered_min at_number (λ q low stranger. inl (far Stage.EnterMin Stage.PutMin entered_min refl refl)) (λ level. absurd (true≢false (sym level))) };
     }
 
 -- a leadership that is over isn't led
@@ -50,11 +50,11 @@ pub rooms_lost : (c : Config) (r p : ℕ) (t : Target) (f : Fence) (stage : Stag
     → IsOut c r (event_by r (Verb.Enter p t) (Answer.Lost f) ∷ mine)
 rooms_lost c r p t f stage mine is turn at =
     let e = event_by r (Verb.Enter p t) (Answer.Lost f) in
-    let quiet = silent c r mine r (Verb.Enter p t) (Answer.Lost f) refl in
+    let quiet = silent_verbs_are_silent c r mine r (Verb.Enter p t) (Answer.Lost f) refl in
     let over : is_over r (e ∷ mine) ≡ true = rw (same_number r) refl in
     record {
       not_led = over_unled r (e ∷ mine) over;
-      away = away_is_in_time.over c r (sizes_of c r mine) stage mine e (sized c r mine is) at turn over quiet.no_milestone quiet.none_behind;
+      away = away_is_in_time.over c r (sizes_of c r mine) stage mine e (config_is_sized c r mine is) at turn over quiet.no_milestone quiet.none_behind;
     }
 
 -- and so does a fence that ends it
@@ -62,10 +62,10 @@ pub rooms_fenced : (c : Config) (r p : ℕ) (f : Fence) (stage : Stage) (mine : 
     → IsOut c r (event_by r (Verb.Fence p) (Answer.Seen f) ∷ mine)
 rooms_fenced c r p f stage mine is turn over at =
     let e = event_by r (Verb.Fence p) (Answer.Seen f) in
-    let quiet = silent c r mine r (Verb.Fence p) (Answer.Seen f) refl in
+    let quiet = silent_verbs_are_silent c r mine r (Verb.Fence p) (Answer.Seen f) refl in
     record {
       not_led = over_unled r (e ∷ mine) over;
-      away = away_is_in_time.over c r (sizes_of c r mine) stage mine e (sized c r mine is) at turn over quiet.no_milestone quiet.none_behind;
+      away = away_is_in_time.over c r (sizes_of c r mine) stage mine e (config_is_sized c r mine is) at turn over quiet.no_milestone quiet.none_behind;
     }
 
 -- and so does a put that misses
@@ -75,7 +75,7 @@ rooms_missed_min c r p b stage mine is turn at =
     let e = event_by r (Verb.PutMin p b) Answer.Missed in
     let quiet = missed_min_silent c r p b mine in
     let over : is_over r (e ∷ mine) ≡ true = rw (same_number r) refl in
-    record { over = over; away = away_is_in_time.over c r (sizes_of c r mine) stage mine e (sized c r mine is) at turn over quiet.no_milestone quiet.none_behind }
+    record { over = over; away = away_is_in_time.over c r (sizes_of c r mine) stage mine e (config_is_sized c r mine is) at turn over quiet.no_milestone quiet.none_behind }
 
 pub rooms_missed_slot : (c : Config) (r p i b v : ℕ) (stage : Stage) (mine : List Event) → IsConfig c → is_replication mine (event_by r (Verb.PutSlot p i b v) Answer.Missed) ≡ true → IsPlacedAt c r (sizes_of c r mine) stage mine
     → IsEnded c r (event_by r (Verb.PutSlot p i b v) Answer.Missed ∷ mine)
@@ -83,7 +83,7 @@ rooms_missed_slot c r p i b v stage mine is turn at =
     let e = event_by r (Verb.PutSlot p i b v) Answer.Missed in
     let quiet = missed_slot_silent c r p i b v mine in
     let over : is_over r (e ∷ mine) ≡ true = rw (same_number r) refl in
-    record { over = over; away = away_is_in_time.over c r (sizes_of c r mine) stage mine e (sized c r mine is) at turn over quiet.no_milestone quiet.none_behind }
+    record { over = over; away = away_is_in_time.over c r (sizes_of c r mine) stage mine e (config_is_sized c r mine is) at turn over quiet.no_milestone quiet.none_behind }
 
 -- the fence that is read then changes nothing
 still_over : (t over : Bool) → over ≡ true → (t || over) ≡ true
@@ -93,7 +93,7 @@ still_over false over h = h
 pub rooms_evidence : (c : Config) (r p : ℕ) (f : Fence) (mine : List Event) → is_replication mine (event_by r (Verb.Fence p) (Answer.Seen f)) ≡ true → IsEnded c r mine → IsOut c r (event_by r (Verb.Fence p) (Answer.Seen f) ∷ mine)
 rooms_evidence c r p f mine turn at =
     let e = event_by r (Verb.Fence p) (Answer.Seen f) in
-    let quiet = silent c r mine r (Verb.Fence p) (Answer.Seen f) refl in
+    let quiet = silent_verbs_are_silent c r mine r (Verb.Fence p) (Answer.Seen f) refl in
     let over : is_over r (e ∷ mine) ≡ true = still_over ((r == r) && is_changed (grant_at_joining r p mine) f) (is_over r mine) at.over in
     record {
       not_led = over_unled r (e ∷ mine) over;
@@ -116,7 +116,7 @@ min_now r p a mine begun = rw begun refl
 begins_places : (c : Config) (r p : ℕ) (a : Answer) (u : Stage) (mine : List Event) → IsConfig c → is_replication mine (event_by r (Verb.Min p) a) ≡ true → has_begun r mine ≡ true → has_min r mine ≡ false → IsFresh c r mine
     → IsPlace (sizes_of c r mine) u → IsPlacedAt c r (sizes_of c r mine) u (event_by r (Verb.Min p) a ∷ mine)
 begins_places c r p a u mine is turn begun unread fresh place =
-    places_lead.first c r (sizes_of c r mine) u mine (event_by r (Verb.Min p) a) (sized c r mine is) (record {
+    places_lead.first c r (sizes_of c r mine) u mine (event_by r (Verb.Min p) a) (config_is_sized c r mine is) (record {
       turn = turn;
       place = place;
       sizes = record { replicas = refl; width = refl; members = refl };
@@ -131,7 +131,7 @@ begins_places c r p a u mine is turn begun unread fresh place =
 goes_on_places : (c : Config) (r p : ℕ) (a : Answer) (u : Stage) (mine : List Event) → IsConfig c → is_replication mine (event_by r (Verb.Min p) a) ≡ true → has_min r mine ≡ true → IsPlacedAt c r (sizes_of c r mine) (Stage.ReadMin p) mine
     → GoesOn (sizes_of c r mine) (Stage.ReadMin p) u → ((q : ℕ) → is_far q u ≡ true) → is_level u ≡ false → IsPlace (sizes_of c r mine) u → IsPlacedAt c r (sizes_of c r mine) u (event_by r (Verb.Min p) a ∷ mine)
 goes_on_places c r p a u mine is turn read at edge distant low place =
-    places_lead.step c r (sizes_of c r mine) (Stage.ReadMin p) u mine (event_by r (Verb.Min p) a) (sized c r mine is) at (record {
+    places_lead.step c r (sizes_of c r mine) (Stage.ReadMin p) u mine (event_by r (Verb.Min p) a) (config_is_sized c r mine is) at (record {
       turn = turn;
       edge = edge;
       place = place;
@@ -181,7 +181,7 @@ rooms_next_join c r p q b mine is turn low above at =
       left = left_joined r p q b mine above at.left;
       led = record {
         read = at.led.read;
-        placed = more_sizes c r Stage.EnterMin mine (e ∷ mine) more (places_lead.join c r (sizes_of c r mine) Stage.PutMin Stage.EnterMin mine e (sized c r mine is) at.led.placed (record {
+        placed = more_sizes c r Stage.EnterMin mine (e ∷ mine) more (places_lead.join c r (sizes_of c r mine) Stage.PutMin Stage.EnterMin mine e (config_is_sized c r mine is) at.led.placed (record {
           turn = turn;
           edge = next_join;
           place = at_entering;
@@ -203,7 +203,7 @@ rooms_last_join c r p q b mine written is turn low at =
     let few : k ≤ members c r mine + 1 = (let all = counts_of_members.all c r q (e ∷ mine) in omega arith) in
     record {
       read = at.led.read;
-      placed = more_sizes c r (Stage.ReadFuo k) mine (e ∷ mine) more (places_lead.join c r (sizes_of c r mine) Stage.PutMin (Stage.ReadFuo k) mine e (sized c r mine is) at.led.placed (record {
+      placed = more_sizes c r (Stage.ReadFuo k) mine (e ∷ mine) more (places_lead.join c r (sizes_of c r mine) Stage.PutMin (Stage.ReadFuo k) mine e (config_is_sized c r mine is) at.led.placed (record {
         turn = turn;
         edge = last_join k few;
         place = at_fuo k few;

@@ -22,7 +22,7 @@ use Rattle.mu_lead.specs.Onward.{IsNextStranger, MayGoOn, passed_over}
 use Rattle.mu_lead.specs.Rooms.{IsLed, sizes_of}
 use Rattle.mu_lead.specs.Sets.{IsFirst}
 use Rattle.mu_lead.proofs.RoomsMin.{more_sizes}
-use Rattle.mu_lead.proofs.RoomsQuiet.{IsSilent, sized, steps_on}
+use Rattle.mu_lead.proofs.RoomsQuiet.{IsSilent, config_is_sized, steps_on}
 
 -- what passes isn't below the first that does
 pub first_below : (test : ℕ → Bool) (p n q k : ℕ) → IsFirst test p n (Some q) → p ≤ k → test k ≡ true → q ≤ k
@@ -112,14 +112,14 @@ onward_step c r p t mine e is turn quiet same read at few edge passes levels =
       };
       again = λ q none first all. record {
         read = read;
-        placed = same_sizes c r (Stage.LateFence q) mine e quiet.same (places_lead.known c r s t (Stage.LateFence q) mine e (sized c r mine is) at.placed (record {
+        placed = same_sizes c r (Stage.LateFence q) mine e quiet.same (places_lead.known c r s t (Stage.LateFence q) mine e (config_is_sized c r mine is) at.placed (record {
           turn = turn;
           known = sym (ap (holds_all c) same) ∙ all;
           place = at_late_fence q;
           no_milestone = quiet.no_milestone;
           none_behind = quiet.none_behind;
           same = quiet.same;
-          asks = asks_again (AsksOn s) c r p q t mine e passes none first (λ k distant low. turns t q distant (weights_fall.heavy s t (sized c r mine is) at.placed.place) low);
+          asks = asks_again (AsksOn s) c r p q t mine e passes none first (λ k distant low. turns t q distant (weights_fall.heavy s t (config_is_sized c r mine is) at.placed.place) low);
           to_level = refl;
           levels = λ level. levels;
         }));
@@ -141,7 +141,7 @@ onward_join c r p t mine e is turn plain more same read at few edge passes level
     record {
       asks = λ q first. record {
         read = read;
-        placed = more_sizes c r (Stage.LateFence q) mine (e ∷ mine) more (places_lead.join c r s t (Stage.LateFence q) mine e (sized c r mine is) at.placed (record {
+        placed = more_sizes c r (Stage.LateFence q) mine (e ∷ mine) more (places_lead.join c r s t (Stage.LateFence q) mine e (config_is_sized c r mine is) at.placed (record {
           turn = turn;
           edge = edge (Stage.LateFence q) (asks q first.0 first.1);
           place = at_late_fence q;
@@ -153,7 +153,7 @@ onward_join c r p t mine e is turn plain more same read at few edge passes level
       };
       again = λ q none first all. record {
         read = read;
-        placed = more_sizes c r (Stage.LateFence q) mine (e ∷ mine) more (places_lead.last_join c r s t (Stage.LateFence q) mine e (sized c r mine is) at.placed (record {
+        placed = more_sizes c r (Stage.LateFence q) mine (e ∷ mine) more (places_lead.last_join c r s t (Stage.LateFence q) mine e (config_is_sized c r mine is) at.placed (record {
           turn = turn;
           known = sym (ap (holds_all c) same) ∙ all;
           place = at_late_fence q;
@@ -169,7 +169,7 @@ onward_join c r p t mine e is turn plain more same read at few edge passes level
           let goes = edge u (beyond u few here) in
           record {
             read = read;
-            placed = more_sizes c r u mine (e ∷ mine) more (places_lead.join c r s t u mine e (sized c r mine is) at.placed (record {
+            placed = more_sizes c r u mine (e ∷ mine) more (places_lead.join c r s t u mine e (config_is_sized c r mine is) at.placed (record {
               turn = turn;
               edge = goes;
               place = room_place (joined s) u here;

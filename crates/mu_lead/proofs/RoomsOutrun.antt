@@ -12,19 +12,19 @@ use Rattle.mu_model.specs.Histories.{earlier_or}
 use Rattle.mu_model.specs.Picks.{is_past}
 use Rattle.mu_model.specs.Steps.{commits_more, is_lagging, is_over_after, knows_all}
 use Rattle.mu_model.specs.Stretches.{is_replication}
-use Rattle.mu_model.proofs.Basics.{same_number}
+use Rattle.mu_model.proofs.Basics.{same_number, or_true}
 use Rattle.mu_pace.specs.Asking.{far}
 use Rattle.mu_pace.specs.Away.{IsAway}
 use Rattle.mu_pace.specs.Placed.{AreInTime, IsPlacedAt}
 use Rattle.mu_pace.specs.Watches.{limit_now, progressing}
 use Rattle.mu_pace.specs.Weights.{Bringing, Lag, Stage, at_behind, widened}
 use Rattle.mu_pace.proofs.Beside.{unallowed}
-use Rattle.mu_pace.proofs.Placed.{met_leaves, places_lead, shut, true_right}
+use Rattle.mu_pace.proofs.Placed.{met_leaves, places_lead, shut}
 use Rattle.mu_lead.specs.Leading.{end_of}
 use Rattle.mu_lead.specs.Rooms.{IsLed, sizes_of}
 use Rattle.mu_lead.proofs.Bringing.{look_event}
 use Rattle.mu_lead.proofs.RoomsLearning.{past_none}
-use Rattle.mu_lead.proofs.RoomsQuiet.{IsSilent, known_look_silent, sized, steps_on}
+use Rattle.mu_lead.proofs.RoomsQuiet.{IsSilent, known_look_silent, config_is_sized, steps_on}
 use Rattle.std.proofs.lemmas.Bool.{le-leb}
 use Rattle.std.proofs.Common.{arith}
 
@@ -40,7 +40,7 @@ is_outrun c r p a mine past = absurd (true≢false (sym past))
 
 -- is progress
 outrun_progress : (c : Config) (r : ℕ) (mine : List Event) (e : Event) → is_some (outrun c r (e ∷ mine)) ≡ true → is_progress c r mine e ≡ true
-outrun_progress c r mine e h = true_right (commits_more c r mine e) _ (true_right (is_over_after r mine e) _ (true_right (is_lagging c r mine e) _ (true_right (knows_all c r mine) _ h)))
+outrun_progress c r mine e h = or_true (commits_more c r mine e) _ (or_true (is_over_after r mine e) _ (or_true (is_lagging c r mine e) _ (or_true (knows_all c r mine) _ h)))
 
 -- so what is in time is done
 ends_outrun : (c : Config) (r p i : ℕ) (a : Answer) (mine : List Event) → is_replication mine (look_event r p i a) ≡ true → is_past a ≡ true → i ≡ end_of c r mine → AreInTime c r (look_event r p i a ∷ mine) → IsAway c r (look_event r p i a ∷ mine)
@@ -58,7 +58,7 @@ ends_outrun c r p i a mine turn past here in_time =
 learning_in_time : (c : Config) (r : ℕ) (mine : List Event) (e : Event) → IsConfig c → is_replication mine e ≡ true → IsSilent c r mine e → IsPlacedAt c r (sizes_of c r mine) Stage.Learn mine → AreInTime c r (e ∷ mine)
 learning_in_time c r mine e is turn quiet at =
     let widens : IsPlacedAt c r (sizes_of c r mine) (Stage.Bring Lag.Behind Bringing.Widen) mine = record { sizes = at.sizes; place = at_behind Bringing.Widen; progressing = at.progressing; asking = at.asking; bringing = at.bringing } in
-    places_lead.in_time c r (sizes_of c r mine) (Stage.Bring Lag.Behind Bringing.Look) (e ∷ mine) (sized c r mine is)
+    places_lead.in_time c r (sizes_of c r mine) (Stage.Bring Lag.Behind Bringing.Look) (e ∷ mine) (config_is_sized c r mine is)
     (steps_on c r (Stage.Bring Lag.Behind Bringing.Widen) (Stage.Bring Lag.Behind Bringing.Look) mine e is turn quiet widens (widened Lag.Behind) (at_behind Bringing.Look)
     (λ k low stranger. inl (far (Stage.Bring Lag.Behind Bringing.Widen) (Stage.Bring Lag.Behind Bringing.Look) (widened Lag.Behind) refl refl)) (λ level. absurd (true≢false (sym level))))
 
@@ -67,4 +67,4 @@ rooms_outrun_learning c r p i a mine is turn past here at = ends_outrun c r p i 
 
 -- while it looks at the new position
 pub rooms_outrun_looking : (c : Config) (r p i : ℕ) (a : Answer) (mine : List Event) → IsConfig c → is_replication mine (look_event r p i a) ≡ true → is_past a ≡ true → i ≡ end_of c r mine → IsLed c r (look_event r p i a ∷ mine) Stage.Rest → IsAway c r (look_event r p i a ∷ mine)
-rooms_outrun_looking c r p i a mine is turn past here at = ends_outrun c r p i a mine turn past here (places_lead.in_time c r (sizes_of c r (look_event r p i a ∷ mine)) Stage.Rest (look_event r p i a ∷ mine) (sized c r (look_event r p i a ∷ mine) is) at.placed)
+rooms_outrun_looking c r p i a mine is turn past here at = ends_outrun c r p i a mine turn past here (places_lead.in_time c r (sizes_of c r (look_event r p i a ∷ mine)) Stage.Rest (look_event r p i a ∷ mine) (config_is_sized c r (look_event r p i a ∷ mine) is) at.placed)

@@ -30,7 +30,7 @@ use Rattle.mu_lead.specs.Rooms.{IsLed, IsPlaced, sizes_of}
 use Rattle.mu_lead.proofs.Bringing.{look_event}
 use Rattle.mu_lead.proofs.RoomsLearning.{either, past_none}
 use Rattle.mu_lead.proofs.RoomsOnward.{onward_step}
-use Rattle.mu_lead.proofs.RoomsQuiet.{no_heads, quiet_milestone, silent, sized, steps_on}
+use Rattle.mu_lead.proofs.RoomsQuiet.{no_heads, quiet_milestone, silent_verbs_are_silent, config_is_sized, steps_on}
 
 -- what leaves the known list teaches nothing
 pub untaught : (c : Config) (r : ℕ) (e : Event) (mine : List Event) → known c r (e ∷ mine) ≡ known c r mine → knows_more c r mine e ≡ false
@@ -66,7 +66,7 @@ rooms_learnt_here c r p q i a mine is turn more region member quorum none at ste
     let edge = learnt_here k step some many first in
     subst (λ m. IsLed c r (e ∷ mine) (Stage.Bring (Lag.Position m) step)) (sym (counts_of_members.none_below c r q (e ∷ mine) none)) (record {
       read = at.read;
-      placed = places_lead.copy c r (sizes_of c r mine) (Stage.LookAt k) (Stage.Bring (Lag.Position 0) step) mine e (sized c r mine is) at.placed (record {
+      placed = places_lead.copy c r (sizes_of c r mine) (Stage.LookAt k) (Stage.Bring (Lag.Position 0) step) mine e (config_is_sized c r mine is) at.placed (record {
         turn = turn;
         edge = edge;
         place = at_position 0 step (omega (arith, some, all));
@@ -90,7 +90,7 @@ rooms_next_position c r p q u mine written is turn next region member at step fi
     let edge = next_position below step first in
     subst (λ m. IsLed c r (e ∷ mine) (Stage.Bring (Lag.Position m) step)) (sym one) (record {
       read = at.read;
-      placed = steps_on c r (Stage.Bring (Lag.Position below) Bringing.Raise) (Stage.Bring (Lag.Position (below + 1)) step) mine e is turn (silent c r mine r (Verb.RaiseFuo p u) Answer.Done refl) at.placed edge (at_position (below + 1) step (omega (arith, one, some, all)))
+      placed = steps_on c r (Stage.Bring (Lag.Position below) Bringing.Raise) (Stage.Bring (Lag.Position (below + 1)) step) mine e is turn (silent_verbs_are_silent c r mine r (Verb.RaiseFuo p u) Answer.Done refl) at.placed edge (at_position (below + 1) step (omega (arith, one, some, all)))
           (λ k low stranger. inl (far (Stage.Bring (Lag.Position below) Bringing.Raise) (Stage.Bring (Lag.Position (below + 1)) step) edge refl refl)) (λ level. absurd (true≢false (sym level)));
     })
 
@@ -116,9 +116,9 @@ rooms_last_position c r p u mine written is turn next levels at =
     let one = counts_of_members.next c r p c.replicas mine next in
     let last = none_beyond c r mine in
     let all = counts_of_members.all c r p mine in
-    onward_step c r c.replicas stage mine (event_by r (Verb.RaiseFuo p u) Answer.Done) is turn (silent c r mine r (Verb.RaiseFuo p u) Answer.Done refl) refl at.read at (omega arith) (λ t goes. from_room below t (omega (arith, one, last, all)) goes)
+    onward_step c r c.replicas stage mine (event_by r (Verb.RaiseFuo p u) Answer.Done) is turn (silent_verbs_are_silent c r mine r (Verb.RaiseFuo p u) Answer.Done refl) refl at.read at (omega arith) (λ t goes. from_room below t (omega (arith, one, last, all)) goes)
     (record {
-      nearer = λ k q low above stranger. inl (turns stage q refl (weights_fall.heavy (sizes_of c r mine) stage (sized c r mine is) at.placed.place) above);
+      nearer = λ k q low above stranger. inl (turns stage q refl (weights_fall.heavy (sizes_of c r mine) stage (config_is_sized c r mine is) at.placed.place) above);
       farther = λ k low stranger. inl refl;
     })
     (inr levels)

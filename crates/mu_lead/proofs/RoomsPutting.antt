@@ -27,7 +27,7 @@ use Rattle.mu_lead.specs.declared.place.Place.{Place}
 use Rattle.mu_lead.specs.Offering.{took}
 use Rattle.mu_lead.specs.Rooms.{IsPlaced, sizes_of}
 use Rattle.mu_lead.proofs.Puts.{not_accepted}
-use Rattle.mu_lead.proofs.RoomsQuiet.{IsSilent, no_heads, quiet_milestone, silent, sized, steps_on}
+use Rattle.mu_lead.proofs.RoomsQuiet.{IsSilent, no_heads, quiet_milestone, silent_verbs_are_silent, config_is_sized, steps_on}
 
 -- the members in turn are some, and no more than all
 pub in_turn : (c : Config) (r p : ℕ) (mine : List Event) → members_from c r p mine ≤ members c r mine
@@ -41,7 +41,7 @@ rooms_entered_new c r p target offer mine written is turn region member at =
     let some = counts_of_members.some c r p mine region member in
     record {
       read = at.read;
-      placed = steps_on c r (Stage.EnterAt k) (Stage.PutAt k) mine (event_by r (Verb.Enter p target) Answer.Entered) is turn (silent c r mine r (Verb.Enter p target) Answer.Entered refl) at.placed (entered_slot k some) (at_put k some (in_turn c r p mine))
+      placed = steps_on c r (Stage.EnterAt k) (Stage.PutAt k) mine (event_by r (Verb.Enter p target) Answer.Entered) is turn (silent_verbs_are_silent c r mine r (Verb.Enter p target) Answer.Entered refl) at.placed (entered_slot k some) (at_put k some (in_turn c r p mine))
           (λ q low stranger. inl (far (Stage.EnterAt k) (Stage.PutAt k) (entered_slot k some) refl refl)) (λ level. inl refl);
     }
 
@@ -113,7 +113,7 @@ rooms_committed c r p q i b v offer mine written is turn region member grows at 
     let progress = steps_of_progress.commit c r mine e turn more in
     record {
       read = at.read;
-      placed = places_lead.milestone c r (sizes_of c r mine) (Stage.PutAt k) (Stage.RaiseAt j) mine e (sized c r mine is) at.placed (record {
+      placed = places_lead.milestone c r (sizes_of c r mine) (Stage.PutAt k) (Stage.RaiseAt j) mine e (config_is_sized c r mine is) at.placed (record {
         turn = turn;
         place = at_raise j (in_turn c r q mine);
         milestone = progress.0;

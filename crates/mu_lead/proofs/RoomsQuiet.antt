@@ -23,8 +23,8 @@ use Rattle.mu_pace.proofs.Placed.{places_lead}
 use Rattle.mu_lead.specs.Rooms.{sizes_of}
 
 -- a configuration has replicas and rows
-pub sized : (c : Config) (r : ℕ) (mine : List Event) → IsConfig c → IsSized (sizes_of c r mine)
-sized c r mine is = record { replicas = is.replicas.0; width = is.widths.0 }
+pub config_is_sized : (c : Config) (r : ℕ) (mine : List Event) → IsConfig c → IsSized (sizes_of c r mine)
+config_is_sized c r mine is = record { replicas = is.replicas.0; width = is.widths.0 }
 
 nowhere : (t : Bool) → not (t && false) ≡ true
 nowhere true = refl
@@ -62,14 +62,14 @@ is_silent (Verb.Look p i) = false
 is_silent (Verb.Head q) = false
 is_silent _ = true
 
-pub silent : (c : Config) (r : ℕ) (past : List Event) (by : ℕ) (v : Verb) (a : Answer) → is_silent v ≡ true → IsSilent c r past (event_by by v a)
-silent c r past by (Verb.Ask p) a h = absurd (true≢false (sym h))
-silent c r past by (Verb.Min p) a h = absurd (true≢false (sym h))
-silent c r past by (Verb.PutMin p b) a h = absurd (true≢false (sym h))
-silent c r past by (Verb.PutSlot p i b v) a h = absurd (true≢false (sym h))
-silent c r past by (Verb.Look p i) a h = absurd (true≢false (sym h))
-silent c r past by (Verb.Head q) a h = absurd (true≢false (sym h))
-silent c r past by v a h = record {
+pub silent_verbs_are_silent : (c : Config) (r : ℕ) (past : List Event) (by : ℕ) (v : Verb) (a : Answer) → is_silent v ≡ true → IsSilent c r past (event_by by v a)
+silent_verbs_are_silent c r past by (Verb.Ask p) a h = absurd (true≢false (sym h))
+silent_verbs_are_silent c r past by (Verb.Min p) a h = absurd (true≢false (sym h))
+silent_verbs_are_silent c r past by (Verb.PutMin p b) a h = absurd (true≢false (sym h))
+silent_verbs_are_silent c r past by (Verb.PutSlot p i b v) a h = absurd (true≢false (sym h))
+silent_verbs_are_silent c r past by (Verb.Look p i) a h = absurd (true≢false (sym h))
+silent_verbs_are_silent c r past by (Verb.Head q) a h = absurd (true≢false (sym h))
+silent_verbs_are_silent c r past by v a h = record {
   no_milestone = quiet_milestone c r past (event_by by v a) refl (not_more (length (commits c r past))) (no_heads c r past);
   none_behind = λ p. refl;
   same = refl;
@@ -132,7 +132,7 @@ later_min_silent c r p a past read = record { no_milestone = later_min c r p a p
 -- a silent step by an edge of the weights
 pub steps_on : (c : Config) (r : ℕ) (t u : Stage) (past : List Event) (e : Event) → IsConfig c → is_replication past e ≡ true → IsSilent c r past e → IsPlacedAt c r (sizes_of c r past) t past
     → GoesOn (sizes_of c r past) t u → IsPlace (sizes_of c r past) u → Asks (AsksOn (sizes_of c r past)) c r t u past e → Levels c r t u past e → IsPlacedAt c r (sizes_of c r past) u (e ∷ past)
-steps_on c r t u past e is turn quiet at edge place asks levels = places_lead.step c r (sizes_of c r past) t u past e (sized c r past is) at (record {
+steps_on c r t u past e is turn quiet at edge place asks levels = places_lead.step c r (sizes_of c r past) t u past e (config_is_sized c r past is) at (record {
   turn = turn;
   edge = edge;
   place = place;

@@ -21,7 +21,7 @@ use Rattle.mu_lead.specs.Onward.{MayBringUp, MayGoOn}
 use Rattle.mu_lead.specs.Rooms.{IsPlaced, sizes_of}
 use Rattle.mu_lead.proofs.RoomsOnward.{onward_step}
 use Rattle.mu_lead.proofs.RoomsPutting.{in_turn}
-use Rattle.mu_lead.proofs.RoomsQuiet.{silent, sized, steps_on}
+use Rattle.mu_lead.proofs.RoomsQuiet.{silent_verbs_are_silent, config_is_sized, steps_on}
 
 -- after a commit, the next member
 pub rooms_next_raise : (c : Config) (r p q u : ℕ) (mine : List Event) (written : List ℕ) → IsConfig c → is_replication mine (event_by r (Verb.RaiseFuo p u) Answer.Done) ≡ true → IsNextMember c r p q mine → IsPlaced c r mine written (Place.Raise p)
@@ -33,7 +33,7 @@ rooms_next_raise c r p q u mine written is turn next at =
     let less : j < k = omega (arith, one) in
     record {
       read = at.read;
-      placed = steps_on c r (Stage.RaiseAt k) (Stage.RaiseAt j) mine (event_by r (Verb.RaiseFuo p u) Answer.Done) is turn (silent c r mine r (Verb.RaiseFuo p u) Answer.Done refl) at.placed (next_raise k j less) (at_raise j (in_turn c r q mine))
+      placed = steps_on c r (Stage.RaiseAt k) (Stage.RaiseAt j) mine (event_by r (Verb.RaiseFuo p u) Answer.Done) is turn (silent_verbs_are_silent c r mine r (Verb.RaiseFuo p u) Answer.Done refl) at.placed (next_raise k j less) (at_raise j (in_turn c r q mine))
           (λ l low stranger. inl (raises k j less)) (λ level. inl refl);
     }
 
@@ -43,7 +43,7 @@ pub rooms_raised : (c : Config) (r p u : ℕ) (mine : List Event) (written : Lis
 rooms_raised c r p u mine written is turn region member at =
     let k = members_from c r p mine in
     let some = counts_of_members.some c r p mine region member in
-    onward_step c r 0 (Stage.RaiseAt k) mine (event_by r (Verb.RaiseFuo p u) Answer.Done) is turn (silent c r mine r (Verb.RaiseFuo p u) Answer.Done refl) refl at.read at (omega arith) (λ t goes. last_raise k t some goes)
+    onward_step c r 0 (Stage.RaiseAt k) mine (event_by r (Verb.RaiseFuo p u) Answer.Done) is turn (silent_verbs_are_silent c r mine r (Verb.RaiseFuo p u) Answer.Done refl) refl at.read at (omega arith) (λ t goes. last_raise k t some goes)
     (record {
       nearer = λ l q low above stranger. inl (raised k q some above);
       farther = λ l below stranger. absurd (omega (arith, below));
@@ -56,7 +56,7 @@ pub rooms_brought_joined : (c : Config) (r p from u : ℕ) (mine : List Event) (
 rooms_brought_joined c r p from u mine written is turn region next levels at =
     let e = event_by r (Verb.RaiseFuo p u) Answer.Done in
     subst (MayGoOn c r (e ∷ mine)) (sym next)
-    (onward_step c r (p + 1) (Stage.Bring (Lag.Joined p) Bringing.Raise) mine e is turn (silent c r mine r (Verb.RaiseFuo p u) Answer.Done refl) refl at.read at (omega (arith, region)) (λ t goes. brought_joined p t goes)
+    (onward_step c r (p + 1) (Stage.Bring (Lag.Joined p) Bringing.Raise) mine e is turn (silent_verbs_are_silent c r mine r (Verb.RaiseFuo p u) Answer.Done refl) refl at.read at (omega (arith, region)) (λ t goes. brought_joined p t goes)
     (record {
       nearer = λ k q low above stranger. inl (near_brought p q (omega (arith, low)) above);
       farther = λ k below stranger. inl (le-leb k p (omega (arith, below)));
@@ -70,7 +70,7 @@ rooms_next_behind c r p q u mine written is turn at step first =
     let edge = next_behind step first in
     record {
       read = at.read;
-      placed = steps_on c r (Stage.Bring Lag.Behind Bringing.Raise) (Stage.Bring Lag.Behind step) mine (event_by r (Verb.RaiseFuo p u) Answer.Done) is turn (silent c r mine r (Verb.RaiseFuo p u) Answer.Done refl) at.placed edge (at_behind step)
+      placed = steps_on c r (Stage.Bring Lag.Behind Bringing.Raise) (Stage.Bring Lag.Behind step) mine (event_by r (Verb.RaiseFuo p u) Answer.Done) is turn (silent_verbs_are_silent c r mine r (Verb.RaiseFuo p u) Answer.Done refl) at.placed edge (at_behind step)
           (λ k low stranger. inl (far (Stage.Bring Lag.Behind Bringing.Raise) (Stage.Bring Lag.Behind step) edge refl refl)) (λ level. absurd (true≢false (sym level)));
     }
 
@@ -78,9 +78,9 @@ rooms_next_behind c r p q u mine written is turn at step first =
 pub rooms_all_brought : (c : Config) (r p u : ℕ) (mine : List Event) (written : List ℕ) → IsConfig c → is_replication mine (event_by r (Verb.RaiseFuo p u) Answer.Done) ≡ true → ((k : ℕ) → is_member r k (event_by r (Verb.RaiseFuo p u) Answer.Done ∷ mine) ≡ true → is_brought_up c r k (event_by r (Verb.RaiseFuo p u) Answer.Done ∷ mine) ≡ true)
     → IsPlaced c r mine written (Place.RaiseBehind p Then.Late) → MayGoOn c r (event_by r (Verb.RaiseFuo p u) Answer.Done ∷ mine) 0
 rooms_all_brought c r p u mine written is turn levels at =
-    onward_step c r 0 (Stage.Bring Lag.Behind Bringing.Raise) mine (event_by r (Verb.RaiseFuo p u) Answer.Done) is turn (silent c r mine r (Verb.RaiseFuo p u) Answer.Done refl) refl at.read at (omega arith) (λ t goes. all_brought t goes)
+    onward_step c r 0 (Stage.Bring Lag.Behind Bringing.Raise) mine (event_by r (Verb.RaiseFuo p u) Answer.Done) is turn (silent_verbs_are_silent c r mine r (Verb.RaiseFuo p u) Answer.Done refl) refl at.read at (omega arith) (λ t goes. all_brought t goes)
     (record {
-      nearer = λ k q low above stranger. inl (turns (Stage.Bring Lag.Behind Bringing.Raise) q refl (weights_fall.heavy (sizes_of c r mine) (Stage.Bring Lag.Behind Bringing.Raise) (sized c r mine is) at.placed.place) above);
+      nearer = λ k q low above stranger. inl (turns (Stage.Bring Lag.Behind Bringing.Raise) q refl (weights_fall.heavy (sizes_of c r mine) (Stage.Bring Lag.Behind Bringing.Raise) (config_is_sized c r mine is) at.placed.place) above);
       farther = λ k below stranger. absurd (omega (arith, below));
     })
     (inr levels)

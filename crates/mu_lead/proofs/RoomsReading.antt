@@ -22,14 +22,14 @@ use Rattle.mu_lead.specs.Onward.{MayBringUp, MayGoOn}
 use Rattle.mu_lead.specs.Rooms.{IsLed, IsPlaced, sizes_of}
 use Rattle.mu_lead.proofs.RoomsOnward.{onward_step}
 use Rattle.mu_lead.proofs.RoomsPutting.{in_turn}
-use Rattle.mu_lead.proofs.RoomsQuiet.{silent, sized, steps_on}
+use Rattle.mu_lead.proofs.RoomsQuiet.{silent_verbs_are_silent, config_is_sized, steps_on}
 
 -- by a FUO that is read, to a place before the late followers
 reads_fuo : (c : Config) (r p u : ℕ) (t : Stage) (mine : List Event) → IsConfig c → is_replication mine (event_by r (Verb.Fuo p) (Answer.Number u)) ≡ true → IsLed c r mine (Stage.ReadFuo (members_from c r p mine))
     → GoesOn (sizes_of c r mine) (Stage.ReadFuo (members_from c r p mine)) t → IsPlace (sizes_of c r mine) t → ((k : ℕ) → is_far k t ≡ true) → is_level t ≡ false → IsLed c r (event_by r (Verb.Fuo p) (Answer.Number u) ∷ mine) t
 reads_fuo c r p u t mine is turn at edge place distant low = record {
   read = at.read;
-  placed = steps_on c r (Stage.ReadFuo (members_from c r p mine)) t mine (event_by r (Verb.Fuo p) (Answer.Number u)) is turn (silent c r mine r (Verb.Fuo p) (Answer.Number u) refl) at.placed edge place
+  placed = steps_on c r (Stage.ReadFuo (members_from c r p mine)) t mine (event_by r (Verb.Fuo p) (Answer.Number u)) is turn (silent_verbs_are_silent c r mine r (Verb.Fuo p) (Answer.Number u) refl) at.placed edge place
       (λ k few stranger. inl (far (Stage.ReadFuo (members_from c r p mine)) t edge refl (distant k))) (λ high. absurd (true≢false (sym high ∙ low)));
 }
 
@@ -60,9 +60,9 @@ pub rooms_level : (c : Config) (r p u : ℕ) (source : Option ℕ) (mine : List 
 rooms_level c r p u source mine written is turn region member levels at =
     let k = members_from c r p mine in
     let some = counts_of_members.some c r p mine region member in
-    onward_step c r 0 (Stage.ReadFuo k) mine (event_by r (Verb.Fuo p) (Answer.Number u)) is turn (silent c r mine r (Verb.Fuo p) (Answer.Number u) refl) refl at.read at (omega arith) (λ t goes. level k t some goes)
+    onward_step c r 0 (Stage.ReadFuo k) mine (event_by r (Verb.Fuo p) (Answer.Number u)) is turn (silent_verbs_are_silent c r mine r (Verb.Fuo p) (Answer.Number u) refl) refl at.read at (omega arith) (λ t goes. level k t some goes)
     (record {
-      nearer = λ l q low above stranger. inl (turns (Stage.ReadFuo k) q refl (weights_fall.heavy (sizes_of c r mine) (Stage.ReadFuo k) (sized c r mine is) at.placed.place) above);
+      nearer = λ l q low above stranger. inl (turns (Stage.ReadFuo k) q refl (weights_fall.heavy (sizes_of c r mine) (Stage.ReadFuo k) (config_is_sized c r mine is) at.placed.place) above);
       farther = λ l below stranger. absurd (omega (arith, below));
     })
     (inr levels)

@@ -13,7 +13,7 @@ use Rattle.mu_model.proofs.Basics.{event_by}
 use Rattle.mu_pace.specs.Asking.{far}
 use Rattle.mu_pace.specs.Weights.{IsPlace, Sizes, Stage, at_slot, at_writing, last_word, next_word}
 use Rattle.mu_lead.specs.Rooms.{IsLed, sizes_of, words_left}
-use Rattle.mu_lead.proofs.RoomsQuiet.{silent, steps_on}
+use Rattle.mu_lead.proofs.RoomsQuiet.{silent_verbs_are_silent, steps_on}
 
 -- the words of rows that are the same
 words_same : (written written' : List ℕ) (j rows : ℕ) → ((i : ℕ) → j ≤ i → i < j + rows → get_or written' i 12 ≡ get_or written i 12) → words_left written' j rows ≡ words_left written j rows
@@ -68,7 +68,7 @@ rooms_next_word c r j k x words left mine is turn one some at =
     let low : left ≤ 12 * c.width = omega (arith, few, one) in
     record {
       read = at.read;
-      placed = steps_on c r (Stage.Write (left + 1)) (Stage.Write left) mine (event_by r (Verb.WriteRow j k x) Answer.Done) is turn (silent c r mine r (Verb.WriteRow j k x) Answer.Done refl) (subst (λ w. IsLed c r mine (Stage.Write w)) one at).placed (next_word left) (at_writing left some low)
+      placed = steps_on c r (Stage.Write (left + 1)) (Stage.Write left) mine (event_by r (Verb.WriteRow j k x) Answer.Done) is turn (silent_verbs_are_silent c r mine r (Verb.WriteRow j k x) Answer.Done refl) (subst (λ w. IsLed c r mine (Stage.Write w)) one at).placed (next_word left) (at_writing left some low)
           (λ q less stranger. inl (far (Stage.Write (left + 1)) (Stage.Write left) (next_word left) refl refl)) (λ level. inl refl);
     }
 
@@ -76,6 +76,6 @@ pub rooms_last_word : (c : Config) (r j k x words m : ℕ) (mine : List Event) �
     → IsLed c r (event_by r (Verb.WriteRow j k x) Answer.Done ∷ mine) (Stage.EnterAt m)
 rooms_last_word c r j k x words m mine is turn some one few at = record {
   read = at.read;
-  placed = steps_on c r (Stage.Write words) (Stage.EnterAt m) mine (event_by r (Verb.WriteRow j k x) Answer.Done) is turn (silent c r mine r (Verb.WriteRow j k x) Answer.Done refl) at.placed (last_word words m some few) (at_slot m one few)
+  placed = steps_on c r (Stage.Write words) (Stage.EnterAt m) mine (event_by r (Verb.WriteRow j k x) Answer.Done) is turn (silent_verbs_are_silent c r mine r (Verb.WriteRow j k x) Answer.Done refl) at.placed (last_word words m some few) (at_slot m one few)
       (λ q less stranger. inl (far (Stage.Write words) (Stage.EnterAt m) (last_word words m some few) refl refl)) (λ level. inl refl);
 }

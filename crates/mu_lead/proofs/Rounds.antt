@@ -6,7 +6,7 @@ use Rattle.mu_lead.specs.declared.note.Note.{Note}
 use Rattle.mu_lead.specs.declared.place.Place.{Place}
 use Rattle.mu_lead.specs.Notes.{TellsRound}
 use Rattle.mu_lead.specs.Saying.{SaysRound, TellsAfter, ends_round}
-use Rattle.mu_lead.proofs.NoteKinds.{apart}
+use Rattle.mu_lead.proofs.NoteKinds.{differs_by_test}
 
 abbrev pub is_confirmed : Note → Bool
 is_confirmed (Note.Confirmed s) = true
@@ -33,8 +33,8 @@ same_not_confirmed s t is = cc
 -- a note of another kind, where no round ended
 pub round_none : (c : Config) (r : ℕ) (now : List Event) (place : Place) (note : Note) → is_confirmed note ≡ false → is_not_confirmed note ≡ false → ends_round c place ≡ false → SaysRound c r now place note
 round_none c r now place note confirmed unconfirmed out = record {
-  confirmed = λ s. ((λ is. absurd (apart is_confirmed note (Note.Confirmed s) confirmed refl is)), (λ row. absurd (true≢false (sym row.0.ends ∙ out))));
-  not_confirmed = λ s. ((λ is. absurd (apart is_not_confirmed note (Note.NotConfirmed s) unconfirmed refl is)), (λ row. absurd (true≢false (sym row.0.ends ∙ out))));
+  confirmed = λ s. ((λ is. absurd (differs_by_test is_confirmed note (Note.Confirmed s) confirmed refl is)), (λ row. absurd (true≢false (sym row.0.ends ∙ out))));
+  not_confirmed = λ s. ((λ is. absurd (differs_by_test is_not_confirmed note (Note.NotConfirmed s) unconfirmed refl is)), (λ row. absurd (true≢false (sym row.0.ends ∙ out))));
 }
 
 -- the note of a fence in a round
@@ -45,10 +45,10 @@ round_says c r round p now (Note.Confirmed s) true last is = record {
     (λ same. (record { ends = last; named = sym (same_confirmed s u same) ∙ is.1 }, is.0)),
     (λ row. ap Note.Confirmed (is.1 ∙ sym row.0.named)),
   );
-  not_confirmed = λ u. ((λ same. absurd (apart is_not_confirmed (Note.Confirmed s) (Note.NotConfirmed u) refl refl same)), (λ row. absurd (row.1 is.0)));
+  not_confirmed = λ u. ((λ same. absurd (differs_by_test is_not_confirmed (Note.Confirmed s) (Note.NotConfirmed u) refl refl same)), (λ row. absurd (row.1 is.0)));
 }
 round_says c r round p now (Note.NotConfirmed s) true last is = record {
-  confirmed = λ u. ((λ same. absurd (apart is_confirmed (Note.NotConfirmed s) (Note.Confirmed u) refl refl same)), (λ row. absurd (is.0 row.1)));
+  confirmed = λ u. ((λ same. absurd (differs_by_test is_confirmed (Note.NotConfirmed s) (Note.Confirmed u) refl refl same)), (λ row. absurd (is.0 row.1)));
   not_confirmed = λ u. (
     (λ same. (record { ends = last; named = sym (same_not_confirmed s u same) ∙ is.1 }, is.0)),
     (λ row. ap Note.NotConfirmed (is.1 ∙ sym row.0.named)),

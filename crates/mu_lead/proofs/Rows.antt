@@ -37,7 +37,7 @@ use Rattle.mu_lead.specs.Standing.{HasHeeded, HoldsAt, StandsFor, known_told, ve
 use Rattle.mu_leading.proofs.Within.{known_few}
 use Rattle.mu_agree.proofs.Possible.{parts_find_law, parts_shorten_law}
 use Rattle.mu_lead.proofs.Bringing.{config_small, look_event, look_known}
-use Rattle.mu_lead.proofs.NoteKinds.{apart, is_head, is_higher, is_joined, is_learnt, is_look, is_min, is_no_room, lost_apart, may_join, none_higher, none_joined, none_learnt, none_room, not_head, not_join, not_look, not_min, put_apart, round_apart, says_none, says_working}
+use Rattle.mu_lead.proofs.NoteKinds.{differs_by_test, is_head, is_higher, is_joined, is_learnt, is_look, is_min, is_no_room, lost_apart, may_join, none_higher, none_joined, none_learnt, none_room, not_head, not_join, not_look, not_min, put_apart, round_apart, says_none, says_working}
 use Rattle.mu_lead.proofs.Sights.{empty_is}
 use Rattle.mu_lead.proofs.Replies.{enters_or, puts_min_or, sees_fence, tells_head, tells_min}
 
@@ -179,7 +179,7 @@ says_raised c r q u mine up answer note is = record {
   where
     go : (p : ℕ) → EndsJoining c r mine up (Place.RaiseBehind q Then.Joined) answer p → q ≡ p
     go p (inl raised) = same_raise q p Then.Joined Then.Joined raised
-    go p (inr put) = absurd (apart is_put (Place.RaiseBehind q Then.Joined) (Place.LatePut p) refl refl put.0)
+    go p (inr put) = absurd (differs_by_test is_put (Place.RaiseBehind q Then.Joined) (Place.LatePut p) refl refl put.0)
 
 abbrev is_done : Answer → Bool
 is_done Answer.Done = true
@@ -197,8 +197,8 @@ says_put c r q b mine up answer note (inr missed) t lacks notes =
     }
   where
     go : (p : ℕ) → EndsJoining c r mine up (Place.LatePut q) answer p → ⊥
-    go p (inl raised) = apart is_put (Place.RaiseBehind p Then.Joined) (Place.LatePut q) refl refl (sym raised)
-    go p (inr put) = apart is_done answer Answer.Done (ap is_done missed) refl put.1
+    go p (inl raised) = differs_by_test is_put (Place.RaiseBehind p Then.Joined) (Place.LatePut q) refl refl (sym raised)
+    go p (inr put) = differs_by_test is_done answer Answer.Done (ap is_done missed) refl put.1
 says_put c r q b mine up answer note (inl done) true lacks notes =
     let is = notes.0 done in
     record {
@@ -209,7 +209,7 @@ says_put c r q b mine up answer note (inl done) true lacks notes =
     }
   where
     go : (p : ℕ) → EndsJoining c r mine up (Place.LatePut q) answer p → ⊥
-    go p (inl raised) = apart is_put (Place.RaiseBehind p Then.Joined) (Place.LatePut q) refl refl (sym raised)
+    go p (inl raised) = differs_by_test is_put (Place.RaiseBehind p Then.Joined) (Place.LatePut q) refl refl (sym raised)
     go p (inr put) = let all = put.2 in let few = ltb-true (get_or up q 0) (end_of c r mine) lacks in let here = ap (λ k. get_or up k 0) (same_put q p put.0) in omega (arith, all, few, here)
 says_put c r q b mine up answer note (inl done) false lacks notes =
     let is = notes.0 done in
@@ -221,7 +221,7 @@ says_put c r q b mine up answer note (inl done) false lacks notes =
     }
   where
     go : (p : ℕ) → EndsJoining c r mine up (Place.LatePut q) answer p → q ≡ p
-    go p (inl raised) = absurd (apart is_put (Place.RaiseBehind p Then.Joined) (Place.LatePut q) refl refl (sym raised))
+    go p (inl raised) = absurd (differs_by_test is_put (Place.RaiseBehind p Then.Joined) (Place.LatePut q) refl refl (sym raised))
     go p (inr put) = same_put q p put.0
 
 -- an `Enter` says nothing of these

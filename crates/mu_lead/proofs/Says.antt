@@ -17,7 +17,7 @@ use Rattle.mu_lead.specs.Notes.{value_committed}
 use Rattle.mu_lead.specs.Saying.{NotesAt, NotesDue, SaysCommit, SaysNext, SaysRound, is_of_no_place}
 use Rattle.mu_lead.specs.Standing.{HasHeeded, HoldsAt, StandsFor, TellsDue, known_told, verb_at}
 use Rattle.mu_lead.proofs.Commits.{commit_none, commit_says, is_adopted, is_committed}
-use Rattle.mu_lead.proofs.NoteKinds.{apart, is_higher, is_joined, is_learnt, is_no_room, put_quiet, round_quiet}
+use Rattle.mu_lead.proofs.NoteKinds.{differs_by_test, is_higher, is_joined, is_learnt, is_no_room, put_quiet, round_quiet}
 use Rattle.mu_lead.proofs.Losses.{is_lost, lost_next}
 use Rattle.mu_lead.proofs.Quiet.{Spares, quiet_at}
 use Rattle.mu_lead.proofs.Rounds.{is_confirmed, is_not_confirmed, round_none, round_says}
@@ -108,9 +108,9 @@ says_next mine old values answer note heeded s notes tells lacks verb due possib
       no_room = reads.no_room;
       learnt = reads.learnt;
       joined = reads.joined;
-      idle = λ is. absurd (apart is_of_no_place note Note.Idle placed refl is);
+      idle = λ is. absurd (differs_by_test is_of_no_place note Note.Idle placed refl is);
       working = λ is. (let in_session = values_in_session mine old values answer verb note s possible is grew in all_known mine old values answer verb note false is grew (lacks is in_session.1 in_session.0));
-      stays = λ to is. apart is_of_no_place note (Note.Resigned to) placed refl is;
+      stays = λ to is. differs_by_test is_of_no_place note (Note.Resigned to) placed refl is;
     }
 
 -- `Idle` in place of `Working`, where all commands are known
@@ -125,20 +125,20 @@ says_idle mine old values answer note heeded s notes tells is all verb due possi
     let lost = lost_next mine old values answer note verb heeded s notes due possible told in
     record {
       rounds = record {
-        confirmed = λ u. ((λ same. absurd (apart is_confirmed Note.Idle (Note.Confirmed u) refl refl same)), (λ row. absurd (apart is_confirmed note (Note.Confirmed u) (ap is_confirmed is) refl ((rounds.confirmed u).1 row))));
-        not_confirmed = λ u. ((λ same. absurd (apart is_not_confirmed Note.Idle (Note.NotConfirmed u) refl refl same)), (λ row. absurd (apart is_not_confirmed note (Note.NotConfirmed u) (ap is_not_confirmed is) refl ((rounds.not_confirmed u).1 row))));
+        confirmed = λ u. ((λ same. absurd (differs_by_test is_confirmed Note.Idle (Note.Confirmed u) refl refl same)), (λ row. absurd (differs_by_test is_confirmed note (Note.Confirmed u) (ap is_confirmed is) refl ((rounds.confirmed u).1 row))));
+        not_confirmed = λ u. ((λ same. absurd (differs_by_test is_not_confirmed Note.Idle (Note.NotConfirmed u) refl refl same)), (λ row. absurd (differs_by_test is_not_confirmed note (Note.NotConfirmed u) (ap is_not_confirmed is) refl ((rounds.not_confirmed u).1 row))));
       };
       commits = record {
-        committed = λ i v. ((λ same. absurd (apart is_committed Note.Idle (Note.Committed i v) refl refl same)), (λ row. absurd (apart is_committed note (Note.Committed i v) (ap is_committed is) refl ((commits.committed i v).1 row))));
-        adopted = λ i v. ((λ same. absurd (apart is_adopted Note.Idle (Note.Adopted i v) refl refl same)), (λ row. absurd (apart is_adopted note (Note.Adopted i v) (ap is_adopted is) refl ((commits.adopted i v).1 row))));
+        committed = λ i v. ((λ same. absurd (differs_by_test is_committed Note.Idle (Note.Committed i v) refl refl same)), (λ row. absurd (differs_by_test is_committed note (Note.Committed i v) (ap is_committed is) refl ((commits.committed i v).1 row))));
+        adopted = λ i v. ((λ same. absurd (differs_by_test is_adopted Note.Idle (Note.Adopted i v) refl refl same)), (λ row. absurd (differs_by_test is_adopted note (Note.Adopted i v) (ap is_adopted is) refl ((commits.adopted i v).1 row))));
       };
-      lost = λ p f. ((λ same. absurd (apart is_lost Note.Idle (Note.Aborted (AbortCause.Lost p f)) refl refl same)), (λ row. absurd (apart is_lost note (Note.Aborted (AbortCause.Lost p f)) (ap is_lost is) refl ((lost p f).1 row))));
-      higher = λ p m. ((λ same. absurd (apart is_higher Note.Idle (Note.Aborted (AbortCause.Higher p m)) refl refl same)), (λ row. absurd (apart is_higher note (Note.Aborted (AbortCause.Higher p m)) (ap is_higher is) refl ((reads.higher p m).1 row))));
-      no_room = λ q h i. ((λ same. absurd (apart is_no_room Note.Idle (Note.NoRoom q h i) refl refl same)), (λ row. absurd (apart is_no_room note (Note.NoRoom q h i) (ap is_no_room is) refl ((reads.no_room q h i).1 row))));
-      learnt = λ i v. ((λ same. absurd (apart is_learnt Note.Idle (Note.Learnt i v) refl refl same)), (λ row. absurd (apart is_learnt note (Note.Learnt i v) (ap is_learnt is) refl ((reads.learnt i v).1 row))));
-      joined = λ p. ((λ same. absurd (apart is_joined Note.Idle (Note.Joined p) refl refl same)), (λ row. absurd (apart is_joined note (Note.Joined p) (ap is_joined is) refl ((reads.joined p).1 row))));
+      lost = λ p f. ((λ same. absurd (differs_by_test is_lost Note.Idle (Note.Aborted (AbortCause.Lost p f)) refl refl same)), (λ row. absurd (differs_by_test is_lost note (Note.Aborted (AbortCause.Lost p f)) (ap is_lost is) refl ((lost p f).1 row))));
+      higher = λ p m. ((λ same. absurd (differs_by_test is_higher Note.Idle (Note.Aborted (AbortCause.Higher p m)) refl refl same)), (λ row. absurd (differs_by_test is_higher note (Note.Aborted (AbortCause.Higher p m)) (ap is_higher is) refl ((reads.higher p m).1 row))));
+      no_room = λ q h i. ((λ same. absurd (differs_by_test is_no_room Note.Idle (Note.NoRoom q h i) refl refl same)), (λ row. absurd (differs_by_test is_no_room note (Note.NoRoom q h i) (ap is_no_room is) refl ((reads.no_room q h i).1 row))));
+      learnt = λ i v. ((λ same. absurd (differs_by_test is_learnt Note.Idle (Note.Learnt i v) refl refl same)), (λ row. absurd (differs_by_test is_learnt note (Note.Learnt i v) (ap is_learnt is) refl ((reads.learnt i v).1 row))));
+      joined = λ p. ((λ same. absurd (differs_by_test is_joined Note.Idle (Note.Joined p) refl refl same)), (λ row. absurd (differs_by_test is_joined note (Note.Joined p) (ap is_joined is) refl ((reads.joined p).1 row))));
       idle = λ same. all_known mine old values answer verb note true is grew (all in_session.1 in_session.0);
-      working = λ same. absurd (apart is_of_no_place Note.Working Note.Idle refl refl (sym same));
+      working = λ same. absurd (differs_by_test is_of_no_place Note.Working Note.Idle refl refl (sym same));
       stays = λ to same. not_resigned to same;
     }
   where

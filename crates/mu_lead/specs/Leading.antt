@@ -1,17 +1,17 @@
 -- What holds once the number is put at a majority: what each region has, and what is brought to
 -- those that are behind.
-use Rattle.std.specs.Prelude.{Bool, List, None, Some, false, get_or, is_some, length, nat_lt, true, ℕ, ◌%◌, ◌+◌, ◌<◌, ◌≡◌, ◌≢◌, ◌≤◌}
+use Rattle.std.specs.Prelude.{List, None, Some, false, get_or, is_some, length, nat_lt, true, ℕ, ◌%◌, ◌+◌, ◌<◌, ◌≡◌, ◌≢◌, ◌≤◌}
 use Rattle.std.specs.declared.option.Option.{Option}
 use Rattle.mu_model.specs.declared.config.Config.{Config}
 use Rattle.mu_model.specs.declared.event.Event.{Event}
 use Rattle.mu_model.specs.declared.event.Target.{Target}
 use Rattle.mu_model.specs.Contents.{row_count}
 use Rattle.mu_model.specs.Entering.{has_read_min, last_opened, open_target}
-use Rattle.mu_model.specs.Histories.{has, since}
+use Rattle.mu_model.specs.Histories.{has}
 use Rattle.mu_model.specs.Knowledge.{is_filled, known, wrote}
 use Rattle.mu_model.specs.Leaderships.{has_begun, has_quorum, is_member, is_over, leadership, noted_grant, proposal_number}
-use Rattle.mu_model.specs.Picks.{first_value, look_answer}
-use Rattle.mu_model.specs.Placing.{fuo_read_or_raised, is_caught_up_at, is_good_look, is_slot_put_at, is_within_ring, looked_before_entering, reaches_head, since_joining}
+use Rattle.mu_model.specs.Picks.{first_value}
+use Rattle.mu_model.specs.Placing.{fuo_read_or_raised, is_caught_up_at, is_within_ring, looked_before_entering, reaches_head, has_looked_since}
 use Rattle.mu_model.specs.Room.{last_head, reserve}
 use Rattle.mu_lead.specs.declared.place.Then.{Then}
 use Rattle.mu_lead.specs.Confirming.{HoldsGrants, IsEnteredNow, last_min}
@@ -155,16 +155,10 @@ pub record Near (c : Config) (r b : ℕ) (mine : List Event) (up : List ℕ) (re
   pub lacks : get_or up p 0 < end_of c r mine
   pub near : c.version ≡ 2 → is_within_ring (get_or up p 0) c.ring (get_or reach p None) ≡ true
 
--- p was looked at in position i since it joined, and no put came there since
-abbrev pub looked_at : Config → ℕ → ℕ → ℕ → List Event → Bool
-looked_at c r p i mine =
-    has (λ e. is_good_look (look_answer r p i e.by e.verb e.answer))
-    (since (λ e. is_slot_put_at r p c.ring i e.by e.verb) (since_joining r p mine))
-
 pub record AtEnterBehind (c : Config) (r b : ℕ) (mine : List Event) (up : List ℕ)
     (reach : List (Option ℕ)) (p : ℕ) (then : Then) : Type 0 where
   pub near : Near c r b mine up reach p then
-  pub looked : looked_at c r p (get_or up p 0) mine ≡ true
+  pub looked : has_looked_since c r p (get_or up p 0) mine ≡ true
 
 pub record AtPutBehind (c : Config) (r b : ℕ) (mine : List Event) (up : List ℕ)
     (reach : List (Option ℕ)) (p : ℕ) (then : Then) : Type 0 where

@@ -12,12 +12,12 @@ use Rattle.mu_model.specs.Histories.{all_below, has}
 use Rattle.mu_model.specs.Knowledge.{known, lands_entry, wrote}
 use Rattle.mu_model.specs.Leaderships.{has_begun, has_quorum, is_member, is_over, leadership, proposal_number}
 use Rattle.mu_model.specs.Picks.{entry_of, first_value, highest_accepted, is_fresh_batch, is_past_look, last_look, look_answer, may_pick_at}
-use Rattle.mu_model.specs.Placing.{IsNew, looked_before_entering}
+use Rattle.mu_model.specs.Placing.{IsNew, looked_before_entering, has_looked_since}
 use Rattle.mu_model.specs.Room.{is_mark_candidate, last_head, reserve}
 use Rattle.mu_lead.specs.declared.place.Offer.{Offer}
 use Rattle.mu_lead.specs.declared.place.Sight.{Sight}
 use Rattle.mu_lead.specs.Confirming.{HoldsGrants, IsEnteredNow}
-use Rattle.mu_lead.specs.Leading.{HaveBelow, Level, RaisedBelow, end_of, looked_at}
+use Rattle.mu_lead.specs.Leading.{HaveBelow, Level, RaisedBelow, end_of}
 
 -- a mark of q is known, or the head of q that was read last leaves room for position i and for so
 -- many more
@@ -91,7 +91,7 @@ LooksShow c r mine i false = LooksEmpty c r mine i
 
 -- what the looks at the member p in position i gave; where the last one is empty, each was
 pub record Looked (c : Config) (r i : ℕ) (mine : List Event) (p : ℕ) : Type 0 where
-  pub good : looked_at c r p i mine ≡ true
+  pub good : has_looked_since c r p i mine ≡ true
   pub last : is_some (last_look r p i mine) ≡ true
   pub clear : has_seen_past r p i (leadership r mine) ≡ false
   pub empty :
@@ -196,7 +196,7 @@ pub record AtEnter (c : Config) (r b v : ℕ) (mine : List Event) (up : List ℕ
   pub offering : Offering c r b v mine up reach p
   pub looked :
       (q : ℕ) → p ≤ q → q < c.replicas → is_member r q mine ≡ true
-      → looked_at c r q (end_of c r mine) mine ≡ true
+      → has_looked_since c r q (end_of c r mine) mine ≡ true
 
 pub record AtPut (c : Config) (r b v : ℕ) (mine : List Event) (up : List ℕ)
     (reach : List (Option ℕ)) (p : ℕ) : Type 0 where

@@ -81,7 +81,7 @@ impl Lead {
             failed: [false; 7],
             under_way: false,
             place: Place::Ask(0),
-            leading: Leadership::none(id),
+            leading: Leadership::new(id),
             number: 0,
             up: [0; 7],
             reach: [None; 7],

@@ -30,7 +30,7 @@ kept_by r by verb answer mine state other held = record {
   number = held.number;
   read = held.read;
   put = held.put;
-  dealings = λ p dealing there. let d = held.dealings p dealing there in record { noted = d.noted; joined = d.joined; entered = d.entered; opened = d.opened; minimum = d.minimum; shown = d.shown; has_read = d.has_read };
+  notes = λ p notes there. let d = held.notes p notes there in record { noted = d.noted; joined = d.joined; entered = d.entered; opened = d.opened; minimum = d.minimum; shown = d.shown; has_read = d.has_read };
 }
 
 pub leading_kept : (r : ℕ) (e : Event) (mine : List Event) (state : Leadership) → is_leader_verb e.verb ≡ false → StandsForLeadership r mine state → StandsForLeadership r (e ∷ mine) state

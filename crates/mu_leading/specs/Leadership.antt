@@ -22,20 +22,20 @@ abbrev pub last_grant : ℕ → ℕ → List Event → Option ℕ
 last_grant r p mine = grant_of (newest (λ e. fence_seen r p e.by e.verb e.answer) mine)
 
 -- what r has done at the region p
-pub record StandsForRegionNotes (r p : ℕ) (mine : List Event) (dealing : RegionNotes) : Type 0 where
-  pub noted : dealing.noted ≡ noted_grant r p mine
-  pub joined : dealing.joined ≡ grant_at_joining r p mine
-  pub entered : dealing.entered ≡ open_target r p mine
-  pub opened : dealing.opened ≡ last_opened r p mine
-  pub minimum : dealing.minimum ≡ or_zero (newest (λ e. min_read r p e.by e.verb e.answer) mine)
-  pub shown : dealing.shown ≡ last_grant r p mine
-  pub has_read : dealing.has_read ≡ min_read_since r p mine (last_grant r p mine)
+pub record StandsForRegionNotes (r p : ℕ) (mine : List Event) (notes : RegionNotes) : Type 0 where
+  pub noted : notes.noted ≡ noted_grant r p mine
+  pub joined : notes.joined ≡ grant_at_joining r p mine
+  pub entered : notes.entered ≡ open_target r p mine
+  pub opened : notes.opened ≡ last_opened r p mine
+  pub minimum : notes.minimum ≡ or_zero (newest (λ e. min_read r p e.by e.verb e.answer) mine)
+  pub shown : notes.shown ≡ last_grant r p mine
+  pub has_read : notes.has_read ≡ min_read_since r p mine (last_grant r p mine)
 
 -- the same of every region
 abbrev pub StandForRegionNotes : ℕ → List Event → List RegionNotes → Type 0
-StandForRegionNotes r mine dealings =
-    (p : ℕ) (dealing : RegionNotes) → slice_get dealings p ≡ Some dealing
-    → StandsForRegionNotes r p mine dealing
+StandForRegionNotes r mine all =
+    (p : ℕ) (notes : RegionNotes) → slice_get all p ≡ Some notes
+    → StandsForRegionNotes r p mine notes
 
 -- the state stands for the events of r
 pub record StandsForLeadership (r : ℕ) (mine : List Event) (state : Leadership) : Type 0 where
@@ -48,7 +48,7 @@ pub record StandsForLeadership (r : ℕ) (mine : List Event) (state : Leadership
       state.greatest_minimum
       ≡ greatest (λ e. any_min_read r e.by e.verb e.answer) (leadership r mine)
   pub put : state.greatest_number ≡ greatest (λ e. number_put r e.by e.verb) mine
-  pub dealings : StandForRegionNotes r mine state.dealings
+  pub notes : StandForRegionNotes r mine state.notes
 
 -- the fence that the verb reads is of one of the first n regions
 abbrev pub ReadsWithin : ℕ → Verb → Type 0

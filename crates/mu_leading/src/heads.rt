@@ -115,7 +115,7 @@ fn take_at_peers(peers: &mut [Peer; 7], scores: &Scores, r: u8, event: &Event)
 
 impl Heads {
     /// Nothing read by the replica `id`: all are alive.
-    pub fn none(config: &Config, id: u8) -> Heads
+    pub fn new(config: &Config, id: u8) -> Heads
         requires few { config.now.replicas ≤ 7 }
         requires inside { id < config.now.replicas }
         ensures { StandsForHeads config.now id [] result }

@@ -24,7 +24,7 @@ pub struct Leadership {
     number: Option<u32>,
     greatest_minimum: u64,
     greatest_number: u32,
-    dealings: [RegionNotes; 7],
+    notes: [RegionNotes; 7],
 }
 
 /// Whether a leadership has begun, after the event.
@@ -101,22 +101,22 @@ fn is_fence_changed(joined: Option<Option<u32>>, fence: Fence) -> bool
 }
 
 /// Nothing done at any region, in each region's place.
-fn no_dealings() -> [RegionNotes; 7]
+fn no_notes() -> [RegionNotes; 7]
     ensures { (r : ℕ) → StandForRegionNotes r [] result }
 {
-    [RegionNotes::none(); 7]
+    [RegionNotes::new(); 7]
 }
 
 /// What was done at each region, with the event.
-fn take_at_each(dealings: &mut [RegionNotes; 7], r: u8, event: &Event)
+fn take_at_each(notes: &mut [RegionNotes; 7], r: u8, event: &Event)
     ensures { (c : Config) → (mine : List Event) → IsPossible c r (event.now ∷ mine)
-        → StandForRegionNotes r mine dealings.old
-        → StandForRegionNotes r (event.now ∷ mine) dealings.new }
+        → StandForRegionNotes r mine notes.old
+        → StandForRegionNotes r (event.now ∷ mine) notes.new }
 {
     for p in 0..7u8 {
         let at = usize::from(p);
-        let held = dealings[at];
-        dealings[at] = held.after(r, p, event);
+        let held = notes[at];
+        notes[at] = held.after(r, p, event);
     }
 }
 
@@ -154,7 +154,7 @@ fn is_least_number(b: u32, r: u8, read: u64, put: u32) -> bool
 
 impl Leadership {
     /// No leadership of `r` yet.
-    pub fn none(r: u8) -> Leadership
+    pub fn new(r: u8) -> Leadership
         ensures { StandsForLeadership r [] result }
     {
         Leadership {
@@ -165,19 +165,19 @@ impl Leadership {
             number: None,
             greatest_minimum: 0,
             greatest_number: 0,
-            dealings: no_dealings(),
+            notes: no_notes(),
         }
     }
 
     /// What was done at `p`.
-    fn dealing(&self, p: u8) -> RegionNotes
+    fn notes_of(&self, p: u8) -> RegionNotes
         ensures { (r : ℕ) → (mine : List Event) → p < 7 → StandsForLeadership r mine self.now
             → StandsForRegionNotes r p mine result }
     {
         if p < 7 {
-            self.dealings[usize::from(p)]
+            self.notes[usize::from(p)]
         } else {
-            RegionNotes::none()
+            RegionNotes::new()
         }
     }
 
@@ -186,7 +186,7 @@ impl Leadership {
         ensures { (r : ℕ) → (mine : List Event) → p < 7 → StandsForLeadership r mine self.now
             → result ≡ grant_at_joining r p mine }
     {
-        self.dealing(p).joined
+        self.notes_of(p).joined
     }
 
     /// Whether the event ends the leadership.
@@ -234,7 +234,7 @@ impl Leadership {
         self.number = number_after(self.number, r, event);
         self.greatest_minimum = greatest_minimum_after(self.greatest_minimum, r, event);
         self.greatest_number = greatest_number_after(self.greatest_number, r, event);
-        take_at_each(&mut self.dealings, r, event);
+        take_at_each(&mut self.notes, r, event);
     }
 
     /// Whether the leadership is over.
@@ -278,7 +278,7 @@ impl Leadership {
         ensures { (r : ℕ) → (mine : List Event) → p < 7 → StandsForLeadership r mine self.now
             → result ≡ noted_grant r p mine }
     {
-        self.dealing(p).noted
+        self.notes_of(p).noted
     }
 
     /// The target that `p` was entered with last.
@@ -286,7 +286,7 @@ impl Leadership {
         ensures { (r : ℕ) → (mine : List Event) → p < 7 → StandsForLeadership r mine self.now
             → result ≡ last_opened r p mine }
     {
-        self.dealing(p).opened
+        self.notes_of(p).opened
     }
 
     /// Whether `p` is a member.
@@ -326,7 +326,7 @@ impl Leadership {
         ensures { (r : ℕ) → (mine : List Event) → p < 7 → StandsForLeadership r mine self.now
             → result ≡ has_read_min r p mine }
     {
-        self.dealing(p).has_read_minimum()
+        self.notes_of(p).has_read_minimum()
     }
 
     /// How many regions below `n` have told their minimum.
@@ -429,8 +429,8 @@ impl Leadership {
     {
         p < n
             && !self.over
-            && self.dealing(p).entered == Some(Target::Min)
-            && self.dealing(p).minimum <= u64::from(b)
+            && self.notes_of(p).entered == Some(Target::Min)
+            && self.notes_of(p).minimum <= u64::from(b)
             && self.may_take_number(b)
     }
 }

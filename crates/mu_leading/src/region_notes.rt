@@ -212,7 +212,7 @@ fn has_read_after(held: bool, shown: Option<u32>, r: u8, p: u8, event: &Event) -
 
 impl RegionNotes {
     /// Nothing done.
-    pub fn none() -> RegionNotes
+    pub fn new() -> RegionNotes
         ensures { (r p : ℕ) → StandsForRegionNotes r p [] result }
     {
         RegionNotes {

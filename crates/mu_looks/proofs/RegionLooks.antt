@@ -12,9 +12,9 @@ use Rattle.mu_model.specs.Entering.{last_opened}
 use Rattle.mu_model.specs.Histories.{has}
 use Rattle.mu_model.specs.Leaderships.{is_member, leadership}
 use Rattle.mu_model.specs.Picks.{is_past, is_past_look, last_look, look_answer}
-use Rattle.mu_model.specs.Placing.{looked_before_entering}
+use Rattle.mu_model.specs.Placing.{looked_before_entering, has_looked_since}
 use Rattle.mu_looks.specs.declared.region_looks.Look.{Look}
-use Rattle.mu_looks.specs.Looks.{HoldsLook, begun_time, enter_time, has_looked_since, is_good_since, joining_time, member_time, put_time}
+use Rattle.mu_looks.specs.Looks.{HoldsLook, begun_time, enter_time, is_good_since, joining_time, member_time, put_time}
 use Rattle.mu_model.proofs.Basics.{same_number}
 use Rattle.mu_looks.proofs.Times.{AtMost, is_early, joining_in_time, last_in_time, member_in_time, member_told, not_late}
 

@@ -10,10 +10,10 @@ use Rattle.mu_model.specs.declared.event.Verb.{Verb}
 use Rattle.mu_model.specs.Answers.{is_enter_of}
 use Rattle.mu_model.specs.Contents.{row_count}
 use Rattle.mu_model.specs.Entering.{last_opened}
-use Rattle.mu_model.specs.Histories.{has, newer_or, since}
+use Rattle.mu_model.specs.Histories.{has, newer_or}
 use Rattle.mu_model.specs.Leaderships.{begins_leadership, lands_min, leadership}
 use Rattle.mu_model.specs.Picks.{first_value, is_joining, is_past_look, joined_since_first_put, last_look, look_answer}
-use Rattle.mu_model.specs.Placing.{fuo_read_or_raised, is_good_look, is_slot_put_at, is_within_ring, looked_before_entering, reaches_head, since_joining}
+use Rattle.mu_model.specs.Placing.{fuo_read_or_raised, is_within_ring, looked_before_entering, reaches_head, has_looked_since}
 use Rattle.mu_model.specs.Room.{reserve}
 use Rattle.mu_looks.specs.declared.region_looks.Look.{Look}
 use Rattle.mu_looks.specs.declared.region_looks.RegionLooks.{RegionLooks}
@@ -61,13 +61,6 @@ is_put_in_place r p ring s by _ = false
 -- the time of the last put of r at p in the place s
 abbrev pub put_time : ℕ → ℕ → ℕ → ℕ → List Event → ℕ
 put_time r p ring s mine = last_time (λ e. is_put_in_place r p ring s e.by e.verb) mine
-
--- a look at i in p, made since p became a member, was no `Past`, and no put came since at that
--- place
-abbrev pub has_looked_since : Config → ℕ → ℕ → ℕ → List Event → Bool
-has_looked_since c r p i mine =
-    has (λ e. is_good_look (look_answer r p i e.by e.verb e.answer))
-    (since (λ e. is_slot_put_at r p c.ring i e.by e.verb) (since_joining r p mine))
 
 -- the look at the time good came after the joining, where there was one, and after the put
 abbrev pub is_good_since : Option ℕ → ℕ → ℕ → Bool

@@ -174,7 +174,7 @@ fn larger_of(x: Option<(u32, u16)>, y: Option<(u32, u16)>) -> Option<(u32, u16)>
 
 impl First {
     /// No put.
-    fn none() -> First
+    fn new() -> First
         ensures { (r i : ℕ) → HoldsFirst r i [] result }
     {
         First {
@@ -192,7 +192,7 @@ impl Looks {
     {
         let mut regions = Vec::with_capacity(alloc, 7)?;
         for p in 0..7u8 {
-            regions.push_reserved(RegionLooks::none(alloc, p, config)?);
+            regions.push_reserved(RegionLooks::new(alloc, p, config)?);
         }
         Ok(Looks {
             replica: r,
@@ -200,7 +200,7 @@ impl Looks {
             begun_at: 0,
             joined_at: 0,
             own_reach: None,
-            firsts: vec![in alloc; First::none(); positions_in(config)]?,
+            firsts: vec![in alloc; First::new(); positions_in(config)]?,
             regions,
         })
     }
@@ -295,7 +295,7 @@ impl Looks {
         if usize::from(i) < self.firsts.len() {
             self.firsts[usize::from(i)]
         } else {
-            First::none()
+            First::new()
         }
     }
 

@@ -9,9 +9,9 @@ ghost use Rattle.mu_model.specs.Entering.{last_opened};
 ghost use Rattle.mu_model.specs.Histories.{has};
 ghost use Rattle.mu_model.specs.Leaderships.{leadership};
 ghost use Rattle.mu_model.specs.Picks.{is_past, is_past_look, last_look, look_answer};
-ghost use Rattle.mu_model.specs.Placing.{fuo_read_or_raised, is_within_ring, looked_before_entering, reaches_head};
+ghost use Rattle.mu_model.specs.Placing.{fuo_read_or_raised, is_within_ring, looked_before_entering, reaches_head, has_looked_since};
 ghost use Rattle.mu_model.specs.Room.{reserve};
-ghost use Rattle.mu_looks.specs.Looks.{HoldsEachLook, HoldsLook, StandsForRegionLooks, HoldsPuts, HoldsReach, begun_time, enter_time, has_looked_since, is_good_since, joining_time, member_time, put_time};
+ghost use Rattle.mu_looks.specs.Looks.{HoldsEachLook, HoldsLook, StandsForRegionLooks, HoldsPuts, HoldsReach, begun_time, enter_time, is_good_since, joining_time, member_time, put_time};
 
 use mu_model::{Answer, Config, Event, NoMemory, Verb, positions_in};
 use std::alloc::Global;
@@ -211,7 +211,7 @@ fn reaches(reach: Option<u64>, ring: u16, i: u16) -> bool
 
 impl Look {
     /// No look.
-    pub fn none() -> Look
+    pub fn new() -> Look
         ensures { (c : Config) → (r p i : ℕ) → HoldsLook c r p i [] result }
     {
         Look {
@@ -225,7 +225,7 @@ impl Look {
 
 impl RegionLooks {
     /// Nothing done at `region`. Takes memory for the places and the positions.
-    pub fn none(alloc: Global, region: u8, config: &Config) -> Result<RegionLooks, NoMemory>
+    pub fn new(alloc: Global, region: u8, config: &Config) -> Result<RegionLooks, NoMemory>
         requires { row_count config.now ≤ 1500 }
         ensures { IfOk result
             (λ looks. (r : ℕ) → StandsForRegionLooks config.now r region [] looks) }
@@ -236,7 +236,7 @@ impl RegionLooks {
             entered_at: 0,
             reach: None,
             puts: vec![in alloc; 0; usize::from(config.ring)]?,
-            looks: vec![in alloc; Look::none(); positions_in(config)]?,
+            looks: vec![in alloc; Look::new(); positions_in(config)]?,
         })
     }
 
@@ -261,7 +261,7 @@ impl RegionLooks {
         if usize::from(i) < self.looks.len() {
             self.looks[usize::from(i)]
         } else {
-            Look::none()
+            Look::new()
         }
     }
 

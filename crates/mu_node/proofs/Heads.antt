@@ -16,7 +16,7 @@ use Rattle.mu_model.specs.Regions.{head_raised, region_head}
 use Rattle.mu_model.specs.Room.{head_read, last_head}
 use Rattle.mu_leading.proofs.Within.{known_few}
 use Rattle.mu_known.proofs.Fetched.{front_fits}
-use Rattle.mu_known.proofs.Placed.{is_possible}
+use Rattle.mu_model.proofs.Parts.{part_is_possible}
 
 few_applied : (c : Config) (r : ℕ) (mine : List Event) → IsConfig c → IsPossible c r mine → length (applied c r mine) < 65536
 few_applied c r mine good possible = let few = known_few c r mine good possible in let fits = front_fits (λ v. has_entry c r v mine) (known c r mine) in omega (arith, few, fits)
@@ -33,7 +33,7 @@ raised_by c q by old mine verb needs few fits = fits
 region_heads_fit : (c : Config) (q : ℕ) (past : List Event) → IsConfig c → IsLegalHistory c past → region_head q past < 65536
 region_heads_fit c q [] good legal = omega arith
 region_heads_fit c q (e ∷ past) good legal =
-    raised_by c q e.by (region_head q past) (part e.by past) e.verb legal.1.allowed.may (few_applied c e.by (part e.by past) good (is_possible c e.by past legal.0)) (region_heads_fit c q past good legal.0)
+    raised_by c q e.by (region_head q past) (part e.by past) e.verb legal.1.allowed.may (few_applied c e.by (part e.by past) good (part_is_possible c e.by past legal.0)) (region_heads_fit c q past good legal.0)
 
 abbrev number_in : Answer → ℕ
 number_in (Answer.Number x) = x

@@ -5,7 +5,8 @@ use Rattle.std.proofs.lemmas.List.{length_push, reverse-append, reverse-reverse}
 use Rattle.mu_model.specs.declared.event.Event.{Event}
 use Rattle.mu_model.specs.Histories.{history}
 use Rattle.mu_model.proofs.Basics.{none_some, same_some}
-use Rattle.mu_node.specs.Beats.{ends_by_beat, is_beat_verb}
+use Rattle.mu_node.specs.Beats.{ends_by_beat}
+use Rattle.mu_model.specs.Steps.{is_beat_verb}
 
 get_last : (xs : List Event) (x : Event) → slice_get (xs ++ x ∷ []) (length xs) ≡ Some x
 get_last [] x = refl

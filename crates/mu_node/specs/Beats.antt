@@ -1,12 +1,7 @@
 -- Whether the last event is a beat.
-use Rattle.std.specs.Prelude.{Bool, List, [], false, true, ◌∷◌}
+use Rattle.std.specs.Prelude.{Bool, List, [], false, ◌∷◌}
 use Rattle.mu_model.specs.declared.event.Event.{Event}
-use Rattle.mu_model.specs.declared.event.Verb.{Verb}
-
--- the verb is a beat
-abbrev pub is_beat_verb : Verb → Bool
-is_beat_verb Verb.Beat = true
-is_beat_verb _ = false
+use Rattle.mu_model.specs.Steps.{is_beat_verb}
 
 -- there is an event, and the last one is a beat
 abbrev pub ends_by_beat : List Event → Bool

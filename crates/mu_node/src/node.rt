@@ -9,10 +9,11 @@ ghost use Rattle.mu_model.specs.Ends.{outrun};
 ghost use Rattle.mu_model.specs.Parts.{IsPossible};
 ghost use Rattle.mu_node.specs.Node.{StandsForNode};
 ghost use Rattle.mu_node.specs.Notes.{HasMade, MovesGoing, MovesTurn, TellsTurn};
-ghost use Rattle.mu_node.specs.Beats.{ends_by_beat, is_beat_verb};
+ghost use Rattle.mu_node.specs.Beats.{ends_by_beat};
 ghost use Rattle.mu_node.specs.Turns.{IsOneStep, IsResult, IsTurn, TellsEnd};
 ghost use Rattle.mu_pace.specs.Counters.{AtEachStep};
 ghost use Rattle.mu_pace.specs.Cycles.{KeepsBeside};
+ghost use Rattle.mu_model.specs.Steps.{is_beat_verb};
 
 use crate::ending::{end_of_going, is_stop};
 use crate::planning::or_beat;

@@ -7,7 +7,7 @@ ghost use Rattle.mu_model.specs.Knowledge.{entry_seen, fills, greatest_fuo_read,
 ghost use Rattle.mu_model.specs.Leaderships.{is_member, leadership};
 
 use crate::leadership::{has_ended, is_carried, is_in, proposal_of, starts_leadership};
-use mu_model::{Answer, Config, Event, Verb, commands_of, stands_for_batch, stands_for_mark};
+use mu_model::{Answer, Config, Event, Verb, count_of_commands, stands_for_batch, stands_for_mark};
 
 /// Whether `r` put `v` at `p` and `i` under the number `b` in its leadership, and it landed.
 fn has_put(r: u8, p: u8, i: u16, b: u32, v: u16, part: &[Event]) -> bool
@@ -252,7 +252,7 @@ fn taken_added(config: &Config, client: u64, taken: u64, v: u16) -> u64
         → result ≡ command_count config.now client (values ++ v ∷ []) }
     ensures few { result ≤ taken + 256 }
 {
-    taken + commands_of(config, client, v)
+    taken + count_of_commands(config, client, v)
 }
 
 /// How many commands of the client `r` knows.

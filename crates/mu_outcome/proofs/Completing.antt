@@ -1,8 +1,8 @@
 -- Where every command is in the longest log, and how replicas ended where one isn't.
-use Rattle.std.proofs.Common.{◌≡◌, ◌∙◌, ℕ, suc, zero, ◌+◌, ◌<◌, ◌≤◌, ◌==◌, Bool, true, false, cond, List, [], ◌∷◌, ◌++◌, Some, ap, append_assoc, append-nil, arith, eqb-true, get_or, inl, inr, length, refl, subst, sym, take, drop, true≢false}
+use Rattle.std.proofs.Common.{◌≡◌, ◌∙◌, ℕ, suc, zero, ◌+◌, ◌<◌, ◌≤◌, ◌==◌, Bool, true, false, cond, List, [], ◌∷◌, ◌++◌, Some, ap, append-nil, arith, eqb-true, get_or, inl, inr, length, refl, subst, sym, take, drop, true≢false}
 use Rattle.std.specs.List.{list_any, slice_get}
 use Rattle.std.proofs.Math.Dec.{eqb}
-use Rattle.std.proofs.lemmas.Bool.{and_parts, cases_Bool, cases_eq, cases_lt, eq-eqb, leb-true}
+use Rattle.std.proofs.lemmas.Bool.{and_parts, cases_Bool, cases_eq, eq-eqb, leb-true}
 use Rattle.std.proofs.lemmas.List.{take-append-drop}
 use Rattle.std.proofs.lemmas.Option.{get_or_from_slice_get, slice_get-get_or, slice_get_within}
 use Rattle.kv_store.specs.Commands.{Request}
@@ -13,22 +13,23 @@ use Rattle.mu_input.proofs.JobConfigs.{as_many, row_at}
 use Rattle.mu_model.specs.declared.config.Config.{Config}
 use Rattle.mu_model.specs.declared.event.Event.{Event}
 use Rattle.mu_model.specs.declared.script.End.{End}
-use Rattle.mu_model.specs.Contents.{IsConfig, client_of, holds_all, includes, number_of, row_count, rows_before, rows_in, rows_of}
+use Rattle.mu_model.specs.Contents.{IsConfig, client_of, holds_all, includes, number_of, row_count, rows_before, rows_in}
 use Rattle.mu_model.specs.Ends.{EndsBy, full_length, is_finished, is_full}
-use Rattle.mu_model.specs.Histories.{history}
+use Rattle.mu_model.specs.Histories.{history, IsPrefixOf}
 use Rattle.mu_model.specs.Knowledge.{applied}
 use Rattle.mu_model.specs.Scores.{least_below}
 use Rattle.mu_model.proofs.Basics.{same_some}
-use Rattle.mu_model.proofs.Scans.{all_at}
+use Rattle.mu_model.proofs.Scans.{all_at, rows_in-append}
 use Rattle.mu_outcome.specs.declared.outcome.Outcome.{Outcome}
 use Rattle.mu_outcome.specs.declared.status.Status.{Status}
 use Rattle.mu_outcome.specs.Completion.{Completes, HasAllCommands, IsCutShort}
 use Rattle.mu_outcome.specs.Entries.{commands_in, longest}
-use Rattle.mu_outcome.specs.Outcomes.{Agrees, IsPrefixOf, journal_of, log_of, or_empty}
+use Rattle.mu_outcome.specs.Outcomes.{Agrees, journal_of, log_of, or_empty}
 use Rattle.mu_outcome.specs.Runs.{IsRunOver}
 use Rattle.mu_outcome.proofs.LongestLogs.{longest_is, longest_most}
 use Rattle.mu_outcome.proofs.RowsOnce.{Count, at_least, at_most, fewer, once, place_of, stands_at}
 use Rattle.mu_outcome.proofs.Spelled.{spell_at, spell_in, spell_length, spell_numbers, spell_row}
+use Rattle.mu_agree.proofs.NextBatch.{same_number_same_row}
 
 -- earlier rows of a client are fewer
 before_grows : (c : Config) (client j n : ℕ) → client_of c j ≡ client → rows_before c client j < rows_before c client (suc j + n)
@@ -48,31 +49,6 @@ before_grows c client j (suc n) own =
     go true k = omega arith
     go false k = omega arith
 
-not_below : (c : Config) → IsConfig c → (j k : ℕ) → j < k → k < row_count c → client_of c j ≡ client_of c k → number_of c j ≡ number_of c k → ⊥
-not_below c good j k less low own same =
-    let gap : (n : ℕ) × (k ≡ suc j + n) = between j k less in
-    let grows = before_grows c (client_of c k) j gap.0 own in
-    let there = ap (rows_before c (client_of c k)) gap.1 in
-    let first = good.numbers j (omega (arith, less, low)) ∙ ap (λ client. rows_before c client j + 1) own in
-    let second = good.numbers k low in
-    absurd (omega (arith, grows, there, first, second, same))
-  where
-    between : (a b : ℕ) → a < b → (n : ℕ) × (b ≡ suc a + n)
-    between zero zero less = absurd (omega (arith, less))
-    between zero (suc b) less = (b, omega arith)
-    between (suc a) zero less = absurd (omega (arith, less))
-    between (suc a) (suc b) less = let rest = between a b (omega (arith, less)) in let is = rest.1 in (rest.0, omega (arith, is))
-
--- rows of the same client and number are one
-one_row : (c : Config) → IsConfig c → (j k : ℕ) → j < row_count c → k < row_count c → client_of c j ≡ client_of c k → number_of c j ≡ number_of c k → j ≡ k
-one_row c good j k low high own same = elim (cases_lt j k) [
-  | inl less ↦ absurd (not_below c good j k less high own same)
-  | inr least ↦ elim (cases_lt k j) [
-    | inl less ↦ absurd (not_below c good k j less low (sym own) (sym same))
-    | inr most ↦ omega (arith, least, most)
-  ]
-]
-
 -- rows with the same command are one
 same_row : (job : Job) (j k : ℕ) (x : Request) → IsConfig job.config → HaveHeads job.config.width job.commands job.config.rows → slice_get job.commands j ≡ Some x → slice_get job.commands k ≡ Some x → j ≡ k
 same_row job j k x good have at there =
@@ -83,7 +59,7 @@ same_row job j k x good have at there =
     let one = row_at c.width job.commands c.rows have j (omega (arith, many, low)) in
     let other = row_at c.width job.commands c.rows have k (omega (arith, many, high)) in
     let same : one.0 ≡ other.0 = same_some one.0 x (sym one.1.there ∙ at) ∙ sym (same_some other.0 x (sym other.1.there ∙ there)) in
-    one_row c good j k (omega (arith, many, low)) (omega (arith, many, high))
+    same_number_same_row c good j k (omega (arith, many, low)) (omega (arith, many, high))
     (one.1.client ∙ (ap (λ (y : Request). y.client) same ∙ sym other.1.client))
     (one.1.number ∙ (ap (λ (y : Request). y.number) same ∙ sym other.1.number))
 
@@ -197,12 +173,8 @@ among_both q xs ys there = let at = place_of q xs there in stands_at (xs ++ ys) 
     front (z ∷ zs) zero at = at
     front (z ∷ zs) (suc i) at = front zs i at
 
-rows_both : (c : Config) (xs ys : List ℕ) → rows_in c (xs ++ ys) ≡ rows_in c xs ++ rows_in c ys
-rows_both c [] ys = refl
-rows_both c (x ∷ xs) ys = ap (λ l. rows_of c x ++ l) (rows_both c xs ys) ∙ sym (append_assoc (rows_of c x) (rows_in c xs) (rows_in c ys))
-
 among_front : (c : Config) (q : ℕ) (values rest all : List ℕ) → all ≡ values ++ rest → list_any (eqb q) (rows_in c values) ≡ true → list_any (eqb q) (rows_in c all) ≡ true
-among_front c q values rest all is there = subst (λ l. list_any (eqb q) l ≡ true) (sym (ap (rows_in c) is ∙ rows_both c values rest)) (among_both q (rows_in c values) (rows_in c rest) there)
+among_front c q values rest all is there = subst (λ l. list_any (eqb q) l ≡ true) (sym (ap (rows_in c) is ∙ rows_in-append c values rest)) (among_both q (rows_in c values) (rows_in c rest) there)
 
 included_among : (q : ℕ) (js : List ℕ) → includes q js ≡ true → list_any (eqb q) js ≡ true
 included_among q [] there = absurd (true≢false (sym there))

@@ -1,12 +1,12 @@
 -- What an outcome says.
-use Rattle.std.specs.Prelude.{ℕ, ◌+◌, ◌≡◌, ◌<◌, ◌≤◌, ◌⊎◌, ◌==◌, if◌then◌else◌, List, [], ◌++◌, length, slice_get, map, Some, None, All}
+use Rattle.std.specs.Prelude.{ℕ, ◌+◌, ◌≡◌, ◌<◌, ◌≤◌, ◌⊎◌, ◌==◌, if◌then◌else◌, List, [], length, slice_get, map, Some, None, All}
 use Rattle.std.specs.declared.option.Option.{Option}
 use Rattle.kv_store.specs.Tables.{replies}
 use Rattle.kv_store.specs.Sessions.{IsInSession}
 use Rattle.mu_model.specs.declared.event.Event.{Event}
 use Rattle.mu_model.specs.declared.script.End.{End}
 use Rattle.mu_model.specs.Journals.{Record}
-use Rattle.mu_model.specs.Histories.{history}
+use Rattle.mu_model.specs.Histories.{history, IsPrefixOf}
 use Rattle.mu_model.specs.Contents.{StandsForEntry, row_count}
 use Rattle.mu_model.specs.Ends.{Obeys}
 use Rattle.mu_model.specs.Knowledge.{applied, commits}
@@ -39,10 +39,6 @@ log_of o r = or_empty (slice_get o.logs r)
 -- what replica r committed: positions and values
 abbrev pub commits_of : Outcome → ℕ → List (ℕ × ℕ)
 commits_of o r = or_empty (slice_get (map (map pair_of) o.commits) r)
-
--- one list begins the other
-abbrev pub IsPrefixOf : {A : Type 0} → List A → List A → Type 0
-IsPrefixOf {A} xs ys = (rest : List A) × (ys ≡ xs ++ rest)
 
 -- the agreement of the replicas, and the replies over what they agreed on
 pub record Agrees (o : Outcome) : Type 0 where

@@ -11,7 +11,7 @@ use Rattle.mu_model.specs.Knowledge.{commits}
 use Rattle.mu_model.specs.Leaderships.{begins_leadership, is_member, proposal_number}
 use Rattle.mu_model.specs.Steps.{commits_more, is_fencing, is_lagging, is_named, is_over_after, leads}
 use Rattle.mu_model.specs.Stretches.{is_replication}
-use Rattle.mu_model.proofs.Basics.{event_by}
+use Rattle.mu_model.proofs.Basics.{event_by, true_or, or_true}
 use Rattle.mu_pace.specs.Away.{AwayIsInTime, EndsStretch, IsAway, IsFresh, LooksBeside, TakesIdleStep}
 use Rattle.mu_pace.specs.Beside.{is_beside}
 use Rattle.mu_pace.specs.Counters.{IsInTime, steps_left}
@@ -20,7 +20,7 @@ use Rattle.mu_pace.specs.Watches.{asking_after, bringing_up, falls_behind, is_br
 use Rattle.mu_pace.specs.Weights.{IsSized, Sizes, Stage}
 use Rattle.mu_pace.proofs.Beside.{asked_on, beside_keeps, no_milestone, not_more, quiet, unallowed}
 use Rattle.mu_pace.proofs.Counting.{allowed_here}
-use Rattle.mu_pace.proofs.Placed.{asks_anew, met_leaves, over_progress, places_lead, shut, true_left, true_right, unnamed_leaves}
+use Rattle.mu_pace.proofs.Placed.{asks_anew, met_leaves, over_progress, places_lead, shut, unnamed_leaves}
 use Rattle.mu_pace.proofs.Rooms.{kinds_of_step}
 
 start : (c : Config) (r : ℕ) → IsFresh c r []
@@ -37,15 +37,15 @@ no_progress : (c : Config) (r : ℕ) (past : List Event) (e : Event) → is_mile
 no_progress c r past e m o = kinds_of_step.stays_closed (progressing c r) past e (unallowed (is_milestone c r) (limit_now c r) past e m) o
 
 shut_bringing : (c : Config) (r p : ℕ) (past : List Event) (e : Event) → falls_behind c r p past e ≡ false → leaves c r (is_over_after r) past e ≡ true → steps_left (bringing_up c r p) (e ∷ past) ≡ None
-shut_bringing c r p past e f l = shut (bringing_up c r p) past e (unallowed (falls_behind c r p) (limit_now c r) past e f) (true_right (is_brought_up c r p (e ∷ past)) (leaves c r (is_over_after r) past e) l)
+shut_bringing c r p past e f l = shut (bringing_up c r p) past e (unallowed (falls_behind c r p) (limit_now c r) past e f) (or_true (is_brought_up c r p (e ∷ past)) (leaves c r (is_over_after r) past e) l)
 
 ends_leaves : (c : Config) (r : ℕ) (past : List Event) (e : Event) → is_replication past e ≡ true → EndsStretch c r past e → leaves c r (is_over_after r) past e ≡ true
-ends_leaves c r past e t (inl b) = true_left (begins_leadership r e) (turns_away c r (is_over_after r) past e) b
+ends_leaves c r past e t (inl b) = true_or (begins_leadership r e) (turns_away c r (is_over_after r) past e) b
 ends_leaves c r past e t (inr (inl o)) = met_leaves c r (is_over_after r) past e t o
 ends_leaves c r past e t (inr (inr n)) = unnamed_leaves c r (is_over_after r) past e t n
 
 unled_asks : (c : Config) (r p : ℕ) (past : List Event) (e : Event) → is_replication past e ≡ true → leads r past ≡ false → IsInTime (asking_after c r p) (e ∷ past)
-unled_asks c r p past e t n = asks_anew c r p past e 1 (omega arith) (met_leaves c r (λ before g. not (leads r before) || is_fencing p g) past e t (true_left (not (leads r past)) (is_fencing p e) (ap not n)))
+unled_asks c r p past e t n = asks_anew c r p past e 1 (omega arith) (met_leaves c r (λ before g. not (leads r before) || is_fencing p g) past e t (true_or (not (leads r past)) (is_fencing p e) (ap not n)))
 
 over : (c : Config) (r : ℕ) (s : Sizes) (t : Stage) (past : List Event) (e : Event) → IsSized s → IsPlacedAt c r s t past → is_replication past e ≡ true → is_over_after r past e ≡ true
     → is_milestone c r past e ≡ false → ((p : ℕ) → falls_behind c r p past e ≡ false) → IsAway c r (e ∷ past)

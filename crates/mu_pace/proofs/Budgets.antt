@@ -13,37 +13,24 @@ use Rattle.mu_model.specs.Leaderships.{noted_grant}
 use Rattle.mu_model.specs.Legal.{IsLegalHistory}
 use Rattle.mu_model.specs.Regions.{asks, beats, fence, fence_grant, is_ask_by, is_beat_by, is_grant_by, is_grant_of}
 use Rattle.mu_model.proofs.Counts.{how_many_within}
-use Rattle.mu_model.proofs.Owned.{IsOwnTest, how_many-part}
+use Rattle.mu_model.proofs.Owned.{IsOwnTest, how_many-part, beats-own, asks-own}
 use Rattle.mu_agree.proofs.Possible.{answered, at_event, same_fence}
 use Rattle.mu_pace.specs.Possible.{CountsFit}
-use Rattle.mu_agree.proofs.Readings.{number_is, part_short}
+use Rattle.mu_agree.proofs.Readings.{number_is}
+use Rattle.mu_model.proofs.Budgets.{part_within_budget}
 
 -- what a replica alone does is at most its steps
 own_few : (c : Config) (q : ℕ) (test : Event → Bool) (past : List Event) → IsLegalHistory c past → IsOwnTest q test → how_many test past ≤ c.budget
 own_few c q test past h own =
     let few = how_many_within test (part q past) in
     let same = how_many-part test q own past in
-    let most = part_short c q past h in omega arith
+    let most = part_within_budget c q past h in omega arith
 
 grants-own : (q : ℕ) → IsOwnTest q (is_grant_of q)
 grants-own q = record { own = λ e h. go e.by e.verb h }
   where
     go : (by : ℕ) (v : Verb) → (by == q) ≡ false → is_grant_by q by v ≡ false
     go by (Verb.Grant w) h = h
-    go by v h = refl
-
-beats-own : (q : ℕ) → IsOwnTest q (λ e. is_beat_by q e.by e.verb)
-beats-own q = record { own = λ e h. go e.by e.verb h }
-  where
-    go : (by : ℕ) (v : Verb) → (by == q) ≡ false → is_beat_by q by v ≡ false
-    go by Verb.Beat h = h
-    go by v h = refl
-
-asks-own : (w p : ℕ) → IsOwnTest w (λ e. is_ask_by w p e.by e.verb)
-asks-own w p = record { own = λ e h. go e.by e.verb h }
-  where
-    go : (by : ℕ) (v : Verb) → (by == w) ≡ false → is_ask_by w p by v ≡ false
-    go by (Verb.Ask q) h = rw h refl
     go by v h = refl
 
 grant_few : (c : Config) (p : ℕ) (past : List Event) → IsLegalHistory c past → fence_grant p past ≤ c.budget

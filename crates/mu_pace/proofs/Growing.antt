@@ -5,13 +5,15 @@ use Rattle.std.specs.Prelude.{if◌then◌else◌, not, ◌||◌}
 use Rattle.mu_model.specs.declared.config.Config.{Config}
 use Rattle.mu_model.specs.declared.event.Event.{Event}
 use Rattle.mu_model.specs.Bounds.{copied, is_copying, is_learning, members, stays}
-use Rattle.mu_model.specs.Histories.{greatest, has, max_with, newer_or}
+use Rattle.mu_model.specs.Histories.{greatest, has, newer_or}
 use Rattle.mu_model.specs.Knowledge.{grown, known}
 use Rattle.mu_model.specs.Leaderships.{begins_leadership, grant_at_joining, is_member, leadership, lands_min, noted_grant}
 use Rattle.mu_model.specs.Stretches.{steps}
 use Rattle.mu_agree.proofs.Counting.{count_more}
 use Rattle.mu_pace.specs.Counters.{paid}
 use Rattle.mu_pace.specs.Watches.{earns}
+use Rattle.mu_agree.proofs.Tame.{known_longer}
+use Rattle.mu_model.proofs.Counts.{max_with_grows}
 
 -- a stretch of one leadership, shorter by its last event
 pub stays_less : (r : ℕ) (e : Event) (window : List Event) → stays r (e ∷ window) ≡ true → (begins_leadership r e ≡ false) × (stays r window ≡ true)
@@ -64,24 +66,13 @@ twice_paid pays [] older = refl
 twice_paid pays (e ∷ window) older = let ih = twice_paid pays window older in omega arith
 
 -- what is known grows
-grown_long : (values : List ℕ) (o : Option ℕ) → length values ≤ length (grown values o)
-grown_long values None = omega arith
-grown_long values (Some v) = omega (arith, length-append values (v ∷ []))
-
-pub known_on : (c : Config) (r : ℕ) (e : Event) (past : List Event) → length (known c r past) ≤ length (known c r (e ∷ past))
-known_on c r e past = grown_long (known c r past) _
-
 pub known_grows : (c : Config) (r : ℕ) (newer older : List Event) → length (known c r older) ≤ length (known c r (newer ++ older))
 known_grows c r [] older = omega arith
-known_grows c r (e ∷ newer) older = let a = known_grows c r newer older in let b = known_on c r e (newer ++ older) in omega arith
+known_grows c r (e ∷ newer) older = let a = known_grows c r newer older in let b = known_longer c r e (newer ++ older) in omega arith
 
 -- the greatest of a leadership grows
-max_up : (o : Option ℕ) (x : ℕ) → x ≤ max_with o x
-max_up None x = omega arith
-max_up (Some y) x = omega arith
-
 pub greatest_on : (tells : Event → Option ℕ) (r : ℕ) (e : Event) (past : List Event) → begins_leadership r e ≡ false → greatest tells (leadership r past) ≤ greatest tells (leadership r (e ∷ past))
-greatest_on tells r e past b = rw b (max_up (tells e) (greatest tells (leadership r past)))
+greatest_on tells r e past b = rw b (max_with_grows (tells e) (greatest tells (leadership r past)))
 
 pub greatest_grows : (tells : Event → Option ℕ) (r : ℕ) (window older : List Event) → stays r window ≡ true → greatest tells (leadership r older) ≤ greatest tells (leadership r (window ++ older))
 greatest_grows tells r [] older s = omega arith

@@ -10,7 +10,7 @@ use Rattle.mu_model.specs.declared.event.Verb.{Verb}
 use Rattle.mu_model.specs.Bounds.{members}
 use Rattle.mu_model.specs.Histories.{count_below, newer_or}
 use Rattle.mu_model.specs.Leaderships.{grant_at_joining, has_quorum, is_member, majority_of, noted_grant}
-use Rattle.mu_model.proofs.Basics.{event_by, same_number}
+use Rattle.mu_model.proofs.Basics.{event_by, same_number, false_and, and_false}
 use Rattle.mu_pace.specs.Members.{CountsOfMembers, IsNextMember, members_below, members_from}
 
 -- tests that are the same below n count the same
@@ -35,14 +35,6 @@ count_one (suc n) p f g l h e s = elim (cases_eq n p) [
   | inr x ↦ one_more (f n) (g n) (count_below n f) (count_below n g) (s n x) (count_one n p f g (let d = x in elim (cases_lt p n) [ inl l' ↦ l' | inr m ↦ absurd (x (omega arith)) ]) h e s)
 ]
 
-false_left : (a b : Bool) → a ≡ false → (a && b) ≡ false
-false_left true b h = absurd (true≢false h)
-false_left false b h = refl
-
-false_right : (a b : Bool) → b ≡ false → (a && b) ≡ false
-false_right true b h = h
-false_right false b h = refl
-
 le_true : (p q : ℕ) (b : Bool) → p ≤ q → (nat_le p q && b) ≡ b
 le_true p q b l = go (nat_le p q) (le-leb p q l)
   where
@@ -51,7 +43,7 @@ le_true p q b l = go (nat_le p q) (le-leb p q l)
     go false h = absurd (true≢false (sym h))
 
 le_false : (p q : ℕ) (b : Bool) → q < p → (nat_le p q && b) ≡ false
-le_false p q b l = false_left (nat_le p q) b (lt-leb p q l)
+le_false p q b l = false_and (nat_le p q) b (lt-leb p q l)
 
 lt_true : (q p : ℕ) (b : Bool) → q < p → (nat_lt q p && b) ≡ b
 lt_true q p b l = go (nat_lt q p) (lt-ltb q p l)
@@ -74,7 +66,7 @@ next c r p q past m =
     (λ k d. elim (cases_lt k p) [
       | inl x ↦ le_false p k (is_member r k past) x ∙ sym (le_false q k (is_member r k past) (omega arith))
       | inr x ↦ elim (cases_lt k q) [
-        | inl y ↦ (let z : is_member r k past ≡ false = m.between k (elim (cases_lt p k) [ inl l ↦ l | inr g ↦ absurd (d (omega arith)) ]) y in false_right (nat_le p k) (is_member r k past) z ∙ sym (false_right (nat_le q k) (is_member r k past) z))
+        | inl y ↦ (let z : is_member r k past ≡ false = m.between k (elim (cases_lt p k) [ inl l ↦ l | inr g ↦ absurd (d (omega arith)) ]) y in and_false (nat_le p k) (is_member r k past) z ∙ sym (and_false (nat_le q k) (is_member r k past) z))
         | inr y ↦ le_true p k (is_member r k past) x ∙ sym (le_true q k (is_member r k past) y)
       ]
     ])
@@ -116,7 +108,7 @@ none zero f h = refl
 none (suc n) f h = rw (h n (omega arith)) (none n f (λ k l. h k (omega arith)))
 
 none_below : (c : Config) (r p : ℕ) (past : List Event) → ((k : ℕ) → k < p → is_member r k past ≡ false) → members_below c r p past ≡ 0
-none_below c r p past h = none c.replicas (λ q. nat_lt q p && is_member r q past) (λ k l. elim (cases_lt k p) [ inl x ↦ false_right (nat_lt k p) (is_member r k past) (h k x) | inr x ↦ lt_false k p (is_member r k past) x ])
+none_below c r p past h = none c.replicas (λ q. nat_lt q p && is_member r q past) (λ k l. elim (cases_lt k p) [ inl x ↦ and_false (nat_lt k p) (is_member r k past) (h k x) | inr x ↦ lt_false k p (is_member r k past) x ])
 
 -- who is a member after a number landed at p
 landed_here : (t : Bool) (old new : Option (Option ℕ)) → t ≡ true → new ≡ Some (None) ⊎ (is_some new ≡ true) → is_some (if t then newer_or old new else old) ≡ true
@@ -133,7 +125,7 @@ joined : (c : Config) (r p b : ℕ) (past : List Event) → p < c.replicas → i
 joined c r p b past l m =
     count_one c.replicas p (λ q. is_member r q (event_by r (Verb.PutMin p b) Answer.Done ∷ past)) (λ q. is_member r q past) l
     (landed_here ((r == r) && (p == p)) (grant_at_joining r p past) (Some (noted_grant r p past)) (and_from (r == r) (p == p) (same_number r) (same_number p)) (inr refl)) m
-    (λ k d. landed_other ((r == r) && (p == k)) (grant_at_joining r k past) (Some (noted_grant r k past)) (false_right (r == r) (p == k) (ne_eqb p k (λ e. d (sym e)))))
+    (λ k d. landed_other ((r == r) && (p == k)) (grant_at_joining r k past) (Some (noted_grant r k past)) (and_false (r == r) (p == k) (ne_eqb p k (λ e. d (sym e)))))
 
 majority : (c : Config) (r : ℕ) (past : List Event) → has_quorum c r past ≡ true → c.replicas < 2 * members c r past
 majority c r past h =

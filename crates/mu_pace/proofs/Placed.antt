@@ -21,6 +21,7 @@ use Rattle.mu_pace.proofs.Counting.{allowed_here, allowed_now}
 use Rattle.mu_pace.proofs.Growing.{member_on}
 use Rattle.mu_pace.proofs.Rooms.{kinds_of_step, steps_of_progress}
 use Rattle.mu_pace.proofs.Weights.{weights_fall}
+use Rattle.mu_model.proofs.Basics.{true_or, or_true}
 
 -- a step that closes a count, where none opens, leaves it closed
 shut_after : (closes counts : Bool) (pays : ℕ) (o : Option ℕ) → closes ≡ true → left_after closes counts pays o ≡ None
@@ -31,17 +32,9 @@ shut_after false counts pays (Some x) c = absurd (true≢false (sym c))
 pub shut : (w : Watch) (past : List Event) (e : Event) → w.allows (e ∷ past) ≡ None → w.closes past e ≡ true → steps_left w (e ∷ past) ≡ None
 shut w past e n k = ap (λ x. fewer x (left_after (w.closes past e) (w.counts past e) (w.pays past e) (steps_left w past))) n ∙ shut_after (w.closes past e) (w.counts past e) (w.pays past e) (steps_left w past) k
 
-pub true_left : (a b : Bool) → a ≡ true → (a || b) ≡ true
-true_left true b h = refl
-true_left false b h = absurd (true≢false (sym h))
-
-pub true_right : (a b : Bool) → b ≡ true → (a || b) ≡ true
-true_right true b h = refl
-true_right false b h = h
-
 -- a replication event that meets what is waited for, or before which r isn't named, leaves
 pub met_leaves : (c : Config) (r : ℕ) (met : List Event → Event → Bool) (past : List Event) (e : Event) → is_replication past e ≡ true → met past e ≡ true → leaves c r met past e ≡ true
-met_leaves c r met past e t m = true_right (begins_leadership r e) (is_replication past e && (not (is_named c r past) || met past e)) (both (is_replication past e) (not (is_named c r past)) (met past e) t m)
+met_leaves c r met past e t m = or_true (begins_leadership r e) (is_replication past e && (not (is_named c r past) || met past e)) (both (is_replication past e) (not (is_named c r past)) (met past e) t m)
   where
     both : (t u v : Bool) → t ≡ true → v ≡ true → (t && (u || v)) ≡ true
     both true true v t m = refl
@@ -49,7 +42,7 @@ met_leaves c r met past e t m = true_right (begins_leadership r e) (is_replicati
     both false u v t m = absurd (true≢false (sym t))
 
 pub unnamed_leaves : (c : Config) (r : ℕ) (met : List Event → Event → Bool) (past : List Event) (e : Event) → is_replication past e ≡ true → is_named c r past ≡ false → leaves c r met past e ≡ true
-unnamed_leaves c r met past e t n = true_right (begins_leadership r e) (is_replication past e && (not (is_named c r past) || met past e)) (both (is_replication past e) (is_named c r past) (met past e) t n)
+unnamed_leaves c r met past e t n = or_true (begins_leadership r e) (is_replication past e && (not (is_named c r past) || met past e)) (both (is_replication past e) (is_named c r past) (met past e) t n)
   where
     both : (t u v : Bool) → t ≡ true → u ≡ false → (t && (not u || v)) ≡ true
     both true true v t n = absurd (true≢false n)
@@ -60,7 +53,7 @@ unnamed_leaves c r met past e t n = true_right (begins_leadership r e) (is_repli
 asking_none : (c : Config) (r p : ℕ) (past : List Event) (e : Event) → is_member r p (e ∷ past) ≡ true → steps_left (asking_after c r p) (e ∷ past) ≡ None
 asking_none c r p past e m =
     shut (asking_after c r p) past e (none (is_member r p (e ∷ past)) m)
-    (true_left (is_member r p (e ∷ past)) (leaves c r (λ before f. not (leads r before) || is_fencing p f) past e) m)
+    (true_or (is_member r p (e ∷ past)) (leaves c r (λ before f. not (leads r before) || is_fencing p f) past e) m)
   where
     none : (t : Bool) → t ≡ true → (if not t then Some (2 * limit_now c r (e ∷ past)) else None) ≡ None
     none true h = refl
@@ -92,14 +85,14 @@ bringing_none c r p (e ∷ past) m = go (begins_leadership r e) refl (bringing_n
     before b false k = k
 
     go : (t : Bool) → begins_leadership r e ≡ t → (is_member r p past ≡ false → steps_left (bringing_up c r p) past ≡ None) → steps_left (bringing_up c r p) (e ∷ past) ≡ None
-    go true b ih = shut (bringing_up c r p) past e none (true_right (is_brought_up c r p (e ∷ past)) (leaves c r (is_over_after r) past e) (true_left (begins_leadership r e) _ b))
+    go true b ih = shut (bringing_up c r p) past e none (or_true (is_brought_up c r p (e ∷ past)) (leaves c r (is_over_after r) past e) (true_or (begins_leadership r e) _ b))
     go false b ih = kinds_of_step.stays_closed (bringing_up c r p) past e none (ih (before b (is_member r p past) refl))
 
 -- the count of one that is brought up is closed
 brought_none : (c : Config) (r p : ℕ) (past : List Event) (e : Event) → is_brought_up c r p (e ∷ past) ≡ true → steps_left (bringing_up c r p) (e ∷ past) ≡ None
 brought_none c r p past e b =
     shut (bringing_up c r p) past e (unallowed (falls_behind c r p) (limit_now c r) past e (none (is_joining_step r past e || is_learning c r past e) _ (is_member r p (e ∷ past)) (is_brought_up c r p (e ∷ past)) b))
-    (true_left (is_brought_up c r p (e ∷ past)) (leaves c r (is_over_after r) past e) b)
+    (true_or (is_brought_up c r p (e ∷ past)) (leaves c r (is_over_after r) past e) b)
   where
     none : (a b m k : Bool) → k ≡ true → (a && (b && (m && not k))) ≡ false
     none true true true true h = refl
@@ -150,8 +143,8 @@ asks_on c r p s past e n u t l h step = go (is_member r p (e ∷ past)) refl
     by_step m (inl k) = kinds_of_step.opens_more (asking_after c r p) (2 * limit_now c r (e ∷ past)) n u past e (allowed m) l k h
     by_step m (inr f) =
         kinds_of_step.opens_anew (asking_after c r p) (2 * limit_now c r (e ∷ past)) u past e (allowed m)
-        (true_right (is_member r p (e ∷ past)) (leaves c r (λ before g. not (leads r before) || is_fencing p g) past e)
-        (met_leaves c r (λ before g. not (leads r before) || is_fencing p g) past e t (true_right (not (leads r past)) (is_fencing p e) f))) l
+        (or_true (is_member r p (e ∷ past)) (leaves c r (λ before g. not (leads r before) || is_fencing p g) past e)
+        (met_leaves c r (λ before g. not (leads r before) || is_fencing p g) past e t (or_true (not (leads r past)) (is_fencing p e) f))) l
 
     go : (b : Bool) → is_member r p (e ∷ past) ≡ b → HasRoom (asking_after c r p) u (e ∷ past)
     go true m = kinds_of_step.closed (asking_after c r p) u (e ∷ past) (asking_none c r p past e m)
@@ -165,7 +158,7 @@ asks_anew c r p past e u l away = go (is_member r p (e ∷ past)) refl
     go true m = kinds_of_step.closed (asking_after c r p) u (e ∷ past) (asking_none c r p past e m)
     go false m =
         kinds_of_step.opens_anew (asking_after c r p) (2 * limit_now c r (e ∷ past)) u past e (allowed_now (λ now. not (is_member r p now)) (λ now. 2 * limit_now c r now) (e ∷ past) (ap not m))
-        (true_right (is_member r p (e ∷ past)) (leaves c r (λ before g. not (leads r before) || is_fencing p g) past e) away) l
+        (or_true (is_member r p (e ∷ past)) (leaves c r (λ before g. not (leads r before) || is_fencing p g) past e) away) l
 
 -- bringing up, by a step that may open the count anew
 brings_on : (c : Config) (r p : ℕ) (past : List Event) (e : Event) (n u : ℕ) → u ≤ limit_now c r (e ∷ past) → u + 1 ≤ n + earns c r past e → HasRoom (bringing_up c r p) n past → HasRoom (bringing_up c r p) u (e ∷ past)
@@ -270,7 +263,7 @@ milestone c r s t u past e z at k = record {
 
 -- where every command is known each step is progress
 known_progress : (c : Config) (r : ℕ) (past : List Event) (e : Event) → knows_all c r past ≡ true → is_progress c r past e ≡ true
-known_progress c r past e k = true_right (commits_more c r past e) _ (true_right (is_over_after r past e) _ (true_right (is_lagging c r past e) _ (true_left (knows_all c r past) _ k)))
+known_progress c r past e k = or_true (commits_more c r past e) _ (or_true (is_over_after r past e) _ (or_true (is_lagging c r past e) _ (true_or (knows_all c r past) _ k)))
 
 known : (c : Config) (r : ℕ) (s : Sizes) (t u : Stage) (past : List Event) (e : Event) → IsSized s → IsPlacedAt c r s t past → TakesKnown c r s t u past e → IsPlacedAt c r s u (e ∷ past)
 known c r s t u past e z at k = record {
@@ -319,7 +312,7 @@ first c r s u past e z k = record {
   place = k.place;
   progressing = steps_of_progress.begins c r (weight s u) past e k.milestone k.quiet (let a = weights_fall.light s u z k.place in let b = same_limit c r s (e ∷ past) k.sizes in omega arith);
   asking = λ p l. asks_anew c r p past e (asking s p u) (let a = asking_falls.light s p u z (let a = k.sizes.replicas in omega arith) k.place in let b = same_limit c r s (e ∷ past) k.sizes in omega arith)
-      (met_leaves c r (λ before g. not (leads r before) || is_fencing p g) past e k.turn (true_left (not (leads r past)) (is_fencing p e) (ap not k.not_led)));
+      (met_leaves c r (λ before g. not (leads r before) || is_fencing p g) past e k.turn (true_or (not (leads r past)) (is_fencing p e) (ap not k.not_led)));
   bringing = λ p. closed_brought (is_level u) (bringing_up c r p) (weight s u) (e ∷ past)
       (kinds_of_step.stays_closed (bringing_up c r p) past e (unallowed (falls_behind c r p) (limit_now c r) past e (k.none_behind p)) (k.quiet_bringing p));
 }
@@ -349,7 +342,7 @@ in_time c r s t now z at = record {
 
 -- a leadership that is over has made progress, and brings nobody up
 pub over_progress : (c : Config) (r : ℕ) (past : List Event) (e : Event) → is_over_after r past e ≡ true → is_progress c r past e ≡ true
-over_progress c r past e o = true_right (commits_more c r past e) _ (true_left (is_over_after r past e) _ o)
+over_progress c r past e o = or_true (commits_more c r past e) _ (true_or (is_over_after r past e) _ o)
 
 over : (c : Config) (r : ℕ) (s : Sizes) (t : Stage) (past : List Event) (e : Event) → IsSized s → IsPlacedAt c r s t past → is_replication past e ≡ true → is_over_after r past e ≡ true
     → is_milestone c r past e ≡ false → ((p : ℕ) → falls_behind c r p past e ≡ false) → AreInTime c r (e ∷ past)
@@ -357,7 +350,7 @@ over c r s t past e z at turn o m b = record {
   progressing = kinds_of_step.closes (progressing c r) 1 past e (unallowed (is_milestone c r) (limit_now c r) past e m) (met_leaves c r (is_progress c r) past e turn (over_progress c r past e o));
   asking = λ p l. asks_on c r p s past e (asking s p t) 1 turn (omega arith) (at.asking p l) (λ k. inl (let a = asking_falls.heavy s p t z (let d = at.sizes.replicas in omega arith) at.place in omega arith));
   bringing = λ p. kinds_of_step.closes (bringing_up c r p) 1 past e (unallowed (falls_behind c r p) (limit_now c r) past e (b p))
-      (true_right (is_brought_up c r p (e ∷ past)) (leaves c r (is_over_after r) past e) (met_leaves c r (is_over_after r) past e turn o));
+      (or_true (is_brought_up c r p (e ∷ past)) (leaves c r (is_over_after r) past e) (met_leaves c r (is_over_after r) past e turn o));
 }
 
 resigned : (c : Config) (r : ℕ) (past : List Event) (e : Event) → is_replication past e ≡ true → is_named c r past ≡ false → is_milestone c r past e ≡ false → ((p : ℕ) → falls_behind c r p past e ≡ false) → AreInTime c r (e ∷ past)
@@ -365,7 +358,7 @@ resigned c r past e turn n m b = record {
   progressing = kinds_of_step.closes (progressing c r) 1 past e (unallowed (is_milestone c r) (limit_now c r) past e m) (unnamed_leaves c r (is_progress c r) past e turn n);
   asking = λ p l. asks_anew c r p past e 1 (omega arith) (unnamed_leaves c r (λ before g. not (leads r before) || is_fencing p g) past e turn n);
   bringing = λ p. kinds_of_step.closes (bringing_up c r p) 1 past e (unallowed (falls_behind c r p) (limit_now c r) past e (b p))
-      (true_right (is_brought_up c r p (e ∷ past)) (leaves c r (is_over_after r) past e) (unnamed_leaves c r (is_over_after r) past e turn n));
+      (or_true (is_brought_up c r p (e ∷ past)) (leaves c r (is_over_after r) past e) (unnamed_leaves c r (is_over_after r) past e turn n));
 }
 
 pub places_lead : PlacesLead

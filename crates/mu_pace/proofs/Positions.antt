@@ -12,7 +12,7 @@ use Rattle.mu_model.specs.Legal.{IsLegalHistory}
 use Rattle.mu_model.specs.Regions.{region_fuo, region_head}
 use Rattle.mu_model.specs.Room.{reserve}
 use Rattle.mu_agree.proofs.Fitting.{among_keys, distinct_keys, key_below, keys, keys_differ, keys_short}
-use Rattle.mu_agree.proofs.Legal.{legal_induction, made}
+use Rattle.mu_agree.proofs.Legal.{legal_induction, event_after}
 use Rattle.mu_agree.proofs.Possible.{answered, at_event}
 use Rattle.mu_agree.proofs.Readings.{number_is}
 use Rattle.mu_agree.proofs.Room.{head_known}
@@ -36,7 +36,7 @@ known_fits c r mine g p = subst (λ z. length (known c r z) ≤ row_count c + re
 abbrev FuoFits : Config → ℕ → List Event → Type 0
 FuoFits c p past = region_fuo p past ≤ row_count c + reserve c
 
-fuo_fits_step : (c : Config) (p by : ℕ) (v : Verb) (past : List Event) → IsConfig c → IsLegalHistory c past → Needs c by (part by past) v → FuoFits c p past → FuoFits c p (made c past by v ∷ past)
+fuo_fits_step : (c : Config) (p by : ℕ) (v : Verb) (past : List Event) → IsConfig c → IsLegalHistory c past → Needs c by (part by past) v → FuoFits c p past → FuoFits c p (event_after c past by v ∷ past)
 fuo_fits_step c p by (Verb.RaiseFuo q u) past g h may s = go (q == p)
   where
     go : (t : Bool) → max_with (cond t (Some u) None) (region_fuo p past) ≤ row_count c + reserve c

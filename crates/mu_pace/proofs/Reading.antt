@@ -22,12 +22,11 @@ use Rattle.mu_model.specs.Placing.{fuo_read_or_raised}
 use Rattle.mu_model.specs.Regions.{fence, fence_grant, log_with, region_fuo, region_head, region_log, region_min}
 use Rattle.mu_model.specs.Room.{last_head}
 use Rattle.mu_model.proofs.Owned.{noted-part}
-use Rattle.mu_agree.proofs.Access.{noting}
+use Rattle.mu_agree.proofs.Access.{noted_grant_is_owned}
 use Rattle.mu_agree.proofs.Landings.{at_part, length_put}
-use Rattle.mu_agree.proofs.Legal.{legal_induction, made}
+use Rattle.mu_agree.proofs.Legal.{legal_induction, event_after}
 use Rattle.mu_agree.proofs.Minimum.{rises_step}
 use Rattle.mu_agree.proofs.Possible.{answered, at_event, same_fence}
-use Rattle.mu_agree.proofs.Prefixes.{get_below}
 use Rattle.mu_agree.proofs.Readings.{log_grows, number_is}
 use Rattle.mu_agree.proofs.Room.{heads_read}
 use Rattle.mu_pace.specs.Possible.{FuosRise, GrantsRise, MinimaRise}
@@ -51,9 +50,9 @@ rise : (u : Bool) (x n m : ℕ) → n ≤ m → n ≤ max_with (cond u (Some x) 
 rise true x n m l = omega arith
 rise false x n m l = l
 
-fuo_step : (c : Config) (r p by : ℕ) (v : Verb) (past : List Event) → FuoKnown r p past → FuoKnown r p (made c past by v ∷ past)
+fuo_step : (c : Config) (r p by : ℕ) (v : Verb) (past : List Event) → FuoKnown r p past → FuoKnown r p (event_after c past by v ∷ past)
 fuo_step c r p by (Verb.Fuo q) past s =
-    at_part (λ J. greatest (λ f. fuo_read_or_raised r p f.by f.verb f.answer) J ≤ region_fuo p past) r (made c past by (Verb.Fuo q)) past s (λ _. at_p (q == p) refl)
+    at_part (λ J. greatest (λ f. fuo_read_or_raised r p f.by f.verb f.answer) J ≤ region_fuo p past) r (event_after c past by (Verb.Fuo q)) past s (λ _. at_p (q == p) refl)
   where
     at_p : (u : Bool) → (q == p) ≡ u → max_with (cond ((by == r) && u) (Some (region_fuo q past)) None) (greatest (λ f. fuo_read_or_raised r p f.by f.verb f.answer) (part r past)) ≤ region_fuo p past
     at_p true k = let e : region_fuo q past ≡ region_fuo p past = ap (λ z. region_fuo z past) (eqb-true q p k) in
@@ -64,9 +63,9 @@ fuo_step c r p by (Verb.Fuo q) past s =
         none true = s
         none false = s
 fuo_step c r p by (Verb.RaiseFuo q u) past s =
-    at_part (λ J. greatest (λ f. fuo_read_or_raised r p f.by f.verb f.answer) J ≤ region_fuo p (made c past by (Verb.RaiseFuo q u) ∷ past)) r (made c past by (Verb.RaiseFuo q u)) past
+    at_part (λ J. greatest (λ f. fuo_read_or_raised r p f.by f.verb f.answer) J ≤ region_fuo p (event_after c past by (Verb.RaiseFuo q u) ∷ past)) r (event_after c past by (Verb.RaiseFuo q u)) past
     (rise (q == p) u _ (region_fuo p past) s) (λ _. raised (by == r) (q == p) u _ (region_fuo p past) s)
-fuo_step c r p by v past s = at_part (λ J. greatest (λ f. fuo_read_or_raised r p f.by f.verb f.answer) J ≤ region_fuo p past) r (made c past by v) past s (λ _. s)
+fuo_step c r p by v past s = at_part (λ J. greatest (λ f. fuo_read_or_raised r p f.by f.verb f.answer) J ≤ region_fuo p past) r (event_after c past by v) past s (λ _. s)
 
 pub fuo_known : (c : Config) (r p : ℕ) (past : List Event) → IsLegalHistory c past → FuoKnown r p past
 fuo_known c r p = legal_induction c (FuoKnown r p) (omega arith) (λ past by v h may s. fuo_step c r p by v past s)
@@ -84,15 +83,15 @@ last_min r p past = or_zero (newest (λ f. min_read r p f.by f.verb f.answer) pa
 abbrev MinRead : ℕ → ℕ → List Event → Type 0
 MinRead r p past = last_min r p (part r past) ≤ region_min p past
 
-min_step : (c : Config) (r p by : ℕ) (v : Verb) (past : List Event) → IsLegalHistory c past → Allowed c by (part by past) v → MinRead r p past → MinRead r p (made c past by v ∷ past)
-min_step c r p by (Verb.Min q) past h may s = at_part (λ J. last_min r p J ≤ region_min p past) r (made c past by (Verb.Min q)) past s (λ _. here ((by == r) && (q == p)) refl)
+min_step : (c : Config) (r p by : ℕ) (v : Verb) (past : List Event) → IsLegalHistory c past → Allowed c by (part by past) v → MinRead r p past → MinRead r p (event_after c past by v ∷ past)
+min_step c r p by (Verb.Min q) past h may s = at_part (λ J. last_min r p J ≤ region_min p past) r (event_after c past by (Verb.Min q)) past s (λ _. here ((by == r) && (q == p)) refl)
   where
     here : (t : Bool) → ((by == r) && (q == p)) ≡ t → or_zero (newer_or (cond t (Some (region_min q past)) None) (newest (λ f. min_read r p f.by f.verb f.answer) (part r past))) ≤ region_min p past
     here true k = let e : region_min q past ≡ region_min p past = ap (λ z. region_min z past) (eqb-true q p (and_parts (by == r) (q == p) k).1) in omega arith
     here false k = s
 min_step c r p by v past h may s =
     let up = rises_step c p by (last_min r p (part r past)) v past h may.may s in
-    at_part (λ J. last_min r p J ≤ region_min p (made c past by v ∷ past)) r (made c past by v) past up (λ _. up)
+    at_part (λ J. last_min r p J ≤ region_min p (event_after c past by v ∷ past)) r (event_after c past by v) past up (λ _. up)
 
 min_reads : (c : Config) (r p : ℕ) (past : List Event) → IsLegalHistory c past → MinRead r p past
 min_reads c r p = legal_induction c (MinRead r p) (omega arith) (λ past by v h may s. min_step c r p by v past h may s)
@@ -108,4 +107,4 @@ grants_rise c r p g mine e x poss n v a =
     let s = at_event c r mine e poss in
     let seen : Answer.Seen x ≡ Answer.Seen (fence p s.older) = sym a ∙ answered c r mine e (Verb.Fence p) poss v in
     let is : x.grant ≡ fence_grant p s.older = ap (λ z. z.grant) (same_fence x (fence p s.older) seen) in
-    let low = (noting c r p s.older s.legal g (sym (noted-part r p s.older) ∙ ap (noted_grant r p) s.part_is ∙ n)).0 in omega arith
+    let low = (noted_grant_is_owned c r p s.older s.legal g (sym (noted-part r p s.older) ∙ ap (noted_grant r p) s.part_is ∙ n)).0 in omega arith

@@ -7,9 +7,10 @@ use Rattle.mu_model.specs.declared.event.Event.{Event}
 use Rattle.mu_model.specs.declared.event.Verb.{Verb}
 use Rattle.mu_model.specs.Regions.{beats}
 use Rattle.mu_model.proofs.Basics.{event_by}
-use Rattle.mu_regions.specs.Range.{is_beat_verb, is_read_alone}
+use Rattle.mu_regions.specs.Range.{is_read_alone}
 use Rattle.mu_regions.specs.Stands.{Holds}
 use Rattle.mu_regions.specs.declared.region.Region.{Region}
+use Rattle.mu_model.specs.Steps.{is_beat_verb}
 
 pub read_kept : (c : Config) (p by : ℕ) (verb : Verb) (answer : Answer) (past : List Event) (region : Region) → is_read_alone verb ≡ true → Holds c p past region → Holds c p (event_by by verb answer ∷ past) region
 read_kept c p by (Verb.Ask q) answer past region read h = absurd (true≢false (sym read))

@@ -52,8 +52,3 @@ is_read_alone (Verb.ReadRow v k) = true
 is_read_alone (Verb.ReadAsk w) = true
 is_read_alone Verb.LookTarget = true
 is_read_alone _ = false
-
--- the verb is a beat
-abbrev pub is_beat_verb : Verb → Bool
-is_beat_verb Verb.Beat = true
-is_beat_verb _ = false

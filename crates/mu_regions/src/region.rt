@@ -7,14 +7,15 @@ ghost use Rattle.mu_model.specs.Answers.{answer_of, drained, entered_or_lost, pu
 ghost use Rattle.mu_model.specs.Contents.{row_count};
 ghost use Rattle.mu_model.specs.Leaderships.{noted_grant};
 ghost use Rattle.mu_model.specs.Regions.{asks, fence, region_log, row_word};
-ghost use Rattle.mu_regions.specs.Range.{InRange, IsNear, is_beat_verb, is_read_alone, read_at};
+ghost use Rattle.mu_regions.specs.Range.{InRange, IsNear, is_read_alone, read_at};
 ghost use Rattle.mu_regions.specs.Stands.{Holds};
+ghost use Rattle.mu_model.specs.Steps.{is_beat_verb};
 
 use crate::effects::{
     beats_after, fence_after, fuo_after, head_after, minimum_after, note_ask, note_drain,
     note_grant, note_put, note_word,
 };
-use mu_model::{Answer, Config, Event, Fence, NoMemory, Target, Verb, positions_in};
+use mu_model::{PAYLOADS, Answer, Config, Event, Fence, NoMemory, Target, Verb, positions_in};
 use std::alloc::Global;
 
 /// What the region `id` holds, with the rows of its replica.
@@ -62,7 +63,7 @@ fn is_beat(verb: &Verb) -> bool
 
 impl Region {
     /// The region before any event. Takes memory for its log and for the rows of its replica.
-    pub fn empty(alloc: Global, id: u8, config: &Config) -> Result<Region, NoMemory>
+    pub fn new(alloc: Global, id: u8, config: &Config) -> Result<Region, NoMemory>
         requires { row_count config.now ≤ 1500 }
         ensures { IfOk result (λ region. Holds config.now id [] region) }
     {
@@ -202,7 +203,7 @@ impl Region {
         ensures { (c : Config) → (past : List Event) → v % 4096 < row_count c → k < 12
             → Holds c (v / 4096) past self.now → result ≡ row_word v k past }
     {
-        let at = usize::from(v % 4096) * 12 + usize::from(k);
+        let at = usize::from(v % PAYLOADS) * 12 + usize::from(k);
         self.words.get(at).copied().unwrap_or(0)
     }
 

@@ -1,8 +1,7 @@
 -- The lines of lists, taken from the front, and the longest log.
-use Rattle.std.proofs.Common.{◌≡◌, ℕ, zero, suc, ◌+◌, ◌-◌, ◌%◌, ◌<◌, ◌≤◌, true, false, cond, subst, List, [], ◌∷◌, ◌++◌, refl, sym, ap, ◌∙◌, length, take, drop, map, min, get_or, arith}
+use Rattle.std.proofs.Common.{◌≡◌, ℕ, zero, suc, ◌+◌, ◌-◌, ◌%◌, ◌<◌, ◌≤◌, true, false, subst, List, [], ◌∷◌, ◌++◌, refl, sym, ap, ◌∙◌, length, take, drop, map, min, get_or, arith}
 use Rattle.std.specs.Fmt.{decimal}
-use Rattle.std.specs.Prelude.{codes, nat_lt}
-use Rattle.std.proofs.lemmas.Bool.Decides.{nat_tests}
+use Rattle.std.specs.Prelude.{codes}
 use Rattle.std.proofs.lemmas.List.{drop_all, drop_min, drop_more, take_rest}
 use Rattle.kv_store.specs.Commands.{Request}
 use Rattle.kv_store.specs.declared.store.Reply.{Reply}
@@ -94,20 +93,6 @@ answer_lines-past (command ∷ commands) [] i past =
     ap (answer_lines (drop i (command ∷ commands))) (drop_all i [] (omega arith)) ∙ answer_lines-nil (drop i (command ∷ commands))
 answer_lines-past (command ∷ commands) (reply ∷ replies) zero past = absurd (omega arith)
 answer_lines-past (command ∷ commands) (reply ∷ replies) (suc i) past = answer_lines-past commands replies i (omega arith)
-
--- the longer of two logs, the first at a tie
-abbrev pub longer : List ℕ → List ℕ → List ℕ
-longer xs ys = cond (nat_lt (length xs) (length ys)) ys xs
-
-pub longer_assoc : (xs ys zs : List ℕ) → longer xs (longer ys zs) ≡ longer (longer xs ys) zs
-longer_assoc xs ys zs = grind (arith, nat_tests)
-
-pub longer-nil : (xs : List ℕ) → longer xs [] ≡ xs
-longer-nil xs = grind (arith, nat_tests)
-
-pub nil-longer : (xs : List ℕ) → longer [] xs ≡ xs
-nil-longer [] = refl
-nil-longer (x ∷ xs) = grind (arith, nat_tests)
 
 -- the version, and what follows
 pub body_lines-parts : (o : Outcome) (version : ℕ) (first : List ℕ) → version ≡ o.job.config.version → first ≡ codes "report " ++ decimal version

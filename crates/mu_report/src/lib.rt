@@ -13,5 +13,5 @@ mod trace;
 mod words;
 
 pub use report::status;
-pub use said::{Said, print, printed};
+pub use said::{Said, print, print_counted};
 pub use trace::is_countable;

@@ -74,7 +74,7 @@ pub fn print<K: Sink>(sink: &mut K, said: &Said) -> Result<(), WriteFault>
     ensures fault { OnErr result (Rose (K.faults sink.old) (K.faults sink.new)) }
     ensures never_falls { K.faults sink.old ≤ K.faults sink.new }
 {
-    printed(sink, said)?;
+    print_counted(sink, said)?;
     Ok(())
 }
 
@@ -83,7 +83,7 @@ pub fn print<K: Sink>(sink: &mut K, said: &Said) -> Result<(), WriteFault>
 /// # Errors
 ///
 /// Those of [`print`].
-pub fn printed<K: Sink>(sink: &mut K, said: &Said) -> Result<usize, WriteFault>
+pub fn print_counted<K: Sink>(sink: &mut K, said: &Said) -> Result<usize, WriteFault>
     requires { IsShort said.now }
     ensures whole { OnOk result
         (Appends (K.written sink.old) (K.written sink.new) (text said.now)) }

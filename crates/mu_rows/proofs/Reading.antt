@@ -8,11 +8,11 @@ use Rattle.std.proofs.lemmas.Grind.{common_steps, same_number_lists}
 use Rattle.std.proofs.lemmas.List.{length-take-le}
 use Rattle.std.proofs.lemmas.List.FromFn.{length-map-range_with_len, get_or-map-range_with_len}
 use Rattle.std.proofs.lemmas.Nat.{le_bytes_8}
-use Rattle.kv_store.specs.Commands.{Request, HasShortTexts, IsAllowed}
+use Rattle.kv_store.specs.Commands.{Request, HasShortTexts, IsAllowed, key_of}
 use Rattle.kv_store.specs.Words.{IsWord, IsText}
 use Rattle.kv_store.specs.declared.command.Op.{Op}
 use Rattle.kv_store.specs.declared.command.Op.TheVariants.{Put, Get, Del, Swap, Cas}
-use Rattle.mu_rows.specs.Rows.{word_of, code_of, key_of, first_text, second_text, head_word, text_word, spelled, HasWords, IsCommand}
+use Rattle.mu_rows.specs.Rows.{word_of, code_of, first_text, second_text, head_word, text_word, spelled, HasWords, IsCommand}
 use Rattle.mu_rows.proofs.Bytes.{word_of-bytes}
 
 -- visible bytes are bytes
@@ -88,8 +88,8 @@ pub record Fields (head : ℕ) (r : Request) (k : ℕ) : Type 0 where
   pub second : head / 281474976710656 % 256 ≡ length (second_text r.op)
   pub rest : head / 72057594037927936 ≡ k
 
-pub fields : (head : ℕ) (r : Request) (k : ℕ) → IsCommand r → k ≤ 3 → head ≡ head_word r k → Fields head r k
-fields head r k is few same =
+pub head_has_fields : (head : ℕ) (r : Request) (k : ℕ) → IsCommand r → k ≤ 3 → head ≡ head_word r k → Fields head r k
+head_has_fields head r k is few same =
     let s = small r.op is.words in
     let code : code_of r.op ≤ 5 = s.code in
     let client : r.client ≤ 15 = is.allowed.client_known in
@@ -166,21 +166,21 @@ key-is-text op words =
     record { some = key.some; fits = omega (arith, key.fits); visible = key.visible }
 
 -- a range at the front is the front
-pub front : (bytes part word : List ℕ) (len : ℕ) → part ≡ slice_range bytes 0 len → len ≡ length word → take (length word) bytes ≡ word → part ≡ word
-front bytes part word len is long same = is ∙ ap (λ n. take n bytes) (omega (arith, long)) ∙ same
+pub front_is_word : (bytes part word : List ℕ) (len : ℕ) → part ≡ slice_range bytes 0 len → len ≡ length word → take (length word) bytes ≡ word → part ≡ word
+front_is_word bytes part word len is long same = is ∙ ap (λ n. take n bytes) (omega (arith, long)) ∙ same
 
 -- what a maker of words answers, of bytes that are the word
-pub made : (result : Option (List ℕ)) (most : ℕ) (bytes word : List ℕ) → (IsSome result ↔ IsWord most bytes) → IfSome result (λ w. w ≡ bytes)
+pub maker_gives_word : (result : Option (List ℕ)) (most : ℕ) (bytes word : List ℕ) → (IsSome result ↔ IsWord most bytes) → IfSome result (λ w. w ≡ bytes)
     → bytes ≡ word → IsWord most word → result ≡ Some word
-made (Some w) most bytes word allowed same is fits = ap Some (same ∙ is)
-made None most bytes word allowed same is fits = absurd (false≢true (allowed.1 (subst (IsWord most) (sym is) fits)))
+maker_gives_word (Some w) most bytes word allowed same is fits = ap Some (same ∙ is)
+maker_gives_word None most bytes word allowed same is fits = absurd (false≢true (allowed.1 (subst (IsWord most) (sym is) fits)))
 
 -- what the maker of commands answers, of what a command has
-pub made-command : (result : Option Request) (client number : ℕ) (op : Op) (r : Request) → (IsSome result ↔ IsAllowed client number op)
+pub maker_gives_command : (result : Option Request) (client number : ℕ) (op : Op) (r : Request) → (IsSome result ↔ IsAllowed client number op)
     → IfSome result (λ x. x ≡ record { client = client; number = number; op = op }) → client ≡ r.client → number ≡ r.number → op ≡ r.op
     → IsAllowed r.client r.number r.op → result ≡ Some r
-made-command (Some x) client number op r allowed same c n o is = ap Some (same ∙ one-request c n o)
-made-command None client number op r allowed same c n o is = absurd (false≢true (allowed.1 (rw (c, n, o) is)))
+maker_gives_command (Some x) client number op r allowed same c n o is = ap Some (same ∙ one-request c n o)
+maker_gives_command None client number op r allowed same c n o is = absurd (false≢true (allowed.1 (rw (c, n, o) is)))
 
 -- which operation has a code, a key and texts
 pub put-from : (op : Op) (key text : List ℕ) → code_of op ≡ 1 → HasWords op → key ≡ key_of op
@@ -223,8 +223,8 @@ same-op o p wo wp so sp c kl fl sl ks ts = absurd (omega arith)
 -- commands with one row are the same
 pub same-row : (c d : Request) (j k : ℕ) → IsCommand c → IsCommand d → j ≤ 3 → k ≤ 3 → spelled c j ≡ spelled d k → (c ≡ d) × (j ≡ k)
 same-row c d j k is_c is_d few_j few_k same =
-    let f = fields (head_word c j) c j is_c few_j refl in
-    let g = fields (head_word c j) d k is_d few_k (ap (λ l. get_or l 0 0) same) in
+    let f = head_has_fields (head_word c j) c j is_c few_j refl in
+    let g = head_has_fields (head_word c j) d k is_d few_k (ap (λ l. get_or l 0 0) same) in
     let op = same-op c.op d.op is_c.words is_d.words is_c.allowed.short_texts is_d.allowed.short_texts
     (sym f.code ∙ g.code) (sym f.key ∙ g.key) (sym f.first ∙ g.first) (sym f.second ∙ g.second)
     (ap (λ l. take 3 (drop 1 l)) same) (ap (drop 4) same) in

@@ -1,6 +1,6 @@
 -- How a row of twelve words spells a command.
 use Rattle.std.specs.Prelude.{ℕ, ◌+◌, ◌-◌, ◌*◌, List, [], ◌∷◌, length, take, drop, nat_lt, if◌then◌else◌}
-use Rattle.kv_store.specs.Commands.{Request, IsAllowed}
+use Rattle.kv_store.specs.Commands.{Request, IsAllowed, key_of}
 use Rattle.kv_store.specs.Words.{IsKey, IsText}
 use Rattle.kv_store.specs.declared.command.Op.{Op}
 use Rattle.kv_store.specs.declared.command.Op.TheVariants.{Put, Get, Del, Swap, Cas}
@@ -21,13 +21,6 @@ code_of (Get key) = 2
 code_of (Del key) = 3
 code_of (Swap key text) = 4
 code_of (Cas key old new) = 5
-
-abbrev pub key_of : Op → List ℕ
-key_of (Put key text) = key
-key_of (Get key) = key
-key_of (Del key) = key
-key_of (Swap key text) = key
-key_of (Cas key old new) = key
 
 -- the text that an operation has, the old one of a cas, or nothing
 abbrev pub first_text : Op → List ℕ

@@ -2,7 +2,8 @@
 #![tactic(auto)]
 
 ghost use Rattle.std.specs.Prelude.{◌≡◌, ◌<◌, ◌≤◌, ◌/◌, ◌%◌, ◌^◌, length, slice_index, slice_index_or};
-ghost use Rattle.mu_rows.specs.Rows.{word_of, code_of, key_of, first_text, second_text, head_word, text_word, spelled, HasWords, IsCommand};
+ghost use Rattle.mu_rows.specs.Rows.{word_of, code_of, first_text, second_text, head_word, text_word, spelled, HasWords, IsCommand};
+ghost use Rattle.kv_store.specs.Commands.{key_of};
 
 mod read;
 

@@ -2,9 +2,9 @@
 ghost use Rattle.std.specs.Prelude.{◌≡◌, ◌≢◌, ℕ, ◌*◌, ◌<◌, ◌≤◌, ◌/◌, ◌%◌, List, length, map, take, slice_index, None, Some, IfSome};
 ghost use Rattle.std.specs.Int.{w64, to_le_bytes};
 ghost use Rattle.std.specs.List.{range_with_len};
-ghost use Rattle.kv_store.specs.Commands.{Request};
+ghost use Rattle.kv_store.specs.Commands.{Request, key_of};
 ghost use Rattle.kv_store.specs.Words.{IsText};
-ghost use Rattle.mu_rows.specs.Rows.{key_of, first_text, second_text, word_of, spelled, IsCommand};
+ghost use Rattle.mu_rows.specs.Rows.{first_text, second_text, word_of, spelled, IsCommand};
 
 use crate::{CLIENT, FIRST_LENGTH, KEY_LENGTH, NUMBER, REST, SECOND_LENGTH, encode};
 use kv_store::{Command, Key, Op, TEXT_BYTES, Text};

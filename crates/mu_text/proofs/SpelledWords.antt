@@ -1,6 +1,6 @@
 -- A text that is words with single spaces between them is read back as these words, and a text of
 -- ended lines as these lines.
-use Rattle.std.proofs.Common.{◌≡◌, ℕ, ◌+◌, ◌<◌, ◌^◌, ◌==◌, nat_lt, Bool, true, false, ◌&&◌, List, [], ◌∷◌, ◌++◌, length, get_or, refl, sym, ap, subst, ◌∙◌, append_assoc, arith}
+use Rattle.std.proofs.Common.{◌≡◌, ℕ, ◌+◌, ◌<◌, ◌^◌, ◌==◌, nat_lt, true, false, List, [], ◌∷◌, ◌++◌, length, get_or, refl, sym, ap, subst, ◌∙◌, append_assoc, arith}
 use Rattle.std.specs.Fmt.{decimal}
 use Rattle.std.specs.List.{All, list_all}
 use Rattle.std.proofs.lemmas.Bool.Decides.{nat_tests}
@@ -11,6 +11,7 @@ use Rattle.mu_text.specs.Numbers.{is_digit}
 use Rattle.mu_text.specs.declared.TheConstants.{LINE_FEED, SPACE}
 use Rattle.mu_text.proofs.Cutting.{lines-at}
 use Rattle.mu_text.proofs.Decimals.{decimal-tells}
+use Rattle.std.proofs.lemmas.Bool.{and_parts}
 
 -- no byte of it is a space or stands below one
 abbrev pub IsOneWord : List ℕ → Type 0
@@ -58,11 +59,6 @@ Spells-join first second front back a b = subst (λ text. Spells text (front ++ 
 pub Spells-then : (word text : List ℕ) (spelled : List (List ℕ)) → IsOneWord word → Spells text spelled → Spells (word ++ SPACE ∷ text) (word ∷ spelled)
 Spells-then word text spelled one rest = Spells-more word text (word ∷ []) spelled (Spells-word word one) rest
 
-both : (a b : Bool) → (a && b) ≡ true → (a ≡ true) × (b ≡ true)
-both true true e = (refl, refl)
-both true false e = cc
-both false b e = cc
-
 above_space : (byte : ℕ) → nat_lt SPACE byte ≡ true → SPACE < byte
 above_space byte test = grind (arith, nat_tests)
 
@@ -70,7 +66,7 @@ above_space byte test = grind (arith, nat_tests)
 pub written : (word : List ℕ) → list_all (λ byte. nat_lt SPACE byte) word ≡ true → IsOneWord word
 written [] all = All-nil (λ byte. SPACE < byte)
 written (byte ∷ word) all =
-    let tests = both (nat_lt SPACE byte) (list_all (λ byte. nat_lt SPACE byte) word) all in
+    let tests = and_parts (nat_lt SPACE byte) (list_all (λ byte. nat_lt SPACE byte) word) all in
     All-cons (λ byte. SPACE < byte) byte word (above_space byte tests.0) (written word tests.1)
 
 digit_above : (byte : ℕ) → is_digit byte ≡ true → SPACE < byte
@@ -79,7 +75,7 @@ digit_above byte digit = grind (arith, nat_tests)
 digits_are_one : (digits : List ℕ) → list_all is_digit digits ≡ true → IsOneWord digits
 digits_are_one [] all = All-nil (λ byte. SPACE < byte)
 digits_are_one (byte ∷ digits) all =
-    let tests = both (is_digit byte) (list_all is_digit digits) all in
+    let tests = and_parts (is_digit byte) (list_all is_digit digits) all in
     All-cons (λ byte. SPACE < byte) byte digits (digit_above byte tests.0) (digits_are_one digits tests.1)
 
 -- a number is one word

@@ -4,9 +4,9 @@ use Rattle.std.specs.declared.option.Option.{Option}
 use Rattle.std.specs.Prelude.{⊤}
 use Rattle.std.specs.List.{AllByRecursion}
 use Rattle.std.specs.declared.result.Result.TheVariants.{Err}
-use Rattle.front_desk.specs.Arrivals.{IsArrival, commands_of}
+use Rattle.front_desk.specs.Arrivals.{IsArrival, commands_by}
 use Rattle.front_desk.specs.Collected.{IsCollected}
-use Rattle.front_desk.proofs.Clients.{commands_of-own}
+use Rattle.front_desk.proofs.Clients.{commands_by-own}
 use Rattle.kv_store.specs.Commands.{Request}
 use Rattle.mu_rows.specs.Rows.{spelled}
 use Rattle.mu_input.specs.Batches.{followers, rows_of}
@@ -62,21 +62,21 @@ have_all : (xs : List Request) → AllByRecursion IsSaid xs → HaveHeads 1 xs (
 have_all [] all = tt
 have_all (x ∷ xs) all = (subst (λ n. HasHead (row_alone x n) x n) (sym (alone x xs)) all.0, have_all xs all.1)
 
-all_of : (client : ℕ) (xs : List Request) → AllByRecursion IsSaid xs → AllByRecursion IsSaid (commands_of client xs)
+all_of : (client : ℕ) (xs : List Request) → AllByRecursion IsSaid xs → AllByRecursion IsSaid (commands_by client xs)
 all_of client [] all = tt
 all_of client (x ∷ xs) all = go (x.client == client) (all_of client xs all.1)
   where
-    go : (t : Bool) → AllByRecursion IsSaid (commands_of client xs) → AllByRecursion IsSaid (cond t (x ∷ commands_of client xs) (commands_of client xs))
+    go : (t : Bool) → AllByRecursion IsSaid (commands_by client xs) → AllByRecursion IsSaid (cond t (x ∷ commands_by client xs) (commands_by client xs))
     go true rest = (all.0, rest)
     go false rest = rest
 
-all_from : (xs : List Request) → ((client : ℕ) → AllByRecursion IsSaid (commands_of client xs)) → AllByRecursion IsSaid xs
+all_from : (xs : List Request) → ((client : ℕ) → AllByRecursion IsSaid (commands_by client xs)) → AllByRecursion IsSaid xs
 all_from [] each = tt
 all_from (x ∷ xs) each =
-    let own : AllByRecursion IsSaid (x ∷ commands_of x.client xs) = subst (AllByRecursion IsSaid) (commands_of-own x.client x xs refl) (each x.client) in
+    let own : AllByRecursion IsSaid (x ∷ commands_by x.client xs) = subst (AllByRecursion IsSaid) (commands_by-own x.client x xs refl) (each x.client) in
     (own.0, all_from xs (λ client. rest client (x.client == client) (each client)))
   where
-    rest : (client : ℕ) (t : Bool) → AllByRecursion IsSaid (cond t (x ∷ commands_of client xs) (commands_of client xs)) → AllByRecursion IsSaid (commands_of client xs)
+    rest : (client : ℕ) (t : Bool) → AllByRecursion IsSaid (cond t (x ∷ commands_by client xs) (commands_by client xs)) → AllByRecursion IsSaid (commands_by client xs)
     rest client true all = all.1
     rest client false all = all
 

@@ -16,9 +16,9 @@ use crate::summing::told_of_bulk;
 use crate::tracing::told_of_trace;
 use mu_cluster::Gate;
 use mu_io::{ReadEnd, Sink, Source, WriteFault, read_all};
-use mu_judging::judged;
+use mu_judging::judge;
 use mu_outcome::Status;
-use mu_report::{Said, printed};
+use mu_report::{Said, print_counted};
 use std::alloc::Global;
 use std::sync::Wait;
 use std::thread::Threads;
@@ -77,7 +77,7 @@ pub fn answer<K: Sink>(sink: &mut K, said: Said) -> Answered
         (K.faults sink.new)
         result.said result.status result.taken }
 {
-    match printed(sink, &said) {
+    match print_counted(sink, &said) {
         Ok(taken) => Answered {
             status: status_for(&said).code(),
             said,
@@ -150,7 +150,7 @@ fn told_of_bytes<R: Threads + Wait + Sync, G: Gate + Sync>(
         Task::Replay => told_of_replay(alloc, bytes),
         Task::Run => told_of_run(rt, alloc, bytes, gate),
         Task::Trace => told_of_trace(alloc, bytes),
-        Task::Check => judged(alloc, bytes),
+        Task::Check => judge(alloc, bytes),
         Task::Desk => told_of_desk(rt, alloc, bytes, gate),
         Task::Book => told_of_book(alloc, bytes),
         Task::Live(readers) => told_of_live(rt, alloc, bytes, readers, gate),

@@ -23,13 +23,13 @@ use Rattle.mu_model.proofs.Owned.{IsOwnTest, before-part, begins-own, has-part, 
 use Rattle.mu_agree.proofs.Access.{open_target-part, put_done_undrained}
 use Rattle.mu_agree.proofs.Entering.{slot_entered}
 use Rattle.mu_agree.proofs.Landed.{get_put_same, lands_within}
-use Rattle.mu_agree.proofs.Legal.{made}
+use Rattle.mu_agree.proofs.Legal.{event_after}
 use Rattle.mu_agree.proofs.Members.{joined_under-part}
 use Rattle.mu_agree.proofs.Slots.{put_in'}
 use Rattle.mu_words.specs.Standing.{content, place_fields, place_fields_below, fields, entry_fields, leaves}
 use Rattle.mu_words.proofs.Limits.{Limits}
 use Rattle.mu_words.proofs.Logs.{length_added, shown_elsewhere}
-use Rattle.mu_words.proofs.Tracking.{tracked}
+use Rattle.mu_words.proofs.Tracking.{kept_in_history}
 use Rattle.mu_words.proofs.PlaceTies.{sees, puts_at, Tied, fixed_tie, place_word}
 
 pub mod_near : (ring i k : ℕ) → i < k → k < i + ring → k % ring ≡ i % ring → ⊥
@@ -125,7 +125,7 @@ looked_before-part c r p i past m =
 
 -- an allowed put at a place that isn't drained finds the word that was seen, and room
 pub put_tie : (c : Config) (r p i b v : ℕ) (past : List Event) → IsLegalHistory c past → Needs c r (part r past) (Verb.PutSlot p i b v) → drained r p past ≡ false
-    → Tied c.ring i (length (region_log p past)) (tracked c r p (Target.Place (i % c.ring)) past).1 (place_word c p i past)
+    → Tied c.ring i (length (region_log p past)) (kept_in_history c r p (Target.Place (i % c.ring)) past).1 (place_word c p i past)
 put_tie c r p i b v past h may d =
     fixed_tie c r p i past h (i % c.ring) (sym (open_target-part r p past) ∙ slot_entered c r p i b v (part r past) may.2) d
     (sym (looked_before-part c r p i past (sym (member-part r p past) ∙ may.2.member)) ∙ may.2.looked)
@@ -184,7 +184,7 @@ place_slot c p s by q i b v past l h may Answer.Done e false hy z hz = rw hy ref
 place_slot c p s by q i b v past l h may a e y hy z hz = refl
 
 pub content_after : (c : Config) (p by : ℕ) (t : Target) (v : Verb) (past : List Event) → Limits c → IsLegalHistory c past → Needs c by (part by past) v
-    → content c p t (made c past by v ∷ past) ≡ or_old (leaves c p t v (answer_of c by past v)) (content c p t past)
+    → content c p t (event_after c past by v ∷ past) ≡ or_old (leaves c p t v (answer_of c by past v)) (content c p t past)
 content_after c p by Target.None v past l h may = no_target_puts c p by v past (answer_of c by past v)
 content_after c p by Target.Min (Verb.PutMin q b) past l h may = none_min c p by q b past (put_answer (drained by q past)) (q == p) refl
 content_after c p by Target.Min (Verb.PutSlot q i b v) past l h may = none_slot c p by q i b v past (put_answer (drained by q past)) (q == p) refl

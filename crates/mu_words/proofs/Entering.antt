@@ -16,8 +16,8 @@ use Rattle.mu_model.specs.Legal.{IsLegalHistory}
 use Rattle.mu_model.specs.Regions.{fence, fence_closing, fence_grant, fence_owner, fence_target, or_no_target}
 use Rattle.mu_model.proofs.Basics.{same_number}
 use Rattle.mu_model.proofs.Owned.{IsOwn, newest-part, noted-part}
-use Rattle.mu_agree.proofs.Access.{entered_holds, noting}
-use Rattle.mu_agree.proofs.Legal.{legal_induction, made}
+use Rattle.mu_agree.proofs.Access.{entered_holds, noted_grant_is_owned}
+use Rattle.mu_agree.proofs.Legal.{legal_induction, event_after}
 use Rattle.mu_agree.proofs.Minimum.{one_owner}
 use Rattle.mu_words.specs.Words.{fence_bits, owner_code, target_code, closing_code, TargetFits, fence_in}
 use Rattle.mu_words.specs.Standing.{fence_word}
@@ -33,7 +33,7 @@ use Rattle.mu_words.proofs.Fences.{fitting, enter_fits, fence_read}
 abbrev pub KnownFits : ℕ → ℕ → List Event → Type 0
 KnownFits r p past = TargetFits (known_target r p past)
 
-known_fence : (c : Config) (r p by q : ℕ) (past : List Event) → Limits c → IsLegalHistory c past → KnownFits r p past → (t : Bool) → ((by == r) && (q == p)) ≡ t → KnownFits r p (made c past by (Verb.Fence q) ∷ past)
+known_fence : (c : Config) (r p by q : ℕ) (past : List Event) → Limits c → IsLegalHistory c past → KnownFits r p past → (t : Bool) → ((by == r) && (q == p)) ≡ t → KnownFits r p (event_after c past by (Verb.Fence q) ∷ past)
 known_fence c r p by q past l h s true k = rw k ((fitting c q past l h).with_target)
 known_fence c r p by q past l h s false k = rw k s
 
@@ -43,7 +43,7 @@ known_enter r p by q t past h s Answer.Entered true hy = rw hy h
 known_enter r p by q t past h s Answer.Entered false hy = rw hy s
 known_enter r p by q t past h s a y hy = s
 
-known_step : (c : Config) (r p by : ℕ) (v : Verb) (past : List Event) → Limits c → IsLegalHistory c past → Needs c by (part by past) v → KnownFits r p past → KnownFits r p (made c past by v ∷ past)
+known_step : (c : Config) (r p by : ℕ) (v : Verb) (past : List Event) → Limits c → IsLegalHistory c past → Needs c by (part by past) v → KnownFits r p past → KnownFits r p (event_after c past by v ∷ past)
 known_step c r p by (Verb.Fence q) past l h may s = known_fence c r p by q past l h s ((by == r) && (q == p)) refl
 known_step c r p by (Verb.Enter q t) past l h may s = known_enter r p by q t past (enter_fits c by (part by past) q t l may.1) s (entered_or_lost (noted_grant by q past) (fence q past)) ((by == r) && (q == p)) refl
 known_step c r p by v past l h may s = s
@@ -55,17 +55,17 @@ known_fits c r p past l h = legal_induction c (KnownFits r p) tt (λ past by v h
 abbrev pub KnowsTarget : ℕ → ℕ → List Event → Type 0
 KnowsTarget r p past = (g : ℕ) → noted_grant r p past ≡ Some g → g ≡ fence_grant p past → known_target r p past ≡ fence_target p past
 
-knows_ask : (c : Config) (r p by q : ℕ) (past : List Event) → KnowsTarget r p past → (t : Bool) → is_first_ask r by (Verb.Ask q) ≡ t → KnowsTarget r p (made c past by (Verb.Ask q) ∷ past)
+knows_ask : (c : Config) (r p by q : ℕ) (past : List Event) → KnowsTarget r p past → (t : Bool) → is_first_ask r by (Verb.Ask q) ≡ t → KnowsTarget r p (event_after c past by (Verb.Ask q) ∷ past)
 knows_ask c r p by q past s true h = rw h (λ g e. cc)
 knows_ask c r p by q past s false h = rw h s
 
-knows_fence : (c : Config) (r p by q : ℕ) (past : List Event) → KnowsTarget r p past → (x : Bool) → (by == r) ≡ x → (y : Bool) → (q == p) ≡ y → KnowsTarget r p (made c past by (Verb.Fence q) ∷ past)
+knows_fence : (c : Config) (r p by q : ℕ) (past : List Event) → KnowsTarget r p past → (x : Bool) → (by == r) ≡ x → (y : Bool) → (q == p) ≡ y → KnowsTarget r p (event_after c past by (Verb.Fence q) ∷ past)
 knows_fence c r p by q past s true hx true hy = rw (hx, hy) (λ g e k. ap (λ z. fence_target z past) (eqb-true q p hy))
 knows_fence c r p by q past s true hx false hy = rw (hx, hy) s
 knows_fence c r p by q past s false hx y hy = rw hx s
 
-knows_grant : (c : Config) (r p by w : ℕ) (past : List Event) → IsLegalHistory c past → KnowsTarget r p past → (t : Bool) → (by == p) ≡ t → KnowsTarget r p (made c past by (Verb.Grant w) ∷ past)
-knows_grant c r p by w past h s true k = rw k (λ g e i. absurd (let n = (noting c r p past h g e).0 in omega arith))
+knows_grant : (c : Config) (r p by w : ℕ) (past : List Event) → IsLegalHistory c past → KnowsTarget r p past → (t : Bool) → (by == p) ≡ t → KnowsTarget r p (event_after c past by (Verb.Grant w) ∷ past)
+knows_grant c r p by w past h s true k = rw k (λ g e i. absurd (let n = (noted_grant_is_owned c r p past h g e).0 in omega arith))
 knows_grant c r p by w past h s false k = rw k s
 
 knows_enter : (c : Config) (r p by q : ℕ) (t : Target) (past : List Event) → IsLegalHistory c past → KnowsTarget r p past
@@ -75,12 +75,12 @@ knows_enter c r p by q t past h s Answer.Entered e true hx true hy = rw (hx, hy)
 knows_enter c r p by q t past h s Answer.Entered e true hx false hy = rw (hx, hy) s
 knows_enter c r p by q t past h s Answer.Entered e false hx true hy =
     let at_p = subst (λ z. entered_or_lost (noted_grant by z past) (fence z past) ≡ Answer.Entered) (eqb-true q p hy) e in
-    let o = entered_holds by p past (noting c by p past h) at_p in
-    rw (hx, hy) (λ g n k. absurd (one_owner r by (fence_owner p past) ((noting c r p past h g n).1 k) o.0 hx))
+    let o = entered_holds by p past (noted_grant_is_owned c by p past h) at_p in
+    rw (hx, hy) (λ g n k. absurd (one_owner r by (fence_owner p past) ((noted_grant_is_owned c r p past h g n).1 k) o.0 hx))
 knows_enter c r p by q t past h s Answer.Entered e false hx false hy = rw (hx, hy) s
 knows_enter c r p by q t past h s a e x hx y hy = s
 
-knows_step : (c : Config) (r p by : ℕ) (v : Verb) (past : List Event) → IsLegalHistory c past → KnowsTarget r p past → KnowsTarget r p (made c past by v ∷ past)
+knows_step : (c : Config) (r p by : ℕ) (v : Verb) (past : List Event) → IsLegalHistory c past → KnowsTarget r p past → KnowsTarget r p (event_after c past by v ∷ past)
 knows_step c r p by (Verb.Ask q) past h s = knows_ask c r p by q past s (is_first_ask r by (Verb.Ask q)) refl
 knows_step c r p by (Verb.Fence q) past h s = knows_fence c r p by q past s (by == r) refl (q == p) refl
 knows_step c r p by (Verb.Grant w) past h s = knows_grant c r p by w past h s (by == p) refl
@@ -148,17 +148,17 @@ enters_cases c past r p t (Some g) l h m n = go (fence_closing p past) refl (fen
     go : (b : Bool) → fence_closing p past ≡ b → (y : Bool) → (fence_grant p past == g) ≡ y → Enters c past r p t (fence_bits g false (Some r) (known_target r p past)) (fence_word (fence p past))
     go false hb true hy =
         let is = eqb-true (fence_grant p past) g hy in
-        let k = same_word g r (fence p past) (known_target r p past) hb is ((noting c r p past h g n).1 (sym is)) (knows_target c r p past h g n (sym is)) in
+        let k = same_word g r (fence p past) (known_target r p past) hb is ((noted_grant_is_owned c r p past h g n).1 (sym is)) (knows_target c r p past h g n (sym is)) in
         enters_took c past r p t (fence_bits g false (Some r) (known_target r p past)) (fitting c p past l h).with_target k (rw (n, hb, hy) refl)
     go false hb false hy =
         let s = fitting c p past l h in
         enters_lost c past r p t (fence_bits g false (Some r) (known_target r p past)) (fence_read c p past l h)
-        (λ e. eqb-false (fence_grant p past) g hy (sym (bits_same g (fence_grant p past) false (fence_closing p past) r (owner_code (fence_owner p past)) (target_code (known_target r p past)) (target_code (fence_target p past)) (let i = grant_fits c p past l h in let j = (noting c r p past h g n).0 in omega arith) (grant_fits c p past l h) (omega arith) (target_small (known_target r p past) (known_fits c r p past l h)) (owner_small (fence_owner p past) s.by_owner) (target_small (fence_target p past) s.with_target) e).0))
+        (λ e. eqb-false (fence_grant p past) g hy (sym (bits_same g (fence_grant p past) false (fence_closing p past) r (owner_code (fence_owner p past)) (target_code (known_target r p past)) (target_code (fence_target p past)) (let i = grant_fits c p past l h in let j = (noted_grant_is_owned c r p past h g n).0 in omega arith) (grant_fits c p past l h) (omega arith) (target_small (known_target r p past) (known_fits c r p past l h)) (owner_small (fence_owner p past) s.by_owner) (target_small (fence_target p past) s.with_target) e).0))
         (rw (n, hb, hy) refl)
     go true hb y hy =
         let s = fitting c p past l h in
         enters_lost c past r p t (fence_bits g false (Some r) (known_target r p past)) (fence_read c p past l h)
-        (λ e. true≢false (sym hb ∙ sym (bits_same g (fence_grant p past) false (fence_closing p past) r (owner_code (fence_owner p past)) (target_code (known_target r p past)) (target_code (fence_target p past)) (let i = grant_fits c p past l h in let j = (noting c r p past h g n).0 in omega arith) (grant_fits c p past l h) (omega arith) (target_small (known_target r p past) (known_fits c r p past l h)) (owner_small (fence_owner p past) s.by_owner) (target_small (fence_target p past) s.with_target) e).1))
+        (λ e. true≢false (sym hb ∙ sym (bits_same g (fence_grant p past) false (fence_closing p past) r (owner_code (fence_owner p past)) (target_code (known_target r p past)) (target_code (fence_target p past)) (let i = grant_fits c p past l h in let j = (noted_grant_is_owned c r p past h g n).0 in omega arith) (grant_fits c p past l h) (omega arith) (target_small (known_target r p past) (known_fits c r p past l h)) (owner_small (fence_owner p past) s.by_owner) (target_small (fence_target p past) s.with_target) e).1))
         (rw (n, hb) refl)
 
 pub enter_step : (c : Config) (past : List Event) (r p : ℕ) (t : Target) → Limits c → IsLegalHistory c past → r < c.replicas → StepsByWord c r past (Verb.Enter p t)

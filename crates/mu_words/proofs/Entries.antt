@@ -17,7 +17,7 @@ use Rattle.mu_model.specs.Leaderships.{is_first_ask, proposal_number}
 use Rattle.mu_model.specs.Legal.{IsLegalHistory}
 use Rattle.mu_model.specs.Regions.{region_log}
 use Rattle.mu_model.specs.Room.{reserve}
-use Rattle.mu_agree.proofs.Legal.{legal_induction, made}
+use Rattle.mu_agree.proofs.Legal.{legal_induction, event_after}
 use Rattle.mu_agree.proofs.Numbers.{number-part}
 use Rattle.mu_agree.proofs.Slots.{get_put, log_below, put_in'}
 use Rattle.mu_words.specs.Standing.{content, entry_fields, place_fields_below}
@@ -38,16 +38,16 @@ least_of : (r : ℕ) (mine : List Event) (b : ℕ) (o : Option ℕ) → number_a
 least_of r mine b None h e = h.1
 least_of r mine b (Some x) h e = cc
 
-least_put : (c : Config) (r by q b : ℕ) (past : List Event) → Needs c by (part by past) (Verb.PutMin q b) → Least r past → (t : Bool) → (by == r) ≡ t → Least r (made c past by (Verb.PutMin q b) ∷ past)
+least_put : (c : Config) (r by q b : ℕ) (past : List Event) → Needs c by (part by past) (Verb.PutMin q b) → Least r past → (t : Bool) → (by == r) ≡ t → Least r (event_after c past by (Verb.PutMin q b) ∷ past)
 least_put c r by q b past may s true k =
     rw k (λ m e. least_case b m (proposal_number r past) (λ n. least_of by (part by past) b (proposal_number by (part by past)) may.1.numbered (number-part by past ∙ ap (λ z. proposal_number z past) (eqb-true by r k) ∙ n)) s e)
 least_put c r by q b past may s false k = rw k s
 
-least_ask : (c : Config) (r by q : ℕ) (past : List Event) → Least r past → (t : Bool) → is_first_ask r by (Verb.Ask q) ≡ t → Least r (made c past by (Verb.Ask q) ∷ past)
+least_ask : (c : Config) (r by q : ℕ) (past : List Event) → Least r past → (t : Bool) → is_first_ask r by (Verb.Ask q) ≡ t → Least r (event_after c past by (Verb.Ask q) ∷ past)
 least_ask c r by q past s true h = rw h (λ m e. cc)
 least_ask c r by q past s false h = rw h s
 
-least_step : (c : Config) (r by : ℕ) (v : Verb) (past : List Event) → Needs c by (part by past) v → Least r past → Least r (made c past by v ∷ past)
+least_step : (c : Config) (r by : ℕ) (v : Verb) (past : List Event) → Needs c by (part by past) v → Least r past → Least r (event_after c past by v ∷ past)
 least_step c r by (Verb.Ask q) past may s = least_ask c r by q past s (is_first_ask r by (Verb.Ask q)) refl
 least_step c r by (Verb.PutMin q b) past may s = least_put c r by q b past may s (by == r) refl
 least_step c r by v past may s = s
@@ -87,7 +87,7 @@ log_put c p by q i b v past l h may s Answer.Done true hy =
 log_put c p by q i b v past l h may s Answer.Done false hy = rw hy s
 log_put c p by q i b v past l h may s a y hy = s
 
-log_step : (c : Config) (p by : ℕ) (v : Verb) (past : List Event) → Limits c → IsLegalHistory c past → Needs c by (part by past) v → LogFits (region_log p past) → LogFits (region_log p (made c past by v ∷ past))
+log_step : (c : Config) (p by : ℕ) (v : Verb) (past : List Event) → Limits c → IsLegalHistory c past → Needs c by (part by past) v → LogFits (region_log p past) → LogFits (region_log p (event_after c past by v ∷ past))
 log_step c p by (Verb.PutSlot q i b v) past l h may s = log_put c p by q i b v past l h may s (put_answer (drained by q past)) (q == p) refl
 log_step c p by v past l h may s = s
 

@@ -14,7 +14,7 @@ use Rattle.mu_model.specs.Leaderships.{noted_grant}
 use Rattle.mu_model.specs.Legal.{IsLegalHistory}
 use Rattle.mu_model.specs.Regions.{fence, fence_closing, fence_grant, fence_owner, fence_target}
 use Rattle.mu_model.proofs.Basics.{same_number}
-use Rattle.mu_agree.proofs.Legal.{legal_induction, made}
+use Rattle.mu_agree.proofs.Legal.{legal_induction, event_after}
 use Rattle.mu_words.specs.Words.{owner_code, target_code, closing_code, OwnerFits, TargetFits, fence_in}
 use Rattle.mu_words.specs.Standing.{fence_word}
 use Rattle.mu_words.specs.Steps.{StepsByWord}
@@ -43,11 +43,11 @@ fits_enter p by q t past h s Answer.Entered true hy = rw hy (record { by_owner =
 fits_enter p by q t past h s Answer.Entered false hy = rw hy s
 fits_enter p by q t past h s a y hy = s
 
-fits_grant : (c : Config) (p by w : ℕ) (past : List Event) → w < 7 → Fitting p past → (t : Bool) → (by == p) ≡ t → Fitting p (made c past by (Verb.Grant w) ∷ past)
+fits_grant : (c : Config) (p by w : ℕ) (past : List Event) → w < 7 → Fitting p past → (t : Bool) → (by == p) ≡ t → Fitting p (event_after c past by (Verb.Grant w) ∷ past)
 fits_grant c p by w past h s true k = rw k (record { by_owner = h; with_target = tt; granted = λ x e. omega arith })
 fits_grant c p by w past h s false k = rw k s
 
-fits_step : (c : Config) (p by : ℕ) (v : Verb) (past : List Event) → Limits c → Needs c by (part by past) v → Fitting p past → Fitting p (made c past by v ∷ past)
+fits_step : (c : Config) (p by : ℕ) (v : Verb) (past : List Event) → Limits c → Needs c by (part by past) v → Fitting p past → Fitting p (event_after c past by v ∷ past)
 fits_step c p by (Verb.Enter q t) past l may s = fits_enter p by q t past (enter_fits c by (part by past) q t l may.1) s (entered_or_lost (noted_grant by q past) (fence q past)) (q == p) refl
 fits_step c p by (Verb.Grant w) past l may s = fits_grant c p by w past (let i = l.replicas in let j = may.0 in omega arith) s (by == p) refl
 fits_step c p by v past l may s = s

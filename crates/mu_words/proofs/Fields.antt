@@ -11,13 +11,14 @@ use Rattle.mu_words.specs.Standing.{stamp}
 use Rattle.mu_words.specs.Stands.{FieldsAlwaysFit, FieldsFit}
 use Rattle.mu_words.proofs.Entries.{entry_fits, lap_fits, log_fits}
 use Rattle.mu_words.proofs.Fences.{fitting}
-use Rattle.mu_words.proofs.Limits.{Limits, limits}
-use Rattle.mu_words.proofs.Ranges.{grant_fits, min_fits, stamps_within, within_budget}
+use Rattle.mu_words.proofs.Limits.{Limits, config_is_limited}
+use Rattle.mu_words.proofs.Ranges.{grant_fits, min_fits, stamps_within}
+use Rattle.mu_model.proofs.Budgets.{part_within_budget}
 
 stamps_fit : (c : Config) (past : List Event) → Limits c → IsLegalHistory c past → (p : ℕ) (t : Target) → stamp c p t past < 131072
 stamps_fit c past l legal p t =
     let drained = stamps_within c p t past in
-    let short = within_budget c p past legal in
+    let short = part_within_budget c p past legal in
     let most = l.budget in
     omega (arith, drained, short, most)
 
@@ -34,4 +35,4 @@ fields c past l legal = record {
 }
 
 pub fields_always_fit : FieldsAlwaysFit
-fields_always_fit c past good legal = fields c past (limits c good) legal
+fields_always_fit c past good legal = fields c past (config_is_limited c good) legal

@@ -14,10 +14,10 @@ use Rattle.mu_model.specs.Leaderships.{noted_grant, proposal_number}
 use Rattle.mu_model.specs.Legal.{IsLegalHistory}
 use Rattle.mu_model.specs.Regions.{fence, fence_target}
 use Rattle.mu_model.specs.Room.{reserve}
-use Rattle.mu_model.proofs.Budgets.{short_history}
-use Rattle.mu_agree.proofs.Legal.{legal_induction, made}
+use Rattle.mu_model.proofs.Budgets.{short_history, part_within_budget}
+use Rattle.mu_agree.proofs.Legal.{legal_induction, event_after}
 use Rattle.mu_agree.proofs.Minimum.{top_is}
-use Rattle.mu_agree.proofs.Numbers.{number-part, top}
+use Rattle.mu_agree.proofs.Numbers.{number-part, greatest_own_put}
 use Rattle.mu_words.specs.declared.layout.Layout.{Layout}
 use Rattle.mu_words.specs.declared.layout.Name.{Name}
 use Rattle.mu_words.specs.Places.{IsLayoutOf, IsName}
@@ -29,7 +29,7 @@ use Rattle.mu_words.proofs.Prepared.{enter_ring}
 use Rattle.mu_words.proofs.Limits.{Limits}
 use Rattle.mu_words.proofs.Others.{close_target-part}
 use Rattle.mu_words.proofs.Fences.{enter_fits}
-use Rattle.mu_words.proofs.Ranges.{stamps_within, within_budget, beats_within, asks_within, next_below, top_below_highest, highest_below}
+use Rattle.mu_words.proofs.Ranges.{stamps_within, beats_within, asks_within, next_below, top_below_highest, highest_below}
 use Rattle.mu_words.proofs.Entries.{content_fits, lap_fits}
 use Rattle.mu_words.proofs.Values.{put_small}
 use Rattle.mu_words.proofs.Loading.{drain_target, named_word}
@@ -51,7 +51,7 @@ verb_fits c past r (Verb.PutMin p b) l h may =
     omega arith
 verb_fits c past r (Verb.PutSlot p i b v) l h may =
     let m = may.replica in let n = l.replicas in
-    let t : top r past ≡ b = top_is c r past h b (sym (number-part r past) ∙ may.may.2.numbered) in
+    let t : greatest_own_put r past ≡ b = top_is c r past h b (sym (number-part r past) ∙ may.may.2.numbered) in
     let k = top_below_highest c r past h in
     let e = highest_below c past l h in
     let d = short_history c past h l.replicas (let m = l.budget in omega arith) in
@@ -65,8 +65,8 @@ drain_room : (st old w : ℕ) → w ≡ st * 140737488355328 + old → old < 140
 drain_room st old w e h g = omega (arith, e)
 
 pub word_fits : (c : Config) (past : List Event) (r : ℕ) (v : Verb) → Limits c → IsLegalHistory c past → Allowed c r (part r past) v → WordFits v (standing_word c past (name_of c r (part r past) v))
-word_fits c past r (Verb.Ask p) l h may = let a = asks_within r p past in let b = within_budget c r past h in let d = l.budget in omega arith
-word_fits c past r Verb.Beat l h may = let a = beats_within r past in let b = within_budget c r past h in let d = l.budget in omega arith
+word_fits c past r (Verb.Ask p) l h may = let a = asks_within r p past in let b = part_within_budget c r past h in let d = l.budget in omega arith
+word_fits c past r Verb.Beat l h may = let a = beats_within r past in let b = part_within_budget c r past h in let d = l.budget in omega arith
 word_fits c past r Verb.Drain l h may =
     let t = close_target r past in
     let k = drain_target r past may.may.0 in
@@ -84,15 +84,15 @@ ring_enter c p by q t past h s Answer.Entered true k = rw k (h, s.1)
 ring_enter c p by q t past h s Answer.Entered false k = rw k s
 ring_enter c p by q t past h s a y k = s
 
-ring_close : (c : Config) (p by : ℕ) (past : List Event) → RingTargets c p past → (y : Bool) → (by == p) ≡ y → RingTargets c p (made c past by Verb.Close ∷ past)
+ring_close : (c : Config) (p by : ℕ) (past : List Event) → RingTargets c p past → (y : Bool) → (by == p) ≡ y → RingTargets c p (event_after c past by Verb.Close ∷ past)
 ring_close c p by past s true k = rw k (s.0, subst (λ z. IsInRing c.ring (fence_target z past)) (sym (eqb-true by p k)) s.0)
 ring_close c p by past s false k = rw k s
 
-ring_grant : (c : Config) (p by w : ℕ) (past : List Event) → RingTargets c p past → (y : Bool) → (by == p) ≡ y → RingTargets c p (made c past by (Verb.Grant w) ∷ past)
+ring_grant : (c : Config) (p by w : ℕ) (past : List Event) → RingTargets c p past → (y : Bool) → (by == p) ≡ y → RingTargets c p (event_after c past by (Verb.Grant w) ∷ past)
 ring_grant c p by w past s true k = rw k (tt, s.1)
 ring_grant c p by w past s false k = rw k s
 
-ring_step : (c : Config) (p by : ℕ) (v : Verb) (past : List Event) → Needs c by (part by past) v → RingTargets c p past → RingTargets c p (made c past by v ∷ past)
+ring_step : (c : Config) (p by : ℕ) (v : Verb) (past : List Event) → Needs c by (part by past) v → RingTargets c p past → RingTargets c p (event_after c past by v ∷ past)
 ring_step c p by (Verb.Enter q t) past may s = ring_enter c p by q t past (enter_ring c by (part by past) q t may.1) s (entered_or_lost (noted_grant by q past) (fence q past)) (q == p) refl
 ring_step c p by Verb.Close past may s = ring_close c p by past s (by == p) refl
 ring_step c p by (Verb.Grant w) past may s = ring_grant c p by w past s (by == p) refl

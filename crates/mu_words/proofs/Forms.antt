@@ -12,7 +12,7 @@ use Rattle.mu_model.specs.Allowed.{Allowed}
 use Rattle.mu_model.specs.Legal.{IsLegalHistory}
 use Rattle.mu_model.specs.Regions.{fence_closing, fence_grant, fence_owner, fence_target}
 use Rattle.mu_model.proofs.Basics.{same_number}
-use Rattle.mu_agree.proofs.Legal.{legal_induction, made}
+use Rattle.mu_agree.proofs.Legal.{legal_induction, event_after}
 use Rattle.mu_agree.proofs.Access.{grant_needs, last_close-part}
 use Rattle.mu_words.specs.declared.layout.Name.{Name}
 use Rattle.mu_words.specs.Words.{owner_code, target_code}
@@ -20,7 +20,7 @@ use Rattle.mu_words.specs.Standing.{close_grant, fields, named_grant, standing_w
 use Rattle.mu_words.specs.Stands.{StepsInTableForms}
 use Rattle.mu_words.specs.Finding.{with_content, sights, found_word}
 use Rattle.mu_words.specs.Steps.{closed, exchanged, granted, is_exchange, with_target, word_after}
-use Rattle.mu_words.proofs.Limits.{Limits, limits}
+use Rattle.mu_words.proofs.Limits.{Limits, config_is_limited}
 use Rattle.mu_words.proofs.Packing.{owner_small, target_small, bits_grant}
 use Rattle.mu_words.proofs.Ranges.{grant_fits}
 use Rattle.mu_words.proofs.Fences.{fitting}
@@ -61,15 +61,15 @@ exchange_is ring v x w is = absurd (true≢false (sym is))
 abbrev ClosedAt : ℕ → List Event → Type 0
 ClosedAt p past = fence_closing p past ≡ true → close_grant p past ≡ fence_grant p past
 
-closed_at_close : (c : Config) (p by : ℕ) (past : List Event) → ClosedAt p past → (t : Bool) → (by == p) ≡ t → ClosedAt p (made c past by Verb.Close ∷ past)
+closed_at_close : (c : Config) (p by : ℕ) (past : List Event) → ClosedAt p past → (t : Bool) → (by == p) ≡ t → ClosedAt p (event_after c past by Verb.Close ∷ past)
 closed_at_close c p by past s true k = rw k (λ is. ap (λ z. fence_grant z past) (eqb-true by p k))
 closed_at_close c p by past s false k = rw k s
 
-closed_at_grant : (c : Config) (p by q : ℕ) (past : List Event) → ClosedAt p past → (t : Bool) → (by == p) ≡ t → ClosedAt p (made c past by (Verb.Grant q) ∷ past)
+closed_at_grant : (c : Config) (p by q : ℕ) (past : List Event) → ClosedAt p past → (t : Bool) → (by == p) ≡ t → ClosedAt p (event_after c past by (Verb.Grant q) ∷ past)
 closed_at_grant c p by q past s true k = rw k (λ is. absurd (true≢false (sym is)))
 closed_at_grant c p by q past s false k = rw k s
 
-closed_at_step : (c : Config) (p by : ℕ) (v : Verb) (past : List Event) → ClosedAt p past → ClosedAt p (made c past by v ∷ past)
+closed_at_step : (c : Config) (p by : ℕ) (v : Verb) (past : List Event) → ClosedAt p past → ClosedAt p (event_after c past by v ∷ past)
 closed_at_step c p by Verb.Close past s = closed_at_close c p by past s (by == p) refl
 closed_at_step c p by (Verb.Grant q) past s = closed_at_grant c p by q past s (by == p) refl
 closed_at_step c p by v past s = s
@@ -91,7 +91,7 @@ pub steps_in_table_forms_law : StepsInTableForms
 steps_in_table_forms_law c r past given legal = record {
   exchange = λ v x w is. exchange_is c.ring v x w is;
   close = λ x w. sym (closed_or w);
-  grant = λ q x may. grant_is c r past q x (limits c given) legal may;
+  grant = λ q x may. grant_is c r past q x (config_is_limited c given) legal may;
 }
 
 -- the events beside the found words are the part

@@ -7,7 +7,7 @@ use Rattle.mu_model.specs.Allowed.{Allowed}
 use Rattle.mu_model.specs.Histories.{part}
 use Rattle.mu_model.specs.Legal.{IsLegalHistory}
 use Rattle.mu_words.specs.Steps.{StepsByWord, WordSteps}
-use Rattle.mu_words.proofs.Limits.{Limits, limits}
+use Rattle.mu_words.proofs.Limits.{Limits, config_is_limited}
 use Rattle.mu_words.proofs.Plain.{ask_step, beat_step, fuo_step, head_step, read_beat_step, read_ask_step, read_row_step, write_row_step, raise_fuo_step, raise_head_step, look_target_step}
 use Rattle.mu_words.proofs.Fences.{fence_step, close_step, grant_step}
 use Rattle.mu_words.proofs.Entering.{enter_step}
@@ -37,4 +37,4 @@ step c past r Verb.Drain l h may = drain_step c past r l h may.may
 step c past r (Verb.Grant w) l h may = grant_step c past r w l h
 
 pub word_steps_law : WordSteps
-word_steps_law c r past v is legal may = step c past r v (limits c is) legal may
+word_steps_law c r past v is legal may = step c past r v (config_is_limited c is) legal may

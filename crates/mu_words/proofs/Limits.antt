@@ -11,8 +11,8 @@ pub record Limits (c : Config) : Type 0 where
   pub commands : row_count c ≤ 1500
 
 -- a configuration that a job gives has them
-pub limits : (c : Config) → IsConfig c → Limits c
-limits c is = record {
+pub config_is_limited : (c : Config) → IsConfig c → Limits c
+config_is_limited c is = record {
   replicas = is.replicas.1;
   ring_least = is.ring.0;
   ring_most = is.ring.1;

@@ -17,7 +17,7 @@ use Rattle.mu_model.specs.Regions.{fence, fence_closing, is_close_of, is_drain_o
 use Rattle.mu_model.specs.Serving.{drained_since_close, has_target, is_target_look, looked_since_close, must_drain, names_target}
 use Rattle.mu_agree.proofs.Access.{last_close, must_drain-part, open_target-part, put_done_undrained}
 use Rattle.mu_agree.proofs.Entering.{slot_entered}
-use Rattle.mu_agree.proofs.Legal.{legal_induction, made}
+use Rattle.mu_agree.proofs.Legal.{legal_induction, event_after}
 use Rattle.mu_words.specs.Standing.{content, stamp, target_word, leaves, changed_since_look, is_unlike, close_target, named_target, standing_word, is_same_target, fields}
 use Rattle.mu_words.specs.Finding.{target_name}
 use Rattle.mu_words.proofs.Limits.{Limits}
@@ -65,9 +65,9 @@ leaves_slot c p t q i b v y Answer.Done e = go (q == p) refl (is_same_target t (
     go false h z k = cc
 leaves_slot c p t q i b v y a e = cc
 
-loading_min : (c : Config) (p by q b : ℕ) (past : List Event) → Limits c → IsLegalHistory c past → Needs c by (part by past) (Verb.PutMin q b) → Loading c p past → Loading c p (made c past by (Verb.PutMin q b) ∷ past)
+loading_min : (c : Config) (p by q b : ℕ) (past : List Event) → Limits c → IsLegalHistory c past → Needs c by (part by past) (Verb.PutMin q b) → Loading c p past → Loading c p (event_after c past by (Verb.PutMin q b) ∷ past)
 loading_min c p by q b past l h may s k m n =
-    loaded_put (content c p (close_target p past) past) (content c p (close_target p past) (made c past by (Verb.PutMin q b) ∷ past)) (load_of c p past) (stamp c p (close_target p past) past)
+    loaded_put (content c p (close_target p past) past) (content c p (close_target p past) (event_after c past by (Verb.PutMin q b) ∷ past)) (load_of c p past) (stamp c p (close_target p past) past)
     (leaves c p (close_target p past) (Verb.PutMin q b) (put_answer (drained by q past))) (changed_since_look c p past)
     (content_after c p by (close_target p past) (Verb.PutMin q b) past l h may)
     (λ y e x.
@@ -76,9 +76,9 @@ loading_min c p by q b past l h may s k m n =
     single c by p past h k m x Target.Min (subst (λ z. open_target by z past ≡ Some Target.Min) d.1 o) refl (subst (λ z. drained by z past ≡ false) d.1 (put_done_undrained (drained by q past) d.0)))
     (s k m n)
 
-loading_slot : (c : Config) (p by q i b v : ℕ) (past : List Event) → Limits c → IsLegalHistory c past → Needs c by (part by past) (Verb.PutSlot q i b v) → Loading c p past → Loading c p (made c past by (Verb.PutSlot q i b v) ∷ past)
+loading_slot : (c : Config) (p by q i b v : ℕ) (past : List Event) → Limits c → IsLegalHistory c past → Needs c by (part by past) (Verb.PutSlot q i b v) → Loading c p past → Loading c p (event_after c past by (Verb.PutSlot q i b v) ∷ past)
 loading_slot c p by q i b v past l h may s k m n =
-    loaded_put (content c p (close_target p past) past) (content c p (close_target p past) (made c past by (Verb.PutSlot q i b v) ∷ past)) (load_of c p past) (stamp c p (close_target p past) past)
+    loaded_put (content c p (close_target p past) past) (content c p (close_target p past) (event_after c past by (Verb.PutSlot q i b v) ∷ past)) (load_of c p past) (stamp c p (close_target p past) past)
     (leaves c p (close_target p past) (Verb.PutSlot q i b v) (put_answer (drained by q past))) (changed_since_look c p past)
     (content_after c p by (close_target p past) (Verb.PutSlot q i b v) past l h may)
     (λ y e x.
@@ -87,10 +87,10 @@ loading_slot c p by q i b v past l h may s k m n =
     single c by p past h k m x (Target.Place (i % c.ring)) (subst (λ z. open_target by z past ≡ Some (Target.Place (i % c.ring))) d.1 o) refl (subst (λ z. drained by z past ≡ false) d.1 (put_done_undrained (drained by q past) d.0)))
     (s k m n)
 
-loading_close : (c : Config) (p by : ℕ) (past : List Event) → Limits c → IsLegalHistory c past → Needs c by (part by past) Verb.Close → Loading c p past → (t : Bool) → (by == p) ≡ t → Loading c p (made c past by Verb.Close ∷ past)
+loading_close : (c : Config) (p by : ℕ) (past : List Event) → Limits c → IsLegalHistory c past → Needs c by (part by past) Verb.Close → Loading c p past → (t : Bool) → (by == p) ≡ t → Loading c p (event_after c past by Verb.Close ∷ past)
 loading_close c p by past l h may s true x = rw x (λ k m. absurd (true≢false (sym m)))
 loading_close c p by past l h may s false x =
-    let ev = made c past by Verb.Close in
+    let ev = event_after c past by Verb.Close in
     let named : close_target p (ev ∷ past) ≡ close_target p past = ap (λ t. named_target (newer_or (cond t (Some (fence by past)) None) (last_close p past))) x in
     let closing : fence_closing p (ev ∷ past) ≡ fence_closing p past = ap (λ t. cond t true (fence_closing p past)) x in
     let looked : looked_since_close p (ev ∷ past) ≡ looked_since_close p past = ap (λ t. has (λ e. is_target_look p e.by e.verb) (cond t [] (ev ∷ since (is_close_of p) past))) x in
@@ -99,13 +99,13 @@ loading_close c p by past l h may s false x =
     subst (λ t. LoadedWord (changed_since_look c p past) (load_of c p past) (stamp c p t past * 140737488355328 + content c p t (ev ∷ past))) (sym named)
     (quiet_word (content c p (close_target p past) past) (content c p (close_target p past) (ev ∷ past)) (load_of c p past) (stamp c p (close_target p past) past) (changed_since_look c p past) (content_after c p by (close_target p past) Verb.Close past l h may) (s (sym closing ∙ k) (sym looked ∙ m) (sym drains_since ∙ n)))
 
-loading_grant : (c : Config) (p by w : ℕ) (past : List Event) → Limits c → IsLegalHistory c past → Needs c by (part by past) (Verb.Grant w) → Loading c p past → (t : Bool) → (by == p) ≡ t → Loading c p (made c past by (Verb.Grant w) ∷ past)
+loading_grant : (c : Config) (p by w : ℕ) (past : List Event) → Limits c → IsLegalHistory c past → Needs c by (part by past) (Verb.Grant w) → Loading c p past → (t : Bool) → (by == p) ≡ t → Loading c p (event_after c past by (Verb.Grant w) ∷ past)
 loading_grant c p by w past l h may s true x = rw x (λ k. absurd (true≢false (sym k)))
-loading_grant c p by w past l h may s false x = rw x (λ k m n. quiet_word (content c p (close_target p past) past) (content c p (close_target p past) (made c past by (Verb.Grant w) ∷ past)) (load_of c p past) (stamp c p (close_target p past) past) (changed_since_look c p past) (content_after c p by (close_target p past) (Verb.Grant w) past l h may) (s k m n))
+loading_grant c p by w past l h may s false x = rw x (λ k m n. quiet_word (content c p (close_target p past) past) (content c p (close_target p past) (event_after c past by (Verb.Grant w) ∷ past)) (load_of c p past) (stamp c p (close_target p past) past) (changed_since_look c p past) (content_after c p by (close_target p past) (Verb.Grant w) past l h may) (s k m n))
 
-loading_drain : (c : Config) (p by : ℕ) (past : List Event) → Limits c → IsLegalHistory c past → Needs c by (part by past) Verb.Drain → Loading c p past → (t : Bool) → (by == p) ≡ t → Loading c p (made c past by Verb.Drain ∷ past)
+loading_drain : (c : Config) (p by : ℕ) (past : List Event) → Limits c → IsLegalHistory c past → Needs c by (part by past) Verb.Drain → Loading c p past → (t : Bool) → (by == p) ≡ t → Loading c p (event_after c past by Verb.Drain ∷ past)
 loading_drain c p by past l h may s true x = rw x (λ k m n. absurd (true≢false n))
-loading_drain c p by past l h may s false x = rw x (λ k m n. quiet_word (content c p (close_target p past) past) (content c p (close_target p past) (made c past by Verb.Drain ∷ past)) (load_of c p past) (stamp c p (close_target p past) past) (changed_since_look c p past) (content_after c p by (close_target p past) Verb.Drain past l h may) (s k m n))
+loading_drain c p by past l h may s false x = rw x (λ k m n. quiet_word (content c p (close_target p past) past) (content c p (close_target p past) (event_after c past by Verb.Drain ∷ past)) (load_of c p past) (stamp c p (close_target p past) past) (changed_since_look c p past) (content_after c p by (close_target p past) Verb.Drain past l h may) (s k m n))
 
 -- a `LookTarget` finds the word that the closed fence names
 pub named_word : (c : Config) (p : ℕ) (t : Target) (past : List Event) → has_target t ≡ true → standing_word c past (target_name p t) ≡ target_word c p t past
@@ -122,21 +122,21 @@ drain_target p past m =
     let k = and_parts (fence_closing p past) (names_target (last_close p past)) (sym (must_drain-part p past) ∙ m) in
     (k.0, target_named (last_close p past) k.1)
 
-loading_look : (c : Config) (p by : ℕ) (past : List Event) → Limits c → IsLegalHistory c past → Needs c by (part by past) Verb.LookTarget → Loading c p past → (t : Bool) → (by == p) ≡ t → Loading c p (made c past by Verb.LookTarget ∷ past)
+loading_look : (c : Config) (p by : ℕ) (past : List Event) → Limits c → IsLegalHistory c past → Needs c by (part by past) Verb.LookTarget → Loading c p past → (t : Bool) → (by == p) ≡ t → Loading c p (event_after c past by Verb.LookTarget ∷ past)
 loading_look c p by past l h may s true x =
     let at_p = subst (λ z. must_drain z (part z past) ≡ true) (eqb-true by p x) may.0 in
-    rw x (λ k m n. quiet_word (content c p (close_target p past) past) (content c p (close_target p past) (made c past by Verb.LookTarget ∷ past)) (standing_word c past (target_name p (close_target p (part p past)))) (stamp c p (close_target p past) past) false (content_after c p by (close_target p past) Verb.LookTarget past l h may)
+    rw x (λ k m n. quiet_word (content c p (close_target p past) past) (content c p (close_target p past) (event_after c past by Verb.LookTarget ∷ past)) (standing_word c past (target_name p (close_target p (part p past)))) (stamp c p (close_target p past) past) false (content_after c p by (close_target p past) Verb.LookTarget past l h may)
     (λ _. ap (λ t. standing_word c past (target_name p t)) (close_target-part p past) ∙ named_word c p (close_target p past) past (drain_target p past at_p).1, λ e. absurd (true≢false (sym e))))
-loading_look c p by past l h may s false x = rw x (λ k m n. quiet_word (content c p (close_target p past) past) (content c p (close_target p past) (made c past by Verb.LookTarget ∷ past)) (load_of c p past) (stamp c p (close_target p past) past) (changed_since_look c p past) (content_after c p by (close_target p past) Verb.LookTarget past l h may) (s k m n))
+loading_look c p by past l h may s false x = rw x (λ k m n. quiet_word (content c p (close_target p past) past) (content c p (close_target p past) (event_after c past by Verb.LookTarget ∷ past)) (load_of c p past) (stamp c p (close_target p past) past) (changed_since_look c p past) (content_after c p by (close_target p past) Verb.LookTarget past l h may) (s k m n))
 
-loading_step : (c : Config) (p by : ℕ) (v : Verb) (past : List Event) → Limits c → IsLegalHistory c past → Needs c by (part by past) v → Loading c p past → Loading c p (made c past by v ∷ past)
+loading_step : (c : Config) (p by : ℕ) (v : Verb) (past : List Event) → Limits c → IsLegalHistory c past → Needs c by (part by past) v → Loading c p past → Loading c p (event_after c past by v ∷ past)
 loading_step c p by (Verb.PutMin q b) past l h may s = loading_min c p by q b past l h may s
 loading_step c p by (Verb.PutSlot q i b v) past l h may s = loading_slot c p by q i b v past l h may s
 loading_step c p by Verb.Close past l h may s = loading_close c p by past l h may s (by == p) refl
 loading_step c p by (Verb.Grant w) past l h may s = loading_grant c p by w past l h may s (by == p) refl
 loading_step c p by Verb.Drain past l h may s = loading_drain c p by past l h may s (by == p) refl
 loading_step c p by Verb.LookTarget past l h may s = loading_look c p by past l h may s (by == p) refl
-loading_step c p by v past l h may s = λ k m n. quiet_word (content c p (close_target p past) past) (content c p (close_target p past) (made c past by v ∷ past)) (load_of c p past) (stamp c p (close_target p past) past) (changed_since_look c p past) (content_after c p by (close_target p past) v past l h may) (s k m n)
+loading_step c p by v past l h may s = λ k m n. quiet_word (content c p (close_target p past) past) (content c p (close_target p past) (event_after c past by v ∷ past)) (load_of c p past) (stamp c p (close_target p past) past) (changed_since_look c p past) (content_after c p by (close_target p past) v past l h may) (s k m n)
 
 pub loading : (c : Config) (p : ℕ) (past : List Event) → Limits c → IsLegalHistory c past → Loading c p past
 loading c p past l h = legal_induction c (Loading c p) (λ k m n. cc) (λ past by v h may s. loading_step c p by v past l h may.may s) past h

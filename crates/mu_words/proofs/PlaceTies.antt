@@ -20,13 +20,13 @@ use Rattle.mu_model.specs.Picks.{is_past, look_answer}
 use Rattle.mu_model.specs.Placing.{is_good_look, is_slot_put_at, looked_before_entering, since_joining}
 use Rattle.mu_model.specs.Regions.{fence, fence_closing, fence_grant, is_drain_of, is_grant_of, region_log}
 use Rattle.mu_model.proofs.Basics.{same_number, same_some}
-use Rattle.mu_agree.proofs.Access.{drained_law, entered_facts, opened}
-use Rattle.mu_agree.proofs.Legal.{legal_induction, made}
+use Rattle.mu_agree.proofs.Access.{drained_law, entered_facts, opened_is_held}
+use Rattle.mu_agree.proofs.Legal.{legal_induction, event_after}
 use Rattle.mu_agree.proofs.Members.{join_noted, joining, place_needs, stays_noted}
 use Rattle.mu_agree.proofs.Slots.{put_in'}
 use Rattle.mu_words.specs.Standing.{stamp, target_word}
 use Rattle.mu_words.proofs.Logs.{length_added, shown_elsewhere}
-use Rattle.mu_words.proofs.Tracking.{tracked}
+use Rattle.mu_words.proofs.Tracking.{kept_in_history}
 use Rattle.mu_words.proofs.Opening.{not_other_slot}
 
 abbrev pub sees : ℕ → ℕ → ℕ → Event → Bool
@@ -79,20 +79,20 @@ place_word c p i past = target_word c p (Target.Place (i % c.ring)) past
 abbrev pub SeenTie : Config → ℕ → ℕ → ℕ → List Event → Type 0
 SeenTie c r p i past =
     (g : ℕ) → grant_at_joining r p past ≡ Some (Some g) → g ≡ fence_grant p past → has (is_drain_of p) (since (is_grant_of p) past) ≡ false → looked_since c r p i past ≡ true
-    → Tied c.ring i (length (region_log p past)) (tracked c r p (Target.Place (i % c.ring)) past).0 (place_word c p i past)
+    → Tied c.ring i (length (region_log p past)) (kept_in_history c r p (Target.Place (i % c.ring)) past).0 (place_word c p i past)
 
-seen_ask : (c : Config) (r p i by q : ℕ) (past : List Event) → SeenTie c r p i past → (t : Bool) → is_first_ask r by (Verb.Ask q) ≡ t → SeenTie c r p i (made c past by (Verb.Ask q) ∷ past)
+seen_ask : (c : Config) (r p i by q : ℕ) (past : List Event) → SeenTie c r p i past → (t : Bool) → is_first_ask r by (Verb.Ask q) ≡ t → SeenTie c r p i (event_after c past by (Verb.Ask q) ∷ past)
 seen_ask c r p i by q past s true h = rw h (λ g j. cc)
-seen_ask c r p i by q past s false h = rw h (λ g j k d l. s g j k d (quiet_on c r p i (made c past by (Verb.Ask q)) past refl l))
+seen_ask c r p i by q past s false h = rw h (λ g j k d l. s g j k d (quiet_on c r p i (event_after c past by (Verb.Ask q)) past refl l))
 
-seen_grant : (c : Config) (r p i by w : ℕ) (past : List Event) → IsLegalHistory c past → SeenTie c r p i past → (t : Bool) → (by == p) ≡ t → SeenTie c r p i (made c past by (Verb.Grant w) ∷ past)
+seen_grant : (c : Config) (r p i by w : ℕ) (past : List Event) → IsLegalHistory c past → SeenTie c r p i past → (t : Bool) → (by == p) ≡ t → SeenTie c r p i (event_after c past by (Verb.Grant w) ∷ past)
 seen_grant c r p i by w past h s true k =
     rw k (λ g j m d l. absurd (let n = (joining c r p past h g ((join_noted c r p past h).is g j)).0 in omega arith))
-seen_grant c r p i by w past h s false k = rw k (λ g j m d l. s g j m d (quiet c r p i (made c past by (Verb.Grant w)) past refl l))
+seen_grant c r p i by w past h s false k = rw k (λ g j m d l. s g j m d (quiet c r p i (event_after c past by (Verb.Grant w)) past refl l))
 
-seen_drain : (c : Config) (r p i by : ℕ) (past : List Event) → SeenTie c r p i past → (t : Bool) → (by == p) ≡ t → SeenTie c r p i (made c past by Verb.Drain ∷ past)
+seen_drain : (c : Config) (r p i by : ℕ) (past : List Event) → SeenTie c r p i past → (t : Bool) → (by == p) ≡ t → SeenTie c r p i (event_after c past by Verb.Drain ∷ past)
 seen_drain c r p i by past s true k = rw k (λ g j m d. absurd (true≢false d))
-seen_drain c r p i by past s false k = rw k (λ g j m d l. s g j m d (quiet c r p i (made c past by Verb.Drain) past refl l))
+seen_drain c r p i by past s false k = rw k (λ g j m d l. s g j m d (quiet c r p i (event_after c past by Verb.Drain) past refl l))
 
 seen_enter : (c : Config) (r p i by q : ℕ) (t : Target) (a : Answer) (past : List Event) → SeenTie c r p i past → (x : Bool) → ((by == r) && (q == p)) ≡ x → SeenTie c r p i (record { by = by; verb = Verb.Enter q t; answer = a } ∷ past)
 seen_enter c r p i by q t a past s true k = rw k (λ g j m d l. s g j m d (quiet c r p i (record { by = by; verb = Verb.Enter q t; answer = a }) past refl l))
@@ -134,12 +134,12 @@ look_parts r p i by q j a h = go ((by == r) && ((q == p) && (j == i))) refl h
     go true e k = let x = and_parts (by == r) ((q == p) && (j == i)) e in let y = and_parts (q == p) (j == i) x.1 in record { by_r = eqb-true by r x.0; at_p = eqb-true q p y.0; at_i = eqb-true j i y.1; good = k }
     go false e k = absurd (true≢false (sym k))
 
-seen_look : (c : Config) (r p i by q j : ℕ) (past : List Event) → SeenTie c r p i past → (x : Bool) → ((i % c.ring == j % c.ring) && ((by == r) && (q == p))) ≡ x → SeenTie c r p i (made c past by (Verb.Look q j) ∷ past)
+seen_look : (c : Config) (r p i by q j : ℕ) (past : List Event) → SeenTie c r p i past → (x : Bool) → ((i % c.ring == j % c.ring) && ((by == r) && (q == p))) ≡ x → SeenTie c r p i (event_after c past by (Verb.Look q j) ∷ past)
 seen_look c r p i by q j past s true h =
     let x = and_parts (i % c.ring == j % c.ring) ((by == r) && (q == p)) h in
     let at_p = eqb-true q p (and_parts (by == r) (q == p) x.1).1 in
     rw h (λ g k m d l. record {
-      room = elim ((looks_back c r p i (made c past by (Verb.Look q j)) past l).case) [
+      room = elim ((looks_back c r p i (event_after c past by (Verb.Look q j)) past l).case) [
         | inl e ↦ (let f = look_parts r p i by q j (look_of c.ring (region_log q past) j) e in
             subst (λ z. length (region_log z past) ≤ i + c.ring) at_p (subst (λ z. length (region_log q past) ≤ z + c.ring) f.at_i (not_past_room c.ring (region_log q past) j f.good)))
         | inr e ↦ (s g k m d e).room
@@ -147,7 +147,7 @@ seen_look c r p i by q j past s true h =
       is = ap (λ z. target_word c z (Target.Place (j % c.ring)) past) at_p ∙ ap (λ z. target_word c p (Target.Place z) past) (sym (eqb-true (i % c.ring) (j % c.ring) x.0));
     })
 seen_look c r p i by q j past s false h =
-    rw h (λ g k m d l. elim ((looks_back c r p i (made c past by (Verb.Look q j)) past l).case) [
+    rw h (λ g k m d l. elim ((looks_back c r p i (event_after c past by (Verb.Look q j)) past l).case) [
       | inl e ↦ (let f = look_parts r p i by q j (look_of c.ring (region_log q past) j) e in
           absurd (true≢false (sym (and_from (i % c.ring == j % c.ring) ((by == r) && (q == p)) (subst (λ z. (z % c.ring == j % c.ring) ≡ true) f.at_i (same_number (j % c.ring))) (and_from (by == r) (q == p) (subst (λ z. (by == z) ≡ true) f.by_r (same_number by)) (subst (λ z. (q == z) ≡ true) f.at_p (same_number q)))) ∙ h)))
       | inr e ↦ s g k m d e
@@ -190,7 +190,7 @@ seen_put_slot c r p i by q j b w past h may s Answer.Done e x hx false hy =
 seen_put_slot c r p i by q j b w past h may s a e x hx y hy =
     λ g k m d l. s g k m d (quiet c r p i (record { by = by; verb = Verb.PutSlot q j b w; answer = a }) past refl l)
 
-seen_step : (c : Config) (r p i by : ℕ) (v : Verb) (past : List Event) → IsLegalHistory c past → Needs c by (part by past) v → SeenTie c r p i past → SeenTie c r p i (made c past by v ∷ past)
+seen_step : (c : Config) (r p i by : ℕ) (v : Verb) (past : List Event) → IsLegalHistory c past → Needs c by (part by past) v → SeenTie c r p i past → SeenTie c r p i (event_after c past by v ∷ past)
 seen_step c r p i by (Verb.Ask q) past h may s = seen_ask c r p i by q past s (is_first_ask r by (Verb.Ask q)) refl
 seen_step c r p i by (Verb.Enter q t) past h may s = seen_enter c r p i by q t (entered_or_lost (noted_grant by q past) (fence q past)) past s ((by == r) && (q == p)) refl
 seen_step c r p i by (Verb.PutMin q b) past h may s = seen_put_min c r p i by q b (put_answer (drained by q past)) past s ((by == r) && (q == p)) refl
@@ -198,7 +198,7 @@ seen_step c r p i by (Verb.Look q j) past h may s = seen_look c r p i by q j pas
 seen_step c r p i by (Verb.PutSlot q j b w) past h may s = seen_put_slot c r p i by q j b w past h may s (put_answer (drained by q past)) refl (by == r) refl (q == p) refl
 seen_step c r p i by Verb.Drain past h may s = seen_drain c r p i by past s (by == p) refl
 seen_step c r p i by (Verb.Grant w) past h may s = seen_grant c r p i by w past h s (by == p) refl
-seen_step c r p i by v past h may s = λ g k m d l. s g k m d (quiet c r p i (made c past by v) past refl l)
+seen_step c r p i by v past h may s = λ g k m d l. s g k m d (quiet c r p i (event_after c past by v) past refl l)
 
 pub seen_tie : (c : Config) (r p i : ℕ) (past : List Event) → IsLegalHistory c past → SeenTie c r p i past
 seen_tie c r p i = legal_induction c (SeenTie c r p i) (λ g j. cc) (λ past by v h may s. seen_step c r p i by v past h may.may s)
@@ -225,11 +225,11 @@ before_quiet_on c r p i e past n h = before_back (sees r p i) (puts_at r p c.rin
 abbrev pub FixedTie : Config → ℕ → ℕ → ℕ → List Event → Type 0
 FixedTie c r p i past =
     (u : ℕ) → open_target r p past ≡ Some (Target.Place u) → drained r p past ≡ false → looked_before_entering c r p i past ≡ true
-    → Tied c.ring i (length (region_log p past)) (tracked c r p (Target.Place (i % c.ring)) past).1 (place_word c p i past)
+    → Tied c.ring i (length (region_log p past)) (kept_in_history c r p (Target.Place (i % c.ring)) past).1 (place_word c p i past)
 
-fixed_ask : (c : Config) (r p i by q : ℕ) (past : List Event) → FixedTie c r p i past → (t : Bool) → is_first_ask r by (Verb.Ask q) ≡ t → FixedTie c r p i (made c past by (Verb.Ask q) ∷ past)
+fixed_ask : (c : Config) (r p i by q : ℕ) (past : List Event) → FixedTie c r p i past → (t : Bool) → is_first_ask r by (Verb.Ask q) ≡ t → FixedTie c r p i (event_after c past by (Verb.Ask q) ∷ past)
 fixed_ask c r p i by q past s true h = rw h (λ u e. cc)
-fixed_ask c r p i by q past s false h = rw h (λ u e d l. s u e d (before_quiet_on c r p i (made c past by (Verb.Ask q)) past refl l))
+fixed_ask c r p i by q past s false h = rw h (λ u e d l. s u e d (before_quiet_on c r p i (event_after c past by (Verb.Ask q)) past refl l))
 
 fixed_put_min : (c : Config) (r p i by q b : ℕ) (a : Answer) (past : List Event) → FixedTie c r p i past → (x : Bool) → ((by == r) && (q == p)) ≡ x → FixedTie c r p i (record { by = by; verb = Verb.PutMin q b; answer = a } ∷ past)
 fixed_put_min c r p i by q b a past s true k = rw k (λ u e. cc)
@@ -241,7 +241,7 @@ fixed_put_slot : (c : Config) (r p i by q j b w : ℕ) (past : List Event) → I
     → FixedTie c r p i (record { by = by; verb = Verb.PutSlot q j b w; answer = a } ∷ past)
 fixed_put_slot c r p i by q j b w past h may s a e true hx true hy = rw (hx, hy) (λ u e'. cc)
 fixed_put_slot c r p i by q j b w past h may s Answer.Done e false hx true hy =
-    rw (hx, hy) (λ u e' d l. absurd (not_other_slot c r p by q j b w past h may e hx hy (opened c r p past h (Target.Place u) e' refl d).by_owner))
+    rw (hx, hy) (λ u e' d l. absurd (not_other_slot c r p by q j b w past h may e hx hy (opened_is_held c r p past h (Target.Place u) e' refl d).by_owner))
 fixed_put_slot c r p i by q j b w past h may s Answer.Done e true hx false hy =
     rw (hx, hy) (λ u e' d l. s u e' d (before_quiet c r p i (record { by = by; verb = Verb.PutSlot q j b w; answer = Answer.Done }) past refl l))
 fixed_put_slot c r p i by q j b w past h may s Answer.Done e false hx false hy =
@@ -251,24 +251,24 @@ fixed_put_slot c r p i by q j b w past h may s a e true hx false hy =
 fixed_put_slot c r p i by q j b w past h may s a e false hx y hy =
     rw hx (λ u e' d l. s u e' d (before_quiet c r p i (record { by = by; verb = Verb.PutSlot q j b w; answer = a }) past refl l))
 
-fixed_drain : (c : Config) (r p i by : ℕ) (past : List Event) → FixedTie c r p i past → (t : Bool) → (by == p) ≡ t → FixedTie c r p i (made c past by Verb.Drain ∷ past)
+fixed_drain : (c : Config) (r p i by : ℕ) (past : List Event) → FixedTie c r p i past → (t : Bool) → (by == p) ≡ t → FixedTie c r p i (event_after c past by Verb.Drain ∷ past)
 fixed_drain c r p i by past s true k = rw k (λ u e d. absurd (true≢false d))
-fixed_drain c r p i by past s false k = rw k (λ u e d l. s u e d (before_quiet c r p i (made c past by Verb.Drain) past refl l))
+fixed_drain c r p i by past s false k = rw k (λ u e d l. s u e d (before_quiet c r p i (event_after c past by Verb.Drain) past refl l))
 
-fixed_look : (c : Config) (r p i by q j : ℕ) (past : List Event) → FixedTie c r p i past → (x : Bool) → ((i % c.ring == j % c.ring) && ((by == r) && (q == p))) ≡ x → FixedTie c r p i (made c past by (Verb.Look q j) ∷ past)
-fixed_look c r p i by q j past s true h = rw h (λ u e d l. s u e d (before_quiet c r p i (made c past by (Verb.Look q j)) past refl l))
-fixed_look c r p i by q j past s false h = rw h (λ u e d l. s u e d (before_quiet c r p i (made c past by (Verb.Look q j)) past refl l))
+fixed_look : (c : Config) (r p i by q j : ℕ) (past : List Event) → FixedTie c r p i past → (x : Bool) → ((i % c.ring == j % c.ring) && ((by == r) && (q == p))) ≡ x → FixedTie c r p i (event_after c past by (Verb.Look q j) ∷ past)
+fixed_look c r p i by q j past s true h = rw h (λ u e d l. s u e d (before_quiet c r p i (event_after c past by (Verb.Look q j)) past refl l))
+fixed_look c r p i by q j past s false h = rw h (λ u e d l. s u e d (before_quiet c r p i (event_after c past by (Verb.Look q j)) past refl l))
 
 -- an `Enter` for a place takes what was seen
 entering_tie : (c : Config) (r p i u : ℕ) (t : Target) (past : List Event) → IsLegalHistory c past → MayEnter c r (part r past) p t → t ≡ Target.Place u → entered_or_lost (noted_grant r p past) (fence p past) ≡ Answer.Entered → looked_since c r p i past ≡ true
-    → Tied c.ring i (length (region_log p past)) (tracked c r p (Target.Place (i % c.ring)) past).0 (place_word c p i past)
+    → Tied c.ring i (length (region_log p past)) (kept_in_history c r p (Target.Place (i % c.ring)) past).0 (place_word c p i past)
 entering_tie c r p i u t past h may e en l =
     let k = entered_facts (noted_grant r p past) (fence p past) en in
     let m = place_needs c r p u t past may e in
     member_tie (grant_at_joining r p past) refl m.0 k.g k.is (sym k.same) m.1 k.not_closing
   where
     member_tie : (o : Option (Option ℕ)) → grant_at_joining r p past ≡ o → is_some o ≡ true → (g : ℕ) → noted_grant r p past ≡ Some g → g ≡ fence_grant p past → is_over r past ≡ false → fence_closing p past ≡ false
-        → Tied c.ring i (length (region_log p past)) (tracked c r p (Target.Place (i % c.ring)) past).0 (place_word c p i past)
+        → Tied c.ring i (length (region_log p past)) (kept_in_history c r p (Target.Place (i % c.ring)) past).0 (place_word c p i past)
     member_tie None e m g n k v f = absurd (true≢false (sym m))
     member_tie (Some o) e m g n k v f =
         seen_tie c r p i past h g (e ∙ ap Some (stays_noted c r p past h o g v e n)) k
@@ -295,14 +295,14 @@ fixed_enter c r p i by q t past h may s a e true hx false hy =
 fixed_enter c r p i by q t past h may s a e false hx y hy =
     rw hx (λ u e' d l. s u e' d (before_quiet c r p i (record { by = by; verb = Verb.Enter q t; answer = a }) past (rw hx refl) l))
 
-fixed_step : (c : Config) (r p i by : ℕ) (v : Verb) (past : List Event) → IsLegalHistory c past → Needs c by (part by past) v → FixedTie c r p i past → FixedTie c r p i (made c past by v ∷ past)
+fixed_step : (c : Config) (r p i by : ℕ) (v : Verb) (past : List Event) → IsLegalHistory c past → Needs c by (part by past) v → FixedTie c r p i past → FixedTie c r p i (event_after c past by v ∷ past)
 fixed_step c r p i by (Verb.Ask q) past h may s = fixed_ask c r p i by q past s (is_first_ask r by (Verb.Ask q)) refl
 fixed_step c r p i by (Verb.Enter q t) past h may s = fixed_enter c r p i by q t past h may.1 s (entered_or_lost (noted_grant by q past) (fence q past)) refl (by == r) refl (q == p) refl
 fixed_step c r p i by (Verb.PutMin q b) past h may s = fixed_put_min c r p i by q b (put_answer (drained by q past)) past s ((by == r) && (q == p)) refl
 fixed_step c r p i by (Verb.PutSlot q j b w) past h may s = fixed_put_slot c r p i by q j b w past h may s (put_answer (drained by q past)) refl (by == r) refl (q == p) refl
 fixed_step c r p i by (Verb.Look q j) past h may s = fixed_look c r p i by q j past s ((i % c.ring == j % c.ring) && ((by == r) && (q == p))) refl
 fixed_step c r p i by Verb.Drain past h may s = fixed_drain c r p i by past s (by == p) refl
-fixed_step c r p i by v past h may s = λ u e d l. s u e d (before_quiet c r p i (made c past by v) past refl l)
+fixed_step c r p i by v past h may s = λ u e d l. s u e d (before_quiet c r p i (event_after c past by v) past refl l)
 
 pub fixed_tie : (c : Config) (r p i : ℕ) (past : List Event) → IsLegalHistory c past → FixedTie c r p i past
 fixed_tie c r p i = legal_induction c (FixedTie c r p i) (λ u e. cc) (λ past by v h may s. fixed_step c r p i by v past h may.may s)

@@ -20,7 +20,7 @@ use Rattle.mu_words.specs.Finding.{with_content, target_name, kept, loaded, sigh
 use Rattle.mu_words.specs.Steps.{event_of, StepsByWord}
 use Rattle.mu_words.proofs.Limits.{Limits}
 use Rattle.mu_words.proofs.Others.{others_keep, close_target-part}
-use Rattle.mu_words.proofs.Tracking.{tracked, kept_tracked, loaded_load}
+use Rattle.mu_words.proofs.Tracking.{kept_in_history, kept_is_in_history, loaded_load}
 use Rattle.mu_words.proofs.Ranges.{min_fits}
 use Rattle.mu_words.proofs.Entries.{content_fits}
 use Rattle.mu_words.proofs.Contents.{or_old, content_after, put_tie, looked_of}
@@ -59,7 +59,7 @@ pub put_min_step : (c : Config) (past : List Event) (r p b : ℕ) → Limits c �
 put_min_step c past r p b l h may =
     let ev = event_of c r past (Verb.PutMin p b) in
     let o = sym (open_target-part r p past) ∙ may.1.entered in
-    let x : (kept c p Target.Min (sights c r past)).1 ≡ (tracked c r p Target.Min past).1 = ap (λ k. k.1) (kept_tracked c r p Target.Min past) in
+    let x : (kept c p Target.Min (sights c r past)).1 ≡ (kept_in_history c r p Target.Min past).1 = ap (λ k. k.1) (kept_is_in_history c r p Target.Min past) in
     let after : region_min p (ev ∷ past) ≡ or_old (leaves c p Target.Min (Verb.PutMin p b) (put_answer (drained r p past))) (region_min p past) = content_after c p r Target.Min (Verb.PutMin p b) past l h may in
     let n = put_numbers (stamp c p Target.Min past) (region_min p past) (region_min p (ev ∷ past)) b ((kept c p Target.Min (sights c r past)).1) (drained r p past) (let k = min_fits c p past l h in omega arith)
     (λ d. (x ∙ (min_tie c r p past l h).1 o d, after ∙ ap (λ t. or_old (leaves c p Target.Min (Verb.PutMin p b) (put_answer t)) (region_min p past)) d ∙ rw (same_number p) refl))
@@ -71,7 +71,7 @@ put_slot_step c past r p i b v l h may =
     let ev = event_of c r past (Verb.PutSlot p i b v) in
     let t = Target.Place (i % c.ring) in
     let o = sym (open_target-part r p past) ∙ slot_entered c r p i b v (part r past) may.2 in
-    let x : (kept c p t (sights c r past)).1 ≡ (tracked c r p t past).1 = ap (λ k. k.1) (kept_tracked c r p t past) in
+    let x : (kept c p t (sights c r past)).1 ≡ (kept_in_history c r p t past).1 = ap (λ k. k.1) (kept_is_in_history c r p t past) in
     let after : content c p t (ev ∷ past) ≡ or_old (leaves c p t (Verb.PutSlot p i b v) (put_answer (drained r p past))) (content c p t past) = content_after c p r t (Verb.PutSlot p i b v) past l h may in
     let n = put_numbers (stamp c p t past) (content c p t past) (content c p t (ev ∷ past)) (fields c.ring i b v) ((kept c p t (sights c r past)).1) (drained r p past) (content_fits c p t past l h)
     (λ d. (x ∙ (put_tie c r p i b v past h may d).is, after ∙ ap (λ z. or_old (leaves c p t (Verb.PutSlot p i b v) (put_answer z)) (content c p t past)) d ∙ rw (same_number p, same_number (i % c.ring)) refl))

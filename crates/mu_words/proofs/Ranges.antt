@@ -13,20 +13,16 @@ use Rattle.mu_model.specs.Histories.{greatest, how_many, max_with, part}
 use Rattle.mu_model.specs.Leaderships.{begins_leadership, leadership, proposal_number}
 use Rattle.mu_model.specs.Legal.{IsLegalHistory}
 use Rattle.mu_model.specs.Regions.{asks, beats, fence_grant, is_ask_by, is_beat_by, is_drain_by, is_drain_of, is_grant_of, region_min}
-use Rattle.mu_model.proofs.Budgets.{legal_keeps, short_history, within}
+use Rattle.mu_model.proofs.Budgets.{short_history, part_within_budget}
 use Rattle.mu_model.proofs.Counts.{how_many_within}
-use Rattle.mu_model.proofs.Owned.{IsOwn, IsOwnTest, greatest-part, how_many-part}
+use Rattle.mu_model.proofs.Owned.{IsOwn, IsOwnTest, greatest-part, how_many-part, beats-own, asks-own}
 use Rattle.mu_agree.proofs.Access.{drains-own, grants-own}
 use Rattle.mu_agree.proofs.Landings.{greatest_since}
-use Rattle.mu_agree.proofs.Legal.{legal_induction, made}
+use Rattle.mu_agree.proofs.Legal.{legal_induction, event_after}
 use Rattle.mu_agree.proofs.Minimum.{top_is}
-use Rattle.mu_agree.proofs.Numbers.{number-part, top, top-part}
+use Rattle.mu_agree.proofs.Numbers.{number-part, greatest_own_put, greatest_own_put-part}
 use Rattle.mu_words.specs.Standing.{stamp, drain_took, is_same_target, close_target, changed_since_look}
 use Rattle.mu_words.proofs.Limits.{Limits}
-
--- a part is within the budget
-pub within_budget : (c : Config) (r : ℕ) (past : List Event) → IsLegalHistory c past → length (part r past) ≤ c.budget
-within_budget c r past legal = within c.replicas c.budget r past (legal_keeps c past legal)
 
 -- the greatest number that anybody put
 abbrev pub put_of : Verb → Option ℕ
@@ -44,7 +40,7 @@ min_below_put p by q b past s Answer.Done true h = rw h (omega arith)
 min_below_put p by q b past s Answer.Done false h = rw h (omega arith)
 min_below_put p by q b past s a y h = omega arith
 
-min_below_step : (c : Config) (p by : ℕ) (v : Verb) (past : List Event) → MinBelow p past → MinBelow p (made c past by v ∷ past)
+min_below_step : (c : Config) (p by : ℕ) (v : Verb) (past : List Event) → MinBelow p past → MinBelow p (event_after c past by v ∷ past)
 min_below_step c p by (Verb.PutMin q b) past s = min_below_put p by q b past s (put_answer (drained by q past)) (q == p) refl
 min_below_step c p by v past s = s
 
@@ -54,11 +50,11 @@ min_below c p = legal_induction c (MinBelow p) (omega arith) (λ past by v h may
 abbrev reads : ℕ → List Event → ℕ
 reads r past = greatest (λ e. any_min_read r e.by e.verb e.answer) past
 
-reads_min : (c : Config) (r by q : ℕ) (past : List Event) → IsLegalHistory c past → reads r past ≤ highest past → (t : Bool) → (by == r) ≡ t → reads r (made c past by (Verb.Min q) ∷ past) ≤ highest past
+reads_min : (c : Config) (r by q : ℕ) (past : List Event) → IsLegalHistory c past → reads r past ≤ highest past → (t : Bool) → (by == r) ≡ t → reads r (event_after c past by (Verb.Min q) ∷ past) ≤ highest past
 reads_min c r by q past h s true k = rw k (let m = min_below c q past h in omega arith)
 reads_min c r by q past h s false k = rw k s
 
-reads_step : (c : Config) (r by : ℕ) (v : Verb) (past : List Event) → IsLegalHistory c past → reads r past ≤ highest past → reads r (made c past by v ∷ past) ≤ highest (made c past by v ∷ past)
+reads_step : (c : Config) (r by : ℕ) (v : Verb) (past : List Event) → IsLegalHistory c past → reads r past ≤ highest past → reads r (event_after c past by v ∷ past) ≤ highest (event_after c past by v ∷ past)
 reads_step c r by (Verb.Min q) past h s = reads_min c r by q past h s (by == r) refl
 reads_step c r by (Verb.PutMin q b) past h s = omega arith
 reads_step c r by v past h s = s
@@ -66,16 +62,16 @@ reads_step c r by v past h s = s
 reads_below : (c : Config) (r : ℕ) (past : List Event) → IsLegalHistory c past → reads r past ≤ highest past
 reads_below c r = legal_induction c (λ past. reads r past ≤ highest past) (omega arith) (λ past by v h may s. reads_step c r by v past h s)
 
-top_step : (c : Config) (r by : ℕ) (v : Verb) (past : List Event) → top r past ≤ highest past → top r (made c past by v ∷ past) ≤ highest (made c past by v ∷ past)
+top_step : (c : Config) (r by : ℕ) (v : Verb) (past : List Event) → greatest_own_put r past ≤ highest past → greatest_own_put r (event_after c past by v ∷ past) ≤ highest (event_after c past by v ∷ past)
 top_step c r by (Verb.PutMin q b) past s = go (by == r) refl
   where
-    go : (t : Bool) → (by == r) ≡ t → max_with (cond t (Some b) None) (top r past) ≤ max b (highest past)
+    go : (t : Bool) → (by == r) ≡ t → max_with (cond t (Some b) None) (greatest_own_put r past) ≤ max b (highest past)
     go true k = omega arith
     go false k = omega arith
 top_step c r by v past s = s
 
-pub top_below_highest : (c : Config) (r : ℕ) (past : List Event) → IsLegalHistory c past → top r past ≤ highest past
-top_below_highest c r = legal_induction c (λ past. top r past ≤ highest past) (omega arith) (λ past by v h may s. top_step c r by v past s)
+pub top_below_highest : (c : Config) (r : ℕ) (past : List Event) → IsLegalHistory c past → greatest_own_put r past ≤ highest past
+top_below_highest c r = legal_induction c (λ past. greatest_own_put r past ≤ highest past) (omega arith) (λ past by v h may s. top_step c r by v past s)
 
 any_min_read-own : (r : ℕ) → IsOwn r (λ e. any_min_read r e.by e.verb e.answer)
 any_min_read-own r = record { own = λ e h. go e.by e.verb e.answer h }
@@ -87,19 +83,19 @@ any_min_read-own r = record { own = λ e h. go e.by e.verb e.answer h }
 -- the next number is at most eight above all that was put
 pub next_below : (c : Config) (r b : ℕ) (past : List Event) → IsLegalHistory c past → r < 8 → highest past ≤ 8 * length past + 7 → (o : Option ℕ) → proposal_number r (part r past) ≡ o → number_allowed r (part r past) b o → b ≤ 8 * length past + 15
 next_below c r b past h m s (Some x) e k =
-    let t : top r past ≡ x = top_is c r past h x (sym (number-part r past) ∙ e) in
+    let t : greatest_own_put r past ≡ x = top_is c r past h x (sym (number-part r past) ∙ e) in
     let i = top_below_highest c r past h in
     omega (arith, k)
 next_below c r b past h m s None e k =
     let a : reads r (leadership r (part r past)) ≤ reads r (part r past) = greatest_since (λ x. any_min_read r x.by x.verb x.answer) (begins_leadership r) (part r past) in
     let d : reads r (part r past) ≡ reads r past = greatest-part (λ x. any_min_read r x.by x.verb x.answer) r (any_min_read-own r) past in
     let f = reads_below c r past h in
-    let g : top r (part r past) ≡ top r past = top-part r past in
+    let g : greatest_own_put r (part r past) ≡ greatest_own_put r past = greatest_own_put-part r past in
     let i = top_below_highest c r past h in
     let j = k.4 (8 * length past + 8 + r) (omega arith) (omega arith) (omega arith) (omega arith) in
     omega arith
 
-highest_step : (c : Config) (by : ℕ) (v : Verb) (past : List Event) → IsLegalHistory c past → by < 8 → Needs c by (part by past) v → highest past ≤ 8 * length past + 7 → highest (made c past by v ∷ past) ≤ 8 * suc (length past) + 7
+highest_step : (c : Config) (by : ℕ) (v : Verb) (past : List Event) → IsLegalHistory c past → by < 8 → Needs c by (part by past) v → highest past ≤ 8 * length past + 7 → highest (event_after c past by v ∷ past) ≤ 8 * suc (length past) + 7
 highest_step c by (Verb.PutMin q b) past h m may s = let k = next_below c by b past h m s (proposal_number by (part by past)) refl may.1.numbered in omega arith
 highest_step c by v past h m may s = omega arith
 
@@ -117,7 +113,7 @@ pub grants_within : (p : ℕ) (past : List Event) → fence_grant p past ≤ len
 grants_within p past = own_count (is_grant_of p) p past (grants-own p)
 
 pub grant_fits : (c : Config) (p : ℕ) (past : List Event) → Limits c → IsLegalHistory c past → fence_grant p past < 131072
-grant_fits c p past l h = let a = grants_within p past in let b = within_budget c p past h in let d = l.budget in omega arith
+grant_fits c p past l h = let a = grants_within p past in let b = part_within_budget c p past h in let d = l.budget in omega arith
 
 -- a stamp is at most the count of drains
 stamp_drains : (c : Config) (p : ℕ) (t : Target) (past : List Event) → stamp c p t past ≤ how_many (is_drain_of p) past
@@ -135,20 +131,6 @@ stamp_drains c p t (e ∷ past) = go e.by e.verb (stamp_drains c p t past)
 
 pub stamps_within : (c : Config) (p : ℕ) (t : Target) (past : List Event) → stamp c p t past ≤ length (part p past)
 stamps_within c p t past = let a = stamp_drains c p t past in let b = own_count (is_drain_of p) p past (drains-own p) in omega arith
-
-beats-own : (q : ℕ) → IsOwnTest q (λ e. is_beat_by q e.by e.verb)
-beats-own q = record { own = λ e h. go e.by e.verb h }
-  where
-    go : (by : ℕ) (v : Verb) → (by == q) ≡ false → is_beat_by q by v ≡ false
-    go by Verb.Beat h = h
-    go by v h = refl
-
-asks-own : (w p : ℕ) → IsOwnTest w (λ e. is_ask_by w p e.by e.verb)
-asks-own w p = record { own = λ e h. go e.by e.verb h }
-  where
-    go : (by : ℕ) (v : Verb) → (by == w) ≡ false → is_ask_by w p by v ≡ false
-    go by (Verb.Ask q) h = rw h refl
-    go by v h = refl
 
 pub beats_within : (q : ℕ) (past : List Event) → beats q past ≤ length (part q past)
 beats_within q past = own_count (λ e. is_beat_by q e.by e.verb) q past (beats-own q)

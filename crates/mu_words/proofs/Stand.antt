@@ -13,7 +13,7 @@ use Rattle.mu_words.specs.Finding.{name_of}
 use Rattle.mu_words.specs.Steps.{answer_from, word_after, event_of, WordFits}
 use Rattle.mu_words.specs.Stands.{FirstWords, IsStepOn, Stands, WordsAreUnique, WordsStand, set_word, step_expects}
 use Rattle.mu_words.proofs.Law.{word_steps_law}
-use Rattle.mu_words.proofs.Limits.{limits}
+use Rattle.mu_words.proofs.Limits.{config_is_limited}
 use Rattle.mu_words.proofs.Places.{places_differ_law, every_place}
 use Rattle.mu_words.proofs.Fitting.{verb_fits, word_fits, place_named}
 
@@ -33,7 +33,7 @@ words_stand_law c l events r v words is f legal may st =
     let past = history events in
     let n = name_of c r (part r past) v in
     let x = step_expects c events r v in
-    let li = limits c is in
+    let li = config_is_limited c is in
     let named = place_named c l past r v li f legal may in
     let law = word_steps_law c r past v is legal may in
     let e = event_of c r past v in

@@ -17,9 +17,9 @@ track c r p t past by (Verb.Enter q u) a k = cond ((by == r) && (q == p)) (k.0, 
 track c r p t past by _ a k = k
 
 -- the pair of `kept`, over the history
-abbrev pub tracked : Config → ℕ → ℕ → Target → List Event → ℕ × ℕ
-tracked c r p t [] = (0, 0)
-tracked c r p t (e ∷ past) = track c r p t past e.by e.verb e.answer (tracked c r p t past)
+abbrev pub kept_in_history : Config → ℕ → ℕ → Target → List Event → ℕ × ℕ
+kept_in_history c r p t [] = (0, 0)
+kept_in_history c r p t (e ∷ past) = track c r p t past e.by e.verb e.answer (kept_in_history c r p t past)
 
 own_track : (c : Config) (r p : ℕ) (t : Target) (past : List Event) (by : ℕ) (v : Verb) (a : Answer) (k : ℕ × ℕ) → (by == r) ≡ true → kept_after c p t v a (found_word c r past v) k ≡ track c r p t past by v a k
 own_track c r p t past by (Verb.Min q) a k h = rw h refl
@@ -39,13 +39,13 @@ other_track c r p t past by (Verb.PutMin q b) Answer.Done k h = rw h (never (is_
 other_track c r p t past by (Verb.Enter q u) a k h = rw h refl
 other_track c r p t past by v a k h = refl
 
-pub kept_tracked : (c : Config) (r p : ℕ) (t : Target) (past : List Event) → kept c p t (sights c r past) ≡ tracked c r p t past
-kept_tracked c r p t [] = refl
-kept_tracked c r p t (e ∷ past) = go (e.by == r) refl (kept_tracked c r p t past)
+pub kept_is_in_history : (c : Config) (r p : ℕ) (t : Target) (past : List Event) → kept c p t (sights c r past) ≡ kept_in_history c r p t past
+kept_is_in_history c r p t [] = refl
+kept_is_in_history c r p t (e ∷ past) = go (e.by == r) refl (kept_is_in_history c r p t past)
   where
-    go : (x : Bool) → (e.by == r) ≡ x → kept c p t (sights c r past) ≡ tracked c r p t past → kept c p t (cond x ((e, found_word c r past e.verb) ∷ sights c r past) (sights c r past)) ≡ track c r p t past e.by e.verb e.answer (tracked c r p t past)
-    go true h ih = ap (kept_after c p t e.verb e.answer (found_word c r past e.verb)) ih ∙ own_track c r p t past e.by e.verb e.answer (tracked c r p t past) h
-    go false h ih = ih ∙ other_track c r p t past e.by e.verb e.answer (tracked c r p t past) h
+    go : (x : Bool) → (e.by == r) ≡ x → kept c p t (sights c r past) ≡ kept_in_history c r p t past → kept c p t (cond x ((e, found_word c r past e.verb) ∷ sights c r past) (sights c r past)) ≡ track c r p t past e.by e.verb e.answer (kept_in_history c r p t past)
+    go true h ih = ap (kept_after c p t e.verb e.answer (found_word c r past e.verb)) ih ∙ own_track c r p t past e.by e.verb e.answer (kept_in_history c r p t past) h
+    go false h ih = ih ∙ other_track c r p t past e.by e.verb e.answer (kept_in_history c r p t past) h
 
 abbrev pub loads : Config → ℕ → List Event → ℕ → Verb → ℕ → ℕ
 loads c r past by Verb.LookTarget k = cond (by == r) (standing_word c past (target_name r (close_target r (part r past)))) k

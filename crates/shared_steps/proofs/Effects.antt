@@ -15,9 +15,10 @@ use Rattle.mu_words.specs.Finding.{expected, is_load, name_of}
 use Rattle.mu_words.specs.Standing.{close_grant, standing_word}
 use Rattle.mu_words.specs.Steps.{WordFits, exchanged, granted, is_exchange, word_after}
 use Rattle.mu_words.proofs.Forms.{closed_or, exchange_is, grant_is}
-use Rattle.mu_words.proofs.Limits.{limits}
-use Rattle.shared_steps.specs.Seats.{granted_to, is_add, is_close, is_grant, is_raise, is_store, raised_to, stored}
+use Rattle.mu_words.proofs.Limits.{config_is_limited}
+use Rattle.shared_steps.specs.Seats.{granted_to, is_add, is_close, is_raise, is_store, raised_to, stored}
 use Rattle.shared_steps.proofs.Keeps.{Does}
+use Rattle.mu_model.specs.Steps.{is_granting_verb}
 
 pub false_true : false ≡ true → ⊥
 false_true h = cc
@@ -108,16 +109,16 @@ pub exchanges : (v : Verb) (x new : ℕ) → is_exchange v ≡ true → (c : Con
 exchanges v x new h c r mine seen makes same past w legal is at fits = taken c.ring v x new w makes fits ∙ (sym (exchange_is c.ring v x w h) ∙ ap (λ y. word_after c.ring v y w) same)
 
 -- a `Grant` counts on from the grant that the last `Close` found
-swaps : (c : Config) (past : List Event) (r : ℕ) (mine : List Event) (seen : List (Event × ℕ)) (v : Verb) (w : ℕ) → is_grant v ≡ true → IsConfig c → IsLegalHistory c past → part r past ≡ mine → Allowed c r mine v → w ≡ standing_word c past (name_of c r mine v)
+swaps : (c : Config) (past : List Event) (r : ℕ) (mine : List Event) (seen : List (Event × ℕ)) (v : Verb) (w : ℕ) → is_granting_verb v ≡ true → IsConfig c → IsLegalHistory c past → part r past ≡ mine → Allowed c r mine v → w ≡ standing_word c past (name_of c r mine v)
     → granted (close_grant r mine) (granted_to v) ≡ word_after c.ring v (expected c r mine seen v) w
 swaps c past r mine seen (Verb.Grant q) w h given legal is may at =
-    let law = grant_is c r past q 0 (limits c given) legal (subst (λ (m : List Event). Allowed c r m (Verb.Grant q)) (sym is) may) in
+    let law = grant_is c r past q 0 (config_is_limited c given) legal (subst (λ (m : List Event). Allowed c r m (Verb.Grant q)) (sym is) may) in
     ap (λ (m : List Event). granted (close_grant r m) q) (sym is) ∙ (sym law ∙ ap (word_after c.ring (Verb.Grant q) 0) (sym at))
 swaps c past r mine seen v w h given legal is may at = absurd (false_true h)
 
-pub grants : (v : Verb) (new : ℕ) → is_grant v ≡ true → (c : Config) (r : ℕ) (mine : List Event) (seen : List (Event × ℕ)) → IsConfig c → Allowed c r mine v → new ≡ granted (close_grant r mine) (granted_to v) → Does c r mine seen v (λ n. new)
+pub grants : (v : Verb) (new : ℕ) → is_granting_verb v ≡ true → (c : Config) (r : ℕ) (mine : List Event) (seen : List (Event × ℕ)) → IsConfig c → Allowed c r mine v → new ≡ granted (close_grant r mine) (granted_to v) → Does c r mine seen v (λ n. new)
 grants v new h c r mine seen given may next past w legal is at fits = next ∙ swaps c past r mine seen v w h given legal is may at
 
-pub grant_expects : (v : Verb) → is_grant v ≡ true → ExpectsNothing v
+pub grant_expects : (v : Verb) → is_granting_verb v ≡ true → ExpectsNothing v
 grant_expects (Verb.Grant w) h c r mine seen = refl
 grant_expects v h c r mine seen = absurd (false_true h)

@@ -17,7 +17,7 @@ use Rattle.mu_words.specs.Founds.{FoundIs, IsPrepared, Notes}
 use Rattle.mu_words.specs.Places.{IsName, place_of}
 use Rattle.mu_words.specs.Steps.{VerbFits, WordFits, answer_from, exchanged, granted, is_exchange}
 use Rattle.mu_words.proofs.Fitting.{place_named, verb_fits}
-use Rattle.mu_words.proofs.Limits.{Limits, limits}
+use Rattle.mu_words.proofs.Limits.{Limits, config_is_limited}
 use Rattle.mu_words.proofs.Places.{places_inside_law}
 use Rattle.mu_words.proofs.Prepared.{allowed_are_prepared_law}
 use Rattle.mu_words.proofs.Stand.{longer}
@@ -26,9 +26,10 @@ use Rattle.shared_steps.specs.declared.seat.PortSeat.TheInside as seat
 use Rattle.shared_steps.specs.declared.words.Words.TheInside as words
 use Rattle.shared_steps.specs.Insides.{IsBoard, IsPort, Seated, board_of, port_of}
 use Rattle.shared_steps.specs.Rule.{Holds, Told, event_at, layout_of, single}
-use Rattle.shared_steps.specs.Seats.{Board, IsOf, Port, granted_to, is_grant, is_store}
+use Rattle.shared_steps.specs.Seats.{Board, IsOf, Port, granted_to, is_store}
 use Rattle.shared_steps.proofs.Effects.{exchanges, false_true, grants}
 use Rattle.shared_steps.proofs.Keeps.{Does, layout_is, steps}
+use Rattle.mu_model.specs.Steps.{is_granting_verb}
 
 -- a seat of these words, and a verb that is allowed after its part
 pub record Ready (w : words.Inside) (s : seat.Inside) (v : Verb) : Type 0 where
@@ -37,8 +38,8 @@ pub record Ready (w : words.Inside) (s : seat.Inside) (v : Verb) : Type 0 where
   pub of : IsOf (board_of w) (port_of s)
   pub allowed : Allowed w.table.shared.key s.id (history s.journal.events) v
 
-pub ready : (w : words.Inside) (s : seat.Inside) (v : Verb) (b : Board) (p : Port) → board_of w ≡ b → port_of s ≡ p → IsBoard w → IsPort s → IsOf b p → Allowed b.key p.id p.part v → Ready w s v
-ready w s v b p is_b is_p board port of may = record {
+pub seat_is_ready : (w : words.Inside) (s : seat.Inside) (v : Verb) (b : Board) (p : Port) → board_of w ≡ b → port_of s ≡ p → IsBoard w → IsPort s → IsOf b p → Allowed b.key p.id p.part v → Ready w s v
+seat_is_ready w s v b p is_b is_p board port of may = record {
   board = board;
   port = port;
   of = subst (λ (k : Board × Port). IsOf k.0 k.1) (λ i. ((sym is_b) i, (sym is_p) i)) of;
@@ -62,10 +63,10 @@ pub has_room : (w : words.Inside) (s : seat.Inside) (v : Verb) → Ready w s v �
 has_room w s v r = omega (arith, room_in w s v r, r.allowed.budget)
 
 pub has_ring : (w : words.Inside) (s : seat.Inside) (v : Verb) → Ready w s v → 0 < w.layout.ring
-has_ring w s v r = let l = limits w.table.shared.key r.board.is_config in let least = l.ring_least in rw r.board.layout (omega arith)
+has_ring w s v r = let l = config_is_limited w.table.shared.key r.board.is_config in let least = l.ring_least in rw r.board.layout (omega arith)
 
 pub keeps_ring : (w : words.Inside) (s : seat.Inside) (v : Verb) → Ready w s v → 0 < s.found.ring
-keeps_ring w s v r = let l = limits w.table.shared.key r.board.is_config in let least = l.ring_least in let same = (seated w s v r).found_is.ring in omega arith
+keeps_ring w s v r = let l = config_is_limited w.table.shared.key r.board.is_config in let least = l.ring_least in let same = (seated w s v r).found_is.ring in omega arith
 
 -- the same of a part of which a list is known
 name_there : (c : Config) (r : ℕ) (mine : List Event) (v : Verb) → Limits c → IsPossible c r mine → Allowed c r mine v → IsName (layout_of c) (name_of c r mine v)
@@ -82,37 +83,37 @@ pub prepared : (w : words.Inside) (s : seat.Inside) (v : Verb) → Ready w s v �
 prepared w s v r = prepared_there w.table.shared.key s.id (history s.journal.events) v (seated w s v r).possible r.allowed
 
 pub verb_in_range : (w : words.Inside) (s : seat.Inside) (v : Verb) → Ready w s v → VerbFits w.layout.ring v
-verb_in_range w s v r = subst (λ (l : Layout). VerbFits l.ring v) (sym r.board.layout) (fits_there w.table.shared.key s.id (history s.journal.events) v (limits w.table.shared.key r.board.is_config) (seated w s v r).possible r.allowed)
+verb_in_range w s v r = subst (λ (l : Layout). VerbFits l.ring v) (sym r.board.layout) (fits_there w.table.shared.key s.id (history s.journal.events) v (config_is_limited w.table.shared.key r.board.is_config) (seated w s v r).possible r.allowed)
 
 -- the name as the code has it
 name_is : (w : words.Inside) (s : seat.Inside) (v : Verb) → Ready w s v → name_at w.layout.ring s.id s.found.close_target v ≡ name_of w.table.shared.key s.id (history s.journal.events) v
 name_is w s v r = λ i. name_at ((r.board.layout i).ring) s.id ((seated w s v r).found_is.close_target i) v
 
-pub named : (w : words.Inside) (s : seat.Inside) (v : Verb) → Ready w s v → IsName w.layout (name_at w.layout.ring s.id s.found.close_target v)
-named w s v r =
+pub name_is_of_layout : (w : words.Inside) (s : seat.Inside) (v : Verb) → Ready w s v → IsName w.layout (name_at w.layout.ring s.id s.found.close_target v)
+name_is_of_layout w s v r =
     subst (λ (k : Layout × Name). IsName k.0 k.1) (λ i. ((sym r.board.layout) i, (sym (name_is w s v r)) i))
-    (name_there w.table.shared.key s.id (history s.journal.events) v (limits w.table.shared.key r.board.is_config) (seated w s v r).possible r.allowed)
+    (name_there w.table.shared.key s.id (history s.journal.events) v (config_is_limited w.table.shared.key r.board.is_config) (seated w s v r).possible r.allowed)
 
 place_is : (w : words.Inside) (s : seat.Inside) (v : Verb) (i : ℕ) → Ready w s v → i ≡ place_of w.layout (name_at w.layout.ring s.id s.found.close_target v) → i ≡ place_of (layout_of w.table.shared.key) (name_of w.table.shared.key s.id (history s.journal.events) v)
 place_is w s v i r is = is ∙ (λ j. place_of (r.board.layout j) (name_is w s v r j))
 
-pub inside : (w : words.Inside) (s : seat.Inside) (v : Verb) (i : ℕ) → Ready w s v → i ≡ place_of w.layout (name_at w.layout.ring s.id s.found.close_target v) → i < w.table.shared.table_id.words
-inside w s v i r is =
+pub place_is_inside : (w : words.Inside) (s : seat.Inside) (v : Verb) (i : ℕ) → Ready w s v → i ≡ place_of w.layout (name_at w.layout.ring s.id s.found.close_target v) → i < w.table.shared.table_id.words
+place_is_inside w s v i r is =
     let key = w.table.shared.key in
-    let there = places_inside_law (layout_of key) (name_of key s.id (history s.journal.events) v) (name_there key s.id (history s.journal.events) v (limits key r.board.is_config) (seated w s v r).possible r.allowed) in
+    let there = places_inside_law (layout_of key) (name_of key s.id (history s.journal.events) v) (name_there key s.id (history s.journal.events) v (config_is_limited key r.board.is_config) (seated w s v r).possible r.allowed) in
     let at = place_is w s v i r is in
     let count = r.board.count in
     omega (arith, there, at, count)
 
 -- a step that is no exchange expects nothing
-pub plain : (w : words.Inside) (s : seat.Inside) (v : Verb) (r : Ready w s v) → ((c : Config) (q : ℕ) (mine : List Event) (seen : List (Event × ℕ)) → 0 ≡ expected c q mine seen v)
+pub plain_expects_nothing : (w : words.Inside) (s : seat.Inside) (v : Verb) (r : Ready w s v) → ((c : Config) (q : ℕ) (mine : List Event) (seen : List (Event × ℕ)) → 0 ≡ expected c q mine seen v)
     → 0 ≡ expected w.table.shared.key s.id (history s.journal.events) (seated w s v r).seen v
-plain w s v r none = none w.table.shared.key s.id (history s.journal.events) (seated w s v r).seen
+plain_expects_nothing w s v r none = none w.table.shared.key s.id (history s.journal.events) (seated w s v r).seen
 
 -- what is kept of the words found tells what an exchange expects
-pub kept : (w : words.Inside) (s : seat.Inside) (v : Verb) (r : Ready w s v) (x : ℕ) → ((c : Config) (mine : List Event) (seen : List (Event × ℕ)) → FoundIs c s.id s.found mine seen → IsPrepared c mine v → x ≡ expected c s.id mine seen v)
+pub exchange_expects_kept : (w : words.Inside) (s : seat.Inside) (v : Verb) (r : Ready w s v) (x : ℕ) → ((c : Config) (mine : List Event) (seen : List (Event × ℕ)) → FoundIs c s.id s.found mine seen → IsPrepared c mine v → x ≡ expected c s.id mine seen v)
     → x ≡ expected w.table.shared.key s.id (history s.journal.events) (seated w s v r).seen v
-kept w s v r x tells = tells w.table.shared.key (history s.journal.events) (seated w s v r).seen (seated w s v r).found_is (prepared w s v r)
+exchange_expects_kept w s v r x tells = tells w.table.shared.key (history s.journal.events) (seated w s v r).seen (seated w s v r).found_is (prepared w s v r)
 
 store_told : (v : Verb) → is_store v ≡ true → (me : Me (Unit {0}) View) (n new : ℕ) (after : Me (Unit {0}) View) → Told v me n after → Told v me new after
 store_told (Verb.WriteRow j k x) h me n new after told = λ c r mine seen is. let g = told c r mine seen is in record { is = g.is; possible = g.possible }
@@ -149,10 +150,10 @@ pub allows_exchange : (w : words.Inside) (s : seat.Inside) (v : Verb) (i x new :
     → Allows (Holds w.table.shared.key) w.table.shared.table_id.slots s.seat.id s.seat.me i (λ n. either (n == x) new n) (Told v s.seat.me)
 allows_exchange w s v i x new h r is tells makes =
     allows w s v i (λ n. either (n == x) new n) r is
-    (exchanges v x new h w.table.shared.key s.id (history s.journal.events) (seated w s v r).seen (λ fits. makes fits ∙ (λ j. exchanged ((r.board.layout j).ring) v x)) (kept w s v r x tells))
+    (exchanges v x new h w.table.shared.key s.id (history s.journal.events) (seated w s v r).seen (λ fits. makes fits ∙ (λ j. exchanged ((r.board.layout j).ring) v x)) (exchange_expects_kept w s v r x tells))
 
 -- the same for a grant, which counts on from the grant that the last `Close` found
-pub allows_grant : (w : words.Inside) (s : seat.Inside) (v : Verb) (i new : ℕ) → is_grant v ≡ true → Ready w s v → i ≡ place_of w.layout (name_at w.layout.ring s.id s.found.close_target v) → new ≡ granted s.found.close_grant (granted_to v)
+pub allows_grant : (w : words.Inside) (s : seat.Inside) (v : Verb) (i new : ℕ) → is_granting_verb v ≡ true → Ready w s v → i ≡ place_of w.layout (name_at w.layout.ring s.id s.found.close_target v) → new ≡ granted s.found.close_grant (granted_to v)
     → Allows (Holds w.table.shared.key) w.table.shared.table_id.slots s.seat.id s.seat.me i (λ n. new) (Told v s.seat.me)
 allows_grant w s v i new h r is next =
     let now = seated w s v r in

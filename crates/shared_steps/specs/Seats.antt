@@ -84,11 +84,6 @@ abbrev pub is_put_min : Verb → Bool
 is_put_min (Verb.PutMin p b) = true
 is_put_min _ = false
 
--- the step exchanges a slot
-abbrev pub is_put_slot : Verb → Bool
-is_put_slot (Verb.PutSlot p i b v) = true
-is_put_slot _ = false
-
 -- the step sets a bit of the own fence
 abbrev pub is_close : Verb → Bool
 is_close Verb.Close = true
@@ -98,11 +93,6 @@ is_close _ = false
 abbrev pub is_drain : Verb → Bool
 is_drain Verb.Drain = true
 is_drain _ = false
-
--- the step swaps the own fence
-abbrev pub is_grant : Verb → Bool
-is_grant (Verb.Grant w) = true
-is_grant _ = false
 
 -- the replica to which it grants
 abbrev pub granted_to : Verb → ℕ

@@ -3,7 +3,8 @@ ghost use Rattle.std.specs.Prelude.{true, ◌≡◌};
 ghost use Rattle.mu_model.specs.Allowed.{Allowed};
 ghost use Rattle.mu_model.specs.Parts.{IsPossible};
 ghost use Rattle.mu_words.specs.Steps.{is_exchange};
-ghost use Rattle.shared_steps.specs.Seats.{IsOf, after_step, is_drain, is_enter, is_put_min, is_put_slot};
+ghost use Rattle.shared_steps.specs.Seats.{IsOf, after_step, is_drain, is_enter, is_put_min};
+ghost use Rattle.mu_model.specs.Steps.{is_slot_put_verb};
 
 use crate::moves;
 use crate::seat::PortSeat;
@@ -72,7 +73,7 @@ impl PortSeat {
     /// Takes no memory, and does not wait.
     pub fn put_slot(&mut self, words: &Words, verb: Verb) -> Answer
         requires of { IsOf words.now self.old }
-        requires kind { is_put_slot verb ≡ true }
+        requires kind { is_slot_put_verb verb ≡ true }
         requires allowed { Allowed words.now.key self.old.id self.old.part verb }
         ensures part { self.new ≡ after_step self.old verb result }
         ensures possible { IsPossible words.now.key self.new.id self.new.part }

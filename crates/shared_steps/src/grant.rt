@@ -2,7 +2,8 @@
 ghost use Rattle.std.specs.Prelude.{true, ◌≡◌};
 ghost use Rattle.mu_model.specs.Allowed.{Allowed};
 ghost use Rattle.mu_model.specs.Parts.{IsPossible};
-ghost use Rattle.shared_steps.specs.Seats.{IsOf, after_step, granted_to, is_grant};
+ghost use Rattle.shared_steps.specs.Seats.{IsOf, after_step, granted_to};
+ghost use Rattle.mu_model.specs.Steps.{is_granting_verb};
 
 use crate::moves;
 use crate::seat::PortSeat;
@@ -26,7 +27,7 @@ impl PortSeat {
     /// does not wait.
     pub fn grant(&mut self, words: &Words, verb: Verb) -> Answer
         requires of { IsOf words.now self.old }
-        requires kind { is_grant verb ≡ true }
+        requires kind { is_granting_verb verb ≡ true }
         requires allowed { Allowed words.now.key self.old.id self.old.part verb }
         ensures part { self.new ≡ after_step self.old verb result }
         ensures possible { IsPossible words.now.key self.new.id self.new.part }

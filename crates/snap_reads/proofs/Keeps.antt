@@ -13,7 +13,7 @@ use lib.Seq.{get_or-append-add, get_or_at}
 use Rattle.atomic_table.specs.Table.{Allows, Joins, Me, Splits, State, keeps, opening}
 use Rattle.atomic_table.proofs.Lists.{at_set, at_snoc, set_else}
 use Rattle.kv_store.specs.Commands.{Request}
-use Rattle.mu_outcome.specs.Outcomes.{IsPrefixOf}
+use Rattle.mu_model.specs.Histories.{IsPrefixOf}
 use Rattle.mu_model.proofs.Basics.{same_some}
 use Rattle.mu_rows.specs.Rows.{IsCommand, spelled}
 use Rattle.snap_reads.specs.declared.rule.View.{View}

@@ -4,8 +4,8 @@ use Rattle.std.specs.List.{list_any}
 use Rattle.std.specs.Str.{bytes_eq}
 use Rattle.std.specs.Cmp.Lexicographic.{bytes_decides}
 use Rattle.std.proofs.Math.Seq.{drop-cons}
-use Rattle.kv_store.specs.Commands.{Request}
-use Rattle.snap_reads.specs.Keys.{key_of, keys_of}
+use Rattle.kv_store.specs.Commands.{Request, key_of}
+use Rattle.snap_reads.specs.Keys.{keys_of}
 
 -- whether the key is one of these
 abbrev pub has : List (List ℕ) → List ℕ → Bool

@@ -4,7 +4,7 @@ use Rattle.std.specs.Prelude.{slice_index}
 use lib.ListN as lists
 use lib.Seq.{get_or-append-add}
 use Rattle.kv_store.specs.Commands.{Request}
-use Rattle.mu_outcome.specs.Outcomes.{IsPrefixOf}
+use Rattle.mu_model.specs.Histories.{IsPrefixOf}
 use Rattle.mu_rows.specs.Rows.{spelled}
 use Rattle.snap_reads.specs.Published.{AllBegin, AreCommands, rows_of}
 use Rattle.snap_reads.specs.Steps.{AllWithin, ShortBegin}

@@ -4,7 +4,7 @@ use Rattle.std.proofs.lemmas.List.{take-append-le}
 use Rattle.std.specs.FinMap as map
 use Rattle.kv_store.specs.Commands.{Request}
 use Rattle.kv_store.specs.Tables.{store}
-use Rattle.mu_outcome.specs.Outcomes.{IsPrefixOf}
+use Rattle.mu_model.specs.Histories.{IsPrefixOf}
 use Rattle.snap_reads.specs.declared.sight.Sight.{Sight}
 use Rattle.snap_reads.specs.Sights.{AreRight, IsRight, NeverFall}
 use Rattle.snap_reads.proofs.Rows.{prefix_length}

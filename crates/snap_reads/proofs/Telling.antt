@@ -2,9 +2,9 @@
 use Rattle.std.proofs.Common.{◌≡◌, ℕ, suc, zero, ◌+◌, ◌<◌, ◌≤◌, List, [], ◌∷◌, ◌++◌, length, map, take, drop, refl, sym, ap, subst, ◌∙◌, arith, append_assoc, append-nil, length-append, length-take-le, take-suc, take_all, Vec, Global}
 use Rattle.std.specs.Prelude.{All, slice_index_or, vec_capacity}
 use Rattle.std.proofs.lemmas.List.{drop-append-le, drop_all, length-map, map_push}
-use Rattle.std.proofs.lemmas.List.Elements.{All-nil}
+use Rattle.std.proofs.lemmas.List.Elements.{All-nil, All-push}
 use Rattle.kv_store.specs.Commands.{Request}
-use Rattle.mu_outcome.specs.Outcomes.{IsPrefixOf}
+use Rattle.mu_model.specs.Histories.{IsPrefixOf}
 use Rattle.snap_reads.specs.declared.sight.Sight.{Sight}
 use Rattle.snap_reads.specs.declared.watching.Watcher.{Watcher}
 use Rattle.snap_reads.specs.Keys.{gets, gets_beside, round}
@@ -12,7 +12,7 @@ use Rattle.snap_reads.specs.Lives.{AreSights, HasWatched, keys_seen}
 use Rattle.snap_reads.specs.Published.{AllBegin}
 use Rattle.snap_reads.specs.Seats.{Note, Reading, fresh_reader}
 use Rattle.snap_reads.specs.Sights.{AreRight, NeverFall}
-use Rattle.snap_reads.proofs.Watched.{all_snoc, round_length, watched_length}
+use Rattle.snap_reads.proofs.Watched.{round_length, watched_length}
 
 -- a reader of as many commands as the note tells, which took it in and since then got so many keys
 pub record HasRead (told : Note) (all : List (List ℕ)) (count : ℕ) (reader : Reading) (sights : Vec Sight Global) : Type 0 where
@@ -69,7 +69,7 @@ read_more told all k before after old new key read low is same begins within sig
       ∙ ap (λ l. round all (gets_beside all) ++ l) (ap (λ x. take k all ++ x ∷ []) (sight.2 ∙ is) ∙ (sym (take-suc all k key low) ∙ ap (λ n. take n all) one)))));
   rise = rise;
   last = subst (All saw) (sym (ap (drop (gets_beside all)) sight.1 ∙ drop-append-le (gets_beside all) old.items (sight.0 ∷ []) (let long = read_length told all k before old read in omega (arith, long))))
-      (all_snoc saw (drop (gets_beside all) old.items) sight.0 read.last (sight.3 ∙ ap length seen));
+      (All-push saw (drop (gets_beside all) old.items) sight.0 read.last (sight.3 ∙ ap length seen));
   whole = λ some. seen;
   room = (let room = read.room in omega (arith, room, capacity));
 }

@@ -2,7 +2,6 @@
 use Rattle.std.proofs.Common.{◌≡◌, ℕ, suc, zero, ◌+◌, ◌%◌, ◌<◌, ◌≤◌, ◌==◌, Bool, true, false, List, [], ◌∷◌, ◌++◌, length, map, refl, sym, ap, subst, ◌∙◌, arith, length-append, true≢false}
 use Rattle.std.specs.Prelude.{All, replicate, slice_index_or, vec_capacity}
 use Rattle.std.proofs.lemmas.List.{get_or-map, get_or-replicate, get_or_at, get_or_default, length-map, length-replicate, map_push}
-use Rattle.std.proofs.lemmas.List.Elements.{All-append, All-cons, All-nil}
 use Rattle.std.proofs.lemmas.Nat.{mod_below}
 use Rattle.snap_reads.specs.declared.sight.Sight.{Sight}
 use Rattle.snap_reads.specs.declared.watching.Watcher.{Watcher}
@@ -10,9 +9,6 @@ use Rattle.snap_reads.specs.Keys.{gets_beside, key_at, round}
 use Rattle.snap_reads.specs.Lives.{HasWatched, IsReady, keys_seen}
 use Rattle.snap_reads.specs.Seats.{Reading}
 use Rattle.snap_reads.specs.Sights.{AreRight, NeverFall}
-
-pub all_snoc : {X : Type 0} (P : X → Type 0) → (xs : List X) (x : X) → All P xs → P x → All P (xs ++ x ∷ [])
-all_snoc P xs x all last = All-append P xs (x ∷ []) all (All-cons P x [] last (All-nil P))
 
 -- what holds of each element holds of one in the middle
 pub all_middle : {X : Type 0} (P : X → Type 0) → (xs ys : List X) (x : X) → All P (xs ++ x ∷ ys) → P x

@@ -1,17 +1,7 @@
 -- The keys of commands, and the keys that a reader gets.
 use Rattle.std.specs.Prelude.{ℕ, zero, suc, ◌%◌, List, [], ◌∷◌, ◌++◌, length, filter, not, slice_index_or}
 use Rattle.std.specs.Str.{bytes_eq}
-use Rattle.kv_store.specs.Commands.{Request}
-use Rattle.kv_store.specs.declared.command.Op.{Op}
-use Rattle.kv_store.specs.declared.command.Op.TheVariants.{Put, Get, Del, Swap, Cas}
-
--- the key that an operation is of
-abbrev pub key_of : Op → List ℕ
-key_of (Put key text) = key
-key_of (Get key) = key
-key_of (Del key) = key
-key_of (Swap key text) = key
-key_of (Cas key old new) = key
+use Rattle.kv_store.specs.Commands.{Request, key_of}
 
 -- the keys of commands, each once, in order of first use
 abbrev pub keys_of : List Request → List (List ℕ)

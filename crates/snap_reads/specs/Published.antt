@@ -4,7 +4,7 @@ use mathlib.Core.Option as opt
 use lib.ListN.{get_elem?}
 use Rattle.atomic_table.specs.Table.{State}
 use Rattle.kv_store.specs.Commands.{Request}
-use Rattle.mu_outcome.specs.Outcomes.{IsPrefixOf}
+use Rattle.mu_model.specs.Histories.{IsPrefixOf}
 use Rattle.mu_rows.specs.Rows.{IsCommand, spelled}
 use Rattle.snap_reads.specs.declared.rule.View.{View}
 

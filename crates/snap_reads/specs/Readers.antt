@@ -2,7 +2,7 @@
 use Rattle.std.specs.Prelude.{ℕ, ◌≡◌, ◌+◌, ◌≤◌, false, [], length, Some}
 use Rattle.std.specs.Arc.{arc_value}
 use Rattle.kv_store.specs.Tables as tables
-use Rattle.mu_outcome.specs.Outcomes.{IsPrefixOf}
+use Rattle.mu_model.specs.Histories.{IsPrefixOf}
 use Rattle.snap_reads.specs.declared.reader.SnapReader.TheInside as reader
 use Rattle.snap_reads.specs.Seats.{Reading}
 use Rattle.snap_reads.specs.Steps.{ShortBegin}

@@ -2,7 +2,7 @@
 use Rattle.std.specs.Prelude.{ℕ, ◌≡◌, ◌≤◌, List, [], ◌∷◌, ◌++◌, length, take, Some, ⊤}
 use Rattle.atomic_table.specs.Table.{Me, Step}
 use Rattle.kv_store.specs.Commands.{Request}
-use Rattle.mu_outcome.specs.Outcomes.{IsPrefixOf}
+use Rattle.mu_model.specs.Histories.{IsPrefixOf}
 use Rattle.mu_rows.specs.Rows.{IsCommand, spelled}
 use Rattle.snap_reads.specs.declared.rule.View.{View}
 

@@ -1,7 +1,8 @@
 //! The commands of a log, and their keys.
 ghost use Rattle.std.specs.Prelude.{IfOk, ◌≡◌};
 ghost use Rattle.mu_outcome.specs.Entries.{commands_in};
-ghost use Rattle.snap_reads.specs.Keys.{key_of as key_of_op, keys_of as keys_of_commands};
+ghost use Rattle.snap_reads.specs.Keys.{keys_of as keys_of_commands};
+ghost use Rattle.kv_store.specs.Commands.{key_of as key_of_op};
 
 use kv_store::{Command, Key, Op};
 use mu_input::Job;

@@ -2,7 +2,7 @@
 ghost use Rattle.std.specs.Prelude.{[], false, length, ◌++◌, ◌<◌, ◌∷◌, ◌≡◌, ◌≤◌};
 ghost use Rattle.std.specs.FinMap as map;
 ghost use Rattle.kv_store.specs.Tables.{store};
-ghost use Rattle.mu_outcome.specs.Outcomes.{IsPrefixOf};
+ghost use Rattle.mu_model.specs.Histories.{IsPrefixOf};
 ghost use Rattle.snap_reads.specs.Published.{AllBegin, row_place};
 ghost use Rattle.snap_reads.specs.Steps.{HasRow, ShortBegin};
 

@@ -1,6 +1,6 @@
 //! Keys, and what gets of them saw.
 ghost use Rattle.std.specs.Prelude.{[], length, vec_capacity, vec_len, ◌++◌, ◌<◌, ◌∷◌, ◌≡◌, ◌≤◌};
-ghost use Rattle.mu_outcome.specs.Outcomes.{IsPrefixOf};
+ghost use Rattle.mu_model.specs.Histories.{IsPrefixOf};
 ghost use Rattle.snap_reads.specs.Published.{AllBegin};
 ghost use Rattle.snap_reads.specs.Sights.{AreRight, NeverFall};
 ghost use Rattle.snap_reads.specs.declared.sight.Sight.{Sight};

@@ -11,8 +11,7 @@ use Rattle.mu_model.specs.declared.event.Verb.{Verb}
 use Rattle.mu_model.specs.Histories.{history, part}
 use Rattle.mu_model.specs.Knowledge.{known}
 use Rattle.mu_model.specs.Legal.{IsLegal, IsLegalHistory}
-use Rattle.mu_model.specs.Parts.{IsPossible}
-use Rattle.mu_model.proofs.Basics.{event_by, none_some, same_number}
+use Rattle.mu_model.proofs.Basics.{event_by, none_some}
 use Rattle.mu_detect.specs.declared.scores.Scores.{Scores}
 use Rattle.mu_lead.specs.declared.lead.Lead.{Lead}
 use Rattle.mu_lead.specs.Beside.{is_beside, leads_at}
@@ -20,23 +19,13 @@ use Rattle.mu_lead.specs.Standing.{StandsFor, known_told}
 use Rattle.mu_lead.proofs.Others.{others_keep_law}
 use Rattle.mu_parts.specs.declared.replica.Replica.{Replica}
 use Rattle.mu_parts.specs.declared.replicas.Replicas.{Replicas}
-use Rattle.worked_leads.specs.Driven.{Beside, is_slot_put_verb}
+use Rattle.worked_leads.specs.Driven.{Beside}
+use Rattle.mu_model.specs.Steps.{is_slot_put_verb}
+use Rattle.mu_model.proofs.Parts.{part_of_maker}
 
--- the part of the replica that made the newest event
-pub part_of_maker : (e : Event) (past : List Event) → part e.by (e ∷ past) ≡ e ∷ part e.by past
-part_of_maker e past = rw (same_number e.by) refl
-
--- and that of another
+-- the part of another replica than the one that made the newest event
 pub part_of_other : (r : ℕ) (e : Event) (past : List Event) → e.by ≢ r → part r (e ∷ past) ≡ part r past
 part_of_other r e past differ = let other : (e.by == r) ≡ false = ne_eqb e.by r differ in rw other refl
-
--- a part of a legal history is possible
-pub possible_part : (c : Config) (r : ℕ) (past : List Event) → IsLegalHistory c past → IsPossible c r (part r past)
-possible_part c r past legal = record { past = past; legal = legal; is = refl }
-
--- and so is that of who made the newest event
-pub possible_for_maker : (c : Config) (e : Event) (past : List Event) → IsLegalHistory c (e ∷ past) → IsPossible c e.by (e ∷ part e.by past)
-possible_for_maker c e past legal = record { past = e ∷ past; legal = legal; is = part_of_maker e past }
 
 -- the history of a list with one event more
 pub history_after : (events now past : List Event) (e : Event) → history events ≡ past → now ≡ events ++ e ∷ [] → history now ≡ e ∷ past

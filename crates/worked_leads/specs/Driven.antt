@@ -1,8 +1,7 @@
 -- When a leader and what stands beside it stand for the events of all replicas.
-use Rattle.std.specs.Prelude.{Bool, List, false, true, ℕ, ◌≡◌}
+use Rattle.std.specs.Prelude.{List, ℕ, ◌≡◌}
 use Rattle.mu_model.specs.declared.config.Config.{Config}
 use Rattle.mu_model.specs.declared.event.Event.{Event}
-use Rattle.mu_model.specs.declared.event.Verb.{Verb}
 use Rattle.mu_model.specs.Contents.{IsConfig}
 use Rattle.mu_model.specs.Histories.{part}
 use Rattle.mu_detect.specs.Stands.{StandsFor as ScoresStandFor}
@@ -12,11 +11,6 @@ use Rattle.mu_parts.specs.Parts.{StandsForReplica, StandsForReplicas}
 use Rattle.mu_parts.specs.declared.replica.Replica.{Replica}
 use Rattle.mu_parts.specs.declared.replicas.Replicas.{Replicas}
 use Rattle.worked_leads.specs.declared.driven.Driven.{Driven}
-
--- the verb puts an entry
-abbrev pub is_slot_put_verb : Verb → Bool
-is_slot_put_verb (Verb.PutSlot p i b v) = true
-is_slot_put_verb _ = false
 
 -- what stands beside the leader of r, one of three replicas, stands for the history
 pub record Beside (c : Config) (r : ℕ) (past : List Event) (own : Replica) (scores : Scores)

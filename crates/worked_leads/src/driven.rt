@@ -12,7 +12,8 @@ ghost use Rattle.mu_detect.specs.Stands.{StandsFor as ScoresStandFor};
 ghost use Rattle.mu_lead.specs.Beside.{is_beside, leads_at};
 ghost use Rattle.mu_lead.specs.Sets.{bit, is_bit};
 ghost use Rattle.mu_lead.specs.Standing.{HasHeeded, verb_of};
-ghost use Rattle.worked_leads.specs.Driven.{Beside, Drives, is_slot_put_verb};
+ghost use Rattle.worked_leads.specs.Driven.{Beside, Drives};
+ghost use Rattle.mu_model.specs.Steps.{is_slot_put_verb};
 
 use mu_detect::Scores;
 use mu_lead::{Lead, Note};

@@ -1,5 +1,5 @@
 use Rattle.std.proofs.Common.{◌∷◌, [], ap, ◌∙◌}
-use Rattle.front_desk.specs.Arrivals.{commands_of}
+use Rattle.front_desk.specs.Arrivals.{commands_by}
 use Rattle.front_desk.specs.Line.{entry, after_first}
 use Rattle.front_desk.proofs.Keeping.{forks, merges, learns, united_is, arrival}
 use Rattle.front_desk.proofs.collecting.arrive.Goals as goal
@@ -27,23 +27,23 @@ another-fourth-requires-clause-rule g c =
     forks _ _ (entry 3 []) [] (ap (λ hand. hand.entries) third)
 
 pub absorb-requires-clause-rule : goal.absorb-requires-clause-rule
-absorb-requires-clause-rule g c = merges _ _ _ 3 (commands_of 3 c.args.commands.now) _ c.pass_through-pass.ensures.back.1.1
+absorb-requires-clause-rule g c = merges _ _ _ 3 (commands_by 3 c.args.commands.now) _ c.pass_through-pass.ensures.back.1.1
 
 pub absorb-requires-2-clause-rule : goal.absorb-requires-2-clause-rule
-absorb-requires-2-clause-rule g c = merges _ _ _ 2 (commands_of 2 c.args.commands.now) _ c.pass_through-pass.ensures.back.0.1
+absorb-requires-2-clause-rule g c = merges _ _ _ 2 (commands_by 2 c.args.commands.now) _ c.pass_through-pass.ensures.back.0.1
 
 pub absorb-requires-3-clause-rule : goal.absorb-requires-3-clause-rule
-absorb-requires-3-clause-rule g c = merges _ _ _ 1 (commands_of 1 c.args.commands.now) _ c.pass_through-pass.ensures.front.1.1
+absorb-requires-3-clause-rule g c = merges _ _ _ 1 (commands_by 1 c.args.commands.now) _ c.pass_through-pass.ensures.front.1.1
 
 pub absorb-requires-4-clause-rule : goal.absorb-requires-4-clause-rule
-absorb-requires-4-clause-rule g c = merges _ _ _ 0 (commands_of 0 c.args.commands.now) _ c.pass_through-pass.ensures.front.0.1
+absorb-requires-4-clause-rule g c = merges _ _ _ 0 (commands_by 0 c.args.commands.now) _ c.pass_through-pass.ensures.front.0.1
 
 pub learn_as-requires-clause-rule : goal.learn_as-requires-clause-rule
 learn_as-requires-clause-rule g c =
-    let full = united_is _ _ _ _ 0 (commands_of 0 c.args.commands.now)
-    (united_is _ _ _ _ 1 (commands_of 1 c.args.commands.now)
-    (united_is _ _ _ _ 2 (commands_of 2 c.args.commands.now)
-    (united_is _ _ _ _ 3 (commands_of 3 c.args.commands.now) c.pass_through-pass.ensures.hand c.pass_through-pass.ensures.back.1.1 c.absorb.ensures.rule)
+    let full = united_is _ _ _ _ 0 (commands_by 0 c.args.commands.now)
+    (united_is _ _ _ _ 1 (commands_by 1 c.args.commands.now)
+    (united_is _ _ _ _ 2 (commands_by 2 c.args.commands.now)
+    (united_is _ _ _ _ 3 (commands_by 3 c.args.commands.now) c.pass_through-pass.ensures.hand c.pass_through-pass.ensures.back.1.1 c.absorb.ensures.rule)
     c.pass_through-pass.ensures.back.0.1 c.absorb-2.ensures.rule)
     c.pass_through-pass.ensures.front.1.1 c.absorb-3.ensures.rule)
     c.pass_through-pass.ensures.front.0.1 c.absorb-4.ensures.rule in
@@ -51,10 +51,10 @@ learn_as-requires-clause-rule g c =
 
 pub returns-clause-arrival : goal.returns-clause-arrival
 returns-clause-arrival g c =
-    let full = united_is _ _ _ _ 0 (commands_of 0 c.args.commands.now)
-    (united_is _ _ _ _ 1 (commands_of 1 c.args.commands.now)
-    (united_is _ _ _ _ 2 (commands_of 2 c.args.commands.now)
-    (united_is _ _ _ _ 3 (commands_of 3 c.args.commands.now) c.pass_through-pass.ensures.hand c.pass_through-pass.ensures.back.1.1 c.absorb.ensures.rule)
+    let full = united_is _ _ _ _ 0 (commands_by 0 c.args.commands.now)
+    (united_is _ _ _ _ 1 (commands_by 1 c.args.commands.now)
+    (united_is _ _ _ _ 2 (commands_by 2 c.args.commands.now)
+    (united_is _ _ _ _ 3 (commands_by 3 c.args.commands.now) c.pass_through-pass.ensures.hand c.pass_through-pass.ensures.back.1.1 c.absorb.ensures.rule)
     c.pass_through-pass.ensures.back.0.1 c.absorb-2.ensures.rule)
     c.pass_through-pass.ensures.front.1.1 c.absorb-3.ensures.rule)
     c.pass_through-pass.ensures.front.0.1 c.absorb-4.ensures.rule in

@@ -4,7 +4,7 @@ use Rattle.std.specs.Vec.Iter.{into_iter_items}
 use Rattle.std.proofs.lemmas.List.{length_push}
 use Rattle.std.proofs.lemmas.Option.{slice_get_within}
 use Rattle.mu_model.specs.Histories.{history}
-use Rattle.mu_known.proofs.Placed.{is_possible}
+use Rattle.mu_model.proofs.Parts.{part_is_possible}
 use Rattle.mu_cluster.specs.Branches.{Goes, HasEnd}
 use Rattle.mu_cluster.specs.Lists.{HoldsLists}
 use Rattle.mu_cluster.specs.Rounds.{part_of}
@@ -45,7 +45,7 @@ loop-node-preserved c =
           let mine = mine_part k events parts n left.0 (omega (arith, within, many)) has left.1 in
           let goes = subst (λ l. Goes k script n l node) mine left.2 in
           let ends = subst (λ l. HasEnd k script n l) mine left.3 in
-          let possible = is_possible k n (history events) legal in
+          let possible = part_is_possible k n (history events) legal in
           let is = c.into_result.ensures.is k n (part_of n events) c.requires.good possible goes.stands in
           let told = c.into_result.ensures.end k script n (part_of n events) (sym goes.stops) c.requires.good possible goes.stands in
           subst (λ m. HoldsLists k script events m c.add.new.self) (sym long)

@@ -4,7 +4,7 @@ use Rattle.std.specs.Vec.Iter.{into_iter_items}
 use Rattle.std.proofs.lemmas.List.{length_push}
 use Rattle.std.proofs.lemmas.Option.{slice_get_within}
 use Rattle.mu_model.specs.Histories.{history}
-use Rattle.mu_known.proofs.Placed.{is_possible}
+use Rattle.mu_model.proofs.Parts.{part_is_possible}
 use Rattle.mu_cluster.specs.Lists.{HoldsLists}
 use Rattle.mu_cluster.specs.Rounds.{part_of}
 use Rattle.mu_cluster.proofs.Filling.{held_next}
@@ -25,7 +25,7 @@ loop-seat-preserved c =
     let zero : n + 0 ≡ n = omega arith in
     let found : slice_get all n ≡ Some seat = ap (slice_get all) (sym zero) ∙ (sym (inv.rest 0) ∙ ap (λ l. slice_get l 0) head) in
     let sits = c.requires.played.1.waits n seat found (omega arith) in
-    let possible = is_possible k n (history events) c.requires.legal in
+    let possible = part_is_possible k n (history events) c.requires.legal in
     let is = c.into_result.ensures.is k n (part_of n events) c.requires.good possible sits.stands in
     let told = c.into_result.ensures.end k script n (part_of n events) (sym sits.stops) c.requires.good possible sits.stands in
     record {

@@ -3,8 +3,8 @@ use Rattle.mu_judge.proofs.judging.judge_trace.Goals as goal
 
 pub returns-clause-one : goal.returns-clause-one
 returns-clause-one g c =
-    judged_one _ c.judged-said.result _ _ _ c.judged-said.ensures.says c.print_verdict.ensures.whole c.print_verdict.ensures.legal
+    judged_one _ c.judge-said.result _ _ _ c.judge-said.ensures.says c.print_verdict.ensures.whole c.print_verdict.ensures.legal
 
 pub returns-clause-part : goal.returns-clause-part
 returns-clause-part g c =
-    judged_part _ c.judged-said.result _ _ _ c.judged-said.ensures.says c.print_verdict.ensures.part c.print_verdict.ensures.short
+    judged_part _ c.judge-said.result _ _ _ c.judge-said.ensures.says c.print_verdict.ensures.part c.print_verdict.ensures.short

@@ -2,8 +2,8 @@ use Rattle.std.proofs.Common.{take, sym, subst}
 use Rattle.mu_model.specs.Histories.{history}
 use Rattle.mu_regions.specs.Stands.{Stands}
 use Rattle.mu_regions.proofs.Range.{in_range}
-use Rattle.mu_outcome.proofs.Places.{history_at_next}
-use Rattle.mu_law.proofs.Stepping.{legal_is_short, legal_there}
+use Rattle.mu_outcome.proofs.Places.{history_at_next, legal_there}
+use Rattle.mu_law.proofs.Stepping.{legal_is_short}
 use Rattle.mu_law.proofs.states.regions_after.Goals as goal
 
 pub loop-index-preserved : goal.loop-index-preserved

@@ -5,15 +5,15 @@ use Rattle.mu_leading.proofs.leadership.take_at_each.Goals as goal
 
 pub loop-p-preserved : goal.loop-p-preserved
 loop-p-preserved c =
-    let seven : length c.loop-p.dealings ≡ 7 = c.loop-p.invariant.count in
+    let seven : length c.loop-p.notes ≡ 7 = c.loop-p.invariant.count in
     record {
-      count = length-set c.loop-p.dealings c.from-at.result c.after.result ∙ seven;
+      count = length-set c.loop-p.notes c.from-at.result c.after.result ∙ seven;
       upto = λ c' mine possible held.
-          upto_next (λ p d. StandsForRegionNotes c.args.r p mine d) (λ p d. StandsForRegionNotes c.args.r p (c.args.event.now ∷ mine) d) c.loop-p.p c.from-at.result c.loop-p.dealings _ c.after.result c.from-at.ensures (omega (arith, seven, c.loop-p-test.true))
+          upto_next (λ p d. StandsForRegionNotes c.args.r p mine d) (λ p d. StandsForRegionNotes c.args.r p (c.args.event.now ∷ mine) d) c.loop-p.p c.from-at.result c.loop-p.notes _ c.after.result c.from-at.ensures (omega (arith, seven, c.loop-p-test.true))
           (λ was. c.after.ensures c' mine possible was) (c.loop-p.invariant.upto c' mine possible held);
     }
 
 pub returns : goal.returns
 returns c c' mine possible held =
-    let seven : length c.loop-p.dealings ≡ 7 = c.loop-p.invariant.count in
-    upto_all (λ p d. StandsForRegionNotes c.args.r p mine d) (λ p d. StandsForRegionNotes c.args.r p (c.args.event.now ∷ mine) d) c.loop-p.p c.loop-p.dealings (omega (arith, seven, c.loop-p-test.false)) (c.loop-p.invariant.upto c' mine possible held)
+    let seven : length c.loop-p.notes ≡ 7 = c.loop-p.invariant.count in
+    upto_all (λ p d. StandsForRegionNotes c.args.r p mine d) (λ p d. StandsForRegionNotes c.args.r p (c.args.event.now ∷ mine) d) c.loop-p.p c.loop-p.notes (omega (arith, seven, c.loop-p-test.false)) (c.loop-p.invariant.upto c' mine possible held)

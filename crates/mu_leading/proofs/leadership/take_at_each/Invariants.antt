@@ -8,7 +8,7 @@ use Rattle.mu_leading.proofs.leadership.take_at_each.Given as goal
 
 abbrev pub invariant-loop-p : goal.invariant-loop-p
 invariant-loop-p l = record {
-  count : length l.dealings ≡ 7;
-  upto : (c : Config) (mine : List Event) → IsPossible c l.r (l.event ∷ mine) → StandForRegionNotes l.r mine l.fn.dealings
-      → HoldsUpto (λ p d. StandsForRegionNotes l.r p mine d) (λ p d. StandsForRegionNotes l.r p (l.event ∷ mine) d) l.p l.dealings;
+  count : length l.notes ≡ 7;
+  upto : (c : Config) (mine : List Event) → IsPossible c l.r (l.event ∷ mine) → StandForRegionNotes l.r mine l.fn.notes
+      → HoldsUpto (λ p d. StandsForRegionNotes l.r p mine d) (λ p d. StandsForRegionNotes l.r p (l.event ∷ mine) d) l.p l.notes;
 }

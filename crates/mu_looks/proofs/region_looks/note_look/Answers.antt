@@ -3,8 +3,9 @@ use Rattle.std.proofs.lemmas.Option.{slice_get-get_or}
 use Rattle.mu_model.specs.declared.event.Answer.{Answer}
 use Rattle.mu_model.specs.declared.event.Verb.{Verb}
 use Rattle.mu_looks.specs.declared.region_looks.Look.{Look}
-use Rattle.mu_looks.specs.Looks.{HoldsLook, has_looked_since}
+use Rattle.mu_looks.specs.Looks.{HoldsLook}
 use Rattle.mu_looks.proofs.Tables.{look_is, looks_stay, looks_taken}
+use Rattle.mu_model.specs.Placing.{has_looked_since}
 use Rattle.mu_looks.proofs.region_looks.note_look.Goals as goal
 
 pub returns-then-at-looks : goal.returns-then-at-looks

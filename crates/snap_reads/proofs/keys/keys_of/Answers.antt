@@ -1,7 +1,7 @@
 use Rattle.std.proofs.Common.{◌≡◌, ◌∙◌, ◌++◌, ◌∷◌, [], List, ℕ, Bool, true, false, ap, drop, filter, not, ◌+◌, sym}
 use Rattle.std.specs.Str.{bytes_eq}
-use Rattle.kv_store.specs.Commands.{Request}
-use Rattle.snap_reads.specs.Keys.{key_of, keys_of}
+use Rattle.kv_store.specs.Commands.{Request, key_of}
+use Rattle.snap_reads.specs.Keys.{keys_of}
 use Rattle.snap_reads.proofs.Keying.{has, keys_of-drop, known_key, lacking, lacking_none, new_key}
 use Rattle.snap_reads.proofs.keys.keys_of.Goals.{then-not-contains+in_ok-push, else-not-contains}
 use Rattle.snap_reads.proofs.keys.keys_of.Goals as goal

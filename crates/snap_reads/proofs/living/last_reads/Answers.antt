@@ -4,7 +4,7 @@ use Rattle.std.specs.Vec.Iter.{into_iter_items}
 use Rattle.kv_store.specs.Commands.{Request}
 use Rattle.snap_reads.specs.Lives.{AreSights}
 use Rattle.snap_reads.specs.Seats.{Note, Writing}
-use Rattle.snap_reads.proofs.Watched.{all_snoc}
+use Rattle.std.proofs.lemmas.List.Elements.{All-push}
 use Rattle.snap_reads.proofs.living.last_reads.Goals as goal
 
 pub loop-watcher-preserved : goal.loop-watcher-preserved
@@ -24,7 +24,7 @@ loop-watcher-preserved c =
       tt,
       whole ∙ sym (append_assoc at.yielded (x ∷ []) (into_iter_items c.next.new.self)),
       omega (arith, inv.3, gone, short),
-      subst (All (AreSights published keys)) (sym c.push_reserved.ensures.items) (all_snoc (AreSights published keys) at.lists.items c.told_reads.result inv.4 sights),
+      subst (All (AreSights published keys)) (sym c.push_reserved.ensures.items) (All-push (AreSights published keys) at.lists.items c.told_reads.result inv.4 sights),
       ap length c.push_reserved.ensures.items ∙ omega (arith, length-append at.lists.items (c.told_reads.result ∷ []), length-append at.yielded (x ∷ []), inv.5),
       omega (arith, c.push_reserved.ensures.capacity, inv.6),
       c.tell.ensures.same ∙ inv.7,

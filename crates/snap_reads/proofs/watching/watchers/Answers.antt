@@ -4,7 +4,7 @@ use Rattle.std.specs.Vec.Iter.{into_iter_items}
 use Rattle.std.proofs.lemmas.List.{map_push}
 use Rattle.snap_reads.specs.declared.watching.Watcher.{Watcher}
 use Rattle.snap_reads.specs.Lives.{IsReady}
-use Rattle.snap_reads.proofs.Watched.{all_snoc}
+use Rattle.std.proofs.lemmas.List.Elements.{All-push}
 use Rattle.snap_reads.proofs.watching.watchers.Goals as goal
 
 pub loop-reader-preserved : goal.loop-reader-preserved
@@ -23,7 +23,7 @@ loop-reader-preserved c =
       tt,
       whole ∙ sym (append_assoc at.yielded (x ∷ []) (into_iter_items c.next.new.self)),
       omega (arith, inv.3, gone, short),
-      subst (All (IsReady c.args.keys)) (sym c.push_reserved.ensures.items) (all_snoc (IsReady c.args.keys) at.watchers.items w inv.4 ready),
+      subst (All (IsReady c.args.keys)) (sym c.push_reserved.ensures.items) (All-push (IsReady c.args.keys) at.watchers.items w inv.4 ready),
       ap (map (λ (y : Watcher). y.reader)) c.push_reserved.ensures.items ∙ (map_push (λ (y : Watcher). y.reader) at.watchers.items w ∙ ap (λ l. l ++ x ∷ []) inv.5),
       ap length c.push_reserved.ensures.items ∙ omega (arith, length-append at.watchers.items (w ∷ []), length-append at.yielded (x ∷ []), inv.6),
       omega (arith, c.push_reserved.ensures.capacity, inv.7),

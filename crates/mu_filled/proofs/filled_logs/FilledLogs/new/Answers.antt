@@ -8,8 +8,8 @@ loop-id-preserved c = record {
   count = search (rules, c.push_reserved.ensures.items, c.loop-id.invariant.count);
   room = search rules;
   each = λ r.
-      let last = subst (λ p. HoldsCoverage c.args.config.now r p [] c.in_ok-empty.field-0) (sym c.loop-id.invariant.count) (c.in_ok-empty.ensures r) in
-      rw c.push_reserved.ensures.items (each_pushed (λ p region. HoldsCoverage c.args.config.now r p [] region) c.loop-id.regions.items c.in_ok-empty.field-0 (c.loop-id.invariant.each r) last);
+      let last = subst (λ p. HoldsCoverage c.args.config.now r p [] c.in_ok-new.field-0) (sym c.loop-id.invariant.count) (c.in_ok-new.ensures r) in
+      rw c.push_reserved.ensures.items (each_pushed (λ p region. HoldsCoverage c.args.config.now r p [] region) c.loop-id.regions.items c.in_ok-new.field-0 (c.loop-id.invariant.each r) last);
 }
 
 pub returns : goal.returns

@@ -3,7 +3,8 @@ use Rattle.std.proofs.lemmas.List.{length_push, take_at}
 use Rattle.mu_model.specs.Contents.{holds_all, includes, rows_in, rows_of}
 use Rattle.mu_model.proofs.Basics.{true_or}
 use Rattle.mu_follow.specs.Completion.{MarksRows}
-use Rattle.mu_follow.proofs.Full.{full_next, includes_next, least_fits}
+use Rattle.mu_follow.proofs.Full.{full_next, includes_next}
+use Rattle.mu_model.proofs.Scans.{least_below_fits}
 use Rattle.mu_follow.proofs.completion.Completion.count.Goals as goal
 
 pub returns-clause-holds : goal.returns-clause-holds
@@ -20,7 +21,7 @@ returns-clause-holds c values good held =
     let first = c.first_missing-self.ensures k g (ap length seen ∙ rows) (subst (λ l. MarksRows k g l) (sym seen) marks) held.first.within
     (λ j low. includes_next k j v values ∙ true_or (f j) (includes j (rows_of k v)) (held.first.below j low)) in
     let all = c.is_whole-all.ensures g first in
-    let least = least_fits (length values + 1) (λ m. holds_all k (take m values)) in
+    let least = least_below_fits (length values + 1) (λ m. holds_all k (take m values)) in
     let fits : c.args.self.now.full ≤ c.args.self.now.counted + 1 = omega (arith, least, held.full, held.counted) in
     record {
       counted = omega (arith, c.saturating_add-self.ensures, c.requires, held.counted, length_push values v);

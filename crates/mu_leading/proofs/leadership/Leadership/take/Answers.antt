@@ -12,7 +12,7 @@ returns c c' mine few possible held = record {
   number = c.number_after-self.ensures mine held.number;
   read = c.greatest_minimum_after-self.ensures mine held.read;
   put = c.greatest_number_after-self.ensures mine held.put;
-  dealings = c.take_at_each.ensures c' mine possible held.dealings;
+  notes = c.take_at_each.ensures c' mine possible held.notes;
 }
 
 pub returns-then-not-is_leader_verb : goal.returns-then-not-is_leader_verb

@@ -9,13 +9,13 @@ loop-p-preserved c = record {
   count = search (rules, c.push_reserved.ensures.items, c.loop-p.invariant.count);
   room = search rules;
   each =
-      let last = subst (λ p. StandsForRegionLooks c.args.config.now c.args.r p [] c.in_ok-none.field-0) (sym c.loop-p.invariant.count) (c.in_ok-none.ensures c.args.r) in
-      rw c.push_reserved.ensures.items (each_pushed (λ p looks. StandsForRegionLooks c.args.config.now c.args.r p [] looks) c.loop-p.regions.items c.in_ok-none.field-0 c.loop-p.invariant.each last);
+      let last = subst (λ p. StandsForRegionLooks c.args.config.now c.args.r p [] c.in_ok-new.field-0) (sym c.loop-p.invariant.count) (c.in_ok-new.ensures c.args.r) in
+      rw c.push_reserved.ensures.items (each_pushed (λ p looks. StandsForRegionLooks c.args.config.now c.args.r p [] looks) c.loop-p.regions.items c.in_ok-new.field-0 c.loop-p.invariant.each last);
 }
 
 pub returns : goal.returns
 returns c =
-    let blanks : c.in_ok-vec.field-0.items ≡ replicate c.positions_in.result c.none-2.result = c.in_ok-vec.ensures.items_if_clones_equal (λ y is. is) in
+    let blanks : c.in_ok-vec.field-0.items ≡ replicate c.positions_in.result c.new-2.result = c.in_ok-vec.ensures.items_if_clones_equal (λ y is. is) in
     record {
       replica = refl;
       time = refl;
@@ -23,7 +23,7 @@ returns c =
       joined_at = refl;
       own_reach = λ h. refl;
       positions = search rules;
-      firsts = subst (λ (xs : List First). HoldsFirsts c.args.r [] xs) (sym blanks) (all_copies (λ i first. HoldsFirst c.args.r i [] first) c.positions_in.result c.none-2.result (λ i. c.none-2.ensures c.args.r i));
+      firsts = subst (λ (xs : List First). HoldsFirsts c.args.r [] xs) (sym blanks) (all_copies (λ i first. HoldsFirst c.args.r i [] first) c.positions_in.result c.new-2.result (λ i. c.new-2.ensures c.args.r i));
       seven = search rules;
       regions = c.loop-p.invariant.each;
     }

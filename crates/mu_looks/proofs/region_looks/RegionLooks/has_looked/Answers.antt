@@ -1,6 +1,7 @@
 use Rattle.std.proofs.Common.{◌≡◌, sym, ap, ◌∙◌, ◌&&◌, true, false}
 use Rattle.std.specs.Prelude.{nat_lt}
-use Rattle.mu_looks.specs.Looks.{enter_time, has_looked_since}
+use Rattle.mu_looks.specs.Looks.{enter_time}
+use Rattle.mu_model.specs.Placing.{has_looked_since}
 use Rattle.mu_looks.proofs.region_looks.RegionLooks.has_looked.Goals as goal
 
 pub returns-then-has_looked_since : goal.returns-then-has_looked_since

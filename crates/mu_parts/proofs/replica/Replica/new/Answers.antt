@@ -5,9 +5,9 @@ pub returns : goal.returns
 returns c = record {
   replica = refl;
   steps = refl;
-  leadership = c.none.ensures;
-  grants = c.new.ensures;
-  heads = c.none-2.ensures;
+  leadership = c.new.ensures;
+  grants = c.new-2.ensures;
+  heads = c.new-3.ensures;
   known_log = c.in_ok-new.ensures c.args.replica;
   held_rows = c.in_ok-new-2.ensures c.args.replica;
   landed_puts = c.in_ok-new-3.ensures c.args.replica;

@@ -1,7 +1,7 @@
 use Rattle.std.proofs.Common.{Some, ◌≡◌, ◌∷◌, ◌∙◌, ap, length-set, sym, subst, arith}
 use Rattle.std.specs.List.{slice_get}
 use Rattle.std.proofs.lemmas.Option.{slice_get-get_or}
-use Rattle.mu_known.proofs.Placed.{is_possible}
+use Rattle.mu_model.proofs.Parts.{part_is_possible}
 use Rattle.mu_model.specs.Histories.{part}
 use Rattle.mu_model.specs.Parts.{IsPossible}
 use Rattle.mu_model.proofs.Budgets.{short_history}
@@ -31,6 +31,6 @@ returns-in-Some-clause-tells c = λ past legal held.
     let state = c.in-Some.replica.now in
     let there : slice_get items c.from.result ≡ Some state =
     slice_get-get_or items c.from.result state c.in-Some.ensures.item.3.0 ∙ ap Some (sym c.in-Some.ensures.value) in
-    let possible = subst (λ l. IsPossible config e.by l) (own_part e past) (is_possible config e.by (e ∷ past) legal) in
+    let possible = subst (λ l. IsPossible config e.by l) (own_part e past) (part_is_possible config e.by (e ∷ past) legal) in
     c.told_by.ensures.tells (part e.by past) possible
     (held.each e.by state (subst (λ q. slice_get items q ≡ Some state) c.from.ensures there))

@@ -8,6 +8,6 @@ loop-id-preserved c = record {
   count = search (rules, c.push_reserved.ensures.items, c.loop-id.invariant.count);
   room = search rules;
   each =
-      let last = subst (λ p. Holds c.args.config.now p [] c.in_ok-empty.field-0) (sym c.loop-id.invariant.count) c.in_ok-empty.ensures in
-      rw c.push_reserved.ensures.items (each_pushed c.args.config.now [] c.loop-id.regions.items c.in_ok-empty.field-0 c.loop-id.invariant.each last);
+      let last = subst (λ p. Holds c.args.config.now p [] c.in_ok-new.field-0) (sym c.loop-id.invariant.count) c.in_ok-new.ensures in
+      rw c.push_reserved.ensures.items (each_pushed c.args.config.now [] c.loop-id.regions.items c.in_ok-new.field-0 c.loop-id.invariant.each last);
 }

@@ -2,28 +2,28 @@ use Rattle.std.proofs.Common.{◌∙◌, ◌∷◌, refl}
 use Rattle.mu_words.specs.Steps.{granted}
 use Rattle.shared_steps.specs.Seats.{Port}
 use Rattle.shared_steps.proofs.Effects.{grant_expects}
-use Rattle.shared_steps.proofs.Ports.{Made, Ready, allows_grant, inside, named, now_part, now_port, now_possible, plain, ready}
+use Rattle.shared_steps.proofs.Ports.{Made, Ready, allows_grant, place_is_inside, name_is_of_layout, now_part, now_port, now_possible, plain_expects_nothing, seat_is_ready}
 use Rattle.shared_steps.proofs.seat.PortSeat.grant.Goals as goal
 
 pub word_place-place-requires-clause-named : goal.word_place-place-requires-clause-named
-word_place-place-requires-clause-named c = named _ _ _ (ready _ _ _ _ _ c.words.view_is c.self.view_is c.words.invariant c.self.invariant c.requires.of c.requires.allowed)
+word_place-place-requires-clause-named c = name_is_of_layout _ _ _ (seat_is_ready _ _ _ _ _ c.words.view_is c.self.view_is c.words.invariant c.self.invariant c.requires.of c.requires.allowed)
 
 pub swap-word-requires-clause-inside : goal.swap-word-requires-clause-inside
-swap-word-requires-clause-inside c = inside _ _ _ _ (ready _ _ c.args.verb _ _ c.words.view_is c.self.view_is c.words.invariant c.self.invariant c.requires.of c.requires.allowed) c.word_place-place.ensures
+swap-word-requires-clause-inside c = place_is_inside _ _ _ _ (seat_is_ready _ _ c.args.verb _ _ c.words.view_is c.self.view_is c.words.invariant c.self.invariant c.requires.of c.requires.allowed) c.word_place-place.ensures
 
 pub swap-word-requires-clause-rule : goal.swap-word-requires-clause-rule
 swap-word-requires-clause-rule c =
-    allows_grant _ _ _ _ c.granted-new.result c.requires.kind (ready _ _ _ _ _ c.words.view_is c.self.view_is c.words.invariant c.self.invariant c.requires.of c.requires.allowed) c.word_place-place.ensures (c.granted-new.ensures ∙ (λ i. granted (c.close_grant.ensures i) (c.owner.ensures i)))
+    allows_grant _ _ _ _ c.granted-new.result c.requires.kind (seat_is_ready _ _ _ _ _ c.words.view_is c.self.view_is c.words.invariant c.self.invariant c.requires.of c.requires.allowed) c.word_place-place.ensures (c.granted-new.ensures ∙ (λ i. granted (c.close_grant.ensures i) (c.owner.ensures i)))
 
 can : (c : goal.After-note) → Ready c.words.inside c.self.inside c.args.verb
-can c = ready _ _ _ _ _ c.words.view_is c.self.view_is c.words.invariant c.self.invariant c.requires.of c.requires.allowed
+can c = seat_is_ready _ _ _ _ _ c.words.view_is c.self.view_is c.words.invariant c.self.invariant c.requires.of c.requires.allowed
 
 made : (c : goal.After-note) → Made c.words.inside c.self.inside c.args.verb (can c) record { seat = c.swap-word.new.seat; id = c.self.inside.id; journal = c.note.new.journal; found = c.note.new.found } c.swap-word.result 0 c.note.result
 made c = record {
   table = c.swap-word.ensures.same.0;
   id = refl;
   told = c.swap-word.ensures.grown;
-  expects = plain _ _ _ (can c) (grant_expects c.args.verb c.requires.kind);
+  expects = plain_expects_nothing _ _ _ (can c) (grant_expects c.args.verb c.requires.kind);
   answer = c.note.ensures.answer;
   events = c.note.ensures.events;
   room = c.note.ensures.room;

@@ -1,28 +1,28 @@
 use Rattle.std.proofs.Common.{◌∙◌, ◌∷◌, refl}
 use Rattle.shared_steps.specs.Seats.{Port}
 use Rattle.shared_steps.proofs.Effects.{store_expects, stores}
-use Rattle.shared_steps.proofs.Ports.{Made, Ready, allows_store, inside, named, now_part, now_port, now_possible, plain, ready}
+use Rattle.shared_steps.proofs.Ports.{Made, Ready, allows_store, place_is_inside, name_is_of_layout, now_part, now_port, now_possible, plain_expects_nothing, seat_is_ready}
 use Rattle.shared_steps.proofs.seat.PortSeat.store.Goals as goal
 
 pub word_place-place-requires-clause-named : goal.word_place-place-requires-clause-named
-word_place-place-requires-clause-named c = named _ _ _ (ready _ _ _ _ _ c.words.view_is c.self.view_is c.words.invariant c.self.invariant c.requires.of c.requires.allowed)
+word_place-place-requires-clause-named c = name_is_of_layout _ _ _ (seat_is_ready _ _ _ _ _ c.words.view_is c.self.view_is c.words.invariant c.self.invariant c.requires.of c.requires.allowed)
 
 pub store-requires-clause-inside : goal.store-requires-clause-inside
-store-requires-clause-inside c = inside _ _ _ _ (ready _ _ c.args.verb _ _ c.words.view_is c.self.view_is c.words.invariant c.self.invariant c.requires.of c.requires.allowed) c.word_place-place.ensures
+store-requires-clause-inside c = place_is_inside _ _ _ _ (seat_is_ready _ _ c.args.verb _ _ c.words.view_is c.self.view_is c.words.invariant c.self.invariant c.requires.of c.requires.allowed) c.word_place-place.ensures
 
 pub store-requires-clause-rule : goal.store-requires-clause-rule
 store-requires-clause-rule c =
-    allows_store _ _ _ _ c.content-word.result c.requires.kind (ready _ _ _ _ _ c.words.view_is c.self.view_is c.words.invariant c.self.invariant c.requires.of c.requires.allowed) c.word_place-place.ensures (stores c.args.verb c.content-word.result c.requires.kind c.content-word.ensures)
+    allows_store _ _ _ _ c.content-word.result c.requires.kind (seat_is_ready _ _ _ _ _ c.words.view_is c.self.view_is c.words.invariant c.self.invariant c.requires.of c.requires.allowed) c.word_place-place.ensures (stores c.args.verb c.content-word.result c.requires.kind c.content-word.ensures)
 
 can : (c : goal.After-note) → Ready c.words.inside c.self.inside c.args.verb
-can c = ready _ _ _ _ _ c.words.view_is c.self.view_is c.words.invariant c.self.invariant c.requires.of c.requires.allowed
+can c = seat_is_ready _ _ _ _ _ c.words.view_is c.self.view_is c.words.invariant c.self.invariant c.requires.of c.requires.allowed
 
 made : (c : goal.After-note) → Made c.words.inside c.self.inside c.args.verb (can c) record { seat = c.store.new.seat; id = c.self.inside.id; journal = c.note.new.journal; found = c.note.new.found } c.content-word.result 0 c.note.result
 made c = record {
   table = c.store.ensures.same.0;
   id = refl;
   told = c.store.ensures.grown;
-  expects = plain _ _ _ (can c) (store_expects c.args.verb c.requires.kind);
+  expects = plain_expects_nothing _ _ _ (can c) (store_expects c.args.verb c.requires.kind);
   answer = c.note.ensures.answer;
   events = c.note.ensures.events;
   room = c.note.ensures.room;

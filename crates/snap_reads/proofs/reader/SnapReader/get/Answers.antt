@@ -3,7 +3,7 @@ use Rattle.atomic_table.specs.Table.{Me}
 use Rattle.kv_store.specs.Commands.{Request}
 use Rattle.kv_store.specs.Tables.{Table, store, table_after}
 use Rattle.kv_store.proofs.Runs.{store-push}
-use Rattle.mu_outcome.specs.Outcomes.{IsPrefixOf}
+use Rattle.mu_model.specs.Histories.{IsPrefixOf}
 use Rattle.snap_reads.specs.declared.rule.View.{View}
 use Rattle.snap_reads.specs.Published.{AllBegin}
 use Rattle.snap_reads.specs.Seats.{Reading}

@@ -3,7 +3,8 @@ use Rattle.mu_model.specs.Histories.{part}
 use Rattle.mu_model.specs.Knowledge.{known}
 use Rattle.mu_model.proofs.Basics.{event_by}
 use Rattle.mu_lead.specs.Standing.{StandsFor}
-use Rattle.worked_leads.proofs.Driving.{beside_same, part_of_maker, possible_for_maker, told_other}
+use Rattle.worked_leads.proofs.Driving.{beside_same, told_other}
+use Rattle.mu_model.proofs.Parts.{part_of_maker, possible_for_maker}
 use Rattle.worked_leads.proofs.driven.Driven.take_other.Goals as goal
 
 pub returns-clause-drives : goal.returns-clause-drives

@@ -4,7 +4,8 @@ use Rattle.mu_model.specs.Legal.{IsLegalHistory}
 use Rattle.mu_model.proofs.Basics.{event_by}
 use Rattle.mu_lead.specs.Standing.{StandsFor}
 use Rattle.worked_leads.specs.Driven.{Beside}
-use Rattle.worked_leads.proofs.Driving.{part_of_maker, possible_for_maker, told_put}
+use Rattle.worked_leads.proofs.Driving.{told_put}
+use Rattle.mu_model.proofs.Parts.{part_of_maker, possible_for_maker}
 use Rattle.worked_leads.proofs.driven.Driven.take_put.Goals as goal
 
 pub returns-clause-drives : goal.returns-clause-drives

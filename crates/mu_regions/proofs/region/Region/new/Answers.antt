@@ -1,6 +1,6 @@
 use Rattle.std.proofs.Common.{rules, ◌≡◌, ◌*◌, None, false, replicate, arith}
 use Rattle.std.proofs.lemmas.List.{get_or-replicate}
-use Rattle.mu_regions.proofs.region.Region.empty.Goals as goal
+use Rattle.mu_regions.proofs.region.Region.new.Goals as goal
 use Rattle.mu_model.proofs.Lists.{get_replicate}
 
 pub returns : goal.returns

@@ -1,7 +1,7 @@
 use Rattle.std.proofs.Common.{◌≡◌, false, get_or, subst}
 use Rattle.match_book.specs.Places.{crosses}
 use Rattle.match_book.proofs.Crossing.{below_sell, free_at, ledger_is_free}
-use Rattle.match_book.proofs.uncrossed.Goals as goal
+use Rattle.match_book.proofs.books_are_uncrossed.Goals as goal
 
 pub returns : goal.returns
 returns c = λ commands ledger once is buy sell buys sells bought sold same.
