@@ -5,7 +5,7 @@ ghost use Rattle.mu_model.specs.Contents.{IsConfig, includes, row_count, rows_of
 ghost use Rattle.mu_model.specs.Histories.{all_below};
 ghost use Rattle.mu_follow.specs.Completion.{HoldsCompletion, IsFirstMissing, MarksRows, full_of};
 
-use mu_model::{PAYLOADS, Config, NoMemory, row_rest, stands_for_batch};
+use mu_model::{Config, NoMemory, PAYLOADS, row_rest, stands_for_batch};
 use std::alloc::Global;
 
 /// Which rows the first entries of a log hold, and how many entries hold all.

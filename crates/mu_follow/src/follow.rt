@@ -21,7 +21,7 @@ use crate::progress::Progress;
 use crate::published::Published;
 use mu_filled::FilledLog;
 use mu_known::{Commit, HeldRows, KnownLog};
-use mu_model::{PAYLOADS, Config, NoMemory, Verb, positions_in, row_rest, stands_for_batch};
+use mu_model::{Config, NoMemory, PAYLOADS, Verb, positions_in, row_rest, stands_for_batch};
 use std::alloc::Global;
 
 /// How many places a cycle has beside two for each replica.

@@ -10,7 +10,7 @@ ghost use Rattle.mu_follow.specs.Follow.{StandsForFollow};
 ghost use Rattle.mu_follow.specs.Groups.{group_of};
 
 use crate::follow::Follow;
-use mu_model::{PAYLOADS, Config, Row, row_rest, stands_for_batch};
+use mu_model::{Config, PAYLOADS, Row, row_rest, stands_for_batch};
 
 /// An entry that is known, with all its rows, and was not applied yet.
 #[derive(Clone, Copy)]

@@ -11,7 +11,7 @@ ghost use Rattle.mu_model.specs.Room.{reserve};
 ghost use Rattle.mu_known.specs.KnownLog.{CountsCommands, StandsForKnownLog, HoldsValues, IsPlaced, MarksReplicas, ReadsFuos, SeesEntries, TellsAccepted};
 
 use mu_model::{
-    PAYLOADS, Answer, Config, Event, NoMemory, Verb, positions_in, row_client, row_rest,
+    Answer, Config, Event, NoMemory, PAYLOADS, Verb, positions_in, row_client, row_rest,
     stands_for_batch, stands_for_mark,
 };
 use std::alloc::Global;

@@ -13,7 +13,7 @@ use crate::hosting::{
 use crate::knowledge::{are_filled, known_length};
 use crate::leadership::{grant_noted, has_asked, has_ended};
 use crate::placing::{has_reached, may_put_slot};
-use mu_model::{PAYLOADS, Config, Event, Fence, Verb, count_of_rows, reserve_of, row_word};
+use mu_model::{Config, Event, Fence, PAYLOADS, Verb, count_of_rows, reserve_of, row_word};
 
 /// The region that was asked last.
 fn asked_last(r: u8, part: &[Event]) -> Option<u8>

@@ -6,7 +6,7 @@ ghost use Rattle.mu_model.specs.Histories.{history};
 ghost use Rattle.mu_model.specs.Regions.{asks, beats, fence, fence_grant, region_fuo, region_head, region_log, region_min, row_word};
 
 use crate::leadership::grant_noted;
-use mu_model::{PAYLOADS, Answer, Config, Event, Fence, Target, Verb};
+use mu_model::{Answer, Config, Event, Fence, PAYLOADS, Target, Verb};
 
 /// The fence of `p`.
 fn fence_of(p: u8, events: &[Event]) -> Fence

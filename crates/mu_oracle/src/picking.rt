@@ -10,7 +10,7 @@ use crate::knowledge::{commands_known, known_length};
 use crate::leadership::{is_in, starts_leadership};
 use crate::room::{is_offer_of_mark, leaves_room};
 use mu_model::{
-    PAYLOADS, Answer, Config, Event, Verb, reserve_of, row_client, row_number, stands_for_batch,
+    Answer, Config, Event, PAYLOADS, Verb, reserve_of, row_client, row_number, stands_for_batch,
 };
 
 /// Whether a region became a member by the event.

@@ -17,8 +17,7 @@ ghost use Rattle.mu_parts.specs.Parts.{StandsForReplica};
 
 use crate::replica::Replica;
 use mu_model::{
-    PAYLOADS, Config, Target, reserve_of, row_client, row_number, stands_for_batch,
-    stands_for_mark,
+    Config, PAYLOADS, Target, reserve_of, row_client, row_number, stands_for_batch, stands_for_mark,
 };
 
 /// Whether all points hold.

@@ -17,7 +17,7 @@ use mu_grant::Grants;
 use mu_known::{HeldRows, KnownLog};
 use mu_leading::{Heads, Leadership};
 use mu_looks::Looks;
-use mu_model::{PAYLOADS, Config, Event, NoMemory, Verb, positions_in, row_word};
+use mu_model::{Config, Event, NoMemory, PAYLOADS, Verb, positions_in, row_word};
 use std::alloc::Global;
 
 /// What the events of one replica so far let it do next.

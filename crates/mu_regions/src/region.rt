@@ -15,7 +15,7 @@ use crate::effects::{
     beats_after, fence_after, fuo_after, head_after, minimum_after, note_ask, note_drain,
     note_grant, note_put, note_word,
 };
-use mu_model::{PAYLOADS, Answer, Config, Event, Fence, NoMemory, Target, Verb, positions_in};
+use mu_model::{Answer, Config, Event, Fence, NoMemory, PAYLOADS, Target, Verb, positions_in};
 use std::alloc::Global;
 
 /// What the region `id` holds, with the rows of its replica.

@@ -8,7 +8,7 @@ ghost use Rattle.mu_regions.specs.Range.{InRange, IsNear, is_first, read_at};
 ghost use Rattle.mu_regions.specs.Stands.{HoldsEach, Stands};
 
 use crate::region::Region;
-use mu_model::{PAYLOADS, Answer, Config, Event, NoMemory, Verb};
+use mu_model::{Answer, Config, Event, NoMemory, PAYLOADS, Verb};
 use std::alloc::Global;
 
 /// What all regions hold after a list of events, kept up to date event by event. An answer and an

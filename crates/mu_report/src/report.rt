@@ -12,7 +12,7 @@ use crate::words::{push_end, push_name, push_op, push_reply};
 use kv_store::{Command, Reply};
 use mu_input::Job;
 use mu_io::{Sink, WriteFault};
-use mu_model::{FIRST_MARK, PAYLOADS, End, stands_for_mark};
+use mu_model::{End, FIRST_MARK, PAYLOADS, stands_for_mark};
 use mu_outcome::{Outcome, Status, commands_of, longest};
 
 /// The status of the program after a run: done where all commands of the job are in the longest log,
