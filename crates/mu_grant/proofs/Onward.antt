@@ -1,7 +1,7 @@
 -- The cycle's order is kept by what is due, and never runs out.
 use Rattle.std.proofs.Common.{Bool, List, None, Some, false, not, suc, true, zero, ℕ, ◌%◌, ◌*◌, ◌+◌, ◌-◌, ◌/◌, ◌<◌, ◌≡◌, ◌⊎◌, arith, inl, inr, length, refl, subst, sym, ◌∙◌, true≢false}
 use Rattle.std.specs.declared.option.Option.{Option}
-use Rattle.std.proofs.lemmas.Bool.{cases_lt}
+use Rattle.std.proofs.lemmas.Bool.{cases_lt, and_parts}
 use Rattle.mu_model.specs.declared.config.Config.{Config}
 use Rattle.mu_model.specs.declared.event.Answer.{Answer}
 use Rattle.mu_model.specs.declared.event.Event.{Event}
@@ -15,7 +15,6 @@ use Rattle.mu_grant.specs.Pace.{DueFollows, FollowsCycle, IsAtPlace, IsElsewhere
 use Rattle.mu_grant.specs.Stands.{Gives, is_of_place}
 use Rattle.mu_grant.proofs.Places.{gives, not_none, of_drain, of_grant, of_look}
 use Rattle.mu_grant.proofs.Turns.{least, not_all}
-use Rattle.mu_grant.proofs.Waiting.{both}
 use Rattle.mu_model.proofs.Basics.{same_some, event_by}
 
 -- a place of the host has no read of asks
@@ -108,7 +107,7 @@ grant_given_to c r past left inside free true nobody = (
   gives c r past 3 None left inside (λ v is. absurd (not_none v None refl is)) (λ none v placed needs.
       let grant = of_grant v placed in
       let may = subst (λ u. Needs c r past u) grant.1 needs in
-      true≢false (sym nobody ∙ not_all c.replicas grant.0 (has_unserved_ask r past) may.0 (both (has_unserved_ask r past grant.0) _ may.3).0)),
+      true≢false (sym nobody ∙ not_all c.replicas grant.0 (has_unserved_ask r past) may.0 (and_parts (has_unserved_ask r past grant.0) _ may.3).0)),
 )
 grant_given_to c r past left inside (inr denied) t is = (
   None,

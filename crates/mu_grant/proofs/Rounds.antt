@@ -1,7 +1,7 @@
 -- How a host whose places are called in the cycle's order comes to a grant.
 use Rattle.std.proofs.Common.{Bool, List, None, Some, [], false, true, ℕ, ◌*◌, ◌++◌, ◌+◌, ◌<◌, ◌==◌, ◌∷◌, ◌≡◌, ◌≤◌, ◌⊎◌, arith, inl, inr, length, length-append, refl, subst, sym, ◌∙◌, true≢false}
 use Rattle.std.specs.declared.option.Option.{Option}
-use Rattle.std.proofs.lemmas.Bool.{cases_lt, eq-eqb, eqb-true}
+use Rattle.std.proofs.lemmas.Bool.{cases_lt, eq-eqb, eqb-true, and_parts}
 use Rattle.mu_model.specs.declared.config.Config.{Config}
 use Rattle.mu_model.specs.declared.event.Answer.{Answer}
 use Rattle.mu_model.specs.declared.event.Event.{Event}
@@ -15,7 +15,6 @@ use Rattle.mu_grant.specs.Pace.{FollowsCycle, GrantsInTheRound, GrantsWithinTheC
 use Rattle.mu_grant.specs.Stands.{is_of_place}
 use Rattle.mu_grant.proofs.Positions.{IsNext, at_place, next, next_is, place_at, position}
 use Rattle.mu_grant.proofs.Turns.{closes, closing_on, granted_before, granted_now, least, not_all, of_grants, of_host, reads_ask, waits_on}
-use Rattle.mu_grant.proofs.Waiting.{both}
 use Rattle.mu_model.proofs.Basics.{event_by}
 
 -- what holds of the host before each turn: a pending `Close` has somebody waiting, is looked at and drained by its place, and is granted on by the place of grants
@@ -128,8 +127,8 @@ ready_open : (c : Config) (r : ℕ) (past : List Event) → fence_closing r past
 ready_open c r past is = record {
   rested = λ there. is;
   waited = λ closing. absurd (true≢false (sym closing ∙ is));
-  looked = λ late must. absurd (true≢false (sym (both (fence_closing r past) _ must).0 ∙ is));
-  drained = λ late must. absurd (true≢false (sym (both (fence_closing r past) _ must).0 ∙ is));
+  looked = λ late must. absurd (true≢false (sym (and_parts (fence_closing r past) _ must).0 ∙ is));
+  drained = λ late must. absurd (true≢false (sym (and_parts (fence_closing r past) _ must).0 ∙ is));
 }
 
 -- a host stays ready at each turn
@@ -141,7 +140,7 @@ ready_next c r by Verb.Close answer past t ready =
     let now = next_is c (event_by by Verb.Close answer) past (4 * c.replicas) (omega arith) (omega arith) in
     let first = least c.replicas (has_unserved_ask r past) h.needs.1 in record {
       rested = λ there. elim there [ inl low ↦ absurd (omega arith) | inr high ↦ absurd (omega arith) ];
-      waited = λ is. (first.0, first.1, (both (has_unserved_ask r past first.0) _ first.2).0);
+      waited = λ is. (first.0, first.1, (and_parts (has_unserved_ask r past first.0) _ first.2).0);
       looked = λ late must. absurd (omega arith);
       drained = λ late must. absurd (omega arith);
     }

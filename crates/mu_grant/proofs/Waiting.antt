@@ -1,8 +1,8 @@
 -- Who waits, and which is the verb that was due.
-use Rattle.std.proofs.Common.{Bool, List, None, Some, false, not, true, suc, zero, ℕ, ◌&&◌, ◌+◌, ◌<◌, ◌≡◌, ◌≢◌, ap, arith, inl, inr, refl, subst, sym, ◌∙◌, true≢false}
+use Rattle.std.proofs.Common.{Bool, List, None, Some, false, not, true, suc, zero, ℕ, ◌+◌, ◌<◌, ◌≡◌, ◌≢◌, ap, arith, inl, inr, refl, subst, sym, ◌∙◌, true≢false}
 use Rattle.std.specs.Prelude.{is_some}
 use Rattle.std.specs.declared.option.Option.{Option}
-use Rattle.std.proofs.lemmas.Bool.{cases_lt}
+use Rattle.std.proofs.lemmas.Bool.{cases_lt, and_parts}
 use Rattle.mu_model.specs.declared.config.Config.{Config}
 use Rattle.mu_model.specs.declared.event.Answer.{Answer}
 use Rattle.mu_model.specs.declared.event.Event.{Event}
@@ -21,18 +21,12 @@ IsFirst n r mine w = (w < n) × (is_least_waiting r mine w ≡ true)
 abbrev pub nobody : ℕ → ℕ → List Event → Bool
 nobody n r mine = all_below n (λ w. not (has_unserved_ask r mine w))
 
--- both of two tests pass
-pub both : (a b : Bool) → a && b ≡ true → (a ≡ true) × (b ≡ true)
-both true true is = (refl, refl)
-both true false is = cc
-both false b is = cc
-
 -- what all numbers below n pass, each of them passes
 pub one_passes : (n w : ℕ) (test : ℕ → Bool) → all_below n test ≡ true → w < n → test w ≡ true
 one_passes zero w test all low = absurd (omega arith)
 one_passes (suc n) w test all low = elim (cases_lt w n) [
-  | inl below ↦ one_passes n w test (both (test n) (all_below n test) all).1 below
-  | inr above ↦ let same : n ≡ w = omega arith in subst (λ k. test k ≡ true) same (both (test n) (all_below n test) all).0
+  | inl below ↦ one_passes n w test (and_parts (test n) (all_below n test) all).1 below
+  | inr above ↦ let same : n ≡ w = omega arith in subst (λ k. test k ≡ true) same (and_parts (test n) (all_below n test) all).0
 ]
 
 -- all numbers up to p pass where p does and all below
@@ -52,7 +46,7 @@ somebody n r w mine first = go (nobody n r mine) refl
   where
     go : (t : Bool) → nobody n r mine ≡ t → t ≡ false
     go false is = refl
-    go true is = opposite (has_unserved_ask r mine w) (both (has_unserved_ask r mine w) _ first.1).0 (one_passes n w (λ q. not (has_unserved_ask r mine q)) is first.0)
+    go true is = opposite (has_unserved_ask r mine w) (and_parts (has_unserved_ask r mine w) _ first.1).0 (one_passes n w (λ q. not (has_unserved_ask r mine q)) is first.0)
 
 -- the first that waits is found exactly where not nobody waits
 pub found_iff : (n r : ℕ) (mine : List Event) (found : Option ℕ) → ((w : ℕ) → found ≡ Some w → IsFirst n r mine w) → (found ≡ None → nobody n r mine ≡ true) → (is_some found ≡ true → nobody n r mine ≡ false) × (nobody n r mine ≡ false → is_some found ≡ true)
@@ -61,7 +55,7 @@ found_iff n r mine (Some w) one none = (λ is. somebody n r w mine (one w refl),
 
 -- of two that are the least that waits none is lower
 pub not_lower : (n r w q : ℕ) (mine : List Event) → IsFirst n r mine w → IsFirst n r mine q → q < w → true ≡ false
-not_lower n r w q mine first other low = opposite (has_unserved_ask r mine q) (both (has_unserved_ask r mine q) _ other.1).0 (one_passes w q (λ k. not (has_unserved_ask r mine k)) (both (has_unserved_ask r mine w) _ first.1).1 low)
+not_lower n r w q mine first other low = opposite (has_unserved_ask r mine q) (and_parts (has_unserved_ask r mine q) _ other.1).0 (one_passes w q (λ k. not (has_unserved_ask r mine k)) (and_parts (has_unserved_ask r mine w) _ first.1).1 low)
 
 -- only one is the least that waits
 pub only_first : (n r w q : ℕ) (mine : List Event) → IsFirst n r mine w → IsFirst n r mine q → q ≡ w

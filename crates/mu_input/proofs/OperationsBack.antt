@@ -23,7 +23,7 @@ use Rattle.mu_input.specs.declared.bodies.BodyLine.{BodyLine}
 use Rattle.mu_input.specs.declared.bodies.BodyLine.TheVariants as body
 use Rattle.mu_input.specs.declared.cause.TheConstants.{CLIENT, OPERATION, KEY, VALUE, TOO_MANY}
 use Rattle.mu_input.proofs.SettingsBack.{numbered-spells}
-use Rattle.std.proofs.lemmas.Bool.{and_parts}
+use Rattle.std.proofs.lemmas.Bool.{and_parts, and_from}
 
 -- the key and the texts of an operation are such as a line may have
 abbrev pub IsJudged : Op → Type 0
@@ -77,15 +77,12 @@ op-spells (Cas key old new) is =
 judged-is : (key : List ℕ) (texts : Bool) (op : Op) → is_key key ≡ true → texts ≡ true → judged key texts op ≡ Says op
 judged-is key texts op good all = ap (λ b. cond b (cond texts (Says op) (Wrong VALUE)) (Wrong KEY)) good ∙ ap (λ b. cond b (Says op) (Wrong VALUE)) all
 
-both_true : (a b : Bool) → a ≡ true → b ≡ true → (a && b) ≡ true
-both_true a b e f = ap (λ a. a && b) e ∙ f
-
 operation-back : (op : Op) → IsJudged op → operation_of (op_pieces op) ≡ Says op
 operation-back (Put key text) is = judged-is key (is_text text) (Put key text) is.0 is.1
 operation-back (Get key) is = judged-is key true (Get key) is refl
 operation-back (Del key) is = judged-is key true (Del key) is refl
 operation-back (Swap key text) is = judged-is key (is_text text) (Swap key text) is.0 is.1
-operation-back (Cas key old new) is = judged-is key (is_short_text old && is_short_text new) (Cas key old new) is.0 (both_true (is_short_text old) (is_short_text new) is.1 is.2)
+operation-back (Cas key old new) is = judged-is key (is_short_text old && is_short_text new) (Cas key old new) is.0 (and_from (is_short_text old) (is_short_text new) is.1 is.2)
 
 -- what a line of an operation says after so many clients and commands
 abbrev asked : ℕ → ℕ → Line Op → Line BodyLine
