@@ -1,5 +1,5 @@
 -- Commands of clients.
-use Rattle.std.specs.Prelude.{ℕ, ◌≤◌, length, ⊤}
+use Rattle.std.specs.Prelude.{ℕ, List, ◌≤◌, length, ⊤}
 use Rattle.kv_store.specs.declared.TheConstants.{LAST_CLIENT, LAST_NUMBER, CAS_TEXT_BYTES}
 use Rattle.kv_store.specs.declared.command.Op.{Op}
 use Rattle.kv_store.specs.declared.command.Op.TheVariants.{Put, Get, Del, Swap, Cas}
@@ -10,6 +10,14 @@ pub record Request : Type 0 where
   pub client : ℕ
   pub number : ℕ
   pub op : Op
+
+-- the key that an operation is of
+abbrev pub key_of : Op → List ℕ
+key_of (Put key text) = key
+key_of (Get key) = key
+key_of (Del key) = key
+key_of (Swap key text) = key
+key_of (Cas key old new) = key
 
 -- both texts of a cas are short, so that they stand side by side where one text does
 abbrev pub HasShortTexts : Op → Type 0

@@ -13,11 +13,11 @@ use Rattle.mu_model.specs.Histories.{IsPrefixOf}
 
 grown_begins : (xs ys : List ℕ) (o : Option ℕ) → IsPrefixOf xs ys → IsPrefixOf xs (grown ys o)
 grown_begins xs ys None b = b
-grown_begins xs ys (Some v) b = record { rest = b.rest ++ v ∷ []; is = sym (append_assoc xs b.rest (v ∷ [])) ∙ ap (λ z. z ++ v ∷ []) b.is }
+grown_begins xs ys (Some v) b = (b.0 ++ v ∷ [], ap (λ z. z ++ v ∷ []) b.1 ∙ append_assoc xs b.0 (v ∷ []))
 
 -- what is known stays known
 pub known_stays : (c : Config) (r : ℕ) (newer older : List Event) → IsPrefixOf (known c r older) (known c r (newer ++ older))
-known_stays c r [] older = record { rest = []; is = append-nil (known c r older) }
+known_stays c r [] older = ([], sym (append-nil (known c r older)))
 known_stays c r (e ∷ newer) older =
     grown_begins (known c r older) (known c r (newer ++ older)) (learnt_by c r (newer ++ older) (length (known c r (newer ++ older))) e.by e.verb e.answer (e ∷ (newer ++ older))) (known_stays c r newer older)
 

@@ -202,7 +202,8 @@ later_above c g i j li lj e l =
     let at : i + 1 + (j - (i + 1)) ≡ j = omega arith in
     let same : rows_before c (client_of c i) (i + 1 + (j - (i + 1))) ≡ rows_before c (client_of c j) j = ap (rows_before c (client_of c i)) at ∙ ap (λ z. rows_before c z j) e in omega arith
 
-same_number_same_row : (c : Config) → IsConfig c → (i j : ℕ) → i < row_count c → j < row_count c → client_of c i ≡ client_of c j → number_of c i ≡ number_of c j → i ≡ j
+-- rows of the same client and number are one
+pub same_number_same_row : (c : Config) → IsConfig c → (i j : ℕ) → i < row_count c → j < row_count c → client_of c i ≡ client_of c j → number_of c i ≡ number_of c j → i ≡ j
 same_number_same_row c g i j li lj e n = elim (cases_order i j) [
   | inl same ↦ same
   | inr (inl l) ↦ absurd (let k = later_above c g i j li lj e l in omega arith)

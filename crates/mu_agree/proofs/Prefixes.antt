@@ -24,8 +24,8 @@ lists_agree (x ∷ xs) [] f = inr (x ∷ xs, refl)
 lists_agree (x ∷ xs) (y ∷ ys) f = go (f 0 x y refl refl) (lists_agree xs ys (λ i v w a b. f (suc i) v w a b))
   where
     go : x ≡ y → IsPrefixOf xs ys ⊎ IsPrefixOf ys xs → IsPrefixOf (x ∷ xs) (y ∷ ys) ⊎ IsPrefixOf (y ∷ ys) (x ∷ xs)
-    go e (inl b) = inl (b.0, ap (λ z. z ∷ (xs ++ b.0)) e ∙ ap (λ z. y ∷ z) b.1)
-    go e (inr b) = inr (b.0, ap (λ z. z ∷ (ys ++ b.0)) (sym e) ∙ ap (λ z. x ∷ z) b.1)
+    go e (inl b) = inl (b.0, ap (λ z. y ∷ z) b.1 ∙ ap (λ z. z ∷ (xs ++ b.0)) (sym e))
+    go e (inr b) = inr (b.0, ap (λ z. x ∷ z) b.1 ∙ ap (λ z. z ∷ (ys ++ b.0)) e)
 
 -- two known entries at one position are one value
 pub known_agree : (c : Config) (r s : ℕ) (past : List Event) → IsLegalHistory c past → (i v w : ℕ) → slice_get (known c r (part r past)) i ≡ Some v → slice_get (known c s (part s past)) i ≡ Some w → v ≡ w

@@ -1,5 +1,5 @@
 -- What stays of what a replica applied and committed.
-use Rattle.std.proofs.Common.{◌≡◌, ℕ, ◌≤◌, Bool, true, false, ◌==◌, ◌&&◌, List, [], ◌∷◌, ◌++◌, cond, refl, ap, ◌∙◌, arith, length, map, take, subst, None, Some}
+use Rattle.std.proofs.Common.{◌≡◌, ℕ, ◌≤◌, Bool, true, false, ◌==◌, ◌&&◌, List, [], ◌∷◌, ◌++◌, cond, refl, ap, ◌∙◌, arith, length, map, take, subst, None, Some, sym}
 use Rattle.std.specs.Prelude.{if◌then◌else◌}
 use Rattle.std.proofs.lemmas.List.{length_push, take-append-le}
 use Rattle.mu_model.specs.declared.config.Config.{Config}
@@ -26,8 +26,8 @@ pub applied_begins : (c : Config) (r : ℕ) (e : Event) (mine : List Event) → 
 applied_begins c r e mine =
     let begins = known_stays c r (e ∷ []) mine in
     let test : ℕ → Bool = λ v. has_entry c r v mine in
-    subst (λ values. take (length (applied c r mine)) values ≡ applied c r mine) begins.is
-    (take-append-le (length (applied c r mine)) (known c r mine) begins.rest (front_fits test (known c r mine)) ∙ front_begins test (known c r mine))
+    subst (λ values. take (length (applied c r mine)) values ≡ applied c r mine) (sym begins.1)
+    (take-append-le (length (applied c r mine)) (known c r mine) begins.0 (front_fits test (known c r mine)) ∙ front_begins test (known c r mine))
 
 -- what is applied begins what is known
 pub applied_is : (c : Config) (r : ℕ) (mine : List Event) → take (length (applied c r mine)) (known c r mine) ≡ applied c r mine

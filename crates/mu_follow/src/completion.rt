@@ -5,7 +5,7 @@ ghost use Rattle.mu_model.specs.Contents.{IsConfig, includes, row_count, rows_of
 ghost use Rattle.mu_model.specs.Histories.{all_below};
 ghost use Rattle.mu_follow.specs.Completion.{HoldsCompletion, IsFirstMissing, MarksRows, full_of};
 
-use mu_model::{Config, NoMemory, row_rest, stands_for_batch};
+use mu_model::{Config, NoMemory, PAYLOADS, row_rest, stands_for_batch};
 use std::alloc::Global;
 
 /// Which rows the first entries of a log hold, and how many entries hold all.
@@ -37,8 +37,8 @@ fn hold_entry(held: &mut [bool], config: &Config, v: u16)
         → MarksRows config.now (λ j. had j || includes j (rows_of config.now v)) held.new }
 {
     if stands_for_batch(config, v) {
-        let row = usize::from(v % 4096);
-        let rows = usize::from(row_rest(config, v % 4096)) + 1;
+        let row = usize::from(v % PAYLOADS);
+        let rows = usize::from(row_rest(config, v % PAYLOADS)) + 1;
         for t in 0..rows {
             hold_row(held, row + t);
         }

@@ -21,7 +21,7 @@ use crate::progress::Progress;
 use crate::published::Published;
 use mu_filled::FilledLog;
 use mu_known::{Commit, HeldRows, KnownLog};
-use mu_model::{Config, NoMemory, Verb, positions_in, row_rest, stands_for_batch};
+use mu_model::{Config, NoMemory, PAYLOADS, Verb, positions_in, row_rest, stands_for_batch};
 use std::alloc::Global;
 
 /// How many places a cycle has beside two for each replica.
@@ -122,7 +122,7 @@ fn missing_row(config: &Config, fetching: &HeldRows, v: u16) -> Option<Verb>
         → result ≡ first_word_of config.now r mine (Some v) }
 {
     if stands_for_batch(config, v) {
-        let rows = u16::from(row_rest(config, v % 4096)) + 1;
+        let rows = u16::from(row_rest(config, v % PAYLOADS)) + 1;
         let had = rows_had(fetching, v, rows);
         if had < rows {
             return Some(Verb::ReadRow(v.saturating_add(had), 0));

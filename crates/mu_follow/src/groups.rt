@@ -10,7 +10,7 @@ ghost use Rattle.mu_follow.specs.Follow.{StandsForFollow};
 ghost use Rattle.mu_follow.specs.Groups.{group_of};
 
 use crate::follow::Follow;
-use mu_model::{Config, Row, row_rest, stands_for_batch};
+use mu_model::{Config, PAYLOADS, Row, row_rest, stands_for_batch};
 
 /// An entry that is known, with all its rows, and was not applied yet.
 #[derive(Clone, Copy)]
@@ -41,8 +41,8 @@ fn group(config: &Config, v: u16) -> &[Row]
 {
     let rows = config.rows.as_slice();
     if stands_for_batch(config, v) {
-        let count = usize::from(row_rest(config, v % 4096)) + 1;
-        first_rows(rows_after(rows, usize::from(v % 4096)), count)
+        let count = usize::from(row_rest(config, v % PAYLOADS)) + 1;
+        first_rows(rows_after(rows, usize::from(v % PAYLOADS)), count)
     } else {
         first_rows(rows, 0)
     }

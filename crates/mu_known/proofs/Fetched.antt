@@ -97,8 +97,8 @@ front_grows test later on (x ∷ xs) rest = go (test x) refl (front_grows test l
 pub applied_grows : (c : Config) (r : ℕ) (mine : List Event) (e : Event) → length (applied c r mine) ≤ length (applied c r (e ∷ mine))
 applied_grows c r mine e =
     let begins = known_stays c r (e ∷ []) mine in
-    let more = front_grows (λ v. has_entry c r v mine) (λ v. has_entry c r v (e ∷ mine)) (λ v is. entry_stays c r v e mine is) (known c r mine) begins.rest in
-    subst (λ values. length (applied c r mine) ≤ length (fetched_prefix c r (e ∷ mine) values)) begins.is more
+    let more = front_grows (λ v. has_entry c r v mine) (λ v. has_entry c r v (e ∷ mine)) (λ v is. entry_stays c r v e mine is) (known c r mine) begins.0 in
+    subst (λ values. length (applied c r mine) ≤ length (fetched_prefix c r (e ∷ mine) values)) (sym begins.1) more
 
 -- one more of the values before the first that fails
 pub front_more : (test : ℕ → Bool) (xs : List ℕ) (n v : ℕ) → n ≤ length (front test xs) → slice_get xs n ≡ Some v → test v ≡ true → n + 1 ≤ length (front test xs)

@@ -8,7 +8,7 @@ ghost use Rattle.mu_model.specs.Knowledge.{applied, fetched_prefix, has_entry, h
 ghost use Rattle.mu_model.specs.Parts.{IsPossible};
 ghost use Rattle.mu_known.specs.HeldRows.{AreThere, HasWords, StandsForHeldRows, IsOfRows, WroteWords, is_of_row, word_place};
 
-use mu_model::{Config, Event, NoMemory, Verb, row_rest, stands_for_batch};
+use mu_model::{Config, Event, NoMemory, PAYLOADS, Verb, row_rest, stands_for_batch};
 use std::alloc::Global;
 
 /// The last word of a row.
@@ -150,7 +150,8 @@ impl HeldRows {
             → HasWords config.now r mine self.now.got.items
             → result ≡ has_entry config.now r v mine }
     {
-        !stands_for_batch(config, v) || self.has_rows(v, u16::from(row_rest(config, v % 4096)) + 1)
+        !stands_for_batch(config, v)
+            || self.has_rows(v, u16::from(row_rest(config, v % PAYLOADS)) + 1)
     }
 
     /// How many of the known entries the replica has in full before the first that it has not,

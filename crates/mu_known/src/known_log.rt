@@ -11,8 +11,8 @@ ghost use Rattle.mu_model.specs.Room.{reserve};
 ghost use Rattle.mu_known.specs.KnownLog.{CountsCommands, StandsForKnownLog, HoldsValues, IsPlaced, MarksReplicas, ReadsFuos, SeesEntries, TellsAccepted};
 
 use mu_model::{
-    Answer, Config, Event, NoMemory, Verb, positions_in, row_client, row_rest, stands_for_batch,
-    stands_for_mark,
+    Answer, Config, Event, NoMemory, PAYLOADS, Verb, positions_in, row_client, row_rest,
+    stands_for_batch, stands_for_mark,
 };
 use std::alloc::Global;
 
@@ -72,7 +72,7 @@ fn count_rows(counts: &mut [u16], config: &Config, v: u16)
         → CountsCommands config.now (values ++ v ∷ []) counts.new }
 {
     if stands_for_batch(config, v) {
-        let row = v % 4096;
+        let row = v % PAYLOADS;
         for t in 0..u16::from(row_rest(config, row)) + 1 {
             count_row(counts, config, row + t);
         }

@@ -10,7 +10,7 @@ use Rattle.mu_model.specs.declared.event.Verb.{Verb}
 use Rattle.mu_model.specs.Bounds.{is_at_most}
 use Rattle.mu_model.specs.Contents.{row_count}
 use Rattle.mu_model.specs.Entering.{has_read_min, last_opened, open_target}
-use Rattle.mu_model.specs.Histories.{has, since}
+use Rattle.mu_model.specs.Histories.{has}
 use Rattle.mu_model.specs.Knowledge.{is_filled, known, wrote}
 use Rattle.mu_model.specs.Leaderships.{grant_at_joining, has_begun, has_quorum, is_member, is_over, leadership, noted_grant, proposal_number}
 use Rattle.mu_model.specs.Picks.{first_value}

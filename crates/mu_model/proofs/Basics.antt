@@ -36,6 +36,16 @@ pub none_of_or : (a b : Bool) → (a || b) ≡ false → a ≡ false
 none_of_or true b is = absurd (true≢false is)
 none_of_or false b is = refl
 
+-- where one of two tests fails, not both pass
+pub false_and : (a b : Bool) → a ≡ false → (a && b) ≡ false
+false_and true b is = absurd (true≢false is)
+false_and false b is = refl
+
+-- the same of the second
+pub and_false : (a b : Bool) → b ≡ false → (a && b) ≡ false
+and_false true b is = is
+and_false false b is = refl
+
 -- all numbers up to p pass where p does and all below
 pub all_more : (p : ℕ) (test : ℕ → Bool) (t one : Bool) → one ≡ test p → t ≡ (one && all_below p test) → t ≡ all_below (p + 1) test
 all_more p test t one told is =

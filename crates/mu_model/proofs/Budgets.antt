@@ -60,6 +60,10 @@ within n b r (e ∷ past) h = by_test (e.by == r) refl (within n b r past h.0)
         rw is (omega (arith, same, room))
     by_test false is before = rw is before
 
+-- no part of a legal history is longer than the budget
+pub part_within_budget : (c : Config) (r : ℕ) (past : List Event) → IsLegalHistory c past → length (part r past) ≤ c.budget
+part_within_budget c r past legal = within c.replicas c.budget r past (legal_keeps c past legal)
+
 at_most : (n b : ℕ) (past : List Event) → ((r : ℕ) → length (part r past) ≤ b) → sizes n past ≤ n * b
 at_most zero b past each = omega arith
 at_most (suc n) b past each = omega (arith, at_most n b past each, each n)

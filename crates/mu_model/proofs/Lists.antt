@@ -6,6 +6,12 @@ use Rattle.std.proofs.lemmas.Bool.{cases_lt, eqb-false}
 use Rattle.std.proofs.lemmas.Option.{slice_get-get_or, slice_get_within}
 use Rattle.mu_model.proofs.Basics.{same_some}
 
+-- at each index below the length something stands
+pub item_below : {A : Type 0} (xs : List A) (i : ℕ) → i < length xs → (x : A) × (slice_get xs i ≡ Some x)
+item_below [] i l = absurd (omega arith)
+item_below (x ∷ xs) zero l = (x, refl)
+item_below (x ∷ xs) (suc i) l = item_below xs i (omega arith)
+
 -- what stands at a place after a push
 pub get_push_here : {A : Type 0} (xs : List A) (i : ℕ) (z : A) → i ≡ length xs → slice_get (xs ++ z ∷ []) i ≡ Some z
 get_push_here [] zero z e = refl

@@ -5,6 +5,7 @@ use Rattle.mu_model.specs.declared.event.Event.{Event}
 use Rattle.mu_model.specs.declared.event.Answer.{Answer}
 use Rattle.mu_model.specs.declared.event.Verb.{Verb}
 use Rattle.mu_model.specs.Histories.{before, earlier_or, greatest, has, how_many, max_with, newer_or, newest, oldest, part, since}
+use Rattle.mu_model.specs.Regions.{is_ask_by, is_beat_by}
 use Rattle.mu_model.specs.Leaderships.{begins_leadership, fence_seen, grant_for, is_first_ask, noted_grant}
 
 -- the test passes no event of another replica
@@ -97,3 +98,19 @@ pub noted-part : (r p : ℕ) (past : List Event) → noted_grant r p (part r pas
 noted-part r p past =
     ap (λ l. grant_for r (newest (λ e. fence_seen r p e.by e.verb e.answer) l)) (since-part (begins_leadership r) r (begins-own r) past)
     ∙ ap (grant_for r) (newest-part (λ e. fence_seen r p e.by e.verb e.answer) r (fence_seen-own r p) (since (begins_leadership r) past))
+
+-- its own beats alone are its beats
+pub beats-own : (q : ℕ) → IsOwnTest q (λ e. is_beat_by q e.by e.verb)
+beats-own q = record { own = λ e h. go e.by e.verb h }
+  where
+    go : (by : ℕ) (v : Verb) → (by == q) ≡ false → is_beat_by q by v ≡ false
+    go by Verb.Beat h = h
+    go by v h = refl
+
+-- and its own asks its asks
+pub asks-own : (w p : ℕ) → IsOwnTest w (λ e. is_ask_by w p e.by e.verb)
+asks-own w p = record { own = λ e h. go e.by e.verb h }
+  where
+    go : (by : ℕ) (v : Verb) → (by == w) ≡ false → is_ask_by w p by v ≡ false
+    go by (Verb.Ask q) h = rw h refl
+    go by v h = refl

@@ -4,7 +4,11 @@ use Rattle.std.proofs.lemmas.List.{reverse-append}
 use Rattle.std.specs.Prelude.{reverse}
 use Rattle.std.specs.List.{filter}
 use Rattle.mu_model.specs.declared.event.Event.{Event}
+use Rattle.mu_model.specs.declared.config.Config.{Config}
 use Rattle.mu_model.specs.Histories.{history, part}
+use Rattle.mu_model.specs.Legal.{IsLegalHistory}
+use Rattle.mu_model.specs.Parts.{IsPossible}
+use Rattle.mu_model.proofs.Basics.{same_number}
 
 pub filter-append : {A : Type 0} (test : A → Bool) (xs ys : List A) → filter test (xs ++ ys) ≡ filter test xs ++ filter test ys
 filter-append test [] ys = refl
@@ -34,3 +38,15 @@ filter-reverse test (x ∷ xs) = step ∙ by_test (test x) refl (filter-reverse 
 -- the history of a part is the part of the history
 pub history-part : (r : ℕ) (events : List Event) → history (part r events) ≡ part r (history events)
 history-part r events = sym (filter-reverse (λ e. e.by == r) events)
+
+-- the part of the replica that made the newest event
+pub part_of_maker : (e : Event) (past : List Event) → part e.by (e ∷ past) ≡ e ∷ part e.by past
+part_of_maker e past = rw (same_number e.by) refl
+
+-- a part of a legal history is possible
+pub part_is_possible : (c : Config) (r : ℕ) (past : List Event) → IsLegalHistory c past → IsPossible c r (part r past)
+part_is_possible c r past legal = record { past = past; legal = legal; is = refl }
+
+-- and so is that of who made the newest event
+pub possible_for_maker : (c : Config) (e : Event) (past : List Event) → IsLegalHistory c (e ∷ past) → IsPossible c e.by (e ∷ part e.by past)
+possible_for_maker c e past legal = record { past = e ∷ past; legal = legal; is = part_of_maker e past }

@@ -2,9 +2,10 @@
 use Rattle.std.proofs.Common.{◌⊎◌, inl, inr, ◌≡◌, ℕ, zero, suc, ◌+◌, ◌-◌, ◌%◌, ◌<◌, ◌≤◌, Bool, true, false, List, [], ◌∷◌, ◌++◌, refl, sym, ◌∙◌, ap, arith, length, take, get_or, ◌&&◌, ◌==◌}
 use Rattle.std.specs.Prelude.{if◌then◌else◌, ◌||◌}
 use Rattle.mu_model.specs.declared.config.Config.{Config}
-use Rattle.mu_model.specs.Contents.{client_of, command_count, is_mark, marked, number_of, numbers_in, rows_from, rows_of, session}
+use Rattle.mu_model.specs.Contents.{client_of, command_count, is_mark, marked, number_of, numbers_in, rows_from, rows_in, rows_of, session}
 use Rattle.mu_model.specs.Histories.{all_below, history}
 use Rattle.mu_model.specs.Knowledge.{fetched_prefix, has_entry}
+use Rattle.mu_model.specs.Scores.{least_below}
 use Rattle.std.proofs.lemmas.Bool.{and_parts, cases_eq, and_from, cases_lt}
 use Rattle.std.proofs.lemmas.List.{reverse-append, take_more, append-nil, append_assoc, length-append}
 use mathlib.Core.List.{reverse}
@@ -95,3 +96,18 @@ number_least b r x y e l h = elim (cases_lt (x + 8) b) [
 
 pub next_is : (b r x y : ℕ) → b % 8 ≡ r → ((n : ℕ) → n % 8 ≡ r → 8 ≤ n → x < n → y < n → b ≤ n) → (b < 16) ⊎ ((b ≤ x + 8) ⊎ (b ≤ y + 8))
 next_is b r x y e h = elim (cases_lt b 16) [ inl l ↦ inl l | inr l ↦ inr (number_least b r x y e l h) ]
+
+-- the rows of a list are those of its front and those of its back
+pub rows_in-append : (c : Config) (xs ys : List ℕ) → rows_in c (xs ++ ys) ≡ rows_in c xs ++ rows_in c ys
+rows_in-append c [] ys = refl
+rows_in-append c (x ∷ xs) ys = ap (λ l. rows_of c x ++ l) (rows_in-append c xs ys) ∙ sym (append_assoc (rows_of c x) (rows_in c xs) (rows_in c ys))
+
+-- the least number below n that passes is at most n
+pub least_below_fits : (n : ℕ) (test : ℕ → Bool) → least_below n test ≤ n
+least_below_fits zero test = omega arith
+least_below_fits (suc n) test = go (least_below n test == n) (test n) (least_below_fits n test)
+  where
+    go : (s t : Bool) → least_below n test ≤ n → (if s then (if t then n else n + 1) else least_below n test) ≤ suc n
+    go true true fits = omega arith
+    go true false fits = omega arith
+    go false t fits = omega (arith, fits)

@@ -41,6 +41,13 @@ looked_before_entering c r p i past =
     (since (λ e. is_slot_put_at r p c.ring i e.by e.verb)
     (before (is_enter_of r p) (since_joining r p past)))
 
+-- a look at i in p, made since p became a member, was no `Past`, and no put came since at that
+-- place
+abbrev pub has_looked_since : Config → ℕ → ℕ → ℕ → List Event → Bool
+has_looked_since c r p i mine =
+    has (λ e. is_good_look (look_answer r p i e.by e.verb e.answer))
+    (since (λ e. is_slot_put_at r p c.ring i e.by e.verb) (since_joining r p mine))
+
 -- the step is a put of r at p and j of the known value, answered `Done`
 abbrev pub is_known_put : List ℕ → ℕ → ℕ → ℕ → ℕ → Verb → Answer → Bool
 is_known_put values r p j by (Verb.PutSlot q i b v) Answer.Done =

@@ -103,6 +103,11 @@ is_min_put_verb p _ = false
 abbrev pub is_min_put : ℕ → Event → Bool
 is_min_put p e = is_min_put_verb p e.verb
 
+-- the verb is a `PutSlot`
+abbrev pub is_slot_put_verb : Verb → Bool
+is_slot_put_verb (Verb.PutSlot p i b v) = true
+is_slot_put_verb _ = false
+
 -- the verb raises the FUO of p above i
 abbrev pub is_raise_above_verb : ℕ → ℕ → Verb → Bool
 is_raise_above_verb p i (Verb.RaiseFuo q u) = (q == p) && nat_lt i u

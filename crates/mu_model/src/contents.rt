@@ -5,6 +5,14 @@ ghost use Rattle.mu_model.specs.Room.{reserve};
 
 use crate::config::Config;
 
+/// How many payload numbers each replica has: those of replica `r` are from `r * PAYLOADS` on, and
+/// what is left of one after a division stands for a row or a mark.
+pub const PAYLOADS: u16 = 4096;
+
+/// What is left of the payload number that stands for the mark of replica 0; those of the others
+/// follow. No job has so many rows.
+pub const FIRST_MARK: u16 = 4080;
+
 /// How many rows the job has.
 pub fn count_of_rows(config: &Config) -> usize
     ensures { result ≡ row_count config.now }
@@ -85,19 +93,19 @@ fn is_batch_start(config: &Config, j: u16) -> bool
 pub fn stands_for_batch(config: &Config, v: u16) -> bool
     ensures { result ≡ is_batch config.now v }
 {
-    v / 4096 < u16::from(config.replicas)
-        && usize::from(v % 4096) < count_of_rows(config)
-        && is_batch_start(config, v % 4096)
+    v / PAYLOADS < u16::from(config.replicas)
+        && usize::from(v % PAYLOADS) < count_of_rows(config)
+        && is_batch_start(config, v % PAYLOADS)
 }
 
 /// Whether `v` stands for a mark of `q`.
 pub fn stands_for_mark(config: &Config, q: u8, v: u16) -> bool
     ensures { result ≡ is_mark config.now q v }
 {
-    v / 4096 < u16::from(config.replicas)
+    v / PAYLOADS < u16::from(config.replicas)
         && config.version == 2
         && q < config.replicas
-        && v % 4096 == 4080 + u16::from(q)
+        && v % PAYLOADS == FIRST_MARK + u16::from(q)
 }
 
 /// How many of some rows of a batch are the client's.
@@ -123,8 +131,8 @@ pub fn count_of_commands(config: &Config, client: u64, v: u16) -> u64
     ensures few { result ≤ 256 }
 {
     if stands_for_batch(config, v) {
-        let rows = u64::from(row_rest(config, v % 4096)) + 1;
-        rows_of_client(config, client, rows, v % 4096)
+        let rows = u64::from(row_rest(config, v % PAYLOADS)) + 1;
+        rows_of_client(config, client, rows, v % PAYLOADS)
     } else {
         0
     }

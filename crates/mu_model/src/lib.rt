@@ -16,8 +16,8 @@ mod sequence;
 
 pub use config::{Config, Row, Rows};
 pub use contents::{
-    count_of_commands, count_of_rows, positions_in, reserve_of, row_client, row_number, row_rest,
-    row_word, stands_for_batch, stands_for_mark,
+    FIRST_MARK, PAYLOADS, count_of_commands, count_of_rows, positions_in, reserve_of, row_client,
+    row_number, row_rest, row_word, stands_for_batch, stands_for_mark,
 };
 pub use event::{Answer, Event, Fence, Target, Verb};
 pub use journal::Journal;

@@ -13,7 +13,7 @@ use crate::hosting::{
 use crate::knowledge::{are_filled, known_length};
 use crate::leadership::{grant_noted, has_asked, has_ended};
 use crate::placing::{has_reached, may_put_slot};
-use mu_model::{Config, Event, Fence, Verb, count_of_rows, reserve_of, row_word};
+use mu_model::{Config, Event, Fence, PAYLOADS, Verb, count_of_rows, reserve_of, row_word};
 
 /// The region that was asked last.
 fn asked_last(r: u8, part: &[Event]) -> Option<u8>
@@ -68,8 +68,8 @@ fn meets_needs(config: &Config, r: u8, part: &[Event], verb: &Verb) -> bool
             && k < 12
             && x == row_word(config, j, k)
             && !has_written(r, u64::from(j), k, part),
-        Verb::ReadRow(v, k) => v / 4096 < u16::from(n)
-            && usize::from(v % 4096) < count_of_rows(config)
+        Verb::ReadRow(v, k) => v / PAYLOADS < u16::from(n)
+            && usize::from(v % PAYLOADS) < count_of_rows(config)
             && k < 12,
         Verb::RaiseHead(h) => u64::from(h) <= applied_length(config, r, part)
             && has_reached(r, h, part),

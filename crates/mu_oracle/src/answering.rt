@@ -6,7 +6,7 @@ ghost use Rattle.mu_model.specs.Histories.{history};
 ghost use Rattle.mu_model.specs.Regions.{asks, beats, fence, fence_grant, region_fuo, region_head, region_log, region_min, row_word};
 
 use crate::leadership::grant_noted;
-use mu_model::{Answer, Config, Event, Fence, Target, Verb};
+use mu_model::{Answer, Config, Event, Fence, PAYLOADS, Target, Verb};
 
 /// The fence of `p`.
 fn fence_of(p: u8, events: &[Event]) -> Fence
@@ -127,7 +127,7 @@ fn word_of(v: u16, k: u8, events: &[Event]) -> u64
     let mut word = 0;
     for e in events {
         if let Verb::WriteRow(row, l, x) = e.verb {
-            if u16::from(e.by) == v / 4096 && row == v % 4096 && l == k {
+            if u16::from(e.by) == v / PAYLOADS && row == v % PAYLOADS && l == k {
                 word = x;
             }
         }

@@ -4,7 +4,7 @@ ghost use Rattle.mu_model.specs.Histories.{all_below, has, history};
 ghost use Rattle.mu_model.specs.Knowledge.{applied, fetched_prefix, front, has_entry, has_row, is_read, wrote, wrote_batch};
 
 use crate::knowledge::learnt;
-use mu_model::{Config, Event, Verb, row_rest, stands_for_batch};
+use mu_model::{Config, Event, PAYLOADS, Verb, row_rest, stands_for_batch};
 
 /// Whether `r` wrote word `k` of its row `j`.
 pub fn has_written(r: u8, j: u64, k: u8, part: &[Event]) -> bool
@@ -88,7 +88,8 @@ fn has_rows(n: u64, r: u8, v: u16, part: &[Event]) -> bool
 fn has_whole_entry(config: &Config, r: u8, v: u16, part: &[Event]) -> bool
     ensures { result ≡ has_entry config.now r v (history part.now) }
 {
-    !stands_for_batch(config, v) || has_rows(u64::from(row_rest(config, v % 4096)) + 1, r, v, part)
+    !stands_for_batch(config, v)
+        || has_rows(u64::from(row_rest(config, v % PAYLOADS)) + 1, r, v, part)
 }
 
 /// Whether `r` wrote so many of its rows from row `j` on.

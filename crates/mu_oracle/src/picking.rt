@@ -9,7 +9,9 @@ use crate::fetching::has_written_batch;
 use crate::knowledge::{commands_known, known_length};
 use crate::leadership::{is_in, starts_leadership};
 use crate::room::{is_offer_of_mark, leaves_room};
-use mu_model::{Answer, Config, Event, Verb, reserve_of, row_client, row_number, stands_for_batch};
+use mu_model::{
+    Answer, Config, Event, PAYLOADS, Verb, reserve_of, row_client, row_number, stands_for_batch,
+};
 
 /// Whether a region became a member by the event.
 fn joins(r: u8, part: &[Event], e: &Event) -> bool
@@ -103,10 +105,10 @@ fn is_own_offer(config: &Config, r: u8, part: &[Event], v: u16) -> bool
     ensures { result ≡ is_offer config.now r (history part.now) v }
 {
     stands_for_batch(config, v)
-        && v / 4096 == u16::from(r)
-        && has_written_batch(config, r, v % 4096, part)
-        && u64::from(row_number(config, v % 4096))
-            == commands_known(config, u64::from(row_client(config, v % 4096)), r, part) + 1
+        && v / PAYLOADS == u16::from(r)
+        && has_written_batch(config, r, v % PAYLOADS, part)
+        && u64::from(row_number(config, v % PAYLOADS))
+            == commands_known(config, u64::from(row_client(config, v % PAYLOADS)), r, part) + 1
 }
 
 /// Whether `pick` allows `v` at `i`.

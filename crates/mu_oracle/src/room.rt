@@ -9,7 +9,7 @@ ghost use Rattle.mu_model.specs.Room.{has_room, head_read, is_mark_candidate, la
 use crate::knowledge::{known_length, knows_mark};
 use crate::leadership::starts_leadership;
 use crate::scoring::has_failed;
-use mu_model::{Answer, Config, Event, Verb, reserve_of, stands_for_mark};
+use mu_model::{Answer, Config, Event, PAYLOADS, Verb, reserve_of, stands_for_mark};
 
 /// The last answer of `Head(q)`.
 fn last_head_of(r: u8, q: u8, part: &[Event]) -> u64
@@ -118,5 +118,5 @@ pub fn is_offer_of_mark(config: &Config, r: u8, part: &[Event], v: u16) -> bool
     ensures { result ≡ is_mark_offer config.now r (history part.now) v }
 {
     let limit = known_length(config, r, part) + u64::from(reserve_of(config));
-    v / 4096 == u16::from(r) && !marks_nobody(config.replicas, config, r, part, v, limit)
+    v / PAYLOADS == u16::from(r) && !marks_nobody(config.replicas, config, r, part, v, limit)
 }

@@ -49,21 +49,6 @@ before_grows c client j (suc n) own =
     go true k = omega arith
     go false k = omega arith
 
-not_below : (c : Config) → IsConfig c → (j k : ℕ) → j < k → k < row_count c → client_of c j ≡ client_of c k → number_of c j ≡ number_of c k → ⊥
-not_below c good j k less low own same =
-    let gap : (n : ℕ) × (k ≡ suc j + n) = between j k less in
-    let grows = before_grows c (client_of c k) j gap.0 own in
-    let there = ap (rows_before c (client_of c k)) gap.1 in
-    let first = good.numbers j (omega (arith, less, low)) ∙ ap (λ client. rows_before c client j + 1) own in
-    let second = good.numbers k low in
-    absurd (omega (arith, grows, there, first, second, same))
-  where
-    between : (a b : ℕ) → a < b → (n : ℕ) × (b ≡ suc a + n)
-    between zero zero less = absurd (omega (arith, less))
-    between zero (suc b) less = (b, omega arith)
-    between (suc a) zero less = absurd (omega (arith, less))
-    between (suc a) (suc b) less = let rest = between a b (omega (arith, less)) in let is = rest.1 in (rest.0, omega (arith, is))
-
 -- rows with the same command are one
 same_row : (job : Job) (j k : ℕ) (x : Request) → IsConfig job.config → HaveHeads job.config.width job.commands job.config.rows → slice_get job.commands j ≡ Some x → slice_get job.commands k ≡ Some x → j ≡ k
 same_row job j k x good have at there =

@@ -1,9 +1,12 @@
 -- What stands at an index of a list, and in the histories of its first items.
-use Rattle.std.proofs.Common.{List, [], ◌∷◌, ◌++◌, Some, ℕ, zero, suc, ◌+◌, ◌<◌, ◌≤◌, ◌≡◌, refl, sym, ap, ◌∙◌, arith, length, take, drop, append_assoc, get_or}
+use Rattle.std.proofs.Common.{List, [], ◌∷◌, ◌++◌, Some, ℕ, zero, suc, ◌+◌, ◌<◌, ◌≤◌, ◌≡◌, refl, sym, ap, ◌∙◌, arith, length, take, drop, append_assoc, get_or, subst}
 use Rattle.std.specs.List.{slice_get}
 use Rattle.std.proofs.lemmas.List.{reverse-append}
+use Rattle.mu_model.specs.declared.config.Config.{Config}
 use Rattle.mu_model.specs.declared.event.Event.{Event}
 use Rattle.mu_model.specs.Histories.{history}
+use Rattle.mu_model.specs.Legal.{IsLegal, IsLegalHistory}
+use Rattle.mu_agree.proofs.Legal.{legal_older}
 use Rattle.std.proofs.lemmas.Option.{slice_get-get_or, slice_get_within, get_or_from_slice_get}
 use Rattle.mu_model.proofs.Scans.{history_more}
 
@@ -49,3 +52,9 @@ read_there events i d l = slice_get-get_or events i d l
 -- the history of one event more, which is read at the index
 pub history_at_next : (events : List Event) (i : ℕ) (d : Event) → i < length events → history (take (i + 1) events) ≡ get_or events i d ∷ history (take i events)
 history_at_next events i d l = history_next events i (get_or events i d) (read_there events i d l)
+
+-- the event at an index of a legal list may come after those before it
+pub legal_there : (c : Config) (events : List Event) (i : ℕ) (d : Event) → IsLegal c events → i < length events → IsLegalHistory c (get_or events i d ∷ history (take i events))
+legal_there c events i d legal low =
+    legal_older c (history (drop (suc i) events)) (get_or events i d ∷ history (take i events))
+    (subst (λ l. IsLegalHistory c l) (history_at events i (get_or events i d) (read_there events i d low)) legal)

@@ -4,10 +4,7 @@ ghost use Rattle.mu_outcome.specs.Entries.{commands_of as commands_of_value};
 
 use kv_store::Command;
 use mu_input::Job;
-use mu_model::{row_rest, stands_for_batch};
-
-/// How many payload numbers each replica has.
-const PAYLOADS: u16 = 4096;
+use mu_model::{PAYLOADS, row_rest, stands_for_batch};
 
 /// The commands that a payload number stands for: those of its batch, and none where it stands for
 /// no batch. Takes no memory.

@@ -66,14 +66,11 @@ twice_paid pays [] older = refl
 twice_paid pays (e ∷ window) older = let ih = twice_paid pays window older in omega arith
 
 -- what is known grows
-grown_long : (values : List ℕ) (o : Option ℕ) → length values ≤ length (grown values o)
-grown_long values None = omega arith
-grown_long values (Some v) = omega (arith, length-append values (v ∷ []))
-
 pub known_grows : (c : Config) (r : ℕ) (newer older : List Event) → length (known c r older) ≤ length (known c r (newer ++ older))
 known_grows c r [] older = omega arith
 known_grows c r (e ∷ newer) older = let a = known_grows c r newer older in let b = known_longer c r e (newer ++ older) in omega arith
 
+-- the greatest of a leadership grows
 pub greatest_on : (tells : Event → Option ℕ) (r : ℕ) (e : Event) (past : List Event) → begins_leadership r e ≡ false → greatest tells (leadership r past) ≤ greatest tells (leadership r (e ∷ past))
 greatest_on tells r e past b = rw b (max_with_grows (tells e) (greatest tells (leadership r past)))
 

@@ -17,7 +17,7 @@ ghost use Rattle.mu_parts.specs.Parts.{StandsForReplica};
 
 use crate::replica::Replica;
 use mu_model::{
-    Config, Target, reserve_of, row_client, row_number, stands_for_batch, stands_for_mark,
+    Config, PAYLOADS, Target, reserve_of, row_client, row_number, stands_for_batch, stands_for_mark,
 };
 
 /// Whether all points hold.
@@ -99,7 +99,7 @@ impl Replica {
     {
         let limit = self.known_log.known().len() as u64 + u64::from(reserve_of(config));
         let nobody = self.marks_nobody(config, v, limit);
-        v / 4096 == u16::from(self.replica) && !nobody
+        v / PAYLOADS == u16::from(self.replica) && !nobody
     }
 
     /// Whether `v` is an own batch, written in full, and the next of its client.
@@ -108,12 +108,12 @@ impl Replica {
         ensures { (r : ℕ) → (mine : List Event) → StandsForReplica config.now r mine self.now
             → result ≡ is_offer config.now r mine v }
     {
-        let row = v % 4096;
+        let row = v % PAYLOADS;
         if !stands_for_batch(config, v) {
             return false;
         }
         let count = self.known_log.count_of(row_client(config, row));
-        v / 4096 == u16::from(self.replica)
+        v / PAYLOADS == u16::from(self.replica)
             && self.held_rows.wrote_batch(config, row)
             && u32::from(row_number(config, row)) == u32::from(count) + 1
     }

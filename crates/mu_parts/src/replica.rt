@@ -17,7 +17,7 @@ use mu_grant::Grants;
 use mu_known::{HeldRows, KnownLog};
 use mu_leading::{Heads, Leadership};
 use mu_looks::Looks;
-use mu_model::{Config, Event, NoMemory, Verb, positions_in, row_word};
+use mu_model::{Config, Event, NoMemory, PAYLOADS, Verb, positions_in, row_word};
 use std::alloc::Global;
 
 /// What the events of one replica so far let it do next.
@@ -160,8 +160,8 @@ impl Replica {
                 && k < 12
                 && x == row_word(config, j, k)
                 && !self.held_rows.has_written(j, k),
-            Verb::ReadRow(v, k) => v / 4096 < u16::from(n)
-                && usize::from(v % 4096) < config.rows.len()
+            Verb::ReadRow(v, k) => v / PAYLOADS < u16::from(n)
+                && usize::from(v % PAYLOADS) < config.rows.len()
                 && k < 12,
             Verb::RaiseHead(h) => usize::from(h) <= self.held_rows.applied_length()
                 && self.looks.reaches_head(h),

@@ -15,7 +15,7 @@ use crate::effects::{
     beats_after, fence_after, fuo_after, head_after, minimum_after, note_ask, note_drain,
     note_grant, note_put, note_word,
 };
-use mu_model::{Answer, Config, Event, Fence, NoMemory, Target, Verb, positions_in};
+use mu_model::{Answer, Config, Event, Fence, NoMemory, PAYLOADS, Target, Verb, positions_in};
 use std::alloc::Global;
 
 /// What the region `id` holds, with the rows of its replica.
@@ -203,7 +203,7 @@ impl Region {
         ensures { (c : Config) → (past : List Event) → v % 4096 < row_count c → k < 12
             → Holds c (v / 4096) past self.now → result ≡ row_word v k past }
     {
-        let at = usize::from(v % 4096) * 12 + usize::from(k);
+        let at = usize::from(v % PAYLOADS) * 12 + usize::from(k);
         self.words.get(at).copied().unwrap_or(0)
     }
 

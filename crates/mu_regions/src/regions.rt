@@ -8,7 +8,7 @@ ghost use Rattle.mu_regions.specs.Range.{InRange, IsNear, is_first, read_at};
 ghost use Rattle.mu_regions.specs.Stands.{HoldsEach, Stands};
 
 use crate::region::Region;
-use mu_model::{Answer, Config, Event, NoMemory, Verb};
+use mu_model::{Answer, Config, Event, NoMemory, PAYLOADS, Verb};
 use std::alloc::Global;
 
 /// What all regions hold after a list of events, kept up to date event by event. An answer and an
@@ -35,7 +35,7 @@ fn region_read(by: u8, verb: &Verb) -> u16
         | Verb::RaiseFuo(p, _)
         | Verb::Head(p)
         | Verb::ReadBeat(p) => u16::from(p),
-        Verb::ReadRow(v, _) => v / 4096,
+        Verb::ReadRow(v, _) => v / PAYLOADS,
         Verb::WriteRow(_, _, _)
         | Verb::RaiseHead(_)
         | Verb::Beat

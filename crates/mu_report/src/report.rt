@@ -12,7 +12,7 @@ use crate::words::{push_end, push_name, push_op, push_reply};
 use kv_store::{Command, Reply};
 use mu_input::Job;
 use mu_io::{Sink, WriteFault};
-use mu_model::{End, stands_for_mark};
+use mu_model::{End, FIRST_MARK, PAYLOADS, stands_for_mark};
 use mu_outcome::{Outcome, Status, commands_of, longest};
 
 /// The status of the program after a run: done where all commands of the job are in the longest
@@ -147,7 +147,7 @@ fn print_entry<K: Sink>(
 fn gone_in(value: u16) -> u8
     ensures { result ≡ value % 4096 - 4080 }
 {
-    (value % 4096).saturating_sub(4080) as u8
+    (value % PAYLOADS).saturating_sub(FIRST_MARK) as u8
 }
 
 /// A replica that is gone from this position on.

@@ -14,9 +14,6 @@ use Rattle.mu_agree.proofs.Entering.{slot_entered}
 use Rattle.mu_words.specs.Founds.{AllowedArePrepared, IsInRing, last_entered}
 
 -- an open `Enter` is the last one
-none_open : (t : Target) → has_target t ≡ true → Some Target.None ≡ Some t → ⊥
-none_open t g e = no_target t e g
-
 open_ask : (r p q : ℕ) (t : Target) (mine : List Event) (by : ℕ) (a : Answer) → (x : Bool) → is_first_ask r by (Verb.Ask q) ≡ x → (open_target r p mine ≡ Some t → last_entered p mine ≡ Some t)
     → open_target r p (record { by = by; verb = Verb.Ask q; answer = a } ∷ mine) ≡ Some t → last_entered p mine ≡ Some t
 open_ask r p q t mine by a true h ih = rw h (λ o. cc)
@@ -26,17 +23,17 @@ open_enter : (r p q : ℕ) (u t : Target) (mine : List Event) (by : ℕ) (a : An
     → open_target r p (record { by = by; verb = Verb.Enter q u; answer = a } ∷ mine) ≡ Some t → last_entered p (record { by = by; verb = Verb.Enter q u; answer = a } ∷ mine) ≡ Some t
 open_enter r p q u t mine by Answer.Entered g h true k ih = rw (h, k) (λ o. o)
 open_enter r p q u t mine by Answer.Entered g h false k ih = rw (h, k) (λ o. ih o)
-open_enter r p q u t mine by a g h true k ih = rw (h, k) (λ o. absurd (none_open t g o))
+open_enter r p q u t mine by a g h true k ih = rw (h, k) (λ o. absurd (no_target t o g))
 open_enter r p q u t mine by a g h false k ih = rw (h, k) (λ o. ih o)
 
 open_put : (r p q b : ℕ) (t : Target) (mine : List Event) (by : ℕ) (a : Answer) → has_target t ≡ true → (y : Bool) → ((by == r) && (q == p)) ≡ y → (open_target r p mine ≡ Some t → last_entered p mine ≡ Some t)
     → open_target r p (record { by = by; verb = Verb.PutMin q b; answer = a } ∷ mine) ≡ Some t → last_entered p mine ≡ Some t
-open_put r p q b t mine by a g true k ih = rw k (λ o. absurd (none_open t g o))
+open_put r p q b t mine by a g true k ih = rw k (λ o. absurd (no_target t o g))
 open_put r p q b t mine by a g false k ih = rw k (λ o. ih o)
 
 open_slot : (r p q i b v : ℕ) (t : Target) (mine : List Event) (by : ℕ) (a : Answer) → has_target t ≡ true → (y : Bool) → ((by == r) && (q == p)) ≡ y → (open_target r p mine ≡ Some t → last_entered p mine ≡ Some t)
     → open_target r p (record { by = by; verb = Verb.PutSlot q i b v; answer = a } ∷ mine) ≡ Some t → last_entered p mine ≡ Some t
-open_slot r p q i b v t mine by a g true k ih = rw k (λ o. absurd (none_open t g o))
+open_slot r p q i b v t mine by a g true k ih = rw k (λ o. absurd (no_target t o g))
 open_slot r p q i b v t mine by a g false k ih = rw k (λ o. ih o)
 
 open_step : (r p : ℕ) (t : Target) (mine : List Event) (by : ℕ) (v : Verb) (a : Answer) → has_target t ≡ true → (by == r) ≡ true → (open_target r p mine ≡ Some t → last_entered p mine ≡ Some t)

@@ -77,18 +77,15 @@ out_look : (c : Config) (r p by q i : ℕ) (t : Target) (ready : List Event → 
 out_look c r p by q i t ready past y s true h = rw h (λ o d f. s o d (y.quiet (event_after c past by (Verb.Look q i)) past refl f))
 out_look c r p by q i t ready past y s false h = rw h (λ o d f. s o d (y.quiet (event_after c past by (Verb.Look q i)) past refl f))
 
-not_none : (t : Target) → has_target t ≡ true → Some Target.None ≡ Some t → ⊥
-not_none t h e = no_target t e h
-
 out_put : (c : Config) (r p by q b : ℕ) (t : Target) (ready : List Event → Bool) (past : List Event) → has_target t ≡ true → Readiness ready r p → Outdated c r p t ready past → (a : Answer) → (x : Bool) → ((by == r) && (q == p)) ≡ x → (z : Bool) → is_same_target t Target.Min ≡ z
     → Outdated c r p t ready (record { by = by; verb = Verb.PutMin q b; answer = a } ∷ past)
-out_put c r p by q b t ready past g y s a true h z k = rw h (λ o. absurd (not_none t g o))
+out_put c r p by q b t ready past g y s a true h z k = rw h (λ o. absurd (no_target t o g))
 out_put c r p by q b t ready past g y s Answer.Done false h true k = rw (h, k) (λ o d f. s o d (y.quiet (record { by = by; verb = Verb.PutMin q b; answer = Answer.Done }) past refl f))
 out_put c r p by q b t ready past g y s Answer.Done false h false k = rw (h, k) (λ o d f. s o d (y.quiet (record { by = by; verb = Verb.PutMin q b; answer = Answer.Done }) past refl f))
 out_put c r p by q b t ready past g y s a false h z k = rw h (λ o d f. s o d (y.quiet (record { by = by; verb = Verb.PutMin q b; answer = a }) past refl f))
 
 out_slot : (c : Config) (r p by q i b v : ℕ) (t : Target) (ready : List Event → Bool) (past : List Event) → has_target t ≡ true → Readiness ready r p → Outdated c r p t ready past → (x : Bool) → ((by == r) && (q == p)) ≡ x → Outdated c r p t ready (event_after c past by (Verb.PutSlot q i b v) ∷ past)
-out_slot c r p by q i b v t ready past g y s true h = rw h (λ o. absurd (not_none t g o))
+out_slot c r p by q i b v t ready past g y s true h = rw h (λ o. absurd (no_target t o g))
 out_slot c r p by q i b v t ready past g y s false h = rw h (λ o d f. s o d (y.quiet (event_after c past by (Verb.PutSlot q i b v)) past refl f))
 
 out_enter : (c : Config) (r p by q : ℕ) (u t : Target) (ready : List Event → Bool) (past : List Event) → Readiness ready r p → Outdated c r p t ready past → (a : Answer) → (x : Bool) → ((by == r) && (q == p)) ≡ x

@@ -23,7 +23,7 @@ use Rattle.worked_leads.specs.Driven.{Beside}
 use Rattle.mu_model.specs.Steps.{is_slot_put_verb}
 use Rattle.mu_model.proofs.Parts.{part_of_maker}
 
--- and that of another
+-- the part of another replica than the one that made the newest event
 pub part_of_other : (r : ℕ) (e : Event) (past : List Event) → e.by ≢ r → part r (e ∷ past) ≡ part r past
 part_of_other r e past differ = let other : (e.by == r) ≡ false = ne_eqb e.by r differ in rw other refl
 
