@@ -1,5 +1,5 @@
 -- The counts of a leader's steps in each kind of turn of its node.
-use Rattle.std.proofs.Common.{◌≡◌, ◌∙◌, ◌==◌, ◌&&◌, ◌||◌, ◌<◌, ◌⊎◌, inl, inr, ℕ, Bool, true, false, None, Some, List, [], ◌∷◌, ap, arith, eqb-true, length, refl, subst, sym}
+use Rattle.std.proofs.Common.{◌≡◌, ◌∙◌, ◌==◌, ◌&&◌, ◌||◌, inl, inr, ℕ, Bool, true, false, None, Some, List, [], ◌∷◌, ap, arith, eqb-true, length, refl, subst, sym}
 use Rattle.std.specs.Prelude.{if◌then◌else◌, is_some, nat_lt, not}
 use Rattle.std.proofs.Math.Bool.{and-false}
 use Rattle.std.proofs.lemmas.Bool.{and_parts, le-ltb, true≢false}
@@ -31,7 +31,7 @@ use Rattle.mu_lead.specs.Evidence.{ExplainsNext}
 use Rattle.mu_lead.specs.Going.{begins_at}
 use Rattle.mu_lead.specs.Raising.{RaisesNext}
 use Rattle.mu_lead.specs.Rooms.{RoomsAt, RoomsNext, gives_up}
-use Rattle.mu_lead.specs.Standing.{At, StandsFor, known_told, verb_at, verb_of}
+use Rattle.mu_lead.specs.Standing.{At, known_told, verb_at, verb_of}
 use Rattle.mu_lead.specs.Welcomes.{JoinsNext}
 use Rattle.mu_lead.proofs.Confirms.{minima_come_in_time}
 use Rattle.mu_lead.specs.Causes.{CausesAt, CausesNext}
