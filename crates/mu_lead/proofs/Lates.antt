@@ -1,6 +1,6 @@
 -- Late followers that join.
 use Rattle.std.proofs.Common.{Bool, List, None, Some, ap, arith, false, get_or, inl, inr, is_some, refl, subst, sym, true, true≢false, ℕ, ◌&&◌, ◌<◌, ◌==◌, ◌||◌, ◌∙◌, ◌∷◌, ◌≡◌, ◌≢◌, ◌≤◌, ◌⊎◌}
-use Rattle.std.specs.Prelude.{nat_le, nat_lt, not, ◌++◌}
+use Rattle.std.specs.Prelude.{nat_le, nat_lt, not}
 use Rattle.std.specs.declared.option.Option.{Option}
 use Rattle.std.proofs.lemmas.Bool.{and_from, and_parts, cases_eq, le-leb, le-ltb, leb-true, ne_eqb}
 use Rattle.mu_model.specs.Parts.{IsPossible}
@@ -18,7 +18,6 @@ use Rattle.mu_model.specs.Leaderships.{grant_at_joining, is_above, is_changed, i
 use Rattle.mu_model.proofs.Basics.{event_by, none_some, same_number, same_some}
 use Rattle.mu_agree.proofs.Counting.{count_more}
 use Rattle.mu_lead.specs.declared.place.Then.{Then}
-use Rattle.mu_lead.specs.Confirming.{HasGrant}
 use Rattle.mu_lead.specs.Leading.{AtLateEnter, AtLateFuo, AtLateMin, AtLatePut, AtWiden, IsRaised, IsRead, Late, Leads, Level, SawPast, end_of, is_put_at}
 use Rattle.mu_lead.proofs.Copying.{fuo_read_now, fuo_read_other, none_put, stranger_clear}
 use Rattle.mu_lead.proofs.Keeping.{fuo_event, leads_kept, raised_other}

@@ -1,5 +1,5 @@
 -- The counts of a leader where an entry is brought to a region that lacks it.
-use Rattle.std.proofs.Common.{◌≡◌, ℕ, ◌<◌, inl, inr, true, false, Some, List, ◌∷◌, ap, length, refl, sym, true≢false}
+use Rattle.std.proofs.Common.{◌≡◌, ℕ, ◌<◌, inl, inr, true, false, Some, List, ◌∷◌, ap, refl, sym, true≢false}
 use Rattle.std.specs.Prelude.{not, ◌&&◌}
 use Rattle.std.specs.List.{slice_get}
 use Rattle.std.proofs.lemmas.Bool.{and_from, cases_lt, le-leb}
@@ -16,7 +16,7 @@ use Rattle.mu_model.proofs.Basics.{or_true, same_number}
 use Rattle.mu_pace.specs.Asking.{AsksCopying, far_copy, near_copied, near_last}
 use Rattle.mu_pace.specs.Members.{members_below}
 use Rattle.mu_pace.specs.Placed.{IsPlacedAt}
-use Rattle.mu_pace.specs.Weights.{Bringing, Copies, IsPlace, Lag, Sizes, Stage, copied, copied_last, is_first}
+use Rattle.mu_pace.specs.Weights.{Bringing, Copies, IsPlace, Lag, Sizes, Stage, copied, copied_last}
 use Rattle.mu_pace.proofs.Placed.{places_lead}
 use Rattle.mu_lead.specs.declared.place.Place.{Place}
 use Rattle.mu_lead.specs.declared.place.Then.{Then}
