@@ -1,7 +1,7 @@
 #!/usr/bin/env python3
 """Draws traces by itself, and compares with what `mu_draw` draws.
 
-    tools/picture_cases.py MU_DRAW [TRACE ..]     compares for each trace (legal ones alone), all steps
+    tools/picture_cases.py MU_DRAW [TRACE ..]     compares for each trace (legal ones alone): all steps, and parts
     tools/picture_cases.py --draw TRACE           prints the drawing
 
 It follows what docs/FORMATS.md and docs/PROTOCOL.md say, and shares nothing with the program: what a
@@ -71,20 +71,68 @@ class Job:
 
 
 class Replica:
-    """What one replica knows and leads."""
+    """What one replica knows, leads, and holds of the others."""
 
     def __init__(self):
         self.steps, self.known, self.fuos, self.seen = 0, [], {}, set()
-        self.begun, self.over, self.number = False, False, None
+        self.begun, self.over, self.number, self.given_up = False, False, None, False
         self.noted, self.joined, self.landed = {}, {}, {}
+        self.counts, self.points, self.failed = {}, {}, set()
+        self.head, self.heads, self.words, self.finished = 0, {}, set(), False
+
+    def leads(self):
+        """Whether a leadership is under way."""
+        return self.begun and not self.over and not self.given_up
+
+    def named(self, r):
+        """Whom its scores name: the least of itself and the others that are not failed."""
+        return next(q for q in range(r + 1) if q == r or q not in self.failed)
+
+    def hear(self, q, count):
+        """Takes a count of beats of another: a score from 0 to 15, failed below 2, alive above 6."""
+        changed = count != self.counts.get(q, 0)
+        points = self.points.get(q, 15)
+        self.points[q] = min(points + 1, 15) if changed else max(points - 1, 0)
+        self.counts[q] = count
+        if self.points[q] < 2:
+            self.failed.add(q)
+        elif self.points[q] > 6:
+            self.failed.discard(q)
+
+    def has_finished(self, job, r):
+        """Whether it applied all commands, and each other one did too, or is failed."""
+        applied, rows = 0, set()
+        while applied < len(self.known) and len(rows) < len(job.commands):
+            value = self.known[applied]
+            if job.version == 1 or value % 4096 < 4080:
+                row = value % 4096
+                batch = range(row, row + job.rests[row] + 1)
+                if not all((value // 4096, k, word) in self.words for k in batch for word in range(12)):
+                    return False
+                rows.update(batch)
+            applied += 1
+        return (len(rows) == len(job.commands) and self.head >= applied and all(
+            q == r or self.heads.get(q, -1) >= applied or q in self.failed for q in range(job.replicas)))
 
 
 def step(job, replica, r, verb, answer):
     """Takes a step of replica r: the value that it teaches, and whether it ends the leadership."""
     was_over, taught, ended = replica.over, None, False
     kind = verb[0]
-    if kind == "ask" and verb[1] == "0":
-        replica.begun, replica.over, replica.number = True, False, None
+    if kind == "beat" and replica.steps % 2 == 1 and replica.named(r) != r:
+        replica.given_up = True
+    elif kind == "readbeat":
+        replica.hear(int(verb[1]), int(answer[0]))
+    elif kind == "head":
+        replica.heads[int(verb[1])] = int(answer[0])
+    elif kind == "raisehead":
+        replica.head = max(replica.head, int(verb[1]))
+    elif kind == "writerow":
+        replica.words.add((r, int(verb[1]), int(verb[2])))
+    elif kind == "readrow":
+        replica.words.add((int(verb[1]) // 4096, int(verb[1]) % 4096, int(verb[2])))
+    elif kind == "ask" and verb[1] == "0":
+        replica.begun, replica.over, replica.number, replica.given_up = True, False, None, False
         replica.noted, replica.joined, replica.landed = {}, {}, {}
     elif kind == "fence":
         p, owner, grant, closing = int(verb[1]), answer[1], int(answer[2]), answer[3] == "closing"
@@ -157,7 +205,7 @@ def lane(r):
     return 64 + 150 * r
 
 
-def deed(job, out, replica, r, verb, answer, taught, ended, granted, y):
+def deed(job, out, replica, r, verb, answer, taught, ended, resigned_to, granted, y):
     """Draws a step: the words of its note, or None where it isn't drawn. With out None, draws nothing."""
     out = out or Drawing()
     kind, x, lost = verb[0], lane(r), ", it leads no more"
@@ -198,30 +246,66 @@ def deed(job, out, replica, r, verb, answer, taught, ended, granted, y):
         out.bar("w", x + 1, y, 14)
         return {"enter": f" is not let into {p}", "fence": f" sees another grant at {p}",
                 "min": f" reads a greater number at {p}"}[kind] + lost
+    elif resigned_to is not None:
+        out.bar("w", x + 1, y, 14)
+        return f" resigns to {resigned_to}{lost}"
     else:
         return None
     return ""
 
 
-def halt(job, r, steps):
+def halt(job, r, steps, finishes):
     """What befalls a replica after so many steps, in words."""
     if job.stops.get(r) == steps:
         return " stops"
     if steps == job.budget:
         return " has spent its budget"
+    if finishes:
+        return " has finished"
     if (r, steps) in job.pauses:
         return f" pauses for {job.pauses[r, steps]} rounds"
     return ""
 
 
-def drawn(text):
-    """The drawing of all steps of a trace."""
+class Region:
+    """Who owns a region, whether that is closing, and how often it was granted."""
+
+    def __init__(self):
+        self.owner, self.closing, self.grants = None, False, 0
+
+    def take(self, verb):
+        """Takes a step of its host."""
+        if verb[0] == "close":
+            self.closing = True
+        elif verb[0] == "grant":
+            self.owner, self.closing, self.grants = verb[1], False, self.grants + 1
+
+
+def lanes(job, replicas, regions):
+    """The lanes of all replicas, with what holds in each before the first drawn step."""
+    out = Drawing()
+    for r in range(job.replicas):
+        replica, region = replicas[r], regions[r]
+        out.note(lane(r), 40, f"replica {r}")
+        out.note(lane(r) + 70, 40, f"region {r}")
+        out.bar("l", lane(r), 46, 1)
+        if region.closing or region.owner is not None:
+            out.bar("c" if region.closing else f"o{region.owner}", lane(r) + 84, 56, 8)
+        if replica.leads():
+            out.bar(f"o{r}", lane(r) + 2, 56, 12)
+    return out.parts
+
+
+def drawn(text, first=0, last=None):
+    """The drawing of a trace, of all steps or of those from one to another."""
     lines = text.split("\n")
     end = lines.index("end")
     job = Job(lines[:end])
     events = lines[end + 1:lines.index("end", end + 1)]
-    out, replicas, grants = Drawing(), [Replica() for _ in range(job.replicas)], [0] * job.replicas
-    at, y = 0, 56
+    events = events if last is None else events[:last + 1]
+    out, replicas = Drawing(), [Replica() for _ in range(job.replicas)]
+    regions, head, y = [Region() for _ in range(job.replicas)], None, 56
+    first = at = min(first, len(events))
 
     def fold(count):
         if count > 31:
@@ -229,39 +313,48 @@ def drawn(text):
         return 16 if count > 31 else count
 
     for index, line in enumerate(events):
+        if index == first:
+            head = lanes(job, replicas, regions)
         made, found = line.split(" = ")
         by, *verb = made.split()
         r, answer = int(by), found.split()
-        if answer[0] == "entry":
-            answer = ["entry", answer[1], answer[2]]
         replica = replicas[r]
+        led, named, had_finished = replica.leads(), replica.named(r), replica.finished
         taught, ended = step(job, replica, r, verb, answer)
         replica.steps += 1
-        befalls = halt(job, r, replica.steps)
-        known_before = replica
-        words = deed(job, None, known_before, r, verb, answer, taught, ended, grants[r], 100)
-        if words is not None or befalls:
+        replica.finished = replica.has_finished(job, r)
+        resigned_to = named if led and verb[0] == "beat" and replica.given_up else None
+        befalls = halt(job, r, replica.steps, replica.finished and not had_finished)
+        told = (replica, r, verb, answer, taught, ended, resigned_to, regions[r].grants)
+        words = deed(job, None, *told, 100)
+        if index >= first and (words is not None or befalls):
             y += fold(index - at)
             if befalls and "pauses" not in befalls:
                 out.bar("w", lane(r) - 2, y + 12, 18)
-            deed(job, out, known_before, r, verb, answer, taught, ended, grants[r], y + 6)
+            deed(job, out, *told, y + 6)
             said = (words or "") + befalls
             if said:
                 out.note(lane(job.replicas), y + 9, f"{index}: replica {r}{said}")
             y, at = y + 12, index + 1
-        if verb[0] == "grant":
-            grants[r] += 1
+        regions[r].take(verb)
     y += fold(len(events) - at)
-    head = Drawing()
-    width, height = lane(job.replicas) + 420, y + 20
-    head.bar("w", 0, 0, width)
-    head.note(4, 16, LEGEND)
-    for r in range(job.replicas):
-        head.note(lane(r), 40, f"replica {r}")
-        head.note(lane(r) + 70, 40, f"region {r}")
-        head.bar("l", lane(r), 46, 1)
+    head = lanes(job, replicas, regions) if head is None else head
+    width, height, over = lane(job.replicas) + 420, y + 20, Drawing()
+    over.bar("w", 0, 0, width)
+    over.note(4, 16, LEGEND)
     return (f"<svg xmlns='http://www.w3.org/2000/svg' width='{width}' height='{height}'>\n"
-            f"<style>{STYLE}</style>\n" + "".join(head.parts + out.parts) + "</svg>\n")
+            f"<style>{STYLE}</style>\n" + "".join(over.parts + head + out.parts) + "</svg>\n")
+
+
+def differs(program, text):
+    """Whether the program draws a trace otherwise: all steps, some from the middle on, or none."""
+    count = text.count("\n")
+    for part in ([], [count // 3, count // 2], [count // 2, 9999999], [9999999, 9999999]):
+        given = subprocess.run([program] + [str(n) for n in part], input=text, capture_output=True,
+                               text=True, check=False)
+        if given.returncode == 0 and given.stdout != drawn(text, *part):
+            return True
+    return False
 
 
 def main():
@@ -274,8 +367,7 @@ def main():
     for name in sys.argv[2:]:
         with open(name, encoding="ascii") as file:
             text = file.read()
-        given = subprocess.run([sys.argv[1]], input=text, capture_output=True, text=True, check=False)
-        if given.returncode == 0 and given.stdout != drawn(text):
+        if differs(sys.argv[1], text):
             wrong += 1
             print("differs:", name)
     print(len(sys.argv) - 2, "traces,", wrong, "wrong")

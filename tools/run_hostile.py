@@ -1,7 +1,7 @@
 #!/usr/bin/env python3
-"""Uses the built program in hostile ways, and counts what it answered.
+"""Uses the built programs in hostile ways, and counts what they answered.
 
-    tools/run_hostile.py [PROGRAM]     crates/mu_tool/out/mu_tool where none is named
+    tools/run_hostile.py [MU [MU_DRAW]]     those of crates/mu_tool/out and crates/mu_draw/out where none is named
 
 - Every prefix of two jobs, and every change of one byte of one of them: refused exactly where tools/job_reader.py
   refuses it, with its line and cause; else the status is 0 or 3.
@@ -9,17 +9,23 @@
 - Each read and write moves at most 1 to 7 bytes: the same is printed, and the same holds of the n-th that fails.
 - Inputs at each limit and one above it; words that are no text get the usage line; output into a full device is status 5.
 - `run` with all cores busy, and with long pauses: each report is one that tools/run_trials.py permits.
+- `mu_draw`: every prefix of a trace, every change of one byte of it, long lines and numbers, and inputs at the limit:
+  the answer of `mu check` where that isn't `legal`, else the picture that tools/picture_cases.py draws; faults and
+  pieces as above; words that ask for nothing, and steps out of range; a full device, a closed pipe, a stop and go on.
 
 It needs a C compiler, for the library that lets calls fail (tools/hostile.c).
 """
 import os
 import resource
+import signal
 import subprocess
 import sys
 import tempfile
 import time
+from xml.etree import ElementTree
 
 import job_reader
+import picture_cases
 from run_trials import Job, Wrong, check_report
 
 TOP = os.path.dirname(os.path.dirname(os.path.abspath(__file__)))
@@ -55,8 +61,8 @@ class Answer:
 
 
 class Trials:
-    def __init__(self, program, folder):
-        self.program, self.folder = program, folder
+    def __init__(self, program, folder, name=""):
+        self.program, self.folder, self.name = program, folder, name
         self.shim = os.path.join(folder, "hostile.so")
         self.failed = self.count = 0
         source = os.path.join(TOP, "tools", "hostile.c")
@@ -74,6 +80,9 @@ class Trials:
         done = subprocess.run([self.program, *words], input=given, capture_output=True, env=env,
                               timeout=LIMIT_SECONDS, check=False)
         return done.returncode, done.stdout, os.path.exists(hit)
+
+    def title(self, words):
+        return " ".join(([self.name] if self.name else []) + words)
 
     def say(self, what, count, wrong):
         self.failed += len(wrong)
@@ -111,7 +120,7 @@ class Trials:
             if not is_right:
                 wrong.append(f"{words} call {call}: {status} {text[:60]!r}")
         at_once = f", {piece} bytes at once" if piece else ""
-        self.say(f"{' '.join(words)}: each {kind} fails in turn{at_once}", call, wrong)
+        self.say(f"{self.title(words)}: each {kind} fails in turn{at_once}", call, wrong)
 
     def pieces(self, words, given):
         answer = Answer(words, given, *self.run(words, given)[:2])
@@ -120,7 +129,7 @@ class Trials:
             status, text, _ = self.run(words, given, kind="none", piece=size)
             if not answer.permits(status, text):
                 wrong.append(f"{words} pieces of {size}: {status} {text[:60]!r}")
-        self.say(f"{' '.join(words)}: reads and writes of 1 to 7 bytes", 7, wrong)
+        self.say(f"{self.title(words)}: reads and writes of 1 to 7 bytes", 7, wrong)
 
     def expect(self, what, rows):
         wrong = []
@@ -199,6 +208,104 @@ def limit_rows():
         yield ["replay"], with_commands([line % (b"k" * (length + 1))]), 2, b"refused line 6 cause %d\n" % cause
 
 
+def is_document(text):
+    """Whether a text is a document of XML."""
+    try:
+        ElementTree.fromstring(text)
+    except ElementTree.ParseError:
+        return False
+    return True
+
+
+def check_pictures(draw, judge, what, inputs):
+    """Each input has the answer of `check`, or where that is `legal` its picture."""
+    wrong = []
+    for given in inputs:
+        judged = judge.run(["check"], given)[:2]
+        status, text, _ = draw.run([], given)
+        is_right = (status, text) == judged
+        if judged[0] == 0:
+            is_right = status == 0 and is_document(text) and text.decode() == picture_cases.drawn(given.decode())
+        if not is_right:
+            wrong.append(f"{given[:200]!r}: {status} {text[:60]!r}, where check says {judged[1]!r}")
+    draw.say(f"mu_draw: {what}", len(inputs), wrong)
+
+
+def picture_rows(trace):
+    """Words that ask for steps, or for nothing, and inputs at the limit."""
+    count, usage = trace.count(b"\n"), b"usage: mu_draw, mu_draw FIRST LAST\n"
+    for first, last in ((0, 0), (0, 9999999), (9999999, 9999999), (1, 3), (count, count + 1), (0, count)):
+        yield [str(first), str(last)], trace, 0, picture_cases.drawn(trace.decode(), first, last).encode()
+    bad = [["0"], ["0", "1", "2"], ["3", "1"], ["-1", "3"], ["+1", "3"], ["a", "b"], ["", "3"], ["00", "1"],
+           ["01", "3"], ["1 ", "3"], ["0x1", "3"], ["0", "10000000"], ["10000000", "10000000"],
+           ["0", "99999999999999999999"], ["0", "9" * 100000], ["--help"], ["check"], [b"\xff", "3"], ["0", b"\x80"]]
+    for words in bad:
+        yield words, trace, 1, usage
+    whole = SETTINGS + b"end\n" + b"0 beat = done\n" * 1000
+    yield [], whole + b"x" * (MOST_TRACE_BYTES - len(whole)), 2, b"refused line 1006 cause 13\n"
+    yield [], whole + b"x" * (MOST_TRACE_BYTES - len(whole) + 1), 8, b"too long\n"
+
+
+def hostile_lines(judge):
+    """Traces with texts that have a meaning in XML, and with long lines and great numbers."""
+    head = SETTINGS + b"client 0\n"
+    for text in (b"<", b"&amp;", b"]]>", b"'\"", b"<!--", b"&#0;", b"</text>", b"<script>", b"~" * 64):
+        yield judge.run(["trace"], head + b"put " + text[:24] + b" " + text + b"\nend\n")[1]
+    for word in (b"9" * 20, b"18446744073709551615", b"18446744073709551616", b"4294967296", b"65536", b"256"):
+        for line in (b"%s beat = done", b"0 look 0 %s = nothing", b"0 putmin 0 %s = done", b"0 min 0 = %s",
+                     b"0 fence 0 = fence 0 %s open none", b"0 raisehead %s = done", b"0 readbeat %s = 1"):
+            yield head + b"put k v\nend\n" + line % word + b"\nend\n"
+    for line in (b" " * 100000, b"0 " * 50000, b"x" * 1000000, b"0 beat = done" + b" " * 1000000, b"\0" * 1000):
+        yield head + b"put k v\nend\n" + line + b"\nend\n"
+
+
+def odd_sinks(draw, trace):
+    """A device that is full, a pipe that nobody reads, and a stop and go on while the input comes."""
+    wrong = []
+    with open("/dev/full", "wb") as full:
+        done = subprocess.run([draw.program], input=trace, stdout=full, stderr=subprocess.PIPE, check=False)
+    if (done.returncode, done.stderr) != (5, b""):
+        wrong.append(f"full device: {done.returncode} {done.stderr!r}")
+    read_end, write_end = os.pipe()
+    os.close(read_end)
+    done = subprocess.run([draw.program], input=trace, stdout=write_end, stderr=subprocess.PIPE, check=False)
+    os.close(write_end)
+    if (done.returncode, done.stderr) != (5, b""):
+        wrong.append(f"closed pipe: {done.returncode} {done.stderr!r}")
+    due = draw.run([], trace)[:2]
+    stopped = subprocess.Popen([draw.program], stdin=subprocess.PIPE, stdout=subprocess.PIPE)
+    for at in range(0, len(trace), 100):
+        stopped.stdin.write(trace[at:at + 100])
+        stopped.stdin.flush()
+        stopped.send_signal(signal.SIGSTOP)
+        stopped.send_signal(signal.SIGCONT)
+    text, _ = stopped.communicate(timeout=LIMIT_SECONDS)
+    if (stopped.returncode, text) != due:
+        wrong.append(f"stopped and continued: {stopped.returncode} {text[:60]!r}")
+    ended = subprocess.Popen([draw.program], stdin=subprocess.PIPE, stdout=subprocess.PIPE)
+    ended.stdin.write(trace)
+    ended.stdin.flush()
+    ended.send_signal(signal.SIGTERM)
+    text, _ = ended.communicate(timeout=LIMIT_SECONDS)
+    if (ended.returncode, text) != (-signal.SIGTERM, b""):
+        wrong.append(f"ended by a signal: {ended.returncode} {text[:60]!r}")
+    draw.say("mu_draw: full device, closed pipe, signals", 4, wrong)
+
+
+def hostile_pictures(draw, judge):
+    trace = open(os.path.join(TOP, "examples", "late-exchange.trace"), "rb").read()
+    check_pictures(draw, judge, "prefixes of a trace", [trace[:n] for n in range(len(trace))])
+    check_pictures(draw, judge, "changes of one byte", list(changes(trace)))
+    check_pictures(draw, judge, "hostile texts, lines and numbers", list(hostile_lines(judge)))
+    for words in ([], ["5", "20"]):
+        draw.faults("read", 4, words, trace)
+        draw.faults("write", 5, words, trace)
+        draw.faults("alloc", 6, words, trace)
+        draw.pieces(words, trace)
+    draw.expect("mu_draw: words, steps and limits", list(picture_rows(trace)))
+    odd_sinks(draw, trace)
+
+
 def large_job(seed, pauses):
     lines = [b"mu 1\nreplicas 7\nring 16\nbudget 6000\n"]
     for client in range(3):
@@ -211,9 +318,10 @@ def large_job(seed, pauses):
 
 
 def main():
-    program = sys.argv[1] if len(sys.argv) > 1 else os.path.join(TOP, "crates", "mu_tool", "out", "mu_tool")
+    built = [os.path.join(TOP, "crates", name, "out", name) for name in ("mu_tool", "mu_draw")]
+    programs = sys.argv[1:] + built[len(sys.argv) - 1:]
     with tempfile.TemporaryDirectory() as folder:
-        trials = Trials(program, folder)
+        trials, draw = Trials(programs[0], folder), Trials(programs[1], folder, "mu_draw")
         _, trace, _ = trials.run(["trace"], TWO_CLIENTS)
         trials.reads("prefixes of two jobs", [job[:n] for job in (TWO_CLIENTS, BATCHED) for n in range(len(job))])
         trials.reads("changes of one byte", list(changes(TWO_CLIENTS)))
@@ -237,8 +345,10 @@ def main():
         cores = os.cpu_count() or 1
         trials.load("run of seven replicas, all cores busy", [large_job(seed, False) for seed in range(50)], cores)
         trials.load("run of seven replicas, long pauses", [large_job(seed, True) for seed in range(50)], 0)
-    print(f"{trials.count} runs, {trials.failed} wrong")
-    return trials.failed != 0
+        hostile_pictures(draw, trials)
+    failed = trials.failed + draw.failed
+    print(f"{trials.count + draw.count} runs, {failed} wrong")
+    return failed != 0
 
 
 if __name__ == "__main__":

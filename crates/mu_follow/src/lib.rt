@@ -14,9 +14,12 @@ mod outrunning;
 mod progress;
 mod published;
 
+pub use completion::Completion;
 pub use follow::Follow;
 pub use groups::Ready;
 pub use mu_known::Commit;
+pub use noting::count_applied;
+pub use published::Published;
 
 /// Who raises its head at one place of the round, where it may be raised, raises it in time.
 pub fn heads_rise_in_time()

@@ -81,7 +81,12 @@ fn spot_of_put(r: u8, known: &[u16], event: &Event) -> Option<u16>
 }
 
 /// Counts the entries that the replica has in full now.
-fn count_applied(completion: &mut Completion, config: &Config, knowing: &KnownLog, rows: &HeldRows)
+pub fn count_applied(
+    completion: &mut Completion,
+    config: &Config,
+    knowing: &KnownLog,
+    rows: &HeldRows,
+)
     ensures { (r : ℕ) → (mine : List Event) → (event : Event) → IsConfig config.now
         → IsPossible config.now r (event ∷ mine)
         → StandsForKnownLog config.now r (event ∷ mine) knowing.now

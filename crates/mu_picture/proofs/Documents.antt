@@ -182,12 +182,14 @@ deed_is r y (Some (Deed.Head h)) = label_is (lane_of r + 18) (y + 3) (codes "hea
 deed_is r y (Some (Deed.Barred p)) = resting_is r y
 deed_is r y (Some (Deed.Deposed p)) = resting_is r y
 deed_is r y (Some (Deed.Outbid p)) = resting_is r y
+deed_is r y (Some (Deed.Resign q)) = resting_is r y
 deed_is r y (Some (Deed.Outrun p i)) = ended_is r y
 
 halt_is : (r y : ℕ) (halt : Option Halt) → IsContent (halt_pieces r y halt)
 halt_is r y None = nothing
 halt_is r y (Some Halt.Stop) = ended_is r y
 halt_is r y (Some Halt.Spent) = ended_is r y
+halt_is r y (Some Halt.Finish) = ended_is r y
 halt_is r y (Some (Halt.Pause rounds)) = nothing
 
 said_is : (n step r y : ℕ) (words : List ℕ) → IsContent (said_piece n step r y words)

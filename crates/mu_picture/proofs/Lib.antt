@@ -1,4 +1,5 @@
 pub mod Appends
 pub mod Documents
+pub mod LastSteps
 pub mod Steps
 pub mod Unmarked

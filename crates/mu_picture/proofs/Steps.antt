@@ -1,5 +1,5 @@
 -- What a step leaves of the list that its replica knows, and of its part.
-use Rattle.std.proofs.Common.{◌≡◌, ℕ, zero, suc, ◌^◌, ap, ◌∙◌, ◌<◌, ◌∷◌, List, [], ◌++◌, None, Some, length, refl, sym, arith, take, drop, get_or, subst}
+use Rattle.std.proofs.Common.{◌≡◌, ◌≢◌, ℕ, zero, suc, ◌^◌, ap, ◌∙◌, ◌<◌, ◌∷◌, List, [], ◌++◌, None, Some, length, refl, sym, arith, take, drop, get_or, subst, set, inl, inr}
 use Rattle.std.specs.Prelude.{if◌then◌else◌, nat_le}
 use Rattle.std.specs.declared.option.Option.{Option}
 use Rattle.std.proofs.lemmas.List.{length-append, length-reverse}
@@ -9,7 +9,6 @@ use Rattle.mu_model.proofs.Budgets.{short_history}
 use Rattle.mu_picture.specs.Marks.{mark_of, marks_of, with_mark}
 use Rattle.mu_picture.specs.Openings.{opening_of, openings_of}
 use Rattle.mu_picture.specs.Walks.{StandsForWalk}
-use Rattle.mu_parts.specs.declared.replica.Replica.{Replica}
 use Rattle.mu_picture.specs.declared.marks.Mark.{Mark}
 use Rattle.mu_picture.specs.declared.walk.Walk.{Walk}
 use Rattle.std.specs.List.{slice_get}
@@ -20,6 +19,8 @@ use Rattle.mu_model.specs.Histories.{history, part}
 use Rattle.mu_model.specs.Knowledge.{grown}
 use Rattle.mu_model.specs.Legal.{IsLegal, IsLegalHistory}
 use Rattle.mu_model.proofs.Basics.{same_number}
+use Rattle.mu_model.proofs.Lists.{set_get}
+use Rattle.std.proofs.lemmas.Bool.Decides.{eqb_tells}
 use Rattle.mu_agree.proofs.Legal.{legal_older}
 use Rattle.mu_outcome.proofs.Places.{history_at, read_there}
 
@@ -29,6 +30,14 @@ short_list c events is legal =
     let most = short_history c (history events) legal is.replicas.1 is.budget.1 in
     let same = length-reverse events in
     omega (arith, most, same)
+
+-- the part of the replica that made the newest event
+pub own_part : (e : Event) (past : List Event) → part e.by (e ∷ past) ≡ e ∷ part e.by past
+own_part e past = rw (same_number e.by) refl
+
+-- and that of another
+other_part : (r : ℕ) (e : Event) (past : List Event) → r ≢ e.by → part r (e ∷ past) ≡ part r past
+other_part r e past differ = elim (eqb_tells e.by r) [ inl same ↦ absurd (differ (sym same.1)) | inr off ↦ rw off.0 refl ]
 
 -- the marks with that of the next event
 pub marks_next : (c : Config) (script : Script) (first i : ℕ) (past : List Event) (e : Event) (items : List Mark) (mark : Option Mark) (walk : Walk)
@@ -40,18 +49,28 @@ marks_next c script first i past e items mark walk tells legal stands place are 
     ∙ (ap (λ k. if nat_le first i then with_mark (marks_of c script first past) k else marks_of c script first past) (tells legal stands place)
     ∙ ap (λ n. if nat_le first n then with_mark (marks_of c script first past) (mark_of c script past e) else marks_of c script first past) place)
 
--- the state of a replica stands at its index
-pub state_there : (replicas items : List Replica) (k r : ℕ) (state : Replica) → items ≡ replicas → k ≡ r → state ≡ get_or items k state → k < length items
-    → slice_get replicas r ≡ Some state
-state_there replicas items k r state same at found low =
-    subst (λ xs. slice_get xs r ≡ Some state) same
-    (subst (λ q. slice_get items q ≡ Some state) at (slice_get-get_or items k state low ∙ ap Some (sym found)))
+-- what is found at an index stands there
+pub found_there : {A : Type 0} (all items : List A) (k r : ℕ) (x : A) → items ≡ all → k ≡ r → x ≡ get_or items k x → k < length items → slice_get all r ≡ Some x
+found_there all items k r x same at found low =
+    subst (λ xs. slice_get xs r ≡ Some x) same (subst (λ q. slice_get items q ≡ Some x) at (slice_get-get_or items k x low ∙ ap Some (sym found)))
+
+-- of what stands for the part of each replica, that of the one that makes an event has taken it
+pub each_part_next : {A : Type 0} (P : ℕ → List Event → A → Type 0) (past : List Event) (e : Event) (k : ℕ) (items : List A) (was new : A) → k ≡ e.by → slice_get items k ≡ Some was
+    → (P e.by (part e.by past) was → P e.by (e ∷ part e.by past) new) → ((r : ℕ) (x : A) → slice_get items r ≡ Some x → P r (part r past) x)
+    → (r : ℕ) (x : A) → slice_get (set items k new) r ≡ Some x → P r (part r (e ∷ past)) x
+each_part_next P past e k items was new by at step held r x there = elim (set_get items k new r x there) [
+  | inl here ↦
+      let taken = step (held e.by was (subst (λ q. slice_get items q ≡ Some was) by at)) in
+      let mine = subst (λ l. P e.by l new) (sym (own_part e past)) taken in
+      subst (λ q. P q (part q (e ∷ past)) x) (sym (here.0 ∙ by)) (subst (λ s. P e.by (part e.by (e ∷ past)) s) here.1 mine)
+  | inr other ↦ subst (λ l. P r l x) (sym (other_part r e past (λ is. other.0 (is ∙ sym by)))) (held r x other.1)
+]
 
 -- there is an opening for each lane
-pub length_openings : (n : ℕ) (past : List Event) → length (openings_of n past) ≡ n
-length_openings zero past = refl
-length_openings (suc n) past =
-    length-append (openings_of n past) (opening_of n past ∷ []) ∙ (omega (arith, length_openings n past))
+pub length_openings : (c : Config) (n : ℕ) (past : List Event) → length (openings_of c n past) ≡ n
+length_openings c zero past = refl
+length_openings c (suc n) past =
+    length-append (openings_of c n past) (opening_of c n past ∷ []) ∙ (omega (arith, length_openings c n past))
 
 at_end : (xs : List ℕ) (v : ℕ) → slice_get (xs ++ v ∷ []) (length xs) ≡ Some v
 at_end [] v = refl
@@ -61,10 +80,6 @@ at_end (x ∷ xs) v = at_end xs v
 pub learnt_next : (xs : List ℕ) (o : Option ℕ) → slice_get (grown xs o) (length xs) ≡ o
 learnt_next xs None = slice_get_past xs (length xs) (omega arith)
 learnt_next xs (Some v) = at_end xs v
-
--- the part of the replica that made the newest event
-pub own_part : (e : Event) (past : List Event) → part e.by (e ∷ past) ≡ e ∷ part e.by past
-own_part e past = rw (same_number e.by) refl
 
 -- the event at an index of a legal list may come after those before it
 pub legal_there : (c : Config) (events : List Event) (i : ℕ) (d : Event) → IsLegal c events → i < length events

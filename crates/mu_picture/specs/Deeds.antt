@@ -1,6 +1,6 @@
 -- What a step does that is drawn. Loads are not, but for those that teach a value, find a place
--- used again or end a leadership; nor are beats, the words of rows, raised FUOs and what a fence is
--- entered with.
+-- used again or end a leadership; nor are beats, but where a leadership is given up, the words of
+-- rows, raised FUOs and what a fence is entered with.
 use Rattle.std.specs.Prelude.{ℕ, Bool, true, false, nat_le, None, Some, List, ◌∷◌, length}
 use Rattle.std.specs.declared.option.Option.{Option}
 use Rattle.mu_model.specs.declared.config.Config.{Config}
@@ -8,6 +8,8 @@ use Rattle.mu_model.specs.declared.event.Answer.{Answer}
 use Rattle.mu_model.specs.declared.event.Event.{Event}
 use Rattle.mu_model.specs.declared.event.Verb.{Verb}
 use Rattle.mu_model.specs.Knowledge.{committed, known}
+use Rattle.mu_model.specs.Scores.{leader}
+use Rattle.mu_picture.specs.Resigning.{resigns}
 use Rattle.mu_picture.specs.Telling.{ends, taught}
 use Rattle.mu_picture.specs.declared.deeds.Deed.{Deed}
 
@@ -53,6 +55,8 @@ deed_by c mine granted e (Verb.RaiseHead h) = Some (Deed.Head h)
 deed_by c mine granted e (Verb.Enter p t) = drawn_if (ends e.by mine e) (Deed.Barred p)
 deed_by c mine granted e (Verb.Fence p) = drawn_if (ends e.by mine e) (Deed.Deposed p)
 deed_by c mine granted e (Verb.Min p) = drawn_if (ends e.by mine e) (Deed.Outbid p)
+deed_by c mine granted e Verb.Beat =
+    drawn_if (resigns c e.by mine e) (Deed.Resign (leader c e.by mine))
 deed_by c mine granted e _ = None
 
 -- what the event does that is drawn

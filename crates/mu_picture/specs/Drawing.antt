@@ -83,6 +83,7 @@ deed_pieces r y (Some (Deed.Head h)) =
 deed_pieces r y (Some (Deed.Barred p)) = resting_piece r y
 deed_pieces r y (Some (Deed.Deposed p)) = resting_piece r y
 deed_pieces r y (Some (Deed.Outbid p)) = resting_piece r y
+deed_pieces r y (Some (Deed.Resign q)) = resting_piece r y
 deed_pieces r y (Some (Deed.Outrun p i)) = ended_piece r y
 
 -- what befalls r is drawn as this, in the row at y
@@ -90,6 +91,7 @@ abbrev pub halt_pieces : ℕ → ℕ → Option Halt → List ℕ
 halt_pieces r y None = []
 halt_pieces r y (Some Halt.Stop) = ended_piece r y
 halt_pieces r y (Some Halt.Spent) = ended_piece r y
+halt_pieces r y (Some Halt.Finish) = ended_piece r y
 halt_pieces r y (Some (Halt.Pause rounds)) = []
 
 -- the note of a step, where there is something to say

@@ -6,6 +6,7 @@ use Rattle.mu_model.specs.declared.event.Event.{Event}
 use Rattle.mu_model.specs.declared.script.Script.{Script}
 use Rattle.mu_model.specs.Histories.{history, part}
 use Rattle.mu_model.specs.Regions.{fence_grant}
+use Rattle.mu_picture.specs.Courses.{finishes}
 use Rattle.mu_picture.specs.Deeds.{deed_of}
 use Rattle.mu_picture.specs.Halts.{halt_after}
 use Rattle.mu_picture.specs.Openings.{openings_of}
@@ -26,7 +27,7 @@ made_of step r (Some deed) halt =
 abbrev pub mark_of : Config → Script → List Event → Event → Option Mark
 mark_of c script past e =
     made_of (length past) e.by (deed_of c (part e.by past) (fence_grant e.by past) e)
-    (halt_after c script e.by (length (part e.by past) + 1))
+    (halt_after c script e.by (length (part e.by past) + 1) (finishes c e.by (part e.by past) e))
 
 -- the marks, and one more where there is one
 abbrev pub with_mark : List Mark → Option Mark → List Mark
@@ -56,6 +57,6 @@ pub record IsPictureOf (c : Config) (script : Script) (events : List Event) (fro
   pub end : picture.end ≡ end_of events last
   pub first : picture.first ≡ min from (end_of events last)
   pub openings :
-      picture.openings.items ≡ openings_of c.replicas (history (take picture.first events))
+      picture.openings.items ≡ openings_of c c.replicas (history (take picture.first events))
   pub marks :
       picture.marks.items ≡ marks_of c script picture.first (history (take picture.end events))

@@ -1,16 +1,13 @@
 -- What holds before the first step of a picture.
-use Rattle.std.specs.Prelude.{ℕ, Bool, zero, suc, ◌&&◌, not, false, None, Some, List, [], ◌∷◌, ◌++◌}
+use Rattle.std.specs.Prelude.{ℕ, Bool, zero, suc, false, None, Some, List, [], ◌∷◌, ◌++◌}
 use Rattle.mu_model.specs.declared.event.Event.{Event}
 use Rattle.mu_model.specs.Histories.{part}
-use Rattle.mu_model.specs.Leaderships.{has_begun, is_over}
+use Rattle.mu_model.specs.declared.config.Config.{Config}
 use Rattle.mu_model.specs.Regions.{fence}
 use Rattle.mu_model.specs.declared.event.Fence.{Fence}
 use Rattle.std.specs.declared.option.Option.{Option}
+use Rattle.mu_picture.specs.Resigning.{is_leading}
 use Rattle.mu_picture.specs.declared.openings.Opening.{Opening}
-
--- a leadership of r is under way
-abbrev pub leads_after : ℕ → List Event → Bool
-leads_after r past = has_begun r (part r past) && not (is_over r (part r past))
 
 -- what a fence and a leadership open with
 abbrev pub opening_with : Option Fence → Bool → Opening
@@ -19,10 +16,10 @@ opening_with (Some fence) leads =
     record { owner = fence.owner; closing = fence.closing; leads = leads }
 
 -- what holds in the lane of r: who owns its region, whether that is closing, and whether r leads
-abbrev pub opening_of : ℕ → List Event → Opening
-opening_of r past = opening_with (Some (fence r past)) (leads_after r past)
+abbrev pub opening_of : Config → ℕ → List Event → Opening
+opening_of c r past = opening_with (Some (fence r past)) (is_leading c r (part r past))
 
 -- the same of each of the first n lanes, in order
-abbrev pub openings_of : ℕ → List Event → List Opening
-openings_of zero past = []
-openings_of (suc n) past = openings_of n past ++ opening_of n past ∷ []
+abbrev pub openings_of : Config → ℕ → List Event → List Opening
+openings_of c zero past = []
+openings_of c (suc n) past = openings_of c n past ++ opening_of c n past ∷ []

@@ -5,28 +5,27 @@ use Rattle.std.specs.List.{slice_get}
 use Rattle.mu_model.specs.declared.config.Config.{Config}
 use Rattle.mu_model.specs.declared.event.Event.{Event}
 use Rattle.mu_model.specs.Histories.{part}
-use Rattle.mu_parts.specs.declared.replica.Replica.{Replica}
-use Rattle.mu_parts.specs.Parts.{StandsForReplica}
 use Rattle.mu_regions.specs.Stands.{Stands}
 use Rattle.mu_model.specs.declared.event.Answer.{Answer}
 use Rattle.mu_model.specs.declared.event.Fence.{Fence}
-use Rattle.mu_picture.specs.Telling.{Tells}
-use Rattle.mu_picture.specs.declared.told.Told.{Told}
+use Rattle.mu_picture.specs.Courses.{StandsForCourse, TellsTurn}
+use Rattle.mu_picture.specs.declared.course.Course.{Course}
+use Rattle.mu_picture.specs.declared.course.Turn.{Turn}
 use Rattle.mu_picture.specs.declared.walk.Walk.{Walk}
 
--- there is a state for each replica, which stands for its part, and the states of the regions stand
+-- there is a course of each replica, which stands for its part, and the states of the regions stand
 -- for the history
 pub record StandsForWalk (c : Config) (past : List Event) (walk : Walk) : Type 0 where
-  pub count : length walk.replicas.items ≡ c.replicas
+  pub count : length walk.courses.items ≡ c.replicas
   pub each :
-      (r : ℕ) (state : Replica) → slice_get walk.replicas.items r ≡ Some state
-      → StandsForReplica c r (part r past) state
+      (r : ℕ) (course : Course) → slice_get walk.courses.items r ≡ Some course
+      → StandsForCourse c r (part r past) course
   pub regions : Stands c past walk.regions
 
 -- it is told what the step comes to
-abbrev pub TellsStep : Config → List Event → Event → Option Told → Type 0
+abbrev pub TellsStep : Config → List Event → Event → Option Turn → Type 0
 TellsStep c mine e None = ⊥
-TellsStep c mine e (Some told) = Tells c mine e told
+TellsStep c mine e (Some turn) = TellsTurn c mine e turn
 
 -- the fence that an answer shows
 abbrev pub fence_shown : Answer → Option Fence

@@ -44,6 +44,8 @@ deed_words job (Some (Deed.Deposed p)) =
     codes " sees another grant at " ++ decimal p ++ codes ", it leads no more"
 deed_words job (Some (Deed.Outbid p)) =
     codes " reads a greater number at " ++ decimal p ++ codes ", it leads no more"
+deed_words job (Some (Deed.Resign q)) =
+    codes " resigns to " ++ decimal q ++ codes ", it leads no more"
 deed_words job (Some (Deed.Outrun p i)) =
     codes " is outrun at " ++ decimal p ++ codes ", position " ++ decimal i
 deed_words job _ = []
@@ -53,5 +55,6 @@ abbrev pub halt_words : Option Halt → List ℕ
 halt_words None = []
 halt_words (Some Halt.Stop) = codes " stops"
 halt_words (Some Halt.Spent) = codes " has spent its budget"
+halt_words (Some Halt.Finish) = codes " has finished"
 halt_words (Some (Halt.Pause rounds)) =
     codes " pauses for " ++ decimal rounds ++ codes " rounds"

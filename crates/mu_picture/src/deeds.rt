@@ -3,6 +3,8 @@ ghost use Rattle.std.specs.Prelude.{◌≡◌, ◌∷◌, List};
 ghost use Rattle.mu_model.specs.declared.config.Config.{Config};
 ghost use Rattle.mu_model.specs.declared.event.Event.{Event as Made};
 ghost use Rattle.mu_picture.specs.Deeds.{deed_of as deed_of_step, is_done as is_done_answer, look_deed as look_deed_of};
+ghost use Rattle.mu_model.specs.Scores.{leader};
+ghost use Rattle.mu_picture.specs.Resigning.{resigns as resigns_by};
 ghost use Rattle.mu_picture.specs.Telling.{Tells};
 
 use crate::told::Told;
@@ -35,6 +37,8 @@ pub enum Deed {
     Deposed(u8),
     /// Reads at a region a minimum above its number, which ends its leadership.
     Outbid(u8),
+    /// Gives up its leadership for a replica that its scores name.
+    Resign(u8),
     /// Finds at a region the place of a position that it doesn't know used again.
     Outrun(u8, u16),
 }
@@ -63,9 +67,17 @@ fn look_deed(p: u8, i: u16, known: usize, answer: &Answer, taught: Option<u16>) 
     }
 }
 
-/// What the event does that is drawn. So often the region of its replica was granted before.
-pub fn deed_of(event: &Event, told: &Told, granted: u32) -> Option<Deed>
+/// What the event does that is drawn. So often the region of its replica was granted before; its
+/// scores named a replica, and it gives up its leadership for that or doesn't.
+pub fn deed_of(
+    event: &Event,
+    told: &Told,
+    resigns: bool,
+    named: u8,
+    granted: u32,
+) -> Option<Deed>
     ensures { (c : Config) → (mine : List Made) → Tells c mine event.now told.now
+        → resigns ≡ resigns_by c event.now.by mine event.now → named ≡ leader c event.now.by mine
         → result ≡ deed_of_step c mine granted event.now }
 {
     match event.verb {
@@ -83,6 +95,7 @@ pub fn deed_of(event: &Event, told: &Told, granted: u32) -> Option<Deed>
         Verb::Enter(p, _) if told.ends => Some(Deed::Barred(p)),
         Verb::Fence(p) if told.ends => Some(Deed::Deposed(p)),
         Verb::Min(p) if told.ends => Some(Deed::Outbid(p)),
+        Verb::Beat if resigns => Some(Deed::Resign(named)),
         _ => None,
     }
 }

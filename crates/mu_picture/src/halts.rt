@@ -12,6 +12,8 @@ pub enum Halt {
     Stop,
     /// Its budget is spent.
     Spent,
+    /// It has finished: all commands are applied, by it and by each other one that isn't failed.
+    Finish,
     /// The script passes it over for so many rounds.
     Pause(u32),
 }
@@ -40,14 +42,22 @@ fn pause_at(pauses: &[Pause], replica: u8, steps: u32) -> Option<Halt>
     None
 }
 
-/// What befalls a replica after so many steps.
-pub fn halt_after(config: &Config, script: &Script, replica: u8, steps: u32) -> Option<Halt>
-    ensures { result ≡ halt_after_steps config.now script.now replica steps }
+/// What befalls a replica after so many steps, by the last of which it finishes or doesn't.
+pub fn halt_after(
+    config: &Config,
+    script: &Script,
+    replica: u8,
+    steps: u32,
+    finishes: bool,
+) -> Option<Halt>
+    ensures { result ≡ halt_after_steps config.now script.now replica steps finishes }
 {
     if stops_at(script.stops.as_slice(), replica, steps) {
         Some(Halt::Stop)
     } else if steps == config.budget {
         Some(Halt::Spent)
+    } else if finishes {
+        Some(Halt::Finish)
     } else {
         pause_at(script.pauses.as_slice(), replica, steps)
     }

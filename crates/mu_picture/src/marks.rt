@@ -58,9 +58,9 @@ fn mark_of(
         → result ≡ mark_of_event config.now script.now past event.now }
 {
     let granted = walk.granted(event.by);
-    let told = walk.take(config, event)?;
-    let deed = deed_of(event, &told, granted);
-    let halt = halt_after(config, script, event.by, told.steps);
+    let turn = walk.take(config, event)?;
+    let deed = deed_of(event, &turn.told, turn.resigns, turn.named, granted);
+    let halt = halt_after(config, script, event.by, turn.told.steps, turn.finishes);
     made_of(step, event.by, deed, halt)
 }
 

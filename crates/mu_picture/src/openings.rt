@@ -26,7 +26,7 @@ pub struct Opening {
 /// What holds in the lane of `r` where the walk is.
 fn opening_at(walk: &Walk, r: u8) -> Opening
     ensures { (past : List Made) → (c : Settings) → r < c.replicas → StandsForWalk c past walk.now
-        → result ≡ opening_after r past }
+        → result ≡ opening_after c r past }
 {
     let fence = walk.fence(r);
     let leads = walk.leads(r);
@@ -61,8 +61,8 @@ pub fn openings_after(
     requires config { IsConfig config.now }
     requires legal { IsLegal config.now events.now }
     requires within { count ≤ length events.now }
-    ensures { IfOk result (λ openings.
-        openings.items ≡ openings_of config.now.replicas (history (take count events.now))) }
+    ensures { IfOk result (λ openings. openings.items
+        ≡ openings_of config.now config.now.replicas (history (take count events.now))) }
 {
     let mut walk = Walk::new(alloc, config)?;
     for index in 0..count {
@@ -75,7 +75,7 @@ pub fn openings_after(
 /// What holds in each of the first `n` lanes where the walk is.
 fn openings_at(alloc: Global, walk: &Walk, n: u8) -> Result<Vec<Opening>, NoMemory>
     ensures { (past : List Made) → (c : Settings) → n ≡ c.replicas → StandsForWalk c past walk.now
-        → IfOk result (λ openings. openings.items ≡ openings_of n past) }
+        → IfOk result (λ openings. openings.items ≡ openings_of c n past) }
 {
     let mut openings = Vec::new(alloc);
     for r in 0..n {

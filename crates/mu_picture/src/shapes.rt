@@ -183,6 +183,7 @@ pub fn push_deed(sheet: &mut Sheet, r: u8, y: u64, deed: Option<Deed>) -> Result
         Some(Deed::Barred(_)) => push_resting(sheet, r, y),
         Some(Deed::Deposed(_)) => push_resting(sheet, r, y),
         Some(Deed::Outbid(_)) => push_resting(sheet, r, y),
+        Some(Deed::Resign(_)) => push_resting(sheet, r, y),
         Some(Deed::Outrun(_, _)) => push_ended(sheet, r, y),
     }
 }
@@ -196,6 +197,7 @@ pub fn push_halt(sheet: &mut Sheet, r: u8, y: u64, halt: Option<Halt>) -> Result
         None => Ok(()),
         Some(Halt::Stop) => push_ended(sheet, r, y),
         Some(Halt::Spent) => push_ended(sheet, r, y),
+        Some(Halt::Finish) => push_ended(sheet, r, y),
         Some(Halt::Pause(_)) => Ok(()),
     }
 }

@@ -33,8 +33,8 @@ fn value_at(values: &[u16], index: usize) -> Option<u16>
     }
 }
 
-/// Whether a leadership is over now and was not before.
-fn is_end(before: bool, after: bool) -> bool
+/// Whether what comes once is so now, and was not before.
+pub fn is_end(before: bool, after: bool) -> bool
     ensures { result ≡ (not before && after) }
 {
     !before && after

@@ -1,26 +1,23 @@
 //! A walk over a legal list of events, with the states of all replicas and regions.
-ghost use Rattle.std.specs.Prelude.{ℕ, IfOk, IfSome, List, [], length, not, None, Some, ◌&&◌, ◌∷◌, ◌<◌, ◌≡◌};
+ghost use Rattle.std.specs.Prelude.{IfOk, List, [], Some, ◌∷◌, ◌<◌, ◌≡◌};
 ghost use Rattle.mu_model.specs.declared.event.Event.{Event as Made};
 ghost use Rattle.mu_model.specs.Contents.{IsConfig};
 ghost use Rattle.mu_model.specs.Histories.{part};
-ghost use Rattle.mu_model.specs.Leaderships.{has_begun, is_over};
-ghost use Rattle.mu_parts.specs.Parts.{StandsForReplica};
 ghost use Rattle.mu_model.specs.Legal.{IsLegalHistory};
 ghost use Rattle.mu_model.specs.Regions.{fence as fence_of, fence_grant};
 ghost use Rattle.mu_model.specs.declared.config.Config.{Config as Settings};
 ghost use Rattle.mu_picture.specs.Walks.{StandsForWalk, TellsStep, fence_shown, grants_shown};
-ghost use Rattle.mu_picture.specs.Openings.{leads_after};
+ghost use Rattle.mu_picture.specs.Resigning.{is_leading};
 
-use crate::told::{Told, told_by};
+use crate::course::{Course, Turn};
 use mu_model::{Answer, Config, Event, Fence, NoMemory, Verb};
-use mu_parts::Replica;
 use mu_regions::Regions;
 use std::alloc::Global;
 
 /// The states of all replicas and regions after the first events of a legal list.
 #[derive(Drop)]
 pub struct Walk {
-    pub replicas: Vec<Replica>,
+    pub courses: Vec<Course>,
     pub regions: Regions,
 }
 
@@ -44,35 +41,18 @@ fn grants_in(fence: Option<Fence>) -> u32
     }
 }
 
-/// Whether what has begun is not over.
-fn is_under_way(begun: bool, over: bool) -> bool
-    ensures { result ≡ (begun && not over) }
-{
-    begun && !over
-}
-
-/// Whether a leadership of the replica is under way.
-fn is_leading(replica: &Replica) -> bool
-    ensures { (c : Settings) → (r : ℕ) → (mine : List Made) → StandsForReplica c r mine replica.now
-        → result ≡ (has_begun r mine && not (is_over r mine)) }
-{
-    let begun = replica.leadership.has_begun();
-    let over = replica.leadership.is_over();
-    is_under_way(begun, over)
-}
-
 impl Walk {
     /// The states before any event. Takes all memory that it ever needs.
     pub fn new(alloc: Global, config: &Config) -> Result<Walk, NoMemory>
         requires { IsConfig config.now }
         ensures { IfOk result (λ walk. StandsForWalk config.now [] walk) }
     {
-        let mut replicas = Vec::with_capacity(alloc, usize::from(config.replicas))?;
+        let mut courses = Vec::with_capacity(alloc, usize::from(config.replicas))?;
         for replica in 0..config.replicas {
-            replicas.push_reserved(Replica::new(alloc, config, replica)?);
+            courses.push_reserved(Course::new(alloc, config, replica)?);
         }
         let regions = Regions::new(alloc, config)?;
-        Ok(Walk { replicas, regions })
+        Ok(Walk { courses, regions })
     }
 
     /// The fence of a region. `None` where there is no such region.
@@ -94,16 +74,16 @@ impl Walk {
     /// Whether a leadership of the replica is under way.
     pub fn leads(&self, r: u8) -> bool
         ensures { (past : List Made) → (c : Settings) → r < c.replicas
-            → StandsForWalk c past self.now → result ≡ leads_after r past }
+            → StandsForWalk c past self.now → result ≡ is_leading c r (part r past) }
     {
-        match self.replicas.get(usize::from(r)) {
+        match self.courses.get(usize::from(r)) {
             None => false,
-            Some(replica) => is_leading(replica),
+            Some(course) => course.is_leading(),
         }
     }
 
     /// Takes the next event of the legal list, and tells what it comes to. Takes no memory.
-    pub fn take(&mut self, config: &Config, event: &Event) -> Option<Told>
+    pub fn take(&mut self, config: &Config, event: &Event) -> Option<Turn>
         requires { IsConfig config.now }
         ensures stands { (past : List Made) → IsLegalHistory config.now (event.now ∷ past)
             → StandsForWalk config.now past self.old
@@ -113,9 +93,9 @@ impl Walk {
             → TellsStep config.now (part event.now.by past) event.now result }
     {
         self.regions.take(event);
-        match self.replicas.get_mut(usize::from(event.by)) {
+        match self.courses.get_mut(usize::from(event.by)) {
             None => None,
-            Some(replica) => Some(told_by(replica, config, event)),
+            Some(course) => Some(course.take(config, event)),
         }
     }
 }

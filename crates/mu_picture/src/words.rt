@@ -104,14 +104,14 @@ fn push_missed(
     sheet.push(b", it leads no more")
 }
 
-/// Adds what befell a leadership at a region.
-fn push_loss(sheet: &mut Sheet, what: &[u8], region: u8) -> Result<(), NoMemory>
+/// Adds what befell a leadership, by a region or a replica.
+fn push_loss(sheet: &mut Sheet, what: &[u8], id: u8) -> Result<(), NoMemory>
     ensures { OnOk result (sheet.new ≡ sheet.old
-        ++ (what.now ++ decimal region
+        ++ (what.now ++ decimal id
         ++ codes ", it leads no more")) }
 {
     sheet.push(what)?;
-    sheet.push_number(u64::from(region))?;
+    sheet.push_number(u64::from(id))?;
     sheet.push(b", it leads no more")
 }
 
@@ -134,6 +134,7 @@ pub fn push_deed_words(sheet: &mut Sheet, job: &Job, deed: Option<Deed>) -> Resu
         Some(Deed::Barred(p)) => push_loss(sheet, b" is not let into ", p),
         Some(Deed::Deposed(p)) => push_loss(sheet, b" sees another grant at ", p),
         Some(Deed::Outbid(p)) => push_loss(sheet, b" reads a greater number at ", p),
+        Some(Deed::Resign(q)) => push_loss(sheet, b" resigns to ", q),
         Some(Deed::Outrun(p, i)) => {
             sheet.push(b" is outrun at ")?;
             sheet.push_number(u64::from(p))?;
@@ -169,6 +170,7 @@ pub fn push_halt_words(sheet: &mut Sheet, halt: Option<Halt>) -> Result<(), NoMe
         None => Ok(()),
         Some(Halt::Stop) => sheet.push(b" stops"),
         Some(Halt::Spent) => sheet.push(b" has spent its budget"),
+        Some(Halt::Finish) => sheet.push(b" has finished"),
         Some(Halt::Pause(rounds)) => push_pause(sheet, rounds),
     }
 }

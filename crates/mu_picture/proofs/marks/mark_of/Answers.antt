@@ -1,4 +1,4 @@
-use Rattle.std.proofs.Common.{◌∙◌, ap, length}
+use Rattle.std.proofs.Common.{◌∙◌, ◌+◌, ap, length}
 use Rattle.mu_model.specs.Histories.{part}
 use Rattle.mu_model.specs.Regions.{fence_grant}
 use Rattle.mu_picture.specs.Deeds.{deed_of}
@@ -12,10 +12,11 @@ returns-clause-mark c = λ past legal held step.
     let script = c.args.script.now in
     let e = c.args.event.now in
     let mine = part e.by past in
-    let told = c.in_ok-told.ensures.tells past legal held in
+    let turn = c.in_ok-turn.ensures.tells past legal held in
     let granted = c.granted-granted.ensures past config legal.1.allowed.replica held in
-    let deed = c.deed_of-deed.ensures config mine told ∙ ap (λ g. deed_of config mine g e) granted in
-    let halt = c.halt_after-halt.ensures ∙ ap (λ n. halt_after config script e.by n) told.steps in
+    let deed = c.deed_of-deed.ensures config mine turn.told turn.resigns turn.named ∙ ap (λ g. deed_of config mine g e) granted in
+    let halt = c.halt_after-halt.ensures
+        ∙ (ap (λ n. halt_after config script e.by n c.in_ok-turn.turn.finishes) turn.told.steps ∙ ap (λ f. halt_after config script e.by (length mine + 1) f) turn.finishes) in
     c.made_of.ensures
     ∙ (ap (λ n. made_of n e.by c.deed_of-deed.result c.halt_after-halt.result) step
     ∙ (ap (λ d. made_of (length past) e.by d c.halt_after-halt.result) deed

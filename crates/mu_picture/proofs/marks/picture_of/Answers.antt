@@ -12,5 +12,5 @@ returns-clause-hidden c =
 
 pub returns-clause-lanes : goal.returns-clause-lanes
 returns-clause-lanes c =
-    let are : length c.in_ok-openings.openings.items ≡ c.args.config.now.replicas = ap length c.in_ok-openings.ensures ∙ length_openings c.args.config.now.replicas _ in
+    let are : length c.in_ok-openings.openings.items ≡ c.args.config.now.replicas = ap length c.in_ok-openings.ensures ∙ length_openings c.args.config.now c.args.config.now.replicas _ in
     omega (arith, are, c.requires.config.replicas.1)

@@ -9,9 +9,9 @@ loop-r-preserved c = λ past s is held.
     let low : r < s.replicas = omega (arith, c.loop-r-test.true, is) in
     c.in_ok-push.ensures.items
     ∙ (ap (λ l. l ++ c.opening_at.result ∷ []) (c.loop-r.invariant past s is held)
-    ∙ (ap (λ o. openings_of r past ++ o ∷ []) (c.opening_at.ensures past s low held) ∙ ap (λ n. openings_of n past) next))
+    ∙ (ap (λ o. openings_of s r past ++ o ∷ []) (c.opening_at.ensures past s low held) ∙ ap (λ n. openings_of s n past) next))
 
 pub returns : goal.returns
 returns c = λ past s is held.
     let done : c.loop-r.r ≡ c.args.n = omega (arith, c.loop-r-test.false, c.loop-r.auto.r-end) in
-    c.loop-r.invariant past s is held ∙ ap (λ n. openings_of n past) done
+    c.loop-r.invariant past s is held ∙ ap (λ n. openings_of s n past) done

@@ -9,4 +9,4 @@ use Rattle.mu_picture.proofs.openings.openings_at.Given as goal
 abbrev pub invariant-loop-r : goal.invariant-loop-r
 invariant-loop-r l =
     (past : List Event) → (c : Config) → l.n ≡ c.replicas → StandsForWalk c past l.walk
-    → l.openings.items ≡ openings_of l.r past
+    → l.openings.items ≡ openings_of c l.r past
