@@ -1,5 +1,5 @@
--- The cause of each ask, at each place of a leader: a leadership begins only where there is none, or
--- the one before is over, was left, or was not confirmed in 16 rounds.
+-- The cause of each ask, at each place of a leader: a leadership begins only where there is none,
+-- or the one before is over, was left, or was not confirmed in 16 rounds.
 use Rattle.std.specs.Prelude.{Bool, List, Some, true, false, ℕ, ◌+◌, ◌<◌, ◌∷◌, ◌≡◌, ◌≢◌, ◌≤◌, ◌⊎◌}
 use Rattle.mu_model.specs.declared.config.Config.{Config}
 use Rattle.mu_model.specs.declared.event.Answer.{Answer}

@@ -1,5 +1,5 @@
--- The counts of steps since each region was asked and its fence read, at each place of a leader: who
--- has to ask does both in time.
+-- The counts of steps since each region was asked and its fence read, at each place of a leader:
+-- who has to ask does both in time.
 use Rattle.std.specs.Prelude.{List, Some, false, true, ℕ, ◌*◌, ◌+◌, ◌<◌, ◌∷◌, ◌≡◌, ◌≤◌, ◌⊎◌}
 use Rattle.mu_agree.specs.Paces.{asks_or_rests, steps_since}
 use Rattle.mu_model.specs.declared.config.Config.{Config}

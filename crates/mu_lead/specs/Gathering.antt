@@ -1,5 +1,5 @@
--- Where the listing goes on while regions are asked and fences and minima are read, and that it leads
--- from then on until the leadership is over.
+-- Where the listing goes on while regions are asked and fences and minima are read, and that it
+-- leads from then on until the leadership is over.
 use Rattle.std.specs.Prelude.{Bool, List, Some, false, true, ℕ, ◌+◌, ◌<◌, ◌==◌, ◌∷◌, ◌≡◌, ◌≤◌, ◌⊎◌}
 use Rattle.mu_model.specs.declared.event.Answer.{Answer}
 use Rattle.mu_model.specs.declared.event.Event.{Event}

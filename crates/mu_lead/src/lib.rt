@@ -82,8 +82,8 @@ pub fn leaders_ask_with_cause()
     ensures { LeadersAskWithCause }
 {}
 
-/// Who has to ask asks each region and reads each fence in time, also beside what the other machines
-/// do.
+/// Who has to ask asks each region and reads each fence in time, also beside what the other
+/// machines do.
 pub fn elections_come_in_time()
     ensures { ElectionsComeInTime }
 {}
