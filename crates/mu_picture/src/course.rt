@@ -112,7 +112,7 @@ impl Course {
     {
         let state = Replica::new(alloc, config, replica)?;
         let scores = Scores::new(config.replicas, replica);
-        let heads = Published::none();
+        let heads = Published::new();
         let completion = Completion::new(alloc, config)?;
         Ok(Course {
             replica: state,
