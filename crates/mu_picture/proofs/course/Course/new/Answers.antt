@@ -6,6 +6,6 @@ returns c = record {
   replica = c.in_ok-state.ensures;
   scores = c.new-scores.ensures;
   resigned = refl;
-  heads = c.none-heads.ensures c.args.replica;
+  heads = c.new-heads.ensures c.args.replica;
   completion = c.in_ok-completion.ensures;
 }
