@@ -1,4 +1,5 @@
 pub mod Branches
 pub mod Lists
+pub mod Naming
 pub mod Rooms
 pub mod Rounds

@@ -3,6 +3,7 @@ ghost use Rattle.std.specs.Prelude.{IfOk, [], ◌≡◌};
 ghost use Rattle.mu_input.specs.Heads.{HaveHeads};
 ghost use Rattle.mu_model.specs.Contents.{IsConfig};
 ghost use Rattle.mu_outcome.specs.Outcomes.{Agrees, IsRun, IsWithinJob};
+ghost use Rattle.mu_cluster.specs.Naming.{NamesFirstUnpaused};
 
 use crate::lists::OutcomeRoom;
 use crate::rounds::{finished, seats};
@@ -26,6 +27,7 @@ pub fn replay(alloc: Global, job: Job) -> Result<Outcome, NoMemory>
     ensures run { IfOk result IsRun }
     ensures agrees { IfOk result Agrees }
     ensures reach { IfOk result IsWithinJob }
+    ensures names { IfOk result NamesFirstUnpaused }
 {
     let memory = WordFabric::start(alloc, &job.config)?;
     replay_over(alloc, job, memory)
@@ -45,6 +47,7 @@ pub fn replay_over<M: Memory>(alloc: Global, job: Job, memory: M) -> Result<Outc
     ensures run { IfOk result IsRun }
     ensures agrees { IfOk result Agrees }
     ensures reach { IfOk result IsWithinJob }
+    ensures names { IfOk result NamesFirstUnpaused }
 {
     let room = OutcomeRoom::new(alloc, &job.config)?;
     let mut seats = seats(alloc, &job)?;
