@@ -1,9 +1,9 @@
 -- The replicas of a run agree, and the replies are the store's over what they agree on.
-use Rattle.std.proofs.Common.{◌≡◌, ◌∙◌, ℕ, suc, zero, ◌+◌, ◌%◌, ◌<◌, ◌≤◌, ◌==◌, ◌&&◌, Bool, true, false, cond, List, [], ◌∷◌, ◌++◌, None, Some, ap, append_assoc, arith, drop, get_or, inl, inr, length, refl, subst, sym, take, ◌⊎◌}
+use Rattle.std.proofs.Common.{◌≡◌, ◌∙◌, ℕ, suc, zero, ◌+◌, ◌%◌, ◌<◌, ◌≤◌, ◌==◌, ◌&&◌, Bool, true, false, cond, List, [], ◌∷◌, ◌++◌, None, Some, ap, arith, drop, get_or, inl, inr, length, refl, subst, sym, take, ◌⊎◌}
 use Rattle.std.specs.List.{slice_get}
-use Rattle.std.proofs.lemmas.Bool.{cases_eq, cases_lt, eqb-true, and_parts}
+use Rattle.std.proofs.lemmas.Bool.{cases_eq, eqb-true}
 use Rattle.std.proofs.lemmas.List.{take-append-drop}
-use Rattle.std.proofs.lemmas.Option.{slice_get-get_or, slice_get_within}
+use Rattle.std.proofs.lemmas.Option.{slice_get-get_or}
 use Rattle.kv_store.specs.Commands.{Request}
 use Rattle.kv_store.specs.Sessions.{CountsFrom, IsInSession, numbers_of}
 use Rattle.kv_store.proofs.InSession.{numbers_of-append}
@@ -14,7 +14,7 @@ use Rattle.mu_model.specs.declared.config.Config.{Config}
 use Rattle.mu_model.specs.declared.event.Answer.{Answer}
 use Rattle.mu_model.specs.declared.event.Event.{Event}
 use Rattle.mu_model.specs.declared.event.Verb.{Verb}
-use Rattle.mu_model.specs.Contents.{IsConfig, IsInSession as IsListInSession, client_of, counted, is_batch, number_of, numbers_in, rest_of, row_count, rows_from, rows_of, session}
+use Rattle.mu_model.specs.Contents.{IsConfig, IsInSession as IsListInSession, client_of, counted, is_batch, numbers_in, rest_of, row_count, rows_from, rows_of, session}
 use Rattle.mu_model.specs.Histories.{history, part}
 use Rattle.mu_model.specs.Knowledge.{applied, commits, grown, has_entry, is_accepted_by_all, is_known_decided, known}
 use Rattle.mu_model.proofs.Basics.{same_some}
@@ -31,7 +31,7 @@ use Rattle.std.proofs.lemmas.List.Elements.{All-from_get_or}
 use Rattle.mu_follow.proofs.Kept.{applied_is}
 use Rattle.mu_outcome.specs.declared.outcome.Outcome.{Outcome}
 use Rattle.mu_outcome.specs.Entries.{commands_in, commands_of}
-use Rattle.mu_outcome.specs.Outcomes.{Agrees, IsPrefixOf, IsRun, IsWithinJob, commits_of, events_of, journal_of, log_of, or_empty}
+use Rattle.mu_outcome.specs.Outcomes.{Agrees, IsPrefixOf, IsRun, IsWithinJob, journal_of, log_of, or_empty}
 use Rattle.mu_outcome.specs.Runs.{IsRunOver}
 
 -- what is applied is known

@@ -1,13 +1,11 @@
-use Rattle.std.proofs.Common.{◌≡◌, ◌∙◌, ◌≤◌, ◌*◌, ◌+◌, None, Some, ap, arith, length, refl, subst, sym}
+use Rattle.std.proofs.Common.{◌∙◌, ◌+◌, None, Some, ap, arith, length, refl, subst, sym}
 use Rattle.mu_model.specs.Contents.{row_count}
 use Rattle.mu_model.specs.Legal.{IsLegal}
 use Rattle.mu_model.specs.Room.{reserve}
 use Rattle.kv_store.specs.Tables.{replies}
-use Rattle.mu_cluster.specs.declared.lists.Lists.{Lists}
 use Rattle.mu_outcome.specs.declared.outcome.Outcome.{Outcome}
 use Rattle.mu_outcome.specs.Entries.{commands_in, longest}
 use Rattle.mu_cluster.specs.Lists.{HoldsLists}
-use Rattle.mu_cluster.specs.Rounds.{Played}
 use Rattle.mu_cluster.proofs.Filling.{few_commands_in, logs_within, run_of}
 use Rattle.mu_cluster.proofs.Naming.{named_of}
 use Rattle.mu_outcome.proofs.LongestLogs.{longest_within}
