@@ -1,5 +1,5 @@
 -- The turns of a replica over a port of its own, and what is left of it in the lists of an outcome.
-use Rattle.std.proofs.Common.{◌≡◌, ◌≢◌, ◌∙◌, ℕ, suc, zero, ◌<◌, ◌≤◌, List, [], ◌∷◌, ◌++◌, None, Some, ap, arith, length, map, refl, reverse, subst, sym}
+use Rattle.std.proofs.Common.{◌≡◌, ◌∙◌, ℕ, suc, ◌<◌, List, [], ◌∷◌, ◌++◌, None, Some, ap, arith, length, refl, reverse, subst, sym}
 use Rattle.std.specs.declared.option.Option.{Option}
 use Rattle.std.specs.Prelude.{All}
 use Rattle.std.specs.List.{slice_get}
@@ -11,7 +11,7 @@ use Rattle.mu_model.specs.declared.script.End.{End}
 use Rattle.mu_model.specs.declared.script.Script.{Script}
 use Rattle.mu_model.specs.Contents.{IsConfig}
 use Rattle.mu_model.specs.Ends.{EndsBy}
-use Rattle.mu_model.specs.Histories.{history, part}
+use Rattle.mu_model.specs.Histories.{part}
 use Rattle.mu_model.specs.Legal.{IsLegal}
 use Rattle.mu_model.specs.Parts.{HasParts}
 use Rattle.mu_model.proofs.Basics.{same_some}
@@ -21,8 +21,7 @@ use Rattle.mu_node.specs.declared.turn.Turn.{Turn}
 use Rattle.mu_node.specs.Node.{StandsForNode}
 use Rattle.mu_node.specs.Turns.{IsTurn}
 use Rattle.shared_fabric.specs.Gathering.{AreOfOneList, Collected, IsSamePort, PortValue}
-use Rattle.mu_cluster.specs.declared.branch.Branch.{Branch}
-use Rattle.mu_cluster.specs.Branches.{Drives, Goes, HasEnd, IsDriven, IsFreshPort}
+use Rattle.mu_cluster.specs.Branches.{Drives, Goes, HasEnd, IsFreshPort}
 use Rattle.mu_cluster.specs.Rounds.{EndsNowhereBefore, part_of}
 use Rattle.mu_cluster.proofs.Seats.{next_before}
 

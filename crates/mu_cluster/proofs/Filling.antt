@@ -1,5 +1,5 @@
 -- What each replica leaves stands in the lists of an outcome, and the outcome is a run.
-use Rattle.std.proofs.Common.{◌≡◌, ◌≢◌, ◌∙◌, ℕ, suc, zero, ◌+◌, ◌*◌, ◌%◌, ◌<◌, ◌≤◌, Bool, true, false, cond, List, [], ◌∷◌, ◌++◌, None, Some, ap, append-nil, arith, inl, inr, length, map, refl, subst, sym, take, drop}
+use Rattle.std.proofs.Common.{◌≡◌, ◌∙◌, ℕ, suc, zero, ◌+◌, ◌*◌, ◌%◌, ◌<◌, ◌≤◌, Bool, true, false, cond, List, [], ◌∷◌, ◌++◌, None, Some, ap, append-nil, arith, inl, inr, length, map, refl, subst, sym, take, drop}
 use Rattle.std.specs.declared.option.Option.{Option}
 use Rattle.std.specs.Prelude.{nat_lt, not, slice_index}
 use Rattle.std.specs.List.{slice_get}
@@ -19,7 +19,6 @@ use Rattle.mu_model.specs.Histories.{has, history, part}
 use Rattle.mu_model.specs.Journals.{Record}
 use Rattle.mu_model.specs.Knowledge.{applied, commits, has_entry, known}
 use Rattle.mu_model.specs.Legal.{IsLegal}
-use Rattle.mu_model.specs.Parts.{HasParts, IsPossible}
 use Rattle.mu_model.specs.Room.{reserve}
 use Rattle.mu_model.proofs.Basics.{same_some}
 use Rattle.mu_model.proofs.Lists.{get_front, get_push_here}
@@ -39,8 +38,8 @@ use Rattle.mu_cluster.specs.Lists.{Adds, HasRoom, HoldsLists, Leaves}
 use Rattle.mu_cluster.specs.Paces.{AreDiligent}
 use Rattle.mu_outcome.specs.Outcomes.{IsRun, commits_of, events_of, journal_of, log_of, or_empty}
 use Rattle.mu_outcome.specs.Runs.{IsRunOver}
-use Rattle.mu_cluster.specs.Rounds.{EndsNowhereBefore, MayTake, Played, Sits, id_of, part_of}
-use Rattle.mu_outcome.specs.Turns.{IsTurns, ids_after, pace}
+use Rattle.mu_cluster.specs.Rounds.{EndsNowhereBefore, MayTake, Played, Sits, part_of}
+use Rattle.mu_outcome.specs.Turns.{ids_after, pace}
 
 -- an end that is told where there is one
 end_told : (c : Config) (script : Script) (r : ℕ) (mine : List Event) (o : Option End) → TellsEnd c script r mine o → (end : End) × EndsBy c script r mine end → (e : End) × ((o ≡ Some e) × EndsBy c script r mine e)

@@ -3,7 +3,10 @@ pub mod Branching
 pub mod Driven
 pub mod FewCommands
 pub mod Filling
+pub mod InStep
 pub mod LogCommands
+pub mod Naming
 pub mod Ports
 pub mod Rounding
 pub mod Seats
+pub mod Trusting

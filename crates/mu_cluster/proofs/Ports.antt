@@ -1,5 +1,5 @@
 -- What a turn over a port of a memory says of the memory before and after it.
-use Rattle.std.proofs.Common.{◌≡◌, ◌∙◌, ℕ, List, Some, ap, subst, sym}
+use Rattle.std.proofs.Common.{◌≡◌, ◌∙◌, ℕ, List, Some, subst, sym}
 use Rattle.mu_model.specs.declared.config.Config.{Config}
 use Rattle.mu_model.specs.declared.event.Event.{Event}
 use Rattle.mu_model.specs.declared.script.Script.{Script}
@@ -10,7 +10,6 @@ use Rattle.mu_node.specs.declared.node.Node.{Node}
 use Rattle.mu_node.specs.declared.turn.Turn.{Turn}
 use Rattle.mu_node.specs.Node.{StandsForNode}
 use Rattle.mu_node.specs.Turns.{IsTurn}
-use Rattle.mu_cluster.specs.Rounds.{part_of}
 
 -- a turn of r from one list of events to another
 pub record Turned (k0 k1 : Config) (r0 r1 : ℕ) (e0 e1 : List Event) (script : Script) (turn : Turn) (node : Node) : Type 0 where

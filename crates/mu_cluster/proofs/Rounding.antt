@@ -1,5 +1,5 @@
 -- The turns of a round, one after the other, and the round as a whole.
-use Rattle.std.proofs.Common.{◌≡◌, ◌≢◌, ◌∙◌, ℕ, suc, zero, ◌+◌, ◌<◌, ◌≤◌, ◌==◌, ◌⊎◌, Bool, true, false, List, [], ◌∷◌, ◌++◌, None, Some, ap, append-nil, append_assoc, arith, cond, inl, inr, length, length-set, map, refl, set, subst, sym}
+use Rattle.std.proofs.Common.{◌≡◌, ◌≢◌, ◌∙◌, ℕ, suc, zero, ◌+◌, ◌<◌, ◌≤◌, ◌==◌, ◌⊎◌, Bool, true, false, List, [], ◌∷◌, ◌++◌, Some, ap, append-nil, append_assoc, arith, cond, inl, inr, length, length-set, refl, set, subst, sym}
 use Rattle.std.specs.Prelude.{if◌then◌else◌, nat_lt, not, slice_index}
 use Rattle.std.specs.List.{slice_get}
 use Rattle.std.proofs.lemmas.Bool.{cases_eq, lt-ltb, ne_eqb}
@@ -12,7 +12,7 @@ use Rattle.mu_model.specs.Histories.{has, history, part}
 use Rattle.mu_model.proofs.Basics.{same_some}
 use Rattle.mu_model.proofs.Lists.{get_set_here, get_set_other, set_get}
 use Rattle.mu_cluster.specs.declared.rounds.Seat.{Seat}
-use Rattle.mu_cluster.specs.Rounds.{MayTake, Played, Plays, Sits, all_left, id_of, left_of, part_of}
+use Rattle.mu_cluster.specs.Rounds.{MayTake, Played, Plays, Sits, all_left, left_of, part_of}
 use Rattle.mu_outcome.specs.Turns.{ids_after, ids_in_round, is_due, pace}
 
 abbrev Grows : ℕ → List Event → List Event → Type 0

@@ -1,6 +1,5 @@
 -- The turn of a replica in a round.
-use Rattle.std.proofs.Common.{◌≡◌, ◌≢◌, ◌∙◌, ℕ, suc, zero, ◌+◌, ◌*◌, ◌-◌, ◌^◌, ◌<◌, ◌≤◌, Bool, true, false, ◌&&◌, List, [], ◌∷◌, ◌++◌, None, Some, ap, append-nil, arith, inl, inr, length, map, refl, subst, sym}
-use Rattle.std.specs.Prelude.{if◌then◌else◌, nat_lt, not}
+use Rattle.std.proofs.Common.{◌≡◌, ◌∙◌, ℕ, suc, ◌+◌, ◌^◌, ◌<◌, ◌≤◌, Bool, true, false, List, [], ◌∷◌, ◌++◌, ap, append-nil, arith, inl, inr, length, map, refl, subst, sym}
 use Rattle.std.proofs.lemmas.Bool.{lt-ltb, le-ltb, true≢false}
 use Rattle.std.proofs.lemmas.List.{map-append}
 use Rattle.mu_model.specs.declared.config.Config.{Config}
@@ -14,7 +13,7 @@ use Rattle.mu_node.specs.Node.{StandsForNode}
 use Rattle.mu_node.specs.Turns.{HasNoEnd}
 use Rattle.mu_cluster.specs.declared.rounds.Seat.{Seat}
 use Rattle.mu_cluster.specs.Rounds.{EndsNowhereBefore, KeepsPace, Plays, Sits, id_of, left_of, part_of}
-use Rattle.mu_outcome.specs.Turns.{Pace, is_due, pace, pace_after, rounds_paused}
+use Rattle.mu_outcome.specs.Turns.{Pace, is_due, pace, rounds_paused}
 
 -- who has taken all steps isn't due
 spent : (pauses : List Pause) (r all : ℕ) (p : Pace) → p.taken ≡ all → is_due pauses r all p ≡ false

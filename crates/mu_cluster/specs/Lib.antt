@@ -1,5 +1,6 @@
 pub mod Branches
 pub mod Lists
+pub mod Naming
 pub mod Paces
 pub mod Rooms
 pub mod Rounds

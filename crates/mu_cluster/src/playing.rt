@@ -4,6 +4,7 @@ ghost use Rattle.mu_input.specs.Heads.{HaveHeads};
 ghost use Rattle.mu_model.specs.Contents.{IsConfig};
 ghost use Rattle.mu_cluster.specs.Paces.{AreDiligent};
 ghost use Rattle.mu_outcome.specs.Outcomes.{Agrees, IsRun, IsWithinJob};
+ghost use Rattle.mu_cluster.specs.Naming.{NamesFirstUnpaused};
 
 use crate::lists::OutcomeRoom;
 use crate::rounds::{finished, seats};
@@ -28,6 +29,7 @@ pub fn replay(alloc: Global, job: Job) -> Result<Outcome, NoMemory>
     ensures diligent { IfOk result AreDiligent }
     ensures agrees { IfOk result Agrees }
     ensures reach { IfOk result IsWithinJob }
+    ensures names { IfOk result NamesFirstUnpaused }
 {
     let memory = WordFabric::start(alloc, &job.config)?;
     replay_over(alloc, job, memory)
@@ -48,6 +50,7 @@ pub fn replay_over<M: Memory>(alloc: Global, job: Job, memory: M) -> Result<Outc
     ensures diligent { IfOk result AreDiligent }
     ensures agrees { IfOk result Agrees }
     ensures reach { IfOk result IsWithinJob }
+    ensures names { IfOk result NamesFirstUnpaused }
 {
     let room = OutcomeRoom::new(alloc, &job.config)?;
     let mut seats = seats(alloc, &job)?;

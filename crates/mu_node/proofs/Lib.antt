@@ -6,6 +6,7 @@ pub mod Leading
 pub mod Leads
 pub mod Left
 pub mod Moving
+pub mod Naming
 pub mod Open
 pub mod Paces
 pub mod Pacing

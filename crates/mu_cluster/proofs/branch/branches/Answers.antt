@@ -1,11 +1,10 @@
-use Rattle.std.proofs.Common.{◌≡◌, ◌∙◌, ap, sym, List, ◌++◌, [], ◌∷◌, Some, arith, length, map, append_assoc, length-append, subst}
+use Rattle.std.proofs.Common.{◌≡◌, ◌∙◌, ap, sym, ◌++◌, [], ◌∷◌, Some, arith, length, map, append_assoc, length-append, subst}
 use Rattle.std.specs.List.{slice_get}
 use Rattle.std.specs.Vec.Iter.{into_iter_items}
-use Rattle.mu_model.specs.declared.config.Config.{Config}
 use Rattle.mu_node.specs.Node.{StandsForNode}
 use Rattle.shared_fabric.proofs.Gathers.{get_middle, map_snoc}
 use Rattle.mu_cluster.specs.declared.branch.Branch.{Branch}
-use Rattle.mu_cluster.specs.Branches.{Drives, IsFreshPort}
+use Rattle.mu_cluster.specs.Branches.{Drives}
 use Rattle.mu_cluster.proofs.Branching.{all_snoc, first_drives}
 use Rattle.mu_cluster.proofs.branch.branches.Goals as goal
 

@@ -1,4 +1,4 @@
-use Rattle.std.proofs.Common.{[], subst, sym}
+use Rattle.std.proofs.Common.{subst, sym}
 use Rattle.std.proofs.lemmas.Bool.{true≢false}
 use Rattle.mu_node.specs.Turns.{IsTurn}
 use Rattle.std.specs.Prelude.{None}

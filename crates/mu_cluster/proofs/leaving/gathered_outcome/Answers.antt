@@ -1,7 +1,5 @@
-use Rattle.std.proofs.Common.{◌≡◌, ◌∙◌, ◌≤◌, ◌*◌, ◌+◌, List, None, Some, ap, arith, length, map, refl, subst, sym}
-use Rattle.mu_model.specs.declared.event.Event.{Event}
+use Rattle.std.proofs.Common.{◌∙◌, ◌+◌, None, Some, ap, arith, length, map, refl, subst, sym}
 use Rattle.mu_model.specs.Contents.{row_count}
-use Rattle.mu_model.specs.Legal.{IsLegal}
 use Rattle.mu_model.specs.Parts.{HasParts}
 use Rattle.mu_model.specs.Room.{reserve}
 use Rattle.kv_store.specs.Tables.{replies}

@@ -1,8 +1,7 @@
-use Rattle.std.proofs.Common.{◌≡◌, ◌∙◌, ◌+◌, ◌++◌, ◌∷◌, ◌<◌, ℕ, suc, [], Some, ap, arith, length, subst, sym}
+use Rattle.std.proofs.Common.{◌≡◌, ◌∙◌, ◌+◌, ◌++◌, ◌∷◌, suc, [], Some, ap, arith, length, subst, sym}
 use Rattle.std.specs.List.{slice_get}
 use Rattle.std.specs.Vec.Iter.{into_iter_items}
 use Rattle.std.proofs.lemmas.List.{length_push}
-use Rattle.std.proofs.lemmas.Option.{slice_get_within}
 use Rattle.mu_model.specs.Histories.{history}
 use Rattle.mu_model.proofs.Parts.{part_is_possible}
 use Rattle.mu_cluster.specs.Lists.{HoldsLists}

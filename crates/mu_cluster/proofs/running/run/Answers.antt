@@ -2,10 +2,9 @@ use Rattle.std.proofs.Common.{◌≡◌, ◌∙◌, List, ap, arith, length, map
 use Rattle.mu_input.specs.Heads.{HaveHeads}
 use Rattle.mu_input.specs.declared.job.Job.{Job}
 use Rattle.mu_model.specs.declared.config.Config.{Config}
-use Rattle.mu_model.specs.declared.event.Event.{Event}
 use Rattle.mu_model.specs.Contents.{IsConfig}
 use Rattle.mu_node.specs.declared.node.Node.{Node}
-use Rattle.shared_fabric.specs.Gathering.{AreAllPorts, ArePorts, Collected, PortValue, fresh_ports}
+use Rattle.shared_fabric.specs.Gathering.{ArePorts, Collected, PortValue}
 use Rattle.shared_fabric.proofs.Gathers.{length_fresh}
 use Rattle.mu_cluster.specs.Branches.{AreLeft}
 use Rattle.mu_cluster.proofs.Agreeing.{agrees_over, within_over}

@@ -1,0 +1,155 @@
+-- In a replay whose script has no pause replica 0 is named leader until it has ended.
+use Rattle.std.proofs.Common.{◌≡◌, ◌∙◌, ◌≢◌, ℕ, suc, zero, ◌+◌, ◌<◌, ◌≤◌, ◌==◌, inl, inr, Bool, true, false, cond, Some, List, [], ◌∷◌, ◌++◌, ap, append_assoc, arith, length, map, refl, subst, sym}
+use Rattle.std.specs.Prelude.{nat_lt, not, slice_index}
+use Rattle.std.specs.List.{slice_get}
+use Rattle.std.proofs.lemmas.Bool.{cases_lt, ltb-true, true≢false}
+use Rattle.std.proofs.lemmas.List.{length-append, length-reverse, reverse-append}
+use Rattle.mu_agree.proofs.Legal.{legal_older}
+use Rattle.mu_model.specs.declared.config.Config.{Config}
+use Rattle.mu_model.specs.declared.event.Event.{Event}
+use Rattle.mu_model.specs.declared.event.Verb.{Verb}
+use Rattle.mu_model.specs.Histories.{has, history, part}
+use Rattle.mu_model.specs.Journals.{Record}
+use Rattle.mu_model.specs.Legal.{IsLegal, IsLegalHistory}
+use Rattle.mu_model.specs.Scores.{leader, score}
+use Rattle.mu_model.specs.Steps.{is_asking_verb}
+use Rattle.mu_model.proofs.Basics.{same_number, same_some}
+use Rattle.mu_model.proofs.Parts.{filter-append, history-part}
+use Rattle.mu_node.specs.Journal.{WasMade}
+use Rattle.mu_node.proofs.Naming.{asker_named, first_named}
+use Rattle.mu_outcome.specs.declared.outcome.Outcome.{Outcome}
+use Rattle.mu_outcome.specs.Outcomes.{IsRun, events_of}
+use Rattle.mu_outcome.specs.Turns.{ids_after}
+use Rattle.mu_pace.specs.Counters.{AtEachStep}
+use Rattle.mu_pace.proofs.Counting.{steps_before}
+use Rattle.mu_cluster.specs.declared.rounds.Seat.{Seat}
+use Rattle.mu_cluster.specs.Naming.{NamesFirst, NamesFirstUnpaused, IsReached}
+use Rattle.mu_cluster.specs.Rounds.{Played, id_of, part_of}
+use Rattle.mu_cluster.proofs.Filling.{has_item}
+use Rattle.mu_cluster.proofs.InStep.{StaysAhead, in_step}
+use Rattle.mu_cluster.proofs.Trusting.{trusts}
+
+-- the history before an event, and with it
+before_event : (events earlier later : List Event) (e : Event) → events ≡ earlier ++ e ∷ later → history events ≡ history (e ∷ later) ++ history earlier
+before_event events earlier later e is = ap history is ∙ reverse-append earlier (e ∷ later)
+
+with_event : (events earlier later : List Event) (e : Event) → events ≡ earlier ++ e ∷ later → history events ≡ history later ++ (e ∷ history earlier)
+with_event events earlier later e is = before_event events earlier later e is ∙ (ap (λ l. l ++ history earlier) (reverse-append (e ∷ []) later) ∙ append_assoc (history later) (e ∷ []) (history earlier))
+
+-- what holds of each event of a part
+part_before : (P : List Event → Event → Type 0) (r : ℕ) (newer older : List Event) → AtEachStep P (part r (newer ++ older)) → AtEachStep P (part r older)
+part_before P r newer older held = steps_before P (part r newer) (part r older) (subst (AtEachStep P) (filter-append (λ e. e.by == r) newer older) held)
+
+part_step : (P : List Event → Event → Type 0) (older : List Event) (e : Event) → AtEachStep P (part e.by (e ∷ older)) → P (part e.by older) e
+part_step P older e held = go (e.by == e.by) (same_number e.by) held
+  where
+    go : (t : Bool) → t ≡ true → AtEachStep P (cond t (e ∷ part e.by older) (part e.by older)) → P (part e.by older) e
+    go true is held = held.1
+    go false is held = absurd (true≢false (sym is))
+
+-- where none passes, this one doesn't
+none_here : (test : Event → Bool) (newer older : List Event) (e : Event) → has test (newer ++ e ∷ older) ≡ false → test e ≡ false
+none_here test [] older e none = go (test e) none
+  where
+    go : (t : Bool) → cond t true (has test older) ≡ false → t ≡ false
+    go true is = absurd (true≢false is)
+    go false is = refl
+none_here test (f ∷ newer) older e none = none_here test newer older e (go (test f) none)
+  where
+    go : (t : Bool) → cond t true (has test (newer ++ e ∷ older)) ≡ false → has test (newer ++ e ∷ older) ≡ false
+    go true is = absurd (true≢false is)
+    go false is = is
+
+some_part : (q : ℕ) (events : List Event) → has (λ e. e.by == q) events ≡ true → 1 ≤ length (part q events)
+some_part q [] some = absurd (true≢false (sym some))
+some_part q (e ∷ events) some = go (e.by == q) some (some_part q events)
+  where
+    go : (t : Bool) → cond t true (has (λ f. f.by == q) events) ≡ true → (has (λ f. f.by == q) events ≡ true → 1 ≤ length (part q events)) → 1 ≤ length (cond t (e ∷ part q events) (part q events))
+    go true some ih = omega arith
+    go false some ih = ih some
+
+-- a replica that still makes an event has made fewer than all
+fewer_yet : (q : ℕ) (events earlier later : List Event) (e : Event) → events ≡ earlier ++ e ∷ later → has (λ f. f.by == q) (e ∷ later) ≡ true → length (part_of q earlier) < length (part_of q events)
+fewer_yet q events earlier later e is left =
+    let whole : length (part_of q events) ≡ length (part q (history (e ∷ later))) + length (part_of q earlier) =
+    ap (λ l. length (part q l)) (before_event events earlier later e is) ∙ (ap length (filter-append (λ f. f.by == q) (history (e ∷ later)) (history earlier)) ∙ length-append (part q (history (e ∷ later))) (part q (history earlier))) in
+    let same : length (part q (history (e ∷ later))) ≡ length (part q (e ∷ later)) = ap length (sym (history-part q (e ∷ later))) ∙ length-reverse (part q (e ∷ later)) in
+    let some = some_part q (e ∷ later) left in
+    omega (arith, whole, same, some)
+
+-- the events of a replay are those of nodes, in the order of rounds without a pause
+record AreUnpaused (c : Config) (events : List Event) (lengths : List ℕ) (rounds : ℕ) : Type 0 where
+  legal : IsLegal c events
+  whole : has (λ e. not (nat_lt e.by c.replicas)) (history events) ≡ false
+  order : map id_of events ≡ ids_after [] lengths rounds
+  first : 0 < c.replicas → slice_index lengths 0 ≡ length (part_of 0 events)
+  made : (r : ℕ) → r < c.replicas → AtEachStep (WasMade c r) (part_of r events)
+
+maker_inside : (c : Config) (events : List Event) (lengths : List ℕ) (rounds : ℕ) (earlier : List Event) (e : Event) → AreUnpaused c events lengths rounds → IsReached events earlier e → e.by < c.replicas
+maker_inside c events lengths rounds earlier e run at =
+    go (nat_lt e.by c.replicas) refl (none_here (λ f. not (nat_lt f.by c.replicas)) (history at.later) (history earlier) e (sym (ap (has (λ f. not (nat_lt f.by c.replicas))) (with_event events earlier at.later e at.is)) ∙ run.whole))
+  where
+    go : (t : Bool) → nat_lt e.by c.replicas ≡ t → not t ≡ false → e.by < c.replicas
+    go true is _ = ltb-true e.by c.replicas is
+    go false is none = absurd (true≢false none)
+
+-- whoever makes an event holds replica 0 to be alive
+holds_first : (c : Config) (events : List Event) (lengths : List ℕ) (rounds : ℕ) (earlier : List Event) (e : Event) → AreUnpaused c events lengths rounds → IsReached events earlier e → e.by ≢ 0 → (score e.by 0 (part_of e.by earlier)).1 ≡ true
+holds_first c events lengths rounds earlier e run at other =
+    let inside = maker_inside c events lengths rounds earlier e run at in
+    let some : 0 < c.replicas = omega (arith, inside) in
+    let most = slice_index lengths 0 in
+    let ahead = in_step lengths rounds 0 e.by events (omega (arith, other)) run.order in
+    let steps : AtEachStep (StaysAhead 0 most e.by) (e ∷ history earlier) = steps_before (StaysAhead 0 most e.by) (history at.later) (e ∷ history earlier) (subst (AtEachStep (StaysAhead 0 most e.by)) (with_event events earlier at.later e at.is) ahead) in
+    let step = steps.1 refl in
+    let fewer = fewer_yet 0 events earlier at.later e at.is at.left in
+    let all = run.first some in
+    let few : length (part_of e.by earlier) ≤ most = elim (cases_lt most (length (part_of e.by earlier) + 1)) [
+      | inl over ↦ (let ended = step.1 (omega (arith, over)) in absurd (omega (arith, ended, fewer, all)))
+      | inr under ↦ omega (arith, under)
+    ] in
+    let legal = legal_older c (history (e ∷ at.later)) (history earlier) (subst (IsLegalHistory c) (before_event events earlier at.later e at.is) run.legal) in
+    ap (λ s. s.1)
+    (trusts c 0 e.by most (history earlier) some inside (λ same. other (sym same)) legal steps.0 (made 0 some) (made e.by inside) few).full
+  where
+    made : (r : ℕ) → r < c.replicas → AtEachStep (WasMade c r) (part r (history earlier))
+    made r low = part_before (WasMade c r) r (history (e ∷ at.later)) (history earlier) (subst (λ l. AtEachStep (WasMade c r) (part r l)) (before_event events earlier at.later e at.is) (run.made r low))
+
+names_in : (c : Config) (events : List Event) (lengths : List ℕ) (rounds : ℕ) → AreUnpaused c events lengths rounds → NamesFirst c events
+names_in c events lengths rounds run = record { named = named; asks = asks }
+  where
+    named : (earlier : List Event) (e : Event) → IsReached events earlier e → leader c e.by (part_of e.by earlier) ≡ 0
+    named earlier e at =
+        let inside = maker_inside c events lengths rounds earlier e run at in
+        first_named c e.by (part_of e.by earlier) (omega (arith, inside)) (holds_first c events lengths rounds earlier e run at)
+
+    asks : (earlier : List Event) (e : Event) (p : ℕ) → IsReached events earlier e → e.verb ≡ Verb.Ask p → e.by ≡ 0
+    asks earlier e p at asked =
+        let inside = maker_inside c events lengths rounds earlier e run at in
+        let there = subst (λ l. AtEachStep (WasMade c e.by) (part e.by l)) (with_event events earlier at.later e at.is) (run.made e.by inside) in
+        let made = part_step (WasMade c e.by) (history earlier) e (part_before (WasMade c e.by) e.by (history at.later) (e ∷ history earlier) there) in
+        sym (asker_named c e.by p (part_of e.by earlier) e made (ap (is_asking_verb p) asked ∙ same_number p)) ∙ named earlier e at
+
+-- the length of a journal
+length_at : (journals : List Record) (r : ℕ) (events : List Event) → slice_get (map events_of journals) r ≡ Some events → slice_index (map (λ journal. length (events_of journal)) journals) r ≡ length events
+length_at [] r events at = cc
+length_at (journal ∷ journals) zero events at = ap length (same_some journal.events events at)
+length_at (journal ∷ journals) (suc r) events at = length_at journals r events at
+
+-- in what a replay leaves
+pub named_of : (o : Outcome) (order : Record) (seats : List Seat) (rounds : ℕ) → IsRun o → o.order ≡ Some order → Played o.job.config o.job.script order.events seats rounds 0 → NamesFirstUnpaused o
+named_of o order seats rounds run given played unpaused other also =
+    subst (λ (x : Record). NamesFirst o.job.config x.events) (same_some run.order other (sym run.given ∙ also))
+    (names_in o.job.config run.order.events (map (λ journal. length (events_of journal)) o.journals) run.turns.rounds (record {
+      legal = run.legal;
+      whole = run.parts.whole;
+      order = subst (λ pauses. map id_of run.order.events ≡ ids_after pauses (map (λ journal. length (events_of journal)) o.journals) run.turns.rounds) unpaused run.turns.is;
+      first = λ some. length_at o.journals 0 (part 0 run.order.events) (run.parts.each 0 some) ∙ (sym (length-reverse (part 0 run.order.events)) ∙ ap length (history-part 0 run.order.events));
+      made = λ r low. made r low;
+    }))
+  where
+    made : (r : ℕ) → r < o.job.config.replicas → AtEachStep (WasMade o.job.config r) (part_of r run.order.events)
+    made r low =
+        let count = played.count in
+        let found = has_item seats r (omega (arith, low, count)) in
+        subst (λ (x : Record). AtEachStep (WasMade o.job.config r) (part_of r x.events)) (same_some order run.order (sym given ∙ run.given)) (played.waits r found.0 found.1 (omega arith)).stands.made

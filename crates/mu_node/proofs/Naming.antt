@@ -1,0 +1,179 @@
+-- What a node's journal shows of its beats, of the counts that it reads, of whom it names and of its asks.
+use Rattle.std.proofs.Common.{◌≡◌, ◌∙◌, ◌≢◌, ℕ, suc, ◌+◌, ◌-◌, ◌<◌, ◌≤◌, ◌%◌, ◌==◌, ◌&&◌, ◌⊎◌, inl, inr, Bool, true, false, cond, None, Some, List, [], ◌∷◌, ◌++◌, ap, append_assoc, arith, drop, eqb-true, eq-eqb, length, refl, subst, sym, take}
+use Rattle.std.specs.Prelude.{if◌then◌else◌, nat_lt, not}
+use Rattle.std.specs.declared.option.Option.{Option}
+use Rattle.std.proofs.Math.Nat.{mod-eq_of_lt}
+use Rattle.std.proofs.lemmas.Bool.{cases_eq, cases_lt, ne_eqb, true≢false}
+use Rattle.std.proofs.lemmas.List.{length-take, take-append-drop}
+use Rattle.mu_model.specs.declared.config.Config.{Config}
+use Rattle.mu_model.specs.declared.event.Answer.{Answer}
+use Rattle.mu_model.specs.declared.event.Event.{Event}
+use Rattle.mu_model.specs.declared.event.Verb.{Verb}
+use Rattle.mu_model.specs.Answers.{answer_of}
+use Rattle.mu_model.specs.Bounds.{cycle}
+use Rattle.mu_model.specs.Histories.{has, how_many, newer_or, newest, or_zero, part, since}
+use Rattle.mu_model.specs.Knowledge.{known}
+use Rattle.mu_model.specs.Regions.{beats, is_beat_by}
+use Rattle.mu_model.specs.Scores.{beat_read, leader, next_score, score, score_after_read}
+use Rattle.mu_model.specs.Steps.{is_asking, is_asking_verb, is_beat, is_beat_read, is_beat_read_verb, is_beat_verb}
+use Rattle.mu_model.specs.Stretches.{is_odd}
+use Rattle.mu_detect.specs.Stands.{last_count}
+use Rattle.mu_detect.proofs.Leaders.{alive_leads, may_lead, own_leads}
+use Rattle.mu_detect.proofs.Least.{least_found}
+use Rattle.mu_grant.specs.Pace.{host_place}
+use Rattle.mu_grant.specs.Stands.{is_of_place}
+use Rattle.mu_lead.specs.Beside.{leads_at}
+use Rattle.mu_lead.specs.Standing.{verb_of}
+use Rattle.mu_pace.specs.Counters.{AtEachStep}
+use Rattle.mu_pace.proofs.Cycles.{rounds_read_in_time}
+use Rattle.mu_pace.proofs.Rounds.{rounds_keep_pace}
+use Rattle.mu_node.specs.Cycle.{other_at, place_now}
+use Rattle.mu_node.specs.Due.{verb_or_beat}
+use Rattle.mu_node.specs.Journal.{WasMade}
+use Rattle.mu_node.proofs.Rounding.{Fails, FailsBackground, background_fails, keeps_rounds, read_here}
+
+-- how often q has beaten is how many beats its part has
+pub beats_part : (q : ℕ) (past : List Event) → how_many is_beat (part q past) ≡ beats q past
+beats_part q [] = refl
+beats_part q (e ∷ past) = go (e.by == q) refl (beats_part q past)
+  where
+    own : (by : ℕ) (verb : Verb) → (by == q) ≡ true → is_beat_verb verb ≡ is_beat_by q by verb
+    own by Verb.Beat is = sym is
+    own by verb is = refl
+
+    others : (by : ℕ) (verb : Verb) → (by == q) ≡ false → is_beat_by q by verb ≡ false
+    others by Verb.Beat is = is
+    others by verb is = refl
+
+    go : (t : Bool) → (e.by == q) ≡ t → how_many is_beat (part q past) ≡ beats q past → how_many is_beat (cond t (e ∷ part q past) (part q past)) ≡ (if is_beat_by q e.by e.verb then beats q past + 1 else beats q past)
+    go true is ih = ap (λ n. cond (is_beat e) (n + 1) n) ih ∙ ap (λ t. cond t (beats q past + 1) (beats q past)) (own e.by e.verb is)
+    go false is ih = ih ∙ sym (ap (λ t. cond t (beats q past + 1) (beats q past)) (others e.by e.verb is))
+
+-- the beats of two stretches
+beats_append : (test : Event → Bool) (newer older : List Event) → how_many test (newer ++ older) ≡ how_many test newer + how_many test older
+beats_append test [] older = omega arith
+beats_append test (e ∷ newer) older = go (test e) (beats_append test newer older)
+  where
+    go : (t : Bool) → how_many test (newer ++ older) ≡ how_many test newer + how_many test older
+        → cond t (how_many test (newer ++ older) + 1) (how_many test (newer ++ older)) ≡ cond t (how_many test newer + 1) (how_many test newer) + how_many test older
+    go true ih = omega (arith, ih)
+    go false ih = ih
+
+some_beat : (test : Event → Bool) (past : List Event) → has test past ≡ true → 1 ≤ how_many test past
+some_beat test [] some = absurd (true≢false (sym some))
+some_beat test (e ∷ past) some = go (test e) some (some_beat test past)
+  where
+    go : (t : Bool) → cond t true (has test past) ≡ true → (has test past ≡ true → 1 ≤ how_many test past) → 1 ≤ cond t (how_many test past + 1) (how_many test past)
+    go true some ih = omega arith
+    go false some ih = ih some
+
+-- a node that has taken a step has beaten
+pub has_beaten : (c : Config) (r : ℕ) (mine : List Event) → r < c.replicas → AtEachStep (WasMade c r) mine → 1 ≤ length mine → 1 ≤ how_many is_beat mine
+has_beaten c r [] inside made some = some
+has_beaten c r (e ∷ []) inside made some =
+    let long : 0 < cycle c = omega arith in
+    first (is_beat e) (ap is_beat_verb (read_here c r 0 [] e made.1 (mod-eq_of_lt long) (omega (arith, inside))))
+  where
+    first : (t : Bool) → t ≡ true → 1 ≤ cond t (0 + 1) 0
+    first true is = omega arith
+    first false is = absurd (true≢false (sym is))
+has_beaten c r (e ∷ f ∷ mine) inside made some = go (is_beat e) (has_beaten c r (f ∷ mine) inside made.0 (omega arith))
+  where
+    go : (t : Bool) → 1 ≤ how_many is_beat (f ∷ mine) → 1 ≤ cond t (how_many is_beat (f ∷ mine) + 1) (how_many is_beat (f ∷ mine))
+    go true ih = omega arith
+    go false ih = ih
+
+-- it beats in each round of its cycle
+pub more_beaten : (c : Config) (r : ℕ) (newer older : List Event) → r < c.replicas → AtEachStep (WasMade c r) (newer ++ older) → cycle c ≤ length newer → how_many is_beat older < how_many is_beat (newer ++ older)
+more_beaten c r newer older inside made long =
+    let window = take (cycle c) newer in
+    let rest = drop (cycle c) newer in
+    let whole = take-append-drop (cycle c) newer in
+    let split : newer ++ older ≡ window ++ (rest ++ older) = ap (λ l. l ++ older) (sym whole) ∙ append_assoc window rest older in
+    let taken = length-take (cycle c) newer in
+    let full : length window ≡ cycle c = omega (arith, taken, long) in
+    let some = some_beat is_beat window ((rounds_read_in_time c r (newer ++ older) (keeps_rounds c r (newer ++ older) inside made)).beat window (rest ++ older) (record { newer = []; is = split }) full) in
+    let all = beats_append is_beat newer older in
+    let parts = ap (how_many is_beat) (sym whole) ∙ beats_append is_beat window rest in
+    omega (arith, some, all, parts)
+
+-- it reads no count of beats twice in a round of its cycle
+pub reads_apart : (c : Config) (r q : ℕ) (mine : List Event) (e : Event) → r < c.replicas → AtEachStep (WasMade c r) (e ∷ mine) → is_beat_read q e ≡ true → has (is_beat_read q) mine ≡ true → cycle c ≤ length (since (is_beat_read q) mine) + 1
+reads_apart c r q mine e inside made reads some = let k = (keeps_rounds c r (e ∷ mine) inside made).apart q in rounds_keep_pace.apart (cycle c) k.0 (is_beat_read q) mine e (omega arith) k.1 reads some
+
+-- an event that reads no count of q tells none
+pub reads_no_beat : (r q by : ℕ) (verb : Verb) (answer : Answer) → is_beat_read_verb q verb ≡ false → beat_read r q by verb answer ≡ None
+reads_no_beat r q by (Verb.ReadBeat p) (Answer.Number x) none = go (by == r) (p == q) none
+  where
+    go : (t s : Bool) → s ≡ false → (if t && s then Some x else None) ≡ None
+    go true true is = absurd (true≢false is)
+    go true false is = refl
+    go false s is = refl
+reads_no_beat r q by _ _ none = refl
+
+-- and one that r reads tells how often q has beaten
+pub reads_beats : (c : Config) (r q by : ℕ) (verb : Verb) (answer : Answer) (past : List Event) → by ≡ r → is_beat_read_verb q verb ≡ true → answer ≡ answer_of c by past verb → beat_read r q by verb answer ≡ Some (beats q past)
+reads_beats c r q by (Verb.ReadBeat p) answer past own reads says =
+    ap (beat_read r q by (Verb.ReadBeat p)) says
+    ∙ (ap (λ t. if t && (p == q) then Some (beats p past) else None) (eq-eqb by r own) ∙ (ap (λ t. if t then Some (beats p past) else None) reads ∙ ap (λ z. Some (beats z past)) (eqb-true p q reads)))
+reads_beats c r q by verb answer past own reads says = absurd (true≢false (sym reads))
+
+-- the score and the last count after an event that tells no count
+pub score_unread : (r q : ℕ) (mine : List Event) (e : Event) → beat_read r q e.by e.verb e.answer ≡ None → score r q (e ∷ mine) ≡ score r q mine
+score_unread r q mine e none = ap (score_after_read (score r q mine) (last_count r q mine)) none
+
+pub count_unread : (r q : ℕ) (mine : List Event) (e : Event) → beat_read r q e.by e.verb e.answer ≡ None → last_count r q (e ∷ mine) ≡ last_count r q mine
+count_unread r q mine e none = ap (λ o. or_zero (newer_or o (newest (λ f. beat_read r q f.by f.verb f.answer) mine))) none
+
+-- after one that tells a count
+pub count_read : (r q x : ℕ) (mine : List Event) (e : Event) → beat_read r q e.by e.verb e.answer ≡ Some x → last_count r q (e ∷ mine) ≡ x
+count_read r q x mine e tells = ap (λ o. or_zero (newer_or o (newest (λ f. beat_read r q f.by f.verb f.answer) mine))) tells
+
+-- another count than the last one keeps a full score
+pub full_kept : (r q x : ℕ) (mine : List Event) (e : Event) → beat_read r q e.by e.verb e.answer ≡ Some x → x ≢ last_count r q mine → score r q mine ≡ (15, true) → score r q (e ∷ mine) ≡ (15, true)
+full_kept r q x mine e tells other full =
+    ap (score_after_read (score r q mine) (last_count r q mine)) tells ∙ (ap (λ s. score_after_read s (last_count r q mine) (Some x)) full ∙ ap (λ t. next_score 15 true (not t)) (ne_eqb x (last_count r q mine) other))
+
+-- replica 0 names itself, and so does each other that holds it to be alive
+pub first_named : (c : Config) (r : ℕ) (mine : List Event) → 0 < c.replicas → (r ≢ 0 → (score r 0 mine).1 ≡ true) → leader c r mine ≡ 0
+first_named c r mine some alive = least_found (may_lead r mine) c.replicas 0 refl (passes (cases_eq r 0)) some
+  where
+    passes : (r ≡ 0) ⊎ (r ≢ 0) → may_lead r mine 0 ≡ true
+    passes (inl first) = subst (λ s. may_lead s mine 0 ≡ true) (sym first) (own_leads 0 mine)
+    passes (inr other) = alive_leads r 0 mine (alive other)
+
+-- an ask is none of the background
+asks_fail : (p : ℕ) → FailsBackground (is_asking_verb p)
+asks_fail p = record {
+  replays = record { beat = refl; fuo = λ q. refl; look = λ q i. refl; row = λ v k. refl; raise = λ q u. refl; raise_head = λ h. refl; head = λ q. refl };
+  host = host;
+}
+  where
+    host : (d : ℕ) (verb : Verb) → is_of_place d verb ≡ true → is_asking_verb p verb ≡ false
+    host d (Verb.Ask q) is = absurd (true≢false (sym is))
+    host d verb is = refl
+
+-- who asks names itself
+pub asker_named : (c : Config) (r p : ℕ) (mine : List Event) (e : Event) → WasMade c r mine e → is_asking p e ≡ true → leader c r mine ≡ r
+asker_named c r p mine e held asks = go (is_odd (length mine)) refl
+  where
+    not_due : (due : Option Verb) → Fails (is_asking_verb p) due → e.verb ≡ verb_or_beat due → ⊥
+    not_due due fails made = true≢false (sym asks ∙ (ap (is_asking_verb p) made ∙ fails))
+
+    named : (t : Bool) → (leader c r mine == r) ≡ t → e.verb ≡ verb_or_beat (if t then verb_of held.lead (known c r mine) else None) → leader c r mine ≡ r
+    named true is made = eqb-true (leader c r mine) r is
+    named false is made = absurd (not_due None refl made)
+
+    read : (s t : Bool) → is_asking_verb p (if s then Verb.Beat else if t then Verb.ReadBeat (other_at r (place_now c mine)) else Verb.ReadAsk (place_now c mine - c.replicas)) ≡ false
+    read true t = refl
+    read false true = refl
+    read false false = refl
+
+    go : (t : Bool) → is_odd (length mine) ≡ t → leader c r mine ≡ r
+    go true odd = named (leader c r mine == r) refl (held.made.replication odd)
+    go false even =
+        let made = held.made.background even in
+        elim (cases_lt (place_now c mine) (host_place c 0)) [
+          | inl low ↦ absurd (not_due made.0 (subst (Fails (is_asking_verb p)) (sym (made.1.read low)) (read (place_now c mine == 0) (nat_lt (place_now c mine) c.replicas))) made.2)
+          | inr high ↦ absurd (not_due made.0 (background_fails (is_asking_verb p) (asks_fail p) c r mine (leads_at held.lead.place) made.0 high made.1) made.2)
+        ]
