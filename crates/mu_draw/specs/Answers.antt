@@ -66,14 +66,14 @@ pub record TellsOfInput (left : Option (List ℕ)) (asked : Asked) (told : Told)
   pub whole : IfSome left (λ all. all ≡ bytes)
   pub draws : Draws bytes asked told
 
--- the source failed, or had more bytes than the limit, or there was no memory for them; or all were
--- read
+-- the source failed, or had more bytes than the limit, or there was no memory to read any; or all
+-- were read
 abbrev pub TellsOfSource : Option (List ℕ) → Option (List ℕ) → ℕ → ℕ → Asked → Told → Type 0
 TellsOfSource left now before after asked told =
     ((told ≡ Told.Said Said.ReadFault) × Rose before after × TakesAtMost left now TRACE_LIMIT)
     ⊎ (((told ≡ Told.Said Said.TooLong) × (after ≡ before)
     × IfSome left (λ bytes. TRACE_LIMIT < length bytes))
-    ⊎ (((told ≡ Told.Said Said.NoMemory) × (after ≡ before))
+    ⊎ (((told ≡ Told.Said Said.NoMemory) × (now ≡ left) × (after ≡ before))
     ⊎ ((after ≡ before) × TellsOfInput left asked told)))
 
 -- the usage is told exactly where the words ask for nothing, and then nothing is read
