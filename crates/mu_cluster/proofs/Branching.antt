@@ -1,10 +1,8 @@
 -- The turns of a replica over a port of its own, and what is left of it in the lists of an outcome.
-use Rattle.std.proofs.Common.{◌≡◌, ◌∙◌, ℕ, suc, ◌<◌, List, [], ◌∷◌, ◌++◌, None, Some, ap, arith, length, refl, reverse, subst, sym}
+use Rattle.std.proofs.Common.{◌≡◌, ◌∙◌, ℕ, suc, ◌<◌, List, [], ◌∷◌, None, Some, ap, arith, length, refl, reverse, subst, sym}
 use Rattle.std.specs.declared.option.Option.{Option}
-use Rattle.std.specs.Prelude.{All}
 use Rattle.std.specs.List.{slice_get}
 use Rattle.std.proofs.lemmas.List.{reverse-reverse}
-use Rattle.std.proofs.lemmas.List.Elements.{All-append, All-cons, All-nil}
 use Rattle.mu_model.specs.declared.config.Config.{Config}
 use Rattle.mu_model.specs.declared.event.Event.{Event}
 use Rattle.mu_model.specs.declared.script.End.{End}
@@ -69,9 +67,6 @@ first_drives c script r p node good fresh stands stops = record {
   goes = subst (λ k. Goes k script p.id p.part node) (sym fresh.config)
       (subst (λ l. Goes c script p.id l node) (sym fresh.empty) (record { stands = stands; stops = stops; before = none_before c script p.id }));
 }
-
-pub all_snoc : {X : Type 0} (P : X → Type 0) → (xs : List X) (x : X) → All P xs → P x → All P (xs ++ x ∷ [])
-all_snoc P xs x h p = All-append P xs (x ∷ []) h (All-cons P x [] p (All-nil P))
 
 -- a part in true order is the part of its list
 pub mine_part : (c : Config) (events : List Event) (parts : List (List Event)) (r : ℕ) (mine : List Event) → r < c.replicas → HasParts c events parts → slice_get parts r ≡ Some (reverse mine) → mine ≡ part_of r events

@@ -21,7 +21,7 @@ use Rattle.mu_model.specs.Knowledge.{applied, commits, has_entry, known}
 use Rattle.mu_model.specs.Legal.{IsLegal}
 use Rattle.mu_model.specs.Room.{reserve}
 use Rattle.mu_model.proofs.Basics.{same_some}
-use Rattle.mu_model.proofs.Lists.{get_front, get_push_here}
+use Rattle.mu_model.proofs.Lists.{get_front, get_push_here, item_below}
 use Rattle.mu_model.proofs.Parts.{history-part, part_is_possible}
 use Rattle.mu_agree.proofs.Readings.{known_within}
 use Rattle.mu_known.proofs.Fetched.{batch_there, front_fits}
@@ -136,11 +136,6 @@ index_of [] i x at = cc
 index_of (y ∷ ys) zero x at = same_some y x at
 index_of (y ∷ ys) (suc i) x at = index_of ys i x at
 
-pub has_item : {A : Type 0} (xs : List A) (i : ℕ) → i < length xs → (x : A) × (slice_get xs i ≡ Some x)
-has_item [] i low = absurd (omega (arith, low))
-has_item (x ∷ xs) zero low = (x, refl)
-has_item (x ∷ xs) (suc i) low = has_item xs i (omega (arith, low))
-
 -- what a run leaves is what the definitions give of the parts of its list
 pub run_over : (o : Outcome) (events : List Event) (lists : Lists) → IsLegal o.job.config events → o.journals ≡ lists.journals.items → o.logs ≡ lists.logs.items → o.commits ≡ lists.commits.items → o.ends ≡ lists.ends.items
     → HoldsLists o.job.config o.job.script events o.job.config.replicas lists → has (λ e. not (nat_lt e.by o.job.config.replicas)) (history events) ≡ false → o.replies ≡ replies (commands_in o.job (longest o.logs)) → IsRunOver events o
@@ -222,7 +217,7 @@ run_of o order lists seats rounds given legal js ls cs es held played ended answ
     turn_at r low =
         let count = played.count in
         let inside : r < length seats = omega (arith, low, many, count) in
-        let found = has_item seats r inside in
+        let found = item_below seats r inside in
         let sits = played.waits r found.0 found.1 (omega arith) in
         let is = long r (omega (arith, low, many)) in
         (sits.keeps (slice_index lengths r) (omega (arith, is)) (λ _. is)).0 ∙ sym is

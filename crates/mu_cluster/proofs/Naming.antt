@@ -25,7 +25,7 @@ use Rattle.mu_pace.proofs.Counting.{steps_before}
 use Rattle.mu_cluster.specs.declared.rounds.Seat.{Seat}
 use Rattle.mu_cluster.specs.Naming.{NamesFirst, NamesFirstUnpaused, IsReached}
 use Rattle.mu_cluster.specs.Rounds.{Played, id_of, part_of}
-use Rattle.mu_cluster.proofs.Filling.{has_item}
+use Rattle.mu_model.proofs.Lists.{item_below}
 use Rattle.mu_cluster.proofs.InStep.{StaysAhead, in_step}
 use Rattle.mu_cluster.proofs.Trusting.{trusts}
 
@@ -151,5 +151,5 @@ named_of o order seats rounds run given played unpaused other also =
     made : (r : ℕ) → r < o.job.config.replicas → AtEachStep (WasMade o.job.config r) (part_of r run.order.events)
     made r low =
         let count = played.count in
-        let found = has_item seats r (omega (arith, low, count)) in
+        let found = item_below seats r (omega (arith, low, count)) in
         subst (λ (x : Record). AtEachStep (WasMade o.job.config r) (part_of r x.events)) (same_some order run.order (sym given ∙ run.given)) (played.waits r found.0 found.1 (omega arith)).stands.made

@@ -4,13 +4,13 @@ use Rattle.std.specs.Prelude.{if◌then◌else◌, ◌⊎◌}
 use Rattle.std.specs.List.{AllByRecursion, IsDistinct, list_any}
 use Rattle.std.proofs.Math.Dec.{eqb}
 use Rattle.std.proofs.lemmas.Bool.{false_from_ne_true, ltb-true, ne_eqb, or_cases}
-use Rattle.std.proofs.lemmas.List.{append_assoc, append-nil, take_more}
+use Rattle.std.proofs.lemmas.List.{append-nil, take_more}
 use Rattle.std.proofs.lemmas.Map.Keys.{IsDistinct-cons}
 use Rattle.std.proofs.lemmas.Map.Steps.{length-le_from_distinct_below}
 use Rattle.mu_model.specs.declared.config.Config.{Config}
 use Rattle.mu_model.specs.Contents.{IsConfig, IsInSession, client_of, counted, holds_all, includes, is_batch, number_of, numbers_in, rest_of, row_count, rows_from, rows_in, rows_of, session}
 use Rattle.mu_model.proofs.Basics.{same_number}
-use Rattle.mu_model.proofs.Scans.{all_at}
+use Rattle.mu_model.proofs.Scans.{all_at, rows_in-append}
 use Rattle.mu_agree.proofs.Sessions.{row_within}
 use Rattle.mu_agree.proofs.Sound.{Failing, some_fails}
 use Rattle.mu_lead.proofs.Due.{last_there}
@@ -206,14 +206,10 @@ all_held c values config s = go (holds_all c values) refl
                 by_test true here is = let same = eqb-true f.who q here in let low = f.below in omega (arith, same, low)
                 by_test false here is = rows_below c values q config is
 
-rows_append : (c : Config) (xs ys : List ℕ) → rows_in c (xs ++ ys) ≡ rows_in c xs ++ rows_in c ys
-rows_append c [] ys = refl
-rows_append c (x ∷ xs) ys = ap (λ zs. rows_of c x ++ zs) (rows_append c xs ys) ∙ sym (append_assoc (rows_of c x) (rows_in c xs) (rows_in c ys))
-
 -- how many rows one entry more has
 pub rows_more : (c : Config) (i : ℕ) (values : List ℕ) → i < length values → length (rows_in c (take (i + 1) values)) ≡ length (rows_in c (take i values)) + length (rows_of c (get_or values i 0))
 rows_more c i values low =
-    ap (λ xs. length (rows_in c xs)) (take_more values i 0 low) ∙ ap length (rows_append c (take i values) (get_or values i 0 ∷ []))
+    ap (λ xs. length (rows_in c xs)) (take_more values i 0 low) ∙ ap length (rows_in-append c (take i values) (get_or values i 0 ∷ []))
     ∙ length-append (rows_in c (take i values)) (rows_of c (get_or values i 0) ++ []) ∙ ap (λ xs. length (rows_in c (take i values)) + length xs) (append-nil (rows_of c (get_or values i 0)))
 
 from_length : (n j : ℕ) → length (rows_from n j) ≡ n

@@ -3,7 +3,7 @@ use Rattle.std.proofs.Common.{Bool, List, None, Some, ap, arith, false, get_or, 
 use Rattle.std.specs.Prelude.{if◌then◌else◌, nat_lt, not, ◌⊎◌, ◌↔◌}
 use Rattle.std.specs.declared.option.Option.{Option}
 use Rattle.mu_agree.proofs.Evidence.{parts_show_misses_law}
-use Rattle.mu_agree.proofs.Possible.{at_event, parts_shorten_law}
+use Rattle.mu_agree.proofs.Possible.{at_event, parts_shorten_law, same_fence}
 use Rattle.mu_leading.proofs.Within.{known_few}
 use Rattle.mu_model.specs.declared.config.Config.{Config}
 use Rattle.mu_model.specs.declared.event.Answer.{Answer}
@@ -63,9 +63,6 @@ same_read p q is = cc
 
 same_entered : (p q : ℕ) (t u : Target) → Verb.Enter p t ≡ Verb.Enter q u → p ≡ q
 same_entered p q t u is = cc
-
-same_seen : (f g : Fence) → Answer.Seen f ≡ Answer.Seen g → f ≡ g
-same_seen f g is = cc
 
 same_loss : (f g : Fence) → Answer.Lost f ≡ Answer.Lost g → f ≡ g
 same_loss f g is = cc
@@ -131,7 +128,7 @@ enter_says c r q t mine place answer note possible notes p f = elim (enters_or c
 -- a fence that is read where it is noted as lost
 read_so : (r q p : ℕ) (g f : Fence) (mine : List Event) (place : Place) (answer : Answer) → answer ≡ Answer.Seen g → LosesEntering r mine (Verb.Fence q) answer p f ⊎ LosesReading r mine place (Verb.Fence q) answer p f → Note.Aborted (AbortCause.Lost q g) ≡ Note.Aborted (AbortCause.Lost p f)
 read_so r q p g f mine place answer seen (inl e) = absurd (differs_by_test is_enter (Verb.Fence q) (Verb.Enter p e.target) refl refl e.entered)
-read_so r q p g f mine place answer seen (inr l) = ap (λ k. Note.Aborted (AbortCause.Lost k g)) (same_read q p l.read) ∙ ap (λ h. Note.Aborted (AbortCause.Lost p h)) (same_seen g f (sym seen ∙ l.seen))
+read_so r q p g f mine place answer seen (inr l) = ap (λ k. Note.Aborted (AbortCause.Lost k g)) (same_read q p l.read) ∙ ap (λ h. Note.Aborted (AbortCause.Lost p h)) (same_fence g f (sym seen ∙ l.seen))
 
 -- after a put that missed the fence is closing or has another grant than the noted one
 missed_unlike : (c : Config) (r p : ℕ) (f : Fence) (mine : List Event) → IsPossible c r (event_by r (Verb.Fence p) (Answer.Seen f) ∷ mine) → Missed r mine p → is_unlike r p mine f ≡ true
@@ -168,7 +165,7 @@ behind_says r q g mine on answer note seen member h goes_on notes p f = go (is_u
 
     why : is_unlike r q mine g ≡ false → LosesEntering r mine (Verb.Fence q) answer p f ⊎ LosesReading r mine (Place.FenceBehind q on) (Verb.Fence q) answer p f → ⊥
     why like (inl e) = differs_by_test is_enter (Verb.Fence q) (Verb.Enter p e.target) refl refl e.entered
-    why like (inr l) = true≢false (sym l.unlike ∙ ap (λ k. is_unlike r k mine f) (sym (same_read q p l.read)) ∙ ap (is_unlike r q mine) (sym (same_seen g f (sym seen ∙ l.seen))) ∙ like)
+    why like (inr l) = true≢false (sym l.unlike ∙ ap (λ k. is_unlike r k mine f) (sym (same_read q p l.read)) ∙ ap (is_unlike r q mine) (sym (same_fence g f (sym seen ∙ l.seen))) ∙ like)
 
     go : (t : Bool) → is_unlike r q mine g ≡ t → (note ≡ Note.Aborted (AbortCause.Lost p f)) ↔ (LosesEntering r mine (Verb.Fence q) answer p f ⊎ LosesReading r mine (Place.FenceBehind q on) (Verb.Fence q) answer p f)
     go true unlike =

@@ -13,7 +13,7 @@ use Rattle.mu_model.specs.Leaderships.{is_member}
 use Rattle.mu_model.specs.Parts.{IsPossible}
 use Rattle.mu_model.specs.Steps.{commits_more}
 use Rattle.mu_model.specs.Stretches.{is_replication}
-use Rattle.mu_model.proofs.Basics.{event_by, same_number}
+use Rattle.mu_model.proofs.Basics.{event_by, same_number, false_and}
 use Rattle.mu_pace.specs.Countdowns.{AreRaisedBelow}
 use Rattle.mu_pace.specs.Counters.{IsInTime}
 use Rattle.mu_pace.specs.Members.{IsNextMember, members_from}
@@ -130,17 +130,13 @@ raised_beside c r p q leading (Verb.PutMin k b) answer mine beside = absurd (tru
 raised_beside c r p q leading (Verb.PutSlot k i b v) answer mine beside = absurd (true≢false (sym beside))
 raised_beside c r p q leading verb answer mine beside = (refl, not_more (length (commits c r mine)))
 
-and_false : (a b : Bool) → a ≡ false → (a && b) ≡ false
-and_false true b h = absurd (true≢false h)
-and_false false b h = refl
-
 raises_beside : (c : Config) (r : ℕ) (mine : List Event) (leading : Bool) (place : Place) (verb : Verb) (answer : Answer) → is_replication mine (event_by r verb answer) ≡ false → is_beside leading verb ≡ true → RaisesAt c r mine place → RaisesAt c r (event_by r verb answer ∷ mine) place
 raises_beside c r mine leading (Place.Raise p) verb answer off beside at =
     let same = raised_beside c r p p leading verb answer mine beside in
     record {
       done = λ q low. countdowns_run.raises.quiet c r q mine (event_by r verb answer) same.1 (at.done q low);
       room = λ q. kinds_of_step.stays (raising c r q) (members_from c r p mine) (members_from c r p (event_by r verb answer ∷ mine)) mine (event_by r verb answer)
-          (unallowed (λ past e. commits_more c r past e && is_member r q (e ∷ past)) (members c r) mine (event_by r verb answer) (and_false (commits_more c r mine (event_by r verb answer)) (is_member r q (event_by r verb answer ∷ mine)) same.1))
+          (unallowed (λ past e. commits_more c r past e && is_member r q (e ∷ past)) (members c r) mine (event_by r verb answer) (false_and (commits_more c r mine (event_by r verb answer)) (is_member r q (event_by r verb answer ∷ mine)) same.1))
           off (let is = same.0 in omega (arith, is)) (at.room q);
     }
 raises_beside c r mine leading place verb answer off beside at = raised_on c r mine (event_by r verb answer) (raised_beside c r 0 0 leading verb answer mine beside).1 at

@@ -1,6 +1,6 @@
 -- The counts of a leader while it learns what others committed.
-use Rattle.std.proofs.Common.{◌≡◌, ℕ, inl, Bool, true, false, List, ◌∷◌, length, refl, sym, ◌∙◌, ap, arith, true≢false}
-use Rattle.std.specs.Prelude.{not, ◌||◌}
+use Rattle.std.proofs.Common.{◌≡◌, ℕ, inl, true, false, List, ◌∷◌, length, refl, sym, ◌∙◌, ap, arith, true≢false}
+use Rattle.std.specs.Prelude.{not}
 use Rattle.mu_model.specs.declared.config.Config.{Config}
 use Rattle.mu_model.specs.declared.event.Answer.{Answer}
 use Rattle.mu_model.specs.declared.event.Event.{Event}
@@ -23,16 +23,13 @@ use Rattle.mu_lead.specs.Rooms.{IsLed, sizes_of}
 use Rattle.mu_lead.proofs.Bringing.{look_event}
 use Rattle.mu_lead.proofs.RoomsOnward.{first_below, room_place}
 use Rattle.mu_lead.proofs.RoomsQuiet.{no_heads, quiet_milestone, config_is_sized}
+use Rattle.mu_model.proofs.Basics.{true_or}
 
 -- a past look teaches nothing
 pub past_none : (c : Config) (r p i : ℕ) (a : Answer) (mine : List Event) → is_past a ≡ true → known c r (look_event r p i a ∷ mine) ≡ known c r mine
 past_none c r p i Answer.Past mine past = refl
 past_none c r p i (Answer.Entry b v) mine past = absurd (true≢false (sym past))
 past_none c r p i a mine past = refl
-
-pub either : (a b : Bool) → a ≡ true → (a || b) ≡ true
-either true b h = refl
-either false b h = absurd (true≢false (sym h))
 
 -- an entry was learnt
 learns_on : (c : Config) (r p i : ℕ) (a : Answer) (u : Stage) (mine : List Event) → IsConfig c → is_replication mine (look_event r p i a) ≡ true → knows_more c r mine (look_event r p i a) ≡ true → IsLed c r mine Stage.Learn
@@ -45,7 +42,7 @@ learns_on c r p i a u mine is turn more at edge place late levels = record {
     edge = edge;
     place = place;
     no_milestone = quiet_milestone c r mine (look_event r p i a) refl (not_more (length (commits c r mine))) (no_heads c r mine);
-    copies = either (knows_more c r mine (look_event r p i a)) (is_copying c r mine (look_event r p i a)) more;
+    copies = true_or (knows_more c r mine (look_event r p i a)) (is_copying c r mine (look_event r p i a)) more;
     same = refl;
     asks = late;
     levels = levels;

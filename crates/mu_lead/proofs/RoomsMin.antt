@@ -1,6 +1,6 @@
 -- The counts of a leader while minima are read and the number is put.
 use Rattle.std.proofs.Common.{◌≡◌, ℕ, ◌+◌, ◌<◌, ◌≤◌, inl, inr, Bool, true, false, ◌&&◌, ◌==◌, List, ◌∷◌, None, is_some, refl, sym, ◌∙◌, ap, subst, arith, true≢false}
-use Rattle.std.specs.Prelude.{not, ◌||◌}
+use Rattle.std.specs.Prelude.{not}
 use Rattle.mu_model.specs.declared.config.Config.{Config}
 use Rattle.mu_model.specs.declared.event.Answer.{Answer}
 use Rattle.mu_model.specs.declared.event.Event.{Event}
@@ -13,7 +13,7 @@ use Rattle.mu_model.specs.Histories.{has}
 use Rattle.mu_model.specs.Leaderships.{grant_at_joining, has_begun, is_changed, is_member, is_over, leadership}
 use Rattle.mu_model.specs.Steps.{has_min, is_min, leads}
 use Rattle.mu_model.specs.Stretches.{is_replication}
-use Rattle.mu_model.proofs.Basics.{event_by, same_number}
+use Rattle.mu_model.proofs.Basics.{event_by, same_number, or_true}
 use Rattle.mu_pace.specs.Asking.{far, far_join, is_far}
 use Rattle.mu_pace.specs.Away.{IsFresh}
 use Rattle.mu_pace.specs.Members.{members_from}
@@ -85,16 +85,11 @@ rooms_missed_slot c r p i b v stage mine is turn at =
     let over : is_over r (e ∷ mine) ≡ true = rw (same_number r) refl in
     record { over = over; away = away_is_in_time.over c r (sizes_of c r mine) stage mine e (config_is_sized c r mine is) at turn over quiet.no_milestone quiet.none_behind }
 
--- the fence that is read then changes nothing
-still_over : (t over : Bool) → over ≡ true → (t || over) ≡ true
-still_over true over h = refl
-still_over false over h = h
-
 pub rooms_evidence : (c : Config) (r p : ℕ) (f : Fence) (mine : List Event) → is_replication mine (event_by r (Verb.Fence p) (Answer.Seen f)) ≡ true → IsEnded c r mine → IsOut c r (event_by r (Verb.Fence p) (Answer.Seen f) ∷ mine)
 rooms_evidence c r p f mine turn at =
     let e = event_by r (Verb.Fence p) (Answer.Seen f) in
     let quiet = silent_verbs_are_silent c r mine r (Verb.Fence p) (Answer.Seen f) refl in
-    let over : is_over r (e ∷ mine) ≡ true = still_over ((r == r) && is_changed (grant_at_joining r p mine) f) (is_over r mine) at.over in
+    let over : is_over r (e ∷ mine) ≡ true = or_true ((r == r) && is_changed (grant_at_joining r p mine) f) (is_over r mine) at.over in
     record {
       left = inl (over_unled r (e ∷ mine) over);
       away = away_is_in_time.away_step c r mine e at.away (record { turn = turn; not_led = over_unled r mine at.over; no_milestone = quiet.no_milestone; none_behind = quiet.none_behind }) (inr (inl over));

@@ -14,7 +14,7 @@ use Rattle.mu_model.specs.Leaderships.{has_quorum, is_member}
 use Rattle.mu_model.specs.Picks.{is_past}
 use Rattle.mu_model.specs.Steps.{knows_more}
 use Rattle.mu_model.specs.Stretches.{is_replication}
-use Rattle.mu_model.proofs.Basics.{event_by}
+use Rattle.mu_model.proofs.Basics.{event_by, true_or}
 use Rattle.mu_pace.specs.Asking.{far, far_copy, turns}
 use Rattle.mu_pace.specs.Members.{IsNextMember, members_below, members_from}
 use Rattle.mu_pace.specs.Watches.{is_brought_up}
@@ -28,7 +28,7 @@ use Rattle.mu_lead.specs.declared.place.Then.{Then}
 use Rattle.mu_lead.specs.Onward.{MayBringUp, MayGoOn}
 use Rattle.mu_lead.specs.Rooms.{IsLed, IsPlaced, sizes_of}
 use Rattle.mu_lead.proofs.Bringing.{look_event}
-use Rattle.mu_lead.proofs.RoomsLearning.{either, past_none}
+use Rattle.mu_lead.proofs.RoomsLearning.{past_none}
 use Rattle.mu_lead.proofs.RoomsOnward.{onward_step}
 use Rattle.mu_lead.proofs.RoomsQuiet.{no_heads, quiet_milestone, silent_verbs_are_silent, config_is_sized, steps_on}
 
@@ -71,7 +71,7 @@ rooms_learnt_here c r p q i a mine is turn more region member quorum none at ste
         edge = edge;
         place = at_position 0 step (omega (arith, some, all));
         no_milestone = quiet_milestone c r mine e refl (not_more (length (commits c r mine))) (no_heads c r mine);
-        copies = either (knows_more c r mine e) (is_copying c r mine e) more;
+        copies = true_or (knows_more c r mine e) (is_copying c r mine e) more;
         same = refl;
         asks = λ l low stranger. inl (far_copy (Stage.LookAt k) (Stage.Bring (Lag.Position 0) step) edge refl refl);
         levels = λ level. absurd (true≢false (sym level));

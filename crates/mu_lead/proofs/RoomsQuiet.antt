@@ -13,7 +13,7 @@ use Rattle.mu_model.specs.Knowledge.{commits, known}
 use Rattle.mu_model.specs.Leaderships.{leadership}
 use Rattle.mu_model.specs.Steps.{commits_more, is_lagging, is_min, knows_more}
 use Rattle.mu_model.specs.Stretches.{is_replication}
-use Rattle.mu_model.proofs.Basics.{event_by}
+use Rattle.mu_model.proofs.Basics.{event_by, false_and}
 use Rattle.mu_pace.specs.Asking.{AsksOn}
 use Rattle.mu_pace.specs.Placed.{Asks, IsPlacedAt, Levels}
 use Rattle.mu_pace.specs.Watches.{falls_behind}
@@ -112,16 +112,12 @@ begins t rest a = rw a refl
 pub first_min : (c : Config) (r p : ℕ) (a : Answer) (past : List Event) → has is_min (leadership r past) ≡ false → is_milestone c r past (event_by r (Verb.Min p) a) ≡ true
 first_min c r p a past unread = begins (has is_min (leadership r past)) _ unread
 
--- a look that teaches nothing
-teaches_none : (t more : Bool) → t ≡ false → (t && more) ≡ false
-teaches_none t more h = rw h refl
-
 pub known_look_silent : (c : Config) (r p i : ℕ) (a : Answer) (past : List Event) → known c r (event_by r (Verb.Look p i) a ∷ past) ≡ known c r past → IsSilent c r past (event_by r (Verb.Look p i) a)
 known_look_silent c r p i a past same =
     let none : knows_more c r past (event_by r (Verb.Look p i) a) ≡ false = subst (λ xs. nat_lt (length (known c r past)) (length xs) ≡ false) (sym same) (not_more (length (known c r past))) in
     record {
       no_milestone = quiet_milestone c r past (event_by r (Verb.Look p i) a) refl (not_more (length (commits c r past))) (no_heads c r past);
-      none_behind = λ q. teaches_none (knows_more c r past (event_by r (Verb.Look p i) a)) _ none;
+      none_behind = λ q. false_and (knows_more c r past (event_by r (Verb.Look p i) a)) _ none;
       same = refl;
     }
 

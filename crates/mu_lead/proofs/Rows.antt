@@ -6,7 +6,7 @@ use Rattle.std.proofs.lemmas.Bool.{eqb-true, le-ltb, lt-ltb, ltb-false, ltb-true
 use Rattle.std.proofs.lemmas.Option.{slice_get_past}
 use Rattle.std.specs.List.{slice_get}
 use Rattle.mu_agree.proofs.Landings.{greatest_since}
-use Rattle.mu_agree.proofs.Readings.{parts_count_law}
+use Rattle.mu_agree.proofs.Readings.{parts_count_law, number_is}
 use Rattle.mu_model.specs.declared.config.Config.{Config}
 use Rattle.mu_model.specs.declared.event.Answer.{Answer}
 use Rattle.mu_model.specs.declared.event.Event.{Event}
@@ -59,9 +59,6 @@ same_asked p q is = cc
 same_read : (p q : ℕ) → Verb.Head p ≡ Verb.Head q → p ≡ q
 same_read p q is = cc
 
-same_told : (x y : ℕ) → Answer.Number x ≡ Answer.Number y → x ≡ y
-same_told x y is = cc
-
 same_higher : (p q x y : ℕ) → Note.Aborted (AbortCause.Higher p x) ≡ Note.Aborted (AbortCause.Higher q y) → (p ≡ q) × (x ≡ y)
 same_higher p q x y is = (cc, cc)
 
@@ -85,14 +82,14 @@ says_late_min : (c : Config) (r b q x : ℕ) (mine : List Event) (up : List ℕ)
 says_late_min c r b q x mine up place answer note told number join true above is = record {
   higher = λ p m. (
     (λ shows. let same = same_higher q p x m (sym is ∙ shows) in record { asked = ap Verb.Min same.0; told = told ∙ ap Answer.Number same.1; above = ap (λ o. is_above o m) number ∙ ap (nat_lt b) (sym same.1) ∙ above }),
-    (λ shows. is ∙ ap (λ k. Note.Aborted (AbortCause.Higher k x)) (same_asked q p shows.asked) ∙ ap (λ k. Note.Aborted (AbortCause.Higher p k)) (same_told x m (sym told ∙ shows.told))),
+    (λ shows. is ∙ ap (λ k. Note.Aborted (AbortCause.Higher k x)) (same_asked q p shows.asked) ∙ ap (λ k. Note.Aborted (AbortCause.Higher p k)) (number_is x m (sym told ∙ shows.told))),
   );
   no_room = none_room c r mine (Verb.Min q) answer note (ap is_no_room is) (not_head c r mine (Verb.Min q) answer refl);
   learnt = none_learnt c r mine (Verb.Min q) answer note (ap is_learnt is) (not_look c r mine (Verb.Min q) answer refl);
   joined = none_joined c r mine up place answer note (ap is_joined is) (not_join c r mine up place answer join);
 }
 says_late_min c r b q x mine up place answer note told number join false above is = record {
-  higher = none_higher r mine (Verb.Min q) answer note (ap is_higher is) (λ p m shows. true≢false (sym shows.above ∙ ap (λ o. is_above o m) number ∙ ap (nat_lt b) (sym (same_told x m (sym told ∙ shows.told))) ∙ above));
+  higher = none_higher r mine (Verb.Min q) answer note (ap is_higher is) (λ p m shows. true≢false (sym shows.above ∙ ap (λ o. is_above o m) number ∙ ap (nat_lt b) (sym (number_is x m (sym told ∙ shows.told))) ∙ above));
   no_room = none_room c r mine (Verb.Min q) answer note (ap is_no_room is) (not_head c r mine (Verb.Min q) answer refl);
   learnt = none_learnt c r mine (Verb.Min q) answer note (ap is_learnt is) (not_look c r mine (Verb.Min q) answer refl);
   joined = none_joined c r mine up place answer note (ap is_joined is) (not_join c r mine up place answer join);
@@ -127,13 +124,13 @@ says_head : (c : Config) (r q x : ℕ) (mine : List Event) (up : List ℕ) (plac
     → (room marks : Bool) → nat_lt (end_of c r mine + reserve c) (x + c.ring) ≡ room → (not (q == r) && (failed && nat_lt (end_of c r mine + 0) (x + c.ring))) ≡ marks → note ≡ note_of_head q (min x 65535) (end_of c r mine) room marks → SaysReads c r mine up place (Verb.Head q) answer note
 says_head c r q x mine up place answer note failed told same unmarked small join true marks room mark is = record {
   higher = none_higher r mine (Verb.Head q) answer note (ap is_higher is) (not_min r mine (Verb.Head q) answer refl);
-  no_room = none_room c r mine (Verb.Head q) answer note (ap is_no_room is) (λ p h i shows. let low = shows.low in let high = ltb-true (end_of c r mine + reserve c) (x + c.ring) room in let here = same_told x h (sym told ∙ shows.told) in omega (arith, low, high, here));
+  no_room = none_room c r mine (Verb.Head q) answer note (ap is_no_room is) (λ p h i shows. let low = shows.low in let high = ltb-true (end_of c r mine + reserve c) (x + c.ring) room in let here = number_is x h (sym told ∙ shows.told) in omega (arith, low, high, here));
   learnt = none_learnt c r mine (Verb.Head q) answer note (ap is_learnt is) (not_look c r mine (Verb.Head q) answer refl);
   joined = none_joined c r mine up place answer note (ap is_joined is) (not_join c r mine up place answer join);
 }
 says_head c r q x mine up place answer note failed told same unmarked small join false true room mark is = record {
   higher = none_higher r mine (Verb.Head q) answer note (ap is_higher is) (not_min r mine (Verb.Head q) answer refl);
-  no_room = none_room c r mine (Verb.Head q) answer note (ap is_no_room is) (λ p h i shows. shows.unfit (subst (λ k. MayMark c r mine k h) (same_read q p shows.asked) (subst (MayMark c r mine q) (same_told x h (sym told ∙ shows.told)) (marks_so c r q x mine failed same mark))));
+  no_room = none_room c r mine (Verb.Head q) answer note (ap is_no_room is) (λ p h i shows. shows.unfit (subst (λ k. MayMark c r mine k h) (same_read q p shows.asked) (subst (MayMark c r mine q) (number_is x h (sym told ∙ shows.told)) (marks_so c r q x mine failed same mark))));
   learnt = none_learnt c r mine (Verb.Head q) answer note (ap is_learnt is) (not_look c r mine (Verb.Head q) answer refl);
   joined = none_joined c r mine up place answer note (ap is_joined is) (not_join c r mine up place answer join);
 }
@@ -152,7 +149,7 @@ says_head c r q x mine up place answer note failed told same unmarked small join
           low = subst (λ k. k + c.ring ≤ end_of c r mine + reserve c) s.1 low;
           unfit = subst (λ k. MayMark c r mine k h → ⊥) s.0 (subst (λ k. MayMark c r mine q k → ⊥) s.1 (marks_not c r q x mine failed same mark));
         }),
-        (λ shows. now ∙ ap (λ k. Note.NoRoom k x (end_of c r mine)) (same_read q p shows.asked) ∙ ap (λ k. Note.NoRoom p k (end_of c r mine)) (same_told x h (sym told ∙ shows.told)) ∙ ap (Note.NoRoom p h) (sym shows.position)),
+        (λ shows. now ∙ ap (λ k. Note.NoRoom k x (end_of c r mine)) (same_read q p shows.asked) ∙ ap (λ k. Note.NoRoom p k (end_of c r mine)) (number_is x h (sym told ∙ shows.told)) ∙ ap (Note.NoRoom p h) (sym shows.position)),
       );
       learnt = none_learnt c r mine (Verb.Head q) answer note (ap is_learnt is) (not_look c r mine (Verb.Head q) answer refl);
       joined = none_joined c r mine up place answer note (ap is_joined is) (not_join c r mine up place answer join);

@@ -15,6 +15,7 @@ use Rattle.mu_model.specs.Leaderships.{is_over}
 use Rattle.mu_model.specs.Parts.{IsPossible}
 use Rattle.mu_model.proofs.Basics.{event_by}
 use Rattle.mu_lead.specs.Sets.{NamesLost}
+use Rattle.mu_agree.proofs.Possible.{same_fence}
 
 -- what a place notes, from its name
 pub notes_at : (old : Lead) (values : List ℕ) (answer : Answer) (note : Note) (place : Place) → old.place ≡ place → NotesAt old values answer note place → NotesDue old values answer note
@@ -46,10 +47,7 @@ past_teaches_nothing n (Answer.Number x) past = refl
 past_teaches_nothing n Answer.Empty past = refl
 past_teaches_nothing n Answer.Past past = refl
 
-same_seen : (f g : Fence) → Answer.Seen f ≡ Answer.Seen g → f ≡ g
-same_seen f g is = cc
-
 -- the note of a fence read after a look that was past
 pub notes_over : (old : Lead) (p : ℕ) (answer : Answer) (f : Fence) (note : Note) → answer ≡ Answer.Seen f
     → ((mine : List Event) → StandsFor mine old → IsPossible old.config old.id (event_by old.id (Verb.Fence p) (Answer.Seen f) ∷ mine) → note ≡ note_of_fence p f (is_over old.id (event_by old.id (Verb.Fence p) (Answer.Seen f) ∷ mine))) → NotesOver old p answer note
-notes_over old p answer f note is over = subst (λ a. NotesOver old p a note) (sym is) (λ mine g s possible seen. over mine s possible ∙ ap (λ h. note_of_fence p h (is_over old.id (event_by old.id (Verb.Fence p) (Answer.Seen f) ∷ mine))) (same_seen f g seen))
+notes_over old p answer f note is over = subst (λ a. NotesOver old p a note) (sym is) (λ mine g s possible seen. over mine s possible ∙ ap (λ h. note_of_fence p h (is_over old.id (event_by old.id (Verb.Fence p) (Answer.Seen f) ∷ mine))) (same_fence f g seen))

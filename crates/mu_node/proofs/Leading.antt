@@ -19,6 +19,7 @@ use Rattle.mu_lead.specs.Standing.{verb_of}
 use Rattle.mu_node.specs.Due.{lead_due}
 use Rattle.mu_node.specs.Journal.{may_lead, may_lead_before, was_named}
 use Rattle.mu_node.specs.Turns.{HasNoEnd}
+use Rattle.mu_model.proofs.Scans.{least_below_fits}
 
 -- an even number comes after an odd one, and an odd one after an even one
 odd_next : (n : ℕ) → is_odd n ≡ true → is_odd (suc n) ≡ false
@@ -58,16 +59,6 @@ even_may c r mine even may = sym (ap (λ u. u || was_named c r mine) even) ∙ m
 pub even_planned : (c : Config) (r : ℕ) (mine : List Event) → is_odd (length mine) ≡ false → may_lead_before c r mine ≡ true → may_lead c r mine ≡ true
 even_planned c r mine even may = ap (λ u. if u then is_named c r mine else was_named c r mine) even ∙ even_may c r mine even may
 
--- the least that passes is at most one that does
-least_most : (n : ℕ) (test : ℕ → Bool) → least_below n test ≤ n
-least_most zero test = omega arith
-least_most (suc n) test = most (least_below n test == n) (test n) (least_most n test)
-  where
-    most : (s t : Bool) → least_below n test ≤ n → (if s then (if t then n else n + 1) else least_below n test) ≤ suc n
-    most true true l = omega arith
-    most true false l = omega arith
-    most false t l = omega (arith, l)
-
 least_low : (n : ℕ) (test : ℕ → Bool) (q : ℕ) → test q ≡ true → q < n → least_below n test ≤ q
 least_low zero test q is low = absurd (omega (arith, low))
 least_low (suc n) test q is low = go (λ l. least_low n test q is l) (least_below n test == n) refl (test n) refl
@@ -75,7 +66,7 @@ least_low (suc n) test q is low = go (λ l. least_low n test q is l) (least_belo
     go : (q < n → least_below n test ≤ q) → (s : Bool) → (least_below n test == n) ≡ s → (t : Bool) → test n ≡ t → (if s then (if t then n else n + 1) else least_below n test) ≤ q
     go ih true whole true last = elim (cases_eq q n) [ inl e ↦ omega (arith, e) | inr e ↦ (let l = ih (omega (arith, e, low)) in let w = eqb-true (least_below n test) n whole in omega (arith, l, w)) ]
     go ih true whole false last = elim (cases_eq q n) [ inl e ↦ absurd (true≢false (sym is ∙ (ap test e ∙ last))) | inr e ↦ (let l = ih (omega (arith, e, low)) in let w = eqb-true (least_below n test) n whole in absurd (e (omega (arith, l, w, low)))) ]
-    go ih false part t last = elim (cases_eq q n) [ inl e ↦ (let most = least_most n test in omega (arith, e, most)) | inr e ↦ ih (omega (arith, e, low)) ]
+    go ih false part t last = elim (cases_eq q n) [ inl e ↦ (let most = least_below_fits n test in omega (arith, e, most)) | inr e ↦ ih (omega (arith, e, low)) ]
 
 -- where r isn't named a lower replica is
 pub lower_named : (c : Config) (r : ℕ) (mine : List Event) → r < c.replicas → is_named c r mine ≡ false → nat_lt (leader c r mine) r ≡ true

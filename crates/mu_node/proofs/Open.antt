@@ -2,7 +2,7 @@
 use Rattle.std.proofs.Common.{◌≡◌, ◌∙◌, ℕ, ◌+◌, ◌-◌, ◌*◌, ◌%◌, ◌≤◌, ◌==◌, ◌&&◌, ◌||◌, ◌⊎◌, inl, inr, Bool, true, false, None, Some, List, [], ◌∷◌, ap, arith, length, refl, sym}
 use Rattle.std.specs.Prelude.{if◌then◌else◌, nat_lt}
 use Rattle.std.specs.declared.option.Option.{Option}
-use Rattle.std.proofs.lemmas.Bool.{cases_lt, lt-ltb, ltb-true, true≢false}
+use Rattle.std.proofs.lemmas.Bool.{cases_lt, lt-ltb, ltb-true, true≢false, or_parts}
 use Rattle.mu_model.specs.declared.config.Config.{Config}
 use Rattle.mu_model.specs.declared.event.Event.{Event}
 use Rattle.mu_model.specs.declared.event.Verb.{Verb}
@@ -68,12 +68,6 @@ own_in_time c r past made =
     closed_moments (cycle c) (2 * (2 * c.replicas + 4)) (reading_own c r) past (omega arith) (λ now allowed is. let whole = own_allows c r now allowed is in omega (arith, whole))
     (steps_give (WasMade c r) (λ before e. length before % cycle c ≡ 2 * (2 * c.replicas + 4) → ((reading_own c r).closes before e ≡ true) ⊎ HasRoom (reading_own c r) (cycle c + 1) before) (λ before e held at. own_closed c r before e held at) past made)
 
--- neither of two
-neither : (a b : Bool) → (a || b) ≡ false → (a ≡ false) × (b ≡ false)
-neither false false none = (refl, refl)
-neither false true none = absurd (true≢false none)
-neither true b none = absurd (true≢false none)
-
 -- a turn of the leader in which r isn't named beats
 pub beats_unnamed : (c : Config) (r : ℕ) (past : List Event) (e : Event) → WasMade c r past e → is_named_turn c r past e ≡ false → is_odd (length past) ≡ true → e.verb ≡ Verb.Beat
 beats_unnamed c r past e held unnamed odd =
@@ -119,8 +113,8 @@ pub record IsOpenStep (c : Config) (r : ℕ) (past : List Event) (e : Event) : T
 
 pub open_step : (c : Config) (r : ℕ) (past : List Event) (e : Event) → (replaying c r).closes past e ≡ false → IsOpenStep c r past e
 open_step c r past e none =
-    let a = neither (knows_more c r past e || completes_row c r past e) (is_named_turn c r past e) none in
-    let b = neither (knows_more c r past e) (completes_row c r past e) a.0 in
+    let a = or_parts (knows_more c r past e || completes_row c r past e) (is_named_turn c r past e) none in
+    let b = or_parts (knows_more c r past e) (completes_row c r past e) a.0 in
     record { learns = b.0; completes = b.1; unnamed = a.1 }
 
 -- such an event leaves what is known and applied

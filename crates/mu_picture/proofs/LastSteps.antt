@@ -21,7 +21,7 @@ use Rattle.mu_picture.specs.Halts.{halt_after}
 use Rattle.mu_picture.specs.Marks.{made_of, mark_of}
 use Rattle.mu_picture.specs.declared.deeds.Deed.{Deed}
 use Rattle.mu_picture.specs.declared.halts.Halt.{Halt}
-use Rattle.mu_picture.proofs.Steps.{own_part}
+use Rattle.mu_model.proofs.Parts.{part_of_maker}
 
 halt_made : (step r : ℕ) (deed : Option Deed) (halt : Option Halt) → halt_in (made_of step r deed halt) ≡ halt
 halt_made step r None None = refl
@@ -144,4 +144,4 @@ shown c script past e end obeys = go end obeys.ends
         halted Halt.Finish (finish_shown c script e.by (length mine + 1) (finishes c e.by mine e) (subst (λ k. stops_at e.by k script.stops ≡ false) one is.0.0) (λ same. is.0.1 (one ∙ same)) done)
 
 pub ends_drawn : (c : Config) (script : Script) (past : List Event) (e : Event) (end : End) → Obeys c script e.by (part e.by (e ∷ past)) end → Shows (mark_of c script past e) end
-ends_drawn c script past e end obeys = shown c script past e end (subst (λ l. Obeys c script e.by l end) (own_part e past) obeys)
+ends_drawn c script past e end obeys = shown c script past e end (subst (λ l. Obeys c script e.by l end) (part_of_maker e past) obeys)

@@ -1,5 +1,5 @@
 -- What a step leaves of the list that its replica knows, and of its part.
-use Rattle.std.proofs.Common.{◌≡◌, ◌≢◌, ℕ, zero, suc, ◌^◌, ap, ◌∙◌, ◌<◌, ◌∷◌, List, [], ◌++◌, None, Some, length, refl, sym, arith, take, drop, get_or, subst, set, inl, inr}
+use Rattle.std.proofs.Common.{◌≡◌, ◌≢◌, ℕ, zero, suc, ◌^◌, ap, ◌∙◌, ◌<◌, ◌∷◌, List, [], ◌++◌, None, Some, length, refl, sym, arith, get_or, subst, set, inl, inr}
 use Rattle.std.specs.Prelude.{if◌then◌else◌, nat_le}
 use Rattle.std.specs.declared.option.Option.{Option}
 use Rattle.std.proofs.lemmas.List.{length-append, length-reverse}
@@ -18,11 +18,9 @@ use Rattle.mu_model.specs.declared.event.Event.{Event}
 use Rattle.mu_model.specs.Histories.{history, part}
 use Rattle.mu_model.specs.Knowledge.{grown}
 use Rattle.mu_model.specs.Legal.{IsLegal, IsLegalHistory}
-use Rattle.mu_model.proofs.Basics.{same_number}
 use Rattle.mu_model.proofs.Lists.{set_get}
 use Rattle.std.proofs.lemmas.Bool.Decides.{eqb_tells}
-use Rattle.mu_agree.proofs.Legal.{legal_older}
-use Rattle.mu_outcome.proofs.Places.{history_at, read_there}
+use Rattle.mu_model.proofs.Parts.{part_of_maker}
 
 -- a legal list is short
 pub short_list : (c : Config) (events : List Event) → IsConfig c → IsLegal c events → length events < 2 ^ 20
@@ -30,10 +28,6 @@ short_list c events is legal =
     let most = short_history c (history events) legal is.replicas.1 is.budget.1 in
     let same = length-reverse events in
     omega (arith, most, same)
-
--- the part of the replica that made the newest event
-pub own_part : (e : Event) (past : List Event) → part e.by (e ∷ past) ≡ e ∷ part e.by past
-own_part e past = rw (same_number e.by) refl
 
 -- and that of another
 other_part : (r : ℕ) (e : Event) (past : List Event) → r ≢ e.by → part r (e ∷ past) ≡ part r past
@@ -61,7 +55,7 @@ pub each_part_next : {A : Type 0} (P : ℕ → List Event → A → Type 0) (pas
 each_part_next P past e k items was new by at step held r x there = elim (set_get items k new r x there) [
   | inl here ↦
       let taken = step (held e.by was (subst (λ q. slice_get items q ≡ Some was) by at)) in
-      let mine = subst (λ l. P e.by l new) (sym (own_part e past)) taken in
+      let mine = subst (λ l. P e.by l new) (sym (part_of_maker e past)) taken in
       subst (λ q. P q (part q (e ∷ past)) x) (sym (here.0 ∙ by)) (subst (λ s. P e.by (part e.by (e ∷ past)) s) here.1 mine)
   | inr other ↦ subst (λ l. P r l x) (sym (other_part r e past (λ is. other.0 (is ∙ sym by)))) (held r x other.1)
 ]
@@ -80,10 +74,3 @@ at_end (x ∷ xs) v = at_end xs v
 pub learnt_next : (xs : List ℕ) (o : Option ℕ) → slice_get (grown xs o) (length xs) ≡ o
 learnt_next xs None = slice_get_past xs (length xs) (omega arith)
 learnt_next xs (Some v) = at_end xs v
-
--- the event at an index of a legal list may come after those before it
-pub legal_there : (c : Config) (events : List Event) (i : ℕ) (d : Event) → IsLegal c events → i < length events
-    → IsLegalHistory c (get_or events i d ∷ history (take i events))
-legal_there c events i d legal low =
-    legal_older c (history (drop (suc i) events)) (get_or events i d ∷ history (take i events))
-    (subst (λ l. IsLegalHistory c l) (history_at events i (get_or events i d) (read_there events i d low)) legal)

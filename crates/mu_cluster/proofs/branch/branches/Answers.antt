@@ -5,7 +5,8 @@ use Rattle.mu_node.specs.Node.{StandsForNode}
 use Rattle.shared_fabric.proofs.Gathers.{get_middle, map_snoc}
 use Rattle.mu_cluster.specs.declared.branch.Branch.{Branch}
 use Rattle.mu_cluster.specs.Branches.{Drives}
-use Rattle.mu_cluster.proofs.Branching.{all_snoc, first_drives}
+use Rattle.mu_cluster.proofs.Branching.{first_drives}
+use Rattle.std.proofs.lemmas.List.Elements.{All-push}
 use Rattle.mu_cluster.proofs.branch.branches.Goals as goal
 
 pub loop-port-preserved : goal.loop-port-preserved
@@ -26,7 +27,7 @@ loop-port-preserved c =
       tt,
       whole ∙ sym (append_assoc at.yielded (x ∷ []) (into_iter_items c.next.new.self)),
       omega (arith, inv.3, gone, short),
-      rw c.push_reserved.ensures.items (all_snoc (Drives job.script) at.branches.items b inv.4 ready),
+      rw c.push_reserved.ensures.items (All-push (Drives job.script) at.branches.items b inv.4 ready),
       ap (map (λ (y : Branch). y.port)) c.push_reserved.ensures.items ∙ (map_snoc (λ (y : Branch). y.port) at.branches.items b ∙ ap (λ l. l ++ x ∷ []) inv.5),
       ap length c.push_reserved.ensures.items ∙ omega (arith, length-append at.branches.items (b ∷ []), length-append at.yielded (x ∷ []), inv.6),
       omega (arith, c.push_reserved.ensures.capacity, inv.7),

@@ -1,12 +1,12 @@
 use Rattle.std.proofs.Common.{Some, ◌≡◌, ◌∷◌, ◌∙◌, ap, length-set, sym, subst, arith}
 use Rattle.std.specs.List.{slice_get}
 use Rattle.std.proofs.lemmas.Option.{slice_get-get_or}
-use Rattle.mu_model.proofs.Parts.{part_is_possible}
+use Rattle.mu_model.proofs.Parts.{part_is_possible, part_of_maker}
 use Rattle.mu_model.specs.Histories.{part}
 use Rattle.mu_model.specs.Parts.{IsPossible}
 use Rattle.mu_model.proofs.Budgets.{short_history}
 use Rattle.mu_picture.specs.Courses.{StandsForCourse}
-use Rattle.mu_picture.proofs.Steps.{each_part_next, own_part}
+use Rattle.mu_picture.proofs.Steps.{each_part_next}
 use Rattle.mu_picture.proofs.walk.Walk.take.Goals as goal
 use Rattle.mu_regions.proofs.Range.{in_range}
 
@@ -16,7 +16,7 @@ returns-in-Some-clause-stands c = λ past legal held.
     let e = c.args.event.now in
     let items = c.args.self.now.courses.items in
     let short = short_history config past legal.0 c.requires.replicas.1 c.requires.budget.1 in
-    let possible = subst (λ l. IsPossible config e.by l) (own_part e past) (part_is_possible config e.by (e ∷ past) legal) in
+    let possible = subst (λ l. IsPossible config e.by l) (part_of_maker e past) (part_is_possible config e.by (e ∷ past) legal) in
     record {
       count = length-set items c.from.result c.take-in-Some.new.self ∙ held.count;
       each = each_part_next (λ r mine course. StandsForCourse config r mine course) past e c.from.result items c.in-Some.course.now c.take-in-Some.new.self c.from.ensures
@@ -33,6 +33,6 @@ returns-in-Some-clause-tells c = λ past legal held.
     let course = c.in-Some.course.now in
     let there : slice_get items c.from.result ≡ Some course =
     slice_get-get_or items c.from.result course c.in-Some.ensures.item.3.0 ∙ ap Some (sym c.in-Some.ensures.value) in
-    let possible = subst (λ l. IsPossible config e.by l) (own_part e past) (part_is_possible config e.by (e ∷ past) legal) in
+    let possible = subst (λ l. IsPossible config e.by l) (part_of_maker e past) (part_is_possible config e.by (e ∷ past) legal) in
     c.take-in-Some.ensures.tells (part e.by past) possible
     (held.each e.by course (subst (λ q. slice_get items q ≡ Some course) c.from.ensures there))
