@@ -4,7 +4,7 @@ ghost use Rattle.mu_model.specs.Contents.{IsConfig, IsInSession, begins_batch, c
 ghost use Rattle.mu_lead.specs.Offering.{IsAfter, IsNextRow, NamesRow};
 
 use mu_model::{
-    Config, commands_of, count_of_rows, row_client, row_number, row_rest, stands_for_batch,
+    Config, count_of_commands, count_of_rows, row_client, row_number, row_rest, stands_for_batch,
     stands_for_mark,
 };
 
@@ -40,7 +40,7 @@ fn commands_in(config: &Config, client: u8, known: &[u16]) -> u64
 {
     let mut count: u64 = 0;
     for v in known {
-        count += commands_of(config, u64::from(client), *v);
+        count += count_of_commands(config, u64::from(client), *v);
     }
     count
 }
