@@ -18,7 +18,8 @@ const GRANT: &str =
 
 /// A trace in which replica 1 begins a leadership, and beats in its first turn of replication while
 /// its scores still name replica 0; then replica 0 reads the one head that it waits for.
-const ENDS: &str = "mu 1\nreplicas 2\nring 8\nbudget 9\nend\n1 ask 0 = done\n1 beat = done\n0 head 1 = 0\n\
+const ENDS: &str =
+    "mu 1\nreplicas 2\nring 8\nbudget 9\nend\n1 ask 0 = done\n1 beat = done\n0 head 1 = 0\n\
     end\n";
 
 /// The same, and the script stops replica 0 there.

@@ -69,13 +69,7 @@ fn look_deed(p: u8, i: u16, known: usize, answer: &Answer, taught: Option<u16>) 
 
 /// What the event does that is drawn. So often the region of its replica was granted before; its
 /// scores named a replica, and it gives up its leadership for that or doesn't.
-pub fn deed_of(
-    event: &Event,
-    told: &Told,
-    resigns: bool,
-    named: u8,
-    granted: u32,
-) -> Option<Deed>
+pub fn deed_of(event: &Event, told: &Told, resigns: bool, named: u8, granted: u32) -> Option<Deed>
     ensures { (c : Config) → (mine : List Made) → Tells c mine event.now told.now
         → resigns ≡ resigns_by c event.now.by mine event.now → named ≡ leader c event.now.by mine
         → result ≡ deed_of_step c mine granted event.now }

@@ -16,7 +16,7 @@ returns-clause-mark c = λ past legal held step.
     let granted = c.granted-granted.ensures past config legal.1.allowed.replica held in
     let deed = c.deed_of-deed.ensures config mine turn.told turn.resigns turn.named ∙ ap (λ g. deed_of config mine g e) granted in
     let halt = c.halt_after-halt.ensures
-        ∙ (ap (λ n. halt_after config script e.by n c.in_ok-turn.turn.finishes) turn.told.steps ∙ ap (λ f. halt_after config script e.by (length mine + 1) f) turn.finishes) in
+    ∙ (ap (λ n. halt_after config script e.by n c.in_ok-turn.turn.finishes) turn.told.steps ∙ ap (λ f. halt_after config script e.by (length mine + 1) f) turn.finishes) in
     c.made_of.ensures
     ∙ (ap (λ n. made_of n e.by c.deed_of-deed.result c.halt_after-halt.result) step
     ∙ (ap (λ d. made_of (length past) e.by d c.halt_after-halt.result) deed
