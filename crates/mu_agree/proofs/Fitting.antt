@@ -64,8 +64,8 @@ batch_once c i j v w past g h a b bv bw same l = go (chosen_sound c i v past h a
     sw = chosen_sound c j w past h b
 
     go : Fits c v sv.values past → Fits c w sw.values past → ⊥
-    go (by_mark q m n) f = mark_no_batch c q v g m bv
-    go (by_batch x y z) (by_mark q m n) = mark_no_batch c q w g m bw
+    go (by_mark q m n _) f = mark_no_batch c q v g m bv
+    go (by_batch x y z) (by_mark q m n _) = mark_no_batch c q w g m bw
     go (by_batch x y z) (by_batch x' y' z') =
         let at = item_below sw.values i (let k = sw.count in omega arith) in
         let ch = sw.chosen i at.0 at.1 in
@@ -102,9 +102,9 @@ keys_differ c i j v w past g h a b l e = go (chosen_sound c i v past h a).fits (
   where
     go : Fits c v (chosen_sound c i v past h a).values past → Fits c w (chosen_sound c j w past h b).values past → ⊥
     go (by_batch x _ _) (by_batch y _ _) = batch_once c i j v w past g h a b x y (sym (key_of_batch c v x) ∙ e ∙ key_of_batch c w y) l
-    go (by_batch x _ _) (by_mark q y _) = let r = row_within c v x in let s = key_of_batch c v x in let t = key_of_mark c q w g y in omega arith
-    go (by_mark q x _) (by_batch y _ _) = let r = row_within c w y in let s = key_of_batch c w y in let t = key_of_mark c q v g x in omega arith
-    go (by_mark q x _) (by_mark q' y _) =
+    go (by_batch x _ _) (by_mark q y _ _) = let r = row_within c v x in let s = key_of_batch c v x in let t = key_of_mark c q w g y in omega arith
+    go (by_mark q x _ _) (by_batch y _ _) = let r = row_within c w y in let s = key_of_batch c w y in let t = key_of_mark c q v g x in omega arith
+    go (by_mark q x _ _) (by_mark q' y _ _) =
         let s = key_of_mark c q v g x in
         let t = key_of_mark c q' w g y in
         let same : q' ≡ q = omega arith in
@@ -128,7 +128,7 @@ key_below c i v past g h a = go (chosen_sound c i v past h a).fits
   where
     go : Fits c v (chosen_sound c i v past h a).values past → key c v < row_count c + reserve c
     go (by_batch x _ _) = let r = row_within c v x in let s = key_of_batch c v x in omega arith
-    go (by_mark q x _) = let s = key_of_mark c q v g x in let t = mark_within c q v x in let u = reserve_is c (mark_version c q v x) in omega arith
+    go (by_mark q x _ _) = let s = key_of_mark c q v g x in let t = mark_within c q v x in let u = reserve_is c (mark_version c q v x) in omega arith
 
 -- what isn't included is no key
 included : (j : ℕ) (xs ys : List ℕ) → includes j (xs ++ ys) ≡ false → (includes j xs ≡ false) × (includes j ys ≡ false)

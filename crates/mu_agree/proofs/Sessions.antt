@@ -9,6 +9,7 @@ use Rattle.mu_model.specs.declared.config.Config.{Config}
 use Rattle.mu_model.specs.declared.event.Event.{Event}
 use Rattle.mu_model.specs.declared.event.Verb.{Verb}
 use Rattle.mu_model.specs.declared.event.Answer.{Answer}
+use Rattle.mu_agree.specs.Agreement.{IsMarked, MarksHaveCause, WasHeldFailed}
 use Rattle.mu_agree.specs.Sessions.{KnownInSession, KnownMarkedOnce, KnownStands, MarkedOnce, RowsComeFirst, RowsReadRight}
 use Rattle.mu_model.specs.Allowed.{Needs}
 use Rattle.mu_model.specs.Answers.{answer_of}
@@ -94,7 +95,7 @@ entry_in_session c v values past g f s client =
     split ∙ go f ∙ ap (λ z. counted (length z) 1) (sym split)
   where
     go : Fits c v values past → session c client values ++ numbers_in c client (rows_of c v) ≡ counted (length (session c client values ++ numbers_in c client (rows_of c v))) 1
-    go (by_mark q m n) = none (is_batch c v) refl
+    go (by_mark q m n _) = none (is_batch c v) refl
       where
         none : (t : Bool) → is_batch c v ≡ t → session c client values ++ numbers_in c client (if t then rows_from (rest_of c (v % 4096) + 1) (v % 4096) else []) ≡ counted (length (session c client values ++ numbers_in c client (if t then rows_from (rest_of c (v % 4096) + 1) (v % 4096) else []))) 1
         none true h = absurd (mark_no_batch c q v g m h)
@@ -158,7 +159,7 @@ known_in_session_law c events r g h = known_in_session c r (history events) g h
 
 pub fits_stands : (c : Config) (v : ℕ) (values : List ℕ) (past : List Event) → Fits c v values past → StandsForEntry c v
 fits_stands c v values past (by_batch b w n) = inl b
-fits_stands c v values past (by_mark q m n) = inr (q, m)
+fits_stands c v values past (by_mark q m n _) = inr (q, m)
 
 pub known_stands_law : KnownStands
 known_stands_law c events r i v h k =
@@ -187,7 +188,7 @@ no_later_mark c q i j v w past g h a b m n l = go s.fits
 
     go : Fits c w s.values past → ⊥
     go (by_batch x y z) = mark_no_batch c q w g n x
-    go (by_mark q' x z) =
+    go (by_mark q' x z _) =
         let same : q' ≡ q = (let e = mark_place c q w n in let f = mark_place c q' w x in omega arith) in
         let y = item_below s.values i (let e = s.count in omega arith) in
         let u = s.chosen i y.0 y.1 in
@@ -207,10 +208,23 @@ pub known_marked_once_law : KnownMarkedOnce
 known_marked_once_law c events r q i j v w g h a b m n =
     marked_once c q i j v w (history events) g h (known_are_chosen c r (history events) h i v a) (known_are_chosen c r (history events) h j w b) m n
 
+-- a mark has a cause
+pub marked_was_held : (c : Config) (q : ℕ) (past : List Event) → IsConfig c → IsLegalHistory c past → IsMarked c q past → WasHeldFailed c q past
+marked_was_held c q past g h m = go (chosen_sound c m.position m.value past h m.chosen).fits
+  where
+    go : Fits c m.value (chosen_sound c m.position m.value past h m.chosen).values past → WasHeldFailed c q past
+    go (by_batch x y z) = absurd (mark_no_batch c q m.value g m.mark x)
+    go (by_mark q' x z held) =
+        let same : q' ≡ q = (let e = mark_place c q m.value m.mark in let f = mark_place c q' m.value x in omega arith) in
+        subst (λ s. WasHeldFailed c s past) same held
+
+pub marks_have_cause_law : MarksHaveCause
+marks_have_cause_law c events q g h m = marked_was_held c q (history events) g h m
+
 -- rows come first
 fits_written : (c : Config) (v : ℕ) (values : List ℕ) (past : List Event) → IsConfig c → Fits c v values past → is_batch c v ≡ true → wrote_batch c (v / 4096) (v % 4096) past ≡ true
 fits_written c v values past g (by_batch b w n) h = w
-fits_written c v values past g (by_mark q m n) h = absurd (mark_no_batch c q v g m h)
+fits_written c v values past g (by_mark q m n _) h = absurd (mark_no_batch c q v g m h)
 
 rows_first : (c : Config) (p i b v : ℕ) (e : Event) (newer older all : List Event) → all ≡ newer ++ (e ∷ older) → IsConfig c → IsLegalHistory c all → e.verb ≡ Verb.PutSlot p i b v → is_batch c v ≡ true → wrote_batch c (v / 4096) (v % 4096) older ≡ true
 rows_first c p i b v e newer older all is g h ev k =

@@ -1,8 +1,9 @@
 -- Each value that is put continues the chosen ones.
-use Rattle.std.proofs.Common.{◌≡◌, ℕ, zero, suc, ◌+◌, ◌/◌, ◌%◌, ◌<◌, inl, inr, Bool, true, false, cond, ◌&&◌, ◌||◌, not, ◌==◌, List, [], ◌∷◌, length, refl, sym, ◌∙◌, arith, Some, None, subst, eqb-true, true≢false}
+use Rattle.std.proofs.Common.{◌≡◌, ℕ, zero, suc, ◌+◌, ◌/◌, ◌%◌, ◌<◌, ◌≢◌, inl, inr, Bool, true, false, cond, ◌&&◌, ◌||◌, not, ◌==◌, List, [], ◌∷◌, ap, length, refl, sym, ◌∙◌, arith, Some, None, subst, eqb-true, true≢false}
 use Rattle.std.specs.declared.option.Option.{Option}
 use Rattle.std.specs.List.{slice_get}
-use Rattle.std.proofs.lemmas.Bool.{and_parts, and_from, or_cases, not-true, not-false, eq-eqb}
+use Rattle.std.specs.Prelude.{if◌then◌else◌, nat_lt}
+use Rattle.std.proofs.lemmas.Bool.{and_parts, and_from, or_cases, not-true, not-false, eq-eqb, ltb-true}
 use Rattle.mu_model.specs.declared.config.Config.{Config}
 use Rattle.mu_model.specs.declared.event.Event.{Event}
 use Rattle.mu_model.specs.declared.event.Verb.{Verb}
@@ -13,10 +14,13 @@ use Rattle.mu_model.specs.Chosen.{IsChosen}
 use Rattle.mu_model.specs.Contents.{client_of, command_count, is_batch, is_mark, marked, number_of, rest_of, session}
 use Rattle.mu_model.specs.Histories.{all_below, earlier_or, has, part}
 use Rattle.mu_model.specs.Knowledge.{is_written, known, wrote, wrote_batch}
+use Rattle.mu_model.specs.Leaderships.{begins_leadership}
 use Rattle.mu_model.specs.Legal.{IsLegalHistory}
 use Rattle.mu_model.specs.Picks.{is_mark_offer, is_offer, pick}
 use Rattle.mu_model.specs.Placing.{MayPutSlot}
-use Rattle.mu_model.specs.Room.{is_mark_candidate, reserve}
+use Rattle.mu_model.specs.Room.{head_read, is_mark_candidate, lacks_room, reserve}
+use Rattle.mu_model.specs.Scores.{is_failed}
+use Rattle.mu_agree.specs.Agreement.{WasHeldFailed}
 use Rattle.mu_agree.proofs.Legal.{event_after, legal_induction}
 use Rattle.mu_agree.proofs.Landings.{has_cases, has_more, has_implied, has_of_part}
 use Rattle.mu_agree.proofs.Landed.{slot_landed, has_landed}
@@ -34,10 +38,41 @@ is_try i v _ = false
 abbrev pub tried : ℕ → ℕ → List Event → Bool
 tried i v past = has (λ e. is_try i v e.verb) past
 
--- v may come after these values: a batch that is written and next of its client, or a mark that isn't among them
+held_on : (c : Config) (q : ℕ) (e : Event) (past : List Event) → WasHeldFailed c q past → WasHeldFailed c q (e ∷ past)
+held_on c q e past held = record { newer = e ∷ held.newer; older = held.older; is = ap (λ l. e ∷ l) held.is; by = held.by; inside = held.inside; other = held.other; failed = held.failed }
+
+-- a candidate for a mark was held failed
+candidate_held : (c : Config) (r q limit : ℕ) (past : List Event) → r < c.replicas → r ≢ q → is_mark_candidate c r q limit (part r past) ≡ true → WasHeldFailed c q past
+candidate_held c r q limit [] inside other none = absurd (true≢false (sym none))
+candidate_held c r q limit (e ∷ past) inside other is = go (e.by == r) refl is (λ was. held_on c q e past (candidate_held c r q limit past inside other was))
+  where
+    go : (t : Bool) → (e.by == r) ≡ t → is_mark_candidate c r q limit (cond t (e ∷ part r past) (part r past)) ≡ true → (is_mark_candidate c r q limit (part r past) ≡ true → WasHeldFailed c q (e ∷ past)) → WasHeldFailed c q (e ∷ past)
+    go false own is before = before is
+    go true own is before = begun (begins_leadership r e) is
+      where
+        here : Bool
+        here = lacks_room c limit (head_read r q e.by e.verb e.answer) && is_failed r q (e ∷ part r past)
+
+        begun : (t : Bool) → (if t then false else (here || is_mark_candidate c r q limit (part r past))) ≡ true → WasHeldFailed c q (e ∷ past)
+        begun true none = absurd (true≢false (sym none))
+        begun false some = elim (or_cases here (is_mark_candidate c r q limit (part r past)) some) [
+          | inl now ↦ record {
+              newer = [];
+              older = e ∷ past;
+              is = refl;
+              by = r;
+              inside = inside;
+              other = other;
+              failed = rw own (and_parts (lacks_room c limit (head_read r q e.by e.verb e.answer)) (is_failed r q (e ∷ part r past)) now).1;
+            }
+          | inr was ↦ before was
+        ]
+
+-- v may come after these values: a batch that is written and next of its client, or a mark that isn't among them,
+-- of a replica that another held failed
 pub data Fits (c : Config) (v : ℕ) (values : List ℕ) (past : List Event) : Type 0 where
   by_batch : is_batch c v ≡ true → wrote_batch c (v / 4096) (v % 4096) past ≡ true → number_of c (v % 4096) ≡ length (session c (client_of c (v % 4096)) values) + 1 → Fits c v values past
-  by_mark : (q : ℕ) → is_mark c q v ≡ true → marked c q values ≡ false → Fits c v values past
+  by_mark : (q : ℕ) → is_mark c q v ≡ true → marked c q values ≡ false → WasHeldFailed c q past → Fits c v values past
 
 -- v fits the values chosen below i
 pub record Sound (c : Config) (i v : ℕ) (past : List Event) : Type 0 where
@@ -63,7 +98,7 @@ wrote_of_part c r j by past h =
 
 fits_more : (c : Config) (v : ℕ) (values : List ℕ) (e : Event) (past : List Event) → Fits c v values past → Fits c v values (e ∷ past)
 fits_more c v values e past (by_batch b w n) = by_batch b (wrote_more c (v / 4096) (v % 4096) e past w) n
-fits_more c v values e past (by_mark q m n) = by_mark q m n
+fits_more c v values e past (by_mark q m n held) = by_mark q m n (held_on c q e past held)
 
 pub sound_stays : (c : Config) (i v : ℕ) (e : Event) (past : List Event) → Sound c i v past → Sound c i v (e ∷ past)
 sound_stays c i v e past s = record {
@@ -151,7 +186,10 @@ put_sound c r p i b v past h s may = go (put_value c r p i b v past h may)
             let y = and_parts (is_mark c f.who v) (not (f.who == r) && (not (marked c f.who (known c r (part r past))) && is_mark_candidate c r f.who (length (known c r (part r past)) + reserve c) (part r past))) full in
             let z = and_parts (not (f.who == r)) (not (marked c f.who (known c r (part r past))) && is_mark_candidate c r f.who (length (known c r (part r past)) + reserve c) (part r past)) y.1 in
             let w = and_parts (not (marked c f.who (known c r (part r past)))) (is_mark_candidate c r f.who (length (known c r (part r past)) + reserve c) (part r past)) z.1 in
+            let own : v / 4096 ≡ r = eqb-true (v / 4096) r x.0 in
+            let few = ltb-true (v / 4096) c.replicas (and_parts (nat_lt (v / 4096) c.replicas) ((c.version == 2) && (nat_lt f.who c.replicas && (v % 4096 == 4080 + f.who))) y.0).0 in
             by_mark f.who y.0 (not-true (marked c f.who (known c r (part r past))) w.0)
+            (candidate_held c r f.who (length (known c r (part r past)) + reserve c) past (omega (arith, own, few)) (λ same. true≢false (sym (eq-eqb f.who r (sym same)) ∙ not-true (f.who == r) z.0)) w.1)
 
     first : i ≡ length (known c r (part r past)) → Found c r i b v past → Seeing c r i b v past → Sound c i v past
     first nx (none_accepted e many) see = record {

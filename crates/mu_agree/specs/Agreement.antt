@@ -1,5 +1,5 @@
 -- The laws of agreement.
-use Rattle.std.specs.Prelude.{Bool, List, None, Some, [], if◌then◌else◌, length, max, true, ℕ, ◌&&◌, ◌++◌, ◌+◌, ◌<◌, ◌==◌, ◌∷◌, ◌≡◌, ◌≤◌, ◌⊎◌}
+use Rattle.std.specs.Prelude.{Bool, List, None, Some, [], if◌then◌else◌, length, max, true, ℕ, ◌&&◌, ◌++◌, ◌+◌, ◌<◌, ◌==◌, ◌∷◌, ◌≡◌, ◌≢◌, ◌≤◌, ◌⊎◌}
 use Rattle.std.specs.declared.option.Option.{Option}
 use Rattle.std.specs.List.{slice_get}
 use Rattle.mu_model.specs.declared.config.Config.{Config}
@@ -8,13 +8,14 @@ use Rattle.mu_model.specs.declared.event.Event.{Event}
 use Rattle.mu_model.specs.declared.event.Verb.{Verb}
 use Rattle.mu_model.specs.Answers.{answer_of}
 use Rattle.mu_model.specs.Chosen.{IsChosen}
-use Rattle.mu_model.specs.Contents.{is_mark}
+use Rattle.mu_model.specs.Contents.{IsConfig, is_mark}
 use Rattle.mu_model.specs.Entering.{grant_seen}
 use Rattle.mu_model.specs.Histories.{greatest, has, history, newer_or, part, IsPrefixOf}
 use Rattle.mu_model.specs.Knowledge.{fuo_read, known}
 use Rattle.mu_model.specs.Leaderships.{leadership}
 use Rattle.mu_model.specs.Legal.{IsLegal}
 use Rattle.mu_model.specs.Regions.{fence_grant, fence_owner, region_fuo, region_head, region_log}
+use Rattle.mu_model.specs.Scores.{is_failed}
 
 -- at most one value is chosen at a position
 abbrev pub AtMostOneChosen : Type 0
@@ -58,6 +59,22 @@ pub record IsMarked (c : Config) (q : ℕ) (past : List Event) : Type 0 where
   pub value : ℕ
   pub chosen : IsChosen c past position value
   pub mark : is_mark c q value ≡ true
+
+-- at some moment another replica held q to be failed
+pub record WasHeldFailed (c : Config) (q : ℕ) (past : List Event) : Type 0 where
+  pub newer : List Event
+  pub older : List Event
+  pub is : past ≡ newer ++ older
+  pub by : ℕ
+  pub inside : by < c.replicas
+  pub other : by ≢ q
+  pub failed : is_failed by q (part by older) ≡ true
+
+-- a mark of q is chosen only after another replica held q to be failed
+abbrev pub MarksHaveCause : Type 0
+MarksHaveCause =
+    (c : Config) (events : List Event) (q : ℕ) → IsConfig c → IsLegal c events
+    → IsMarked c q (history events) → WasHeldFailed c q (history events)
 
 -- the head of a replica is at most the FUO of its region
 abbrev pub HeadWithinFuo : Type 0

@@ -1,7 +1,7 @@
 //! The laws of agreement: what holds of every legal list of events, and of every possible part.
 #![tactic(auto)]
 
-ghost use Rattle.mu_agree.specs.Agreement.{AtMostOneChosen, FuoIsChosen, FuoIsKept, HeadWithinFuo, KnownAgree, KnownIsChosen, LogWithinFuo, LogWithinReach, LooksAreKept, PlacesAreKept};
+ghost use Rattle.mu_agree.specs.Agreement.{AtMostOneChosen, FuoIsChosen, FuoIsKept, HeadWithinFuo, KnownAgree, KnownIsChosen, LogWithinFuo, LogWithinReach, LooksAreKept, MarksHaveCause, PlacesAreKept};
 ghost use Rattle.mu_agree.specs.Journals.{BeginningsAreDiligent, ObeysOnce};
 ghost use Rattle.mu_agree.specs.Laws.{MinimumRises, NumbersDiffer, OnlyOwnersPut, SlotNumbersRise};
 ghost use Rattle.mu_agree.specs.Paces.{RecentAsksAreInTime, RecentReadsAreInTime};
@@ -96,6 +96,11 @@ pub fn marked_once()
 /// Every known list has at most one mark of each replica.
 pub fn known_marked_once()
     ensures { KnownMarkedOnce }
+{}
+
+/// A mark of a replica is chosen only after another replica held it to be failed.
+pub fn marks_have_cause()
+    ensures { MarksHaveCause }
 {}
 
 /// What came before the last event of a possible part is possible.

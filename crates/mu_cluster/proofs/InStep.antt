@@ -1,4 +1,4 @@
--- Where the script has no pause, a lower replica is a step ahead of a higher one at each step of this.
+-- Where the script has no pause, a lower replica is a step ahead of a higher one at each step of this, and a higher one is in step with a lower one.
 use Rattle.std.proofs.Common.{◌≡◌, ◌∙◌, ◌≢◌, ℕ, suc, zero, ◌+◌, ◌<◌, ◌≤◌, ◌==◌, ◌&&◌, inl, inr, Bool, true, false, cond, List, [], ◌∷◌, ◌++◌, ap, append-nil, append_assoc, arith, eq-eqb, length, map, refl, subst, sym}
 use Rattle.std.specs.Prelude.{if◌then◌else◌, nat_lt, not, reverse, slice_index}
 use Rattle.std.proofs.lemmas.Bool.{cases_eq, cases_lt, le-ltb, lt-ltb, ltb-true, ne_eqb}
@@ -60,28 +60,30 @@ abbrev times : ℕ → List ℕ → ℕ
 times s [] = 0
 times s (i ∷ ids) = if i == s then times s ids + 1 else times s ids
 
--- of ids with the last one first: at each r there are as many of q as of r with this one, up to all that there are
-abbrev AreInStep : ℕ → ℕ → ℕ → List ℕ → Type 0
-AreInStep q most r [] = Unit {0}
-AreInStep q most r (i ∷ ids) = AreInStep q most r ids × (i ≡ r → IsLesser (times r ids + 1) most (times q ids))
+-- of ids with the last one first: at each r there are as many of q as of r before it and the lead, up to all that there are
+abbrev AreInStep : ℕ → ℕ → ℕ → ℕ → List ℕ → Type 0
+AreInStep lead q most r [] = Unit {0}
+AreInStep lead q most r (i ∷ ids) = AreInStep lead q most r ids × (i ≡ r → IsLesser (times r ids + lead) most (times q ids))
 
 -- the ids of so many rounds and of the first k replicas in the next one
 record AreTurns (lengths : List ℕ) (round k : ℕ) (ids : List ℕ) : Type 0 where
   had : (s : ℕ) → s < k → IsLesser (suc round) (slice_index lengths s) (times s ids)
   waits : (s : ℕ) → k ≤ s → s < length lengths → IsLesser round (slice_index lengths s) (times s ids)
-  in_step : (q r : ℕ) → q < r → AreInStep q (slice_index lengths q) r ids
+  ahead : (q r : ℕ) → q < r → AreInStep 1 q (slice_index lengths q) r ids
+  behind : (q r : ℕ) → r < q → q < length lengths → AreInStep 0 q (slice_index lengths q) r ids
 
 -- those of the whole round
 whole_round : (lengths : List ℕ) (round : ℕ) (ids : List ℕ) → AreTurns lengths round (length lengths) ids → AreTurns lengths (suc round) 0 ids
 whole_round lengths round ids was = record {
   had = λ s low. absurd (omega (arith, low));
   waits = λ s _ inside. was.had s inside;
-  in_step = was.in_step;
+  ahead = was.ahead;
+  behind = was.behind;
 }
 
 -- one more turn
 more_turns : (lengths : List ℕ) (round k : ℕ) (ids : List ℕ) → k < length lengths → round < slice_index lengths k → AreTurns lengths round k ids → AreTurns lengths round (suc k) (k ∷ ids)
-more_turns lengths round k ids inside left was = record { had = had; waits = waits; in_step = in_step }
+more_turns lengths round k ids inside left was = record { had = had; waits = waits; ahead = ahead; behind = behind }
   where
     taken : times k ids ≡ round
     taken = (was.waits k (omega arith) inside).0 (omega (arith, left))
@@ -101,9 +103,18 @@ more_turns lengths round k ids inside left was = record { had = had; waits = wai
     waits : (s : ℕ) → suc k ≤ s → s < length lengths → IsLesser round (slice_index lengths s) (times s (k ∷ ids))
     waits s above low = subst (λ n. IsLesser round (slice_index lengths s) n) (sym (others s (λ same. omega (arith, same, above)))) (was.waits s (omega (arith, above)) low)
 
-    in_step : (q r : ℕ) → q < r → AreInStep q (slice_index lengths q) r (k ∷ ids)
-    in_step q r below = (
-      was.in_step q r below,
+    behind : (q r : ℕ) → r < q → q < length lengths → AreInStep 0 q (slice_index lengths q) r (k ∷ ids)
+    behind q r above low = (
+      was.behind q r above low,
+      λ here.
+          let waited = was.waits q (omega (arith, above, here)) low in
+          let none : round ≡ times r ids + 0 = omega (arith, taken, ap (λ i. times i ids) here) in
+          subst (λ n. IsLesser n (slice_index lengths q) (times q ids)) none waited,
+    )
+
+    ahead : (q r : ℕ) → q < r → AreInStep 1 q (slice_index lengths q) r (k ∷ ids)
+    ahead q r below = (
+      was.ahead q r below,
       λ here.
           let had = was.had q (omega (arith, below, here)) in
           let one : suc round ≡ times r ids + 1 = omega (arith, taken, ap (λ i. times i ids) here) in
@@ -119,7 +130,8 @@ no_turn lengths round k ids inside none was = record {
     | inr other ↦ was.had s (omega (arith, low, other))
   ];
   waits = λ s above low. was.waits s (omega (arith, above)) low;
-  in_step = was.in_step;
+  ahead = was.ahead;
+  behind = was.behind;
 }
 
 -- the ids of so many rounds, and of the first replicas in the next one, the last one first
@@ -127,7 +139,7 @@ abbrev turned : List ℕ → ℕ → ℕ → List ℕ
 turned lengths round k = reverse (ids_after [] lengths round ++ ids_in_round [] lengths round k)
 
 are_turns : (lengths : List ℕ) (round k : ℕ) → k ≤ length lengths → AreTurns lengths round k (turned lengths round k)
-are_turns lengths zero zero low = record { had = λ s none. absurd (omega (arith, none)); waits = λ s _ inside. (λ _. refl, λ none. omega (arith, none)); in_step = λ q r below. tt }
+are_turns lengths zero zero low = record { had = λ s none. absurd (omega (arith, none)); waits = λ s _ inside. (λ _. refl, λ none. omega (arith, none)); ahead = λ q r below. tt; behind = λ q r above low. tt }
 are_turns lengths (suc round) zero low =
     subst (AreTurns lengths (suc round) 0) (sym (ap reverse (append-nil (ids_after [] lengths (suc round)))))
     (whole_round lengths round (turned lengths round (length lengths)) (are_turns lengths round (length lengths) (omega arith)))
@@ -147,9 +159,9 @@ are_turns lengths round (suc k) low = go (is_due [] k (slice_index lengths k) (p
         subst (AreTurns lengths round (suc k)) (sym (ap (λ l. reverse (ids_after [] lengths round ++ l)) (append-nil (ids_in_round [] lengths round k))))
         (no_turn lengths round k (reverse before) (omega (arith, low)) (idle_steps k (slice_index lengths k) round idle) was)
 
--- at this event of r the replica q has taken as many steps as r with this one, or all
-abbrev pub StaysAhead : ℕ → ℕ → ℕ → List Event → Event → Type 0
-StaysAhead q most r before e = e.by ≡ r → IsLesser (length (part r before) + 1) most (length (part q before))
+-- at this event of r the replica q has taken as many steps as r before it and the lead, or all
+abbrev pub StaysAhead : ℕ → ℕ → ℕ → ℕ → List Event → Event → Type 0
+StaysAhead lead q most r before e = e.by ≡ r → IsLesser (length (part r before) + lead) most (length (part q before))
 
 times_part : (s : ℕ) (past : List Event) → times s (map id_of past) ≡ length (part s past)
 times_part s [] = refl
@@ -159,17 +171,33 @@ times_part s (e ∷ past) = go (e.by == s) (times_part s past)
     go true ih = omega (arith, ih)
     go false ih = ih
 
-events_in_step : (q most r : ℕ) (past : List Event) → AreInStep q most r (map id_of past) → AtEachStep (StaysAhead q most r) past
-events_in_step q most r [] held = tt
-events_in_step q most r (e ∷ past) held =
-    (events_in_step q most r past held.0, λ own. subst (λ n. IsLesser n most (length (part q past))) (ap (λ n. n + 1) (times_part r past)) (subst (λ n. IsLesser (times r (map id_of past) + 1) most n) (times_part q past) (held.1 own)))
+events_in_step : (lead q most r : ℕ) (past : List Event) → AreInStep lead q most r (map id_of past) → AtEachStep (StaysAhead lead q most r) past
+events_in_step lead q most r [] held = tt
+events_in_step lead q most r (e ∷ past) held =
+    (events_in_step lead q most r past held.0, λ own. subst (λ n. IsLesser n most (length (part q past))) (ap (λ n. n + lead) (times_part r past)) (subst (λ n. IsLesser (times r (map id_of past) + lead) most n) (times_part q past) (held.1 own)))
 
 map_reverse : {A : Type 0} {B : Type 0} (f : A → B) (xs : List A) → map f (reverse xs) ≡ reverse (map f xs)
 map_reverse f [] = refl
 map_reverse f (x ∷ xs) = ap (map f) (reverse-append (x ∷ []) xs) ∙ (map-append f (reverse xs) (x ∷ []) ∙ (ap (λ l. l ++ f x ∷ []) (map_reverse f xs) ∙ sym (reverse-append (f x ∷ []) (map f xs))))
 
+-- q keeps step with r: at each event of r it has taken as many steps, with this event of r or without, or all
+pub record KeepsStep (q most r : ℕ) (past : List Event) : Type 0 where
+  pub lead : ℕ
+  pub short : lead ≤ 1
+  pub each : AtEachStep (StaysAhead lead q most r) past
+
 -- in a list of events in the order of rounds without a pause
-pub in_step : (lengths : List ℕ) (rounds q r : ℕ) (events : List Event) → q < r → map id_of events ≡ ids_after [] lengths rounds → AtEachStep (StaysAhead q (slice_index lengths q) r) (history events)
-in_step lengths rounds q r events below order =
-    let is : turned lengths rounds 0 ≡ map id_of (history events) = ap reverse (append-nil (ids_after [] lengths rounds) ∙ sym order) ∙ sym (map_reverse id_of events) in
-    events_in_step q (slice_index lengths q) r (history events) (subst (AreInStep q (slice_index lengths q) r) is ((are_turns lengths rounds 0 (omega arith)).in_step q r below))
+pub in_step : (lengths : List ℕ) (rounds q r : ℕ) (events : List Event) → q ≢ r → q < length lengths → map id_of events ≡ ids_after [] lengths rounds → KeepsStep q (slice_index lengths q) r (history events)
+in_step lengths rounds q r events other low order = elim (cases_lt q r) [
+  | inl below ↦ record { lead = 1; short = omega arith; each = events_in_step 1 q most r (history events) (subst (AreInStep 1 q most r) is (turns.ahead q r below)) }
+  | inr above ↦ record { lead = 0; short = omega arith; each = events_in_step 0 q most r (history events) (subst (AreInStep 0 q most r) is (turns.behind q r (omega (arith, above, other)) low)) }
+]
+  where
+    most : ℕ
+    most = slice_index lengths q
+
+    turns : AreTurns lengths rounds 0 (turned lengths rounds 0)
+    turns = are_turns lengths rounds 0 (omega arith)
+
+    is : turned lengths rounds 0 ≡ map id_of (history events)
+    is = ap reverse (append-nil (ids_after [] lengths rounds) ∙ sym order) ∙ sym (map_reverse id_of events)

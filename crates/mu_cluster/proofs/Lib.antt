@@ -6,6 +6,7 @@ pub mod Filling
 pub mod InStep
 pub mod LogCommands
 pub mod Naming
+pub mod Outrunning
 pub mod Ports
 pub mod Rounding
 pub mod Seats

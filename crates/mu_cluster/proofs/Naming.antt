@@ -3,7 +3,7 @@ use Rattle.std.proofs.Common.{◌≡◌, ◌∙◌, ◌≢◌, ℕ, suc, zero, �
 use Rattle.std.specs.Prelude.{nat_lt, not, slice_index}
 use Rattle.std.specs.List.{slice_get}
 use Rattle.std.proofs.lemmas.Bool.{cases_lt, ltb-true, true≢false}
-use Rattle.std.proofs.lemmas.List.{length-append, length-reverse, reverse-append}
+use Rattle.std.proofs.lemmas.List.{length-append, length-map, length-reverse, reverse-append}
 use Rattle.mu_agree.proofs.Legal.{legal_older}
 use Rattle.mu_model.specs.declared.config.Config.{Config}
 use Rattle.mu_model.specs.declared.event.Event.{Event}
@@ -26,7 +26,7 @@ use Rattle.mu_cluster.specs.declared.rounds.Seat.{Seat}
 use Rattle.mu_cluster.specs.Naming.{NamesFirst, NamesFirstUnpaused, IsReached}
 use Rattle.mu_cluster.specs.Rounds.{Played, id_of, part_of}
 use Rattle.mu_model.proofs.Lists.{item_below}
-use Rattle.mu_cluster.proofs.InStep.{StaysAhead, in_step}
+use Rattle.mu_cluster.proofs.InStep.{KeepsStep, StaysAhead, in_step}
 use Rattle.mu_cluster.proofs.Trusting.{trusts}
 
 -- the history before an event, and with it
@@ -78,12 +78,13 @@ fewer_yet q events earlier later e is left =
     omega (arith, whole, same, some)
 
 -- the events of a replay are those of nodes, in the order of rounds without a pause
-record AreUnpaused (c : Config) (events : List Event) (lengths : List ℕ) (rounds : ℕ) : Type 0 where
-  legal : IsLegal c events
-  whole : has (λ e. not (nat_lt e.by c.replicas)) (history events) ≡ false
-  order : map id_of events ≡ ids_after [] lengths rounds
-  first : 0 < c.replicas → slice_index lengths 0 ≡ length (part_of 0 events)
-  made : (r : ℕ) → r < c.replicas → AtEachStep (WasMade c r) (part_of r events)
+pub record AreUnpaused (c : Config) (events : List Event) (lengths : List ℕ) (rounds : ℕ) : Type 0 where
+  pub legal : IsLegal c events
+  pub whole : has (λ e. not (nat_lt e.by c.replicas)) (history events) ≡ false
+  pub order : map id_of events ≡ ids_after [] lengths rounds
+  pub count : length lengths ≡ c.replicas
+  pub lengths : (r : ℕ) → r < c.replicas → slice_index lengths r ≡ length (part_of r events)
+  pub made : (r : ℕ) → r < c.replicas → AtEachStep (WasMade c r) (part_of r events)
 
 maker_inside : (c : Config) (events : List Event) (lengths : List ℕ) (rounds : ℕ) (earlier : List Event) (e : Event) → AreUnpaused c events lengths rounds → IsReached events earlier e → e.by < c.replicas
 maker_inside c events lengths rounds earlier e run at =
@@ -93,27 +94,52 @@ maker_inside c events lengths rounds earlier e run at =
     go true is _ = ltb-true e.by c.replicas is
     go false is none = absurd (true≢false none)
 
+-- at each moment a replica holds alive each other that takes as many steps in all as it has taken
+pub trusts_then : (c : Config) (events : List Event) (lengths : List ℕ) (rounds q r : ℕ) (newer older : List Event) → AreUnpaused c events lengths rounds → history events ≡ newer ++ older → q < c.replicas → r < c.replicas → q ≢ r
+    → length (part r older) ≤ length (part_of q events) → (score r q (part r older)).1 ≡ true
+trusts_then c events lengths rounds q r newer older run is low inside other few =
+    let count = run.count in
+    let step = in_step lengths rounds q r events other (omega (arith, low, count)) run.order in
+    let most = run.lengths q low in
+    let each = steps_before (StaysAhead step.lead q (slice_index lengths q) r) newer older (subst (AtEachStep (StaysAhead step.lead q (slice_index lengths q) r)) is step.each) in
+    let legal = legal_older c newer older (subst (IsLegalHistory c) is run.legal) in
+    ap (λ s. s.1)
+    (trusts c step.lead q r (slice_index lengths q) older low inside other step.short legal each (made q low) (made r inside) (omega (arith, few, most))).full
+  where
+    made : (r : ℕ) → r < c.replicas → AtEachStep (WasMade c r) (part r older)
+    made r low = part_before (WasMade c r) r newer older (subst (λ l. AtEachStep (WasMade c r) (part r l)) is (run.made r low))
+
+-- at an event of r each other replica has taken at most as many steps as r with it
+pub few_steps : (c : Config) (events : List Event) (lengths : List ℕ) (rounds q r : ℕ) (newer older : List Event) (e : Event) → AreUnpaused c events lengths rounds → history events ≡ newer ++ e ∷ older → e.by ≡ r → q < c.replicas → q ≢ r
+    → length (part q older) ≤ length (part r older) + 1
+few_steps c events lengths rounds q r newer older e run is own low other =
+    let count = run.count in
+    let step = in_step lengths rounds q r events other (omega (arith, low, count)) run.order in
+    let each : AtEachStep (StaysAhead step.lead q (slice_index lengths q) r) (e ∷ older) = steps_before (StaysAhead step.lead q (slice_index lengths q) r) newer (e ∷ older) (subst (AtEachStep (StaysAhead step.lead q (slice_index lengths q) r)) is step.each) in
+    let here = each.1 own in
+    let short = step.short in
+    elim (cases_lt (slice_index lengths q) (length (part r older) + step.lead)) [
+      | inl over ↦ (let taken = here.1 (omega (arith, over)) in omega (arith, taken, over, short))
+      | inr under ↦ (let taken = here.0 under in omega (arith, taken, short))
+    ]
+
 -- whoever makes an event holds replica 0 to be alive
 holds_first : (c : Config) (events : List Event) (lengths : List ℕ) (rounds : ℕ) (earlier : List Event) (e : Event) → AreUnpaused c events lengths rounds → IsReached events earlier e → e.by ≢ 0 → (score e.by 0 (part_of e.by earlier)).1 ≡ true
 holds_first c events lengths rounds earlier e run at other =
     let inside = maker_inside c events lengths rounds earlier e run at in
-    let some : 0 < c.replicas = omega (arith, inside) in
-    let most = slice_index lengths 0 in
-    let ahead = in_step lengths rounds 0 e.by events (omega (arith, other)) run.order in
-    let steps : AtEachStep (StaysAhead 0 most e.by) (e ∷ history earlier) = steps_before (StaysAhead 0 most e.by) (history at.later) (e ∷ history earlier) (subst (AtEachStep (StaysAhead 0 most e.by)) (with_event events earlier at.later e at.is) ahead) in
-    let step = steps.1 refl in
     let fewer = fewer_yet 0 events earlier at.later e at.is at.left in
-    let all = run.first some in
-    let few : length (part_of e.by earlier) ≤ most = elim (cases_lt most (length (part_of e.by earlier) + 1)) [
-      | inl over ↦ (let ended = step.1 (omega (arith, over)) in absurd (omega (arith, ended, fewer, all)))
-      | inr under ↦ omega (arith, under)
+    let some : 0 < c.replicas = omega (arith, inside) in
+    let count = run.count in
+    let all = run.lengths 0 some in
+    let step = in_step lengths rounds 0 e.by events (λ same. other (sym same)) (omega (arith, some, count)) run.order in
+    let most = slice_index lengths 0 in
+    let each : AtEachStep (StaysAhead step.lead 0 most e.by) (e ∷ history earlier) = steps_before (StaysAhead step.lead 0 most e.by) (history at.later) (e ∷ history earlier) (subst (AtEachStep (StaysAhead step.lead 0 most e.by)) (with_event events earlier at.later e at.is) step.each) in
+    let here = each.1 refl in
+    let few : length (part_of e.by earlier) ≤ length (part_of 0 events) = elim (cases_lt most (length (part_of e.by earlier) + step.lead)) [
+      | inl over ↦ (let ended = here.1 (omega (arith, over)) in absurd (omega (arith, ended, fewer, all)))
+      | inr under ↦ omega (arith, under, all)
     ] in
-    let legal = legal_older c (history (e ∷ at.later)) (history earlier) (subst (IsLegalHistory c) (before_event events earlier at.later e at.is) run.legal) in
-    ap (λ s. s.1)
-    (trusts c 0 e.by most (history earlier) some inside (λ same. other (sym same)) legal steps.0 (made 0 some) (made e.by inside) few).full
-  where
-    made : (r : ℕ) → r < c.replicas → AtEachStep (WasMade c r) (part r (history earlier))
-    made r low = part_before (WasMade c r) r (history (e ∷ at.later)) (history earlier) (subst (λ l. AtEachStep (WasMade c r) (part r l)) (before_event events earlier at.later e at.is) (run.made r low))
+    trusts_then c events lengths rounds 0 e.by (history (e ∷ at.later)) (history earlier) run (before_event events earlier at.later e at.is) some inside (λ same. other (sym same)) few
 
 names_in : (c : Config) (events : List Event) (lengths : List ℕ) (rounds : ℕ) → AreUnpaused c events lengths rounds → NamesFirst c events
 names_in c events lengths rounds run = record { named = named; asks = asks }
@@ -136,20 +162,28 @@ length_at [] r events at = cc
 length_at (journal ∷ journals) zero events at = ap length (same_some journal.events events at)
 length_at (journal ∷ journals) (suc r) events at = length_at journals r events at
 
+length_of_part : (r : ℕ) (events : List Event) → length (part r events) ≡ length (part_of r events)
+length_of_part r events = sym (length-reverse (part r events)) ∙ ap length (history-part r events)
+
 -- in what a replay leaves
-pub named_of : (o : Outcome) (order : Record) (seats : List Seat) (rounds : ℕ) → IsRun o → o.order ≡ Some order → Played o.job.config o.job.script order.events seats rounds 0 → NamesFirstUnpaused o
-named_of o order seats rounds run given played unpaused other also =
-    subst (λ (x : Record). NamesFirst o.job.config x.events) (same_some run.order other (sym run.given ∙ also))
-    (names_in o.job.config run.order.events (map (λ journal. length (events_of journal)) o.journals) run.turns.rounds (record {
-      legal = run.legal;
-      whole = run.parts.whole;
-      order = subst (λ pauses. map id_of run.order.events ≡ ids_after pauses (map (λ journal. length (events_of journal)) o.journals) run.turns.rounds) unpaused run.turns.is;
-      first = λ some. length_at o.journals 0 (part 0 run.order.events) (run.parts.each 0 some) ∙ (sym (length-reverse (part 0 run.order.events)) ∙ ap length (history-part 0 run.order.events));
-      made = λ r low. made r low;
-    }))
+pub unpaused_of : (o : Outcome) (order : Record) (seats : List Seat) (rounds : ℕ) (run : IsRun o) → o.order ≡ Some order → Played o.job.config o.job.script order.events seats rounds 0 → o.job.script.pauses ≡ []
+    → AreUnpaused o.job.config run.order.events (map (λ journal. length (events_of journal)) o.journals) run.turns.rounds
+unpaused_of o order seats rounds run given played unpaused = record {
+  legal = run.legal;
+  whole = run.parts.whole;
+  order = subst (λ pauses. map id_of run.order.events ≡ ids_after pauses (map (λ journal. length (events_of journal)) o.journals) run.turns.rounds) unpaused run.turns.is;
+  count = length-map (λ journal. length (events_of journal)) o.journals ∙ (sym (length-map events_of o.journals) ∙ run.parts.count);
+  lengths = λ r low. length_at o.journals r (part r run.order.events) (run.parts.each r low) ∙ length_of_part r run.order.events;
+  made = λ r low. made r low;
+}
   where
     made : (r : ℕ) → r < o.job.config.replicas → AtEachStep (WasMade o.job.config r) (part_of r run.order.events)
     made r low =
         let count = played.count in
         let found = item_below seats r (omega (arith, low, count)) in
         subst (λ (x : Record). AtEachStep (WasMade o.job.config r) (part_of r x.events)) (same_some order run.order (sym given ∙ run.given)) (played.waits r found.0 found.1 (omega arith)).stands.made
+
+pub named_of : (o : Outcome) (order : Record) (seats : List Seat) (rounds : ℕ) → IsRun o → o.order ≡ Some order → Played o.job.config o.job.script order.events seats rounds 0 → NamesFirstUnpaused o
+named_of o order seats rounds run given played unpaused other also =
+    subst (λ (x : Record). NamesFirst o.job.config x.events) (same_some run.order other (sym run.given ∙ also))
+    (names_in o.job.config run.order.events (map (λ journal. length (events_of journal)) o.journals) run.turns.rounds (unpaused_of o order seats rounds run given played unpaused))

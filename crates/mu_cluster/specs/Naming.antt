@@ -1,12 +1,15 @@
--- Whom the replicas of a replay name leader where its script pauses none.
-use Rattle.std.specs.Prelude.{List, Some, [], true, ℕ, ◌++◌, ◌==◌, ◌∷◌, ◌≡◌}
+-- What the replicas of a replay keep to where its script pauses none.
+use Rattle.std.specs.Prelude.{List, Some, [], true, ℕ, ¬, ◌++◌, ◌<◌, ◌==◌, ◌∷◌, ◌≡◌}
+use Rattle.std.specs.List.{slice_get}
 use Rattle.mu_model.specs.declared.config.Config.{Config}
 use Rattle.mu_model.specs.declared.event.Event.{Event}
 use Rattle.mu_model.specs.declared.event.Verb.{Verb}
+use Rattle.mu_model.specs.declared.script.End.{End}
 use Rattle.mu_model.specs.Histories.{has}
 use Rattle.mu_model.specs.Journals.{Record}
 use Rattle.mu_model.specs.Scores.{leader}
 use Rattle.mu_outcome.specs.declared.outcome.Outcome.{Outcome}
+use Rattle.mu_outcome.specs.Completion.{HasAllCommands}
 use Rattle.mu_cluster.specs.Rounds.{part_of}
 
 -- the list comes to this event before replica 0 has ended: it makes the event, or a later one
@@ -29,3 +32,16 @@ abbrev pub NamesFirstUnpaused : Outcome → Type 0
 NamesFirstUnpaused o =
     o.job.script.pauses ≡ [] → (order : Record) → o.order ≡ Some order
     → NamesFirst o.job.config order.events
+
+-- no replica was outrun where its script has no pause
+abbrev pub NoneOutrunUnpaused : Outcome → Type 0
+NoneOutrunUnpaused o =
+    o.job.script.pauses ≡ [] → (r p i : ℕ) → r < o.job.config.replicas
+    → slice_get o.ends r ≡ Some (End.Outrun p i) → ⊥
+
+-- so where its script has no line and some command is missing, every replica spent its budget
+pub record SpendsBudgets (o : Outcome) : Type 0 where
+  pub none_outrun : NoneOutrunUnpaused o
+  pub spent :
+      o.job.script.pauses ≡ [] → o.job.script.stops ≡ [] → ¬ HasAllCommands o
+      → (r : ℕ) → r < o.job.config.replicas → slice_get o.ends r ≡ Some End.Budget

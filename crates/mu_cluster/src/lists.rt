@@ -5,7 +5,7 @@ ghost use Rattle.mu_model.specs.declared.script.End.{End as SomeEnd};
 ghost use Rattle.mu_model.specs.Contents.{IsConfig};
 ghost use Rattle.mu_model.specs.Legal.{IsLegal};
 ghost use Rattle.mu_cluster.specs.declared.rounds.Seat.{Seat as SomeSeat};
-ghost use Rattle.mu_cluster.specs.Naming.{NamesFirstUnpaused};
+ghost use Rattle.mu_cluster.specs.Naming.{NamesFirstUnpaused, NoneOutrunUnpaused};
 ghost use Rattle.mu_cluster.specs.Lists.{Adds, HasRoom, HoldsLists, IsOutcomeRoom};
 ghost use Rattle.mu_cluster.specs.Paces.{AreDiligent};
 ghost use Rattle.mu_outcome.specs.Outcomes.{IsRun};
@@ -106,6 +106,7 @@ impl OutcomeRoom {
         ensures run { IsRun result }
         ensures diligent { AreDiligent result }
         ensures names { NamesFirstUnpaused result }
+        ensures none_outrun { NoneOutrunUnpaused result }
     {
         let OutcomeRoom { answers, lists } = self;
         let Lists {

@@ -4,7 +4,7 @@ ghost use Rattle.mu_input.specs.Heads.{HaveHeads};
 ghost use Rattle.mu_model.specs.Contents.{IsConfig};
 ghost use Rattle.mu_cluster.specs.Paces.{AreDiligent};
 ghost use Rattle.mu_outcome.specs.Outcomes.{Agrees, IsRun, IsWithinJob};
-ghost use Rattle.mu_cluster.specs.Naming.{NamesFirstUnpaused};
+ghost use Rattle.mu_cluster.specs.Naming.{NamesFirstUnpaused, SpendsBudgets};
 
 use crate::lists::OutcomeRoom;
 use crate::rounds::{finished, seats};
@@ -30,6 +30,7 @@ pub fn replay(alloc: Global, job: Job) -> Result<Outcome, NoMemory>
     ensures agrees { IfOk result Agrees }
     ensures reach { IfOk result IsWithinJob }
     ensures names { IfOk result NamesFirstUnpaused }
+    ensures spends { IfOk result SpendsBudgets }
 {
     let memory = WordFabric::start(alloc, &job.config)?;
     replay_over(alloc, job, memory)
@@ -51,6 +52,7 @@ pub fn replay_over<M: Memory>(alloc: Global, job: Job, memory: M) -> Result<Outc
     ensures agrees { IfOk result Agrees }
     ensures reach { IfOk result IsWithinJob }
     ensures names { IfOk result NamesFirstUnpaused }
+    ensures spends { IfOk result SpendsBudgets }
 {
     let room = OutcomeRoom::new(alloc, &job.config)?;
     let mut seats = seats(alloc, &job)?;

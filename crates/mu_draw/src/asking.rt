@@ -2,6 +2,7 @@
 ghost use Rattle.std.specs.Prelude.{◌≡◌, ◌≢◌, IfSome};
 ghost use Rattle.std.specs.declared.io.ErrorKind.TheVariants.{InvalidData};
 ghost use Rattle.mu_draw.specs.Words.{asked_of as asked_of_words, asked_of_two};
+ghost use Rattle.mu_draw.specs.declared.asking.TheConstants.{LAST_STEP};
 ghost use Rattle.mu_draw.specs.declared.drawing.Told.TheVariants.{Usage, Said as SaidOf};
 ghost use Rattle.mu_report.specs.declared.said.Said.TheVariants.{NoMemory};
 
@@ -12,6 +13,11 @@ use std::io::ErrorKind;
 
 /// The greatest step that a word can name.
 pub const LAST_STEP: u32 = 9_999_999;
+
+/// The limit is this number.
+pub fn limits_are_stated()
+    ensures { LAST_STEP ≡ 9999999 }
+{}
 
 /// Which steps are drawn, by their indices from 0.
 #[derive(Clone, Copy, Debug, PartialEq, Eq)]

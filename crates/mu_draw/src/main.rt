@@ -15,7 +15,7 @@ mod drawing;
 mod tests;
 
 pub use answering::{Answered, answer, draw};
-pub use asking::{Asked, LAST_STEP, asked_of};
+pub use asking::{Asked, LAST_STEP, asked_of, limits_are_stated};
 pub use drawing::Told;
 use mu_io::{StdSink, StdSource};
 use std::env;

@@ -5,7 +5,7 @@ use Rattle.mu_input.specs.Grammar.{job}
 use Rattle.mu_input.specs.Readings.{Fits, Leaves}
 use Rattle.mu_input.specs.Bulk.{bulk_job}
 use Rattle.mu_input.specs.declared.job.InputEnd.{InputEnd}
-use Rattle.mu_cluster.specs.Naming.{NamesFirstUnpaused}
+use Rattle.mu_cluster.specs.Naming.{NamesFirstUnpaused, SpendsBudgets}
 use Rattle.mu_cluster.specs.Paces.{AreDiligent}
 use Rattle.mu_outcome.specs.declared.outcome.Outcome.{Outcome}
 use Rattle.mu_outcome.specs.Completion.{Completes}
@@ -17,13 +17,14 @@ use Rattle.snap_reads.specs.Lives.{AreAllSights}
 
 -- the outcome is a run of its job in turns: its journals are diligent, where the script has no pause
 -- each replica names replica 0 until that has ended, its replicas agree, and where a command is
--- missing each was cut short
+-- missing each was cut short, by its budget alone where the script has no line
 pub record IsReplay (o : Outcome) : Type 0 where
   pub run : IsRun o
   pub diligent : AreDiligent o
   pub names : NamesFirstUnpaused o
   pub agrees : Agrees o
   pub completes : Completes o
+  pub spends : SpendsBudgets o
 
 -- the outcome is a run of its job by threads: its journals are diligent, its replicas agree, and
 -- where a command is missing each was cut short

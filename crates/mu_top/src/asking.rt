@@ -4,6 +4,7 @@ ghost use Rattle.std.specs.declared.io.ErrorKind.TheVariants.{InvalidData};
 ghost use Rattle.mu_input.specs.declared.TheConstants.{TRACE_LIMIT};
 ghost use Rattle.mu_report.specs.declared.said.Said.TheVariants.{NoMemory, Usage};
 ghost use Rattle.mu_report.specs.Said.{IsShort};
+ghost use Rattle.snap_reads.specs.declared.TheConstants.{MOST_READERS};
 ghost use Rattle.mu_top.specs.declared.serving.TheConstants.{SENDERS};
 ghost use Rattle.mu_top.specs.Words.{task_named, asked_of as asked_of_words, asked_of_two, limit_of, IsInReach};
 
@@ -16,11 +17,12 @@ use std::io::ErrorKind;
 /// The most bytes that the input of a job may have.
 pub const INPUT_LIMIT: usize = 1_048_576;
 
-/// The limits, and the cause of a desk, are the numbers that are stated.
+/// The limits are the numbers that are stated.
 pub fn limits_are_stated()
     ensures input { INPUT_LIMIT ≡ 1048576 }
     ensures trace { TRACE_LIMIT ≡ 67108864 }
     ensures senders { SENDERS ≡ 16 }
+    ensures readers { MOST_READERS ≡ 4 }
 {}
 
 /// What the program is asked to do with its input.

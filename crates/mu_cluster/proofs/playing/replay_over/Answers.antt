@@ -5,7 +5,9 @@ use Rattle.mu_input.specs.Heads.{HaveHeads}
 use Rattle.mu_input.specs.declared.job.Job.{Job}
 use Rattle.mu_model.specs.Contents.{IsConfig}
 use Rattle.mu_model.specs.Legal.{IsLegal}
-use Rattle.mu_cluster.proofs.Agreeing.{agrees_of, within_of}
+use Rattle.mu_outcome.proofs.Completing.{completes_over}
+use Rattle.mu_cluster.proofs.Agreeing.{agrees_of, over_order, within_of}
+use Rattle.mu_cluster.proofs.Outrunning.{spends_of}
 use Rattle.mu_cluster.specs.declared.rounds.Seat.{Seat}
 use Rattle.mu_cluster.specs.Rounds.{Played}
 use Rattle.mu_cluster.proofs.playing.replay_over.Goals as goal
@@ -39,3 +41,11 @@ returns-clause-agrees g c = agrees_of c.outcome.result (subst (λ (j : Job). IsC
 
 pub returns-clause-reach : goal.returns-clause-reach
 returns-clause-reach g c = within_of c.outcome.result (subst (λ (j : Job). IsConfig j.config) (sym c.outcome.ensures.job) c.requires.config) (subst (λ (j : Job). HaveHeads j.config.width j.commands j.config.rows) (sym c.outcome.ensures.job) c.requires.heads) c.outcome.ensures.run
+
+pub returns-clause-spends : goal.returns-clause-spends
+returns-clause-spends g c =
+    let o = c.outcome.result in
+    let good = subst (λ (j : Job). IsConfig j.config) (sym c.outcome.ensures.job) c.requires.config in
+    let have = subst (λ (j : Job). HaveHeads j.config.width j.commands j.config.rows) (sym c.outcome.ensures.job) c.requires.heads in
+    let run = c.outcome.ensures.run in
+    spends_of o run (completes_over o run.order.events good have (over_order o run) (agrees_of o good have run)) c.outcome.ensures.none_outrun

@@ -8,6 +8,7 @@ use Rattle.mu_outcome.specs.Entries.{commands_in, longest}
 use Rattle.mu_cluster.specs.Lists.{HoldsLists}
 use Rattle.mu_cluster.proofs.Filling.{diligent_of, few_commands_in, logs_within, run_of}
 use Rattle.mu_cluster.proofs.Naming.{named_of}
+use Rattle.mu_cluster.proofs.Outrunning.{none_outrun_of}
 use Rattle.mu_outcome.proofs.LongestLogs.{longest_within}
 use Rattle.mu_cluster.proofs.lists.OutcomeRoom.outcome.Goals as goal
 
@@ -63,3 +64,18 @@ returns-clause-names c =
     let run = run_of o order lists c.args.seats.items c.requires.played.0 refl legal c.from_vec.ensures c.from_vec-2.ensures c.from_vec-3.ensures c.from_vec-4.ensures held played c.requires.ended
     (c.answered-replies.ensures ∙ ap (λ l. replies (commands_in job l)) long) in
     named_of o order c.args.seats.items c.requires.played.0 run refl played
+
+pub returns-clause-none_outrun : goal.returns-clause-none_outrun
+returns-clause-none_outrun c =
+    let job = c.args.job in
+    let k = job.config in
+    let order = c.args.order in
+    let lists = c.filled-journals.result in
+    let legal : IsLegal k order.events = c.requires.legal in
+    let held = subst (λ l. HoldsLists k job.script l k.replicas lists) c.as_slice.ensures c.filled-journals.ensures in
+    let played = c.requires.played.1 in
+    let o : Outcome = record { job = job; journals = c.from_vec.result; logs = c.from_vec-2.result; commits = c.from_vec-3.result; replies = c.answered-replies.result; ends = c.from_vec-4.result; order = Some order; gathered = None } in
+    let long = c.longest.ensures ∙ (ap longest c.as_slice-2.ensures.value ∙ ap longest (sym c.from_vec-2.ensures)) in
+    let run = run_of o order lists c.args.seats.items c.requires.played.0 refl legal c.from_vec.ensures c.from_vec-2.ensures c.from_vec-3.ensures c.from_vec-4.ensures held played c.requires.ended
+    (c.answered-replies.ensures ∙ ap (λ l. replies (commands_in job l)) long) in
+    none_outrun_of o order c.args.seats.items c.requires.played.0 c.requires.good run refl played
