@@ -57,14 +57,14 @@ candidate_held c r q limit (e ∷ past) inside other is = go (e.by == r) refl is
         begun true none = absurd (true≢false (sym none))
         begun false some = elim (or_cases here (is_mark_candidate c r q limit (part r past)) some) [
           | inl now ↦ record {
-              newer = [];
-              older = e ∷ past;
-              is = refl;
-              by = r;
-              inside = inside;
-              other = other;
-              failed = rw own (and_parts (lacks_room c limit (head_read r q e.by e.verb e.answer)) (is_failed r q (e ∷ part r past)) now).1;
-            }
+            newer = [];
+            older = e ∷ past;
+            is = refl;
+            by = r;
+            inside = inside;
+            other = other;
+            failed = rw own (and_parts (lacks_room c limit (head_read r q e.by e.verb e.answer)) (is_failed r q (e ∷ part r past)) now).1;
+          }
           | inr was ↦ before was
         ]
 
