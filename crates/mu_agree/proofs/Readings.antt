@@ -1,28 +1,26 @@
 -- What a possible part can read: heads that never fall, FUOs within the positions, fences that name the owner of a noted grant, and numbers that leave room for a next one.
-use Rattle.std.proofs.Common.{◌≡◌, ℕ, zero, suc, ◌%◌, ◌*◌, ◌+◌, ◌/◌, ◌<◌, ◌≤◌, ◌⊎◌, inl, inr, max, Bool, true, false, cond, ◌==◌, ◌&&◌, List, [], ◌∷◌, length, refl, sym, ◌∙◌, ap, arith, Some, None, subst, eqb-true, eq-eqb, length-set, set, true≢false, ◌++◌}
+use Rattle.std.proofs.Common.{◌≡◌, ℕ, zero, suc, ◌%◌, ◌*◌, ◌+◌, ◌<◌, ◌≤◌, inl, inr, max, Bool, true, false, cond, ◌==◌, ◌&&◌, List, [], ◌∷◌, length, refl, sym, ◌∙◌, ap, arith, Some, None, subst, eqb-true, eq-eqb, length-set, set, true≢false, ◌++◌}
 use Rattle.std.specs.Prelude.{if◌then◌else◌, nat_lt}
 use Rattle.std.specs.List.{slice_get}
 use Rattle.std.specs.declared.option.Option.{Option}
-use Rattle.std.proofs.lemmas.Bool.{and_parts, cases_eq, lt-ltb, ltb-true}
+use Rattle.std.proofs.lemmas.Bool.{cases_eq, lt-ltb, ltb-true}
 use Rattle.std.proofs.lemmas.List.{length_push}
 use Rattle.mu_model.specs.declared.config.Config.{Config}
 use Rattle.mu_model.specs.declared.event.Answer.{Answer}
 use Rattle.mu_model.specs.declared.event.Event.{Event}
-use Rattle.mu_model.specs.declared.event.Fence.{Fence}
 use Rattle.mu_model.specs.declared.event.Verb.{Verb}
 use Rattle.mu_model.specs.Allowed.{Allowed, Needs}
 use Rattle.mu_model.specs.Answers.{answer_of, shown}
 use Rattle.mu_model.specs.Contents.{IsConfig, row_count}
-use Rattle.mu_model.specs.Entering.{MayPutMin, any_min_read, number_allowed}
+use Rattle.mu_model.specs.Entering.{any_min_read, number_allowed}
 use Rattle.mu_model.specs.Histories.{greatest, has, max_with, newer_or, newest, or_zero, part}
 use Rattle.mu_model.specs.Knowledge.{grown, is_accepted_by_all, is_known_decided, known}
 use Rattle.mu_model.specs.Leaderships.{begins_leadership, leadership, noted_grant, number_put, proposal_number}
 use Rattle.mu_model.specs.Legal.{IsLegalHistory}
 use Rattle.mu_model.specs.Parts.{IsPossible}
 use Rattle.mu_model.specs.Picks.{is_past, is_past_look, look_answer}
-use Rattle.mu_model.specs.Regions.{fence, fence_grant, fence_owner, log_with, min_landed, region_fuo, region_head, region_log, region_min}
+use Rattle.mu_model.specs.Regions.{fence, fence_grant, log_with, min_landed, region_fuo, region_head, region_log, region_min}
 use Rattle.mu_model.specs.Room.{head_read, last_head, reserve}
-use Rattle.mu_model.proofs.Basics.{same_some}
 use Rattle.mu_model.proofs.Owned.{noted-part}
 use Rattle.mu_agree.specs.Possible.{PartsClimb, PartsCount, PartsHold, PartsReach, PartsStayPast}
 use Rattle.mu_agree.proofs.Access.{noted_grant_is_owned}

@@ -14,7 +14,7 @@ use Rattle.mu_model.specs.declared.config.Config.{Config}
 use Rattle.mu_model.specs.declared.event.Answer.{Answer}
 use Rattle.mu_model.specs.declared.event.Event.{Event}
 use Rattle.mu_model.specs.declared.event.Verb.{Verb}
-use Rattle.mu_model.specs.Contents.{IsConfig, IsInSession as IsListInSession, client_of, counted, is_batch, number_of, numbers_in, rest_of, row_count, rows_from, rows_of, session}
+use Rattle.mu_model.specs.Contents.{IsConfig, IsInSession as IsListInSession, client_of, counted, is_batch, numbers_in, rest_of, row_count, rows_from, rows_of, session}
 use Rattle.mu_model.specs.Histories.{history, part, IsPrefixOf}
 use Rattle.mu_model.specs.Knowledge.{applied, commits, grown, has_entry, is_accepted_by_all, is_known_decided, known}
 use Rattle.mu_model.proofs.Basics.{same_some}
@@ -30,7 +30,7 @@ use Rattle.std.proofs.lemmas.List.Elements.{All-from_get_or}
 use Rattle.mu_follow.proofs.Kept.{applied_is}
 use Rattle.mu_outcome.specs.declared.outcome.Outcome.{Outcome}
 use Rattle.mu_outcome.specs.Entries.{commands_in, commands_of}
-use Rattle.mu_outcome.specs.Outcomes.{Agrees, IsRun, IsWithinJob, commits_of, events_of, journal_of, log_of, or_empty}
+use Rattle.mu_outcome.specs.Outcomes.{Agrees, IsRun, IsWithinJob, journal_of, log_of, or_empty}
 use Rattle.mu_outcome.specs.Runs.{IsRunOver}
 
 -- what is applied is known

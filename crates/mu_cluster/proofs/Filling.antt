@@ -36,7 +36,7 @@ use Rattle.mu_cluster.specs.declared.rounds.Seat.{Seat}
 use Rattle.mu_outcome.specs.Entries.{commands_in, commands_of, longest}
 use Rattle.mu_cluster.specs.Lists.{Adds, HasRoom, HoldsLists, Leaves}
 use Rattle.mu_cluster.specs.Paces.{AreDiligent}
-use Rattle.mu_outcome.specs.Outcomes.{IsRun, commits_of, events_of, journal_of, log_of, or_empty}
+use Rattle.mu_outcome.specs.Outcomes.{IsRun, events_of, journal_of, or_empty}
 use Rattle.mu_outcome.specs.Runs.{IsRunOver}
 use Rattle.mu_cluster.specs.Rounds.{EndsNowhereBefore, MayTake, Played, Sits, part_of}
 use Rattle.mu_outcome.specs.Turns.{ids_after, pace}

@@ -26,7 +26,7 @@ use Rattle.mu_cluster.specs.declared.rounds.Seat.{Seat}
 use Rattle.mu_cluster.specs.Naming.{NamesFirst, NamesFirstUnpaused, IsReached}
 use Rattle.mu_cluster.specs.Rounds.{Played, id_of, part_of}
 use Rattle.mu_model.proofs.Lists.{item_below}
-use Rattle.mu_cluster.proofs.InStep.{KeepsStep, StaysAhead, in_step}
+use Rattle.mu_cluster.proofs.InStep.{StaysAhead, in_step}
 use Rattle.mu_cluster.proofs.Trusting.{trusts}
 
 -- the history before an event, and with it
@@ -83,7 +83,7 @@ pub record AreUnpaused (c : Config) (events : List Event) (lengths : List ℕ) (
   pub whole : has (λ e. not (nat_lt e.by c.replicas)) (history events) ≡ false
   pub order : map id_of events ≡ ids_after [] lengths rounds
   pub count : length lengths ≡ c.replicas
-  pub lengths : (r : ℕ) → r < c.replicas → slice_index lengths r ≡ length (part_of r events)
+  pub taken : (r : ℕ) → r < c.replicas → slice_index lengths r ≡ length (part_of r events)
   pub made : (r : ℕ) → r < c.replicas → AtEachStep (WasMade c r) (part_of r events)
 
 maker_inside : (c : Config) (events : List Event) (lengths : List ℕ) (rounds : ℕ) (earlier : List Event) (e : Event) → AreUnpaused c events lengths rounds → IsReached events earlier e → e.by < c.replicas
@@ -100,7 +100,7 @@ pub trusts_then : (c : Config) (events : List Event) (lengths : List ℕ) (round
 trusts_then c events lengths rounds q r newer older run is low inside other few =
     let count = run.count in
     let step = in_step lengths rounds q r events other (omega (arith, low, count)) run.order in
-    let most = run.lengths q low in
+    let most = run.taken q low in
     let each = steps_before (StaysAhead step.lead q (slice_index lengths q) r) newer older (subst (AtEachStep (StaysAhead step.lead q (slice_index lengths q) r)) is step.each) in
     let legal = legal_older c newer older (subst (IsLegalHistory c) is run.legal) in
     ap (λ s. s.1)
@@ -130,7 +130,7 @@ holds_first c events lengths rounds earlier e run at other =
     let fewer = fewer_yet 0 events earlier at.later e at.is at.left in
     let some : 0 < c.replicas = omega (arith, inside) in
     let count = run.count in
-    let all = run.lengths 0 some in
+    let all = run.taken 0 some in
     let step = in_step lengths rounds 0 e.by events (λ same. other (sym same)) (omega (arith, some, count)) run.order in
     let most = slice_index lengths 0 in
     let each : AtEachStep (StaysAhead step.lead 0 most e.by) (e ∷ history earlier) = steps_before (StaysAhead step.lead 0 most e.by) (history at.later) (e ∷ history earlier) (subst (AtEachStep (StaysAhead step.lead 0 most e.by)) (with_event events earlier at.later e at.is) step.each) in
@@ -172,8 +172,8 @@ unpaused_of o order seats rounds run given played unpaused = record {
   legal = run.legal;
   whole = run.parts.whole;
   order = subst (λ pauses. map id_of run.order.events ≡ ids_after pauses (map (λ journal. length (events_of journal)) o.journals) run.turns.rounds) unpaused run.turns.is;
-  count = length-map (λ journal. length (events_of journal)) o.journals ∙ (sym (length-map events_of o.journals) ∙ run.parts.count);
-  lengths = λ r low. length_at o.journals r (part r run.order.events) (run.parts.each r low) ∙ length_of_part r run.order.events;
+  count = length-map o.journals (λ journal. length (events_of journal)) ∙ (sym (length-map o.journals events_of) ∙ run.parts.count);
+  taken = λ r low. length_at o.journals r (part r run.order.events) (run.parts.each r low) ∙ length_of_part r run.order.events;
   made = λ r low. made r low;
 }
   where

@@ -1,9 +1,9 @@
 -- In a replay whose script has no pause no replica is outrun.
-use Rattle.std.proofs.Common.{◌≡◌, ◌∙◌, ◌≢◌, ℕ, ◌+◌, ◌<◌, ◌≤◌, ◌==◌, ◌&&◌, inr, Bool, true, false, cond, None, Some, List, [], ◌∷◌, ◌++◌, ap, append_assoc, arith, eqb-true, length, refl, subst, sym}
+use Rattle.std.proofs.Common.{◌≡◌, ◌∙◌, ℕ, ◌+◌, ◌<◌, ◌≤◌, ◌==◌, ◌&&◌, inr, Bool, true, false, cond, None, Some, List, [], ◌∷◌, ◌++◌, ap, append_assoc, arith, eqb-true, length, refl, subst, sym}
 use Rattle.std.specs.declared.option.Option.{Option}
-use Rattle.std.specs.Prelude.{if◌then◌else◌, map, nat_le, not, ¬}
+use Rattle.std.specs.Prelude.{map, nat_le}
 use Rattle.std.specs.List.{slice_get}
-use Rattle.std.proofs.lemmas.Bool.{and_parts, leb-true, not-true, true≢false}
+use Rattle.std.proofs.lemmas.Bool.{leb-true, not-true, true≢false}
 use Rattle.std.proofs.lemmas.List.{length-append}
 use Rattle.mu_agree.specs.Agreement.{WasHeldFailed}
 use Rattle.mu_agree.proofs.Legal.{legal_older}
@@ -36,19 +36,19 @@ use Rattle.mu_cluster.proofs.Naming.{AreUnpaused, few_steps, trusts_then, unpaus
 
 -- the step is a look of a place that is used again, at what r still has to read
 record IsPastLook (r p i known_length by : ℕ) (verb : Verb) (answer : Answer) : Type 0 where
-  verb : verb ≡ Verb.Look p i
-  answer : answer ≡ Answer.Past
+  looks : verb ≡ Verb.Look p i
+  past : answer ≡ Answer.Past
   unread : known_length ≤ i
 
 past_look : (r p i n by : ℕ) (verb : Verb) (answer : Answer) → outrun_by r n by verb answer ≡ Some (p, i) → IsPastLook r p i n by verb answer
 past_look r p i n by (Verb.Look q j) Answer.Past is = go (by == r) (nat_le n j) refl is
   where
-    go : (s t : Bool) → nat_le n j ≡ t → (if s && t then Some (q, j) else None) ≡ Some (p, i) → IsPastLook r p i n by (Verb.Look q j) Answer.Past
+    go : (s t : Bool) → nat_le n j ≡ t → cond {A = Option (ℕ × ℕ)} (s && t) (Some (q, j)) None ≡ Some (p, i) → IsPastLook r p i n by (Verb.Look q j) Answer.Past
     go true true low is =
         let same = same_some (q, j) (p, i) is in
         let position : j ≡ i = ap (λ x. x.1) same in
         let below = leb-true n j low in
-        record { verb = ap (λ (x : ℕ × ℕ). Verb.Look x.0 x.1) same; answer = refl; unread = omega (arith, below, position) }
+        record { looks = ap (λ (x : ℕ × ℕ). Verb.Look x.0 x.1) same; past = refl; unread = omega (arith, below, position) }
     go true false low is = cc
     go false t low is = cc
 past_look r p i n by verb answer is = cc
@@ -58,7 +58,7 @@ record StandsLast (q : ℕ) (past : List Event) (e : Event) (mine : List Event) 
   newer : List Event
   older : List Event
   is : past ≡ newer ++ e ∷ older
-  mine : part q older ≡ mine
+  before : part q older ≡ mine
   own : e.by ≡ q
 
 stands_last : (q : ℕ) (past : List Event) (e : Event) (mine : List Event) → part q past ≡ e ∷ mine → StandsLast q past e mine
@@ -68,8 +68,8 @@ stands_last q (f ∷ past) e mine is = go (f.by == q) refl is (stands_last q pas
     go : (t : Bool) → (f.by == q) ≡ t → cond t (f ∷ part q past) (part q past) ≡ e ∷ mine → (part q past ≡ e ∷ mine → StandsLast q past e mine) → StandsLast q (f ∷ past) e mine
     go true own is ih =
         let same : f ≡ e = cc in
-        record { newer = []; older = past; is = ap (λ x. x ∷ past) same; mine = cc; own = ap (λ (x : Event). x.by) (sym same) ∙ eqb-true f.by q own }
-    go false own is ih = let at = ih is in record { newer = f ∷ at.newer; older = at.older; is = ap (λ l. f ∷ l) at.is; mine = at.mine; own = at.own }
+        record { newer = []; older = past; is = ap (λ x. x ∷ past) same; before = cc; own = ap (λ (x : Event). x.by) (sym same) ∙ eqb-true f.by q own }
+    go false own is ih = let at = ih is in record { newer = f ∷ at.newer; older = at.older; is = ap (λ l. f ∷ l) at.is; before = at.before; own = at.own }
 
 -- before its last event no other held a replica to be failed
 not_held : (c : Config) (events : List Event) (lengths : List ℕ) (rounds q : ℕ) (newer older : List Event) (e : Event) → AreUnpaused c events lengths rounds → history events ≡ newer ++ e ∷ older → e.by ≡ q → q < c.replicas
@@ -78,9 +78,13 @@ not_held c events lengths rounds q newer older e run is own low last held =
     let few = few_steps c events lengths rounds held.by q newer older e run is own held.inside held.other in
     let split : length (part held.by older) ≡ length (part held.by held.newer) + length (part held.by held.older) =
     ap (λ l. length (part held.by l)) held.is ∙ (ap length (filter-append (λ f. f.by == held.by) held.newer held.older) ∙ length-append (part held.by held.newer) (part held.by held.older)) in
-    let then : history events ≡ (newer ++ e ∷ held.newer) ++ held.older = is ∙ (ap (λ l. newer ++ e ∷ l) held.is ∙ sym (append_assoc newer (e ∷ held.newer) held.older)) in
-    let alive = trusts_then c events lengths rounds q held.by (newer ++ e ∷ held.newer) held.older run then low held.inside (λ same. held.other (sym same)) (omega (arith, few, split, last)) in
+    let whole : history events ≡ (newer ++ e ∷ held.newer) ++ held.older = is ∙ (ap (λ l. newer ++ e ∷ l) held.is ∙ sym (append_assoc newer (e ∷ held.newer) held.older)) in
+    let alive = trusts_then c events lengths rounds q held.by (newer ++ e ∷ held.newer) held.older run whole low held.inside (λ same. held.other (sym same)) (omega (arith, few, split, last)) in
     true≢false (sym alive ∙ not-true (score held.by q (part held.by held.older)).1 held.failed)
+
+none_earlier : (o : Option (ℕ × ℕ)) → earlier_or o None ≡ o
+none_earlier None = refl
+none_earlier (Some x) = refl
 
 -- so it meets no place that is used again
 none_outrun : (c : Config) (events : List Event) (lengths : List ℕ) (rounds q p i : ℕ) → IsConfig c → AreUnpaused c events lengths rounds → q < c.replicas → outrun c q (part_of q events) ≡ Some (p, i) → ⊥
@@ -89,13 +93,13 @@ none_outrun c events lengths rounds q p i good run low = go (part_of q events) r
     go : (mine : List Event) → part_of q events ≡ mine → AtEachStep (WasMade c q) mine → outrun c q mine ≡ Some (p, i) → ⊥
     go [] is made some = cc
     go (e ∷ mine) is made some =
-        let look = past_look q p i (length (known c q mine)) e.by e.verb e.answer (sym (ap (λ o. earlier_or (outrun_by q (length (known c q mine)) e.by e.verb e.answer) o) made.1.going) ∙ some) in
+        let look = past_look q p i (length (known c q mine)) e.by e.verb e.answer (sym (none_earlier (outrun_by q (length (known c q mine)) e.by e.verb e.answer)) ∙ (sym (ap (λ o. earlier_or (outrun_by q (length (known c q mine)) e.by e.verb e.answer) o) made.1.going) ∙ some)) in
         let at = stands_last q (history events) e mine is in
         let legal : IsLegalHistory c (e ∷ at.older) = legal_older c at.newer (e ∷ at.older) (subst (IsLegalHistory c) at.is run.legal) in
-        let unread : length (known c e.by (part e.by at.older)) ≤ i = subst (λ by. length (known c by (part by at.older)) ≤ i) (sym at.own) (subst (λ l. length (known c q l) ≤ i) (sym at.mine) look.unread) in
-        let marked = look_kept c p i e at.older legal.0 legal.1 look.verb look.answer (inr unread) in
+        let unread : length (known c e.by (part e.by at.older)) ≤ i = subst (λ by. length (known c by (part by at.older)) ≤ i) (sym at.own) (subst (λ l. length (known c q l) ≤ i) (sym at.before) look.unread) in
+        let marked = look_kept c p i e at.older legal.0 legal.1 look.looks look.past (inr unread) in
         let held = marked_was_held c e.by at.older good legal.0 marked in
-        let last : length (part q at.older) + 1 ≡ length (part_of q events) = (let one = ap length at.mine in let all = ap length is in omega (arith, one, all)) in
+        let last : length (part q at.older) + 1 ≡ length (part_of q events) = (let one = ap length at.before in let all = ap length is in omega (arith, one, all)) in
         not_held c events lengths rounds q at.newer at.older e run at.is at.own low last (subst (λ r. WasHeldFailed c r at.older) at.own held)
 
 outrun_end : (c : Config) (script : Script) (r p i : ℕ) (mine : List Event) (end : End) → end ≡ End.Outrun p i → EndsBy c script r mine end → outrun c r mine ≡ Some (p, i)

@@ -100,17 +100,17 @@ own_read c lead q r theirs mine e low inside made own reads tells long was = rec
         omega (arith, same, more, whole, count)
 
 -- while r has taken no more steps than q takes in all
-pub trusts : (c : Config) (lead q r most : ℕ) (past : List Event) → q < c.replicas → r < c.replicas → q ≢ r → IsLegalHistory c past → AtEachStep (StaysAhead lead q most r) past
+pub trusts : (c : Config) (lead q r most : ℕ) (past : List Event) → q < c.replicas → r < c.replicas → q ≢ r → lead ≤ 1 → IsLegalHistory c past → AtEachStep (StaysAhead lead q most r) past
     → AtEachStep (WasMade c q) (part q past) → AtEachStep (WasMade c r) (part r past) → length (part r past) ≤ most → Trusts lead q r (part q past) (part r past)
-trusts c lead q r most [] low inside other legal ahead theirs mine few = record { full = refl; read = inl (refl, refl) }
-trusts c lead q r most (e ∷ past) low inside other legal ahead theirs mine few =
-    go (e.by == r) refl (e.by == q) refl (λ made own within. trusts c lead q r most past low inside other legal.0 ahead.0 made own within) theirs mine few
+trusts c lead q r most [] low inside other short legal ahead theirs mine few = record { full = refl; read = inl (refl, refl) }
+trusts c lead q r most (e ∷ past) low inside other short legal ahead theirs mine few =
+    go (e.by == r) refl (e.by == q) refl (λ made own within. trusts c lead q r most past low inside other short legal.0 ahead.0 made own within) theirs mine few
   where
     own : e.by ≡ r → AtEachStep (WasMade c q) (part q past) → AtEachStep (WasMade c r) (e ∷ part r past) → length (part r past) + 1 ≤ most → Trusts lead q r (part q past) (part r past) → (t : Bool) → is_beat_read q e ≡ t → Trusts lead q r (part q past) (e ∷ part r past)
     own by made mine few was true reads =
         own_read c lead q r (part q past) (part r past) e low inside made mine reads
         (reads_beats c r q e.by e.verb e.answer past by reads legal.1.answer ∙ ap (λ n. Some n) (sym (beats_part q past)))
-        ((ahead.1 by).0 few) was
+        ((ahead.1 by).0 (omega (arith, few, short))) was
     own by made mine few was false reads = own_step lead q r (part q past) (part r past) e reads was
 
     go : (s : Bool) → (e.by == r) ≡ s → (t : Bool) → (e.by == q) ≡ t
