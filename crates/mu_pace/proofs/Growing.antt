@@ -1,12 +1,12 @@
 -- What only grows in a leadership or over a journal.
-use Rattle.std.proofs.Common.{◌≡◌, ℕ, ◌+◌, ◌-◌, ◌*◌, ◌≤◌, Bool, true, false, List, [], ◌∷◌, ◌++◌, length, refl, sym, arith, true≢false, Some, None, is_some, length-append}
+use Rattle.std.proofs.Common.{◌≡◌, ℕ, ◌+◌, ◌-◌, ◌*◌, ◌≤◌, Bool, true, false, List, [], ◌∷◌, ◌++◌, length, refl, sym, arith, true≢false, Some, None, is_some}
 use Rattle.std.specs.declared.option.Option.{Option}
 use Rattle.std.specs.Prelude.{if◌then◌else◌, not, ◌||◌}
 use Rattle.mu_model.specs.declared.config.Config.{Config}
 use Rattle.mu_model.specs.declared.event.Event.{Event}
 use Rattle.mu_model.specs.Bounds.{copied, is_copying, is_learning, members, stays}
 use Rattle.mu_model.specs.Histories.{greatest, has, newer_or}
-use Rattle.mu_model.specs.Knowledge.{grown, known}
+use Rattle.mu_model.specs.Knowledge.{known}
 use Rattle.mu_model.specs.Leaderships.{begins_leadership, grant_at_joining, is_member, leadership, lands_min, noted_grant}
 use Rattle.mu_model.specs.Stretches.{steps}
 use Rattle.mu_agree.proofs.Counting.{count_more}

@@ -1,34 +1,24 @@
 -- What a replica reads of the others never falls.
-use Rattle.std.proofs.Common.{◌≡◌, ℕ, ◌+◌, ◌<◌, ◌≤◌, Bool, true, false, cond, ◌==◌, ◌&&◌, List, [], ◌∷◌, ◌++◌, length, refl, sym, ◌∙◌, ap, arith, Some, None, subst, eqb-true, true≢false, set, ◌⊎◌, inl, inr}
-use Rattle.std.specs.declared.option.Option.{Option}
-use Rattle.std.specs.Prelude.{nat_lt, if◌then◌else◌}
-use Rattle.std.specs.List.{slice_get}
-use Rattle.std.proofs.lemmas.Bool.{and_parts, lt-ltb, ltb-true}
-use Rattle.std.proofs.lemmas.Option.{slice_get_within}
+use Rattle.std.proofs.Common.{◌≡◌, ℕ, ◌≤◌, Bool, true, false, cond, ◌==◌, ◌&&◌, List, ◌∷◌, refl, sym, ◌∙◌, ap, arith, Some, None, subst, eqb-true}
+use Rattle.std.proofs.lemmas.Bool.{and_parts}
 use Rattle.mu_model.specs.declared.config.Config.{Config}
 use Rattle.mu_model.specs.declared.event.Answer.{Answer}
 use Rattle.mu_model.specs.declared.event.Event.{Event}
 use Rattle.mu_model.specs.declared.event.Verb.{Verb}
 use Rattle.mu_model.specs.Allowed.{Allowed}
-use Rattle.mu_model.specs.Answers.{answer_of, shown}
 use Rattle.mu_model.specs.Entering.{min_read}
-use Rattle.mu_model.specs.Histories.{greatest, has, max_with, newer_or, newest, or_zero, part}
-use Rattle.mu_model.specs.Knowledge.{entry_seen, is_entry_seen}
+use Rattle.mu_model.specs.Histories.{greatest, max_with, newer_or, newest, or_zero, part}
 use Rattle.mu_model.specs.Leaderships.{noted_grant}
 use Rattle.mu_model.specs.Legal.{IsLegalHistory}
-use Rattle.mu_model.specs.Parts.{IsPossible}
-use Rattle.mu_model.specs.Picks.{is_past, is_past_look, look_answer}
 use Rattle.mu_model.specs.Placing.{fuo_read_or_raised}
-use Rattle.mu_model.specs.Regions.{fence, fence_grant, log_with, region_fuo, region_head, region_log, region_min}
-use Rattle.mu_model.specs.Room.{last_head}
+use Rattle.mu_model.specs.Regions.{fence, fence_grant, region_fuo, region_min}
 use Rattle.mu_model.proofs.Owned.{noted-part}
 use Rattle.mu_agree.proofs.Access.{noted_grant_is_owned}
-use Rattle.mu_agree.proofs.Landings.{at_part, length_put}
+use Rattle.mu_agree.proofs.Landings.{at_part}
 use Rattle.mu_agree.proofs.Legal.{legal_induction, event_after}
 use Rattle.mu_agree.proofs.Minimum.{rises_step}
 use Rattle.mu_agree.proofs.Possible.{answered, at_event, same_fence}
-use Rattle.mu_agree.proofs.Readings.{log_grows, number_is}
-use Rattle.mu_agree.proofs.Room.{heads_read}
+use Rattle.mu_agree.proofs.Readings.{number_is}
 use Rattle.mu_pace.specs.Possible.{FuosRise, GrantsRise, MinimaRise}
 
 -- FUOs that r read or raised

@@ -1,24 +1,20 @@
 -- What every possible part of one replica has, beside the laws of agreement: what is read never
 -- falls, and what missed shows why.
-use Rattle.std.specs.Prelude.{List, None, Some, [], false, if◌then◌else◌, length, true, ℕ, ◌++◌, ◌+◌, ◌<◌, ◌^◌, ◌∷◌, ◌≡◌, ◌≢◌, ◌≤◌, ◌⊎◌}
-use Rattle.std.specs.declared.option.Option.{Option}
+use Rattle.std.specs.Prelude.{List, Some, length, ℕ, ◌+◌, ◌∷◌, ◌≡◌, ◌≤◌}
 use Rattle.mu_model.specs.declared.config.Config.{Config}
 use Rattle.mu_model.specs.declared.event.Answer.{Answer}
 use Rattle.mu_model.specs.declared.event.Event.{Event}
 use Rattle.mu_model.specs.declared.event.Fence.{Fence}
 use Rattle.mu_model.specs.declared.event.Target.{Target}
 use Rattle.mu_model.specs.declared.event.Verb.{Verb}
-use Rattle.mu_model.specs.Answers.{is_enter_of}
-use Rattle.mu_model.specs.Contents.{IsConfig, begins_batch, client_of, command_count, holds_all, number_of, row_count}
-use Rattle.mu_model.specs.Entering.{any_min_read, min_read}
-use Rattle.mu_model.specs.Histories.{greatest, has, newest, or_zero}
-use Rattle.mu_model.specs.Knowledge.{entry_seen, known}
-use Rattle.mu_model.specs.Leaderships.{noted_grant, number_put}
+use Rattle.mu_model.specs.Contents.{IsConfig, row_count}
+use Rattle.mu_model.specs.Entering.{min_read}
+use Rattle.mu_model.specs.Histories.{greatest, newest, or_zero}
+use Rattle.mu_model.specs.Knowledge.{known}
+use Rattle.mu_model.specs.Leaderships.{noted_grant}
 use Rattle.mu_model.specs.Parts.{IsPossible}
-use Rattle.mu_model.specs.Picks.{is_past_look, look_answer}
 use Rattle.mu_model.specs.Placing.{fuo_read_or_raised}
-use Rattle.mu_model.specs.Room.{last_head, reserve}
-use Rattle.mu_model.specs.Steps.{is_missed_at}
+use Rattle.mu_model.specs.Room.{reserve}
 
 -- a FUO that is read is at least each one that was read or raised before
 abbrev pub FuosRise : Type 0
