@@ -7,7 +7,10 @@ use Rattle.std.proofs.lemmas.Bool.{cases_lt}
 use Rattle.std.proofs.lemmas.List.{length_push, length-append, length-map, length-reverse, length-take, reverse-reverse}
 use Rattle.std.proofs.lemmas.Option.{slice_get_within}
 use mathlib.Core.List.{reverse}
+use Rattle.kv_store.specs.Commands.{Request}
 use Rattle.kv_store.specs.Tables.{replies}
+use Rattle.mu_follow.specs.Groups.{AreSpelled, groups_of}
+use Rattle.mu_outcome.proofs.LongestLogs.{longer, longer-nil, longer_assoc, nil-longer}
 use Rattle.mu_input.specs.declared.job.Job.{Job}
 use Rattle.mu_model.specs.declared.config.Config.{Config}
 use Rattle.mu_model.specs.declared.event.Event.{Event}
@@ -46,6 +49,20 @@ end_told : (c : Config) (script : Script) (r : ℕ) (mine : List Event) (o : Opt
 end_told c script r mine None none ends = absurd (none ends.0 ends.1)
 end_told c script r mine (Some e) told ends = (e, (refl, told))
 
+-- the longest with one more
+pub longest-push : (logs : List (List ℕ)) (log : List ℕ) → longest (logs ++ log ∷ []) ≡ longer (longest logs) log
+longest-push [] log = longer-nil log ∙ sym (nil-longer log)
+longest-push (first ∷ logs) log = ap (λ l. longer first l) (longest-push logs log) ∙ longer_assoc first (longest logs) log
+
+-- the commands of a job by its rows
+pub commands_grouped : (job : Job) (values : List ℕ) → groups_of job.config job.commands values ≡ commands_in job values
+commands_grouped job [] = refl
+commands_grouped job (v ∷ vs) = ap (λ l. commands_of job v ++ l) (commands_grouped job vs)
+
+-- what is told of the longest log
+pub told_longest : (job : Job) (script : Script) (events : List Event) (n : ℕ) (lists : Lists) (logs : List (List ℕ)) → AreSpelled job.config job.commands → HoldsLists job.config script events n lists → logs ≡ lists.logs.items → lists.replies ≡ replies (commands_in job (longest logs))
+told_longest job script events n lists logs are held same = held.told job.commands are ∙ ap replies (commands_grouped job (longest lists.logs.items)) ∙ ap (λ l. replies (commands_in job (longest l))) (sym same)
+
 -- longer lists still hold it
 leaves_front : (c : Config) (script : Script) (r : ℕ) (mine : List Event) (js ks : List Record) (ls ms : List (List ℕ)) (cs ds : List (List Commit)) (es fs : List End)
     → Leaves c script r mine js ls cs es → Leaves c script r mine (js ++ ks) (ls ++ ms) (cs ++ ds) (es ++ fs)
@@ -72,7 +89,7 @@ leaves_in c script r mine js ks ls ms cs ds es fs a b d e was =
 -- one more replica
 pub held_left : (c : Config) (script : Script) (events : List Event) (n : ℕ) (old new : Lists) (result : NodeResult) → HoldsLists c script events n old → Adds old new result → EndsNowhereBefore c script n (part_of n events)
     → (end : End) × EndsBy c script n (part_of n events) end → IsResult c n (part_of n events) result → TellsEnd c script n (part_of n events) result.end → HoldsLists c script events (n + 1) new
-held_left c script events n old new result was adds before ends is told = record { room = room; each = each }
+held_left c script events n old new result was adds before ends is told = record { room = room; each = each; best = longest_now; told = told_now }
   where
     end : (e : End) × ((result.end ≡ Some e) × EndsBy c script n (part_of n events) e)
     end = end_told c script n (part_of n events) result.end told ends
@@ -102,6 +119,28 @@ held_left c script events n old new result was adds before ends is told = record
       obeys = record { ends = end.1.1; first = λ newer older other same some there. before newer older other same some there };
       diligent = is.diligent;
     }
+
+    best : longest new.logs.items ≡ longer (longest old.logs.items) (applied c n (part_of n events))
+    best = ap longest adds.logs.0 ∙ longest-push old.logs.items result.log ∙ ap (λ l. longer (longest old.logs.items) l) is.log
+
+    test : nat_lt old.longest (length result.log) ≡ nat_lt (length (longest old.logs.items)) (length (applied c n (part_of n events)))
+    test = ap (λ m. nat_lt m (length result.log)) was.best ∙ ap (λ l. nat_lt (length (longest old.logs.items)) (length l)) is.log
+
+    longest_now : new.longest ≡ length (longest new.logs.items)
+    longest_now =
+        adds.longest ∙ ap (λ t. cond t (length result.log) old.longest) test ∙ go (nat_lt (length (longest old.logs.items)) (length (applied c n (part_of n events)))) ∙ sym (ap length best)
+      where
+        go : (t : Bool) → cond t (length result.log) old.longest ≡ length (cond t (applied c n (part_of n events)) (longest old.logs.items))
+        go true = ap length is.log
+        go false = was.best
+
+    told_now : (commands : List Request) → AreSpelled c commands → new.replies ≡ replies (groups_of c commands (longest new.logs.items))
+    told_now commands are =
+        adds.replies ∙ ap (λ t. cond t result.replies old.replies) test ∙ go (nat_lt (length (longest old.logs.items)) (length (applied c n (part_of n events)))) ∙ sym (ap (λ l. replies (groups_of c commands l)) best)
+      where
+        go : (t : Bool) → cond t result.replies old.replies ≡ replies (groups_of c commands (cond t (applied c n (part_of n events)) (longest old.logs.items)))
+        go true = is.replies commands are
+        go false = was.told commands are
 
     both : (r : ℕ) → Leaves c script r (part_of r events) (old.journals.items ++ result.journal ∷ []) (old.logs.items ++ result.log ∷ []) (old.commits.items ++ result.commits ∷ []) (old.ends.items ++ end.0 ∷ [])
         → Leaves c script r (part_of r events) new.journals.items new.logs.items new.commits.items new.ends.items

@@ -4,10 +4,11 @@ pub mod Driven
 pub mod FewCommands
 pub mod Filling
 pub mod InStep
-pub mod LogCommands
 pub mod Naming
 pub mod Outrunning
 pub mod Ports
 pub mod Rounding
 pub mod Seats
 pub mod Trusting
+pub mod Wording
+pub mod LogCommands

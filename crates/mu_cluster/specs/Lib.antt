@@ -2,5 +2,4 @@ pub mod Branches
 pub mod Lists
 pub mod Naming
 pub mod Paces
-pub mod Rooms
 pub mod Rounds

@@ -1,23 +1,24 @@
 -- The lists of an outcome on their way.
-use Rattle.std.specs.Prelude.{List, Some, [], length, map, vec_capacity, ℕ, ◌*◌, ◌++◌, ◌+◌, ◌<◌, ◌∷◌, ◌≡◌, ◌≤◌}
+use Rattle.std.specs.Prelude.{List, Some, [], if◌then◌else◌, length, map, nat_lt, vec_capacity, ℕ, ◌++◌, ◌+◌, ◌<◌, ◌∷◌, ◌≡◌, ◌≤◌}
 use Rattle.std.specs.List.{slice_get}
 use Rattle.mu_model.specs.declared.config.Config.{Config}
 use Rattle.mu_model.specs.declared.event.Event.{Event}
 use Rattle.mu_model.specs.declared.script.End.{End}
 use Rattle.mu_model.specs.declared.script.Script.{Script}
-use Rattle.mu_model.specs.Contents.{row_count}
 use Rattle.mu_model.specs.Diligence.{IsDiligent}
 use Rattle.mu_model.specs.Ends.{Obeys}
 use Rattle.mu_model.specs.Histories.{history}
 use Rattle.mu_model.specs.Journals.{Record}
 use Rattle.mu_model.specs.Knowledge.{applied, commits}
-use Rattle.mu_model.specs.Room.{reserve}
 use Rattle.mu_known.specs.declared.commit.Commit.{Commit}
+use Rattle.kv_store.specs.Commands.{Request}
+use Rattle.kv_store.specs.Tables.{replies}
 use Rattle.mu_known.specs.Commits.{pair_of}
+use Rattle.mu_follow.specs.Groups.{AreSpelled, groups_of}
+use Rattle.mu_outcome.specs.Entries.{longest}
 use Rattle.mu_node.specs.declared.result.NodeResult.{NodeResult}
 use Rattle.mu_cluster.specs.declared.lists.Lists.{Lists}
 use Rattle.mu_cluster.specs.declared.lists.OutcomeRoom.{OutcomeRoom}
-use Rattle.mu_cluster.specs.Rooms.{IsAnswerRoom}
 use Rattle.mu_cluster.specs.Rounds.{part_of}
 
 -- each list has k items, and room for n
@@ -26,6 +27,12 @@ pub record HasRoom (n k : ℕ) (lists : Lists) : Type 0 where
   pub logs : (length lists.logs.items ≡ k) × (n ≤ vec_capacity lists.logs)
   pub commits : (length lists.commits.items ≡ k) × (n ≤ vec_capacity lists.commits)
   pub ends : (length lists.ends.items ≡ k) × (n ≤ vec_capacity lists.ends)
+
+-- nothing is in them
+pub record IsFresh (lists : Lists) : Type 0 where
+  pub logs : lists.logs.items ≡ []
+  pub longest : lists.longest ≡ 0
+  pub replies : lists.replies ≡ []
 
 -- what a replica leaves is added
 pub record Adds (old new : Lists) (result : NodeResult) : Type 0 where
@@ -41,6 +48,12 @@ pub record Adds (old new : Lists) (result : NodeResult) : Type 0 where
   pub ends :
       ((e : End) → result.end ≡ Some e → new.ends.items ≡ old.ends.items ++ e ∷ [])
       × (vec_capacity new.ends ≡ vec_capacity old.ends)
+  pub longest :
+      new.longest
+      ≡ (if nat_lt old.longest (length result.log) then length result.log else old.longest)
+  pub replies :
+      new.replies
+      ≡ (if nat_lt old.longest (length result.log) then result.replies else old.replies)
 
 -- what replica r left stands in the lists
 pub record Leaves (c : Config) (script : Script) (r : ℕ) (mine : List Event)
@@ -58,7 +71,7 @@ pub record Leaves (c : Config) (script : Script) (r : ℕ) (mine : List Event)
   pub obeys : Obeys c script r mine end
   pub diligent : IsDiligent c r mine
 
--- the lists hold what the first n replicas left
+-- the lists hold what the first n replicas left, and what the one with the longest log replied
 pub record HoldsLists (c : Config) (script : Script) (events : List Event) (n : ℕ)
     (lists : Lists) : Type 0 where
   pub room : HasRoom c.replicas n lists
@@ -66,9 +79,12 @@ pub record HoldsLists (c : Config) (script : Script) (events : List Event) (n : 
       (r : ℕ) → r < n
       → Leaves c script r (part_of r events) lists.journals.items lists.logs.items
       lists.commits.items lists.ends.items
+  pub best : lists.longest ≡ length (longest lists.logs.items)
+  pub told :
+      (commands : List Request) → AreSpelled c commands
+      → lists.replies ≡ replies (groups_of c commands (longest lists.logs.items))
 
--- the lists are empty, with room for all replicas, and so are the replies, with room for four
--- commands at each position
+-- the lists are empty, with room for all replicas
 pub record IsOutcomeRoom (c : Config) (room : OutcomeRoom) : Type 0 where
   pub lists : HasRoom c.replicas 0 room.lists
-  pub answers : IsAnswerRoom ((row_count c + reserve c + 1) * 4) room.answers
+  pub fresh : IsFresh room.lists

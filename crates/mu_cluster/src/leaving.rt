@@ -5,7 +5,8 @@ ghost use Rattle.mu_model.specs.Contents.{IsConfig};
 ghost use Rattle.mu_model.specs.Legal.{IsLegal};
 ghost use Rattle.mu_model.specs.Parts.{HasParts};
 ghost use Rattle.mu_cluster.specs.Branches.{AreLeft};
-ghost use Rattle.mu_cluster.specs.Lists.{HasRoom, HoldsLists, IsOutcomeRoom};
+ghost use Rattle.mu_cluster.specs.Lists.{HasRoom, HoldsLists, IsFresh, IsOutcomeRoom};
+ghost use Rattle.mu_follow.specs.Groups.{AreSpelled};
 ghost use Rattle.mu_cluster.specs.Paces.{AreDiligent};
 ghost use Rattle.mu_outcome.specs.Runs.{IsThreadRun};
 
@@ -13,7 +14,7 @@ use crate::lists::{Lists, OutcomeRoom};
 use mu_input::Job;
 use mu_model::Sequence;
 use mu_node::Node;
-use mu_outcome::{Outcome, longest};
+use mu_outcome::Outcome;
 use shared_fabric::{Gathered, Parts};
 
 /// What a run of threads leaves in which every replica has an end. Takes no memory.
@@ -24,6 +25,7 @@ pub(crate) fn gathered_outcome(
     nodes: Vec<Node>,
 ) -> Outcome
     requires good { IsConfig job.config }
+    requires spelled { AreSpelled job.config job.commands }
     requires room { IsOutcomeRoom job.config room }
     requires config { gathered.config ≡ job.config }
     requires left { AreLeft job.config job.script gathered.parts nodes.items }
@@ -31,14 +33,15 @@ pub(crate) fn gathered_outcome(
     ensures run { IsThreadRun result }
     ensures diligent { AreDiligent result }
 {
-    let OutcomeRoom { answers, lists } = room;
+    let OutcomeRoom { lists } = room;
     let Lists {
         journals,
         logs,
         commits,
         ends,
+        longest: _,
+        replies,
     } = left_by(lists, &job, gathered.parts(), nodes);
-    let replies = answers.answered(&job, longest(logs.as_slice()));
     Outcome {
         job,
         journals: Sequence::from_vec(journals),
@@ -55,6 +58,7 @@ pub(crate) fn gathered_outcome(
 fn left_by(mut lists: Lists, _job: &Job, _parts: &Parts, nodes: Vec<Node>) -> Lists
     requires good { IsConfig _job.now.config }
     requires room { HasRoom _job.now.config.replicas 0 lists }
+    requires fresh { IsFresh lists }
     requires list { (events : List Event)
         × (IsLegal _job.now.config events
         × HasParts _job.now.config events (map (λ j. j.events) _parts.now)) }

@@ -5,9 +5,9 @@ mod branch;
 mod leaving;
 mod lists;
 mod playing;
-mod room;
 mod rounds;
 mod running;
+mod spelling;
 
 pub use mu_gate::{Gate, OpenGate};
 pub use mu_outcome::{
@@ -15,3 +15,4 @@ pub use mu_outcome::{
 };
 pub use playing::{replay, replay_over};
 pub use running::run;
+pub use spelling::rows_spell_commands;

@@ -1,6 +1,7 @@
 //! The replay: the replicas take turns on one thread.
 ghost use Rattle.std.specs.Prelude.{IfOk, [], ◌≡◌};
 ghost use Rattle.mu_input.specs.Heads.{HaveHeads};
+ghost use Rattle.mu_follow.specs.Groups.{AreSpelled};
 ghost use Rattle.mu_model.specs.Contents.{IsConfig};
 ghost use Rattle.mu_cluster.specs.Paces.{AreDiligent};
 ghost use Rattle.mu_outcome.specs.Outcomes.{Agrees, IsRun, IsWithinJob};
@@ -24,6 +25,7 @@ use word_fabric::WordFabric;
 pub fn replay(alloc: Global, job: Job) -> Result<Outcome, NoMemory>
     requires config { IsConfig job.config }
     requires heads { HaveHeads job.config.width job.commands job.config.rows }
+    requires spelled { AreSpelled job.config job.commands }
     ensures job { IfOk result (λ outcome. outcome.job ≡ job) }
     ensures run { IfOk result IsRun }
     ensures diligent { IfOk result AreDiligent }
@@ -44,6 +46,7 @@ pub fn replay(alloc: Global, job: Job) -> Result<Outcome, NoMemory>
 pub fn replay_over<M: Memory>(alloc: Global, job: Job, memory: M) -> Result<Outcome, NoMemory>
     requires config { IsConfig job.config }
     requires heads { HaveHeads job.config.width job.commands job.config.rows }
+    requires spelled { AreSpelled job.config job.commands }
     requires same_config { M.config memory ≡ job.config }
     requires empty { M.events memory ≡ [] }
     ensures job { IfOk result (λ outcome. outcome.job ≡ job) }

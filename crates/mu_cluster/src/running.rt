@@ -1,6 +1,7 @@
 //! The run: each replica in a thread of its own.
 ghost use Rattle.std.specs.Prelude.{IfOk, ◌≡◌};
 ghost use Rattle.mu_input.specs.Heads.{HaveHeads};
+ghost use Rattle.mu_follow.specs.Groups.{AreSpelled};
 ghost use Rattle.mu_model.specs.Contents.{IsConfig};
 ghost use Rattle.mu_cluster.specs.Paces.{AreDiligent};
 ghost use Rattle.mu_outcome.specs.Outcomes.{Agrees, IsWithinJob};
@@ -32,6 +33,7 @@ pub fn run<R: Threads + Wait + Sync, G: Gate + Sync>(
 ) -> Result<Outcome, NoMemory>
     requires config { IsConfig job.config }
     requires heads { HaveHeads job.config.width job.commands job.config.rows }
+    requires spelled { AreSpelled job.config job.commands }
     ensures job { IfOk result (λ outcome. outcome.job ≡ job) }
     ensures run { IfOk result IsThreadRun }
     ensures diligent { IfOk result AreDiligent }

@@ -14,6 +14,8 @@ use Rattle.mu_filled.proofs.Filled.{fills_by}
 use Rattle.mu_known.specs.HeldRows.{StandsForHeldRows, is_of_row}
 use Rattle.mu_known.specs.declared.held_rows.HeldRows.{HeldRows}
 use Rattle.mu_known.specs.KnownLog.{StandsForKnownLog, TellsAccepted}
+use Rattle.mu_known.specs.RowWords.{StandsForRowWords}
+use Rattle.mu_known.specs.declared.row_words.RowWords.{RowWords}
 use Rattle.mu_known.specs.declared.known_log.KnownLog.{KnownLog}
 use Rattle.mu_follow.specs.declared.follow.Follow.{Follow}
 use Rattle.mu_follow.specs.declared.kind.Kind.{Kind}
@@ -87,6 +89,12 @@ row_stays by (Verb.WriteRow j k x) answer mine other = absurd (true≢false othe
 row_stays by (Verb.ReadRow v k) answer mine other = absurd (true≢false other)
 row_stays by verb answer mine other = refl
 
+-- the words of the rows
+pub words_stay : (c : Config) (r by : ℕ) (verb : Verb) (answer : Answer) (mine : List Event) (state : RowWords) → is_row (kind_of verb) ≡ false → StandsForRowWords c r mine state → StandsForRowWords c r (event_by by verb answer ∷ mine) state
+words_stay c r by (Verb.WriteRow j k x) answer mine state other held = absurd (true≢false other)
+words_stay c r by (Verb.ReadRow v k) answer mine state other held = absurd (true≢false other)
+words_stay c r by verb answer mine state other held = held
+
 -- a verb of this kind is a put
 pub only_put : (verb : Verb) → is_put (kind_of verb) ≡ true → kind_of verb ≡ Kind.Put
 only_put (Verb.PutSlot p i b v) put = refl
@@ -137,6 +145,7 @@ other_keeps c r n e mine state kind held =
       steps = held.steps;
       knowing = knowing_stays c r e.by e.verb e.answer mine state.knowing (ap shows kind) held.knowing;
       rows = rows_stay c r e.by e.verb e.answer mine state.rows (ap applies kind) held.rows;
+      words = words_stay c r e.by e.verb e.answer mine state.words (ap is_row kind) held.words;
       own_log = log_stays c r e.by e.verb e.answer mine state.own_log (ap shows kind) held.own_log;
       heads = heads_stay r e.by e.verb e.answer mine state.heads (ap is_head kind) held.heads;
       completion = subst (λ l. HoldsCompletion c l state.completion) (sym same) held.completion;

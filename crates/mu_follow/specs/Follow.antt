@@ -8,6 +8,7 @@ use Rattle.mu_model.specs.Knowledge.{applied, committed, known}
 use Rattle.mu_filled.specs.FilledLogs.{StandsForFilledLog}
 use Rattle.mu_known.specs.HeldRows.{StandsForHeldRows}
 use Rattle.mu_known.specs.KnownLog.{StandsForKnownLog}
+use Rattle.mu_known.specs.RowWords.{StandsForRowWords}
 use Rattle.mu_follow.specs.declared.follow.Follow.{Follow}
 use Rattle.mu_follow.specs.Commits.{HoldsCommits}
 use Rattle.mu_follow.specs.Completion.{HoldsCompletion}
@@ -23,6 +24,7 @@ pub record HoldsFollow (c : Config) (r : ℕ) (mine : List Event) (count : ℕ)
   pub steps : state.steps ≡ count
   pub knowing : StandsForKnownLog c r mine state.knowing
   pub rows : StandsForHeldRows c r mine state.rows
+  pub words : StandsForRowWords c r mine state.words
   pub own_log : StandsForFilledLog c r r mine state.own_log
   pub heads : HoldsPublished r mine state.heads
   pub completion : HoldsCompletion c (applied c r mine) state.completion

@@ -20,7 +20,7 @@ use crate::completion::Completion;
 use crate::progress::Progress;
 use crate::published::Published;
 use mu_filled::FilledLog;
-use mu_known::{Commit, HeldRows, KnownLog};
+use mu_known::{Commit, HeldRows, KnownLog, RowWords};
 use mu_model::{Config, NoMemory, PAYLOADS, Verb, positions_in, row_rest, stands_for_batch};
 use std::alloc::Global;
 
@@ -40,6 +40,8 @@ pub struct Follow {
     pub(crate) knowing: KnownLog,
     /// Which rows it has.
     pub(crate) rows: HeldRows,
+    /// The words of the rows, as it wrote or read them.
+    pub(crate) words: RowWords,
     /// Up to where its own log is filled.
     pub(crate) own_log: FilledLog,
     /// The heads.
@@ -145,6 +147,7 @@ impl Follow {
             steps: 0,
             knowing: KnownLog::new(alloc, config)?,
             rows: HeldRows::new(alloc, config)?,
+            words: RowWords::new(alloc, config)?,
             own_log: FilledLog::new(alloc, config)?,
             heads: Published::new(),
             completion: Completion::new(alloc, config)?,

@@ -1,86 +1,91 @@
-//! The entry that is to be applied next.
-ghost use Rattle.std.specs.Prelude.{List, None, Some, length, MatchOption, drop, take, ℕ, ◌+◌, ◌<◌, ◌≡◌, ◌≤◌};
+//! The entry that is to be applied next, and the commands that it stands for.
+ghost use Rattle.std.specs.Prelude.{IfSome, List, None, Some, length, MatchOption, ℕ, ◌+◌, ◌<◌, ◌≡◌, ◌≤◌};
 ghost use Rattle.std.specs.List.{slice_get};
+ghost use Rattle.kv_store.specs.Commands.{Request};
 ghost use Rattle.mu_model.specs.declared.config.Config.{Config};
 ghost use Rattle.mu_model.specs.declared.event.Event.{Event};
-ghost use Rattle.mu_model.specs.Contents.{IsConfig};
+ghost use Rattle.mu_model.specs.Contents.{row_count};
 ghost use Rattle.mu_model.specs.Knowledge.{applied};
-ghost use Rattle.mu_model.specs.Parts.{IsPossible};
+ghost use Rattle.mu_known.specs.RowWords.{config_words, words_held};
 ghost use Rattle.mu_follow.specs.Follow.{StandsForFollow};
-ghost use Rattle.mu_follow.specs.Groups.{group_of};
+ghost use Rattle.mu_follow.specs.Groups.{IsSpelled, group_size};
 
 use crate::follow::Follow;
-use mu_model::{Config, PAYLOADS, Row, row_rest, stands_for_batch};
+use kv_store::Command;
+use mu_model::{Config, PAYLOADS, row_rest, stands_for_batch};
+use mu_rows::{decode, rows_differ};
 
 /// An entry that is known, with all its rows, and was not applied yet.
 #[derive(Clone, Copy)]
-pub struct Ready<'a> {
+pub struct Ready {
     /// Its payload number.
     pub value: u16,
-    /// The rows of its batch in order, 1 to 4; of a mark none.
-    pub rows: &'a [Row],
+    /// How many rows its batch has, 1 to 4; a mark has none.
+    pub rows: u16,
 }
 
-/// The rows from this one on.
-fn rows_after(rows: &[Row], first: usize) -> &[Row]
-    ensures { first ≤ length rows.now → result.now ≡ drop first rows.now }
+/// How many rows an entry has.
+fn size_of(config: &Config, v: u16) -> u16
+    ensures { result ≡ group_size config.now v }
 {
-    &rows[first.min(rows.len())..]
-}
-
-/// The first rows.
-fn first_rows(rows: &[Row], count: usize) -> &[Row]
-    ensures { count ≤ length rows.now → result.now ≡ take count rows.now }
-{
-    &rows[..count.min(rows.len())]
-}
-
-/// The rows of an entry, in order.
-fn group(config: &Config, v: u16) -> &[Row]
-    ensures { IsConfig config.now → result.now ≡ group_of config.now v }
-{
-    let rows = config.rows.as_slice();
     if stands_for_batch(config, v) {
-        let count = usize::from(row_rest(config, v % PAYLOADS)) + 1;
-        first_rows(rows_after(rows, usize::from(v % PAYLOADS)), count)
+        u16::from(row_rest(config, v % PAYLOADS)) + 1
     } else {
-        first_rows(rows, 0)
+        0
     }
 }
 
 impl Follow {
-    /// The entry that is to be applied next, with its rows: the first that was not applied yet,
-    /// where all its rows are written or read. Takes no memory.
-    pub fn ready(&self) -> Option<Ready<'_>>
-        requires config { IsConfig self.now.config }
-        ensures { (c : Config) → (r : ℕ) → (mine : List Event) → StandsForFollow c r mine self.now
+    /// The entry that is to be applied next: the first that was not applied yet, where all its rows
+    /// are written or read. Takes no memory.
+    pub fn ready(&self) -> Option<Ready>
+        ensures entry { (c : Config) → (r : ℕ) → (mine : List Event)
+            → StandsForFollow c r mine self.now
             → MatchOption result (slice_get (applied c r mine) self.now.progress.handed ≡ None)
             (λ ready. (slice_get (applied c r mine) self.now.progress.handed ≡ Some ready.value)
-            × (ready.rows.now ≡ group_of c ready.value)) }
+            × (ready.rows ≡ group_size c ready.value)) }
+        ensures there { IfSome result
+            (λ ready. self.now.progress.handed < self.now.rows.applied) }
     {
-        if self.rows.applied_length() <= self.progress.handed {
+        if self.rows.reached() <= self.progress.handed {
             return None;
         }
         match self.knowing.known().get(self.progress.handed) {
             Some(value) => Some(Ready {
                 value: *value,
-                rows: group(&self.config, *value),
+                rows: size_of(&self.config, *value),
             }),
+            None => None,
+        }
+    }
+
+    /// The command that a row spells, by its twelve words as the replica wrote or read them. Takes
+    /// no memory.
+    pub fn command(&self, row: u16) -> Option<Command>
+        ensures { (c : Config) → (r : ℕ) → (mine : List Event) → (command : Request)
+            → row < row_count c → StandsForFollow c r mine self.now
+            → words_held r row mine ≡ config_words c row → IsSpelled c row command
+            → result ≡ Some command }
+    {
+        rows_differ();
+        match decode(&self.words.row(row)) {
+            Some((command, _)) => Some(command),
             None => None,
         }
     }
 
     /// The entry that was to be applied next is applied now.
     pub fn applied(&mut self)
-        requires config { IsConfig self.old.config }
         requires ready { self.old.progress.handed < self.old.rows.applied }
         ensures stands { (c : Config) → (r : ℕ) → (mine : List Event)
             → StandsForFollow c r mine self.old
             → StandsForFollow c r mine self.new }
-        ensures one { (r : ℕ) → (mine : List Event) → IsPossible self.old.config r mine
-            → StandsForFollow self.old.config r mine self.old
-            → self.new.progress.handed ≡ self.old.progress.handed + 1 }
+        ensures one { self.new.progress.handed ≡ self.old.progress.handed + 1 }
+        ensures rows { self.new.rows ≡ self.old.rows }
+        ensures config { self.new.config ≡ self.old.config }
     {
-        self.progress.handed = self.progress.handed.saturating_add(1);
+        if self.progress.handed < self.rows.reached() {
+            self.progress.handed += 1;
+        }
     }
 }

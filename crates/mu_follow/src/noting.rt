@@ -222,6 +222,7 @@ impl Follow {
     {
         let r = event.by;
         self.rows.take(&self.config, r, self.knowing.known(), event);
+        self.words.take(r, event);
         count_applied(
             &mut self.completion,
             &self.config,

@@ -1,3 +1,4 @@
 pub mod Commits
 pub mod HeldRows
 pub mod KnownLog
+pub mod RowWords

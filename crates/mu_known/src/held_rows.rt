@@ -249,4 +249,11 @@ impl HeldRows {
     {
         self.applied
     }
+
+    /// The same number.
+    pub fn reached(&self) -> usize
+        ensures { result ≡ self.now.applied }
+    {
+        self.applied
+    }
 }

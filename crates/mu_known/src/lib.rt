@@ -3,10 +3,19 @@
 //! Each state stands for the replica's own events, and is kept up to date event by event.
 #![tactic(auto)]
 
+ghost use Rattle.mu_known.specs.RowWords.{RowsAreRight};
+
 mod commit;
 mod held_rows;
 mod known_log;
+mod row_words;
 
 pub use commit::{Commit, Commits, Log};
 pub use held_rows::HeldRows;
 pub use known_log::KnownLog;
+pub use row_words::RowWords;
+
+/// Who reads rows of known batches alone holds each row that it has as the configuration has it.
+pub fn rows_are_right()
+    ensures { RowsAreRight }
+{}

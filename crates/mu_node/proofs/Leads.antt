@@ -217,6 +217,7 @@ with_lead node lead = record {
   follow = node.follow;
   log = node.log;
   commits = node.commits;
+  answers = node.answers;
 }
 
 -- holds what it held beside it

@@ -1,3 +1,4 @@
+pub mod Answering
 pub mod Bits
 pub mod Diligent
 pub mod Heads
@@ -10,6 +11,7 @@ pub mod Naming
 pub mod Open
 pub mod Paces
 pub mod Pacing
+pub mod Reading
 pub mod Replaying
 pub mod Rounding
 pub mod Turning

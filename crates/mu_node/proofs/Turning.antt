@@ -1,5 +1,5 @@
 -- What a node has due follows the cycle's order, and what was handed on.
-use Rattle.std.proofs.Common.{◌≡◌, ◌∙◌, ◌==◌, ◌&&◌, ◌||◌, ◌*◌, ◌+◌, ◌-◌, ◌<◌, ◌≤◌, ℕ, Bool, true, false, List, ◌∷◌, None, Some, ap, arith, inl, inr, length, refl, subst, sym}
+use Rattle.std.proofs.Common.{◌≡◌, ◌∙◌, ◌==◌, ◌&&◌, ◌||◌, ◌*◌, ◌+◌, ◌-◌, ◌<◌, ◌≤◌, ℕ, Bool, true, false, List, ◌∷◌, None, Some, ap, arith, inl, inr, length, take, refl, subst, sym}
 use Rattle.std.specs.Prelude.{IfSome, if◌then◌else◌, nat_lt, not}
 use Rattle.std.specs.declared.option.Option.{Option}
 use Rattle.std.proofs.lemmas.Bool.{cases_lt, ltb-false, true≢false}
@@ -28,6 +28,7 @@ use Rattle.mu_lead.specs.Going.{begins_at, going_after}
 use Rattle.mu_lead.specs.Saying.{Says}
 use Rattle.mu_lead.specs.Standing.{verb_at, verb_of}
 use Rattle.mu_node.specs.declared.node.Node.{Node}
+use Rattle.mu_node.specs.Answers.{HoldsAnswers}
 use Rattle.mu_node.specs.Cycle.{IsBackgroundDue, handed, handed_before, other_at, place_now, read_at}
 use Rattle.mu_node.specs.Due.{lead_due, verb_or_beat}
 use Rattle.mu_node.specs.Node.{HasHeard, HasPlanned}
@@ -148,6 +149,7 @@ odd_planned c r mine node odd named held = record {
   beside = held.beside;
   lead = held.lead;
   handed = held.handed ∙ sym (ap (λ t. if (not t && (place_now c mine == 2 * c.replicas + 20)) then length (applied c r mine) else handed_before c r mine) odd);
+  answers = λ commands are. subst (λ n. HoldsAnswers c commands (take n (applied c r mine)) node.answers) (sym (ap (λ t. if (not t && (place_now c mine == 2 * c.replicas + 20)) then length (applied c r mine) else handed_before c r mine) odd)) (held.answers commands are);
   cycle = held.cycle;
   made = held.made;
   leads = odd_may c r mine odd (leads_at node.lead.place) named;

@@ -1,19 +1,23 @@
 -- When a node stands for the events of replica r.
-use Rattle.std.specs.Prelude.{Bool, List, [], length, not, true, vec_capacity, ℕ, ◌+◌, ◌<◌, ◌∷◌, ◌≡◌, ◌≤◌}
+use Rattle.std.specs.Prelude.{Bool, List, [], length, not, take, true, vec_capacity, ℕ, ◌+◌, ◌<◌, ◌∷◌, ◌≡◌, ◌≤◌}
+use Rattle.kv_store.specs.Commands.{Request}
 use Rattle.mu_model.specs.declared.config.Config.{Config}
 use Rattle.mu_model.specs.declared.event.Event.{Event}
 use Rattle.mu_model.specs.Contents.{row_count}
 use Rattle.mu_model.specs.Histories.{history}
+use Rattle.mu_model.specs.Knowledge.{applied}
 use Rattle.mu_model.specs.Room.{reserve}
 use Rattle.mu_model.specs.Steps.{is_named}
 use Rattle.mu_grant.specs.Pace.{InCycleOrder}
 use Rattle.mu_grant.specs.Stands.{StandsFor as HostStandsFor}
 use Rattle.mu_follow.specs.declared.follow.Follow.{Follow}
 use Rattle.mu_follow.specs.Follow.{AwaitsEntry, StandsForFollow}
+use Rattle.mu_follow.specs.Groups.{AreSpelled}
 use Rattle.mu_lead.specs.declared.lead.Lead.{Lead}
 use Rattle.mu_lead.specs.Beside.{leads_at}
 use Rattle.mu_lead.specs.Standing.{StandsFor as LeadStandsFor}
 use Rattle.mu_node.specs.declared.node.Node.{Node}
+use Rattle.mu_node.specs.Answers.{HoldsAnswers}
 use Rattle.mu_node.specs.Cycle.{handed, handed_before}
 use Rattle.mu_node.specs.Journal.{WasMade, may_lead, may_lead_before}
 use Rattle.mu_node.specs.Paced.{HasPaces, HasPlannedPaces, PacesTold}
@@ -53,13 +57,16 @@ pub record StandsForLead (c : Config) (r : ℕ) (mine : List Event) (lead : Lead
   pub stands : LeadStandsFor mine lead
 
 -- the node stands for the events, with its leader, which leads only where it may, and with what is
--- said of its counts; it has handed on so many entries, called the places of its cycle in their
+-- said of its counts; it has handed on so many entries, answered to their commands, called the places of its cycle in their
 -- order, and made each event as it was due and in time for all that a leader keeps
 pub record HoldsNode (Paces : Lead → Type 0) (c : Config) (r : ℕ) (mine : List Event) (count : ℕ)
     (may : Bool) (node : Node) : Type 0 where
   pub beside : HoldsBeside c r mine node
   pub lead : StandsForLead c r mine node.lead
   pub handed : node.follow.progress.handed ≡ count
+  pub answers :
+      (commands : List Request) → AreSpelled c commands
+      → HoldsAnswers c commands (take count (applied c r mine)) node.answers
   pub cycle : InCycleOrder c r mine
   pub made : AtEachStep (WasMade c r) mine
   pub leads : leads_at node.lead.place ≡ true → may ≡ true

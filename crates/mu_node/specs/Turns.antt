@@ -1,6 +1,8 @@
 -- What a turn of a replica does, and what it leaves.
 use Rattle.std.specs.Prelude.{List, None, Some, map, ℕ, ◌∷◌, ◌≡◌}
 use Rattle.std.specs.declared.option.Option.{Option}
+use Rattle.kv_store.specs.Commands.{Request}
+use Rattle.kv_store.specs.Tables.{replies}
 use Rattle.mu_model.specs.declared.config.Config.{Config}
 use Rattle.mu_model.specs.declared.event.Answer.{Answer}
 use Rattle.mu_model.specs.declared.event.Event.{Event}
@@ -13,6 +15,7 @@ use Rattle.mu_model.specs.Histories.{history}
 use Rattle.mu_model.specs.Knowledge.{applied, commits}
 use Rattle.mu_port.specs.Telling.{Tells}
 use Rattle.mu_known.specs.Commits.{pair_of}
+use Rattle.mu_follow.specs.Groups.{AreSpelled, groups_of}
 use Rattle.mu_node.specs.declared.result.NodeResult.{NodeResult}
 use Rattle.mu_node.specs.declared.turn.Turn.{Turn}
 
@@ -42,9 +45,13 @@ IsTurn c script r mine now before after (Turn.Took note) =
 IsTurn c script r mine now before after (Turn.Ended end) =
     EndsBy c script r mine end × (now ≡ mine) × (after ≡ before)
 
--- what a replica leaves is what the definitions give of its events, and these are diligent
+-- what a replica leaves is what the definitions give of its events, which are diligent; its replies
+-- are those of the store over the commands that the rows spell of what it applied
 pub record IsResult (c : Config) (r : ℕ) (mine : List Event) (result : NodeResult) : Type 0 where
   pub journal : history result.journal.events ≡ mine
   pub log : result.log ≡ applied c r mine
   pub commits : map pair_of result.commits ≡ commits c r mine
+  pub replies :
+      (commands : List Request) → AreSpelled c commands
+      → result.replies ≡ replies (groups_of c commands (applied c r mine))
   pub diligent : IsDiligent c r mine

@@ -10,6 +10,7 @@ ghost use Rattle.mu_node.specs.Cycle.{IsBackgroundDue, IsDueAt, other_at, place_
 ghost use Rattle.mu_node.specs.Due.{MayBeside};
 ghost use Rattle.mu_node.specs.Node.{HasPlanned, StandsForNode};
 
+use crate::answers::apply_ready;
 use crate::node::Node;
 use mu_model::Verb;
 
@@ -45,11 +46,11 @@ fn other(r: u8, place: u8) -> u8
 
 impl Node {
     /// What is due in a background turn, where something is. Before the head is raised, what is
-    /// there is handed on.
+    /// there is applied to the own store, and handed on.
     pub(crate) fn background(&mut self) -> Option<Verb>
         requires config { IsConfig self.old.follow.config }
         ensures stands { (c : Config) → (r : ℕ) → (mine : List SomeEvent)
-            → is_odd (length mine) ≡ false
+            → is_odd (length mine) ≡ false → IsPossible c r mine
             → StandsForNode c r mine self.old → HasPlanned c r mine self.new }
         ensures lead { self.new.lead ≡ self.old.lead }
         ensures config { self.new.follow.config ≡ self.old.follow.config }
@@ -79,11 +80,11 @@ impl Node {
         as_place(self.follow.steps() / 2 % cycle)
     }
 
-    /// Hands on what is there, before the head is raised.
+    /// Applies what is there to the own store, and hands it on, before the head is raised.
     fn hand_on(&mut self, place: u8)
         requires config { IsConfig self.old.follow.config }
         ensures stands { (c : Config) → (r : ℕ) → (mine : List SomeEvent)
-            → is_odd (length mine) ≡ false
+            → is_odd (length mine) ≡ false → IsPossible c r mine
             → place ≡ place_now c mine → StandsForNode c r mine self.old
             → HasPlanned c r mine self.new }
         ensures lead { self.new.lead ≡ self.old.lead }
@@ -92,7 +93,7 @@ impl Node {
         ensures stops { self.new.stops ≡ self.old.stops }
     {
         if place == self.replicas.saturating_mul(2).saturating_add(HEAD_PLACE) {
-            self.follow.hand_on();
+            apply_ready(&mut self.follow, &mut self.answers);
         }
     }
 

@@ -4,6 +4,7 @@
 //! which the replica may make by its own events; where none is due it beats.
 #![tactic(auto)]
 
+mod answers;
 mod cycle;
 mod ending;
 mod node;
@@ -12,6 +13,7 @@ mod result;
 mod turn;
 mod watch;
 
+pub use answers::{Answers, Replies};
 pub use mu_known::{Commit, Commits, Log};
 pub use node::Node;
 pub use result::NodeResult;

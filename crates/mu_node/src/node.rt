@@ -15,6 +15,7 @@ ghost use Rattle.mu_pace.specs.Counters.{AtEachStep};
 ghost use Rattle.mu_pace.specs.Cycles.{KeepsBeside};
 ghost use Rattle.mu_model.specs.Steps.{is_beat_verb};
 
+use crate::answers::{Answers, apply_ready};
 use crate::ending::{end_of_going, is_stop};
 use crate::planning::or_beat;
 use crate::result::NodeResult;
@@ -28,6 +29,9 @@ use mu_lead::{Lead, Note};
 use mu_model::{End, Journal, NoMemory, Sequence, Stop, Verb, positions_in};
 use mu_port::Port;
 use std::alloc::Global;
+
+/// How many commands an entry has at most.
+const MOST_COMMANDS: usize = 4;
 
 /// One replica.
 #[derive(Drop)]
@@ -54,6 +58,8 @@ pub struct Node {
     pub(crate) log: Vec<u16>,
     /// Room for what it committed.
     pub(crate) commits: Vec<Commit>,
+    /// Its store, and its replies.
+    pub(crate) answers: Answers,
 }
 
 /// Whether the verb is a beat.
@@ -119,6 +125,7 @@ impl Node {
             follow: Follow::new(alloc, config, id)?,
             log: Vec::with_capacity(alloc, positions_in(config))?,
             commits: Vec::with_capacity(alloc, positions_in(config))?,
+            answers: Answers::with_room(alloc, positions_in(config) * MOST_COMMANDS)?,
         })
     }
 
@@ -248,16 +255,19 @@ impl Node {
             grants: _,
             watch: _,
             lead: _,
-            follow,
+            mut follow,
             mut log,
             mut commits,
+            mut answers,
         } = self;
+        apply_ready(&mut follow, &mut answers);
         fill_log(&mut log, first_of(follow.known(), follow.applied_count()));
         fill_commits(&mut commits, follow.commits());
         NodeResult {
             journal,
             log: Sequence::from_vec(log),
             commits: Sequence::from_vec(commits),
+            replies: answers.into_replies(),
             end,
         }
     }

@@ -222,6 +222,7 @@ impl Node {
             (record { by = by; verb = verb; answer = answer }) self.new }
         ensures lead { self.new.lead ≡ self.old.lead }
         ensures stops { self.new.stops ≡ self.old.stops }
+        ensures answers { self.new.answers ≡ self.old.answers }
         ensures config { self.new.follow.config ≡ self.old.follow.config }
         ensures handed { self.new.follow.progress.handed ≡ self.old.follow.progress.handed }
     {
@@ -242,6 +243,7 @@ impl Node {
             → commit_of c r mine event ≡ Some (position, value)
             → AwaitsBeside c r mine event self.old → HoldsBeside c r (event ∷ mine) self.new }
         ensures lead { self.new.lead ≡ self.old.lead }
+        ensures answers { self.new.answers ≡ self.old.answers }
         ensures stops { self.new.stops ≡ self.old.stops }
         ensures handed { self.new.follow.progress.handed ≡ self.old.follow.progress.handed }
     {

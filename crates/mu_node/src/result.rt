@@ -1,4 +1,5 @@
 //! What one replica leaves.
+use crate::answers::Replies;
 use mu_known::{Commits, Log};
 use mu_model::{End, Journal};
 
@@ -11,6 +12,8 @@ pub struct NodeResult {
     pub log: Log,
     /// What it committed.
     pub commits: Commits,
+    /// The replies of its own store to the commands of what it applied, in order.
+    pub replies: Replies,
     /// How it ended, where it did.
     pub end: Option<End>,
 }

@@ -10,7 +10,7 @@ ghost use Rattle.mu_top.specs.Commands.{Books, IsEndOf, IsReplay};
 
 use crate::replaying::untold;
 use match_book::Book;
-use mu_cluster::replay;
+use mu_cluster::{replay, rows_spell_commands};
 use mu_input::{InputEnd, Job, read};
 use mu_outcome::{Outcome, commands_of, longest};
 use mu_report::Said;
@@ -41,6 +41,7 @@ fn booked(alloc: Global, bytes: &[u8]) -> Result<(Outcome, Book), InputEnd>
 {
     let job = read(alloc, bytes)?;
     let mut book = Book::with_room(alloc, job.commands.len())?;
+    rows_spell_commands(&job);
     let outcome = replay(alloc, job)?;
     apply_log(&mut book, &outcome.job, longest(outcome.logs.as_slice()));
     Ok((outcome, book))

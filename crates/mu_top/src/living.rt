@@ -10,7 +10,7 @@ ghost use Rattle.snap_reads.specs.declared.TheConstants.{MOST_READERS};
 ghost use Rattle.mu_top.specs.Commands.{IsEndOf, IsReplay, Lives};
 
 use crate::replaying::untold;
-use mu_cluster::{Gate, replay};
+use mu_cluster::{Gate, replay, rows_spell_commands};
 use mu_input::{InputEnd, read};
 use mu_outcome::Outcome;
 use mu_report::Said;
@@ -59,6 +59,7 @@ fn lived<R: Threads + Sync, G: Gate + Sync>(
     ensures end { IfErr result (IsEndOf bytes.now) }
 {
     let job = read(alloc, bytes)?;
+    rows_spell_commands(&job);
     let outcome = replay(alloc, job)?;
     let lived = live(rt, alloc, &outcome, readers, gate)?;
     Ok((outcome, lived))

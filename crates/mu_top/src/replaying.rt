@@ -6,7 +6,7 @@ ghost use Rattle.mu_outcome.specs.Outcomes.{IsWithinJob};
 ghost use Rattle.mu_report.specs.Said.{IsShort};
 ghost use Rattle.mu_top.specs.Commands.{IsEndOf, IsReplay, Replays, said_of};
 
-use mu_cluster::replay;
+use mu_cluster::{replay, rows_spell_commands};
 use mu_input::{InputEnd, read};
 use mu_outcome::Outcome;
 use mu_report::Said;
@@ -36,6 +36,7 @@ pub(crate) fn replayed(alloc: Global, bytes: &[u8]) -> Result<Outcome, InputEnd>
     ensures end { IfErr result (IsEndOf bytes.now) }
 {
     let job = read(alloc, bytes)?;
+    rows_spell_commands(&job);
     Ok(replay(alloc, job)?)
 }
 

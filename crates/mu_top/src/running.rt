@@ -7,7 +7,7 @@ ghost use Rattle.mu_report.specs.Said.{IsShort};
 ghost use Rattle.mu_top.specs.Commands.{IsEndOf, IsThreaded, Runs};
 
 use crate::replaying::untold;
-use mu_cluster::{Gate, run};
+use mu_cluster::{Gate, run, rows_spell_commands};
 use mu_input::{InputEnd, read};
 use mu_outcome::Outcome;
 use mu_report::Said;
@@ -49,5 +49,6 @@ fn ran<R: Threads + Wait + Sync, G: Gate + Sync>(
     ensures end { IfErr result (IsEndOf bytes.now) }
 {
     let job = read(alloc, bytes)?;
+    rows_spell_commands(&job);
     Ok(run(rt, alloc, job, gate)?)
 }

@@ -14,7 +14,7 @@ ghost use Rattle.mu_top.specs.Desks.{Desks, IsEndOfDesk, IsServed, job_at_desk};
 
 use crate::replaying::untold;
 use front_desk::collect;
-use mu_cluster::{Gate, replay};
+use mu_cluster::{Gate, replay, rows_spell_commands};
 use mu_input::{InputEnd, Job, desk_line, read};
 use mu_outcome::Outcome;
 use mu_report::Said;
@@ -61,6 +61,7 @@ fn served<R: Threads + Wait + Sync, G: Gate + Sync>(
 {
     let given = job_for_desk(alloc, bytes)?;
     let collected = collect(rt, alloc, given, gate)?;
+    rows_spell_commands(&collected);
     Ok(replay(alloc, collected)?)
 }
 

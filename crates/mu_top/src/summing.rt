@@ -5,7 +5,7 @@ ghost use Rattle.mu_input.specs.declared.TheConstants.{MOST_COMMANDS};
 ghost use Rattle.mu_report.specs.Said.{IsShort};
 ghost use Rattle.mu_top.specs.Commands.{IsReplay, Sums};
 
-use mu_cluster::replay;
+use mu_cluster::{replay, rows_spell_commands};
 use mu_input::bulk;
 use mu_model::NoMemory;
 use mu_outcome::Outcome;
@@ -35,5 +35,6 @@ fn stated(alloc: Global, count: u16) -> Result<Outcome, NoMemory>
     ensures replay { IfOk result IsReplay }
 {
     let job = bulk(alloc, count)?;
+    rows_spell_commands(&job);
     Ok(replay(alloc, job)?)
 }

@@ -1,16 +1,11 @@
 use Rattle.std.proofs.Common.{◌∙◌, ◌+◌, None, Some, ap, arith, length, map, refl, subst, sym}
-use Rattle.mu_model.specs.Contents.{row_count}
 use Rattle.mu_model.specs.Parts.{HasParts}
-use Rattle.mu_model.specs.Room.{reserve}
-use Rattle.kv_store.specs.Tables.{replies}
 use Rattle.mu_outcome.specs.declared.outcome.Outcome.{Outcome}
 use Rattle.mu_cluster.specs.Branches.{AreLeft}
-use Rattle.mu_outcome.specs.Entries.{commands_in, longest}
 use Rattle.mu_outcome.specs.Outcomes.{events_of}
 use Rattle.mu_outcome.specs.Runs.{IsRunOver}
 use Rattle.mu_cluster.proofs.Branching.{one_list, parts_same}
-use Rattle.mu_cluster.proofs.Filling.{few_commands_in, logs_within, diligent_of, run_over}
-use Rattle.mu_outcome.proofs.LongestLogs.{longest_within}
+use Rattle.mu_cluster.proofs.Filling.{diligent_of, run_over, told_longest}
 use Rattle.mu_cluster.proofs.leaving.gathered_outcome.Goals as goal
 
 pub left_by-journals-requires-clause-list : goal.left_by-journals-requires-clause-list
@@ -18,19 +13,6 @@ left_by-journals-requires-clause-list c = one_list c.args.job.config c.args.gath
 
 pub left_by-journals-requires-clause-left : goal.left_by-journals-requires-clause-left
 left_by-journals-requires-clause-left c = subst (λ l. AreLeft c.args.job.config c.args.job.script l c.args.nodes.items) (sym c.parts.ensures.parts) c.requires.left
-
-pub answered-replies-requires : goal.answered-replies-requires
-answered-replies-requires c =
-    let job = c.args.job in
-    let k = job.config in
-    let lists = c.left_by-journals.result in
-    let one = one_list k c.args.gathered (map (λ j. j.events) c.parts.result.now) c.requires.config c.parts.ensures.parts c.parts.ensures.list in
-    let held = c.left_by-journals.ensures one.0 one.1.0 one.1.1 in
-    let is = ap length (c.longest.ensures ∙ ap longest c.as_slice.ensures.value) in
-    let within = longest_within (row_count k + reserve k + 1) lists.logs.items (logs_within k job.script one.0 lists one.1.0 held) in
-    let few = few_commands_in job c.longest.result.now c.requires.good in
-    let room = c.requires.room.answers in
-    record { empty = room.empty; room_for_commands = (let a = room.room_for_commands in omega (arith, is, within, few, a)); no_replies = room.no_replies; room_for_replies = (let b = room.room_for_replies in omega (arith, is, within, few, b)) }
 
 pub returns-clause-run : goal.returns-clause-run
 returns-clause-run c =
@@ -40,9 +22,8 @@ returns-clause-run c =
     let g = c.args.gathered in
     let one = one_list k g (map (λ j. j.events) c.parts.result.now) c.requires.config c.parts.ensures.parts c.parts.ensures.list in
     let held = c.left_by-journals.ensures one.0 one.1.0 one.1.1 in
-    let o : Outcome = record { job = job; journals = c.from_vec.result; logs = c.from_vec-2.result; commits = c.from_vec-3.result; replies = c.answered-replies.result; ends = c.from_vec-4.result; order = None; gathered = Some g } in
-    let long = c.longest.ensures ∙ (ap longest c.as_slice.ensures.value ∙ ap longest (sym c.from_vec-2.ensures)) in
-    let over : IsRunOver one.0 o = run_over o one.0 lists one.1.0 c.from_vec.ensures c.from_vec-2.ensures c.from_vec-3.ensures c.from_vec-4.ensures held one.1.1.whole (c.answered-replies.ensures ∙ ap (λ l. replies (commands_in job l)) long) in
+    let o : Outcome = record { job = job; journals = c.from_vec.result; logs = c.from_vec-2.result; commits = c.from_vec-3.result; replies = lists.replies; ends = c.from_vec-4.result; order = None; gathered = Some g } in
+    let over : IsRunOver one.0 o = run_over o one.0 lists one.1.0 c.from_vec.ensures c.from_vec-2.ensures c.from_vec-3.ensures c.from_vec-4.ensures held one.1.1.whole (told_longest job job.script one.0 k.replicas lists o.logs c.requires.spelled held c.from_vec-2.ensures) in
     let has : HasParts k one.0 g.parts = subst (λ l. HasParts k one.0 l) c.parts.ensures.parts one.1.1 in
     record {
       no_order = refl;
@@ -62,5 +43,5 @@ returns-clause-diligent c =
     let g = c.args.gathered in
     let one = one_list k g (map (λ j. j.events) c.parts.result.now) c.requires.config c.parts.ensures.parts c.parts.ensures.list in
     let held = c.left_by-journals.ensures one.0 one.1.0 one.1.1 in
-    let o : Outcome = record { job = job; journals = c.from_vec.result; logs = c.from_vec-2.result; commits = c.from_vec-3.result; replies = c.answered-replies.result; ends = c.from_vec-4.result; order = None; gathered = Some g } in
+    let o : Outcome = record { job = job; journals = c.from_vec.result; logs = c.from_vec-2.result; commits = c.from_vec-3.result; replies = lists.replies; ends = c.from_vec-4.result; order = None; gathered = Some g } in
     diligent_of o one.0 lists c.from_vec.ensures held

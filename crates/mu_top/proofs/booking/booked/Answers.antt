@@ -2,6 +2,7 @@ use Rattle.std.proofs.Common.{◌∙◌, ap, arith, subst}
 use Rattle.match_book.specs.Stands.{StandsFor}
 use Rattle.mu_outcome.specs.Entries.{commands_in, longest}
 use Rattle.mu_top.proofs.Completed.{different_of, few_of, replay_of}
+use Rattle.mu_top.proofs.Arrived.{rows_made}
 use Rattle.mu_top.proofs.booking.booked.Goals as goal
 
 pub apply_log-requires-clause-room : goal.apply_log-requires-clause-room
@@ -22,3 +23,6 @@ returns-clause-replay c =
 pub returns-clause-book : goal.returns-clause-book
 returns-clause-book c =
     subst (λ log. StandsFor (commands_in c.in_ok-outcome.outcome.job log) c.apply_log.new.book) (c.longest.ensures ∙ ap longest c.as_slice.ensures) c.apply_log.ensures
+
+pub rows_spell_commands-requires-clause-rows : goal.rows_spell_commands-requires-clause-rows
+rows_spell_commands-requires-clause-rows c = rows_made c.args.bytes.now c.in_ok-job.job c.in_ok-job.ensures.reading

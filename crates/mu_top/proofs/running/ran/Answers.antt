@@ -1,6 +1,10 @@
 use Rattle.mu_top.proofs.Completed.{threaded_of}
+use Rattle.mu_top.proofs.Arrived.{rows_made}
 use Rattle.mu_top.proofs.running.ran.Goals as goal
 
 pub returns-clause-run : goal.returns-clause-run
 returns-clause-run g c =
     threaded_of c.in_ok-run.field-0 c.in_ok-job.job c.in_ok-run.ensures.job c.in_ok-job.ensures.config c.in_ok-job.ensures.heads c.in_ok-run.ensures.run c.in_ok-run.ensures.diligent c.in_ok-run.ensures.agrees
+
+pub rows_spell_commands-requires-clause-rows : goal.rows_spell_commands-requires-clause-rows
+rows_spell_commands-requires-clause-rows g c = rows_made c.args.bytes.now c.in_ok-job.job c.in_ok-job.ensures.reading

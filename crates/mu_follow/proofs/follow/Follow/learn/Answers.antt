@@ -8,7 +8,7 @@ use Rattle.mu_known.specs.Commits.{pair_of}
 use Rattle.mu_follow.specs.Kinds.{is_fuo, is_head, is_look, is_row}
 use Rattle.mu_follow.proofs.Kept.{few_commits, pairs_push}
 use Rattle.mu_follow.proofs.Putting.{commits_by_put, is_committed, put_knowing}
-use Rattle.mu_follow.proofs.Stays.{fuo_stays, heads_stay, only_put, outrun_stays, reads_none, row_stays, rows_none}
+use Rattle.mu_follow.proofs.Stays.{fuo_stays, heads_stay, only_put, outrun_stays, reads_none, row_stays, rows_none, words_stay}
 use Rattle.mu_follow.proofs.follow.Follow.learn.Goals as goal
 
 pub returns-clause-stands : goal.returns-clause-stands
@@ -37,6 +37,7 @@ returns-clause-stands c r mine e possible some held =
       steps = omega (arith, steps);
       knowing = knowing;
       rows = rows;
+      words = words_stay k r e.by e.verb e.answer mine state.words (ap is_row kind) held.words;
       own_log = c.take.ensures k r r e mine possible (reads_none r r e.by e.verb e.answer (ap is_fuo kind)) (sym done.spot) held.own_log;
       heads = heads_stay r e.by e.verb e.answer mine state.heads (ap is_head kind) held.heads;
       completion = c.count_applied.ensures r mine e good possible knowing rows held.completion;

@@ -10,10 +10,11 @@ returns-clause-stands c = record {
   steps = refl;
   knowing = c.in_ok-new.ensures c.args.id;
   rows = c.in_ok-new-2.ensures c.args.id;
-  own_log = c.in_ok-new-3.ensures c.args.id c.args.id;
-  heads = c.new-4.ensures c.args.id;
-  completion = c.in_ok-new-4.ensures;
+  words = c.in_ok-new-3.ensures c.args.id;
+  own_log = c.in_ok-new-4.ensures c.args.id c.args.id;
+  heads = c.new-5.ensures c.args.id;
+  completion = c.in_ok-new-5.ensures;
   commits = record { are = ap (map pair_of) c.in_ok-with_capacity.ensures.items; room = omega (arith, c.in_ok-with_capacity.ensures.capacity, c.positions_in.ensures.count) };
   outrun = refl;
-  progress = record { fuo = c.new-6.ensures.fuo c.args.id; row = c.new-6.ensures.row; handed = omega (arith, c.new-6.ensures.handed) };
+  progress = record { fuo = c.new-7.ensures.fuo c.args.id; row = c.new-7.ensures.row; handed = omega (arith, c.new-7.ensures.handed) };
 }

@@ -18,6 +18,7 @@ returns-clause-stands c mine possible held none =
       steps = let s = held.steps in let up = c.steps_after-self.ensures (omega (arith, few, s)) in omega (arith, up, s);
       knowing = held.knowing;
       rows = held.rows;
+      words = held.words;
       own_log = held.own_log;
       heads = held.heads;
       completion = held.completion;
@@ -40,6 +41,7 @@ returns-clause-awaits c mine entry possible held some =
       steps = let s = held.steps in let up = c.steps_after-self.ensures (omega (arith, few, s)) in omega (arith, up, s);
       knowing = held.knowing;
       rows = held.rows;
+      words = held.words;
       own_log = held.own_log;
       heads = held.heads;
       completion = held.completion;

@@ -1,7 +1,7 @@
 use Rattle.std.proofs.Common.{◌∙◌, ap, arith, length, subst, sym}
 use Rattle.mu_follow.specs.Completion.{HoldsCompletion}
 use Rattle.mu_follow.specs.Kinds.{applies, is_fuo, is_look, is_put, is_row, shows}
-use Rattle.mu_follow.proofs.Stays.{applied_stays, commits_stay, fuo_stays, knowing_stays, log_stays, outrun_stays, row_stays, rows_stay}
+use Rattle.mu_follow.proofs.Stays.{applied_stays, commits_stay, fuo_stays, knowing_stays, log_stays, outrun_stays, row_stays, rows_stay, words_stay}
 use Rattle.mu_follow.proofs.follow.Follow.note_head.Goals as goal
 
 pub returns-clause-stands : goal.returns-clause-stands
@@ -19,6 +19,7 @@ returns-clause-stands c mine n kind held =
       steps = held.steps;
       knowing = knowing_stays k r e.by e.verb e.answer mine state.knowing (ap shows kind) held.knowing;
       rows = rows_stay k r e.by e.verb e.answer mine state.rows (ap applies kind) held.rows;
+      words = words_stay k r e.by e.verb e.answer mine state.words (ap is_row kind) held.words;
       own_log = log_stays k r e.by e.verb e.answer mine state.own_log (ap shows kind) held.own_log;
       heads = c.note.ensures mine held.heads;
       completion = subst (λ l. HoldsCompletion k l state.completion) (sym same) held.completion;

@@ -2,7 +2,7 @@ use Rattle.std.proofs.Common.{◌∙◌, ◌∷◌, ap, arith, false, length, sy
 use Rattle.mu_model.specs.Knowledge.{known}
 use Rattle.mu_known.proofs.Fetched.{applied_grows}
 use Rattle.mu_follow.specs.Kinds.{is_fuo, is_head, is_put, is_row}
-use Rattle.mu_follow.proofs.Stays.{commits_stay, fuo_stays, heads_stay, reads_none, row_stays, rows_none, tells_none}
+use Rattle.mu_follow.proofs.Stays.{commits_stay, fuo_stays, heads_stay, reads_none, row_stays, rows_none, tells_none, words_stay}
 use Rattle.mu_follow.proofs.follow.Follow.note_look.Goals as goal
 
 pub returns-clause-stands : goal.returns-clause-stands
@@ -24,6 +24,7 @@ returns-clause-stands c mine n kind possible held =
       steps = held.steps;
       knowing = knowing;
       rows = rows;
+      words = words_stay k r e.by e.verb e.answer mine c.args.self.now.words (ap is_row kind) held.words;
       own_log = c.take-2.ensures k r r e mine possible (reads_none r r e.by e.verb e.answer (ap is_fuo kind)) spot held.own_log;
       heads = heads_stay r e.by e.verb e.answer mine c.args.self.now.heads (ap is_head kind) held.heads;
       completion = c.count_applied.ensures r mine e good possible knowing rows held.completion;

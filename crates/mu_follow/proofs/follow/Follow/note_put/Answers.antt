@@ -6,7 +6,7 @@ use Rattle.mu_known.specs.KnownLog.{HoldsValues}
 use Rattle.mu_follow.specs.Completion.{HoldsCompletion}
 use Rattle.mu_follow.specs.Kinds.{is_fuo, is_head, is_look, is_put, is_row, put_spot}
 use Rattle.mu_follow.proofs.Putting.{is_committed, put_applied, put_known, put_knowing, put_rows, spot_put}
-use Rattle.mu_follow.proofs.Stays.{fuo_stays, heads_stay, log_unmoved, outrun_stays, reads_none, row_stays}
+use Rattle.mu_follow.proofs.Stays.{fuo_stays, heads_stay, log_unmoved, outrun_stays, reads_none, row_stays, words_stay}
 use Rattle.mu_follow.proofs.follow.Follow.note_put.Goals as goal
 
 pub returns-in-Some-clause-stands : goal.returns-in-Some-clause-stands
@@ -29,6 +29,7 @@ returns-in-Some-clause-stands c mine n kind possible held none =
       steps = held.steps;
       knowing = put_knowing k r e.by e.verb e.answer mine state.knowing put (subst (λ l. HoldsValues k l state.knowing) (sym same) held.knowing.values) state.knowing refl refl held.knowing;
       rows = put_rows k r e.by e.verb e.answer mine state.rows put same held.rows;
+      words = words_stay k r e.by e.verb e.answer mine state.words (ap is_row kind) held.words;
       own_log = c.take.ensures k r r e mine possible reads (sym c.in-Some.is ∙ spot) held.own_log;
       heads = heads_stay r e.by e.verb e.answer mine state.heads (ap is_head kind) held.heads;
       completion = subst (λ l. HoldsCompletion k l state.completion) (sym applied_same) held.completion;
@@ -61,6 +62,7 @@ returns-in-None-clause-stands c mine n kind possible held none =
       steps = held.steps;
       knowing = put_knowing k r e.by e.verb e.answer mine state.knowing put (subst (λ l. HoldsValues k l state.knowing) (sym same) held.knowing.values) state.knowing refl refl held.knowing;
       rows = put_rows k r e.by e.verb e.answer mine state.rows put same held.rows;
+      words = words_stay k r e.by e.verb e.answer mine state.words (ap is_row kind) held.words;
       own_log = log_unmoved k r r e mine state.own_log reads (sym c.in-None.is ∙ spot) held.own_log;
       heads = heads_stay r e.by e.verb e.answer mine state.heads (ap is_head kind) held.heads;
       completion = subst (λ l. HoldsCompletion k l state.completion) (sym applied_same) held.completion;

@@ -1,5 +1,6 @@
 use Rattle.std.proofs.Common.{◌∙◌, ◌∷◌, ap, arith, refl, sym}
 use Rattle.mu_known.proofs.Fetched.{applied_grows}
+use Rattle.mu_known.proofs.Placed.{event_of_rows}
 use Rattle.mu_follow.specs.Kinds.{is_head, is_look, is_put, shows}
 use Rattle.mu_follow.proofs.Stays.{commits_stay, heads_stay, knowing_stays, log_stays, outrun_stays}
 use Rattle.mu_follow.proofs.follow.Follow.note_row.Goals as goal
@@ -21,6 +22,7 @@ returns-clause-stands c mine n kind possible held =
       steps = held.steps;
       knowing = knowing;
       rows = rows;
+      words = c.take-2.ensures k mine (event_of_rows k r mine e good possible) held.words;
       own_log = log_stays k r e.by e.verb e.answer mine state.own_log (ap shows kind) held.own_log;
       heads = heads_stay r e.by e.verb e.answer mine state.heads (ap is_head kind) held.heads;
       completion = c.count_applied.ensures r mine e good possible knowing rows held.completion;

@@ -1,14 +1,18 @@
-use Rattle.std.proofs.Common.{◌≡◌, ◌∙◌, ◌==◌, ◌+◌, ◌*◌, arith, false, subst, sym, true}
+use Rattle.std.proofs.Common.{◌≡◌, ◌∙◌, ◌==◌, ◌+◌, ◌*◌, ap, arith, false, length, subst, sym, take, true}
 use Rattle.std.proofs.lemmas.Bool.{eq-eqb, ne_eqb}
 use Rattle.mu_model.specs.Contents.{IsConfig}
+use Rattle.mu_model.specs.Knowledge.{applied}
+use Rattle.mu_node.specs.Answers.{HoldsAnswers}
 use Rattle.mu_node.specs.Cycle.{place_now}
+use Rattle.mu_node.proofs.Answering.{take_whole}
+use Rattle.mu_node.proofs.Reading.{reads_known}
 use Rattle.mu_node.proofs.Leading.{even_planned}
 use Rattle.mu_node.proofs.Pacing.{paces_even}
 use Rattle.mu_node.proofs.Turning.{handed_elsewhere, handed_here}
 use Rattle.mu_node.proofs.node.Node.hand_on.Goals as goal
 
 pub returns-then-place-saturating_add-clause-stands : goal.returns-then-place-saturating_add-clause-stands
-returns-then-place-saturating_add-clause-stands c k r mine even at held =
+returns-then-place-saturating_add-clause-stands c k r mine even possible at held =
     let good = subst (λ x. IsConfig x) held.beside.follow.config c.requires.config in
     let few = good.replicas.1 in
     let n = held.beside.replicas in
@@ -23,14 +27,18 @@ returns-then-place-saturating_add-clause-stands c k r mine even at held =
         journal_room = b.journal_room;
         grants = b.grants;
         watch = b.watch;
-        follow = c.hand_on.ensures.stands k r mine b.follow;
+        follow = c.apply_ready.ensures.stands k r mine b.follow;
         no_log = b.no_log;
         log_room = b.log_room;
         no_commits = b.no_commits;
         commit_room = b.commit_room;
       };
       lead = held.lead;
-      handed = c.hand_on.ensures.all k r mine b.follow ∙ sym (handed_here k r mine even here);
+      handed = c.apply_ready.ensures.all k r mine b.follow ∙ sym (handed_here k r mine even here);
+      answers = λ commands are.
+          let before = subst (λ n. HoldsAnswers k commands (take n (applied k r mine)) c.args.self.now.answers) (sym held.handed) (held.answers commands are) in
+          let now = c.apply_ready.ensures.answers k r mine commands good possible (reads_known k r mine held.made) are b.follow before in
+          subst (λ l. HoldsAnswers k commands l c.apply_ready.new.answers) (sym (ap (λ n. take n (applied k r mine)) (handed_here k r mine even here) ∙ take_whole (length (applied k r mine)) (applied k r mine) (omega arith))) now;
       cycle = held.cycle;
       made = held.made;
       leads = λ leads. even_planned k r mine even (held.leads leads);
@@ -39,7 +47,7 @@ returns-then-place-saturating_add-clause-stands c k r mine even at held =
     }
 
 pub returns-else-place-saturating_add-clause-stands : goal.returns-else-place-saturating_add-clause-stands
-returns-else-place-saturating_add-clause-stands c k r mine even at held =
+returns-else-place-saturating_add-clause-stands c k r mine even possible at held =
     let good = subst (λ x. IsConfig x) held.beside.follow.config c.requires.config in
     let few = good.replicas.1 in
     let n = held.beside.replicas in
@@ -48,6 +56,7 @@ returns-else-place-saturating_add-clause-stands c k r mine even at held =
       beside = held.beside;
       lead = held.lead;
       handed = held.handed ∙ sym (handed_elsewhere k r mine other);
+      answers = λ commands are. subst (λ n. HoldsAnswers k commands (take n (applied k r mine)) c.args.self.now.answers) (sym (handed_elsewhere k r mine other)) (held.answers commands are);
       cycle = held.cycle;
       made = held.made;
       leads = λ leads. even_planned k r mine even (held.leads leads);

@@ -21,6 +21,7 @@ returns-clause-stands g c =
       beside = beside_lead (StandsForFollow node.follow.config node.id g.mine) node.follow.config node.id g.mine node c.heed.new.self held.beside;
       lead = record { config = c.heed.ensures.config ∙ held.lead.config; id = c.heed.ensures.id ∙ held.lead.id; stands = c.heed.ensures.stands };
       handed = held.handed;
+      answers = held.answers;
       cycle = held.cycle;
       made = held.made;
       leads = λ leads. held.leads (and_parts (leads_at node.lead.place) (not (nat_lt c.leader-leader.result node.lead.id)) (sym c.heed.ensures.rests ∙ leads)).0;

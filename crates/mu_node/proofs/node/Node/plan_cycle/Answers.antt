@@ -7,7 +7,7 @@ use Rattle.mu_node.proofs.node.Node.plan_cycle.Goals as goal
 pub returns-clause-planned : goal.returns-clause-planned
 returns-clause-planned g c =
     let node = c.args.self.now in
-    c.background.ensures.stands node.follow.config node.id g.mine c.requires.1.1.1.0 c.requires.1.1.1.1
+    c.background.ensures.stands node.follow.config node.id g.mine c.requires.1.1.1.0 c.requires.1.0 c.requires.1.1.1.1
 
 pub returns-clause-allowed : goal.returns-clause-allowed
 returns-clause-allowed g c =

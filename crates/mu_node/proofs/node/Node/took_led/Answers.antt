@@ -12,6 +12,8 @@ use Rattle.mu_lead.specs.Standing.{known_told}
 use Rattle.mu_node.specs.Due.{lead_due}
 use Rattle.mu_node.specs.Node.{StandsForLead}
 use Rattle.mu_node.specs.Paced.{HasPaces, HasPlannedPaces}
+use Rattle.mu_node.specs.Cycle.{handed}
+use Rattle.mu_node.proofs.Answering.{answers_stay}
 use Rattle.mu_node.proofs.Leading.{due_leads_on}
 use Rattle.mu_node.proofs.Leads.{lead_says, lead_takes, lead_tells, led_beside, led_told}
 use Rattle.mu_node.proofs.Moving.{event_by}
@@ -57,6 +59,7 @@ returns-clause-stands g c follows possible =
           (λ value is few committed waits. c.learn.ensures.stands k r mine (event_by r verb c.args.answer) value is few possible committed waits);
       lead = subst (λ l. StandsForLead k r (event_by r verb c.args.answer ∷ mine) l) (sym c.learn.ensures.lead) taken;
       handed = c.learn.ensures.handed ∙ (c.note.ensures.handed ∙ held.handed);
+      answers = answers_stay k r (handed k r mine) (event_by r verb c.args.answer) mine c.args.self.now.answers c.learn.new.self.answers (c.learn.ensures.answers ∙ c.note.ensures.answers) c.args.self.now.follow.progress.handed held.beside.follow.progress.handed held.handed held.answers;
       cycle = (held.cycle, follows.cycle);
       made = (held.made, follows.made);
       leads = λ leads. due_leads_on k r mine c.args.self.now.lead verb (event_by r verb c.args.answer) c.requires.1.1.1.0;

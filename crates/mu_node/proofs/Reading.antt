@@ -1,0 +1,182 @@
+-- A node reads rows of known batches alone.
+use Rattle.std.proofs.Common.{◌≡◌, ◌∙◌, ℕ, zero, suc, ◌+◌, ◌-◌, ◌*◌, ◌/◌, ◌%◌, ◌<◌, ◌≤◌, ◌==◌, Bool, true, false, None, Some, List, [], ◌∷◌, ◌++◌, ap, arith, inl, inr, length, refl, subst, sym, true≢false}
+use Rattle.std.specs.Prelude.{if◌then◌else◌, min, nat_lt}
+use Rattle.std.specs.declared.option.Option.{Option}
+use Rattle.std.specs.List.{slice_get}
+use Rattle.std.proofs.lemmas.Bool.{cases_lt, ltb-true}
+use Rattle.mu_model.specs.declared.config.Config.{Config}
+use Rattle.mu_model.specs.declared.event.Answer.{Answer}
+use Rattle.mu_model.specs.declared.event.Event.{Event}
+use Rattle.mu_model.specs.declared.event.Verb.{Verb}
+use Rattle.mu_model.specs.Contents.{is_batch, rest_of, row_count}
+use Rattle.mu_model.specs.Knowledge.{grown, is_known_decided, known, learnt_by}
+use Rattle.mu_model.specs.Regions.{region_head}
+use Rattle.mu_model.specs.Room.{reserve}
+use Rattle.mu_model.specs.Scores.{leader}
+use Rattle.mu_model.specs.Stretches.{is_odd}
+use Rattle.mu_model.proofs.Lists.{get_front}
+use Rattle.mu_grant.specs.Pace.{host_place}
+use Rattle.mu_grant.specs.Stands.{Gives, is_of_place}
+use Rattle.mu_known.specs.RowWords.{IsOfKnown, IsReadKnown, ReadsKnown}
+use Rattle.mu_follow.specs.Due.{ahead_due, filled_known, fuo_due, head_due, next_due, other_head_due, other_of, own_fuo, first_word_of, look_due, next_word_of, raise_due, replay_due, row_read, row_under_way, rows_had, word_due}
+use Rattle.mu_lead.specs.declared.lead.Lead.{Lead}
+use Rattle.mu_lead.specs.declared.place.Place.{Place}
+use Rattle.mu_lead.specs.Beside.{leads_at}
+use Rattle.mu_lead.specs.Standing.{verb_at, verb_of}
+use Rattle.mu_pace.specs.Counters.{AtEachStep}
+use Rattle.mu_node.specs.Cycle.{IsBackgroundDue, handed, other_at, place_now, read_at}
+use Rattle.mu_node.specs.Due.{lead_due, verb_or_beat}
+use Rattle.mu_node.specs.Journal.{WasMade}
+
+-- a row of a known batch stays one
+grown_begins : (values : List ℕ) (o : Option ℕ) (i v : ℕ) → slice_get values i ≡ Some v → slice_get (grown values o) i ≡ Some v
+grown_begins values None i v at = at
+grown_begins values (Some w) i v at = get_front values (w ∷ []) i v at
+
+of_known_stays : (c : Config) (r : ℕ) (e : Event) (mine : List Event) (w : ℕ) → IsOfKnown c r mine w → IsOfKnown c r (e ∷ mine) w
+of_known_stays c r e mine w is = record {
+  position = is.position;
+  value = is.value;
+  row = is.row;
+  known = grown_begins (known c r mine) (learnt_by c r mine (length (known c r mine)) e.by e.verb e.answer (e ∷ mine)) is.position is.value is.known;
+  batch = is.batch;
+  within = is.within;
+  is = is.is;
+}
+
+-- the row whose words are being read is one of a known batch
+under_way_after : (c : Config) (r by : ℕ) (verb : Verb) (answer : Answer) (mine : List Event) (w : ℕ) → IsReadKnown c r mine verb → ((u : ℕ) → row_under_way mine ≡ Some u → IsOfKnown c r mine u) → row_read verb (row_under_way mine) ≡ Some w → IsOfKnown c r mine w
+under_way_after c r by (Verb.ReadRow v k) answer mine w here before is = go (nat_lt k 11) is
+  where
+    go : (t : Bool) → (if t then Some v else None) ≡ Some w → IsOfKnown c r mine w
+    go true same = subst (IsOfKnown c r mine) (same_number v w same) here
+      where
+        same_number : (m n : ℕ) → Some m ≡ Some n → m ≡ n
+        same_number m n e = cc
+    go false none = cc
+under_way_after c r by verb answer mine w here before is = before w is
+
+under_way_known : (c : Config) (r : ℕ) (mine : List Event) (w : ℕ) → ReadsKnown c r mine → row_under_way mine ≡ Some w → IsOfKnown c r mine w
+under_way_known c r [] w reads is = cc
+under_way_known c r (e ∷ mine) w reads is = of_known_stays c r e mine w (under_way_after c r e.by e.verb e.answer mine w reads.1 (λ u under. under_way_known c r mine u reads.0 under) is)
+
+-- what is due, or else a beat, reads rows of known batches alone
+abbrev Reads : Config → ℕ → List Event → Option Verb → Type 0
+Reads c r mine due = IsReadKnown c r mine (verb_or_beat due)
+
+either : (c : Config) (r : ℕ) (mine : List Event) (t : Bool) (a b : Option Verb) → (t ≡ true → Reads c r mine a) → Reads c r mine b → Reads c r mine (if t then a else b)
+either c r mine true a b left right = left refl
+either c r mine false a b left right = right
+
+-- the replayer
+first_reads : (c : Config) (r count : ℕ) (mine : List Event) (o : Option ℕ) → slice_get (known c r mine) count ≡ o → Reads c r mine (first_word_of c r mine o)
+first_reads c r count mine None at = tt
+first_reads c r count mine (Some v) at =
+    either c r mine (is_batch c v) (if nat_lt (rows_had c r mine v) (rest_of c (v % 4096) + 1) then Some (Verb.ReadRow (v + rows_had c r mine v) 0) else None) None
+    (λ batch. either c r mine (nat_lt (rows_had c r mine v) (rest_of c (v % 4096) + 1)) (Some (Verb.ReadRow (v + rows_had c r mine v) 0)) None
+    (λ low. record {
+      position = count;
+      value = v;
+      row = rows_had c r mine v;
+      known = at;
+      batch = batch;
+      within = (let few = ltb-true (rows_had c r mine v) (rest_of c (v % 4096) + 1) low in omega (arith, few));
+      is = refl;
+    })
+    tt)
+    tt
+
+next_reads : (c : Config) (r k : ℕ) (mine : List Event) (o : Option ℕ) → ((u : ℕ) → o ≡ Some u → IsOfKnown c r mine u) → Reads c r mine (next_word_of k o)
+next_reads c r k mine None are = tt
+next_reads c r k mine (Some v) are = are v refl
+
+-- no verb but a read of a row
+abbrev is_row_read : Verb → Bool
+is_row_read (Verb.ReadRow v k) = true
+is_row_read _ = false
+
+reads_other : (c : Config) (r : ℕ) (mine : List Event) (verb : Verb) → is_row_read verb ≡ false → IsReadKnown c r mine verb
+reads_other c r mine (Verb.ReadRow v k) other = absurd (true≢false other)
+reads_other c r mine verb other = tt
+
+choose : (t : Bool) (a b : Option Verb) → is_row_read (verb_or_beat a) ≡ false → is_row_read (verb_or_beat b) ≡ false → is_row_read (verb_or_beat (if t then a else b)) ≡ false
+choose true a b left right = left
+choose false a b left right = right
+
+look_reads : (c : Config) (r f : ℕ) (mine : List Event) → is_row_read (verb_or_beat (look_due c r mine f)) ≡ false
+look_reads c r f mine =
+    choose (f == 0) (Some (Verb.Fuo r)) (if f == 1 then ahead_due c r mine else next_due c r mine) refl
+    (choose (f == 1) (ahead_due c r mine) (next_due c r mine)
+    (choose (nat_lt (length (known c r mine) + 1) (row_count c + reserve c)) (Some (Verb.Look r (length (known c r mine) + 1))) None refl refl)
+    (choose (is_known_decided r mine r (length (known c r mine))) (Some (Verb.Look r (length (known c r mine)))) None refl refl))
+
+raise_reads : (c : Config) (r count f : ℕ) (mine : List Event) → is_row_read (verb_or_beat (raise_due c r mine count f)) ≡ false
+raise_reads c r count f mine =
+    choose (f == 15) (fuo_due c r mine) (if f == 16 then head_due r mine count else if f == 17 then other_head_due c r mine else None)
+    (choose (nat_lt (own_fuo r mine) (filled_known c r mine)) (Some (Verb.RaiseFuo r (filled_known c r mine))) None refl refl)
+    (choose (f == 16) (head_due r mine count) (if f == 17 then other_head_due c r mine else None)
+    (choose (nat_lt (region_head r mine) (min count (own_fuo r mine))) (Some (Verb.RaiseHead (min count (own_fuo r mine)))) None refl refl)
+    (choose (f == 17) (other_head_due c r mine) None
+    (choose (c.replicas == 1) None (Some (Verb.Head (other_of r (length mine / 2 / (2 * c.replicas + 22) % (c.replicas - 1))))) refl refl) refl))
+
+replay_reads : (c : Config) (r count f : ℕ) (leading : Bool) (mine : List Event) → ReadsKnown c r mine → Reads c r mine (replay_due c r mine count f leading)
+replay_reads c r count f leading mine reads =
+    either c r mine (nat_lt f 3) (if leading then None else look_due c r mine f) (if nat_lt f 15 then word_due c r mine count (f - 3) else raise_due c r mine count f)
+    (λ low. either c r mine leading None (look_due c r mine f) (λ on. tt) (reads_other c r mine (verb_or_beat (look_due c r mine f)) (look_reads c r f mine)))
+    (either c r mine (nat_lt f 15) (word_due c r mine count (f - 3)) (raise_due c r mine count f)
+    (λ low. either c r mine (f - 3 == 0) (first_word_of c r mine (slice_get (known c r mine) count)) (next_word_of (f - 3) (row_under_way mine))
+    (λ first. first_reads c r count mine (slice_get (known c r mine) count) refl)
+    (next_reads c r (f - 3) mine (row_under_way mine) (λ u under. under_way_known c r mine u reads under)))
+    (reads_other c r mine (verb_or_beat (raise_due c r mine count f)) (raise_reads c r count f mine)))
+
+-- the leader
+led_reads : (c : Config) (r : ℕ) (mine : List Event) (lead : Lead) → is_row_read (verb_or_beat (lead_due c r mine lead)) ≡ false
+led_reads c r mine lead = choose (leader c r mine == r) (verb_of lead (known c r mine)) None (at lead.config lead.number (known c r mine) lead.up lead.written.items lead.place) refl
+  where
+    at : (c : Config) (b : ℕ) (values up written : List ℕ) (place : Place) → is_row_read (verb_or_beat (verb_at c b values up written place)) ≡ false
+    at c b values up written Place.Rest = refl
+    at c b values up written place = refl
+
+-- the host
+host_reads : (d : ℕ) (verb : Verb) → is_of_place d verb ≡ true → is_row_read verb ≡ false
+host_reads d (Verb.ReadRow v k) is = absurd (true≢false (sym is))
+host_reads d verb is = refl
+
+gives_reads : (c : Config) (r d : ℕ) (mine : List Event) (due : Option Verb) → Gives c r mine d due → is_row_read (verb_or_beat due) ≡ false
+gives_reads c r d mine None gives = refl
+gives_reads c r d mine (Some verb) gives = host_reads d verb (gives.given verb refl).0
+
+-- the reads before
+read_reads : (n r place : ℕ) → is_row_read (read_at n r place) ≡ false
+read_reads n r place = go (place == 0) (nat_lt place n)
+  where
+    go : (s t : Bool) → is_row_read (if s then Verb.Beat else if t then Verb.ReadBeat (other_at r place) else Verb.ReadAsk (place - n)) ≡ false
+    go true t = refl
+    go false true = refl
+    go false false = refl
+
+background_reads : (c : Config) (r : ℕ) (mine : List Event) (leading : Bool) (due : Option Verb) → ReadsKnown c r mine → IsBackgroundDue c r mine leading due → Reads c r mine due
+background_reads c r mine leading due reads is = elim (cases_lt place (host_place c 0)) [
+  | inl low ↦ reads_other c r mine (verb_or_beat due) (ap (λ d. is_row_read (verb_or_beat d)) (is.read low) ∙ read_reads c.replicas r place)
+  | inr high ↦ elim (cases_lt place (host_place c 4)) [
+    | inl near ↦ (let at : place ≡ host_place c (place - host_place c 0) = omega (arith, high) in
+        reads_other c r mine (verb_or_beat due) (gives_reads c r (place - host_place c 0) mine due (is.host (place - host_place c 0) (omega (arith, near, high)) at)))
+    | inr far ↦ (let at = is.replay (place - host_place c 4) (omega (arith, far)) in
+        subst (Reads c r mine) (sym at) (replay_reads c r (handed c r mine) (place - host_place c 4) leading mine reads))
+  ]
+]
+  where
+    place : ℕ
+    place = place_now c mine
+
+made_reads : (c : Config) (r : ℕ) (mine : List Event) (e : Event) → ReadsKnown c r mine → WasMade c r mine e → IsReadKnown c r mine e.verb
+made_reads c r mine e reads was = go (is_odd (length mine)) refl
+  where
+    go : (t : Bool) → is_odd (length mine) ≡ t → IsReadKnown c r mine e.verb
+    go true odd = subst (IsReadKnown c r mine) (sym (was.made.replication odd)) (reads_other c r mine (verb_or_beat (lead_due c r mine was.lead)) (led_reads c r mine was.lead))
+    go false even = let made = was.made.background even in subst (IsReadKnown c r mine) (sym made.2) (background_reads c r mine (leads_at was.lead.place) made.0 reads made.1)
+
+-- a node reads rows of known batches alone
+pub reads_known : (c : Config) (r : ℕ) (mine : List Event) → AtEachStep (WasMade c r) mine → ReadsKnown c r mine
+reads_known c r [] made = tt
+reads_known c r (e ∷ mine) made = let before = reads_known c r mine made.0 in (before, made_reads c r mine e before made.1)
