@@ -10,14 +10,15 @@ ghost use Rattle.mu_text.specs.Lines.{words};
 ghost use Rattle.mu_text.specs.Numbers.{below, wide_number_of};
 
 use mu_model::{Answer, Event, Fence, Target, Verb};
-use mu_text::{Words, of_8, of_16, of_32, of_64};
+use mu_text::{MANY_WORDS, of_8, of_16, of_32, of_64, split_words};
 
 /// The event of one of so many replicas that a line spells, if it spells one. Takes no memory.
 pub fn event(replicas: u8, line: &[u8]) -> Option<Event>
     ensures { result ≡ event_of replicas (words line.now) }
 {
-    let words = Words::of(line);
-    event_of(replicas, words.as_slice())
+    let mut items = [line; MANY_WORDS];
+    let count = split_words(line, &mut items);
+    event_of(replicas, &items[..count])
 }
 
 fn event_of(replicas: u8, words: &[&[u8]]) -> Option<Event>

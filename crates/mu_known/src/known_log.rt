@@ -248,6 +248,14 @@ impl KnownLog {
         }
     }
 
+    /// How many commands of each client are known, client by client.
+    pub fn counts(&self) -> &[u16]
+        ensures { (c : Config) → (r : ℕ) → (mine : List Event) → StandsForKnownLog c r mine self.now
+            → CountsCommands c (known c r mine) result.now }
+    {
+        self.counts.as_slice()
+    }
+
     /// How many commands of the client are known.
     pub fn count_of(&self, client: u8) -> u16
         ensures { (c : Config) → (r : ℕ) → (mine : List Event) → StandsForKnownLog c r mine self.now

@@ -1,6 +1,5 @@
 pub mod Allowing
 pub mod Asking
-pub mod Bits
 pub mod Bringing
 pub mod Causes
 pub mod Commits

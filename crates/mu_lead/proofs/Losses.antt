@@ -30,6 +30,7 @@ use Rattle.mu_lead.specs.Confirming.{HasGrant, Missed}
 use Rattle.mu_lead.specs.Leading.{end_of}
 use Rattle.mu_lead.specs.Losses.{LosesEntering, LosesReading, SaysLost, is_unlike}
 use Rattle.mu_lead.specs.Saying.{NotesAt, NotesDue, note_of_fence, value_seen}
+use Rattle.mu_lead.specs.Sets.{is_bit}
 use Rattle.mu_lead.specs.Standing.{HasHeeded, HoldsAt, StandsFor, known_told, verb_at, verb_of}
 use Rattle.mu_lead.proofs.Replies.{enters_or, puts_min_or, sees_fence, tells_head, tells_min}
 use Rattle.mu_lead.proofs.NoteKinds.{differs_by_test, head_quiet, join_quiet, learning_quiet, look_quiet, min_quiet, put_quiet, round_quiet}
@@ -213,7 +214,7 @@ lost_at mine old values answer note place verb heeded s at notes due = go place 
     go (Place.LateFuo p) at is due = turn (Place.LateFuo p) (Verb.Fuo p) due (λ possible told. loses_none old.id mine (Place.LateFuo p) (Verb.Fuo p) answer note (ap is_lost is) refl refl)
     go (Place.LateEnter p) at is due = turn (Place.LateEnter p) (Verb.Enter p Target.Min) due (λ possible told. enter_says old.config old.id p Target.Min mine (Place.LateEnter p) answer note possible is)
     go (Place.LatePut p) at is due = turn (Place.LatePut p) (Verb.PutMin p old.number) due (λ possible told. loses_none old.id mine (Place.LatePut p) (Verb.PutMin p old.number) answer note (join_quiet is_lost p answer note (nat_lt (get_or old.up p 0) (length values)) (puts_min_or old.config old.id p old.number answer mine possible) (is s.tables.ups) refl (λ p. refl)) refl refl)
-    go (Place.ReadHead q candidate) at is due = turn (Place.ReadHead q candidate) (Verb.Head q) due (λ possible told. let x = tells_head old.config old.id q answer mine possible in loses_none old.id mine (Place.ReadHead q candidate) (Verb.Head q) answer note (ap is_lost (is x.0 x.1 (subst (λ xs. length xs < 65536) (sym told) (known_few old.config old.id _ s.config possible)) heeded.0) ∙ head_quiet is_lost q (min x.0 65535) (length values) (nat_lt (length values + reserve old.config) (x.0 + old.config.ring)) (not (q == old.id) && (get_or old.failed q false && nat_lt (length values + 0) (x.0 + old.config.ring))) refl (λ q h i. refl)) refl refl)
+    go (Place.ReadHead q candidate) at is due = turn (Place.ReadHead q candidate) (Verb.Head q) due (λ possible told. let x = tells_head old.config old.id q answer mine possible in loses_none old.id mine (Place.ReadHead q candidate) (Verb.Head q) answer note (ap is_lost (is x.0 x.1 (subst (λ xs. length xs < 65536) (sym told) (known_few old.config old.id _ s.config possible))) ∙ head_quiet is_lost q (min x.0 65535) (length values) (nat_lt (length values + reserve old.config) (x.0 + old.config.ring)) (not (q == old.id) && (is_bit q old.failed && nat_lt (length values + 0) (x.0 + old.config.ring))) refl (λ q h i. refl)) refl refl)
     go (Place.Look p i candidate best) at is due = turn (Place.Look p i candidate best) (Verb.Look p i) due (λ possible told. loses_none old.id mine (Place.Look p i candidate best) (Verb.Look p i) answer note (ap is_lost is ∙ look_quiet is_lost i (is_past answer) (nat_lt i (length values)) (value_seen answer) refl (λ i v. refl)) refl refl)
     go (Place.Write j last offer) at is due = turn (Place.Write j last offer) (Verb.WriteRow j (get_or old.written.items j 12) (config_word old.config j (get_or old.written.items j 12))) due (λ possible told. loses_none old.id mine (Place.Write j last offer) (Verb.WriteRow j (get_or old.written.items j 12) (config_word old.config j (get_or old.written.items j 12))) answer note (ap is_lost is) refl refl)
     go (Place.Enter p offer) at is due = turn (Place.Enter p offer) (Verb.Enter p (Target.Place (end_of old.config old.id mine % old.config.ring))) due (λ possible told. enter_says old.config old.id p (Target.Place (end_of old.config old.id mine % old.config.ring)) mine (Place.Enter p offer) answer note possible is)

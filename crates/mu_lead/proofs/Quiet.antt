@@ -19,6 +19,7 @@ use Rattle.mu_lead.specs.declared.place.Place.{Place}
 use Rattle.mu_lead.specs.declared.place.Then.{Then}
 use Rattle.mu_lead.specs.Leading.{end_of}
 use Rattle.mu_lead.specs.Saying.{NotesAt, value_seen}
+use Rattle.mu_lead.specs.Sets.{is_bit}
 use Rattle.mu_lead.specs.Standing.{HasHeeded, StandsFor, known_told, verb_at}
 use Rattle.mu_lead.proofs.NoteKinds.{head_quiet, join_quiet, learning_quiet, look_quiet, loss_quiet, min_quiet}
 use Rattle.mu_lead.proofs.Replies.{puts_min_or, sees_fence, tells_head, tells_min}
@@ -80,8 +81,8 @@ quiet_at test mine old values answer note place verb spares other heeded s notes
     go (Place.LateEnter p) other is due = turn (Verb.Enter p Target.Min) due (enter p Target.Min is)
     go (Place.LatePut p) other is due = turn (Verb.PutMin p old.number) due (λ possible told. join_quiet test p answer note (nat_lt (get_or old.up p 0) (length values)) (puts_min_or old.config old.id p old.number answer mine possible) (is s.tables.ups) spares.working spares.joined)
     go (Place.ReadHead q candidate) other is due = turn (Verb.Head q) due (λ possible told. let x = tells_head old.config old.id q answer mine possible in
-        ap test (is x.0 x.1 (subst (λ xs. length xs < 65536) (sym told) (known_few old.config old.id _ s.config possible)) heeded.0)
-        ∙ head_quiet test q (min x.0 65535) (length values) (nat_lt (length values + reserve old.config) (x.0 + old.config.ring)) (not (q == old.id) && (get_or old.failed q false && nat_lt (length values + 0) (x.0 + old.config.ring))) spares.working spares.room)
+        ap test (is x.0 x.1 (subst (λ xs. length xs < 65536) (sym told) (known_few old.config old.id _ s.config possible)))
+        ∙ head_quiet test q (min x.0 65535) (length values) (nat_lt (length values + reserve old.config) (x.0 + old.config.ring)) (not (q == old.id) && (is_bit q old.failed && nat_lt (length values + 0) (x.0 + old.config.ring))) spares.working spares.room)
     go (Place.Look p i candidate best) other is due = λ possible told. ap test is ∙ look_quiet test i (is_past answer) (nat_lt i (length values)) (value_seen answer) spares.working spares.learnt
     go (Place.Write j last offer) other is due = still is
     go (Place.Enter p offer) other is due = turn (Verb.Enter p (Target.Place (end_of old.config old.id mine % old.config.ring))) due (enter p (Target.Place (end_of old.config old.id mine % old.config.ring)) is)

@@ -33,6 +33,7 @@ use Rattle.mu_lead.specs.declared.place.Then.{Then}
 use Rattle.mu_lead.specs.Leading.{end_of}
 use Rattle.mu_lead.specs.Notes.{note_of_head}
 use Rattle.mu_lead.specs.Saying.{EndsJoining, MayMark, NotesAt, NotesDue, NotesHead, NotesJoin, SaysReads, Teaches, is_working, is_working_or_lost, note_of_learning, note_of_look, value_seen}
+use Rattle.mu_lead.specs.Sets.{is_bit}
 use Rattle.mu_lead.specs.Standing.{HasHeeded, HoldsAt, StandsFor, known_told, verb_at, verb_of}
 use Rattle.mu_leading.proofs.Within.{known_few}
 use Rattle.mu_agree.proofs.Possible.{parts_find_law, parts_shorten_law}
@@ -399,9 +400,9 @@ says_at mine old values answer note place verb heeded s at notes due = go place 
         let small = config_small old.config s.config in let within = at.roomy.within in
         let known_is : values ≡ known old.config old.id mine = told in
         let notes = subst (λ xs. NotesHead old q xs answer note) known_is is in
-        says_head old.config old.id q x.0 mine old.up (Place.ReadHead q candidate) answer note (get_or old.failed q false) x.1 (heeded.1 q at.region) at.unmarked (spare old.config old.id mine s.config within) refl
-        (nat_lt (end_of old.config old.id mine + reserve old.config) (x.0 + old.config.ring)) (not (q == old.id) && (get_or old.failed q false && nat_lt (end_of old.config old.id mine + 0) (x.0 + old.config.ring))) refl refl
-        (notes x.0 x.1 (omega (arith, small, within)) heeded.0))
+        says_head old.config old.id q x.0 mine old.up (Place.ReadHead q candidate) answer note (is_bit q old.failed) x.1 (heeded q at.region) at.unmarked (spare old.config old.id mine s.config within) refl
+        (nat_lt (end_of old.config old.id mine + reserve old.config) (x.0 + old.config.ring)) (not (q == old.id) && (is_bit q old.failed && nat_lt (end_of old.config old.id mine + 0) (x.0 + old.config.ring))) refl refl
+        (notes x.0 x.1 (omega (arith, small, within))))
     go (Place.Look p i candidate best) at is due = turn (Place.Look p i candidate best) (Verb.Look p i) due (λ possible told. looking old.config old.id p i mine old.up (Place.Look p i candidate best) values answer note refl at.position told is)
     go (Place.Write j last offer) at is due = turn (Place.Write j last offer) (Verb.WriteRow j (get_or old.written.items j 12) (config_word old.config j (get_or old.written.items j 12))) due (none (Place.Write j last offer) (Verb.WriteRow j (get_or old.written.items j 12) (config_word old.config j (get_or old.written.items j 12))) is refl refl refl refl)
     go (Place.Enter p offer) at is due = turn (Place.Enter p offer) (Verb.Enter p (Target.Place (end_of old.config old.id mine % old.config.ring))) due (λ possible told. says_enter old.config old.id p (Target.Place (end_of old.config old.id mine % old.config.ring)) mine old.up (Place.Enter p offer) answer note possible is refl)

@@ -124,12 +124,6 @@ abbrev pub NamesRow : Option ℕ → (ℕ → Type 0) → Type 0
 NamesRow None holds = Unit {0}
 NamesRow (Some j) holds = holds j
 
--- row j begins a batch of the client, and is the next after so many of its commands
-abbrev pub IsAfter : Config → ℕ → ℕ → ℕ → Type 0
-IsAfter c client count j =
-    (j < row_count c) × (begins_batch c j ≡ true) × (client_of c j ≡ client)
-    × (number_of c j ≡ count + 1)
-
 -- row j begins the next batch of its client after these values
 pub record IsNextRow (c : Config) (values : List ℕ) (j : ℕ) : Type 0 where
   pub row : j < row_count c

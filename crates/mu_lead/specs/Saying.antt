@@ -23,7 +23,7 @@ use Rattle.mu_lead.specs.Confirming.{Confirmed}
 use Rattle.mu_lead.specs.Losses.{SaysLost}
 use Rattle.mu_lead.specs.Notes.{TellsRound, note_of_commit, note_of_head, note_of_min}
 use Rattle.mu_lead.specs.Offering.{LooksEmpty, ShowsEntry}
-use Rattle.mu_lead.specs.Sets.{bits}
+use Rattle.mu_lead.specs.Sets.{bits, is_bit}
 use Rattle.mu_lead.specs.Standing.{StandsFor, known_told, verb_of}
 
 -- the note says nothing
@@ -108,12 +108,12 @@ NotesJoin p lacks answer note =
 -- the note of a head of q
 abbrev pub NotesHead : Lead → ℕ → List ℕ → Answer → Note → Type 0
 NotesHead old q values answer note =
-    (x : ℕ) → answer ≡ Answer.Number x → length values < 65536 → length old.failed ≡ 7
+    (x : ℕ) → answer ≡ Answer.Number x → length values < 65536
     → note
     ≡ note_of_head q (min x 65535) (length values)
     (nat_lt (length values + reserve old.config) (x + old.config.ring))
     (not (q == old.id)
-    && (get_or old.failed q false && nat_lt (length values + 0) (x + old.config.ring)))
+    && (is_bit q old.failed && nat_lt (length values + 0) (x + old.config.ring)))
 
 -- the note of the fence after a put that missed
 abbrev pub NotesEvidence : ℕ → Answer → Note → Type 0

@@ -133,9 +133,7 @@ TakesLook old place values p i answer new =
 
 -- the leader has heeded whom its scores hold to be failed
 abbrev pub HasHeeded : List Event → Lead → Type 0
-HasHeeded mine l =
-    (length l.failed ≡ 7)
-    × ((q : ℕ) → q < l.config.replicas → get_or l.failed q false ≡ is_failed l.id q mine)
+HasHeeded mine l = (q : ℕ) → q < l.config.replicas → is_bit q l.failed ≡ is_failed l.id q mine
 
 -- the verb of the leader's place, where these values are known
 abbrev pub verb_of : Lead → List ℕ → Option Verb

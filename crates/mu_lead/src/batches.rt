@@ -1,11 +1,12 @@
 //! Commands and marks among the known values, and what a replica offers next.
-ghost use Rattle.std.specs.Prelude.{List, None, ℕ, [], ◌*◌, ◌++◌, ◌+◌, ◌<◌, ◌∷◌, ◌≡◌, ◌≤◌, length, nat_lt, not, true, ◌&&◌};
+ghost use Rattle.std.specs.Prelude.{List, None, ℕ, [], ◌*◌, ◌++◌, ◌+◌, ◌<◌, ◌∷◌, ◌≡◌, ◌≤◌, false, length, nat_lt, not, true, ◌&&◌};
 ghost use Rattle.mu_model.specs.Contents.{IsConfig, IsInSession, begins_batch, client_of, command_count, holds_all, marked, number_of, row_count, rows_in, rows_of as rows_of_entry};
-ghost use Rattle.mu_lead.specs.Offering.{IsAfter, IsNextRow, NamesRow};
+ghost use Rattle.mu_known.specs.KnownLog.{CountsCommands};
+ghost use Rattle.mu_lead.specs.Offering.{IsNextRow, NamesRow};
 
+use crate::table::ClientRows;
 use mu_model::{
-    Config, count_of_commands, count_of_rows, row_client, row_number, row_rest, stands_for_batch,
-    stands_for_mark,
+    Config, count_of_rows, row_client, row_number, row_rest, stands_for_batch, stands_for_mark,
 };
 
 /// Whether a mark of `q` is among some values and `v`.
@@ -30,19 +31,6 @@ pub fn is_marked(config: &Config, q: u8, known: &[u16]) -> bool
         found = mark_added(config, q, found, *v);
     }
     found
-}
-
-/// How many commands of the client the values hold.
-#[tactic(auto, using(crate::proofs::Offers::one_entry_more))]
-fn commands_in(config: &Config, client: u8, known: &[u16]) -> u64
-    requires { length known.now < 65536 }
-    ensures { result ≡ command_count config.now client known.now }
-{
-    let mut count: u64 = 0;
-    for v in known {
-        count += count_of_commands(config, u64::from(client), *v);
-    }
-    count
 }
 
 /// The values, where they are no more than there are positions.
@@ -98,41 +86,11 @@ pub fn knows_all(config: &Config, known: &[u16]) -> bool
     may_hold_all(config, known) && rows_held(config, known) == count_of_rows(config) as u64
 }
 
-/// One more than the greatest client of a command.
-fn count_of_clients(config: &Config) -> u16
-    ensures above { row_count config.now ≤ 1500 → (j : ℕ) → j < row_count config.now
-        → client_of config.now j < result }
-    ensures few { result ≤ 256 }
-{
-    let mut count: u16 = 0;
-    for j in 0..count_of_rows(config).min(1500) as u16 {
-        count = count.max(u16::from(row_client(config, j)) + 1);
-    }
-    count
-}
-
 /// The own payload number of row `j`.
 pub fn own_value(id: u8, j: u16) -> u16
     ensures { id < 8 → j < 4096 → result ≡ id * 4096 + j }
 {
     u16::from(id % 8) * 4096 + j % 4096
-}
-
-/// The row of the next batch of the client, after so many of its commands.
-fn batch_after(config: &Config, client: u8, count: u64) -> Option<u16>
-    ensures named { NamesRow result (λ j. IsAfter config.now client count j) }
-    ensures none { result ≡ None → row_count config.now ≤ 1500 → (j : ℕ)
-        → IsAfter config.now client count j → ⊥ }
-{
-    for j in 0..count_of_rows(config).min(1500) as u16 {
-        if u64::from(row_number(config, j)) == count.saturating_add(1)
-            && row_client(config, j) == client
-            && is_start(config, j)
-        {
-            return Some(j);
-        }
-    }
-    None
 }
 
 /// Whether row `j` is there and begins a batch.
@@ -142,52 +100,96 @@ fn is_start(config: &Config, j: u16) -> bool
     usize::from(j) < count_of_rows(config) && (j == 0 || row_rest(config, j - 1) == 0)
 }
 
-/// The row of the next batch of the client that isn't known.
-fn next_batch(config: &Config, client: u16, known: &[u16]) -> Option<u16>
-    ensures named { length known.now < 65536
-        → NamesRow result (λ j. IsNextRow config.now known.now j) }
-    ensures none { result ≡ None → length known.now < 65536 → row_count config.now ≤ 1500
-        → client < 256 → (j : ℕ) → client_of config.now j ≡ client
-        → IsNextRow config.now known.now j → ⊥ }
+/// Whether row `j` begins the next batch of its client, where so many commands of each are known.
+fn is_next(config: &Config, j: u16, counts: &[u16]) -> bool
+    ensures yes { (values : List ℕ) → CountsCommands config.now values counts.now
+        → result ≡ true → IsNextRow config.now values j }
+    ensures no { (values : List ℕ) → CountsCommands config.now values counts.now
+        → result ≡ false → IsNextRow config.now values j → ⊥ }
 {
-    let client = (client % 256) as u8;
-    batch_after(
-        config,
-        client,
-        commands_in(config, client, first_values(known)),
-    )
+    match counts.get(usize::from(row_client(config, j))) {
+        None => false,
+        Some(count) => {
+            is_start(config, j) && u32::from(row_number(config, j)) == u32::from(*count) + 1
+        }
+    }
 }
 
-/// The row of the next batch of one of these clients.
-fn next_of(config: &Config, from: u16, to: u16, known: &[u16]) -> Option<u16>
-    ensures named { length known.now < 65536
-        → NamesRow result (λ j. IsNextRow config.now known.now j) }
-    ensures none { result ≡ None → length known.now < 65536 → row_count config.now ≤ 1500
-        → to ≤ 256 → (j : ℕ) → from ≤ client_of config.now j → client_of config.now j < to
-        → IsNextRow config.now known.now j → ⊥ }
+/// The row of the next batch of the client, where the table of its rows names one.
+fn next_of(config: &Config, table: &ClientRows, client: u16, counts: &[u16]) -> Option<u16>
+    ensures { (values : List ℕ) → CountsCommands config.now values counts.now
+        → NamesRow result (λ j. IsNextRow config.now values j) }
+{
+    let count = *counts.get(usize::from(client))?;
+    let j = table.row_after(client, count)?;
+    if is_next(config, j, counts) {
+        Some(j)
+    } else {
+        None
+    }
+}
+
+/// The row of the next batch of the first of these clients whose rows in the table have one.
+fn next_among(
+    config: &Config,
+    table: &ClientRows,
+    from: u16,
+    to: u16,
+    counts: &[u16],
+) -> Option<u16>
+    ensures { (values : List ℕ) → CountsCommands config.now values counts.now
+        → NamesRow result (λ j. IsNextRow config.now values j) }
 {
     for client in from..to {
-        if let Some(j) = next_batch(config, client, known) {
+        if let Some(j) = next_of(config, table, client, counts) {
             return Some(j);
         }
     }
     None
 }
 
-/// The row of the batch that the replica `id` offers, where some client has a next one.
-pub fn next_offer(config: &Config, id: u8, known: &[u16]) -> Option<u16>
-    ensures named { length known.now < 65536
-        → NamesRow result (λ j. IsNextRow config.now known.now j) }
-    ensures none { result ≡ None → length known.now < 65536 → row_count config.now ≤ 1500
-        → (j : ℕ) → IsNextRow config.now known.now j → ⊥ }
+/// The first row that begins the next batch of its client.
+fn first_next(config: &Config, counts: &[u16]) -> Option<u16>
+    ensures named { (values : List ℕ) → CountsCommands config.now values counts.now
+        → NamesRow result (λ j. IsNextRow config.now values j) }
+    ensures none { result ≡ None → row_count config.now ≤ 1500 → (values : List ℕ)
+        → CountsCommands config.now values counts.now
+        → (j : ℕ) → IsNextRow config.now values j → ⊥ }
 {
-    let clients = count_of_clients(config);
-    if clients == 0 {
-        return None;
+    for j in 0..count_of_rows(config).min(1500) as u16 {
+        if is_next(config, j, counts) {
+            return Some(j);
+        }
     }
-    let first = ((usize::from(id) + known.len().min(65_535)) % usize::from(clients)) as u16;
-    match next_of(config, first, clients, known) {
+    None
+}
+
+/// The row of the batch that the replica `id` offers after `known` values, where some client has a
+/// next one. What the table names is tested; where it names nothing, all rows are.
+pub fn next_offer(
+    config: &Config,
+    table: &ClientRows,
+    id: u8,
+    known: usize,
+    counts: &[u16],
+) -> Option<u16>
+    ensures named { (values : List ℕ) → CountsCommands config.now values counts.now
+        → NamesRow result (λ j. IsNextRow config.now values j) }
+    ensures none { result ≡ None → row_count config.now ≤ 1500 → (values : List ℕ)
+        → CountsCommands config.now values counts.now
+        → (j : ℕ) → IsNextRow config.now values j → ⊥ }
+{
+    let clients = table.clients();
+    let first = if clients == 0 {
+        0
+    } else {
+        ((usize::from(id) + known.min(65_535)) % usize::from(clients)) as u16
+    };
+    match next_among(config, table, first, clients, counts) {
         Some(j) => Some(j),
-        None => next_of(config, 0, first, known),
+        None => match next_among(config, table, 0, first, counts) {
+            Some(j) => Some(j),
+            None => first_next(config, counts),
+        },
     }
 }

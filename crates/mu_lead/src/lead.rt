@@ -7,6 +7,7 @@ ghost use Rattle.mu_model.specs.Allowed.{Allowed};
 ghost use Rattle.mu_model.specs.Contents.{IsConfig, config_word};
 ghost use Rattle.mu_model.specs.Knowledge.{known as known_of};
 ghost use Rattle.mu_model.specs.Parts.{IsPossible};
+ghost use Rattle.mu_known.specs.KnownLog.{CountsCommands};
 ghost use Rattle.mu_leading.specs.Leadership.{StandsForLeadership};
 ghost use Rattle.mu_lead.specs.Beside.{leads_at};
 ghost use Rattle.mu_lead.specs.declared.note.Note.{Note as SomeNote};
@@ -17,7 +18,6 @@ ghost use Rattle.mu_lead.specs.Evidence.{ExplainsAt, ExplainsDue, ExplainsNext};
 ghost use Rattle.mu_lead.specs.Raising.{RaisesAt, RaisesDue, RaisesNext};
 ghost use Rattle.mu_lead.specs.Resigning.{IsTold};
 ghost use Rattle.mu_lead.specs.Rooms.{HasRooms, RoomsDue, RoomsNext, gives_up};
-ghost use Rattle.mu_lead.specs.Sets.{is_bit};
 ghost use Rattle.mu_lead.specs.Standing.{HasHeeded, StandsFor, TakesDue, TakesNext, TellsDue, TellsFailed, TellsNext, verb_of};
 ghost use Rattle.mu_lead.specs.Gathering.{GoesDue};
 ghost use Rattle.mu_lead.specs.Going.{begins_at, going_after};
@@ -28,6 +28,7 @@ use crate::batches::knows_all;
 use crate::note::Note;
 use crate::place::{Offer, Place};
 use crate::positions::{end_of, narrow};
+use crate::table::ClientRows;
 use mu_leading::Leadership;
 use mu_model::{Answer, Config, Event, Fence, NoMemory, Target, Verb, count_of_rows, row_word};
 use std::alloc::Global;
@@ -41,8 +42,8 @@ pub struct Lead {
     pub id: u8,
     /// Whether the scores name the replica itself.
     pub named: bool,
-    /// Whom the scores hold to be failed.
-    pub failed: [bool; 7],
+    /// Whom the scores hold to be failed: bit q for replica q.
+    pub failed: u8,
     /// Whether a leadership began and was neither aborted nor given up.
     pub under_way: bool,
     /// The place in the listing.
@@ -59,6 +60,8 @@ pub struct Lead {
     pub heads: [u64; 7],
     /// How many words of each own row are written.
     pub written: Vec<u8>,
+    /// Where the rows of each client stand.
+    pub table: ClientRows,
 }
 
 impl Lead {
@@ -84,7 +87,7 @@ impl Lead {
             config: config.copied(alloc)?,
             id,
             named: false,
-            failed: [false; 7],
+            failed: 0,
             under_way: false,
             place: Place::Ask(0),
             leading: Leadership::new(id),
@@ -93,6 +96,7 @@ impl Lead {
             reach: [None; 7],
             heads: [0; 7],
             written: vec![in alloc; 0; count_of_rows(config)]?,
+            table: ClientRows::new(alloc, config)?,
         })
     }
 
@@ -133,7 +137,7 @@ impl Lead {
             → JoinsAt self.new.config self.new.id mine self.new.place }
     {
         self.named = leader == self.id;
-        self.failed = bits_of(failed);
+        self.failed = failed;
         let resigns = self.under_way && leader < self.id;
         if self.gives_up(leader) {
             self.under_way = false;
@@ -280,20 +284,24 @@ impl Lead {
         Verb::WriteRow(j, k, word)
     }
 
-    /// Takes the answer of the verb that was due.
+    /// Takes the answer of the verb that was due. `counts` tells how many commands of each client
+    /// are known.
     #[tactic(auto, using(crate::proofs::Says::says_next, crate::proofs::Says::says_idle))]
-    pub fn take(&mut self, answer: Answer, known: &[u16]) -> Note
+    pub fn take(&mut self, answer: Answer, known: &[u16], counts: &[u16]) -> Note
         ghost mine: { List Event }
         requires stands { StandsFor mine self.old }
         requires heeded { HasHeeded mine self.old }
-        ensures stands { TakesNext mine self.old known.now answer self.new }
-        ensures rooms { RoomsNext mine self.old known.now answer self.new }
+        ensures stands { CountsCommands self.old.config known.now counts.now
+            → TakesNext mine self.old known.now answer self.new }
+        ensures rooms { CountsCommands self.old.config known.now counts.now
+            → RoomsNext mine self.old known.now answer self.new }
         ensures evidence { ExplainsNext mine self.old answer self.new }
         ensures raises { RaisesNext mine self.old known.now answer self.new }
         ensures confirms { ConfirmsNext mine self.old answer self.new }
         ensures joins { JoinsNext mine self.old known.now answer self.new }
         ensures causes { CausesNext mine self.old answer self.new }
-        ensures elects { ElectsNext mine self.old known.now answer self.new }
+        ensures elects { CountsCommands self.old.config known.now counts.now
+            → ElectsNext mine self.old known.now answer self.new }
         ensures tells { TellsNext mine self.old known.now answer result }
         ensures config { self.new.config ≡ self.old.config }
         ensures id { self.new.id ≡ self.old.id }
@@ -302,7 +310,7 @@ impl Lead {
         ensures going { self.new.under_way
             ≡ going_after (begins_at self.old.place || self.old.under_way) result }
     {
-        let note = self.take_answer(answer, known);
+        let note = self.take_answer(answer, known, counts);
         if is_working(note) && knows_all(&self.config, known) {
             Note::Idle
         } else {
@@ -312,9 +320,11 @@ impl Lead {
 
     /// Takes the answer, by the place that asked.
     #[tactic(auto, using(crate::proofs::Taking::takes_head))]
-    fn take_answer(&mut self, answer: Answer, known: &[u16]) -> Note
-        ensures stands { TakesDue self.old known.now answer self.new }
-        ensures rooms { RoomsDue self.old known.now answer self.new }
+    fn take_answer(&mut self, answer: Answer, known: &[u16], counts: &[u16]) -> Note
+        ensures stands { CountsCommands self.old.config known.now counts.now
+            → TakesDue self.old known.now answer self.new }
+        ensures rooms { CountsCommands self.old.config known.now counts.now
+            → RoomsDue self.old known.now answer self.new }
         ensures evidence { ExplainsDue self.old answer self.new }
         ensures raises { RaisesDue self.old known.now answer self.new }
         ensures confirms { ConfirmsDue self.old answer self.new }
@@ -349,7 +359,7 @@ impl Lead {
             Place::LatePut(p) => self.at_late_put(p, answer, known),
             Place::ReadHead(q, candidate) => self.at_read_head(q, candidate, answer, known),
             Place::Look(p, i, candidate, best) => {
-                self.took_look(p, i, candidate, best, answer, known)
+                self.took_look(p, i, candidate, best, answer, known, counts)
             }
             Place::Write(j, last, offer) => self.took_write(j, last, offer),
             Place::Enter(p, offer) => self.at_enter(p, offer, answer, known),
@@ -369,27 +379,4 @@ fn is_working(note: Note) -> bool
         Note::Working => true,
         _ => false,
     }
-}
-
-/// The bits of a number, bit p at place p.
-#[tactic(auto, using(crate::proofs::Bits::bits_are))]
-fn bits_of(set: u8) -> [bool; 7]
-    ensures long { length result ≡ 7 }
-    ensures bits { (q : ℕ) → q < 7 → get_or result q false ≡ is_bit q set }
-{
-    let one = set / 2;
-    let two = one / 2;
-    let three = two / 2;
-    let four = three / 2;
-    let five = four / 2;
-    let six = five / 2;
-    [
-        set % 2 == 1,
-        one % 2 == 1,
-        two % 2 == 1,
-        three % 2 == 1,
-        four % 2 == 1,
-        five % 2 == 1,
-        six % 2 == 1,
-    ]
 }

@@ -25,6 +25,7 @@ mod offering;
 mod place;
 mod positions;
 mod regions;
+mod table;
 mod writing;
 
 pub use lead::Lead;

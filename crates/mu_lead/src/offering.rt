@@ -10,6 +10,7 @@ ghost use Rattle.mu_model.specs.Knowledge.{known as known_of};
 ghost use Rattle.mu_model.specs.Leaderships.{is_member};
 ghost use Rattle.mu_model.specs.Parts.{IsPossible};
 ghost use Rattle.mu_model.specs.Room.{reserve};
+ghost use Rattle.mu_known.specs.KnownLog.{CountsCommands};
 ghost use Rattle.mu_leading.specs.Leadership.{StandsForLeadership};
 ghost use Rattle.mu_model.specs.declared.config.Config.{Config};
 ghost use Rattle.mu_lead.specs.Beside.{leads_at};
@@ -18,7 +19,7 @@ ghost use Rattle.mu_lead.specs.declared.place.Place.{Place as SomePlace};
 ghost use Rattle.mu_lead.specs.Leading.{Level, end_of as end_of_known};
 ghost use Rattle.mu_lead.specs.Notes.{TellsPut, note_of_commit, note_of_head, value_committed};
 ghost use Rattle.mu_lead.specs.Offering.{Looking, LooksShow, MayBeMarked, MayOffer, Roomy, Writing};
-ghost use Rattle.mu_lead.specs.Sets.{IsFirst};
+ghost use Rattle.mu_lead.specs.Sets.{IsFirst, is_bit};
 ghost use Rattle.mu_lead.specs.Standing.{HasHeeded, HoldsAt, Stands, StandsFor, Takes, TakesLook};
 ghost use Rattle.mu_lead.specs.Saying.{NotesPut, note_of_look};
 ghost use Rattle.mu_lead.specs.declared.note.Note.{Note as SomeNote};
@@ -102,8 +103,8 @@ impl Lead {
             from self.now.config.replicas result }
     {
         for p in from..self.config.replicas {
-            if !is_marked(&self.config, p, known)
-                && !self.leaves_room(self.head_of(p), reserve_of(&self.config), known)
+            if !self.leaves_room(self.head_of(p), reserve_of(&self.config), known)
+                && !is_marked(&self.config, p, known)
             {
                 return Some(p);
             }
@@ -134,9 +135,9 @@ impl Lead {
 
     /// Whether the scores hold `q` to be failed.
     fn is_failed(&self, q: u8) -> bool
-        ensures { length self.now.failed ≡ 7 → result ≡ get_or self.now.failed q false }
+        ensures { result ≡ is_bit q self.now.failed }
     {
-        q < 7 && self.failed[usize::from(q)]
+        has_bit(self.failed, q)
     }
 
     /// The head of `q`.
@@ -153,25 +154,23 @@ impl Lead {
             self.new }
         ensures rooms { KeepsRooms self.old (SomePlace.ReadHead q candidate) known.now
             (SomeVerb.Head q) (SomeAnswer.Number head) self.new }
-        ensures tells { length known.now < 65536 → head < 65536 → length self.old.failed ≡ 7
-            → result
+        ensures tells { length known.now < 65536 → head < 65536 → result
             ≡ note_of_head q head (length known.now)
             (nat_lt (length known.now + reserve self.old.config)
             (head + self.old.config.ring))
             (not (q == self.old.id)
-            && (get_or self.old.failed q false
+            && (is_bit q self.old.failed
             && nat_lt (length known.now + 0) (head + self.old.config.ring))) }
         ensures quiet { value_committed result ≡ None }
         ensures config { self.new.config ≡ self.old.config }
         ensures id { self.new.id ≡ self.old.id }
         ensures named { self.new.named ≡ self.old.named }
-        ensures note { length known.now < 65536 → length self.old.failed ≡ 7
-            → result
+        ensures note { length known.now < 65536 → result
             ≡ note_of_head q (min head 65535) (length known.now)
             (nat_lt (length known.now + reserve self.old.config)
             (head + self.old.config.ring))
             (not (q == self.old.id)
-            && (get_or self.old.failed q false
+            && (is_bit q self.old.failed
             && nat_lt (length known.now + 0) (head + self.old.config.ring))) }
         ensures going { self.new.under_way ≡ going_after self.old.under_way result }
         ensures leads { leads_at self.new.place ≡ true }
@@ -195,14 +194,12 @@ impl Lead {
 
     /// Whether `q`, whose head leaves too little room, may be marked.
     fn may_mark(&self, q: u8, head: u64, known: &[u16]) -> bool
-        ensures may { length known.now < 65536 → length self.now.failed ≡ 7
-            → (IsTrue result
-            ↔ ((q ≢ self.now.id) × (get_or self.now.failed q false ≡ true)
+        ensures may { length known.now < 65536 → (IsTrue result
+            ↔ ((q ≢ self.now.id) × (is_bit q self.now.failed ≡ true)
             × (nat_lt (length known.now + 0) (head + self.now.config.ring) ≡ true))) }
-        ensures is { length known.now < 65536 → length self.now.failed ≡ 7
-            → result
+        ensures is { length known.now < 65536 → result
             ≡ (not (q == self.now.id)
-            && (get_or self.now.failed q false
+            && (is_bit q self.now.failed
             && nat_lt (length known.now + 0) (head + self.now.config.ring))) }
     {
         q != self.id && self.is_failed(q) && self.leaves_room(head, 0, known)
@@ -217,11 +214,14 @@ impl Lead {
         best: Option<Sight>,
         answer: Answer,
         known: &[u16],
+        counts: &[u16],
     ) -> Note
-        ensures stands { TakesLook self.old
+        ensures stands { CountsCommands self.old.config known.now counts.now
+            → TakesLook self.old
             (SomePlace.Look p position candidate best) known.now p position
             answer self.new }
-        ensures rooms { KeepsRooms self.old (SomePlace.Look p position candidate best) known.now
+        ensures rooms { CountsCommands self.old.config known.now counts.now
+            → KeepsRooms self.old (SomePlace.Look p position candidate best) known.now
             (SomeVerb.Look p position) answer self.new }
         ensures quiet { value_committed result ≡ None }
         ensures config { self.new.config ≡ self.old.config }
@@ -242,19 +242,28 @@ impl Lead {
             }
         } else {
             let shown = larger(best, sight_in(answer));
-            self.place = self.after_look(p, candidate, shown, known);
+            self.place = self.after_look(p, candidate, shown, known, counts);
             Note::Working
         }
     }
 
     /// Looks at the next member, or picks the value.
-    fn after_look(&self, p: u8, candidate: Option<u8>, best: Option<Sight>, known: &[u16]) -> Place
-        ensures stands { (mine : List SomeEvent) → Stands mine self.now
+    fn after_look(
+        &self,
+        p: u8,
+        candidate: Option<u8>,
+        best: Option<Sight>,
+        known: &[u16],
+        counts: &[u16],
+    ) -> Place
+        ensures stands { CountsCommands self.now.config known.now counts.now
+            → (mine : List SomeEvent) → Stands mine self.now
             → known.now ≡ known_of self.now.config self.now.id mine → p < self.now.config.replicas
             → Looking self.now.config self.now.id self.now.number mine self.now.up self.now.reach
             (p + 1) candidate best
             → HoldsAt mine self.now result }
-        ensures rooms { (mine : List SomeEvent) → Stands mine self.now
+        ensures rooms { CountsCommands self.now.config known.now counts.now
+            → (mine : List SomeEvent) → Stands mine self.now
             → known.now ≡ known_of self.now.config self.now.id mine
             → p < self.now.config.replicas → is_member self.now.id p mine ≡ true
             → Looking self.now.config self.now.id self.now.number mine self.now.up self.now.reach
@@ -271,18 +280,26 @@ impl Lead {
     {
         match next_member(&self.leading, p.saturating_add(1), self.config.replicas) {
             Some(q) => Place::Look(q, end_of(known), candidate, best),
-            None => self.pick(candidate, best, known),
+            None => self.pick(candidate, best, known, counts),
         }
     }
 
     /// Picks the value: the entry of the largest number, else a mark, else an own batch.
-    fn pick(&self, candidate: Option<u8>, best: Option<Sight>, known: &[u16]) -> Place
-        ensures stands { (mine : List SomeEvent) → Stands mine self.now
+    fn pick(
+        &self,
+        candidate: Option<u8>,
+        best: Option<Sight>,
+        known: &[u16],
+        counts: &[u16],
+    ) -> Place
+        ensures stands { CountsCommands self.now.config known.now counts.now
+            → (mine : List SomeEvent) → Stands mine self.now
             → known.now ≡ known_of self.now.config self.now.id mine
             → Looking self.now.config self.now.id self.now.number mine self.now.up self.now.reach
             self.now.config.replicas candidate best
             → HoldsAt mine self.now result }
-        ensures rooms { (mine : List SomeEvent) → Stands mine self.now
+        ensures rooms { CountsCommands self.now.config known.now counts.now
+            → (mine : List SomeEvent) → Stands mine self.now
             → known.now ≡ known_of self.now.config self.now.id mine
             → Looking self.now.config self.now.id self.now.number mine self.now.up self.now.reach
             self.now.config.replicas candidate best
@@ -303,19 +320,21 @@ impl Lead {
                     value: own_value(self.id, 4080 + u16::from(q % 8)),
                     adopted: false,
                 }),
-                None => self.offer_own(known),
+                None => self.offer_own(known, counts),
             },
         }
     }
 
     /// Begins with the next own batch, where there is one.
-    fn offer_own(&self, known: &[u16]) -> Place
-        ensures stands { (mine : List SomeEvent) → Stands mine self.now
+    fn offer_own(&self, known: &[u16], counts: &[u16]) -> Place
+        ensures stands { CountsCommands self.now.config known.now counts.now
+            → (mine : List SomeEvent) → Stands mine self.now
             → known.now ≡ known_of self.now.config self.now.id mine
             → Looking self.now.config self.now.id self.now.number mine self.now.up self.now.reach
             self.now.config.replicas None None
             → HoldsAt mine self.now result }
-        ensures rooms { (mine : List SomeEvent) → Stands mine self.now
+        ensures rooms { CountsCommands self.now.config known.now counts.now
+            → (mine : List SomeEvent) → Stands mine self.now
             → known.now ≡ known_of self.now.config self.now.id mine
             → Looking self.now.config self.now.id self.now.number mine self.now.up self.now.reach
             self.now.config.replicas None None
@@ -326,7 +345,7 @@ impl Lead {
             → RoomsAt self.now.config self.now.id mine self.now.written.items result }
         ensures leads { leads_at result ≡ true }
     {
-        match next_offer(&self.config, self.id, known) {
+        match next_offer(&self.config, &self.table, self.id, known.len(), counts) {
             None => Place::Rest,
             Some(j) => self.write_from(
                 j,
@@ -472,6 +491,17 @@ impl Lead {
             }
         }
     }
+}
+
+/// Whether bit `q` of the set is 1.
+fn has_bit(set: u8, q: u8) -> bool
+    ensures { result ≡ is_bit q set }
+{
+    let mut rest = set;
+    for _i in 0..q {
+        rest /= 2;
+    }
+    rest % 2 == 1
 }
 
 /// The first of the replicas that may be marked.

@@ -21,6 +21,7 @@ use Rattle.mu_follow.specs.declared.follow.Follow.{Follow}
 use Rattle.mu_follow.specs.Due.{IsReplay, is_replay}
 use Rattle.mu_follow.specs.Follow.{AwaitsEntry, HoldsFollow, StandsForFollow, commit_of}
 use Rattle.mu_follow.proofs.Putting.{is_committed, put_known}
+use Rattle.mu_known.specs.KnownLog.{CountsCommands}
 use Rattle.mu_lead.specs.declared.lead.Lead.{Lead}
 use Rattle.mu_lead.specs.Beside.{is_beside, leads_at}
 use Rattle.mu_lead.specs.declared.note.Note.{Note}
@@ -251,6 +252,25 @@ led_told c r mine verb answer noted values stands awaits reads = go (commit_of c
     go : (o : Option (ℕ × ℕ)) → commit_of c r mine (event_by r verb answer) ≡ o → values ≡ known_told c r mine r verb answer
     go None none = reads now (length now) (stands none).follow ∙ told_none c r mine verb answer none
     go (Some entry) some = reads mine (length mine + 1) (awaits entry some).follow ∙ told_some c r mine verb answer entry some
+
+-- the counts that the leader was told are those of what it was told
+pub led_counts : (c : Config) (r : ℕ) (mine : List Event) (verb : Verb) (answer : Answer) (noted : Node) (values counts : List ℕ)
+    → (commit_of c r mine (event_by r verb answer) ≡ None → HoldsBeside c r (event_by r verb answer ∷ mine) noted)
+    → ((entry : ℕ × ℕ) → commit_of c r mine (event_by r verb answer) ≡ Some entry → AwaitsBeside c r mine (event_by r verb answer) noted)
+    → ((l : List Event) (n : ℕ) → HoldsFollow c r l n noted.follow → values ≡ known c r l)
+    → ((l : List Event) (n : ℕ) → HoldsFollow c r l n noted.follow → CountsCommands c (known c r l) counts)
+    → CountsCommands c values counts
+led_counts c r mine verb answer noted values counts stands awaits reads counted = go (commit_of c r mine (event_by r verb answer)) refl
+  where
+    now : List Event
+    now = event_by r verb answer ∷ mine
+
+    here : (l : List Event) (n : ℕ) → HoldsFollow c r l n noted.follow → CountsCommands c values counts
+    here l n holds = subst (λ v. CountsCommands c v counts) (sym (reads l n holds)) (counted l n holds)
+
+    go : (o : Option (ℕ × ℕ)) → commit_of c r mine (event_by r verb answer) ≡ o → CountsCommands c values counts
+    go None none = here now (length now) (stands none).follow
+    go (Some entry) some = here mine (length mine + 1) (awaits entry some).follow
 
 -- an event of the leader: the other parts took it, and the replayer was told what it committed
 pub led_beside : (c : Config) (r : ℕ) (mine : List Event) (verb : Verb) (answer : Answer) (noted last : Node) (lead : Lead) (values : List ℕ) (position : ℕ) (note : Note) → IsConfig c → IsPossible c r (event_by r verb answer ∷ mine)

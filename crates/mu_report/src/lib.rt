@@ -1,11 +1,12 @@
 //! What the program says: its report of a run, and its other answers, written line by line to a
-//! sink.
+//! sink, and the events of a trace page by page.
 #![tactic(auto)]
 
 mod answers;
 mod book;
 mod line;
 mod lives;
+mod page;
 mod report;
 mod said;
 mod summary;

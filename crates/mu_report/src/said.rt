@@ -56,8 +56,8 @@ pub enum Said {
     TooLong,
 }
 
-/// Writes the text of what is said, each line in one call where the sink takes it whole. Takes no
-/// memory.
+/// Writes the text of what is said, each line in one call where the sink takes it whole, and of the
+/// events of a trace up to 256 lines in one. Takes no memory.
 ///
 /// # Errors
 ///

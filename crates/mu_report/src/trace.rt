@@ -7,10 +7,10 @@ ghost use Rattle.mu_report.specs.Words.{op_words};
 ghost use Rattle.mu_report.specs.Trace.{event_line as event_line_of, batch_lines, setting_lines, client_count, command_lines, commands_lines, client_lines, stop_line as stop_line_of, pause_line as pause_line_of, has_lines as has_lines_of, script_lines, lines_of_client, lines_of_script, events_of as events_of_order, trace_lines, HasShortTrace, IsCountable};
 
 use crate::line::{Line, print_line, print_words};
+use crate::page::{Page, print_page, split_page};
 use crate::report::numbered_line;
 use crate::words::push_op;
 use kv_store::Command;
-use mu_events::event_line;
 use mu_io::{Sink, WriteFault};
 use mu_model::{Config, Event, Journal, Pause, Script, Stop};
 use mu_outcome::Outcome;
@@ -313,7 +313,7 @@ fn pause_line(pause: &Pause) -> Line
     line
 }
 
-/// Writes events.
+/// Writes events, many in one call.
 fn print_events<K: Sink>(sink: &mut K, taken: usize, events: &[Event]) -> Result<usize, WriteFault>
     requires { taken + LINE_BYTES * length (map event_line_of events.now) < 2 ^ 64 }
     ensures all { IfOk result (PrintsAll (K.written sink.old) (K.written sink.new)
@@ -322,8 +322,12 @@ fn print_events<K: Sink>(sink: &mut K, taken: usize, events: &[Event]) -> Result
         (K.faults sink.old) (K.faults sink.new) taken (map event_line_of events.now) fault.taken) }
 {
     let mut total = taken;
-    for event in events {
-        total = print_line(sink, total, event_line(event))?;
+    let mut rest = events;
+    let mut page = Page::new();
+    while !rest.is_empty() {
+        let (first, more) = split_page(rest);
+        total = print_page(sink, total, &mut page, first)?;
+        rest = more;
     }
     Ok(total)
 }

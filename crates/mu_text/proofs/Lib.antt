@@ -3,4 +3,5 @@ pub mod Decimals
 pub mod Digits
 pub mod FirstWords
 pub mod LastDigits
+pub mod Places
 pub mod SpelledWords

@@ -11,7 +11,7 @@ mod numbers;
 
 pub use line_reader::LineReader;
 pub use line_text::{LINE_BYTES, Line};
-pub use line_words::{Words, is_alone, is_first};
+pub use line_words::{Words, is_alone, is_first, split_words};
 pub use lines::two_words;
 pub use numbers::{limited, number, of_8, of_16, of_32, of_64};
 

@@ -1,5 +1,6 @@
 //! The words of one line.
-ghost use Rattle.std.specs.Prelude.{◌≡◌, map, take};
+ghost use Rattle.std.specs.Prelude.{◌≡◌, ◌≤◌, length, map, take};
+ghost use Rattle.mu_text.specs.declared.TheConstants.{MANY_WORDS};
 ghost use Rattle.mu_text.specs.Lines.{is_alone, is_first, words};
 
 use crate::MANY_WORDS;
@@ -31,15 +32,7 @@ impl<'a> Words<'a> {
         ensures { result ≡ take MANY_WORDS (words line.now) }
     {
         let mut items = [line; MANY_WORDS];
-        let mut count = 0;
-        let mut rest = Some(line);
-        while count < MANY_WORDS {
-            let Some(text) = rest else { break };
-            let (word, more) = split_word(text);
-            items[count] = word;
-            count += 1;
-            rest = more;
-        }
+        let count = split_words(line, &mut items);
         Words { items, count }
     }
 
@@ -49,6 +42,26 @@ impl<'a> Words<'a> {
     {
         &self.items[..self.count]
     }
+}
+
+/// Puts the first words of a line in front of the others, at most [`MANY_WORDS`], and answers how
+/// many.
+pub fn split_words<'a>(line: &'a [u8], items: &mut [&'a [u8]; MANY_WORDS]) -> usize
+    ensures words { map (λ word. word.now) (take result items.new)
+        ≡ take MANY_WORDS (words line.now) }
+    ensures few { result ≤ MANY_WORDS }
+    ensures room { length items.new ≡ MANY_WORDS }
+{
+    let mut count = 0;
+    let mut rest = Some(line);
+    while count < MANY_WORDS {
+        let Some(text) = rest else { break };
+        let (word, more) = split_word(text);
+        items[count] = word;
+        count += 1;
+        rest = more;
+    }
+    count
 }
 
 /// Whether the first word is this one.

@@ -3,12 +3,27 @@ ghost use Rattle.std.specs.Prelude.{◌≡◌, ◌≢◌, ◌<◌, ◌==◌, [],
 ghost use Rattle.mu_text.specs.Lines.{lines, words};
 
 use crate::{LINE_FEED, SPACE};
+use memchr::memchr;
 
-/// Where the first such byte stands, if there is one.
-fn place_of(bytes: &[u8], wanted: u8) -> Option<usize>
-    ensures { result ≡ position (λ byte. byte == wanted) bytes.now }
+/// Where the first space stands, if there is one.
+#[tactic(auto, using(crate::proofs::Places::byte_place))]
+fn word_end(line: &[u8]) -> Option<usize>
+    ensures { result ≡ position (λ byte. byte == SPACE) line.now }
 {
-    bytes.iter().position(|&byte| byte == wanted)
+    for i in 0..line.len() {
+        if line[i] == SPACE {
+            return Some(i);
+        }
+    }
+    None
+}
+
+/// Where the first line feed stands, if there is one.
+#[tactic(auto, using(crate::proofs::Places::byte_place))]
+fn line_end(bytes: &[u8]) -> Option<usize>
+    ensures { result ≡ position (λ byte. byte == LINE_FEED) bytes.now }
+{
+    memchr(LINE_FEED, bytes)
 }
 
 /// The first line, without its line feed, and the bytes after it. `None` where there is no line.
@@ -20,7 +35,7 @@ pub fn next_line(bytes: &[u8]) -> Option<(&[u8], &[u8])>
     if bytes.is_empty() {
         return None;
     }
-    match place_of(bytes, LINE_FEED) {
+    match line_end(bytes) {
         Some(end) => Some((&bytes[..end], &bytes[end + 1..])),
         None => Some((bytes, &bytes[bytes.len()..])),
     }
@@ -31,7 +46,7 @@ pub fn split_word(line: &[u8]) -> (&[u8], Option<&[u8]>)
     ensures { MatchOption result.1 (words line.now ≡ result.0.now ∷ [])
         (λ rest. words line.now ≡ result.0.now ∷ words rest.now) }
 {
-    match place_of(line, SPACE) {
+    match word_end(line) {
         Some(end) => (&line[..end], Some(&line[end + 1..])),
         None => (line, None),
     }

@@ -185,7 +185,11 @@ impl Driven {
         ensures config { self.new.lead.config ≡ self.old.lead.config }
     {
         let by = self.lead.id;
-        let note = self.lead.take(answer, self.own.known_log.known());
+        let note = self.lead.take(
+            answer,
+            self.own.known_log.known(),
+            self.own.known_log.counts(),
+        );
         note_own(
             &mut self.own,
             &mut self.scores,
@@ -219,7 +223,11 @@ impl Driven {
             &self.lead.config,
             &Event { by, verb, answer },
         );
-        self.lead.take(answer, self.own.known_log.known())
+        self.lead.take(
+            answer,
+            self.own.known_log.known(),
+            self.own.known_log.counts(),
+        )
     }
 
     /// Makes the step that is due, and takes its answer.

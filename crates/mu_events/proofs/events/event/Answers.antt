@@ -5,4 +5,4 @@ use Rattle.mu_events.proofs.EventLines.{event_of-first}
 use Rattle.mu_events.proofs.events.event.Goals as goal
 
 pub returns : goal.returns
-returns c = c.event_of.ensures ∙ ap (event_of c.args.replicas) (c.as_slice.ensures ∙ c.of-words.ensures) ∙ event_of-first c.args.replicas (words c.args.line.now)
+returns c = c.event_of.ensures ∙ ap (event_of c.args.replicas) c.split_words-count.ensures.words ∙ event_of-first c.args.replicas (words c.args.line.now)

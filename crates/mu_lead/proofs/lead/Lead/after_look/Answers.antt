@@ -4,7 +4,7 @@ use Rattle.mu_lead.proofs.Looks.{looking_to}
 use Rattle.mu_lead.proofs.lead.Lead.after_look.Goals as goal
 
 pub returns-in-Some-clause-stands : goal.returns-in-Some-clause-stands
-returns-in-Some-clause-stands c = λ mine s same region looking.
+returns-in-Some-clause-stands c = λ counts mine s same region looking.
     let l = c.args.self.now in
     let few = s.config.replicas.1 in
     let few_known = known_few l.config l.id mine s.config s.possible in
@@ -20,16 +20,16 @@ returns-in-Some-clause-stands c = λ mine s same region looking.
     }
 
 pub returns-in-None-clause-stands : goal.returns-in-None-clause-stands
-returns-in-None-clause-stands c = λ mine s same region looking.
+returns-in-None-clause-stands c = λ counts mine s same region looking.
     let l = c.args.self.now in
     let few = s.config.replicas.1 in
     let more = c.saturating_add.ensures in
     let next : c.saturating_add.result ≡ c.args.p + 1 = omega (arith, more, region, few) in
     let none = c.in-None.ensures l.id mine few s.leading in
-    c.pick.ensures.stands mine s same (looking_to l.config l.id l.number (c.args.p + 1) l.config.replicas mine l.up l.reach c.args.candidate c.args.best (omega (arith, region)) (λ k more less. none k (omega (arith, more, next)) less) looking)
+    c.pick.ensures.stands counts mine s same (looking_to l.config l.id l.number (c.args.p + 1) l.config.replicas mine l.up l.reach c.args.candidate c.args.best (omega (arith, region)) (λ k more less. none k (omega (arith, more, next)) less) looking)
 
 pub returns-in-Some-clause-rooms : goal.returns-in-Some-clause-rooms
-returns-in-Some-clause-rooms c = λ mine s same region member looking nexts writes puts.
+returns-in-Some-clause-rooms c = λ counts mine s same region member looking nexts writes puts.
     let l = c.args.self.now in
     let few = s.config.replicas.1 in
     let next = c.saturating_add.ensures in
@@ -38,10 +38,10 @@ returns-in-Some-clause-rooms c = λ mine s same region member looking nexts writ
     nexts c.in-Some.q (record { there = region; member = member; above = omega (arith, next, region, few, from); between = λ k after before. first.3 k (omega (arith, next, region, few, after)) before })
 
 pub returns-in-None-clause-rooms : goal.returns-in-None-clause-rooms
-returns-in-None-clause-rooms c = λ mine s same region member looking nexts writes puts.
+returns-in-None-clause-rooms c = λ counts mine s same region member looking nexts writes puts.
     let l = c.args.self.now in
     let few = s.config.replicas.1 in
     let more = c.saturating_add.ensures in
     let next : c.saturating_add.result ≡ c.args.p + 1 = omega (arith, more, region, few) in
     let none = c.in-None.ensures l.id mine few s.leading in
-    c.pick.ensures.rooms mine s same (looking_to l.config l.id l.number (c.args.p + 1) l.config.replicas mine l.up l.reach c.args.candidate c.args.best (omega (arith, region)) (λ k more less. none k (omega (arith, more, next)) less) looking) writes puts
+    c.pick.ensures.rooms counts mine s same (looking_to l.config l.id l.number (c.args.p + 1) l.config.replicas mine l.up l.reach c.args.candidate c.args.best (omega (arith, region)) (λ k more less. none k (omega (arith, more, next)) less) looking) writes puts

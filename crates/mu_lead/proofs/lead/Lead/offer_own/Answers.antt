@@ -1,6 +1,6 @@
 use Rattle.std.proofs.Common.{arith, length, refl, subst, sym, ◌+◌, ◌<◌, ◌≡◌}
 use Rattle.mu_model.specs.Knowledge.{known}
-use Rattle.mu_leading.proofs.Within.{known_few}
+use Rattle.mu_known.specs.KnownLog.{CountsCommands}
 use Rattle.mu_lead.proofs.Offers.{own_batch}
 use Rattle.mu_lead.proofs.Rests.{some_next}
 use Rattle.mu_lead.specs.Offering.{IsNextRow, NamesRow}
@@ -12,13 +12,12 @@ use Rattle.mu_lead.specs.Rooms.{words_left}
 use Rattle.mu_lead.proofs.lead.Lead.offer_own.Goals as goal
 
 pub returns-in-Some-clause-stands : goal.returns-in-Some-clause-stands
-returns-in-Some-clause-stands c = λ mine s same looking.
+returns-in-Some-clause-stands c = λ counts mine s same looking.
     let l = c.args.self.now in
     let few = s.config.replicas.1 in
     let rows = s.config.few in
     let inside = s.inside in
-    let few_known = known_few l.config l.id mine s.config s.possible in
-    let row = subst (λ o. NamesRow o (λ j. IsNextRow l.config (known l.config l.id mine) j)) c.in-Some.is (subst (λ values. NamesRow c.next_offer.result (λ j. IsNextRow l.config values j)) same (c.next_offer.ensures.named (subst (λ values. length values < 65536) (sym same) few_known))) in
+    let row = subst (λ o. NamesRow o (λ j. IsNextRow l.config (known l.config l.id mine) j)) c.in-Some.is (c.next_offer.ensures.named (known l.config l.id mine) (subst (λ values. CountsCommands l.config values c.args.counts.now) same counts)) in
     let j = c.in-Some.j in
     let there = row.row in
     let value : c.own_value.result ≡ l.id * 4096 + j = c.own_value.ensures (omega (arith, inside, few)) (omega (arith, there, rows)) in
@@ -30,20 +29,18 @@ returns-in-Some-clause-stands c = λ mine s same looking.
     c.write_from.ensures.stands mine s (record { looking = looking; first = j; value = value; own = refl; batch = own_batch l.config l.id j (l.id * 4096 + j) mine s.config s.inside refl row; last_row = last_is; from = omega arith; to = omega (arith, last_is); below = λ k more less. absurd (omega (arith, more, less)) })
 
 pub returns-in-None-clause-stands : goal.returns-in-None-clause-stands
-returns-in-None-clause-stands c = λ mine s same looking.
+returns-in-None-clause-stands c = λ counts mine s same looking.
     let l = c.args.self.now in
-    let few_known = known_few l.config l.id mine s.config s.possible in
     absurd (some_next l.config l.id mine s.config s.possible looking.roomy.lacks
-    (λ j row. c.next_offer.ensures.none c.in-None.is (subst (λ values. length values < 65536) (sym same) few_known) s.config.few j (subst (λ values. IsNextRow l.config values j) (sym same) row)))
+    (λ j row. c.next_offer.ensures.none c.in-None.is s.config.few (known l.config l.id mine) (subst (λ values. CountsCommands l.config values c.args.counts.now) same counts) j row))
 
 pub returns-in-Some-clause-rooms : goal.returns-in-Some-clause-rooms
-returns-in-Some-clause-rooms c = λ mine s same looking writes puts.
+returns-in-Some-clause-rooms c = λ counts mine s same looking writes puts.
     let l = c.args.self.now in
     let few = s.config.replicas.1 in
     let rows = s.config.few in
     let inside = s.inside in
-    let few_known = known_few l.config l.id mine s.config s.possible in
-    let row = subst (λ o. NamesRow o (λ j. IsNextRow l.config (known l.config l.id mine) j)) c.in-Some.is (subst (λ values. NamesRow c.next_offer.result (λ j. IsNextRow l.config values j)) same (c.next_offer.ensures.named (subst (λ values. length values < 65536) (sym same) few_known))) in
+    let row = subst (λ o. NamesRow o (λ j. IsNextRow l.config (known l.config l.id mine) j)) c.in-Some.is (c.next_offer.ensures.named (known l.config l.id mine) (subst (λ values. CountsCommands l.config values c.args.counts.now) same counts)) in
     let j = c.in-Some.j in
     let there = row.row in
     let value : c.own_value.result ≡ l.id * 4096 + j = c.own_value.ensures (omega (arith, inside, few)) (omega (arith, there, rows)) in
@@ -59,8 +56,7 @@ returns-in-Some-clause-rooms c = λ mine s same looking writes puts.
     (λ some. writes (words_left l.written.items j (c.saturating_add.result + 1 - j)) some (omega (arith, few_words, few_rows, last_is))) puts
 
 pub returns-in-None-clause-rooms : goal.returns-in-None-clause-rooms
-returns-in-None-clause-rooms c = λ mine s same looking writes puts.
+returns-in-None-clause-rooms c = λ counts mine s same looking writes puts.
     let l = c.args.self.now in
-    let few_known = known_few l.config l.id mine s.config s.possible in
     absurd (some_next l.config l.id mine s.config s.possible looking.roomy.lacks
-    (λ j row. c.next_offer.ensures.none c.in-None.is (subst (λ values. length values < 65536) (sym same) few_known) s.config.few j (subst (λ values. IsNextRow l.config values j) (sym same) row)))
+    (λ j row. c.next_offer.ensures.none c.in-None.is s.config.few (known l.config l.id mine) (subst (λ values. CountsCommands l.config values c.args.counts.now) same counts) j row))

@@ -10,10 +10,10 @@ use Rattle.mu_model.specs.Leaderships.{is_member, majority_of}
 use Rattle.mu_lead.proofs.lead.Lead.pick.Goals as goal
 
 pub returns-in-Some-clause-stands : goal.returns-in-Some-clause-stands
-returns-in-Some-clause-stands c = λ mine s same looking. let l = c.args.self.now in let here = subst (λ o. Looking l.config l.id l.number mine l.up l.reach l.config.replicas c.args.candidate o) c.in-Some.is looking in c.offer.ensures.stands mine c.args.candidate (Some c.in-Some.sight) s here (may_adopt l.config l.id l.number 0 c.in-Some.sight mine l.up l.reach c.args.candidate here) (looks_shown l.config l.id l.number mine l.up l.reach c.args.candidate c.in-Some.sight here)
+returns-in-Some-clause-stands c = λ counts mine s same looking. let l = c.args.self.now in let here = subst (λ o. Looking l.config l.id l.number mine l.up l.reach l.config.replicas c.args.candidate o) c.in-Some.is looking in c.offer.ensures.stands mine c.args.candidate (Some c.in-Some.sight) s here (may_adopt l.config l.id l.number 0 c.in-Some.sight mine l.up l.reach c.args.candidate here) (looks_shown l.config l.id l.number mine l.up l.reach c.args.candidate c.in-Some.sight here)
 
 pub returns-in-Some-candidate-clause-stands : goal.returns-in-Some-candidate-clause-stands
-returns-in-Some-candidate-clause-stands c = λ mine s same looking.
+returns-in-Some-candidate-clause-stands c = λ counts mine s same looking.
     let l = c.args.self.now in
     let q = c.in-Some-candidate.q in
     let here = subst (λ o. Looking l.config l.id l.number mine l.up l.reach l.config.replicas o None) c.in-Some-candidate.is (subst (λ o. Looking l.config l.id l.number mine l.up l.reach l.config.replicas c.args.candidate o) c.in-None.is looking) in
@@ -26,7 +26,7 @@ returns-in-Some-candidate-clause-stands c = λ mine s same looking.
     c.offer-in-Some-candidate.ensures.stands mine (Some q) None s here (may_mark_it l.config l.id l.number q c.own_value.result mine l.up l.reach s.config s.inside here v) (looks_empty l.config l.id l.number mine l.up l.reach (Some q) here)
 
 pub returns-in-Some-clause-rooms : goal.returns-in-Some-clause-rooms
-returns-in-Some-clause-rooms c = λ mine s same looking writes puts. let l = c.args.self.now in c.offer.ensures.rooms mine s (and_parts (is_member l.id l.id mine) (nat_le (majority_of l.config.replicas) (count_below l.config.replicas (λ p. is_member l.id p mine))) looking.level.leads.carried).0 puts
+returns-in-Some-clause-rooms c = λ counts mine s same looking writes puts. let l = c.args.self.now in c.offer.ensures.rooms mine s (and_parts (is_member l.id l.id mine) (nat_le (majority_of l.config.replicas) (count_below l.config.replicas (λ p. is_member l.id p mine))) looking.level.leads.carried).0 puts
 
 pub returns-in-Some-candidate-clause-rooms : goal.returns-in-Some-candidate-clause-rooms
-returns-in-Some-candidate-clause-rooms c = λ mine s same looking writes puts. let l = c.args.self.now in c.offer-in-Some-candidate.ensures.rooms mine s (and_parts (is_member l.id l.id mine) (nat_le (majority_of l.config.replicas) (count_below l.config.replicas (λ p. is_member l.id p mine))) looking.level.leads.carried).0 puts
+returns-in-Some-candidate-clause-rooms c = λ counts mine s same looking writes puts. let l = c.args.self.now in c.offer-in-Some-candidate.ensures.rooms mine s (and_parts (is_member l.id l.id mine) (nat_le (majority_of l.config.replicas) (count_below l.config.replicas (λ p. is_member l.id p mine))) looking.level.leads.carried).0 puts

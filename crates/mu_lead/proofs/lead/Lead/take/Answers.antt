@@ -43,10 +43,10 @@ pub returns-then-knows_all-clause-causes : goal.returns-then-knows_all-clause-ca
 returns-then-knows_all-clause-causes g c = let l = c.args.self.now in let took = c.take_answer-note in causes_next g.mine l took.new.self c.args.answer c.requires.0 took.ensures.goes
 
 pub returns-then-knows_all-clause-elects : goal.returns-then-knows_all-clause-elects
-returns-then-knows_all-clause-elects g c = let l = c.args.self.now in let took = c.take_answer-note in elects_next g.mine l took.new.self c.args.known.now c.args.answer c.requires.0 c.requires.1 took.ensures.stands took.ensures.goes took.ensures.config took.ensures.id
+returns-then-knows_all-clause-elects g c = λ counts. let l = c.args.self.now in let took = c.take_answer-note in elects_next g.mine l took.new.self c.args.known.now c.args.answer c.requires.0 c.requires.1 (took.ensures.stands counts) took.ensures.goes took.ensures.config took.ensures.id
 
 pub returns-else-is_working-clause-causes : goal.returns-else-is_working-clause-causes
 returns-else-is_working-clause-causes g c = let l = c.args.self.now in let took = c.take_answer-note in causes_next g.mine l took.new.self c.args.answer c.requires.0 took.ensures.goes
 
 pub returns-else-is_working-clause-elects : goal.returns-else-is_working-clause-elects
-returns-else-is_working-clause-elects g c = let l = c.args.self.now in let took = c.take_answer-note in elects_next g.mine l took.new.self c.args.known.now c.args.answer c.requires.0 c.requires.1 took.ensures.stands took.ensures.goes took.ensures.config took.ensures.id
+returns-else-is_working-clause-elects g c = λ counts. let l = c.args.self.now in let took = c.take_answer-note in elects_next g.mine l took.new.self c.args.known.now c.args.answer c.requires.0 c.requires.1 (took.ensures.stands counts) took.ensures.goes took.ensures.config took.ensures.id

@@ -59,9 +59,9 @@ returns-then-may_mark-clause-stands c = λ mine heeded s is possible told.
     let high = subst (λ values. c.leaves_room.result ≡ nat_lt (length values + c.reserve_of.result) (h + l.config.ring)) told (c.leaves_room.ensures short) ∙ ap (λ free. nat_lt (end_of l.config l.id mine + free) (h + l.config.ring)) c.reserve_of.ensures in
     let more = c.saturating_add-then-may_mark.ensures in
     let next : c.saturating_add-then-may_mark.result ≡ q + 1 = omega (arith, more, region, few) in
-    let may = (c.may_mark.ensures.may short heeded.0).0 c.if-may_mark.true in
+    let may = (c.may_mark.ensures.may short).0 c.if-may_mark.true in
     let room = subst (λ values. nat_lt (length values + 0) (h + l.config.ring) ≡ true) told may.2 in
-    let mark = marks_now l.config l.id q h mine region may.0 here.unmarked (sym (heeded.1 q region) ∙ may.1) (sym high ∙ c.if-leaves_room.false) room in
+    let mark = marks_now l.config l.id q h mine region may.0 here.unmarked (sym (heeded q region) ∙ may.1) (sym high ∙ c.if-leaves_room.false) room in
     let marks = c.first_of.ensures l.config l.id (e ∷ mine) (marks_head l.config l.id q h mine c.args.candidate here.roomy.marks) mark in
     record {
       config = s.config;

@@ -21,7 +21,7 @@ use Rattle.mu_agree.proofs.Possible.{parts_shorten_law}
 use Rattle.mu_lead.proofs.lead.Lead.took_look.Goals as goal
 
 pub returns-then-is_past-clause-stands : goal.returns-then-is_past-clause-stands
-returns-then-is_past-clause-stands c = λ mine s is position possible told.
+returns-then-is_past-clause-stands c = λ counts mine s is position possible told.
     let l = c.args.self.now in
     let here = rw is at s.at in
     let few = s.config.replicas.1 in
@@ -40,7 +40,7 @@ returns-then-is_past-clause-stands c = λ mine s is position possible told.
     }
 
 pub returns-then-from-known-clause-stands : goal.returns-then-from-known-clause-stands
-returns-then-from-known-clause-stands c = λ mine s is position possible told.
+returns-then-from-known-clause-stands c = λ counts mine s is position possible told.
     let l = c.args.self.now in
     let here = rw is at s.at in
     let few = s.config.replicas.1 in
@@ -61,7 +61,7 @@ returns-then-from-known-clause-stands c = λ mine s is position possible told.
     }
 
 pub returns-else-from-known-clause-stands : goal.returns-else-from-known-clause-stands
-returns-else-from-known-clause-stands c = λ mine s is position possible told.
+returns-else-from-known-clause-stands c = λ counts mine s is position possible told.
     let l = c.args.self.now in
     let here = rw is at s.at in
     let few = s.config.replicas.1 in
@@ -81,18 +81,18 @@ returns-else-from-known-clause-stands c = λ mine s is position possible told.
       inside = s.inside;
       leading = leading;
       tables = tables;
-      at = c.after_look-self.ensures.stands (e ∷ mine) (record { possible = possible; config = s.config; inside = s.inside; leading = leading; tables = tables }) told here.region (looking_on l.config l.id l.number p i c.args.answer mine l.up l.reach c.args.candidate c.args.best c.larger-shown.result possible here same (sym c.is_past.ensures ∙ c.if-is_past.false) best);
+      at = c.after_look-self.ensures.stands counts (e ∷ mine) (record { possible = possible; config = s.config; inside = s.inside; leading = leading; tables = tables }) told here.region (looking_on l.config l.id l.number p i c.args.answer mine l.up l.reach c.args.candidate c.args.best c.larger-shown.result possible here same (sym c.is_past.ensures ∙ c.if-is_past.false) best);
     }
 
 pub returns-then-is_past-clause-rooms : goal.returns-then-is_past-clause-rooms
-returns-then-is_past-clause-rooms c = λ mine s is possible told turn rooms.
+returns-then-is_past-clause-rooms c = λ counts mine s is possible told turn rooms.
     let l = c.args.self.now in
     let here = rw is at s.at in
     rooms_outrun_looking l.config l.id c.args.p c.args.position c.args.answer mine s.config turn (sym c.is_past.ensures ∙ c.if-is_past.true) here.position
     (rooms_outrun l.config l.id c.args.p c.args.position c.args.answer mine s.config turn (past_untaught l.config l.id c.args.p c.args.position c.args.answer mine (sym c.is_past.ensures ∙ c.if-is_past.true)) here.region here.member (rw is at rooms))
 
 pub returns-then-from-known-clause-rooms : goal.returns-then-from-known-clause-rooms
-returns-then-from-known-clause-rooms c = λ mine s is possible told turn rooms.
+returns-then-from-known-clause-rooms c = λ counts mine s is possible told turn rooms.
     let position = (let at_look = rw is at s.at in at_look.position) in
     let l = c.args.self.now in
     let here = rw is at s.at in
@@ -117,7 +117,7 @@ returns-then-from-known-clause-rooms c = λ mine s is possible told turn rooms.
     (λ none. absurd (not_none (is_member l.id p mine) (nat_lt (get_or l.up p 0) (end_of l.config l.id (e ∷ mine))) member (lacks p region member) (none p (omega arith) region)))
 
 pub returns-else-from-known-clause-rooms : goal.returns-else-from-known-clause-rooms
-returns-else-from-known-clause-rooms c = λ mine s is possible told turn rooms.
+returns-else-from-known-clause-rooms c = λ counts mine s is possible told turn rooms.
     let position = (let at_look = rw is at s.at in at_look.position) in
     let l = c.args.self.now in
     let here = rw is at s.at in
@@ -138,7 +138,7 @@ returns-else-from-known-clause-rooms c = λ mine s is possible told turn rooms.
     let region = here.region in
     let member = here.member in
     let a = c.args.answer in
-    c.after_look-self.ensures.rooms (e ∷ mine) (record { possible = possible; config = s.config; inside = s.inside; leading = leading; tables = tables }) told region member (looking_on l.config l.id l.number p i c.args.answer mine l.up l.reach c.args.candidate c.args.best c.larger-shown.result possible here same (sym c.is_past.ensures ∙ c.if-is_past.false) best)
+    c.after_look-self.ensures.rooms counts (e ∷ mine) (record { possible = possible; config = s.config; inside = s.inside; leading = leading; tables = tables }) told region member (looking_on l.config l.id l.number p i c.args.answer mine l.up l.reach c.args.candidate c.args.best c.larger-shown.result possible here same (sym c.is_past.ensures ∙ c.if-is_past.false) best)
     (λ q next. rooms_next_look l.config l.id p q i a mine s.config turn none (record { there = next.there; member = next.member; above = next.above; between = next.between }) led)
     (λ words some few_words. rooms_writes l.config l.id p i words a mine s.config turn none region member some few_words led)
     (λ k some few_members. rooms_picks l.config l.id p i k a mine s.config turn none region member some few_members led)

@@ -1,7 +1,7 @@
 use Rattle.std.proofs.Common.{◌-◌, ◌≡◌, map, take, ◌≤◌, ◌++◌, length, []}
 use Rattle.std.specs.Option.{option_map_or}
 use Rattle.mu_text.specs.Lines.{words}
-use Rattle.mu_text.proofs.line_words.Words.of.Given as goal
+use Rattle.mu_text.proofs.line_words.split_words.Given as goal
 
 abbrev pub invariant-loop-count : goal.invariant-loop-count
 invariant-loop-count l = record {

@@ -1,0 +1,134 @@
+//! Several lines on their way to a sink.
+ghost use Rattle.std.specs.Prelude.{◌≡◌, ◌+◌, ◌*◌, ◌<◌, ◌≤◌, ◌^◌, [], ◌∷◌, ◌++◌, length, map, IfErr, IfOk};
+ghost use Rattle.mu_report.specs.declared.line.TheConstants.{LINE_BYTES};
+ghost use Rattle.mu_report.specs.declared.page.TheConstants.{PAGE_LINES, PAGE_BYTES};
+ghost use Rattle.mu_report.specs.Printing.{PrintsAll, PrintsPart, ended};
+ghost use Rattle.mu_report.specs.Trace.{event_line as event_line_of};
+
+use crate::line::{LINE_BYTES, Line};
+use mu_events::event_line;
+use mu_io::{Sink, WriteFault, write_all};
+use mu_model::Event;
+use std::marker::Model;
+
+/// How many lines a page has at most.
+const PAGE_LINES: usize = 256;
+
+/// The room for so many lines.
+const PAGE_BYTES: usize = PAGE_LINES * LINE_BYTES;
+
+/// Lines so far, each with its end. Contracts see their bytes.
+#[derive(Drop)]
+pub struct Page {
+    bytes: [u8; PAGE_BYTES],
+    len: usize,
+}
+
+impl Model for Page {
+    ghost use Rattle.std.specs.Prelude.{ℕ, List, take, ◌≤◌};
+    ghost use Rattle.mu_report.specs.declared.page.TheConstants.{PAGE_BYTES};
+
+    ghost Value = { List ℕ };
+
+    ghost view = { λ page. take page.len page.bytes };
+
+    ghost invariant = { λ page. page.len ≤ PAGE_BYTES };
+}
+
+impl Page {
+    /// An empty page.
+    pub fn new() -> Page
+        ensures { result ≡ [] }
+    {
+        Page {
+            bytes: [0; PAGE_BYTES],
+            len: 0,
+        }
+    }
+
+    /// Takes all lines away.
+    fn clear(&mut self)
+        ensures { self.new ≡ [] }
+    {
+        self.len = 0;
+    }
+
+    /// Adds bytes at the end.
+    fn push(&mut self, bytes: &[u8])
+        requires { length self.old + length bytes.now ≤ PAGE_BYTES }
+        ensures bytes { self.new ≡ self.old ++ bytes.now }
+        ensures len { length self.new ≡ length self.old + length bytes.now }
+    {
+        let end = self.len + bytes.len();
+        self.bytes[self.len..end].copy_from_slice(bytes);
+        self.len = end;
+    }
+
+    /// The bytes so far.
+    fn as_slice(&self) -> &[u8]
+        ensures { result.now ≡ self.now }
+    {
+        &self.bytes[..self.len]
+    }
+}
+
+/// Ends a line.
+fn ended_line(mut line: Line) -> Line
+    requires { length line < LINE_BYTES }
+    ensures bytes { result ≡ line ++ 10 ∷ [] }
+    ensures len { length result ≡ length line + 1 }
+{
+    line.push(b"\n");
+    line
+}
+
+/// Puts the lines of these events on the page, in place of what was there.
+fn fill_page(page: &mut Page, events: &[Event])
+    requires { length events.now ≤ PAGE_LINES }
+    ensures bytes { page.new ≡ ended (map event_line_of events.now) }
+    ensures bound { length page.new ≤ LINE_BYTES * length events.now }
+{
+    page.clear();
+    for event in events {
+        let line = ended_line(event_line(event));
+        page.push(line.as_slice());
+    }
+}
+
+/// The events of the next page, and those after them.
+pub fn split_page(events: &[Event]) -> (&[Event], &[Event])
+    ensures all { events.now ≡ result.0.now ++ result.1.now }
+    ensures few { length result.0.now ≤ PAGE_LINES }
+    ensures shorter { 0 < length events.now → length result.1.now < length events.now }
+{
+    events.split_at(events.len().min(PAGE_LINES))
+}
+
+/// Writes the lines of these events by this page, in one call where the sink takes them whole.
+/// `taken` bytes were taken before.
+///
+/// # Errors
+///
+/// `WriteFault` where the sink counted a fault, with the number of all bytes that were taken.
+pub fn print_page<K: Sink>(
+    sink: &mut K,
+    taken: usize,
+    page: &mut Page,
+    events: &[Event],
+) -> Result<usize, WriteFault>
+    requires few { length events.now ≤ PAGE_LINES }
+    requires fits { taken + LINE_BYTES * length (map event_line_of events.now) < 2 ^ 64 }
+    ensures all { IfOk result (PrintsAll (K.written sink.old) (K.written sink.new)
+        (K.faults sink.old) (K.faults sink.new) taken (map event_line_of events.now)) }
+    ensures part { IfErr result (λ fault. PrintsPart (K.written sink.old) (K.written sink.new)
+        (K.faults sink.old) (K.faults sink.new) taken (map event_line_of events.now) fault.taken) }
+{
+    fill_page(page, events);
+    let bytes = page.as_slice();
+    match write_all(sink, bytes) {
+        Ok(()) => Ok(taken + bytes.len()),
+        Err(fault) => Err(WriteFault {
+            taken: taken + fault.taken,
+        }),
+    }
+}
