@@ -11,17 +11,18 @@ pub enum Target {
     Place(u16),
 }
 
-/// Who may write a region.
+/// Who may write a region. The fields stand in this order because they are laid out as they stand:
+/// 12 bytes, and an event has 40.
 #[derive(Clone, Copy, Debug, PartialEq, Eq)]
 pub struct Fence {
-    /// The replica that may write, if any.
-    pub owner: Option<u8>,
     /// How often the region was granted.
     pub grant: u32,
-    /// Whether the host is taking the permission away.
-    pub closing: bool,
     /// What the owner is about to write.
     pub target: Target,
+    /// The replica that may write, if any.
+    pub owner: Option<u8>,
+    /// Whether the host is taking the permission away.
+    pub closing: bool,
 }
 
 /// One step on one word. Regions and replicas are ids from 0. Positions of the log count from 0; a
