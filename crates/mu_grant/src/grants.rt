@@ -332,7 +332,7 @@ impl Grants {
     }
 
     /// Whether `w`, which is not the owner, has an ask that was not served.
-    fn is_waiting(&self, w: u8) -> bool
+    pub fn is_waiting(&self, w: u8) -> bool
         ensures { (n r : ℕ) → (mine : List Event) → w < n → StandsFor n r mine self.now
             → result ≡ has_unserved_ask r mine w }
     {
@@ -344,7 +344,7 @@ impl Grants {
     }
 
     /// The least replica that waits, if any.
-    fn first_waiting(&self) -> Option<u8>
+    pub fn first_waiting(&self) -> Option<u8>
         ensures found { (n r w : ℕ) → (mine : List Event) → StandsFor n r mine self.now
             → result ≡ Some w
             → (w < n) × (is_least_waiting r mine w ≡ true) }
@@ -360,8 +360,32 @@ impl Grants {
         None
     }
 
+    /// Whether a `Close` is pending.
+    pub fn is_closing(&self) -> bool
+        ensures { (n r : ℕ) → (mine : List Event) → StandsFor n r mine self.now
+            → result ≡ fence_closing r mine }
+    {
+        self.closing
+    }
+
+    /// Whether a `LookTarget` came since the last `Close`.
+    pub fn has_looked(&self) -> bool
+        ensures { (n r : ℕ) → (mine : List Event) → StandsFor n r mine self.now
+            → result ≡ looked_since_close r mine }
+    {
+        self.looked
+    }
+
+    /// Whether a `Drain` came since the last `Close`.
+    pub fn has_drained(&self) -> bool
+        ensures { (n r : ℕ) → (mine : List Event) → StandsFor n r mine self.now
+            → result ≡ drained_since_close r mine }
+    {
+        self.drained
+    }
+
     /// Whether a `Close` is pending whose answer names a word.
-    fn has_to_drain(&self) -> bool
+    pub fn has_to_drain(&self) -> bool
         ensures { (n r : ℕ) → (mine : List Event) → StandsFor n r mine self.now
             → result ≡ must_drain r mine }
     {

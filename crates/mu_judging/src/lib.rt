@@ -3,4 +3,4 @@
 
 mod judging;
 
-pub use judging::judge;
+pub use judging::{explain_trace, judge};

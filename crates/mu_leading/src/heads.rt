@@ -141,6 +141,17 @@ impl Heads {
         self.scores.note(event);
     }
 
+    /// The head of `q` that was read last, else 0.
+    pub fn last_head(&self, q: u8) -> u64
+        ensures { (c : Config) → (r : ℕ) → (mine : List Event) → q < c.replicas → c.replicas ≤ 7
+            → StandsForHeads c r mine self.now → result ≡ last_head r q mine }
+    {
+        match self.peers.get(usize::from(q)) {
+            Some(peer) => peer.head,
+            None => 0,
+        }
+    }
+
     /// Whether the head of `q` that was read last leaves room for the position `i` and for so many
     /// more in a log of `ring` slots.
     pub fn leaves_room(&self, q: u8, ring: u16, i: u16, free: u8) -> bool

@@ -4,8 +4,8 @@ ghost use Rattle.mu_model.specs.declared.config.Config.{Config};
 ghost use Rattle.mu_model.specs.declared.event.Event.{Event};
 ghost use Rattle.mu_model.specs.declared.event.Verb.{Verb};
 ghost use Rattle.mu_model.specs.Allowed.{Needs, last_ask};
-ghost use Rattle.mu_model.specs.Entering.{any_min_read, has_confirmed_majority, has_read_min, last_opened, number_allowed};
-ghost use Rattle.mu_model.specs.Histories.{count_below, greatest, newest};
+ghost use Rattle.mu_model.specs.Entering.{any_min_read, has_confirmed_majority, has_read_min, last_opened, min_read, number_allowed, open_target};
+ghost use Rattle.mu_model.specs.Histories.{count_below, greatest, newest, or_zero};
 ghost use Rattle.mu_model.specs.Leaderships.{ends_leadership, grant_at_joining, has_begun, has_quorum, is_changed, is_member, is_over, leadership, noted_grant, number_put, proposal_number};
 ghost use Rattle.mu_model.specs.Parts.{IsPossible};
 ghost use Rattle.mu_leading.specs.Leadership.{StandsForRegionNotes, StandForRegionNotes, StandsForLeadership, ReadsWithin};
@@ -253,12 +253,37 @@ impl Leadership {
         self.begun
     }
 
+    /// The region that was asked last.
+    pub fn asked(&self) -> Option<u8>
+        ensures { (r : ℕ) → (mine : List Event) → StandsForLeadership r mine self.now
+            → result ≡ newest (λ e. last_ask r e.by e.verb) mine }
+    {
+        self.asked
+    }
+
     /// The number of the leadership.
     pub fn number(&self) -> Option<u32>
         ensures { (r : ℕ) → (mine : List Event) → StandsForLeadership r mine self.now
             → result ≡ proposal_number r mine }
     {
         self.number
+    }
+
+    /// The greatest minimum read in the leadership.
+    pub fn greatest_minimum(&self) -> u64
+        ensures { (r : ℕ) → (mine : List Event) → StandsForLeadership r mine self.now
+            → result
+            ≡ greatest (λ e. any_min_read r e.by e.verb e.answer) (leadership r mine) }
+    {
+        self.greatest_minimum
+    }
+
+    /// The greatest number put.
+    pub fn greatest_number(&self) -> u32
+        ensures { (r : ℕ) → (mine : List Event) → StandsForLeadership r mine self.now
+            → result ≡ greatest (λ e. number_put r e.by e.verb) mine }
+    {
+        self.greatest_number
     }
 
     /// The number that a leadership without one takes: its least above all that it read and put.
@@ -287,6 +312,22 @@ impl Leadership {
             → result ≡ last_opened r p mine }
     {
         self.notes_of(p).opened
+    }
+
+    /// The target that `p` is entered with in the leadership.
+    pub fn entered(&self, p: u8) -> Option<Target>
+        ensures { (r : ℕ) → (mine : List Event) → p < 7 → StandsForLeadership r mine self.now
+            → result ≡ open_target r p mine }
+    {
+        self.notes_of(p).entered
+    }
+
+    /// The minimum of `p` that was read last, else 0.
+    pub fn minimum(&self, p: u8) -> u64
+        ensures { (r : ℕ) → (mine : List Event) → p < 7 → StandsForLeadership r mine self.now
+            → result ≡ or_zero (newest (λ e. min_read r p e.by e.verb e.answer) mine) }
+    {
+        self.notes_of(p).minimum
     }
 
     /// Whether `p` is a member.
@@ -322,7 +363,7 @@ impl Leadership {
     }
 
     /// Whether the minimum of `p` was read under the noted grant.
-    fn has_read(&self, p: u8) -> bool
+    pub fn has_read(&self, p: u8) -> bool
         ensures { (r : ℕ) → (mine : List Event) → p < 7 → StandsForLeadership r mine self.now
             → result ≡ has_read_min r p mine }
     {
@@ -345,7 +386,7 @@ impl Leadership {
     }
 
     /// Whether the regions that have told their minimum are a majority of `n` with the own one.
-    fn has_confirmed(&self, n: u8) -> bool
+    pub fn has_confirmed(&self, n: u8) -> bool
         requires { n ≤ 7 }
         ensures { (c : Config) → (r : ℕ) → (mine : List Event) → n ≡ c.replicas → r < 7
             → StandsForLeadership r mine self.now → result ≡ has_confirmed_majority c r mine }
@@ -410,7 +451,7 @@ impl Leadership {
     }
 
     /// Whether it may put the number.
-    fn may_take_number(&self, b: u32) -> bool
+    pub fn may_take_number(&self, b: u32) -> bool
         ensures { (r : ℕ) → (mine : List Event) → StandsForLeadership r mine self.now
             → (IsTrue result ↔ number_allowed r mine b (proposal_number r mine)) }
     {

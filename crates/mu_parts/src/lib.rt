@@ -4,9 +4,11 @@
 //! come from a running state, so that they cost about the same however many events there were.
 #![tactic(auto)]
 
+mod explaining;
 mod putting;
 mod replica;
 mod replicas;
 
+pub use mu_reasons::Reason;
 pub use replica::Replica;
 pub use replicas::Replicas;

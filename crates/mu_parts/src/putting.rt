@@ -29,7 +29,7 @@ fn all_hold(a: bool, b: bool, c: bool, d: bool, e: bool) -> bool
 
 impl Replica {
     /// Whether the head of `q` leaves room, or `q` is known to be gone.
-    fn leaves_room(&self, config: &Config, q: u8, i: u16, free: u8) -> bool
+    pub(crate) fn leaves_room(&self, config: &Config, q: u8, i: u16, free: u8) -> bool
         requires { config.now.replicas ≤ 7 }
         ensures { (r : ℕ) → (mine : List Event) → q < config.now.replicas
             → StandsForReplica config.now r mine self.now
@@ -92,7 +92,7 @@ impl Replica {
     }
 
     /// Whether `v` is a mark that it may offer.
-    fn is_offer_of_mark(&self, config: &Config, v: u16) -> bool
+    pub(crate) fn is_offer_of_mark(&self, config: &Config, v: u16) -> bool
         requires { IsConfig config.now }
         ensures { (r : ℕ) → (mine : List Event) → StandsForReplica config.now r mine self.now
             → result ≡ is_mark_offer config.now r mine v }
@@ -135,7 +135,7 @@ impl Replica {
     }
 
     /// Whether `v` is a batch and the looks show no entry.
-    fn is_fresh(&self, config: &Config, i: u16, v: u16) -> bool
+    pub(crate) fn is_fresh(&self, config: &Config, i: u16, v: u16) -> bool
         requires { IsConfig config.now }
         ensures { (r : ℕ) → (mine : List Event) → i ≤ row_count config.now + reserve config.now
             → StandsForReplica config.now r mine self.now
@@ -222,7 +222,7 @@ impl Replica {
     }
 
     /// Whether, in version 2, a FUO of `p` and the ring reach above `i`.
-    fn is_in_reach(&self, config: &Config, p: u8, i: u16) -> bool
+    pub(crate) fn is_in_reach(&self, config: &Config, p: u8, i: u16) -> bool
         ensures { (r : ℕ) → (mine : List Event) → p < 7
             → StandsForReplica config.now r mine self.now
             → (IsTrue result

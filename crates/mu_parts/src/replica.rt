@@ -46,7 +46,7 @@ pub struct Replica {
 }
 
 /// Whether `i` is a position of the log.
-fn is_position(config: &Config, i: u16) -> bool
+pub(crate) fn is_position(config: &Config, i: u16) -> bool
     requires { IsConfig config.now }
     ensures { IsTrue result ↔ (i ≤ row_count config.now + reserve config.now) }
 {

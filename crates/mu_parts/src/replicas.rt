@@ -5,10 +5,12 @@ ghost use Rattle.mu_model.specs.Allowed.{Allowed};
 ghost use Rattle.mu_model.specs.Contents.{IsConfig};
 ghost use Rattle.mu_model.specs.Histories.{part};
 ghost use Rattle.mu_model.specs.Legal.{IsLegalHistory};
+ghost use Rattle.mu_reasons.specs.Reasons.{Finds, points};
 ghost use Rattle.mu_parts.specs.Parts.{StandsForReplicas};
 
 use crate::replica::Replica;
 use mu_model::{Config, Event, NoMemory, Verb};
+use mu_reasons::Reason;
 use std::alloc::Global;
 
 /// What the events of each replica so far let it do next, kept up to date event by event. An update
@@ -42,6 +44,21 @@ impl Replicas {
         match self.replicas.get(usize::from(by)) {
             None => false,
             Some(replica) => replica.allows(config, verb),
+        }
+    }
+
+    /// The first point that keeps `by` from making the verb after the legal history that the states
+    /// stand for, if any does. Takes no memory.
+    pub fn why_not(&self, config: &Config, by: u8, verb: &Verb) -> Option<Reason>
+        requires { IsConfig config.now }
+        ensures { (past : List Event) → IsLegalHistory config.now past
+            → StandsForReplicas config.now past self.now
+            → Finds config.now by (part by past) (points config.now by (part by past) verb.now)
+            result }
+    {
+        match self.replicas.get(usize::from(by)) {
+            None => Some(Reason::NoReplica { replica: by }),
+            Some(replica) => replica.why_not(config, verb),
         }
     }
 

@@ -1,3 +1,4 @@
+pub mod Pushes
 pub mod BookLines
 pub mod LiveLines
 pub mod Lists

@@ -2,6 +2,7 @@ pub mod Answers
 pub mod Books
 pub mod Lives
 pub mod Printing
+pub mod Reasons
 pub mod Report
 pub mod Said
 pub mod Summary

@@ -2,11 +2,12 @@
 use Rattle.std.specs.Prelude.{ℕ, List, [], ◌∷◌, ◌++◌, ⊤, codes}
 use Rattle.std.specs.Fmt.{decimal}
 use Rattle.mu_report.specs.declared.said.Said.{Said}
-use Rattle.mu_report.specs.declared.said.Said.TheVariants.{Usage, Refused, Ran, Traced, Summed, Booked, Lived, Judged, ReadFault, NoMemory, TooLong}
+use Rattle.mu_report.specs.declared.said.Said.TheVariants.{Usage, Refused, Ran, Traced, Summed, Booked, Lived, Judged, Explained, ReadFault, NoMemory, TooLong}
 use Rattle.mu_report.specs.Answers.{verdict_line}
 use Rattle.mu_report.specs.Books.{book_lines}
 use Rattle.mu_report.specs.Lives.{lived_lines, HasShortSights}
 use Rattle.mu_report.specs.Printing.{ended}
+use Rattle.mu_report.specs.Reasons.{explained_lines}
 use Rattle.mu_report.specs.Report.{report_lines, HasShortLists}
 use Rattle.mu_report.specs.Summary.{summary_lines}
 use Rattle.mu_report.specs.Trace.{trace_lines, IsCountable}
@@ -14,7 +15,7 @@ use Rattle.mu_report.specs.Trace.{trace_lines, IsCountable}
 -- what is said, as lines without their ends
 abbrev pub lines_of : Said → List (List ℕ)
 lines_of Usage =
-    codes "usage: mu replay, mu run, mu check, mu trace, mu bulk N, mu live K, mu desk, mu book"
+    codes "usage: mu replay, mu run, mu check, mu why, mu trace, mu bulk N, mu live K, mu desk, mu book"
     ∷ []
 lines_of (Refused line cause) =
     (codes "refused line " ++ decimal line ++ codes " cause " ++ decimal cause) ∷ []
@@ -24,6 +25,7 @@ lines_of (Summed o) = summary_lines o
 lines_of (Booked o book) = book_lines o book
 lines_of (Lived o lived) = lived_lines o lived.sights
 lines_of (Judged events verdict) = verdict_line events verdict ∷ []
+lines_of (Explained events line broken) = explained_lines events line broken
 lines_of ReadFault = codes "read fault" ∷ []
 lines_of NoMemory = codes "no memory" ∷ []
 lines_of TooLong = codes "too long" ∷ []
@@ -43,6 +45,7 @@ IsShort (Summed o) = ⊤
 IsShort (Booked o book) = ⊤
 IsShort (Lived o lived) = HasShortLists o × HasShortSights lived.sights
 IsShort (Judged events verdict) = ⊤
+IsShort (Explained events line broken) = ⊤
 IsShort ReadFault = ⊤
 IsShort NoMemory = ⊤
 IsShort TooLong = ⊤

@@ -7,6 +7,7 @@ mod book;
 mod line;
 mod lives;
 mod page;
+mod reasons;
 mod report;
 mod said;
 mod summary;

@@ -11,12 +11,14 @@ use crate::answers::verdict_line;
 use crate::book::print_book;
 use crate::line::{Line, print_line, print_words};
 use crate::lives::print_lived;
+use crate::reasons::print_explained;
 use crate::report::print_report;
 use crate::summary::print_summary;
 use crate::trace::print_trace;
 use match_book::Book;
 use mu_io::{Sink, WriteFault};
 use mu_outcome::{Outcome, Verdict};
+use mu_reasons::Broken;
 use snap_reads::Lived;
 
 /// What the program says at its end.
@@ -47,6 +49,15 @@ pub enum Said {
         events: u32,
         /// Whether they are legal, and if not, which is the first that breaks the list and why.
         verdict: Verdict,
+    },
+    /// Where a list of events breaks and why.
+    Explained {
+        /// How many events it has.
+        events: u32,
+        /// The line of the event in the input, counted from 1.
+        line: u32,
+        /// The first event that breaks the list, if there is one.
+        broken: Option<Broken>,
     },
     /// The input couldn't be read.
     ReadFault,
@@ -110,7 +121,7 @@ fn print_said<K: Sink>(sink: &mut K, said: &Said) -> Result<usize, WriteFault>
             print_words(
                 sink,
                 0,
-                b"usage: mu replay, mu run, mu check, mu trace, mu bulk N, mu live K, mu desk, mu book",
+                b"usage: mu replay, mu run, mu check, mu why, mu trace, mu bulk N, mu live K, mu desk, mu book",
             )
         }
         Said::Refused { line, cause } => print_line(sink, 0, refusal(*line, *cause)),
@@ -120,6 +131,11 @@ fn print_said<K: Sink>(sink: &mut K, said: &Said) -> Result<usize, WriteFault>
         Said::Booked(outcome, book) => print_book(sink, outcome, book),
         Said::Lived(outcome, lived) => print_lived(sink, outcome, lived),
         Said::Judged { events, verdict } => print_line(sink, 0, verdict_line(*events, verdict)),
+        Said::Explained {
+            events,
+            line,
+            broken,
+        } => print_explained(sink, *events, *line, broken),
         Said::ReadFault => print_words(sink, 0, b"read fault"),
         Said::NoMemory => print_words(sink, 0, b"no memory"),
         Said::TooLong => print_words(sink, 0, b"too long"),

@@ -12,6 +12,7 @@ no_fault Task.Replay bytes says = says
 no_fault Task.Run bytes says = says
 no_fault Task.Trace bytes says = says
 no_fault Task.Check bytes says = says
+no_fault Task.Why bytes says = says
 no_fault Task.Desk bytes says = says
 no_fault Task.Book bytes says = says
 no_fault (Task.Live readers) bytes says = says
@@ -22,6 +23,7 @@ no_limit Task.Replay bytes says = says
 no_limit Task.Run bytes says = says
 no_limit Task.Trace bytes says = says
 no_limit Task.Check bytes says = says
+no_limit Task.Why bytes says = says
 no_limit Task.Desk bytes says = says
 no_limit Task.Book bytes says = says
 no_limit (Task.Live readers) bytes says = says
@@ -43,3 +45,4 @@ telling task left now before after bytes (Said.Summed outcome) same within whole
 telling task left now before after bytes (Said.Booked outcome book) same within whole says = (same, record { bytes = bytes; within = within; whole = whole; says = says })
 telling task left now before after bytes (Said.Lived outcome lived) same within whole says = (same, record { bytes = bytes; within = within; whole = whole; says = says })
 telling task left now before after bytes (Said.Judged events verdict) same within whole says = (same, record { bytes = bytes; within = within; whole = whole; says = says })
+telling task left now before after bytes (Said.Explained events line broken) same within whole says = (same, record { bytes = bytes; within = within; whole = whole; says = says })

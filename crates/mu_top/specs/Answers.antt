@@ -4,11 +4,12 @@ use Rattle.std.specs.declared.option.Option.{Option}
 use Rattle.std.specs.Io.KnownBytes.{Appends}
 use Rattle.mu_io.specs.Faults.{Rose}
 use Rattle.mu_io.specs.Whole.{TakesAtMost}
-use Rattle.mu_judging.specs.Judged.{SaysOf}
+use Rattle.mu_judging.specs.Judged.{ExplainsOf, SaysOf}
 use Rattle.mu_outcome.specs.declared.status.Status.{Status}
 use Rattle.mu_outcome.specs.declared.verdict.Verdict.{Verdict}
 use Rattle.mu_outcome.specs.Outcomes.{status_after}
 use Rattle.mu_outcome.specs.Statuses.{code_of}
+use Rattle.mu_reasons.specs.declared.fault.Broken.{Broken}
 use Rattle.mu_report.specs.declared.said.Said.{Said}
 use Rattle.mu_report.specs.Said.{text}
 use Rattle.mu_top.specs.Commands.{Books, Lives, Replays, Runs, Sums, Traces}
@@ -23,6 +24,7 @@ Does Task.Replay bytes said = Replays bytes said
 Does Task.Run bytes said = Runs bytes said
 Does Task.Trace bytes said = Traces bytes said
 Does Task.Check bytes said = SaysOf bytes said
+Does Task.Why bytes said = ExplainsOf bytes said
 Does Task.Desk bytes said = Desks bytes said
 Does Task.Book bytes said = Books bytes said
 Does (Task.Live readers) bytes said = Lives readers bytes said
@@ -63,6 +65,11 @@ abbrev pub verdict_status : Verdict → Status
 verdict_status Verdict.Legal = Status.Done
 verdict_status (Verdict.Illegal index cause) = Status.Illegal
 
+-- the status where this was found to break a list, if anything was
+abbrev pub broken_status : Option Broken → Status
+broken_status None = Status.Done
+broken_status (Some broken) = Status.Illegal
+
 -- the status of what is said, once it is written
 abbrev pub status_for : Said → Status
 status_for Said.Usage = Status.Usage
@@ -73,6 +80,7 @@ status_for (Said.Summed outcome) = status_after outcome
 status_for (Said.Booked outcome book) = status_after outcome
 status_for (Said.Lived outcome lived) = status_after outcome
 status_for (Said.Judged events verdict) = verdict_status verdict
+status_for (Said.Explained events line broken) = broken_status broken
 status_for Said.ReadFault = Status.ReadFault
 status_for Said.NoMemory = Status.NoMemory
 status_for Said.TooLong = Status.TooLong

@@ -36,6 +36,8 @@ pub enum Task {
     Trace,
     /// `check`: judge a trace.
     Check,
+    /// `why`: judge a trace, and tell where it breaks and why.
+    Why,
     /// `desk`: run a job in turns whose commands come from clients that send at once.
     Desk,
     /// `book`: run a job in turns, and tell the book of orders after its commands.
@@ -64,6 +66,7 @@ impl Task {
             Task::Run => INPUT_LIMIT,
             Task::Trace => INPUT_LIMIT,
             Task::Check => TRACE_LIMIT,
+            Task::Why => TRACE_LIMIT,
             Task::Desk => INPUT_LIMIT,
             Task::Book => INPUT_LIMIT,
             Task::Live(_) => INPUT_LIMIT,
@@ -118,6 +121,8 @@ fn named_task(word: &[u8]) -> Option<Task>
         Some(Task::Trace)
     } else if word == b"check".as_slice() {
         Some(Task::Check)
+    } else if word == b"why".as_slice() {
+        Some(Task::Why)
     } else if word == b"desk".as_slice() {
         Some(Task::Desk)
     } else if word == b"book".as_slice() {

@@ -1,8 +1,9 @@
 //! The status of the program after what it says.
 ghost use Rattle.std.specs.Prelude.{◌≡◌};
-ghost use Rattle.mu_top.specs.Answers.{status_for as status_for_said, verdict_status as status_of_verdict};
+ghost use Rattle.mu_top.specs.Answers.{status_for as status_for_said, broken_status as status_of_broken, verdict_status as status_of_verdict};
 
 use mu_outcome::{Status, Verdict};
+use mu_reasons::Broken;
 use mu_report::{Said, status};
 
 /// The status of what is said, once it is written.
@@ -18,6 +19,7 @@ pub(crate) fn status_for(said: &Said) -> Status
         Said::Booked(outcome, _) => status(outcome),
         Said::Lived(outcome, _) => status(outcome),
         Said::Judged { verdict, .. } => verdict_status(verdict),
+        Said::Explained { broken, .. } => explained_status(broken),
         Said::ReadFault => Status::ReadFault,
         Said::NoMemory => Status::NoMemory,
         Said::TooLong => Status::TooLong,
@@ -31,5 +33,15 @@ fn verdict_status(verdict: &Verdict) -> Status
     match verdict {
         Verdict::Legal => Status::Done,
         Verdict::Illegal { .. } => Status::Illegal,
+    }
+}
+
+/// The status where this was found to break a list, if anything was.
+fn explained_status(broken: &Option<Broken>) -> Status
+    ensures { result ≡ status_of_broken broken.now }
+{
+    match broken {
+        None => Status::Done,
+        Some(_) => Status::Illegal,
     }
 }

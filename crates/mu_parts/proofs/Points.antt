@@ -1,0 +1,95 @@
+-- Tests that tell whether a point is met.
+use Rattle.std.proofs.lemmas.List.{append-nil}
+use Rattle.std.proofs.Common.{suc, ◌+◌, ℕ, ◌<◌, ◌≤◌, ◌≡◌, Bool, true, false, None, Some, List, [], ◌∷◌, ◌++◌, sym, ◌∙◌, ap, subst, arith, append_assoc}
+use Rattle.std.specs.Prelude.{IsTrue, is_some, nat_le, nat_lt, not, ◌==◌, ◌↔◌, ◌≢◌}
+use Rattle.std.specs.declared.option.Option.{Option}
+use Rattle.std.proofs.lemmas.Bool.{eq-eqb, eqb-true, eqb-false, le-leb, leb-true, lt-ltb, ltb-true, ne_eqb, not-true, not_from_false}
+use Rattle.mu_model.specs.declared.config.Config.{Config}
+use Rattle.mu_model.specs.declared.event.Event.{Event}
+use Rattle.mu_reasons.specs.declared.reason.Reason.{Reason}
+use Rattle.mu_reasons.specs.Reasons.{AreMet, Finds, IsMet, each_below}
+use Rattle.mu_reasons.proofs.Lists.{found_on, met_front}
+
+pub low : (p n : ℕ) → p < n → n ≤ 7 → p < 7
+low p n below few = omega (arith, below, few)
+
+pub less : (a b : ℕ) → (IsTrue (nat_lt a b) ↔ (a < b))
+less a b = (λ t. ltb-true a b t, λ h. lt-ltb a b h)
+
+pub at_most : (a b : ℕ) → (IsTrue (nat_le a b) ↔ (a ≤ b))
+at_most a b = (λ t. leb-true a b t, λ h. le-leb a b h)
+
+pub equal : (a b : ℕ) → (IsTrue (a == b) ↔ (a ≡ b))
+equal a b = (λ t. eqb-true a b t, λ h. eq-eqb a b h)
+
+pub unequal : (a b : ℕ) → (IsTrue (not (a == b)) ↔ (a ≢ b))
+unequal a b = (λ t same. eqb-false a b (not-true _ t) same, λ h. not_from_false _ (ne_eqb a b h))
+
+pub tells : (t u : Bool) → t ≡ u → (IsTrue t ↔ (u ≡ true))
+tells t u same = (λ h. sym same ∙ h, λ h. same ∙ h)
+
+pub denies : (t u : Bool) → t ≡ u → (IsTrue (not t) ↔ (u ≡ false))
+denies t u same = (λ h. sym same ∙ not-true t h, λ h. not_from_false t (same ∙ h))
+
+pub there : {A : Type 0} (o p : Option A) → o ≡ p → (IsTrue (is_some o) ↔ (is_some p ≡ true))
+there o p same = tells (is_some o) (is_some p) (ap is_some same)
+
+-- a list of points that goes on
+pub apart : (c : Config) (r : ℕ) (past : List Event) (xs ys zs : List Reason) (found : Option Reason) → Finds c r past ((xs ++ ys) ++ zs) found → Finds c r past (xs ++ (ys ++ zs)) found
+apart c r past xs ys zs found finds = subst (λ l. Finds c r past l found) (append_assoc xs ys zs) finds
+
+pub less_as : (a b n : ℕ) → b ≡ n → (IsTrue (nat_lt a b) ↔ (a < n))
+less_as a b n same = subst (λ k. (IsTrue (nat_lt a b) ↔ (a < k))) same (less a b)
+
+pub at_most_as : (a b m n : ℕ) → a ≡ m → b ≡ n → (IsTrue (nat_le a b) ↔ (m ≤ n))
+at_most_as a b m n same also = subst (λ k. (IsTrue (nat_le a b) ↔ (m ≤ k))) also (subst (λ k. (IsTrue (nat_le a b) ↔ (k ≤ b))) same (at_most a b))
+
+pub equal_as : (a b m n : ℕ) → a ≡ m → b ≡ n → (IsTrue (a == b) ↔ (m ≡ n))
+equal_as a b m n same also = subst (λ k. (IsTrue (a == b) ↔ (m ≡ k))) also (subst (λ k. (IsTrue (a == b) ↔ (k ≡ b))) same (equal a b))
+
+pub unequal_to : (a b n : ℕ) → b ≡ n → (IsTrue (not (a == b)) ↔ (a ≢ n))
+unequal_to a b n same = subst (λ k. (IsTrue (not (a == b)) ↔ (a ≢ k))) same (unequal a b)
+
+pub iff_both : (t : Bool) (P Q : Type 0) → (IsTrue t ↔ (P × Q)) → P → (IsTrue t ↔ Q)
+iff_both t P Q met p = (λ h. (met.0 h).1, λ q. met.1 (p, q))
+
+-- where a point fails, the search is over
+pub stops : (c : Config) (r : ℕ) (past : List Event) (xs more : List Reason) (found : Option Reason) → (AreMet c r past xs → ⊥) → Finds c r past xs found → Finds c r past (xs ++ more) found
+stops c r past xs more None fails finds = absurd (fails finds)
+stops c r past xs more (Some q) fails finds = found_on c r past xs more q finds
+
+abbrev head_or : Reason → List Reason → Reason
+head_or d [] = d
+head_or d (x ∷ xs) = x
+
+abbrev tail_of : List Reason → List Reason
+tail_of [] = []
+tail_of (x ∷ xs) = xs
+
+within : (c : Config) (r : ℕ) (past : List Event) (xs more before after : List Reason) (q : Reason) → xs ++ more ≡ before ++ q ∷ after → AreMet c r past before → (AreMet c r past xs → ⊥) → (rest : List Reason) × (xs ≡ before ++ q ∷ rest)
+within c r past [] more before after q same met fails = absurd (fails tt)
+within c r past (x ∷ xs) more [] after q same met fails = (xs, ap (λ y. y ∷ xs) (ap (head_or q) same))
+within c r past (x ∷ xs) more (b ∷ before) after q same met fails =
+    let first : x ≡ b = ap (head_or q) same in
+    let rest = within c r past xs more before after q (ap tail_of same) met.1 (λ m. fails (subst (λ y. IsMet c r past y) (sym first) met.0, m)) in
+    (rest.0, ap (λ y. y ∷ xs) first ∙ ap (λ ys. b ∷ ys) rest.1)
+
+-- where a point fails, what would come after it doesn't count
+pub elsewhere : (c : Config) (r : ℕ) (past : List Event) (xs more other : List Reason) (found : Option Reason) → (AreMet c r past xs → ⊥) → Finds c r past (xs ++ more) found → Finds c r past (xs ++ other) found
+elsewhere c r past xs more other None fails finds = absurd (fails (met_front c r past xs more finds))
+elsewhere c r past xs more other (Some q) fails finds =
+    let here = within c r past xs more finds.before finds.after q finds.order finds.met fails in
+    record { before = finds.before; after = here.0 ++ other; order = ap (λ l. l ++ other) here.1 ∙ append_assoc finds.before (q ∷ here.0) other; met = finds.met; fails = finds.fails }
+
+-- a list of points of numbers, with those of one number more
+pub one_more : (c : Config) (r : ℕ) (past : List Event) (xs : List Reason) (n : ℕ) (of_each : ℕ → List Reason) (found : Option Reason) → Finds c r past ((xs ++ each_below n of_each) ++ of_each n) found → Finds c r past (xs ++ each_below (n + 1) of_each) found
+one_more c r past xs n of_each found finds =
+    let next : suc n ≡ n + 1 = omega arith in
+    subst (λ k. Finds c r past (xs ++ each_below k of_each) found) next (apart c r past xs (each_below n of_each) (of_each n) found finds)
+
+-- no further points
+pub no_more : (c : Config) (r : ℕ) (past : List Event) (xs : List Reason) (found : Option Reason) → Finds c r past xs found → Finds c r past (xs ++ []) found
+no_more c r past xs found finds = subst (λ l. Finds c r past l found) (sym (append-nil xs)) finds
+
+pub less_from : (a b n : ℕ) → a ≡ n → (IsTrue (nat_lt a b) ↔ (n < b))
+less_from a b n same = subst (λ k. (IsTrue (nat_lt a b) ↔ (k < b))) same (less a b)

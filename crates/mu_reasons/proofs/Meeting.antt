@@ -1,0 +1,193 @@
+-- A verb is allowed exactly where all of its points are met.
+use Rattle.std.proofs.Common.{List, [], ◌++◌, ◌∷◌, ℕ, zero, suc, ◌<◌, ◌≡◌, None, Some, Bool, true, false, refl, sym, ◌∙◌, ap, subst, inl, inr, arith}
+use Rattle.std.specs.Prelude.{not, ◌&&◌, ◌||◌, ◌==◌, ◌↔◌, ◌⊎◌, ◌+◌, ◌%◌, ◌/◌, if◌then◌else◌, nat_lt, is_some, length}
+use Rattle.std.specs.declared.option.Option.{Option}
+use Rattle.std.specs.List.{slice_get}
+use Rattle.mu_model.specs.declared.config.Config.{Config}
+use Rattle.mu_model.specs.declared.event.Event.{Event}
+use Rattle.mu_model.specs.declared.event.Target.{Target}
+use Rattle.mu_model.specs.declared.event.Verb.{Verb}
+use Rattle.mu_model.specs.Allowed.{Allowed, Needs}
+use Rattle.mu_model.specs.Contents.{client_of, command_count, is_batch, marked, number_of}
+use Rattle.mu_model.specs.Histories.{all_below}
+use Rattle.mu_model.specs.Knowledge.{is_filled, is_value, known, wrote_batch}
+use Rattle.mu_model.specs.Leaderships.{is_member}
+use Rattle.mu_model.specs.Picks.{first_value, highest_accepted, is_fresh_batch, is_mark_offer, is_offer, joined_since_first_put, last_look, may_propose, pick}
+use Rattle.mu_model.specs.Placing.{IsNew, is_caught_up_at}
+use Rattle.mu_model.specs.Room.{has_room, last_head, reserve}
+use Rattle.std.proofs.lemmas.Bool.{and_from, and_parts, eq-eqb, eqb-true, false≢true, or_cases}
+use Rattle.std.proofs.lemmas.Bool.Decides.{eqb_tells}
+use Rattle.mu_model.proofs.Basics.{none_some, or_true, same_number, same_some, true_or}
+use Rattle.mu_model.proofs.Scans.{all_at, each_all}
+use Rattle.mu_reasons.specs.declared.reason.Reason.{Reason}
+use Rattle.mu_reasons.specs.Reasons.{AreMet, MetWhereAllowed, each_below, needs, new_values, offers, picks, proposals, puts, reserved_rooms, rooms, values}
+use Rattle.mu_reasons.proofs.Lists.{each_met, met_append, met_each, met_front, met_rest}
+
+pub rooms_met : (c : Config) (r : ℕ) (past : List Event) (i free : ℕ) → (AreMet c r past (rooms c r past i free) ↔ (has_room c r past i free ≡ true))
+rooms_met c r past i free =
+    let one : ℕ → Bool = λ q. marked c q (known c r past) || nat_lt (i + free) (last_head r q past + c.ring) in (
+      λ m. each_all c.replicas one (λ q low. (met_each c r past c.replicas (λ q. Reason.NoRoom i free q (last_head r q past) ∷ []) m q low).0),
+      λ h. each_met c r past c.replicas (λ q. Reason.NoRoom i free q (last_head r q past) ∷ []) (λ q low. (all_at c.replicas one h q low, tt)),
+    )
+
+-- the points of a list hold where a test calls for them
+where_fresh : (c : Config) (r : ℕ) (past : List Event) (t room : Bool) (xs : List Reason) → (AreMet c r past xs ↔ (room ≡ true)) → (AreMet c r past (if t then xs else []) ↔ (t ≡ true → room ≡ true))
+where_fresh c r past true room xs met = (λ m is. met.0 m, λ h. met.1 (h refl))
+where_fresh c r past false room xs met = (λ m is. absurd (false≢true is), λ h. tt)
+
+pub reserved_met : (c : Config) (r : ℕ) (past : List Event) (i v : ℕ) → (AreMet c r past (reserved_rooms c r past i v) ↔ (is_fresh_batch c r past i v ≡ true → has_room c r past i (reserve c) ≡ true))
+reserved_met c r past i v = where_fresh c r past (is_fresh_batch c r past i v) (has_room c r past i (reserve c)) (rooms c r past i (reserve c)) (rooms_met c r past i (reserve c))
+
+all_four : (a b : Bool) (x y n m : ℕ) → a ≡ true → x ≡ y → b ≡ true → n ≡ m → (a && ((x == y) && (b && (n == m)))) ≡ true
+all_four a b x y n m p q s t = and_from _ _ p (and_from _ _ (eq-eqb x y q) (and_from _ _ s (eq-eqb n m t)))
+
+each_of_four : (a b : Bool) (x y n m : ℕ) → (a && ((x == y) && (b && (n == m)))) ≡ true → (a ≡ true) × (x ≡ y) × (b ≡ true) × (n ≡ m)
+each_of_four a b x y n m h =
+    let one = and_parts a ((x == y) && (b && (n == m))) h in
+    let two = and_parts (x == y) (b && (n == m)) one.1 in
+    let three = and_parts b (n == m) two.1 in
+    (one.0, eqb-true x y two.0, three.0, eqb-true n m three.1)
+
+pub offers_met : (c : Config) (r : ℕ) (past : List Event) (v : ℕ) → (AreMet c r past (offers c r past v) ↔ (pick c r past v None ≡ true))
+offers_met c r past v = go (is_mark_offer c r past v)
+  where
+    go : (t : Bool) → (AreMet c r past (if t then [] else (Reason.NoBatch v ∷ Reason.NotOwn v ∷ Reason.NotWritten v ∷ Reason.NotNextOfClient v (number_of c (v % 4096)) (command_count c (client_of c (v % 4096)) (known c r past)) ∷ []))
+        ↔ ((is_offer c r past v || t) ≡ true))
+    go true = (λ m. or_true _ true refl, λ h. tt)
+    go false = (
+      λ m. true_or _ false (all_four _ _ _ _ _ _ m.0 m.1.0 m.1.1.0 m.1.1.1.0),
+      λ h. elim (or_cases _ false h) [ inl own ↦ (let all = each_of_four _ _ _ _ _ _ own in (all.0, (all.1, (all.2, (all.3, tt))))) | inr bad ↦ absurd (false≢true bad) ],
+    )
+
+pub picks_met : (c : Config) (r : ℕ) (past : List Event) (i v : ℕ) (o : Option (ℕ × ℕ)) → (AreMet c r past (picks c r past i v o) ↔ (pick c r past v o ≡ true))
+picks_met c r past i v (Some entry) = (λ m. eq-eqb entry.1 v m.0, λ h. (eqb-true entry.1 v h, tt))
+picks_met c r past i v None = offers_met c r past v
+
+not_true : (t : Bool) → t ≡ false → not t ≡ true
+not_true t is = rw is refl
+
+true_not : (t : Bool) → not t ≡ true → t ≡ false
+true_not true is = sym is
+true_not false is = refl
+
+pub proposals_met : (c : Config) (r : ℕ) (past : List Event) (i v : ℕ) (o : Option ℕ) → (AreMet c r past (proposals c r past i v o) ↔ (may_propose c r past i v o ≡ true))
+proposals_met c r past i v (Some first) = (
+  λ m. and_from _ _ (eq-eqb v first m.0) (not_true _ m.1.0),
+  λ h. let both = and_parts (v == first) (not (joined_since_first_put r i past)) h in (eqb-true v first both.0, (true_not _ both.1, tt)),
+)
+proposals_met c r past i v None =
+    let one : ℕ → Bool = λ p. not (is_member r p past) || is_some (last_look r p i past) in
+    let each : ℕ → List Reason = λ p. Reason.MemberNotLooked p i ∷ [] in
+    let top = highest_accepted r i past c.replicas in (
+      λ m. and_from _ _
+          (each_all c.replicas one (λ p low. (met_each c r past c.replicas each (met_front c r past (each_below c.replicas each) (picks c r past i v top) m) p low).0))
+          ((picks_met c r past i v top).0 (met_rest c r past (each_below c.replicas each) (picks c r past i v top) m)),
+      λ h. let both = and_parts (all_below c.replicas one) (pick c r past v top) h in
+          met_append c r past (each_below c.replicas each) (picks c r past i v top)
+          (each_met c r past c.replicas each (λ p low. (all_at c.replicas one both.0 p low, tt)))
+          ((picks_met c r past i v top).1 both.1),
+    )
+
+pub new_met : (c : Config) (r : ℕ) (past : List Event) (i v : ℕ) → (AreMet c r past (new_values c r past i v) ↔ IsNew c r past i v)
+new_met c r past i v =
+    let first = first_value r i past in
+    let late : List Reason = Reason.PastSeen i ∷ proposals c r past i v first in
+    let kept = reserved_rooms c r past i v in
+    let all = rooms c r past i 0 in (
+      λ m.
+          let more = met_rest c r past all (kept ++ late) m.1 in
+          let last = met_rest c r past kept late more in
+          record { next = m.0; room = (rooms_met c r past i 0).0 (met_front c r past all (kept ++ late) m.1); reserve_kept = (reserved_met c r past i v).0 (met_front c r past kept late more); none_past = last.0; value = (proposals_met c r past i v first).0 last.1 },
+      λ h. (h.next, met_append c r past all (kept ++ late) ((rooms_met c r past i 0).1 h.room) (met_append c r past kept late ((reserved_met c r past i v).1 h.reserve_kept) (h.none_past, (proposals_met c r past i v first).1 h.value))),
+    )
+
+-- the points of a new value are asked for where the value isn't known
+where_known : (c : Config) (r : ℕ) (past : List Event) (o : Option ℕ) (v : ℕ) (xs : List Reason) (New : Type 0) → (AreMet c r past xs ↔ New) → (AreMet c r past (if is_value o v then [] else xs) ↔ ((o ≡ Some v) ⊎ New))
+where_known c r past None v xs New met = (λ m. inr (met.0 m), λ h. elim h [ inl is ↦ absurd (none_some v is) | inr new ↦ met.1 new ])
+where_known c r past (Some w) v xs New met = elim (eqb_tells w v) [
+  | inl same ↦ rw same.0 (λ m. inl (ap Some same.1), λ h. tt)
+  | inr other ↦ rw other.0 (λ m. inr (met.0 m), λ h. elim h [ inl is ↦ absurd (other.1 (same_some w v is)) | inr new ↦ met.1 new ])
+]
+
+pub values_met : (c : Config) (r : ℕ) (past : List Event) (i v : ℕ) → (AreMet c r past (values c r past i v) ↔ ((slice_get (known c r past) i ≡ Some v) ⊎ IsNew c r past i v))
+values_met c r past i v = where_known c r past (slice_get (known c r past) i) v (new_values c r past i v) (IsNew c r past i v) (new_met c r past i v)
+
+pub needs_met : (c : Config) (r : ℕ) (past : List Event) (verb : Verb) → AreMet c r past (needs c r past verb) → Needs c r past verb
+needs_met c r past (Verb.Ask p) m = (m.0, m.1.0)
+needs_met c r past (Verb.Fence p) m = (m.0, m.1.0)
+needs_met c r past (Verb.Min p) m = (m.0, m.1.0, m.1.1.0)
+needs_met c r past (Verb.Enter p Target.None) m = absurd m.1.0
+needs_met c r past (Verb.Enter p Target.Min) m = (m.0, (m.1.0, m.1.1.0, m.1.1.1.0, m.1.1.1.1.0))
+needs_met c r past (Verb.Enter p (Target.Place s)) m = (m.0, (m.1.0, m.1.1.0, m.1.1.1.0))
+needs_met c r past (Verb.PutMin p b) m = (m.0, record { not_over = m.1.0; entered = m.1.1.0; read = m.1.1.1.0; numbered = m.1.1.1.1.0 })
+needs_met c r past (Verb.Look p i) m = (m.0, m.1.0, m.1.1.0)
+needs_met c r past (Verb.PutSlot p i b v) m =
+    let each : ℕ → List Reason = λ j. Reason.Behind p j ∷ [] in
+    let put = m.1.1 in
+    let more = met_rest c r past (puts c r past p i b) (each_below i each ++ values c r past i v) put in
+    let front = met_front c r past (puts c r past p i b) (each_below i each ++ values c r past i v) put in
+    let caught = met_front c r past (each_below i each) (values c r past i v) more in
+    let value = met_rest c r past (each_below i each) (values c r past i v) more in (
+      m.0,
+      m.1.0,
+      record {
+        within_ring = front.0;
+        not_over = front.1.0;
+        carried = front.1.1.0;
+        member = front.1.1.1.0;
+        numbered = front.1.1.1.1.0;
+        entered = front.1.1.1.1.1.0;
+        looked = front.1.1.1.1.1.1.0;
+        caught_up = λ j low. (met_each c r past i each caught j low).0;
+        value = (values_met c r past i v).0 value;
+      },
+    )
+needs_met c r past (Verb.Fuo p) m = m.0
+needs_met c r past (Verb.RaiseFuo p u) m = (m.0, m.1.0, each_all u (is_filled c r p past) (λ j low. (met_each c r past u (λ j. Reason.NotFilled p j ∷ []) m.1.1 j low).0))
+needs_met c r past (Verb.Head q) m = m.0
+needs_met c r past (Verb.ReadBeat q) m = (m.0, m.1.0)
+needs_met c r past (Verb.WriteRow j k x) m = (m.0, m.1.0, m.1.1.0, m.1.1.1.0)
+needs_met c r past (Verb.ReadRow v k) m = (m.0, m.1.0, m.1.1.0)
+needs_met c r past (Verb.RaiseHead h) m = (m.0, m.1.0)
+needs_met c r past Verb.Beat m = tt
+needs_met c r past (Verb.ReadAsk w) m = m.0
+needs_met c r past Verb.Close m = (m.0, m.1.0)
+needs_met c r past Verb.LookTarget m = (m.0, m.1.0)
+needs_met c r past Verb.Drain m = (m.0, m.1.0, m.1.1.0)
+needs_met c r past (Verb.Grant w) m = (m.0, m.1.0, m.1.1.0, m.1.1.1.0)
+
+pub met_needs : (c : Config) (r : ℕ) (past : List Event) (verb : Verb) → Needs c r past verb → AreMet c r past (needs c r past verb)
+met_needs c r past (Verb.Ask p) h = (h.0, (h.1, tt))
+met_needs c r past (Verb.Fence p) h = (h.0, (h.1, tt))
+met_needs c r past (Verb.Min p) h = (h.0, (h.1, (h.2, tt)))
+met_needs c r past (Verb.Enter p Target.None) h = absurd h.1
+met_needs c r past (Verb.Enter p Target.Min) h = (h.0, (h.1.0, (h.1.1, (h.1.2, (h.1.3, tt)))))
+met_needs c r past (Verb.Enter p (Target.Place s)) h = (h.0, (h.1.0, (h.1.1, (h.1.2, tt))))
+met_needs c r past (Verb.PutMin p b) h = (h.0, (h.1.not_over, (h.1.entered, (h.1.read, (h.1.numbered, tt)))))
+met_needs c r past (Verb.Look p i) h = (h.0, (h.1, (h.2, tt)))
+met_needs c r past (Verb.PutSlot p i b v) h =
+    let each : ℕ → List Reason = λ j. Reason.Behind p j ∷ [] in
+    let may = h.2 in
+    let caught = each_met c r past i each (λ j low. (may.caught_up j low, tt)) in
+    let value = (values_met c r past i v).1 may.value in
+    let more = met_append c r past (each_below i each) (values c r past i v) caught value in
+    (h.0, (h.1, (may.within_ring, (may.not_over, (may.carried, (may.member, (may.numbered, (may.entered, (may.looked, more)))))))))
+met_needs c r past (Verb.Fuo p) h = (h, tt)
+met_needs c r past (Verb.RaiseFuo p u) h = (h.0, (h.1, each_met c r past u (λ j. Reason.NotFilled p j ∷ []) (λ j low. (all_at u (is_filled c r p past) h.2 j low, tt))))
+met_needs c r past (Verb.Head q) h = (h, tt)
+met_needs c r past (Verb.ReadBeat q) h = (h.0, (h.1, tt))
+met_needs c r past (Verb.WriteRow j k x) h = (h.0, (h.1, (h.2, (h.3, tt))))
+met_needs c r past (Verb.ReadRow v k) h = (h.0, (h.1, (h.2, tt)))
+met_needs c r past (Verb.RaiseHead a) h = (h.0, (h.1, tt))
+met_needs c r past Verb.Beat h = tt
+met_needs c r past (Verb.ReadAsk w) h = (h, tt)
+met_needs c r past Verb.Close h = (h.0, (h.1, tt))
+met_needs c r past Verb.LookTarget h = (h.0, (h.1, tt))
+met_needs c r past Verb.Drain h = (h.0, (h.1, (h.2, tt)))
+met_needs c r past (Verb.Grant w) h = (h.0, (h.1, (h.2, (h.3, tt))))
+
+pub met_where_allowed : MetWhereAllowed
+met_where_allowed c r past verb = (
+  λ m. record { budget = m.1.0; replica = m.0; may = needs_met c r past verb m.1.1 },
+  λ h. (h.replica, (h.budget, met_needs c r past verb h.may)),
+)
