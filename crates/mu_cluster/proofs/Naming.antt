@@ -37,10 +37,10 @@ with_event : (events earlier later : List Event) (e : Event) → events ≡ earl
 with_event events earlier later e is = before_event events earlier later e is ∙ (ap (λ l. l ++ history earlier) (reverse-append (e ∷ []) later) ∙ append_assoc (history later) (e ∷ []) (history earlier))
 
 -- what holds of each event of a part
-part_before : (P : List Event → Event → Type 0) (r : ℕ) (newer older : List Event) → AtEachStep P (part r (newer ++ older)) → AtEachStep P (part r older)
+pub part_before : (P : List Event → Event → Type 0) (r : ℕ) (newer older : List Event) → AtEachStep P (part r (newer ++ older)) → AtEachStep P (part r older)
 part_before P r newer older held = steps_before P (part r newer) (part r older) (subst (AtEachStep P) (filter-append (λ e. e.by == r) newer older) held)
 
-part_step : (P : List Event → Event → Type 0) (older : List Event) (e : Event) → AtEachStep P (part e.by (e ∷ older)) → P (part e.by older) e
+pub part_step : (P : List Event → Event → Type 0) (older : List Event) (e : Event) → AtEachStep P (part e.by (e ∷ older)) → P (part e.by older) e
 part_step P older e held = go (e.by == e.by) (same_number e.by) held
   where
     go : (t : Bool) → t ≡ true → AtEachStep P (cond t (e ∷ part e.by older) (part e.by older)) → P (part e.by older) e
@@ -48,7 +48,7 @@ part_step P older e held = go (e.by == e.by) (same_number e.by) held
     go false is held = absurd (true≢false (sym is))
 
 -- where none passes, this one doesn't
-none_here : (test : Event → Bool) (newer older : List Event) (e : Event) → has test (newer ++ e ∷ older) ≡ false → test e ≡ false
+pub none_here : (test : Event → Bool) (newer older : List Event) (e : Event) → has test (newer ++ e ∷ older) ≡ false → test e ≡ false
 none_here test [] older e none = go (test e) none
   where
     go : (t : Bool) → cond t true (has test older) ≡ false → t ≡ false

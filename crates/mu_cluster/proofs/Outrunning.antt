@@ -87,7 +87,7 @@ none_earlier None = refl
 none_earlier (Some x) = refl
 
 -- so it meets no place that is used again
-none_outrun : (c : Config) (events : List Event) (lengths : List ℕ) (rounds q p i : ℕ) → IsConfig c → AreUnpaused c events lengths rounds → q < c.replicas → outrun c q (part_of q events) ≡ Some (p, i) → ⊥
+pub none_outrun : (c : Config) (events : List Event) (lengths : List ℕ) (rounds q p i : ℕ) → IsConfig c → AreUnpaused c events lengths rounds → q < c.replicas → outrun c q (part_of q events) ≡ Some (p, i) → ⊥
 none_outrun c events lengths rounds q p i good run low = go (part_of q events) refl (run.made q low)
   where
     go : (mine : List Event) → part_of q events ≡ mine → AtEachStep (WasMade c q) mine → outrun c q mine ≡ Some (p, i) → ⊥

@@ -1,5 +1,7 @@
 pub mod Branches
 pub mod Lists
+pub mod Leading
+pub mod Living
 pub mod Naming
 pub mod Paces
 pub mod Rounds

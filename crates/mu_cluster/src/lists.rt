@@ -5,6 +5,8 @@ ghost use Rattle.mu_model.specs.declared.script.End.{End as SomeEnd};
 ghost use Rattle.mu_model.specs.Contents.{IsConfig};
 ghost use Rattle.mu_model.specs.Legal.{IsLegal};
 ghost use Rattle.mu_cluster.specs.declared.rounds.Seat.{Seat as SomeSeat};
+ghost use Rattle.mu_cluster.specs.Leading.{LeadOnUnpaused};
+ghost use Rattle.mu_cluster.specs.Living.{AppliesAllUnpaused};
 ghost use Rattle.mu_cluster.specs.Naming.{NamesFirstUnpaused, NoneOutrunUnpaused};
 ghost use Rattle.mu_cluster.specs.Lists.{Adds, HasRoom, HoldsLists, IsFresh, IsOutcomeRoom};
 ghost use Rattle.mu_follow.specs.Groups.{AreSpelled};
@@ -125,6 +127,8 @@ impl OutcomeRoom {
         ensures diligent { AreDiligent result }
         ensures names { NamesFirstUnpaused result }
         ensures none_outrun { NoneOutrunUnpaused result }
+        ensures applies { AppliesAllUnpaused result }
+        ensures leads { LeadOnUnpaused result }
     {
         let OutcomeRoom { lists } = self;
         let Lists {

@@ -3,6 +3,8 @@ ghost use Rattle.std.specs.Prelude.{IfOk, [], ◌≡◌};
 ghost use Rattle.mu_input.specs.Heads.{HaveHeads};
 ghost use Rattle.mu_follow.specs.Groups.{AreSpelled};
 ghost use Rattle.mu_model.specs.Contents.{IsConfig};
+ghost use Rattle.mu_cluster.specs.Leading.{LeadOnUnpaused};
+ghost use Rattle.mu_cluster.specs.Living.{HasAllInTime};
 ghost use Rattle.mu_cluster.specs.Paces.{AreDiligent};
 ghost use Rattle.mu_outcome.specs.Outcomes.{Agrees, IsRun, IsWithinJob};
 ghost use Rattle.mu_cluster.specs.Naming.{NamesFirstUnpaused, SpendsBudgets};
@@ -33,6 +35,8 @@ pub fn replay(alloc: Global, job: Job) -> Result<Outcome, NoMemory>
     ensures reach { IfOk result IsWithinJob }
     ensures names { IfOk result NamesFirstUnpaused }
     ensures spends { IfOk result SpendsBudgets }
+    ensures lives { IfOk result HasAllInTime }
+    ensures leads { IfOk result LeadOnUnpaused }
 {
     let memory = WordFabric::start(alloc, &job.config)?;
     replay_over(alloc, job, memory)
@@ -56,6 +60,8 @@ pub fn replay_over<M: Memory>(alloc: Global, job: Job, memory: M) -> Result<Outc
     ensures reach { IfOk result IsWithinJob }
     ensures names { IfOk result NamesFirstUnpaused }
     ensures spends { IfOk result SpendsBudgets }
+    ensures lives { IfOk result HasAllInTime }
+    ensures leads { IfOk result LeadOnUnpaused }
 {
     let room = OutcomeRoom::new(alloc, &job.config)?;
     let mut seats = seats(alloc, &job)?;

@@ -182,6 +182,14 @@ ready : (c : Config) (r : ℕ) (past : List Event) → r < c.replicas → length
 ready c r [] inside left order = ready_open c r [] refl
 ready c r (e ∷ past) inside left order = ready_next c r e.by e.verb e.answer past (record { inside = inside; left = omega arith; turn = order.1 }) (ready c r past inside (omega arith) order.0)
 
+-- asks are read while the region isn't closing
+pub reads_open : (c : Config) (r w : ℕ) (past : List Event) (e : Event) → r < c.replicas → length past < c.budget → InCycleOrder c r (e ∷ past) → e.verb ≡ Verb.ReadAsk w → fence_closing r past ≡ false
+reads_open c r w past e inside left order is =
+    let asked = order.1.asks w is in
+    let at = at_place c (ask_place c w) past asked.1 in
+    let low = asked.0 in
+    (ready c r past inside (omega (arith, left)) order.0).rested (inl (omega (arith, at, low)))
+
 -- what came before some events was in order too
 older_order : (c : Config) (r : ℕ) (newer past : List Event) → InCycleOrder c r (newer ++ past) → InCycleOrder c r past
 older_order c r [] past order = order

@@ -177,3 +177,44 @@ asker_named c r p mine e held asks = go (is_odd (length mine)) refl
           | inl low ↦ absurd (not_due made.0 (subst (Fails (is_asking_verb p)) (sym (made.1.read low)) (read (place_now c mine == 0) (nat_lt (place_now c mine) c.replicas))) made.2)
           | inr high ↦ absurd (not_due made.0 (background_fails (is_asking_verb p) (asks_fail p) c r mine (leads_at held.lead.place) made.0 high made.1) made.2)
         ]
+
+-- the verb writes a word of a row
+abbrev pub is_row_write : Verb → Bool
+is_row_write (Verb.WriteRow j k x) = true
+is_row_write _ = false
+
+-- which is none of the background
+writes_fail : FailsBackground is_row_write
+writes_fail = record {
+  replays = record { beat = refl; fuo = λ q. refl; look = λ q i. refl; row = λ v k. refl; raise = λ q u. refl; raise_head = λ h. refl; head = λ q. refl };
+  host = host;
+}
+  where
+    host : (d : ℕ) (verb : Verb) → is_of_place d verb ≡ true → is_row_write verb ≡ false
+    host d (Verb.WriteRow j k x) is = absurd (true≢false (sym is))
+    host d verb is = refl
+
+-- who writes a row names itself
+pub writer_named : (c : Config) (r : ℕ) (mine : List Event) (e : Event) → WasMade c r mine e → is_row_write e.verb ≡ true → leader c r mine ≡ r
+writer_named c r mine e held writes = go (is_odd (length mine)) refl
+  where
+    not_due : (due : Option Verb) → Fails is_row_write due → e.verb ≡ verb_or_beat due → ⊥
+    not_due due fails made = true≢false (sym writes ∙ (ap is_row_write made ∙ fails))
+
+    named : (t : Bool) → (leader c r mine == r) ≡ t → e.verb ≡ verb_or_beat (if t then verb_of held.lead (known c r mine) else None) → leader c r mine ≡ r
+    named true is made = eqb-true (leader c r mine) r is
+    named false is made = absurd (not_due None refl made)
+
+    read : (s t : Bool) → is_row_write (if s then Verb.Beat else if t then Verb.ReadBeat (other_at r (place_now c mine)) else Verb.ReadAsk (place_now c mine - c.replicas)) ≡ false
+    read true t = refl
+    read false true = refl
+    read false false = refl
+
+    go : (t : Bool) → is_odd (length mine) ≡ t → leader c r mine ≡ r
+    go true odd = named (leader c r mine == r) refl (held.made.replication odd)
+    go false even =
+        let made = held.made.background even in
+        elim (cases_lt (place_now c mine) (host_place c 0)) [
+          | inl low ↦ absurd (not_due made.0 (subst (Fails is_row_write) (sym (made.1.read low)) (read (place_now c mine == 0) (nat_lt (place_now c mine) c.replicas))) made.2)
+          | inr high ↦ absurd (not_due made.0 (background_fails is_row_write writes_fail c r mine (leads_at held.lead.place) made.0 high made.1) made.2)
+        ]

@@ -261,6 +261,14 @@ few_told o events good have run agrees =
     let most = at_most (row_count c) js (once c js (rows_once o told)) (rows_below o told) in
     omega (arith, long, many, most)
 
+-- a log that holds every row tells every command
+pub all_from_log : (o : Outcome) (events : List Event) → IsConfig o.job.config → HaveHeads o.job.config.width o.job.commands o.job.config.rows → IsRunOver events o → Agrees o → (r : ℕ) → r < o.job.config.replicas → holds_all o.job.config (log_of o r) ≡ true → HasAllCommands o
+all_from_log o events good have run agrees r low holds =
+    let c = o.job.config in
+    let begins = begins_longest o agrees run.counts.0 r low in
+    has_all_from_rows o (told_of o good have agrees run.counts.0)
+    (λ q inside. among_front c q (log_of o r) begins.0 (longest o.logs) begins.1 (included_among q (rows_in c (log_of o r)) (all_at (row_count c) (λ j. includes j (rows_in c (log_of o r))) holds q inside)))
+
 -- how a run ends where some command is missing, and what its status says
 pub completes_over : (o : Outcome) (events : List Event) → IsConfig o.job.config → HaveHeads o.job.config.width o.job.commands o.job.config.rows → IsRunOver events o → Agrees o → Completes o
 completes_over o events good have run agrees = record {

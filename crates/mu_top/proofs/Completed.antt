@@ -10,15 +10,19 @@ use Rattle.mu_outcome.specs.Entries.{commands_in, longest}
 use Rattle.mu_outcome.specs.Outcomes.{Agrees, IsRun}
 use Rattle.mu_outcome.specs.Runs.{IsThreadRun}
 use Rattle.mu_outcome.proofs.Completing.{completes_over, few_told, session_told}
+use Rattle.mu_cluster.specs.Leading.{LeadOnUnpaused}
+use Rattle.mu_cluster.specs.Living.{HasAllInTime}
 use Rattle.mu_cluster.specs.Naming.{NamesFirstUnpaused, SpendsBudgets}
 use Rattle.mu_cluster.specs.Paces.{AreDiligent}
 use Rattle.mu_cluster.proofs.Agreeing.{over_order}
 use Rattle.mu_top.specs.Commands.{IsReplay, IsThreaded}
 
-pub replay_of : (o : Outcome) (job : Job) → o.job ≡ job → IsConfig job.config → HaveHeads job.config.width job.commands job.config.rows → IsRun o → AreDiligent o → NamesFirstUnpaused o → SpendsBudgets o → Agrees o → IsReplay o
-replay_of o job same good have run diligent names spends agrees = record {
+pub replay_of : (o : Outcome) (job : Job) → o.job ≡ job → IsConfig job.config → HaveHeads job.config.width job.commands job.config.rows → IsRun o → AreDiligent o → NamesFirstUnpaused o → SpendsBudgets o → HasAllInTime o → LeadOnUnpaused o → Agrees o → IsReplay o
+replay_of o job same good have run diligent names spends lives leads agrees = record {
   names = names;
   spends = spends;
+  lives = lives;
+  leads = leads;
   run = run;
   diligent = diligent;
   agrees = agrees;

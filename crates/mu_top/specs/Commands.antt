@@ -5,6 +5,8 @@ use Rattle.mu_input.specs.Grammar.{job}
 use Rattle.mu_input.specs.Readings.{Fits, Leaves}
 use Rattle.mu_input.specs.Bulk.{bulk_job}
 use Rattle.mu_input.specs.declared.job.InputEnd.{InputEnd}
+use Rattle.mu_cluster.specs.Leading.{LeadOnUnpaused}
+use Rattle.mu_cluster.specs.Living.{HasAllInTime}
 use Rattle.mu_cluster.specs.Naming.{NamesFirstUnpaused, SpendsBudgets}
 use Rattle.mu_cluster.specs.Paces.{AreDiligent}
 use Rattle.mu_outcome.specs.declared.outcome.Outcome.{Outcome}
@@ -17,7 +19,9 @@ use Rattle.snap_reads.specs.Lives.{AreAllSights}
 
 -- the outcome is a run of its job in turns: its journals are diligent, where the script has no pause
 -- each replica names replica 0 until that has ended, its replicas agree, and where a command is
--- missing each was cut short, by its budget alone where the script has no line
+-- missing each was cut short, by its budget alone where the script has no line; none is missing
+-- where the script leaves a majority with replica 0, the ring is large and the budget enough; and
+-- where it has no pause no leadership is ever over
 pub record IsReplay (o : Outcome) : Type 0 where
   pub run : IsRun o
   pub diligent : AreDiligent o
@@ -25,6 +29,8 @@ pub record IsReplay (o : Outcome) : Type 0 where
   pub agrees : Agrees o
   pub completes : Completes o
   pub spends : SpendsBudgets o
+  pub lives : HasAllInTime o
+  pub leads : LeadOnUnpaused o
 
 -- the outcome is a run of its job by threads: its journals are diligent, its replicas agree, and
 -- where a command is missing each was cut short

@@ -3,7 +3,9 @@ use Rattle.mu_model.specs.Legal.{IsLegal}
 use Rattle.mu_outcome.specs.declared.outcome.Outcome.{Outcome}
 use Rattle.mu_cluster.specs.Lists.{HoldsLists}
 use Rattle.mu_cluster.proofs.Filling.{diligent_of, run_of, told_longest}
+use Rattle.mu_cluster.proofs.Living.{applies_of}
 use Rattle.mu_cluster.proofs.Naming.{named_of}
+use Rattle.mu_cluster.proofs.Onward.{leads_of}
 use Rattle.mu_cluster.proofs.Outrunning.{none_outrun_of}
 use Rattle.mu_cluster.proofs.lists.OutcomeRoom.outcome.Goals as goal
 
@@ -57,3 +59,31 @@ returns-clause-none_outrun c =
     let run = run_of o order lists c.args.seats.items c.requires.played.0 refl legal c.from_vec.ensures c.from_vec-2.ensures c.from_vec-3.ensures c.from_vec-4.ensures held played c.requires.ended
     (told_longest job job.script order.events k.replicas lists o.logs c.requires.spelled held c.from_vec-2.ensures) in
     none_outrun_of o order c.args.seats.items c.requires.played.0 c.requires.good run refl played
+
+pub returns-clause-applies : goal.returns-clause-applies
+returns-clause-applies c =
+    let job = c.args.job in
+    let k = job.config in
+    let order = c.args.order in
+    let lists = c.filled-journals.result in
+    let legal : IsLegal k order.events = c.requires.legal in
+    let held = subst (λ l. HoldsLists k job.script l k.replicas lists) c.as_slice.ensures c.filled-journals.ensures in
+    let played = c.requires.played.1 in
+    let o : Outcome = record { job = job; journals = c.from_vec.result; logs = c.from_vec-2.result; commits = c.from_vec-3.result; replies = lists.replies; ends = c.from_vec-4.result; order = Some order; gathered = None } in
+    let run = run_of o order lists c.args.seats.items c.requires.played.0 refl legal c.from_vec.ensures c.from_vec-2.ensures c.from_vec-3.ensures c.from_vec-4.ensures held played c.requires.ended
+    (told_longest job job.script order.events k.replicas lists o.logs c.requires.spelled held c.from_vec-2.ensures) in
+    applies_of o order c.args.seats.items c.requires.played.0 c.requires.good run refl played (diligent_of o order.events lists c.from_vec.ensures held)
+
+pub returns-clause-leads : goal.returns-clause-leads
+returns-clause-leads c =
+    let job = c.args.job in
+    let k = job.config in
+    let order = c.args.order in
+    let lists = c.filled-journals.result in
+    let legal : IsLegal k order.events = c.requires.legal in
+    let held = subst (λ l. HoldsLists k job.script l k.replicas lists) c.as_slice.ensures c.filled-journals.ensures in
+    let played = c.requires.played.1 in
+    let o : Outcome = record { job = job; journals = c.from_vec.result; logs = c.from_vec-2.result; commits = c.from_vec-3.result; replies = lists.replies; ends = c.from_vec-4.result; order = Some order; gathered = None } in
+    let run = run_of o order lists c.args.seats.items c.requires.played.0 refl legal c.from_vec.ensures c.from_vec-2.ensures c.from_vec-3.ensures c.from_vec-4.ensures held played c.requires.ended
+    (told_longest job job.script order.events k.replicas lists o.logs c.requires.spelled held c.from_vec-2.ensures) in
+    leads_of o order c.args.seats.items c.requires.played.0 c.requires.good run refl played (diligent_of o order.events lists c.from_vec.ensures held)

@@ -1,0 +1,388 @@
+-- A replica that asks alone reads a minimum in time.
+use Rattle.std.proofs.Common.{◌≡◌, ℕ, suc, zero, ◌+◌, ◌-◌, ◌*◌, ◌<◌, ◌≤◌, ◌==◌, ◌&&◌, ◌||◌, not, inl, inr, Bool, true, false, cond, Some, None, List, [], ◌∷◌, ◌++◌, length, refl, sym, ◌∙◌, ap, arith, subst, true≢false, append_assoc, append-nil}
+use Rattle.std.specs.declared.option.Option.{Option}
+use Rattle.std.specs.Prelude.{is_some, min, nat_le}
+use Rattle.std.proofs.lemmas.Bool.{and_from, cases_lt, eq-eqb}
+use Rattle.std.proofs.lemmas.List.{length-append}
+use Rattle.mu_model.specs.declared.config.Config.{Config}
+use Rattle.mu_model.specs.declared.event.Answer.{Answer}
+use Rattle.mu_model.specs.declared.event.Event.{Event}
+use Rattle.mu_model.specs.declared.event.Verb.{Verb}
+use Rattle.mu_model.specs.Bounds.{cycle}
+use Rattle.mu_model.specs.Diligence.{AsksInTime, GrantsInTime, ReadsInTime, has_to_ask, is_confirmed, may_ask_anew, was_unnamed}
+use Rattle.mu_model.specs.Histories.{all_below, count_below, has, how_many, newer_or, newest, part}
+use Rattle.mu_model.specs.Leaderships.{begins_leadership, fence_seen, grant_for, has_begun, is_over, leadership, majority_of, noted_grant}
+use Rattle.mu_model.specs.Legal.{IsLegalHistory}
+use Rattle.mu_model.specs.Regions.{asks, fence_owner, is_ask_by}
+use Rattle.mu_model.specs.Steps.{has_min, is_any_fencing, is_any_fencing_verb, is_asking, is_asking_verb, is_fencing, is_min, is_named, knows_all, leads}
+use Rattle.mu_model.specs.Stretches.{IsStretch, is_replication}
+use Rattle.mu_model.proofs.Parts.{filter-append}
+use Rattle.mu_agree.proofs.Legal.{legal_older}
+use Rattle.mu_agree.proofs.Members.{over-part}
+use Rattle.mu_pace.specs.Collecting.{LeaderKeeps}
+use Rattle.mu_pace.specs.Counters.{AtEachMoment, AtEachStep, fewer, left_after, steps_left}
+use Rattle.mu_pace.specs.Watches.{confirming, is_confirming}
+use Rattle.mu_pace.proofs.Counting.{last_moment, moments_before, steps_before}
+use Rattle.mu_alive.specs.Alone.{AsksAlone}
+use Rattle.mu_alive.specs.Enough.{asking_steps, beginning_steps, granting_steps}
+use Rattle.mu_alive.specs.Lone.{IsNear, LeadsAlone}
+use Rattle.mu_alive.proofs.Alone.{never_over}
+use Rattle.mu_alive.proofs.Cutting.{cut, located, met}
+use Rattle.mu_alive.proofs.Granting.{granted}
+use Rattle.mu_alive.proofs.Moments.{asks_there, both_moments}
+use Rattle.mu_alive.proofs.Noting.{NotesOwned, confirmed, notes_owned}
+
+-- what a host keeps it kept before
+pub reads_before : (c : Config) (r : ℕ) (newer older : List Event) → ReadsInTime c r (newer ++ older) → ReadsInTime c r older
+reads_before c r newer older held = record {
+  beat = λ window o s l. held.beat window o (more window o s) l;
+  beats = λ q window o low other s l. held.beats q window o low other (more window o s) l;
+  asks = λ w window o low s l. held.asks w window o low (more window o s) l;
+  apart = λ q later earlier between o s x y. held.apart q later earlier between o (more (later ∷ between ++ earlier ∷ []) o s) x y;
+}
+  where
+    more : (window o : List Event) → IsStretch older window o → IsStretch (newer ++ older) window o
+    more window o s = record { newer = newer ++ s.newer; is = ap (λ l. newer ++ l) s.is ∙ sym (append_assoc newer s.newer (window ++ o)) }
+
+pub grants_before : (c : Config) (r : ℕ) (newer older : List Event) → GrantsInTime c r (newer ++ older) → GrantsInTime c r older
+grants_before c r newer older held w e window o s = held w e window o (record { newer = newer ++ s.newer; is = ap (λ l. newer ++ l) s.is ∙ sym (append_assoc newer s.newer (window ++ e ∷ o)) })
+
+pub alone_before : (a : ℕ) (newer older : List Event) → AsksAlone a (newer ++ older) → AsksAlone a older
+alone_before a [] older alone = alone
+alone_before a (e ∷ newer) older alone = alone_before a newer older alone.0
+
+-- the history up to which a had taken k steps
+pub record CutAt (a k : ℕ) (events : List Event) : Type 0 where
+  pub newer : List Event
+  pub rest : List Event
+  pub is : events ≡ newer ++ rest
+  pub count : length (part a rest) ≡ k
+
+pub cut_at : (a k : ℕ) (events : List Event) → k ≤ length (part a events) → CutAt a k events
+cut_at a k [] few = record { newer = []; rest = []; is = refl; count = omega (arith, few) }
+cut_at a k (e ∷ events) few = elim (cases_lt (length (part a events)) k) [
+  | inl more ↦ record { newer = []; rest = e ∷ events; is = refl; count = (let most = one_more (e.by == a) in omega (arith, few, more, most)) }
+  | inr less ↦ let c = cut_at a k events less in record { newer = e ∷ c.newer; rest = c.rest; is = ap (λ l. e ∷ l) c.is; count = c.count }
+]
+  where
+    one_more : (t : Bool) → length (cond t (e ∷ part a events) (part a events)) ≤ length (part a events) + 1
+    one_more true = omega arith
+    one_more false = omega arith
+
+-- an ask in the part is one that the region counts
+asked_once : (a p : ℕ) (past : List Event) → has (is_asking p) (part a past) ≡ true → 1 ≤ asks a p past
+asked_once a p [] some = absurd (true≢false (sym some))
+asked_once a p (e ∷ past) some = go (e.by == a) refl some (asked_once a p past)
+  where
+    same : (by : ℕ) (verb : Verb) → (by == a) ≡ true → is_ask_by a p by verb ≡ is_asking_verb p verb
+    same by (Verb.Ask q) h = rw h refl
+    same by verb h = refl
+
+    counts : (t : Bool) → 1 ≤ asks a p past → 1 ≤ cond t (asks a p past + 1) (asks a p past)
+    counts true l = omega (arith, l)
+    counts false l = l
+
+    here : (t u : Bool) → t ≡ u → cond u true (has (is_asking p) (part a past)) ≡ true → (has (is_asking p) (part a past) ≡ true → 1 ≤ asks a p past) → 1 ≤ cond t (asks a p past + 1) (asks a p past)
+    here true u h some ih = omega arith
+    here false true h some ih = absurd (true≢false (sym h))
+    here false false h some ih = ih some
+
+    go : (t : Bool) → (e.by == a) ≡ t → has (is_asking p) (cond t (e ∷ part a past) (part a past)) ≡ true → (has (is_asking p) (part a past) ≡ true → 1 ≤ asks a p past) → 1 ≤ cond (is_ask_by a p e.by e.verb) (asks a p past + 1) (asks a p past)
+    go true own some ih = here (is_ask_by a p e.by e.verb) (is_asking p e) (same e.by e.verb own) some ih
+    go false own some ih = counts (is_ask_by a p e.by e.verb) (ih some)
+
+-- after so many steps each region is granted
+owned : (c : Config) (live : ℕ → Bool) (a p : ℕ) (newer older : List Event) → LeadsAlone c live a (newer ++ older) → AtEachMoment (λ now. has_to_ask c a now ≡ true) (part a (newer ++ older)) → p < c.replicas → live p ≡ true → granting_steps c ≤ length (part a older) → fence_owner p older ≡ Some a
+owned c live a p newer older lone waits low lives long =
+    subst (λ l. fence_owner p l ≡ Some a) (sym first.is)
+    (granted c a p first.newer first.rest lone.inside legal alone
+    (reads_before c p (part p newer) (part p (first.newer ++ first.rest)) (subst (ReadsInTime c p) (parts p) (lone.reads p low lives)))
+    (grants_before c p (part p newer) (part p (first.newer ++ first.rest)) (subst (GrantsInTime c p) (parts p) (lone.grants p low lives)))
+    (asked_once a p first.rest asked) enough)
+  where
+    first : CutAt a (asking_steps c) older
+    first = cut_at a (asking_steps c) older (omega (arith, long))
+
+    whole : newer ++ older ≡ newer ++ (first.newer ++ first.rest)
+    whole = ap (λ l. newer ++ l) first.is
+
+    parts : (r : ℕ) → part r (newer ++ older) ≡ part r newer ++ part r (first.newer ++ first.rest)
+    parts r = ap (part r) whole ∙ filter-append (λ e. e.by == r) newer (first.newer ++ first.rest)
+
+    legal : IsLegalHistory c (first.newer ++ first.rest)
+    legal = legal_older c newer (first.newer ++ first.rest) (subst (IsLegalHistory c) whole lone.legal)
+
+    alone : AsksAlone a (first.newer ++ first.rest)
+    alone = alone_before a newer (first.newer ++ first.rest) (subst (AsksAlone a) whole lone.alone)
+
+    asked : has (is_asking p) (part a first.rest) ≡ true
+    asked =
+        let split = parts a ∙ ap (λ l. part a newer ++ l) (filter-append (λ e. e.by == a) first.newer first.rest) ∙ sym (append_assoc (part a newer) (part a first.newer) (part a first.rest)) in
+        asks_there c a p (part a (newer ++ older)) (part a newer ++ part a first.newer) (part a first.rest) [] lone.asks (split ∙ ap (λ l. (part a newer ++ part a first.newer) ++ l) (sym (append-nil (part a first.rest)))) first.count low waits
+
+    enough : 2 * cycle c ≤ length (part p first.newer)
+    enough =
+        let now : AtEachMoment (IsNear c live a) (newer ++ (first.newer ++ first.rest)) = subst (AtEachMoment (IsNear c live a)) whole lone.near in
+        let at = moments_before (IsNear c live a) newer (first.newer ++ first.rest) now in
+        let late = (last_moment (IsNear c live a) (first.newer ++ first.rest) at p low lives).1 in
+        let early = (last_moment (IsNear c live a) first.rest (moments_before (IsNear c live a) first.newer first.rest at) p low lives).0 in
+        let same = ap (λ l. length (part a l)) first.is in
+        let split = ap length (filter-append (λ e. e.by == p) first.newer first.rest) ∙ length-append (part p first.newer) (part p first.rest) in
+        let count = first.count in
+        omega (arith, late, early, same, split, count, long)
+
+-- an event that reads no fence and begins no leadership leaves what is noted
+unfenced : (a p by : ℕ) (verb : Verb) (answer : Answer) → is_any_fencing_verb verb ≡ false → fence_seen a p by verb answer ≡ None
+unfenced a p by (Verb.Fence q) answer h = absurd (true≢false h)
+unfenced a p by verb answer h = refl
+
+noted_still : (a p : ℕ) (e : Event) (past : List Event) → begins_leadership a e ≡ false → is_any_fencing e ≡ false → noted_grant a p (e ∷ past) ≡ noted_grant a p past
+noted_still a p e past same none =
+    ap (λ t. grant_for a (newest (λ f. fence_seen a p f.by f.verb f.answer) (cond t [] (e ∷ leadership a past)))) same
+    ∙ ap (λ o. grant_for a (newer_or o (newest (λ f. fence_seen a p f.by f.verb f.answer) (leadership a past)))) (unfenced a p e.by e.verb e.answer none)
+
+count_same : (n : ℕ) (f g : ℕ → Bool) → ((k : ℕ) → f k ≡ g k) → count_below n f ≡ count_below n g
+count_same zero f g same = refl
+count_same (suc n) f g same = rw (same n, count_same n f g same) refl
+
+confirmed_still : (c : Config) (a : ℕ) (e : Event) (past : List Event) → begins_leadership a e ≡ false → is_any_fencing e ≡ false → is_confirmed c a (e ∷ past) ≡ is_confirmed c a past
+confirmed_still c a e past same none =
+    ap (λ o. is_some o && nat_le (majority_of c.replicas) (count_below c.replicas (λ p. is_some (noted_grant a p (e ∷ past))))) (noted_still a a e past same none)
+    ∙ ap (λ k. is_some (noted_grant a a past) && nat_le (majority_of c.replicas) k)
+    (count_same c.replicas (λ p. is_some (noted_grant a p (e ∷ past))) (λ p. is_some (noted_grant a p past)) (λ p. ap is_some (noted_still a p e past same none)))
+
+unconfirmed : (c : Config) (a : ℕ) (e : Event) (past : List Event) → begins_leadership a e ≡ true → is_confirmed c a (e ∷ past) ≡ false
+unconfirmed c a e past begins = ap (λ t. is_some (grant_for a (newest (λ f. fence_seen a a f.by f.verb f.answer) (cond t [] (e ∷ leadership a past)))) && nat_le (majority_of c.replicas) (count_below c.replicas (λ p. is_some (noted_grant a p (e ∷ past))))) begins
+
+has_more : (test : Event → Bool) (newer older : List Event) → has test older ≡ true → has test (newer ++ older) ≡ true
+has_more test [] older some = some
+has_more test (e ∷ newer) older some = go (test e) (has_more test newer older some)
+  where
+    go : (t : Bool) → has test (newer ++ older) ≡ true → cond t true (has test (newer ++ older)) ≡ true
+    go true ih = refl
+    go false ih = ih
+
+some_left : (n : ℕ) (o : Option ℕ) → (left : ℕ) × (fewer (Some n) o ≡ Some left)
+some_left n None = (n, refl)
+some_left n (Some x) = (min n x, refl)
+
+still_left : (o : Option ℕ) (t : Bool) (x : ℕ) → (left : ℕ) × (fewer o (left_after false t 0 (Some x)) ≡ Some left)
+still_left None true x = (x + 0 - 1, refl)
+still_left None false x = (x + 0, refl)
+still_left (Some n) true x = (min n (x + 0 - 1), refl)
+still_left (Some n) false x = (min n (x + 0), refl)
+
+-- no minimum was read, and a named itself
+abbrev pub HasNoMin : Config → ℕ → List Event → Type 0
+HasNoMin c a now = (has_min a now ≡ false) × (is_named c a now ≡ true)
+
+-- while it is confirmed a count is open
+waits_for : (c : Config) (a : ℕ) (newer older : List Event) → AtEachMoment (HasNoMin c a) (newer ++ older) → has_begun a older ≡ true → is_confirmed c a older ≡ false → is_confirmed c a (newer ++ older) ≡ true → (left : ℕ) × (steps_left (confirming c a) (newer ++ older) ≡ Some left)
+waits_for c a [] older none begun not_yet is = absurd (true≢false (sym is ∙ not_yet))
+waits_for c a (e ∷ newer) older none begun not_yet is = go (begins_leadership a e) refl (is_any_fencing e) refl (λ still. waits_for c a newer older none.0 begun not_yet still)
+  where
+    past : List Event
+    past = newer ++ older
+
+    begun_now : has_begun a past ≡ true
+    begun_now = has_more (begins_leadership a) newer older begun
+
+    here : HasNoMin c a past
+    here = last_moment (HasNoMin c a) past none.0
+
+    opens : is_any_fencing e ≡ true → is_confirming c a past e ≡ true
+    opens h = all_four (has_begun a past) (is_any_fencing e) (has_min a past) (is_confirmed c a (e ∷ past)) begun_now h here.0 is
+      where
+        all_four : (a b m d : Bool) → a ≡ true → b ≡ true → m ≡ false → d ≡ true → (a && (b && (not m && d))) ≡ true
+        all_four a b m d begun fence none now = rw (begun, fence, none, now) refl
+
+    no_min : begins_leadership a e ≡ false → is_min e ≡ false
+    no_min same = read (is_min e) refl
+      where
+        begun_still : has_begun a (e ∷ past) ≡ true
+        begun_still = ap (λ t. cond t true (has_begun a past)) same ∙ begun_now
+
+        read : (t : Bool) → is_min e ≡ t → t ≡ false
+        read true h = absurd (true≢false (sym (and_from (has_begun a (e ∷ past)) (has is_min (leadership a (e ∷ past))) begun_still (ap (λ t. has is_min (cond t [] (e ∷ leadership a past))) same ∙ ap (λ t. cond t true (has is_min (leadership a past))) h)) ∙ none.1.0))
+        read false h = refl
+
+    stays : (t n m f u : Bool) → n ≡ true → m ≡ false → f ≡ false → (t && (not n || (m || (f && u)))) ≡ false
+    stays true n m f u hn hm hf = rw (hn, hm, hf) refl
+    stays false n m f u hn hm hf = refl
+
+    go : (t : Bool) → begins_leadership a e ≡ t → (u : Bool) → is_any_fencing e ≡ u → (is_confirmed c a past ≡ true → (left : ℕ) × (steps_left (confirming c a) past ≡ Some left)) → (left : ℕ) × (steps_left (confirming c a) (e ∷ past) ≡ Some left)
+    go true ht u hu ih = absurd (true≢false (sym is ∙ unconfirmed c a e past ht))
+    go false ht true hu ih =
+        let k = some_left c.replicas (left_after ((confirming c a).closes past e) ((confirming c a).counts past e) 0 (steps_left (confirming c a) past)) in
+        (k.0, ap (λ t. fewer (cond t (Some c.replicas) None) (left_after ((confirming c a).closes past e) ((confirming c a).counts past e) 0 (steps_left (confirming c a) past))) (opens hu) ∙ k.1)
+    go false ht false hu ih =
+        let x = ih (sym (confirmed_still c a e past ht hu) ∙ is) in
+        let shut : (confirming c a).closes past e ≡ false = stays (is_replication past e) (is_named c a past) (is_min e) (is_any_fencing e) (not (is_confirmed c a (e ∷ past))) here.1 (no_min ht) hu in
+        let k = still_left ((confirming c a).allows (e ∷ past)) (is_replication past e) x.0 in
+        (k.0, ap (λ o. fewer ((confirming c a).allows (e ∷ past)) (left_after ((confirming c a).closes past e) (is_replication past e) 0 o)) x.1 ∙ ap (λ t. fewer ((confirming c a).allows (e ∷ past)) (left_after t (is_replication past e) 0 (Some x.0))) shut ∙ k.1)
+
+-- no event of a comes while another is named
+pub never_unnamed : (c : Config) (a : ℕ) (past : List Event) → AtEachMoment (λ now. is_named c a now ≡ true) past → was_unnamed c a past ≡ false
+never_unnamed c a [] named = refl
+never_unnamed c a (e ∷ past) named = go (is_replication past e) (is_named c a past) (begins_leadership a e) (last_moment (λ now. is_named c a now ≡ true) past named.0) (never_unnamed c a past named.0)
+  where
+    go : (t u b : Bool) → u ≡ true → was_unnamed c a past ≡ false → cond (t && not u) true (cond b false (was_unnamed c a past)) ≡ false
+    go true true true h ih = refl
+    go true true false h ih = ih
+    go true false b h ih = absurd (true≢false (sym h))
+    go false u true h ih = refl
+    go false u false h ih = ih
+
+-- an ask anew has one cause alone
+pub cause_is : (c : Config) (a : ℕ) (mine : List Event) → may_ask_anew c a mine ≡ true → has_begun a mine ≡ true → is_over a mine ≡ false → was_unnamed c a mine ≡ false
+    → (has_min a mine ≡ false) × (all_below c.replicas (λ p. nat_le 16 (how_many (is_fencing p) (leadership a mine))) ≡ true)
+cause_is c a mine may begun on named = go (has_begun a mine) (is_over a mine) (was_unnamed c a mine) (has_min a mine) (all_below c.replicas (λ p. nat_le 16 (how_many (is_fencing p) (leadership a mine)))) begun on named may
+  where
+    go : (b o u m f : Bool) → b ≡ true → o ≡ false → u ≡ false → (not b || (o || (u || (not m && f)))) ≡ true → (m ≡ false) × (f ≡ true)
+    go true false false false f hb ho hu may = (refl, may)
+    go true false false true f hb ho hu may = absurd (true≢false (sym may))
+    go false o u m f hb ho hu may = absurd (true≢false (sym hb))
+    go true true u m f hb ho hu may = absurd (true≢false ho)
+    go true false true m f hb ho hu may = absurd (true≢false hu)
+
+-- the first ask of a region begins a leadership
+pub begins_now : (a : ℕ) (e : Event) → e.by ≡ a → is_asking 0 e ≡ true → begins_leadership a e ≡ true
+begins_now a e own asks = go e.by e.verb own asks
+  where
+    go : (by : ℕ) (verb : Verb) → by ≡ a → is_asking_verb 0 verb ≡ true → begins_leadership a (record { by = by; verb = verb; answer = e.answer }) ≡ true
+    go by (Verb.Ask q) own asks = and_from (by == a) (q == 0) (eq-eqb by a own) asks
+    go by verb own asks = absurd (true≢false (sym asks))
+
+-- the last step of a journal, and those before
+step_at : (P : List Event → Event → Type 0) (newer older : List Event) (e : Event) → AtEachStep P (newer ++ e ∷ older) → P older e
+step_at P newer older e held = (steps_before P newer (e ∷ older) held).1
+
+-- two first asks of a journal, the earlier one after so many steps
+record TwoAsks (k : ℕ) (mine : List Event) : Type 0 where
+  newer : List Event
+  later : Event
+  between : List Event
+  first : Event
+  older : List Event
+  is : mine ≡ newer ++ later ∷ (between ++ first ∷ older)
+  asks_later : is_asking 0 later ≡ true
+  asks_first : is_asking 0 first ≡ true
+  long : k ≤ length older
+
+-- the oldest of so many steps after some hold an ask
+record OneAsk (mine rest : List Event) (k : ℕ) : Type 0 where
+  newer : List Event
+  asked : Event
+  older : List Event
+  is : mine ≡ newer ++ asked ∷ (older ++ rest)
+  asks : is_asking 0 asked ≡ true
+  long : length mine ≤ length newer + k + length rest
+
+one_ask : (c : Config) (r : ℕ) (mine newer rest : List Event) → AsksInTime c r mine → mine ≡ newer ++ rest → asking_steps c ≤ length newer → 0 < c.replicas → AtEachMoment (λ now. has_to_ask c r now ≡ true) mine → OneAsk mine rest (asking_steps c)
+one_ask c r mine newer rest asks is long some waits =
+    let k = cut (asking_steps c) newer long in
+    let at : mine ≡ k.newer ++ (k.rest ++ rest) = is ∙ ap (λ l. l ++ rest) k.is ∙ append_assoc k.newer k.rest rest in
+    let m = met (is_asking 0) k.rest (asks_there c r 0 mine k.newer k.rest rest asks at k.count some waits) in
+    let split = ap length at ∙ length-append k.newer (k.rest ++ rest) in
+    let rests = length-append k.rest rest in
+    let both = length-append k.newer m.newer in
+    let n = k.count in
+    record {
+      newer = k.newer ++ m.newer;
+      asked = m.event;
+      older = m.older;
+      is = at ∙ ap (λ l. k.newer ++ (l ++ rest)) m.is ∙ ap (λ l. k.newer ++ l) (append_assoc m.newer (m.event ∷ m.older) rest) ∙ sym (append_assoc k.newer m.newer (m.event ∷ (m.older ++ rest)));
+      asks = m.passes;
+      long = omega (arith, split, rests, both, n);
+    }
+
+two_asks : (c : Config) (r : ℕ) (mine : List Event) → AsksInTime c r mine → beginning_steps c ≤ length mine → 0 < c.replicas → AtEachMoment (λ now. has_to_ask c r now ≡ true) mine → TwoAsks (granting_steps c) mine
+two_asks c r mine asks many some waits =
+    let start = cut (granting_steps c) mine (omega (arith, many)) in
+    let l = ap length start.is ∙ length-append start.newer start.rest in
+    let n = start.count in
+    let first = one_ask c r mine start.newer start.rest asks start.is (omega (arith, many, l, n)) some waits in
+    let enough = first.long in
+    let second = one_ask c r mine first.newer (first.asked ∷ (first.older ++ start.rest)) asks first.is (omega (arith, many, n, enough)) some waits in
+    let more = length-append first.older start.rest in
+    record {
+      newer = second.newer;
+      later = second.asked;
+      between = second.older;
+      first = first.asked;
+      older = first.older ++ start.rest;
+      is = second.is;
+      asks_later = second.asks;
+      asks_first = first.asks;
+      long = omega (arith, more, n);
+    }
+
+-- an ask at which the replica is confirmed keeps no leader's pace
+no_ask : (c : Config) (a : ℕ) (between older : List Event) (later first : Event) → LeaderKeeps c a (between ++ first ∷ older) later → AtEachMoment (HasNoMin c a) (between ++ first ∷ older) → begins_leadership a first ≡ true → begins_leadership a later ≡ true
+    → is_confirmed c a (between ++ first ∷ older) ≡ true → ⊥
+no_ask c a between older later first kept quiet begins anew is =
+    let k = waits_for c a between (first ∷ older) quiet (ap (λ t. cond t true (has_begun a older)) begins) (unconfirmed c a first older begins) is in
+    let none = sym (kept.confirmation.anew anew) ∙ k.1 in
+    cc
+
+-- where a asks anew after it was granted all regions, it is confirmed
+asks_confirmed : (c : Config) (live : ℕ → Bool) (a : ℕ) (between older mine : List Event) (later first : Event) → a < c.replicas → live a ≡ true → majority_of c.replicas ≤ count_below c.replicas live → IsLegalHistory c (between ++ first ∷ older) → AsksAlone a (between ++ first ∷ older) → ((p : ℕ) → p < c.replicas → live p ≡ true → fence_owner p older ≡ Some a)
+    → part a (between ++ first ∷ older) ≡ mine → LeaderKeeps c a mine later → AtEachMoment (HasNoMin c a) mine → has_begun a mine ≡ true → is_asking 0 first ≡ true → is_asking 0 later ≡ true → first.by ≡ a → is_confirmed c a mine ≡ true
+asks_confirmed c live a between older mine later first inside lives majority legal alone owns is kept quiet begun asks_first asks_later own =
+    let on : is_over a mine ≡ false = ap (is_over a) (sym is) ∙ over-part a (between ++ first ∷ older) ∙ never_over c a (between ++ first ∷ older) legal alone in
+    let named = never_unnamed c a mine (each_named mine quiet) in
+    let cause = cause_is c a mine (kept.cause.anew asks_later) begun on named in
+    let notes : (p : ℕ) → p < c.replicas → live p ≡ true → NotesOwned a p (between ++ first ∷ older) = λ p low lives. notes_owned c a p between older first asks_first (eq-eqb first.by a own) (owns p low lives) legal in
+    ap (is_confirmed c a) (sym is)
+    ∙ confirmed c live a (between ++ first ∷ older) inside lives majority alone notes (ap (λ l. all_below c.replicas (λ p. nat_le 16 (how_many (is_fencing p) (leadership a l)))) is ∙ cause.1)
+  where
+    each_named : (past : List Event) → AtEachMoment (HasNoMin c a) past → AtEachMoment (λ now. is_named c a now ≡ true) past
+    each_named [] held = held.1
+    each_named (e ∷ past) held = (each_named past held.0, held.1.1)
+
+-- so such a replica doesn't ask twice then
+not_twice : (c : Config) (live : ℕ → Bool) (a : ℕ) (past newer between middle oldest : List Event) (later first : Event) → LeadsAlone c live a past → past ≡ newer ++ later ∷ (between ++ first ∷ oldest) → part a (between ++ first ∷ oldest) ≡ middle ++ first ∷ part a oldest
+    → AtEachMoment (λ now. has_to_ask c a now ≡ true) (part a past) → AtEachMoment (HasNoMin c a) (middle ++ first ∷ part a oldest) → LeaderKeeps c a (middle ++ first ∷ part a oldest) later → granting_steps c ≤ length (part a oldest)
+    → is_asking 0 later ≡ true → is_asking 0 first ≡ true → later.by ≡ a → first.by ≡ a → ⊥
+not_twice c live a past newer between middle oldest later first lone is mine waits quiet kept long asks_later asks_first own_later own_first =
+    let owns : (p : ℕ) → p < c.replicas → live p ≡ true → fence_owner p oldest ≡ Some a = λ p low lives. owned c live a p (newer ++ later ∷ (between ++ first ∷ [])) oldest (subst (LeadsAlone c live a) (is ∙ deeper) lone) (subst (λ l. AtEachMoment (λ now. has_to_ask c a now ≡ true) (part a l)) (is ∙ deeper) waits) low lives long in
+    let begins = begins_now a first own_first asks_first in
+    let begun : has_begun a (middle ++ first ∷ part a oldest) ≡ true = has_more (begins_leadership a) middle (first ∷ part a oldest) (ap (λ t. cond t true (has_begun a (part a oldest))) begins) in
+    let legal = (legal_older c newer (later ∷ (between ++ first ∷ oldest)) (subst (IsLegalHistory c) is lone.legal)).0 in
+    let alone = (alone_before a newer (later ∷ (between ++ first ∷ oldest)) (subst (AsksAlone a) is lone.alone)).0 in
+    no_ask c a middle (part a oldest) later first kept quiet begins (begins_now a later own_later asks_later)
+    (asks_confirmed c live a between oldest (middle ++ first ∷ part a oldest) later first lone.inside lone.lives lone.majority legal alone owns mine kept quiet begun asks_first asks_later own_first)
+  where
+    deeper : newer ++ later ∷ (between ++ first ∷ oldest) ≡ (newer ++ later ∷ (between ++ first ∷ [])) ++ oldest
+    deeper = ap (λ l. newer ++ later ∷ l) (sym (append_assoc between (first ∷ []) oldest)) ∙ sym (append_assoc newer (later ∷ (between ++ first ∷ [])) oldest)
+
+has_to_ask_all : (c : Config) (a : ℕ) (mine : List Event) → AtEachMoment (λ now. is_named c a now ≡ true) mine → AtEachMoment (λ now. knows_all c a now ≡ false) mine → AtEachMoment (λ now. has_min a now ≡ false) mine → AtEachMoment (λ now. has_to_ask c a now ≡ true) mine
+has_to_ask_all c a mine named lacks none =
+    both_moments (λ now. is_named c a now ≡ true) (λ now. (not (knows_all c a now) && not (leads a now)) ≡ true) (λ now. has_to_ask c a now ≡ true) (λ now n m. and_from (is_named c a now) (not (knows_all c a now) && not (leads a now)) n m) mine named
+    (both_moments (λ now. knows_all c a now ≡ false) (λ now. has_min a now ≡ false) (λ now. (not (knows_all c a now) && not (leads a now)) ≡ true) (λ now k m. both (knows_all c a now) (has_min a now) (is_over a now) k m) mine lacks none)
+  where
+    both : (k m o : Bool) → k ≡ false → m ≡ false → (not k && not (m && not o)) ≡ true
+    both k m o hk hm = rw (hk, hm) refl
+
+-- the two asks in the whole history
+asks_fail : (c : Config) (live : ℕ → Bool) (a : ℕ) (past : List Event) → LeadsAlone c live a past → AtEachMoment (λ now. has_to_ask c a now ≡ true) (part a past) → AtEachMoment (HasNoMin c a) (part a past) → TwoAsks (granting_steps c) (part a past) → ⊥
+asks_fail c live a past lone waits quiet two =
+    let late = located a past two.newer (two.between ++ two.first ∷ two.older) two.later two.is in
+    let soon = located a late.older two.between two.older two.first late.before in
+    let whole : past ≡ late.newer ++ two.later ∷ (soon.newer ++ two.first ∷ soon.older) = late.is ∙ ap (λ l. late.newer ++ two.later ∷ l) soon.is in
+    let mine : part a (soon.newer ++ two.first ∷ soon.older) ≡ two.between ++ two.first ∷ part a soon.older = ap (part a) (sym soon.is) ∙ late.before ∙ ap (λ l. two.between ++ two.first ∷ l) (sym soon.before) in
+    let there : part a past ≡ two.newer ++ two.later ∷ (two.between ++ two.first ∷ part a soon.older) = two.is ∙ ap (λ l. two.newer ++ two.later ∷ (two.between ++ two.first ∷ l)) (sym soon.before) in
+    let kept = step_at (LeaderKeeps c a) two.newer (two.between ++ two.first ∷ part a soon.older) two.later (subst (AtEachStep (LeaderKeeps c a)) there lone.led) in
+    let still = (moments_before (HasNoMin c a) two.newer (two.later ∷ (two.between ++ two.first ∷ part a soon.older)) (subst (AtEachMoment (HasNoMin c a)) there quiet)).0 in
+    let long = two.long in
+    let same = ap length soon.before in
+    not_twice c live a past late.newer soon.newer two.between soon.older two.later two.first lone whole mine waits still kept (omega (arith, long, same)) two.asks_later two.asks_first late.own soon.own
+
+pub begins_in_time : (c : Config) (live : ℕ → Bool) (a : ℕ) (past : List Event) → LeadsAlone c live a past → AtEachMoment (λ mine. knows_all c a mine ≡ false) (part a past) → AtEachMoment (λ mine. has_min a mine ≡ false) (part a past) → length (part a past) < beginning_steps c
+begins_in_time c live a past lone lacks none = elim (cases_lt (length (part a past)) (beginning_steps c)) [
+  | inl few ↦ few
+  | inr many ↦
+      let waits = has_to_ask_all c a (part a past) lone.named lacks none in
+      let l = lone.inside in
+      absurd (asks_fail c live a past lone waits (both_moments (λ now. has_min a now ≡ false) (λ now. is_named c a now ≡ true) (HasNoMin c a) (λ now m n. (m, n)) (part a past) none lone.named) (two_asks c a (part a past) lone.asks many (omega (arith, l)) waits))
+]

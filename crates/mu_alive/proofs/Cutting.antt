@@ -1,0 +1,82 @@
+-- Cutting lists of events, and finding events in them.
+use Rattle.std.proofs.Common.{◌≡◌, ℕ, ◌+◌, ◌≤◌, ◌==◌, inl, inr, Bool, true, false, cond, List, [], ◌∷◌, ◌++◌, length, refl, sym, ◌∙◌, ap, arith, eqb-true, true≢false}
+use Rattle.std.proofs.lemmas.Bool.{cases_lt}
+use Rattle.mu_model.specs.declared.event.Event.{Event}
+use Rattle.mu_model.specs.Histories.{has, how_many, part}
+
+-- the oldest n of the events, and those after them
+pub record Cut (n : ℕ) (events : List Event) : Type 0 where
+  pub newer : List Event
+  pub rest : List Event
+  pub is : events ≡ newer ++ rest
+  pub count : length rest ≡ n
+
+pub cut : (n : ℕ) (events : List Event) → n ≤ length events → Cut n events
+cut n [] few = record { newer = []; rest = []; is = refl; count = omega (arith, few) }
+cut n (e ∷ events) few = elim (cases_lt (length events) n) [
+  | inl more ↦ record { newer = []; rest = e ∷ events; is = refl; count = omega (arith, few, more) }
+  | inr less ↦ let k = cut n events less in record { newer = e ∷ k.newer; rest = k.rest; is = ap (λ l. e ∷ l) k.is; count = k.count }
+]
+
+-- the newest event that passes
+pub record Met (test : Event → Bool) (events : List Event) : Type 0 where
+  pub newer : List Event
+  pub event : Event
+  pub older : List Event
+  pub is : events ≡ newer ++ event ∷ older
+  pub passes : test event ≡ true
+
+pub met : (test : Event → Bool) (events : List Event) → has test events ≡ true → Met test events
+met test [] some = absurd (true≢false (sym some))
+met test (e ∷ events) some = go (test e) refl some (met test events)
+  where
+    go : (t : Bool) → test e ≡ t → cond t true (has test events) ≡ true → (has test events ≡ true → Met test events) → Met test (e ∷ events)
+    go true is some ih = record { newer = []; event = e; older = events; is = refl; passes = is }
+    go false is some ih = let k = ih some in record { newer = e ∷ k.newer; event = k.event; older = k.older; is = ap (λ l. e ∷ l) k.is; passes = k.passes }
+
+-- where an event of a part stands among the events
+pub record Located (p : ℕ) (events : List Event) (e : Event) (mine : List Event) : Type 0 where
+  pub newer : List Event
+  pub older : List Event
+  pub is : events ≡ newer ++ e ∷ older
+  pub before : part p older ≡ mine
+  pub own : e.by ≡ p
+
+pub located : (p : ℕ) (events between mine : List Event) (e : Event) → part p events ≡ between ++ e ∷ mine → Located p events e mine
+located p [] [] mine e is = cc
+located p [] (b ∷ between) mine e is = cc
+located p (f ∷ events) between mine e is = go (f.by == p) refl between is (located p events)
+  where
+    go : (t : Bool) → (f.by == p) ≡ t → (between : List Event) → cond t (f ∷ part p events) (part p events) ≡ between ++ e ∷ mine
+        → ((between mine : List Event) (e : Event) → part p events ≡ between ++ e ∷ mine → Located p events e mine) → Located p (f ∷ events) e mine
+    go true own [] is ih =
+        let same : f ≡ e = cc in
+        record { newer = []; older = events; is = ap (λ x. x ∷ events) same; before = cc; own = ap (λ (x : Event). x.by) (sym same) ∙ eqb-true f.by p own }
+    go true own (b ∷ between) is ih = let k = ih between mine e cc in record { newer = f ∷ k.newer; older = k.older; is = ap (λ l. f ∷ l) k.is; before = k.before; own = k.own }
+    go false own between is ih = let k = ih between mine e is in record { newer = f ∷ k.newer; older = k.older; is = ap (λ l. f ∷ l) k.is; before = k.before; own = k.own }
+
+-- where none of two stretches passes, none of either does
+pub none_newer : (test : Event → Bool) (newer older : List Event) → has test (newer ++ older) ≡ false → has test newer ≡ false
+none_newer test [] older none = refl
+none_newer test (e ∷ newer) older none = go (test e) none (none_newer test newer older)
+  where
+    go : (t : Bool) → cond t true (has test (newer ++ older)) ≡ false → (has test (newer ++ older) ≡ false → has test newer ≡ false) → cond t true (has test newer) ≡ false
+    go true none ih = absurd (true≢false none)
+    go false none ih = ih none
+
+pub none_older : (test : Event → Bool) (newer older : List Event) → has test (newer ++ older) ≡ false → has test older ≡ false
+none_older test [] older none = none
+none_older test (e ∷ newer) older none = go (test e) none (none_older test newer older)
+  where
+    go : (t : Bool) → cond t true (has test (newer ++ older)) ≡ false → (has test (newer ++ older) ≡ false → has test older ≡ false) → has test older ≡ false
+    go true none ih = absurd (true≢false none)
+    go false none ih = ih none
+
+-- more events pass among more events
+pub more_pass : (test : Event → Bool) (newer older : List Event) → how_many test older ≤ how_many test (newer ++ older)
+more_pass test [] older = omega arith
+more_pass test (e ∷ newer) older = go (test e) (more_pass test newer older)
+  where
+    go : (t : Bool) → how_many test older ≤ how_many test (newer ++ older) → how_many test older ≤ cond t (how_many test (newer ++ older) + 1) (how_many test (newer ++ older))
+    go true l = omega (arith, l)
+    go false l = l

@@ -1,0 +1,13 @@
+pub mod Alone
+pub mod Applying
+pub mod Beginning
+pub mod Calm
+pub mod Cutting
+pub mod Enough
+pub mod Granting
+pub mod Moments
+pub mod Noting
+pub mod TurnFences
+pub mod TurnGrants
+pub mod TurnNumbers
+pub mod Turns

@@ -1,0 +1,74 @@
+-- What holds at each moment of a journal, in its stretches.
+use Rattle.std.proofs.Common.{◌≡◌, ℕ, suc, zero, ◌+◌, ◌*◌, ◌%◌, ◌<◌, ◌≤◌, ◌&&◌, ◌||◌, not, inl, inr, Bool, true, false, cond, List, [], ◌∷◌, ◌++◌, length, refl, sym, arith, subst, true≢false}
+use Rattle.std.specs.Prelude.{if◌then◌else◌}
+use Rattle.std.proofs.lemmas.Bool.{cases_eq, eq-eqb, ne_eqb}
+use Rattle.mu_model.specs.declared.config.Config.{Config}
+use Rattle.mu_model.specs.declared.event.Event.{Event}
+use Rattle.mu_model.specs.Diligence.{AsksInTime, has_to_ask}
+use Rattle.mu_model.specs.Histories.{has}
+use Rattle.mu_model.specs.Steps.{is_asking, replicates}
+use Rattle.mu_model.specs.Stretches.{each_step, is_odd, is_replication, replications}
+use Rattle.mu_pace.specs.Counters.{AtEachMoment}
+use Rattle.mu_alive.specs.Enough.{asking_steps}
+use Rattle.mu_pace.proofs.Counting.{last_moment, moments_before}
+
+-- of two moments in a row one has an odd count
+one_odd : (m k : ℕ) → (if is_odd (suc m) then (if is_odd m then k + 1 else k) + 1 else (if is_odd m then k + 1 else k)) ≡ k + 1
+one_odd m k = elim (cases_eq (m % 2) 1) [
+  | inl odd ↦ let next : suc m % 2 ≡ 0 = omega (arith, odd) in rw (eq-eqb (m % 2) 1 odd, ne_eqb (suc m % 2) 1 (λ one. absurd (omega (arith, next, one)))) refl
+  | inr even ↦ let next : suc m % 2 ≡ 1 = omega (arith, even) in rw (ne_eqb (m % 2) 1 even, eq-eqb (suc m % 2) 1 next) refl
+]
+
+-- half of the events of a stretch are replication events
+pub halves : (n : ℕ) (window older : List Event) → length window ≡ 2 * n → replications window older ≡ n
+halves zero [] older long = refl
+halves zero (e ∷ window) older long = absurd (omega (arith, long))
+halves (suc n) [] older long = absurd (omega (arith, long))
+halves (suc n) (e ∷ []) older long = absurd (omega (arith, long))
+halves (suc n) (e ∷ f ∷ window) older long =
+    let ih = halves n window older (omega (arith, long)) in
+    let one = one_odd (length (window ++ older)) (replications window older) in
+    omega (arith, ih, one)
+
+-- a test that passes at each moment passes before each step
+pub each_before : (test : List Event → Bool) (unless : List Event → Event → Bool) (window older : List Event) → AtEachMoment (λ now. test now ≡ true) (window ++ older) → each_step (λ before e. not (unless before e) || test before) window older ≡ true
+each_before test unless [] older held = refl
+each_before test unless (e ∷ window) older held = go (unless (window ++ older) e) (test (window ++ older)) (last_moment (λ now. test now ≡ true) (window ++ older) held.0) (each_before test unless window older held.0)
+  where
+    go : (t u : Bool) → u ≡ true → each_step (λ before e. not (unless before e) || test before) window older ≡ true → (if not t || u then each_step (λ before e. not (unless before e) || test before) window older else false) ≡ true
+    go true true is ih = ih
+    go true false is ih = absurd (true≢false (sym is))
+    go false u is ih = ih
+
+-- where a replication event passes, an event does
+pub some_event : (test : Event → Bool) (window older : List Event) → replicates (λ before e. test e) window older ≡ true → has test window ≡ true
+some_event test [] older some = absurd (true≢false (sym some))
+some_event test (e ∷ window) older some = go (is_replication (window ++ older) e) (test e) some (some_event test window older)
+  where
+    go : (t u : Bool) → (if t && u then true else replicates (λ before e. test e) window older) ≡ true → (replicates (λ before e. test e) window older ≡ true → has test window ≡ true) → cond u true (has test window) ≡ true
+    go true true some ih = refl
+    go true false some ih = ih some
+    go false true some ih = refl
+    go false false some ih = ih some
+
+-- a fact at each moment, from two
+pub both_moments : (P Q R : List Event → Type 0) → ((now : List Event) → P now → Q now → R now) → (past : List Event) → AtEachMoment P past → AtEachMoment Q past → AtEachMoment R past
+both_moments P Q R more [] p q = more [] p q
+both_moments P Q R more (e ∷ past) p q = (both_moments P Q R more past p.0 q.0, more (e ∷ past) p.1 q.1)
+
+-- at most one event of a stretch is in no pair with a replication event
+pub at_least_halves : (window older : List Event) → length window ≤ 2 * replications window older + 1
+at_least_halves [] older = omega arith
+at_least_halves (e ∷ []) older = omega arith
+at_least_halves (e ∷ f ∷ window) older =
+    let ih = at_least_halves window older in
+    let one = one_odd (length (window ++ older)) (replications window older) in
+    omega (arith, ih, one)
+
+-- so many steps hold an ask of each region
+pub asks_there : (c : Config) (r p : ℕ) (past newer window older : List Event) → AsksInTime c r past → past ≡ newer ++ (window ++ older) → length window ≡ asking_steps c → p < c.replicas → AtEachMoment (λ now. has_to_ask c r now ≡ true) past
+    → has (is_asking p) window ≡ true
+asks_there c r p past newer window older asks is long low held =
+    some_event (is_asking p) window older
+    (asks.asks p window older low (record { newer = newer; is = is }) (halves (17 * c.replicas + 1) window older long)
+    (each_before (has_to_ask c r) is_replication window older (moments_before (λ now. has_to_ask c r now ≡ true) newer (window ++ older) (subst (AtEachMoment (λ now. has_to_ask c r now ≡ true)) is held))))

@@ -1,0 +1,48 @@
+-- How many steps are enough.
+use Rattle.std.specs.Prelude.{Bool, List, length, true, ℕ, ◌*◌, ◌+◌, ◌≡◌, ◌≤◌}
+use Rattle.mu_model.specs.declared.config.Config.{Config}
+use Rattle.mu_model.specs.declared.event.Event.{Event}
+use Rattle.mu_model.specs.Bounds.{cycle}
+use Rattle.mu_model.specs.Contents.{IsConfig, holds_all, row_count}
+use Rattle.mu_model.specs.Histories.{part}
+use Rattle.mu_model.specs.Knowledge.{applied}
+use Rattle.mu_model.specs.Room.{reserve}
+use Rattle.mu_model.specs.Steps.{knows_all}
+use Rattle.mu_alive.specs.Alone.{WritesAlone}
+use Rattle.mu_alive.specs.Calm.{calm_steps}
+use Rattle.mu_alive.specs.Lone.{LeadsAlone}
+
+-- in so many steps a replica that has to ask asks every region
+abbrev pub asking_steps : Config → ℕ
+asking_steps c = 2 * (17 * c.replicas + 1)
+
+-- and after so many each region is granted to it
+abbrev pub granting_steps : Config → ℕ
+granting_steps c = asking_steps c + 2 * cycle c + 2
+
+-- so many steps it has taken at most before it reads a minimum
+abbrev pub beginning_steps : Config → ℕ
+beginning_steps c = granting_steps c + 2 * asking_steps c
+
+-- with so many steps it knows every command
+abbrev pub steps_enough : Config → ℕ
+steps_enough c = beginning_steps c + 2 * calm_steps c (row_count c + reserve c)
+
+-- every entry of the job has a place of its own in the ring
+abbrev pub HasLargeRing : Config → Type 0
+HasLargeRing c = row_count c + 2 * reserve c ≤ c.ring
+
+-- a replica that asks alone, while a majority keeps up with it, knows every command after so many steps
+abbrev pub LoneLeadersKnowAll : Type 0
+LoneLeadersKnowAll =
+    (c : Config) (live : ℕ → Bool) (a : ℕ) (past : List Event) → IsConfig c → HasLargeRing c
+    → LeadsAlone c live a past
+    → steps_enough c ≤ length (part a past) → knows_all c a (part a past) ≡ true
+
+-- and where no other wrote rows it has applied them
+abbrev pub LoneLeadersApplyAll : Type 0
+LoneLeadersApplyAll =
+    (c : Config) (live : ℕ → Bool) (a : ℕ) (past : List Event) → IsConfig c → HasLargeRing c
+    → LeadsAlone c live a past
+    → WritesAlone a past → steps_enough c ≤ length (part a past)
+    → holds_all c (applied c a (part a past)) ≡ true

@@ -1,0 +1,5 @@
+pub mod Alone
+pub mod Calm
+pub mod Enough
+pub mod Lone
+pub mod Turns

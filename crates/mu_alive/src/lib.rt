@@ -1,0 +1,37 @@
+//! That a replica which asks alone gets its commands applied: the laws of availability.
+#![tactic(auto)]
+
+ghost use Rattle.mu_alive.specs.Alone.{LoneAskersLead};
+ghost use Rattle.mu_alive.specs.Calm.{CalmLeadersCommit};
+ghost use Rattle.mu_alive.specs.Enough.{LoneLeadersApplyAll, LoneLeadersKnowAll};
+ghost use Rattle.mu_alive.specs.Turns.{HostsGrantInTurn, TurnsLeadOn};
+
+/// The leaderships of a replica that asks alone never end.
+pub fn lone_askers_lead()
+    ensures { LoneAskersLead }
+{}
+
+/// A leader that nothing interrupts commits in time.
+pub fn calm_leaders_commit()
+    ensures { CalmLeadersCommit }
+{}
+
+/// A replica that asks alone, while a majority keeps up with it, knows every command in time.
+pub fn lone_leaders_know_all()
+    ensures { LoneLeadersKnowAll }
+{}
+
+/// And it has applied them where no other replica wrote rows.
+pub fn lone_leaders_apply_all()
+    ensures { LoneLeadersApplyAll }
+{}
+
+/// Where replicas ask in turn no leadership ends.
+pub fn turns_lead_on()
+    ensures { TurnsLeadOn }
+{}
+
+/// And a host grants its region to the last that asked.
+pub fn hosts_grant_in_turn()
+    ensures { HostsGrantInTurn }
+{}

@@ -1,0 +1,44 @@
+-- What a replay comes to where its budget is enough.
+use Rattle.std.specs.Prelude.{Bool, List, Some, [], false, not, true, ℕ, ◌<◌, ◌==◌, ◌||◌, ◌∷◌, ◌≡◌, ◌≤◌}
+use Rattle.std.specs.List.{slice_get}
+use Rattle.mu_alive.specs.Enough.{HasLargeRing, steps_enough}
+use Rattle.mu_model.specs.declared.config.Config.{Config}
+use Rattle.mu_model.specs.declared.script.End.{End}
+use Rattle.mu_model.specs.declared.script.Stop.{Stop}
+use Rattle.mu_model.specs.Contents.{holds_all}
+use Rattle.mu_model.specs.Histories.{count_below}
+use Rattle.mu_model.specs.Leaderships.{majority_of}
+use Rattle.mu_outcome.specs.declared.outcome.Outcome.{Outcome}
+use Rattle.mu_outcome.specs.Completion.{HasAllCommands}
+use Rattle.mu_outcome.specs.Outcomes.{log_of}
+
+-- a line of the script stops r
+abbrev pub is_stopped : List Stop → ℕ → Bool
+is_stopped [] r = false
+is_stopped (s ∷ ss) r = (s.replica == r) || is_stopped ss r
+
+-- no line of the script stops r
+abbrev pub is_left : List Stop → ℕ → Bool
+is_left stops r = not (is_stopped stops r)
+
+-- the script leaves replica 0 and a majority with it
+pub record LeavesMajority (c : Config) (stops : List Stop) : Type 0 where
+  pub first : is_left stops 0 ≡ true
+  pub majority : majority_of c.replicas ≤ count_below c.replicas (is_left stops)
+
+-- where its script has no pause and leaves a majority with replica 0, its ring is large and its
+-- budget enough, replica 0 has every row in its log, should these replicas have spent their budgets
+abbrev pub AppliesAllUnpaused : Outcome → Type 0
+AppliesAllUnpaused o =
+    o.job.script.pauses ≡ [] → LeavesMajority o.job.config o.job.script.stops
+    → HasLargeRing o.job.config → steps_enough o.job.config ≤ o.job.config.budget
+    → ((r : ℕ) → r < o.job.config.replicas → is_left o.job.script.stops r ≡ true
+    → slice_get o.ends r ≡ Some End.Budget)
+    → holds_all o.job.config (log_of o 0) ≡ true
+
+-- so there it has every command, whenever the others stop
+abbrev pub HasAllInTime : Outcome → Type 0
+HasAllInTime o =
+    o.job.script.pauses ≡ [] → LeavesMajority o.job.config o.job.script.stops
+    → HasLargeRing o.job.config → steps_enough o.job.config ≤ o.job.config.budget
+    → HasAllCommands o
