@@ -11,7 +11,7 @@ ghost use Rattle.mu_model.specs.Parts.{IsPossible};
 ghost use Rattle.mu_model.specs.Regions.{region_head};
 ghost use Rattle.mu_model.specs.Scores.{least_below};
 ghost use Rattle.mu_known.specs.HeldRows.{StandsForHeldRows};
-ghost use Rattle.mu_known.specs.KnownLog.{CountsCommands};
+ghost use Rattle.mu_known.specs.KnownLog.{HoldsValues};
 ghost use Rattle.mu_known.specs.Commits.{pair_of};
 ghost use Rattle.mu_follow.specs.Due.{IsReplay, ahead_due, first_word_of, fuo_due, head_due, look_due, next_due, next_word_of, other_head_due, other_of, raise_due, replay_due, row_under_way, word_due};
 ghost use Rattle.mu_follow.specs.Follow.{HoldsFollow, StandsForFollow};
@@ -181,12 +181,12 @@ impl Follow {
         self.knowing.known()
     }
 
-    /// How many commands of each client it knows, client by client.
-    pub fn counts(&self) -> &[u16]
+    /// What it knows, with what the leader asks of it.
+    pub fn log(&self) -> &KnownLog
         ensures { (c : Config) → (r : ℕ) → (mine : List Event) → (count : ℕ)
-            → HoldsFollow c r mine count self.now → CountsCommands c (known c r mine) result.now }
+            → HoldsFollow c r mine count self.now → HoldsValues c (known c r mine) result.now }
     {
-        self.knowing.counts()
+        &self.knowing
     }
 
     /// How many of the values that are known the replica has in full, before the first that it has

@@ -1,5 +1,5 @@
 -- What the last event of a possible part names is there.
-use Rattle.std.proofs.Common.{List, arith, refl, ℕ, ◌∷◌, ◌≤◌}
+use Rattle.std.proofs.Common.{List, arith, ℕ, ◌∷◌, ◌≤◌}
 use Rattle.mu_model.specs.declared.config.Config.{Config}
 use Rattle.mu_model.specs.declared.event.Event.{Event}
 use Rattle.mu_model.specs.declared.event.Verb.{Verb}

@@ -1,5 +1,5 @@
 -- The rows that a replica has are those of the configuration.
-use Rattle.std.proofs.Common.{◌≡◌, ◌∙◌, ℕ, ◌+◌, ◌%◌, ◌/◌, ◌<◌, ◌≤◌, ◌==◌, ◌&&◌, ◌||◌, Bool, true, false, cond, List, [], ◌∷◌, Some, None, refl, sym, ap, arith, subst, eqb-true, true≢false}
+use Rattle.std.proofs.Common.{◌≡◌, ◌∙◌, ℕ, ◌+◌, ◌%◌, ◌/◌, ◌<◌, ◌==◌, ◌&&◌, ◌||◌, Bool, true, false, cond, List, [], ◌∷◌, Some, None, refl, sym, ap, arith, subst, eqb-true, true≢false}
 use Rattle.std.specs.declared.option.Option.{Option}
 use Rattle.std.specs.Prelude.{is_some}
 use Rattle.std.proofs.lemmas.Bool.{and_parts, eq-eqb}
@@ -9,9 +9,9 @@ use Rattle.mu_model.specs.declared.event.Verb.{Verb}
 use Rattle.mu_model.specs.declared.event.Answer.{Answer}
 use Rattle.mu_model.specs.Allowed.{Allowed, Needs}
 use Rattle.mu_model.specs.Answers.{answer_of}
-use Rattle.mu_model.specs.Contents.{IsConfig, config_word, is_batch, rest_of}
-use Rattle.mu_model.specs.Histories.{has, newer_or, newest, or_zero, part}
-use Rattle.mu_model.specs.Knowledge.{has_row, has_word, is_read, is_written, wrote}
+use Rattle.mu_model.specs.Contents.{IsConfig, config_word, rest_of}
+use Rattle.mu_model.specs.Histories.{has, newer_or, or_zero, part}
+use Rattle.mu_model.specs.Knowledge.{has_word, is_read, wrote}
 use Rattle.mu_model.specs.Legal.{IsLegalHistory}
 use Rattle.mu_model.specs.Parts.{IsPossible}
 use Rattle.mu_model.specs.Regions.{row_word}
@@ -19,7 +19,7 @@ use Rattle.mu_model.proofs.Basics.{same_some}
 use Rattle.mu_model.proofs.Scans.{all_at}
 use Rattle.mu_agree.proofs.Legal.{event_after, legal_induction}
 use Rattle.mu_agree.proofs.Sessions.{batch_within, row_within, rows_read}
-use Rattle.mu_known.specs.RowWords.{IsReadKnown, ReadsKnown, RowsAreRight, config_words, word_held, word_met, word_told, words_held}
+use Rattle.mu_known.specs.RowWords.{IsReadKnown, ReadsKnown, RowsAreRight, word_held, word_met, word_told}
 
 -- a word that was met is this one
 abbrev IsWord : ℕ → Option ℕ → Type 0

@@ -9,6 +9,7 @@ use Rattle.mu_model.specs.Contents.{command_count, marked, row_count}
 use Rattle.mu_model.specs.Histories.{has}
 use Rattle.mu_model.specs.Knowledge.{entry_seen, greatest_fuo_read, is_accepted_by_all, known}
 use Rattle.mu_model.specs.Room.{reserve}
+use Rattle.mu_known.specs.Offers.{StandsForClientRows}
 use Rattle.mu_known.specs.declared.known_log.KnownLog.{KnownLog}
 
 -- of a put at position n the flag tells whether every member has taken it in the leadership, which
@@ -46,6 +47,7 @@ pub record HoldsValues (c : Config) (values : List ℕ) (state : KnownLog) : Typ
   pub room : row_count c + reserve c < vec_capacity state.values
   pub marks : MarksReplicas c values state.marks
   pub counts : CountsCommands c values state.counts.items
+  pub rows : StandsForClientRows c state.rows
 
 -- the state stands for the events of r
 pub record StandsForKnownLog (c : Config) (r : ℕ) (mine : List Event)

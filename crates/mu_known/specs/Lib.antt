@@ -1,4 +1,5 @@
 pub mod Commits
 pub mod HeldRows
 pub mod KnownLog
+pub mod Offers
 pub mod RowWords

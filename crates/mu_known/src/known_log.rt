@@ -1,6 +1,6 @@
 //! What a replica has learnt.
 ghost use Rattle.std.specs.List.{slice_get};
-ghost use Rattle.std.specs.Prelude.{IfOk, if◌then◌else◌, List, Some, [], length, vec_capacity, ℕ, ◌%◌, ◌++◌, ◌+◌, ◌<◌, ◌==◌, ◌||◌, ◌∷◌, ◌≡◌, ◌≤◌};
+ghost use Rattle.std.specs.Prelude.{IfOk, None, if◌then◌else◌, List, Some, [], length, vec_capacity, ℕ, ◌%◌, ◌++◌, ◌+◌, ◌<◌, ◌==◌, ◌||◌, ◌∷◌, ◌≡◌, ◌≤◌};
 ghost use Rattle.mu_model.specs.declared.config.Config.{Config};
 ghost use Rattle.mu_model.specs.declared.event.Event.{Event};
 ghost use Rattle.mu_model.specs.Contents.{IsConfig, client_of, command_count, is_batch, marked, rest_of, row_count};
@@ -8,8 +8,10 @@ ghost use Rattle.mu_model.specs.Histories.{has};
 ghost use Rattle.mu_model.specs.Knowledge.{entry_seen, greatest_fuo_read, grown, is_known_decided, known, learnt_by};
 ghost use Rattle.mu_model.specs.Parts.{IsPossible};
 ghost use Rattle.mu_model.specs.Room.{reserve};
+ghost use Rattle.mu_known.specs.Offers.{IsNextRow, NamesRow, batch_of, clients_below};
 ghost use Rattle.mu_known.specs.KnownLog.{CountsCommands, StandsForKnownLog, HoldsValues, IsPlaced, MarksReplicas, ReadsFuos, SeesEntries, TellsAccepted};
 
+use crate::client_rows::ClientRows;
 use mu_model::{
     Answer, Config, Event, NoMemory, PAYLOADS, Verb, positions_in, row_client, row_rest,
     stands_for_batch, stands_for_mark,
@@ -25,6 +27,8 @@ pub struct KnownLog {
     marks: [bool; 7],
     /// How many commands of each client it knows.
     counts: Vec<u16>,
+    /// Where the rows of each client stand.
+    rows: ClientRows,
     /// The greatest FUO that it has read of each region.
     fuos: [u64; 7],
     /// At which positions of its own region it has seen an entry.
@@ -128,6 +132,7 @@ impl KnownLog {
             values: Vec::with_capacity(alloc, positions)?,
             marks: [false; 7],
             counts: vec![in alloc; 0; 256]?,
+            rows: ClientRows::new(alloc, config)?,
             fuos: [0; 7],
             seen: vec![in alloc; false; positions]?,
         })
@@ -248,12 +253,41 @@ impl KnownLog {
         }
     }
 
-    /// How many commands of each client are known, client by client.
-    pub fn counts(&self) -> &[u16]
-        ensures { (c : Config) → (r : ℕ) → (mine : List Event) → StandsForKnownLog c r mine self.now
-            → CountsCommands c (known c r mine) result.now }
+    /// How many commands of the client are known.
+    fn count_at(&self, client: u16) -> u16
+        ensures { (c : Config) → (values : List ℕ) → client < 256 → HoldsValues c values self.now
+            → result ≡ command_count c client values }
     {
-        self.counts.as_slice()
+        match self.counts.get(usize::from(client)) {
+            None => 0,
+            Some(count) => *count,
+        }
+    }
+
+    /// The row of the next batch of the client that isn't known, if there is one. Looks at one row.
+    pub fn next_batch(&self, config: &Config, client: u16) -> Option<u16>
+        ensures is { (values : List ℕ) → IsConfig config.now → client < 256
+            → HoldsValues config.now values self.now
+            → result ≡ batch_of config.now values client }
+        ensures named { (values : List ℕ) → IsConfig config.now → client < 256
+            → HoldsValues config.now values self.now
+            → NamesRow result (λ j. IsNextRow config.now values j) }
+        ensures none { (values : List ℕ) → IsConfig config.now → client < 256
+            → HoldsValues config.now values self.now
+            → result ≡ None → (j : ℕ) → client_of config.now j ≡ client
+            → IsNextRow config.now values j → ⊥ }
+    {
+        self.rows.batch_after(config, client, self.count_at(client))
+    }
+
+    /// One more than the greatest client of a row of the job.
+    pub fn clients(&self) -> u16
+        ensures is { (c : Config) → (values : List ℕ) → HoldsValues c values self.now
+            → result ≡ clients_below c (row_count c) }
+        ensures few { (c : Config) → (values : List ℕ) → HoldsValues c values self.now
+            → result ≤ 256 }
+    {
+        self.rows.clients()
     }
 
     /// How many commands of the client are known.
@@ -261,9 +295,6 @@ impl KnownLog {
         ensures { (c : Config) → (r : ℕ) → (mine : List Event) → StandsForKnownLog c r mine self.now
             → result ≡ command_count c client (known c r mine) }
     {
-        match self.counts.get(usize::from(client)) {
-            None => 0,
-            Some(count) => *count,
-        }
+        self.count_at(u16::from(client))
     }
 }

@@ -5,6 +5,7 @@
 
 ghost use Rattle.mu_known.specs.RowWords.{RowsAreRight};
 
+mod client_rows;
 mod commit;
 mod held_rows;
 mod known_log;

@@ -19,7 +19,7 @@ use Rattle.mu_model.specs.Placing.{is_caught_up_at, is_known_put, is_within_ring
 use Rattle.mu_model.proofs.Basics.{event_by, or_true, same_number, true_or}
 use Rattle.mu_lead.specs.declared.place.Then.{Then}
 use Rattle.mu_lead.specs.Leading.{AtEnterBehind, AtFenceBehind, AtPutBehind, AtRaiseBehind, AtReadFuo, AtWiden, Behind, Brought, HasMost, HasPutNone, HaveAtMost, HaveBelow, HaveFew, IsClear, IsDone, IsLeft, IsMember, IsRaised, IsRead, Leads, Level, Near, RaisedBelow, end_of, is_put_at}
-use Rattle.mu_lead.specs.Sets.{IsFirst}
+use Rattle.mu_known.specs.Offers.{IsFirst}
 use Rattle.mu_lead.proofs.Copying.{fuo_read_other, put_elsewhere, puts_low, read_less}
 use Rattle.mu_lead.proofs.Keeping.{fuo_event, leads_kept, raise_event, raised_other}
 use Rattle.mu_lead.proofs.Tables.{brought_kept, caught_up_with}
@@ -47,30 +47,6 @@ read_all c r p from mine up reach is raised none k low member = elim (cases_lt k
 -- and the member of the greatest one has the most
 pub most_all : (c : Config) (r p from s : ℕ) (mine : List Event) (up : List ℕ) → from ≡ p + 1 → HasMost r mine up (p + 1) (Some s) → IsFirst (λ k. is_member r k mine) from c.replicas None → HaveAtMost c r mine up (get_or up s 0)
 most_all c r p from s mine up is few none k low member = elim (cases_lt k (p + 1)) [ inl below ↦ few.1 k below member | inr above ↦ absurd (true≢false (sym member ∙ none k (omega (arith, above, is)) low)) ]
-
--- a region with at least what the one of the most has is ahead of those below it
-pub most_here : (r p : ℕ) (mine : List Event) (up : List ℕ) (source : Option ℕ) → HasMost r mine up p source → ((s : ℕ) → source ≡ Some s → get_or up s 0 ≤ get_or up p 0) → HasMost r mine up (p + 1) (Some p)
-most_here r p mine up source few ahead = (
-  omega arith,
-  λ k low member. elim (cases_lt k p) [
-    | inl below ↦ go source few ahead k below member
-    | inr here ↦ (let same : k ≡ p = omega (arith, low, here) in subst (λ x. get_or up x 0 ≤ get_or up p 0) (sym same) (omega arith))
-  ],
-)
-  where
-    go : (o : Option ℕ) → HasMost r mine up p o → ((s : ℕ) → o ≡ Some s → get_or up s 0 ≤ get_or up p 0) → (k : ℕ) → k < p → is_member r k mine ≡ true → get_or up k 0 ≤ get_or up p 0
-    go None few ahead k below member = absurd (true≢false (sym member ∙ few k below))
-    go (Some s) few ahead k below member = (let less = few.1 k below member in let more = ahead s refl in omega (arith, less, more))
-
--- one that has less isn't
-pub most_still : (r p s : ℕ) (mine : List Event) (up : List ℕ) → HasMost r mine up p (Some s) → get_or up p 0 ≤ get_or up s 0 → HasMost r mine up (p + 1) (Some s)
-most_still r p s mine up few less = (
-  (let low = few.0 in omega (arith, low)),
-  λ k low member. elim (cases_lt k p) [
-    | inl below ↦ few.1 k below member
-    | inr here ↦ (let same : k ≡ p = omega (arith, low, here) in subst (λ x. get_or up x 0 ≤ get_or up s 0) (sym same) less)
-  ],
-)
 
 -- the FUO of p was read
 pub raised_read : (c : Config) (r b p u : ℕ) (mine : List Event) (up up' : List ℕ) (reach reach' : List (Option ℕ)) (held : Option ℕ) → RaisedBelow r mine up reach p → get_or up' p 0 ≡ u

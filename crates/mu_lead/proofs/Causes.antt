@@ -18,10 +18,13 @@ use Rattle.mu_model.proofs.Scans.{each_all}
 use Rattle.mu_pace.specs.Keeping.{HasCause}
 use Rattle.mu_lead.specs.declared.lead.Lead.{Lead}
 use Rattle.mu_lead.specs.declared.place.Place.{Place}
+use Rattle.mu_lead.specs.Lasting.{Lasts, step_of}
+use Rattle.mu_lead.specs.Listing.{next_place}
+use Rattle.mu_lead.proofs.Onwards.{listing_goes}
 use Rattle.mu_lead.specs.Beside.{is_beside, leads_at}
-use Rattle.mu_lead.specs.Causes.{CausesAt, CausesNext, HasReadRounds, LeadersAskWithCause, MayAsk}
-use Rattle.mu_lead.specs.Gathering.{GoesDue, GoesFrom, ends_at, reads_first}
-use Rattle.mu_lead.specs.Standing.{At, StandsFor, verb_at}
+use Rattle.mu_lead.specs.Causes.{CausesAt, HasReadRounds, LeadersAskWithCause, MayAsk}
+use Rattle.mu_lead.specs.Gathering.{GoesFrom, ends_at, reads_first}
+use Rattle.mu_lead.specs.Standing.{At, verb_at}
 use Rattle.mu_lead.proofs.Elections.{min_beside}
 
 -- why r may ask anew
@@ -152,10 +155,13 @@ causes_from c r b mine up reach written values verb a place next at due causes =
   | inr ended ↦ ended_causes c r (event_by r verb a ∷ mine) next ended.0 ended.1
 ]
 
--- by the answer to the verb that was due
-pub causes_next : (mine : List Event) (old new : Lead) (answer : Answer) → StandsFor mine old → GoesDue old answer new → CausesNext mine old answer new
-causes_next mine old new answer s goes verb due possible causes =
-    causes_from old.config old.id old.number mine old.up old.reach old.written.items (known old.config old.id mine) verb answer old.place new.place s.at due causes (goes mine verb s due possible)
+-- each ask of the listing has its cause
+pub asks_have_cause : Lasts CausesAt
+asks_have_cause c r b mine up reach written t Place.Outrun a is inside at possible turn causes = causes
+asks_have_cause c r b mine up reach written t Place.Rest a is inside at possible turn causes = causes
+asks_have_cause c r b mine up reach written t place a is inside at possible turn causes =
+    let e = step_of c r b mine up written place a in
+    causes_from c r b mine up reach written (known c r mine) e.verb a place (next_place c r b (e ∷ mine) t a place) at refl causes (listing_goes c r b mine up reach written t place a at possible)
 
 -- what another machine does leaves what r may do
 beside_over : (r : ℕ) (leading : Bool) (verb : Verb) (a : Answer) (mine : List Event) → is_beside leading verb ≡ true → is_over r (event_by r verb a ∷ mine) ≡ is_over r mine

@@ -1,16 +1,14 @@
 -- The count of steps to the first minimum of a confirmed leadership, step by step.
-use Rattle.std.proofs.Common.{◌≡◌, ℕ, ◌+◌, ◌-◌, ◌<◌, Bool, true, false, ◌&&◌, List, ◌∷◌, None, is_some, refl, sym, ◌∙◌, ap, subst, arith, true≢false}
+use Rattle.std.proofs.Common.{◌≡◌, ℕ, ◌+◌, ◌-◌, ◌<◌, Bool, true, false, ◌&&◌, List, ◌∷◌, None, is_some, refl, sym, arith, true≢false}
 use Rattle.std.specs.Prelude.{not}
-use Rattle.std.proofs.lemmas.Bool.{and_left, and_parts, and_right, false_from_ne_true, leb-true}
+use Rattle.std.proofs.lemmas.Bool.{and_left, and_parts, and_right, leb-true}
 use Rattle.mu_model.specs.declared.config.Config.{Config}
 use Rattle.mu_model.specs.declared.event.Answer.{Answer}
 use Rattle.mu_model.specs.declared.event.Event.{Event}
 use Rattle.mu_model.specs.declared.event.Verb.{Verb}
 use Rattle.mu_model.specs.Diligence.{is_confirmed}
 use Rattle.mu_model.specs.Histories.{count_below, has}
-use Rattle.mu_model.specs.Knowledge.{known}
 use Rattle.mu_model.specs.Leaderships.{has_begun, leadership, majority_of, noted_grant}
-use Rattle.mu_model.specs.Parts.{IsPossible}
 use Rattle.mu_model.specs.Steps.{has_min, is_any_fencing_verb, is_min}
 use Rattle.mu_model.specs.Stretches.{is_replication}
 use Rattle.mu_model.proofs.Basics.{event_by}
@@ -19,25 +17,22 @@ use Rattle.mu_pace.specs.Watches.{confirming, is_confirming}
 use Rattle.mu_pace.proofs.Beside.{unallowed}
 use Rattle.mu_pace.proofs.Countdowns.{countdowns_run}
 use Rattle.mu_pace.proofs.Rooms.{kinds_of_step}
-use Rattle.mu_lead.specs.declared.lead.Lead.{Lead}
 use Rattle.mu_lead.specs.declared.place.Place.{Place}
 use Rattle.mu_lead.specs.Beside.{is_beside, leads_at}
-use Rattle.mu_lead.specs.Confirmations.{ConfirmsAt, ConfirmsDue, HasRead, KeepsConfirmation, MinimaComeInTime, NoneIsAwaited, is_gathering}
+use Rattle.mu_lead.specs.Confirmations.{ConfirmsAt, HasRead, MinimaComeInTime, NoneIsAwaited, is_gathering}
 use Rattle.mu_lead.specs.Confirming.{Confirmed}
 use Rattle.mu_lead.specs.Going.{begins_at}
-use Rattle.mu_lead.specs.Standing.{At}
 use Rattle.mu_lead.proofs.RoomsMin.{min_now}
-use Rattle.mu_lead.proofs.Taking.{HasVerb, verb_is}
 
 -- where a minimum was read it holds at each place
-anywhere : (c : Config) (r : ℕ) (mine : List Event) (place : Place) → HasRead c r mine → ConfirmsAt c r mine place
+pub anywhere : (c : Config) (r : ℕ) (mine : List Event) (place : Place) → HasRead c r mine → ConfirmsAt c r mine place
 anywhere c r mine (Place.Ask p) at = at.none
 anywhere c r mine (Place.Confirm round p) at = kinds_of_step.closed (confirming c r) (c.replicas - p + 1) mine at.none
 anywhere c r mine (Place.ReadMin p) at = kinds_of_step.closed (confirming c r) 1 mine at.none
 anywhere c r mine place at = at
 
 -- while regions are asked and fences read none need have been
-gathers : (c : Config) (r : ℕ) (mine : List Event) (place : Place) → is_gathering place ≡ true → NoneIsAwaited c r mine → ConfirmsAt c r mine place
+pub gathers : (c : Config) (r : ℕ) (mine : List Event) (place : Place) → is_gathering place ≡ true → NoneIsAwaited c r mine → ConfirmsAt c r mine place
 gathers c r mine (Place.Ask p) is none = none
 gathers c r mine (Place.Confirm round p) is none = kinds_of_step.closed (confirming c r) (c.replicas - p + 1) mine none
 gathers c r mine place is none = absurd (true≢false (sym is))
@@ -60,7 +55,7 @@ already : (a b m k : Bool) → m ≡ true → (a && (b && (not m && k))) ≡ fal
 already a b true k read = and_right a (b && false) (and_right b false refl)
 already a b false k read = absurd (true≢false (sym read))
 
-read_on : (c : Config) (r : ℕ) (mine : List Event) (e : Event) → has_min r (e ∷ mine) ≡ true → HasRead c r mine → HasRead c r (e ∷ mine)
+pub read_on : (c : Config) (r : ℕ) (mine : List Event) (e : Event) → has_min r (e ∷ mine) ≡ true → HasRead c r mine → HasRead c r (e ∷ mine)
 read_on c r mine e read at = record {
   read = read;
   none = kinds_of_step.stays_closed (confirming c r) mine e
@@ -70,41 +65,6 @@ read_on c r mine e read at = record {
 -- a later minimum leaves it so
 pub later_read : (r p : ℕ) (a : Answer) (mine : List Event) → has_min r mine ≡ true → has_min r (event_by r (Verb.Min p) a ∷ mine) ≡ true
 later_read r p a mine read = min_now r p a mine (and_parts (has_begun r mine) (has is_min (leadership r mine)) read).0
-
--- a place after the first minimum
-pub confirms_led : (old new : Lead) (place : Place) (vf : List ℕ → Verb) (answer : Answer) → old.place ≡ place → HasVerb old place vf → is_led place ≡ true
-    → ((mine : List Event) (xs : List ℕ) → has_min old.id mine ≡ true → has_min old.id (event_by old.id (vf xs) answer ∷ mine) ≡ true) → ConfirmsDue old answer new
-confirms_led old new place vf answer at is led keeps mine verb s due possible turn confirms =
-    let same = verb_is old place vf verb (known old.config old.id mine) at is due in
-    let here = read_at old.config old.id mine old.place (ap is_led at ∙ led) confirms in
-    anywhere old.config old.id (event_by old.id verb answer ∷ mine) new.place
-    (read_on old.config old.id mine (event_by old.id verb answer) (subst (λ w. has_min old.id (event_by old.id w answer ∷ mine) ≡ true) same (keeps mine (known old.config old.id mine) here.read)) here)
-
--- a region is asked
-pub confirms_ask : (old new : Lead) (p : ℕ) (answer : Answer) → old.place ≡ Place.Ask p → is_gathering new.place ≡ true → ConfirmsDue old answer new
-confirms_ask old new p answer at goes mine verb s due possible turn confirms =
-    let same = verb_is old (Place.Ask p) (λ xs. Verb.Ask p) verb (known old.config old.id mine) at (λ xs. refl) due in
-    subst (λ w. ConfirmsAt old.config old.id (event_by old.id w answer ∷ mine) new.place) same
-    (gathers old.config old.id (event_by old.id (Verb.Ask p) answer ∷ mine) new.place goes
-    (countdowns_run.confirms.quiet old.config old.id mine (event_by old.id (Verb.Ask p) answer) refl (subst (ConfirmsAt old.config old.id mine) at confirms)))
-
--- a fence is read in a round
-pub confirms_fence : (old new : Lead) (round p : ℕ) (answer : Answer) → old.place ≡ Place.Confirm round p → KeepsConfirmation old (Place.Confirm round p) (Verb.Fence p) answer new → ConfirmsDue old answer new
-confirms_fence old new round p answer at keeps mine verb s due possible turn confirms =
-    let same = verb_is old (Place.Confirm round p) (λ xs. Verb.Fence p) verb (known old.config old.id mine) at (λ xs. refl) due in
-    subst (λ w. ConfirmsAt old.config old.id (event_by old.id w answer ∷ mine) new.place) same
-    (keeps mine s at (subst (λ w. IsPossible old.config old.id (event_by old.id w answer ∷ mine)) (sym same) possible) (subst (λ w. is_replication mine (event_by old.id w answer) ≡ true) (sym same) turn) (subst (ConfirmsAt old.config old.id mine) at confirms))
-
--- a minimum is read
-pub confirms_min : (old new : Lead) (p : ℕ) (answer : Answer) → old.place ≡ Place.ReadMin p → ConfirmsDue old answer new
-confirms_min old new p answer at mine verb s due possible turn confirms =
-    let same = verb_is old (Place.ReadMin p) (λ xs. Verb.Min p) verb (known old.config old.id mine) at (λ xs. refl) due in
-    let here = subst (At old.config old.id old.number mine old.up old.reach old.written.items) at s.at in
-    subst (λ w. ConfirmsAt old.config old.id (event_by old.id w answer ∷ mine) new.place) same
-    (anywhere old.config old.id (event_by old.id (Verb.Min p) answer ∷ mine) new.place (record {
-      read = min_now old.id p answer mine here.telling.fresh.begun;
-      none = countdowns_run.confirms.begun old.config old.id mine (event_by old.id (Verb.Min p) answer) (subst (λ w. is_replication mine (event_by old.id w answer) ≡ true) (sym same) turn) refl;
-    }))
 
 -- the next fence of the round
 pub next_fence : (c : Config) (r p q : ℕ) (a : Answer) (mine : List Event) → q ≡ p + 1 → q < c.replicas → HasRoom (confirming c r) (c.replicas - p + 1) mine
@@ -125,14 +85,10 @@ pub unconfirmed_fence : (c : Config) (r p : ℕ) (a : Answer) (mine : List Event
 unconfirmed_fence c r p a mine turn none = countdowns_run.confirms.unconfirmed c r mine (event_by r (Verb.Fence p) a) turn refl none
 
 -- a leadership is confirmed where the noted regions are a majority with r
-is_majority : (c : Config) (r : ℕ) (mine : List Event) → is_confirmed c r mine ≡ true → Confirmed c r mine
+pub is_majority : (c : Config) (r : ℕ) (mine : List Event) → is_confirmed c r mine ≡ true → Confirmed c r mine
 is_majority c r mine is =
     let parts = and_parts (is_some (noted_grant r r mine)) _ is in
     record { own = parts.0; many = leb-true (majority_of c.replicas) (count_below c.replicas (λ p. is_some (noted_grant r p mine))) parts.1 }
-
--- it isn't where the test fails
-pub is_no_majority : (c : Config) (r : ℕ) (mine : List Event) (t : Bool) → t ≡ false → (Confirmed c r mine → t ≡ true) → is_confirmed c r mine ≡ false
-is_no_majority c r mine t fails passes = false_from_ne_true (is_confirmed c r mine) (λ is. true≢false (sym (passes (is_majority c r mine is)) ∙ fails))
 
 -- another round, or asks
 pub round_again : (c : Config) (r round : ℕ) (mine : List Event) → NoneIsAwaited c r mine → HasRoom (confirming c r) (c.replicas - 0 + 1) mine

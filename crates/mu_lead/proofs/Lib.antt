@@ -1,60 +1,68 @@
-pub mod Allowing
-pub mod Asking
-pub mod Bringing
+mod Allowing
+mod Asking
+mod Bringing
 pub mod Causes
-pub mod Commits
+mod Commits
 pub mod Confirms
-pub mod Copying
-pub mod Due
-pub mod ElectionSteps
+mod Copying
+mod Due
+mod ElectionSteps
 pub mod Elections
-pub mod Gathering
-pub mod Going
-pub mod Held
-pub mod Joins
-pub mod Keeping
-pub mod Lates
-pub mod Looks
-pub mod Losses
-pub mod Marks
-pub mod Misses
-pub mod NoteKinds
-pub mod Numbering
-pub mod Offers
+mod Folding
+mod Gathering
+mod Firsts
+mod Going
+mod Held
+mod Joins
+mod Keeping
+mod Lates
+mod Laws
+mod Listed
+mod Looks
+mod Losses
+mod Marks
+mod Misses
+mod NextRows
+mod NoteKinds
+mod Numbering
+mod Offers
+mod Onwards
 pub mod Others
-pub mod Puts
-pub mod Quiet
-pub mod Raises
-pub mod Replies
+mod Puts
+mod Quiet
+mod Raises
+mod Replies
 pub mod Resigning
-pub mod Rests
-pub mod Rooms
-pub mod RoomsAsking
-pub mod RoomsBeside
-pub mod RoomsBringing
-pub mod RoomsBrought
-pub mod RoomsCopying
-pub mod RoomsFollowers
-pub mod RoomsHeads
-pub mod RoomsInTime
-pub mod RoomsLate
-pub mod RoomsLearning
-pub mod RoomsLooking
-pub mod RoomsMin
-pub mod RoomsOnward
-pub mod RoomsOutrun
-pub mod RoomsPosition
-pub mod RoomsPutting
-pub mod RoomsQuiet
-pub mod RoomsRaising
-pub mod RoomsReading
-pub mod RoomsTaking
-pub mod RoomsWriting
-pub mod Rounds
-pub mod Rows
-pub mod Saying
-pub mod Says
-pub mod Sights
-pub mod Tables
-pub mod Taking
-pub mod Telling
+mod Rests
+mod Rooms
+mod RoomsAsking
+mod RoomsBeside
+mod RoomsBringing
+mod RoomsBrought
+mod RoomsCopying
+mod RoomsFirsts
+mod RoomsFollowers
+mod RoomsHeads
+mod RoomsInTime
+mod RoomsLate
+mod RoomsLearning
+mod RoomsLooking
+mod RoomsMin
+mod RoomsOnward
+mod RoomsOutrun
+mod RoomsPosition
+mod RoomsPutting
+mod RoomsQuiet
+mod RoomsRaising
+mod RoomsReading
+mod RoomsTaking
+mod RoomsWriting
+mod Rounds
+mod Rows
+mod Saying
+mod Says
+mod Sights
+mod StandsFirsts
+mod Tables
+mod Taking
+mod Telling

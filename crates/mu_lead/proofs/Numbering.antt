@@ -17,7 +17,7 @@ use Rattle.mu_agree.proofs.Counting.{count_more}
 use Rattle.mu_agree.proofs.Landings.{has_since}
 use Rattle.mu_lead.specs.Confirming.{AtEnterMin, AtPutMin, AtReadMin, HasGrant, HoldsGrants, Numbered, Telling, greatest_min}
 use Rattle.mu_lead.specs.Leading.{AtReadFuo, HasPutNone, Leads}
-use Rattle.mu_lead.specs.Sets.{IsFirst}
+use Rattle.mu_known.specs.Offers.{IsFirst}
 
 granted : (t : Bool) (x g : ℕ) → cond t (Some x) None ≡ Some g → (x == g) ≡ true
 granted true x g is = eq-eqb x g (same_some x g is)
@@ -129,18 +129,6 @@ numbered_now c r b mine t allowed = record {
   told = λ p region noted. t.told p region noted;
   low = λ p region noted. (let low = t.low p region noted in let up = above_greatest r b mine allowed in omega (arith, low, up));
   unput = t.fresh.unput;
-}
-
--- no region is a member yet
-pub enters_first : (c : Config) (r b q : ℕ) (mine : List Event) → Telling c r mine c.replicas → Numbered c r b mine → IsFirst (λ k. is_some (noted_grant r k mine)) 0 c.replicas (Some q) → AtEnterMin c r b mine q
-enters_first c r b q mine t n first = record {
-  region = first.1;
-  granted = first.2;
-  numbered = n;
-  below = record {
-    joined = λ k low noted. absurd (none_of r k mine noted (first.3 k (omega arith) low));
-    held = λ k region member. absurd (true≢false (sym member ∙ t.fresh.alone k));
-  };
 }
 
 -- the region is entered
@@ -274,4 +262,16 @@ reads_first c r b q mine up reach leads unput first = record {
   unput = unput;
   from = tt;
   few = λ k low. first.3 k (omega arith) low;
+}
+
+-- no region is a member yet
+pub enters_first : (c : Config) (r b q : ℕ) (mine : List Event) → Telling c r mine c.replicas → Numbered c r b mine → IsFirst (λ k. is_some (noted_grant r k mine)) 0 c.replicas (Some q) → AtEnterMin c r b mine q
+enters_first c r b q mine t n first = record {
+  region = first.1;
+  granted = first.2;
+  numbered = n;
+  below = record {
+    joined = λ k low noted. absurd (none_of r k mine noted (first.3 k (omega arith) low));
+    held = λ k region member. absurd (true≢false (sym member ∙ t.fresh.alone k));
+  };
 }

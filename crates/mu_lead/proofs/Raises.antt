@@ -1,5 +1,5 @@
 -- The count of steps after a commit, step by step.
-use Rattle.std.proofs.Common.{◌≡◌, ℕ, ◌<◌, ◌≤◌, Bool, true, false, ◌&&◌, ◌==◌, List, ◌∷◌, length, None, Some, refl, sym, ◌∙◌, ap, subst, arith, true≢false}
+use Rattle.std.proofs.Common.{◌≡◌, ℕ, ◌<◌, ◌≤◌, Bool, true, false, ◌&&◌, ◌==◌, List, ◌∷◌, length, None, Some, refl, sym, subst, arith, true≢false}
 use Rattle.std.specs.Prelude.{if◌then◌else◌, nat_le, nat_lt}
 use Rattle.std.specs.declared.option.Option.{Option}
 use Rattle.std.proofs.lemmas.Bool.{le-leb, ne_eqb}
@@ -22,23 +22,12 @@ use Rattle.mu_pace.proofs.Beside.{not_more, unallowed}
 use Rattle.mu_pace.proofs.Countdowns.{countdowns_run}
 use Rattle.mu_pace.proofs.Members.{counts_of_members}
 use Rattle.mu_pace.proofs.Rooms.{kinds_of_step}
-use Rattle.mu_lead.specs.declared.lead.Lead.{Lead}
 use Rattle.mu_lead.specs.declared.place.Place.{Place}
 use Rattle.mu_lead.specs.Beside.{is_beside, leads_at}
 use Rattle.mu_lead.specs.Leading.{end_of}
-use Rattle.mu_lead.specs.Raising.{IsRaisedEverywhere, KeepsRaises, RaisesAt, RaisesComeInTime, RaisesDue}
-use Rattle.mu_lead.specs.Standing.{At, StandsFor, known_told}
+use Rattle.mu_lead.specs.Raising.{IsRaisedEverywhere, RaisesAt, RaisesComeInTime}
+use Rattle.mu_lead.specs.Standing.{At}
 use Rattle.mu_lead.proofs.Puts.{member_within}
-use Rattle.mu_lead.proofs.Taking.{HasVerb, verb_is}
-
--- no FUO is raised over a commit at the place
-abbrev pub is_raising : Place → Bool
-is_raising (Place.Raise p) = true
-is_raising place = false
-
-raised_at : (c : Config) (r : ℕ) (mine : List Event) (place : Place) → is_raising place ≡ false → RaisesAt c r mine place → IsRaisedEverywhere c r mine
-raised_at c r mine (Place.Raise p) none at = absurd (true≢false none)
-raised_at c r mine place none at = at
 
 pub raised_anywhere : (c : Config) (r : ℕ) (mine : List Event) (place : Place) → IsRaisedEverywhere c r mine → RaisesAt c r mine place
 raised_anywhere c r mine (Place.Raise p) at = record { done = λ q low. at q; room = λ q. kinds_of_step.closed (raising c r q) (members_from c r p mine) mine (at q) }
@@ -56,34 +45,6 @@ known_slot xs x false b all h = not_more (length xs)
 pub copy_commits_none : (c : Config) (r p i b v : ℕ) (a : Answer) (mine : List Event) → i < end_of c r mine → commits_more c r mine (event_by r (Verb.PutSlot p i b v) a) ≡ false
 copy_commits_none c r p i b v Answer.Done mine low = known_slot (commits c r mine) (i, v) (r == r) (i == length (known c r mine)) _ (ne_eqb i (length (known c r mine)) (λ same. omega (arith, low, same)))
 copy_commits_none c r p i b v a mine low = not_more (length (commits c r mine))
-
--- a place whose verb commits nothing
-pub raises_plain : (old new : Lead) (place : Place) (values : List ℕ) (vf : List ℕ → Verb) (answer : Answer) → old.place ≡ place → HasVerb old place vf → is_raising place ≡ false
-    → ((mine : List Event) (xs : List ℕ) → commits_more old.config old.id mine (event_by old.id (vf xs) answer) ≡ false) → RaisesDue old values answer new
-raises_plain old new place values vf answer at is plain none mine verb s due possible told turn raised =
-    let same = verb_is old place vf verb (known old.config old.id mine) at is due in
-    raised_anywhere old.config old.id (event_by old.id verb answer ∷ mine) new.place
-    (raised_on old.config old.id mine (event_by old.id verb answer) (subst (λ w. commits_more old.config old.id mine (event_by old.id w answer) ≡ false) same (none mine (known old.config old.id mine)))
-    (raised_at old.config old.id mine old.place (ap is_raising at ∙ plain) raised))
-
--- the place that brings a region what it lacks
-pub raises_behind : (old new : Lead) (place : Place) (values : List ℕ) (i : ℕ) (v : List ℕ → ℕ) (b p : ℕ) (answer : Answer) → old.place ≡ place → HasVerb old place (λ xs. Verb.PutSlot p i b (v xs)) → is_raising place ≡ false
-    → ((mine : List Event) → StandsFor mine old → i < end_of old.config old.id mine) → RaisesDue old values answer new
-raises_behind old new place values i v b p answer at is plain low mine verb s due possible told turn raised =
-    let same = verb_is old place (λ xs. Verb.PutSlot p i b (v xs)) verb (known old.config old.id mine) at is due in
-    raised_anywhere old.config old.id (event_by old.id verb answer ∷ mine) new.place
-    (raised_on old.config old.id mine (event_by old.id verb answer) (subst (λ w. commits_more old.config old.id mine (event_by old.id w answer) ≡ false) same (copy_commits_none old.config old.id p i b (v (known old.config old.id mine)) answer mine (low mine s)))
-    (raised_at old.config old.id mine old.place (ap is_raising at ∙ plain) raised))
-
--- a place that keeps them by its own clause
-pub raises_known : (old new : Lead) (place : Place) (values : List ℕ) (vf : List ℕ → Verb) (answer : Answer) → old.place ≡ place → HasVerb old place vf
-    → ((mine : List Event) (xs : List ℕ) → known_told old.config old.id mine old.id (vf xs) answer ≡ known old.config old.id mine) → KeepsRaises old place values (vf values) answer new → RaisesDue old values answer new
-raises_known old new place values vf answer at is quiet keeps mine verb s due possible told turn raised =
-    let same = verb_is old place vf verb (known old.config old.id mine) at is due in
-    let known_is : values ≡ known old.config old.id mine = subst (λ w. values ≡ known_told old.config old.id mine old.id w answer) (sym same) told ∙ quiet mine (known old.config old.id mine) in
-    let verb_now : vf values ≡ verb = ap vf known_is ∙ same in
-    subst (λ w. RaisesAt old.config old.id (event_by old.id w answer ∷ mine) new.place) verb_now
-    (keeps mine s at (subst (λ w. IsPossible old.config old.id (event_by old.id w answer ∷ mine)) (sym verb_now) possible) (known_is ∙ sym (quiet mine values)) (subst (λ w. is_replication mine (event_by old.id w answer) ≡ true) (sym verb_now) turn) (subst (RaisesAt old.config old.id mine) at raised))
 
 -- a commit: the first member is next
 pub raises_committed : (c : Config) (r q : ℕ) (mine : List Event) (e : Event) → commits_more c r mine e ≡ true → ((k : ℕ) → k < q → is_member r k (e ∷ mine) ≡ false) → IsRaisedEverywhere c r mine → RaisesAt c r (e ∷ mine) (Place.Raise q)

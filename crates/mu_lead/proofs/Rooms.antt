@@ -12,7 +12,7 @@ use Rattle.mu_model.specs.Picks.{highest_accepted}
 use Rattle.mu_model.specs.Room.{last_head, reserve}
 use Rattle.mu_lead.specs.Leading.{Level, end_of}
 use Rattle.mu_lead.specs.Offering.{AtLook, AtReadHead, Roomy, leaves_room}
-use Rattle.mu_lead.specs.Sets.{IsFirst}
+use Rattle.mu_known.specs.Offers.{IsFirst}
 
 -- the heads are read from the first replica on
 pub roomy_first : (c : Config) (r : ℕ) (mine : List Event) → end_of c r mine < row_count c + reserve c → holds_all c (known c r mine) ≡ false → Roomy c r mine 0 None
@@ -23,10 +23,6 @@ roomy_first c r mine within lacks = record {
   free = λ none k low. absurd (omega arith);
   marks = tt;
 }
-
--- the head of k was read last so high that it leaves room
-abbrev pub is_high : Config → ℕ → List ℕ → ℕ → ℕ → Bool
-is_high c i heads free k = nat_lt (i + free) (get_or heads k 0 + c.ring)
 
 not_not : (t : Bool) → not t ≡ false → t ≡ true
 not_not true is = refl

@@ -1,5 +1,5 @@
 -- The counts of a leader while it learns what others committed.
-use Rattle.std.proofs.Common.{◌≡◌, ℕ, inl, true, false, List, ◌∷◌, length, refl, sym, ◌∙◌, ap, arith, true≢false}
+use Rattle.std.proofs.Common.{◌≡◌, ℕ, inl, true, List, ◌∷◌, length, refl, sym, ◌∙◌, ap, arith, true≢false}
 use Rattle.std.specs.Prelude.{not}
 use Rattle.mu_model.specs.declared.config.Config.{Config}
 use Rattle.mu_model.specs.declared.event.Answer.{Answer}

@@ -1,13 +1,12 @@
 -- From what each place notes to when each note comes.
-use Rattle.std.proofs.Common.{List, None, ap, refl, subst, sym, true, ℕ, ◌∙◌, ◌∷◌, ◌≡◌, true≢false}
+use Rattle.std.proofs.Common.{List, None, ap, subst, sym, ℕ, ◌∙◌, ◌∷◌, ◌≡◌}
 use Rattle.mu_model.specs.declared.event.Answer.{Answer}
 use Rattle.mu_model.specs.declared.event.Fence.{Fence}
-use Rattle.mu_model.specs.Picks.{is_past}
 use Rattle.mu_lead.specs.declared.lead.Lead.{Lead}
 use Rattle.mu_lead.specs.declared.note.AbortCause.{AbortCause}
 use Rattle.mu_lead.specs.declared.note.Note.{Note}
 use Rattle.mu_lead.specs.declared.place.Place.{Place}
-use Rattle.mu_lead.specs.Saying.{NotesAt, NotesDue, NotesEnter, NotesOver, note_of_fence, note_of_learning}
+use Rattle.mu_lead.specs.Saying.{NotesAt, NotesDue, NotesEnter, NotesOver, note_of_fence}
 use Rattle.mu_lead.specs.Standing.{StandsFor}
 use Rattle.mu_model.specs.declared.event.Event.{Event}
 use Rattle.mu_model.specs.declared.event.Verb.{Verb}
@@ -34,18 +33,6 @@ notes_lost p answer f note lost is = (λ entered. absurd (entered_not f (sym ent
 -- the note of one that was not
 pub notes_entered : (p : ℕ) (answer : Answer) (note : Note) → NamesLost answer None → note ≡ Note.Working → NotesEnter p answer note
 notes_entered p answer note none is = (λ entered. is, λ f lost. absurd (none f lost))
-
--- a look that was past teaches nothing
-pub past_teaches_nothing : (n : ℕ) (answer : Answer) → is_past answer ≡ true → note_of_learning n answer ≡ Note.Working
-past_teaches_nothing n (Answer.Entry b v) past = absurd (true≢false (sym past))
-past_teaches_nothing n Answer.Done past = refl
-past_teaches_nothing n Answer.Missed past = refl
-past_teaches_nothing n Answer.Entered past = refl
-past_teaches_nothing n (Answer.Lost f) past = refl
-past_teaches_nothing n (Answer.Seen f) past = refl
-past_teaches_nothing n (Answer.Number x) past = refl
-past_teaches_nothing n Answer.Empty past = refl
-past_teaches_nothing n Answer.Past past = refl
 
 -- the note of a fence read after a look that was past
 pub notes_over : (old : Lead) (p : ℕ) (answer : Answer) (f : Fence) (note : Note) → answer ≡ Answer.Seen f

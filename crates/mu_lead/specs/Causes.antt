@@ -9,7 +9,6 @@ use Rattle.mu_model.specs.Diligence.{may_ask_anew}
 use Rattle.mu_model.specs.Histories.{how_many}
 use Rattle.mu_model.specs.Knowledge.{known}
 use Rattle.mu_model.specs.Leaderships.{is_over, leadership}
-use Rattle.mu_model.specs.Parts.{IsPossible}
 use Rattle.mu_model.specs.Steps.{has_min, is_fencing, is_named}
 use Rattle.mu_model.specs.Stretches.{is_replication}
 use Rattle.mu_pace.specs.Keeping.{HasCause}
@@ -37,15 +36,6 @@ CausesAt c r mine (Place.Ask p) = MayAsk c r mine p
 CausesAt c r mine (Place.Confirm round p) = HasReadRounds c r mine round p
 CausesAt c r mine (Place.Evidence p) = is_over r mine ≡ true
 CausesAt c r mine place = Unit {0}
-
--- by the answer to the verb that was due the leader comes to a place where the next ask has a cause
-abbrev pub CausesNext : List Event → Lead → Answer → Lead → Type 0
-CausesNext mine old answer new =
-    (verb : Verb) → verb_of old (known old.config old.id mine) ≡ Some verb
-    → IsPossible old.config old.id (record { by = old.id; verb = verb; answer = answer } ∷ mine)
-    → CausesAt old.config old.id mine old.place
-    → CausesAt old.config old.id (record { by = old.id; verb = verb; answer = answer } ∷ mine)
-    new.place
 
 -- what the other machines do leaves the cause of the next ask, and so it is where the replica isn't
 -- named, though the leader gives up; a named leader asks with cause, and no other machine asks

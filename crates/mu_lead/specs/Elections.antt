@@ -1,13 +1,11 @@
 -- The counts of steps since each region was asked and its fence read, at each place of a leader:
 -- who has to ask does both in time.
-use Rattle.std.specs.Prelude.{List, Some, false, true, ℕ, ◌*◌, ◌+◌, ◌<◌, ◌∷◌, ◌≡◌, ◌≤◌, ◌⊎◌}
+use Rattle.std.specs.Prelude.{List, false, true, ℕ, ◌*◌, ◌+◌, ◌<◌, ◌∷◌, ◌≡◌, ◌≤◌, ◌⊎◌}
 use Rattle.mu_agree.specs.Paces.{asks_or_rests, steps_since}
 use Rattle.mu_model.specs.declared.config.Config.{Config}
 use Rattle.mu_model.specs.declared.event.Answer.{Answer}
 use Rattle.mu_model.specs.declared.event.Event.{Event}
 use Rattle.mu_model.specs.declared.event.Verb.{Verb}
-use Rattle.mu_model.specs.Knowledge.{known}
-use Rattle.mu_model.specs.Parts.{IsPossible}
 use Rattle.mu_model.specs.Steps.{has_min, is_asking, is_fencing, is_named}
 use Rattle.mu_model.specs.Stretches.{is_replication}
 use Rattle.mu_pace.specs.Keeping.{AsksLately}
@@ -15,7 +13,7 @@ use Rattle.mu_lead.specs.declared.lead.Lead.{Lead}
 use Rattle.mu_lead.specs.declared.place.Place.{Place}
 use Rattle.mu_lead.specs.Beside.{is_beside, leads_at}
 use Rattle.mu_lead.specs.Offering.{AtRest}
-use Rattle.mu_lead.specs.Standing.{StandsFor, known_told, verb_of}
+use Rattle.mu_lead.specs.Standing.{StandsFor}
 
 -- how many replication events came since r asked q, or did not have to
 abbrev pub since_ask : Config → ℕ → ℕ → List Event → ℕ
@@ -64,18 +62,6 @@ ElectsAt c r mine (Place.Confirm round p) = FencesNext c r mine round p
 ElectsAt c r mine (Place.ReadMin p) = ReadsNext c r mine
 ElectsAt c r mine (Place.Evidence p) = HasStepsLeft c r mine (17 * c.replicas)
 ElectsAt c r mine place = HasLed c r mine
-
--- by the answer to the verb that was due, a replication event, and with these values known, the
--- leader comes to a place where regions are asked in time
-abbrev pub ElectsNext : List Event → Lead → List ℕ → Answer → Lead → Type 0
-ElectsNext mine old values answer new =
-    (verb : Verb) → verb_of old (known old.config old.id mine) ≡ Some verb
-    → IsPossible old.config old.id (record { by = old.id; verb = verb; answer = answer } ∷ mine)
-    → values ≡ known_told old.config old.id mine old.id verb answer
-    → is_replication mine (record { by = old.id; verb = verb; answer = answer }) ≡ true
-    → ElectsAt old.config old.id mine old.place
-    → ElectsAt old.config old.id (record { by = old.id; verb = verb; answer = answer } ∷ mine)
-    new.place
 
 -- what the other machines do in the background leaves the counts of asks; so do their replication
 -- events where the replica isn't named, though the leader gives up, and where nothing is due; and

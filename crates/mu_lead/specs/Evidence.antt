@@ -1,18 +1,15 @@
 -- The count of steps after a put that missed, at each place of a leader: the next step reads the
 -- fence.
-use Rattle.std.specs.Prelude.{List, None, Some, [], false, true, ℕ, ◌∷◌, ◌≡◌, ◌≢◌}
+use Rattle.std.specs.Prelude.{List, None, [], false, true, ℕ, ◌∷◌, ◌≡◌, ◌≢◌}
 use Rattle.mu_model.specs.declared.config.Config.{Config}
 use Rattle.mu_model.specs.declared.event.Answer.{Answer}
 use Rattle.mu_model.specs.declared.event.Event.{Event}
 use Rattle.mu_model.specs.declared.event.Verb.{Verb}
-use Rattle.mu_model.specs.Knowledge.{known}
 use Rattle.mu_model.specs.Stretches.{is_replication}
 use Rattle.mu_pace.specs.Counters.{IsInTime, steps_left}
 use Rattle.mu_pace.specs.Watches.{explaining}
-use Rattle.mu_lead.specs.declared.lead.Lead.{Lead}
 use Rattle.mu_lead.specs.declared.place.Place.{Place}
 use Rattle.mu_lead.specs.Beside.{is_beside, leads_at}
-use Rattle.mu_lead.specs.Standing.{verb_at, verb_of}
 
 -- no miss waits for its fence
 abbrev pub IsExplained : Config → ℕ → List Event → Type 0
@@ -27,28 +24,6 @@ pub record WaitsForFence (c : Config) (r : ℕ) (mine : List Event) (p : ℕ) : 
 abbrev pub ExplainsAt : Config → ℕ → List Event → Place → Type 0
 ExplainsAt c r mine (Place.Evidence p) = WaitsForFence c r mine p
 ExplainsAt c r mine place = IsExplained c r mine
-
--- by the answer to the verb that was due, a replication event, the leader comes to a place that
--- explains misses
-abbrev pub ExplainsDue : Lead → Answer → Lead → Type 0
-ExplainsDue old answer new =
-    (mine : List Event) (verb : Verb)
-    → verb_at old.config old.number (known old.config old.id mine) old.up old.written.items
-    old.place
-    ≡ Some verb
-    → is_replication mine (record { by = old.id; verb = verb; answer = answer }) ≡ true
-    → ExplainsAt old.config old.id mine old.place
-    → ExplainsAt old.config old.id (record { by = old.id; verb = verb; answer = answer } ∷ mine)
-    new.place
-
--- the same after these events
-abbrev pub ExplainsNext : List Event → Lead → Answer → Lead → Type 0
-ExplainsNext mine old answer new =
-    (verb : Verb) → verb_of old (known old.config old.id mine) ≡ Some verb
-    → is_replication mine (record { by = old.id; verb = verb; answer = answer }) ≡ true
-    → ExplainsAt old.config old.id mine old.place
-    → ExplainsAt old.config old.id (record { by = old.id; verb = verb; answer = answer } ∷ mine)
-    new.place
 
 -- before any event there was no miss; what the other machines do in the background leaves it so;
 -- and each miss is explained in time

@@ -1,16 +1,10 @@
 -- Where the listing goes on while regions are asked and fences and minima are read, and that it
 -- leads from then on until the leadership is over.
-use Rattle.std.specs.Prelude.{Bool, List, Some, false, true, ℕ, ◌+◌, ◌<◌, ◌==◌, ◌∷◌, ◌≡◌, ◌≤◌, ◌⊎◌}
-use Rattle.mu_model.specs.declared.event.Answer.{Answer}
+use Rattle.std.specs.Prelude.{Bool, List, false, true, ℕ, ◌+◌, ◌<◌, ◌==◌, ◌≡◌, ◌≤◌, ◌⊎◌}
 use Rattle.mu_model.specs.declared.event.Event.{Event}
-use Rattle.mu_model.specs.declared.event.Verb.{Verb}
-use Rattle.mu_model.specs.Knowledge.{known}
 use Rattle.mu_model.specs.Leaderships.{is_over}
-use Rattle.mu_model.specs.Parts.{IsPossible}
-use Rattle.mu_lead.specs.declared.lead.Lead.{Lead}
 use Rattle.mu_lead.specs.declared.place.Place.{Place}
 use Rattle.mu_lead.specs.Beside.{leads_at}
-use Rattle.mu_lead.specs.Standing.{StandsFor, verb_at}
 
 -- minima are read
 abbrev pub reads_first : Place → Bool
@@ -43,13 +37,6 @@ ends_at place = false
 abbrev pub LeadsOrEnds : ℕ → List Event → Place → Type 0
 LeadsOrEnds r now new = (leads_at new ≡ true) ⊎ ((is_over r now ≡ true) × (ends_at new ≡ true))
 
--- by the answer to the verb it does
-abbrev pub LeadsBy : Lead → Verb → Answer → Lead → Type 0
-LeadsBy old verb answer new =
-    (mine : List Event) → StandsFor mine old
-    → IsPossible old.config old.id (record { by = old.id; verb = verb; answer = answer } ∷ mine)
-    → LeadsOrEnds old.id (record { by = old.id; verb = verb; answer = answer } ∷ mine) new.place
-
 -- the place that follows another, with these events of r after the step
 abbrev pub GoesFrom : ℕ → ℕ → List Event → Place → Place → Type 0
 GoesFrom n r now (Place.Ask p) new = FollowsAsk n p new
@@ -57,14 +44,3 @@ GoesFrom n r now (Place.Confirm round p) new = FollowsFence n round p new
 GoesFrom n r now (Place.ReadMin p) new = leads_at new ≡ true
 GoesFrom n r now (Place.Evidence p) new = new ≡ Place.Ask 0
 GoesFrom n r now place new = LeadsOrEnds r now new
-
--- by the answer to the verb that was due the leader goes on so
-abbrev pub GoesDue : Lead → Answer → Lead → Type 0
-GoesDue old answer new =
-    (mine : List Event) (verb : Verb) → StandsFor mine old
-    → verb_at old.config old.number (known old.config old.id mine) old.up old.written.items
-    old.place
-    ≡ Some verb
-    → IsPossible old.config old.id (record { by = old.id; verb = verb; answer = answer } ∷ mine)
-    → GoesFrom old.config.replicas old.id
-    (record { by = old.id; verb = verb; answer = answer } ∷ mine) old.place new.place

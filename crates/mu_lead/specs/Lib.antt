@@ -6,7 +6,10 @@ pub mod Elections
 pub mod Evidence
 pub mod Gathering
 pub mod Going
+pub mod Journal
+pub mod Lasting
 pub mod Leading
+pub mod Listing
 pub mod Losses
 pub mod Notes
 pub mod Offering

@@ -6,7 +6,7 @@ use Rattle.mu_model.specs.declared.config.Config.{Config}
 use Rattle.mu_model.specs.declared.event.Answer.{Answer}
 use Rattle.mu_model.specs.declared.event.Event.{Event}
 use Rattle.mu_model.specs.declared.event.Target.{Target}
-use Rattle.mu_model.specs.Contents.{begins_batch, client_of, command_count, holds_all, is_batch, marked, number_of, rest_of, row_count}
+use Rattle.mu_model.specs.Contents.{client_of, command_count, holds_all, is_batch, marked, number_of, rest_of, row_count}
 use Rattle.mu_model.specs.Entering.{last_opened}
 use Rattle.mu_model.specs.Histories.{all_below, has}
 use Rattle.mu_model.specs.Knowledge.{known, lands_entry, wrote}
@@ -118,17 +118,6 @@ pub record AtLook (c : Config) (r b : ℕ) (mine : List Event) (up : List ℕ) (
   pub member : is_member r p mine ≡ true
   pub position : i ≡ end_of c r mine
   pub looking : Looking c r b mine up reach p candidate best
-
--- what holds of the row that is named, where one is
-abbrev pub NamesRow : Option ℕ → (ℕ → Type 0) → Type 0
-NamesRow None holds = Unit {0}
-NamesRow (Some j) holds = holds j
-
--- row j begins the next batch of its client after these values
-pub record IsNextRow (c : Config) (values : List ℕ) (j : ℕ) : Type 0 where
-  pub row : j < row_count c
-  pub begins : begins_batch c j ≡ true
-  pub next : number_of c j ≡ command_count c (client_of c j) values + 1
 
 -- row j of r begins the next batch of its client after those known
 pub record IsNextBatch (c : Config) (r : ℕ) (mine : List Event) (j : ℕ) : Type 0 where

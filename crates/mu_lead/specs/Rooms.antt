@@ -21,7 +21,7 @@ use Rattle.mu_lead.specs.declared.place.Place.{Place}
 use Rattle.mu_lead.specs.declared.place.Then.{Then}
 use Rattle.mu_lead.specs.Leading.{end_of}
 use Rattle.mu_lead.specs.Beside.{is_beside, leads_at}
-use Rattle.mu_lead.specs.Standing.{StandsFor, known_told, verb_at, verb_of}
+use Rattle.mu_lead.specs.Standing.{HasHeeded, StandsFor, known_told, verb_at, verb_of}
 
 -- how many replicas and members there are, and how many rows a batch has at most
 abbrev pub sizes_of : Config → ℕ → List Event → Sizes
@@ -161,7 +161,7 @@ LeavesRooms mine old verb answer new =
 -- by the answer to the verb that was due the leader comes to a place whose counts have room
 abbrev pub RoomsDue : Lead → List ℕ → Answer → Lead → Type 0
 RoomsDue old values answer new =
-    (mine : List Event) (verb : Verb) → StandsFor mine old
+    (mine : List Event) (verb : Verb) → HasHeeded mine old → StandsFor mine old
     → verb_at old.config old.number (known old.config old.id mine) old.up old.written.items
     old.place ≡ Some verb
     → IsPossible old.config old.id (record { by = old.id; verb = verb; answer = answer } ∷ mine)

@@ -1,14 +1,8 @@
--- The first region, counted upwards, that passes a test.
-use Rattle.std.specs.Prelude.{Bool, None, Some, false, suc, true, zero, ℕ, ◌%◌, ◌*◌, ◌+◌, ◌/◌, ◌<◌, ◌==◌, ◌≡◌, ◌≤◌}
+-- Sets as the bits of a number, and what an answer shows.
+use Rattle.std.specs.Prelude.{Bool, None, Some, false, suc, true, zero, ℕ, ◌%◌, ◌*◌, ◌+◌, ◌/◌, ◌==◌, ◌≡◌}
 use Rattle.std.specs.declared.option.Option.{Option}
 use Rattle.mu_model.specs.declared.event.Answer.{Answer}
 use Rattle.mu_model.specs.declared.event.Fence.{Fence}
-
--- q is the first number from `from` on, below n, that passes; or there is none
-abbrev pub IsFirst : (ℕ → Bool) → ℕ → ℕ → Option ℕ → Type 0
-IsFirst test from n None = (k : ℕ) → from ≤ k → k < n → test k ≡ false
-IsFirst test from n (Some q) =
-    (from ≤ q) × (q < n) × (test q ≡ true) × ((k : ℕ) → from ≤ k → k < q → test k ≡ false)
 
 -- 1 for what is so, else 0
 abbrev pub bit : Bool → ℕ

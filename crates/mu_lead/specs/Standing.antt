@@ -1,5 +1,5 @@
 -- When the state of a leader stands for the events of its replica, and which verb its place has.
-use Rattle.std.specs.Prelude.{List, None, Some, false, get_or, length, ℕ, ◌%◌, ◌<◌, ◌∷◌, ◌≡◌}
+use Rattle.std.specs.Prelude.{List, None, Some, get_or, length, ℕ, ◌%◌, ◌<◌, ◌∷◌, ◌≡◌}
 use Rattle.std.specs.declared.option.Option.{Option}
 use Rattle.mu_model.specs.declared.config.Config.{Config}
 use Rattle.mu_model.specs.declared.event.Answer.{Answer}

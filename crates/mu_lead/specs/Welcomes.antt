@@ -1,19 +1,15 @@
 -- The count of steps of a late follower that grants to the leader, at each place of a leader: it
 -- joins within four.
-use Rattle.std.specs.Prelude.{List, None, Some, [], false, true, ℕ, ◌∷◌, ◌≡◌, ◌≢◌}
+use Rattle.std.specs.Prelude.{List, None, [], false, true, ℕ, ◌∷◌, ◌≡◌, ◌≢◌}
 use Rattle.mu_model.specs.declared.config.Config.{Config}
 use Rattle.mu_model.specs.declared.event.Answer.{Answer}
 use Rattle.mu_model.specs.declared.event.Event.{Event}
 use Rattle.mu_model.specs.declared.event.Verb.{Verb}
-use Rattle.mu_model.specs.Knowledge.{known}
-use Rattle.mu_model.specs.Parts.{IsPossible}
 use Rattle.mu_model.specs.Stretches.{is_replication}
 use Rattle.mu_pace.specs.Counters.{HasRoom, IsInTime, steps_left}
 use Rattle.mu_pace.specs.Watches.{joining}
-use Rattle.mu_lead.specs.declared.lead.Lead.{Lead}
 use Rattle.mu_lead.specs.declared.place.Place.{Place}
 use Rattle.mu_lead.specs.Beside.{is_beside, leads_at}
-use Rattle.mu_lead.specs.Standing.{StandsFor, known_told, verb_at, verb_of}
 
 -- no late follower waits to join
 abbrev pub NoneWaits : Config → ℕ → List Event → Type 0
@@ -38,32 +34,6 @@ JoinsAt c r mine (Place.LateFuo p) = WaitsToJoin c r mine p 3
 JoinsAt c r mine (Place.LateEnter p) = WaitsToJoin c r mine p 2
 JoinsAt c r mine (Place.LatePut p) = WaitsToJoin c r mine p 1
 JoinsAt c r mine place = NoneWaits c r mine
-
--- by the answer to the verb that was due, a replication event, and with these values known, the
--- leader comes to a place where late followers join in time
-abbrev pub JoinsDue : Lead → List ℕ → Answer → Lead → Type 0
-JoinsDue old values answer new =
-    (mine : List Event) (verb : Verb) → StandsFor mine old
-    → verb_at old.config old.number (known old.config old.id mine) old.up old.written.items
-    old.place
-    ≡ Some verb
-    → IsPossible old.config old.id (record { by = old.id; verb = verb; answer = answer } ∷ mine)
-    → values ≡ known_told old.config old.id mine old.id verb answer
-    → is_replication mine (record { by = old.id; verb = verb; answer = answer }) ≡ true
-    → JoinsAt old.config old.id mine old.place
-    → JoinsAt old.config old.id (record { by = old.id; verb = verb; answer = answer } ∷ mine)
-    new.place
-
--- the same after these events
-abbrev pub JoinsNext : List Event → Lead → List ℕ → Answer → Lead → Type 0
-JoinsNext mine old values answer new =
-    (verb : Verb) → verb_of old (known old.config old.id mine) ≡ Some verb
-    → IsPossible old.config old.id (record { by = old.id; verb = verb; answer = answer } ∷ mine)
-    → values ≡ known_told old.config old.id mine old.id verb answer
-    → is_replication mine (record { by = old.id; verb = verb; answer = answer }) ≡ true
-    → JoinsAt old.config old.id mine old.place
-    → JoinsAt old.config old.id (record { by = old.id; verb = verb; answer = answer } ∷ mine)
-    new.place
 
 -- before any event none waited; what the other machines do in the background leaves it so; and each
 -- late follower that grants joins in time

@@ -1,12 +1,9 @@
 //! The answers that each place may get.
 ghost use Rattle.std.specs.Prelude.{None, List, MatchOption, false, get_or, is_some, length, nat_lt, true, ℕ, ◌%◌, ◌∷◌, ◌≡◌, ◌≢◌, ◌≤◌, ◌<◌};
-ghost use Rattle.mu_model.specs.declared.event.Answer.{Answer as SomeAnswer};
 ghost use Rattle.mu_model.specs.declared.event.Event.{Event as SomeEvent};
-ghost use Rattle.mu_model.specs.declared.event.Fence.{Fence as SomeFence};
 ghost use Rattle.mu_model.specs.declared.event.Target.{Target as SomeTarget};
 ghost use Rattle.mu_model.specs.declared.event.Verb.{Verb as SomeVerb};
 ghost use Rattle.mu_model.specs.Knowledge.{grown, known as known_of};
-ghost use Rattle.mu_model.specs.Leaderships.{noted_grant};
 ghost use Rattle.mu_model.specs.Parts.{IsPossible};
 ghost use Rattle.mu_lead.specs.declared.place.Place.{Place as SomePlace};
 ghost use Rattle.mu_lead.specs.Sets.{NamesFence, NamesLost, NamesNumber};
@@ -14,11 +11,8 @@ ghost use Rattle.mu_lead.specs.Notes.{value_committed};
 ghost use Rattle.mu_lead.specs.Standing.{HasHeeded, StandsFor, Takes};
 ghost use Rattle.mu_lead.specs.Saying.{NotesEnter, NotesEvidence, NotesHead, NotesJoin, NotesMin, NotesOver, NotesPut, NotesRound, is_working_or_lost};
 ghost use Rattle.mu_lead.specs.declared.note.Note.{Note as SomeNote};
-ghost use Rattle.mu_lead.specs.Beside.{leads_at};
-ghost use Rattle.mu_lead.specs.Gathering.{FollowsFence, LeadsBy};
 ghost use Rattle.mu_lead.specs.Going.{going_after};
-ghost use Rattle.mu_lead.specs.Confirmations.{KeepsConfirmation};
-ghost use Rattle.mu_lead.specs.Raising.{KeepsRaises};
+ghost use Rattle.mu_lead.specs.Lasting.{FollowsFrom, FollowsHead};
 ghost use Rattle.mu_lead.specs.Rooms.{KeepsRooms};
 
 use crate::lead::Lead;
@@ -59,23 +53,19 @@ fn number_in(answer: Answer) -> Option<u64>
 
 impl Lead {
     /// Takes the answer at this place.
-    pub fn at_confirm(&mut self, round: u8, p: u8, answer: Answer) -> Note
+    pub(crate) fn at_confirm(&mut self, round: u8, p: u8, answer: Answer) -> Note
         ensures stands { (values : List ℕ)
             → Takes self.old (SomePlace.Confirm round p) values (SomeVerb.Fence p) answer self.new }
-        ensures rooms { (values : List ℕ)
-            → KeepsRooms self.old (SomePlace.Confirm round p) values (SomeVerb.Fence p) answer
-            self.new }
-        ensures confirms { KeepsConfirmation self.old (SomePlace.Confirm round p) (SomeVerb.Fence p)
-            answer self.new }
-        ensures follows { (fence : SomeFence) → answer ≡ SomeAnswer.Seen fence
-            → self.old.config.replicas ≤ 7
-            → FollowsFence self.old.config.replicas round p self.new.place }
         ensures quiet { value_committed result ≡ None }
         ensures config { self.new.config ≡ self.old.config }
+        ensures written { self.new.written ≡ self.old.written }
         ensures id { self.new.id ≡ self.old.id }
         ensures named { self.new.named ≡ self.old.named }
         ensures note { NotesRound self.old p answer result }
         ensures going { self.new.under_way ≡ going_after self.old.under_way result }
+        ensures listed { (values : List ℕ)
+            → FollowsFrom self.old (SomePlace.Confirm round p) values (SomeVerb.Fence p)
+            answer self.new }
     {
         match fence_in(answer) {
             Some(fence) => self.took_fence(round, p, fence),
@@ -84,19 +74,19 @@ impl Lead {
     }
 
     /// Takes the answer at this place.
-    pub fn at_read_min(&mut self, p: u8, answer: Answer) -> Note
+    pub(crate) fn at_read_min(&mut self, p: u8, answer: Answer) -> Note
         ensures stands { (values : List ℕ)
             → Takes self.old (SomePlace.ReadMin p) values (SomeVerb.Min p) answer self.new }
-        ensures rooms { (values : List ℕ)
-            → KeepsRooms self.old (SomePlace.ReadMin p) values (SomeVerb.Min p) answer self.new }
-        ensures leads { (number : ℕ) → answer ≡ SomeAnswer.Number number
-            → leads_at self.new.place ≡ true }
         ensures quiet { value_committed result ≡ None }
         ensures config { self.new.config ≡ self.old.config }
+        ensures written { self.new.written ≡ self.old.written }
         ensures id { self.new.id ≡ self.old.id }
         ensures named { self.new.named ≡ self.old.named }
         ensures note { result ≡ SomeNote.Working }
         ensures going { self.new.under_way ≡ going_after self.old.under_way result }
+        ensures listed { (values : List ℕ)
+            → FollowsFrom self.old (SomePlace.ReadMin p) values (SomeVerb.Min p)
+            answer self.new }
     {
         match number_in(answer) {
             Some(number) => self.took_min(p, number),
@@ -105,22 +95,20 @@ impl Lead {
     }
 
     /// Takes the answer at this place.
-    pub fn at_enter_min(&mut self, p: u8, answer: Answer) -> Note
+    pub(crate) fn at_enter_min(&mut self, p: u8, answer: Answer) -> Note
         ensures stands { (values : List ℕ)
             → Takes self.old (SomePlace.EnterMin p) values (SomeVerb.Enter p SomeTarget.Min) answer
             self.new }
-        ensures rooms { (values : List ℕ)
-            → KeepsRooms self.old (SomePlace.EnterMin p) values (SomeVerb.Enter p SomeTarget.Min)
-            answer self.new }
         ensures quiet { value_committed result ≡ None }
         ensures config { self.new.config ≡ self.old.config }
+        ensures written { self.new.written ≡ self.old.written }
         ensures id { self.new.id ≡ self.old.id }
         ensures named { self.new.named ≡ self.old.named }
         ensures note { NotesEnter p answer result }
         ensures going { self.new.under_way ≡ going_after self.old.under_way result }
-        ensures leads { answer ≡ SomeAnswer.Entered → leads_at self.new.place ≡ true }
-        ensures ended { (fence : SomeFence) → answer ≡ SomeAnswer.Lost fence
-            → self.new.place ≡ SomePlace.Ask 0 }
+        ensures listed { (values : List ℕ)
+            → FollowsFrom self.old (SomePlace.EnterMin p) values (SomeVerb.Enter p SomeTarget.Min)
+            answer self.new }
     {
         match lost_in(answer) {
             Some(fence) => self.lost_min(p, fence),
@@ -129,21 +117,20 @@ impl Lead {
     }
 
     /// Takes the answer at this place.
-    pub fn at_put_min(&mut self, p: u8, answer: Answer) -> Note
+    pub(crate) fn at_put_min(&mut self, p: u8, answer: Answer) -> Note
         ensures stands { (values : List ℕ)
             → Takes self.old (SomePlace.PutMin p) values (SomeVerb.PutMin p self.old.number) answer
             self.new }
-        ensures rooms { (values : List ℕ)
-            → KeepsRooms self.old (SomePlace.PutMin p) values (SomeVerb.PutMin p self.old.number)
-            answer self.new }
         ensures quiet { value_committed result ≡ None }
-        ensures missed { answer ≡ SomeAnswer.Missed → self.new.place ≡ SomePlace.Evidence p }
         ensures config { self.new.config ≡ self.old.config }
+        ensures written { self.new.written ≡ self.old.written }
         ensures id { self.new.id ≡ self.old.id }
         ensures named { self.new.named ≡ self.old.named }
         ensures note { result ≡ SomeNote.Working }
         ensures going { self.new.under_way ≡ going_after self.old.under_way result }
-        ensures leads { answer ≡ SomeAnswer.Done → leads_at self.new.place ≡ true }
+        ensures listed { (values : List ℕ)
+            → FollowsFrom self.old (SomePlace.PutMin p) values (SomeVerb.PutMin p self.old.number)
+            answer self.new }
     {
         match answer {
             Answer::Missed => self.missed_min(p),
@@ -152,7 +139,13 @@ impl Lead {
     }
 
     /// Takes the answer at this place.
-    pub fn at_read_fuo(&mut self, p: u8, source: Option<u8>, answer: Answer, known: &[u16]) -> Note
+    pub(crate) fn at_read_fuo(
+        &mut self,
+        p: u8,
+        source: Option<u8>,
+        answer: Answer,
+        known: &[u16],
+    ) -> Note
         ensures stands { Takes self.old (SomePlace.ReadFuo p source) known.now
             (SomeVerb.Fuo p) answer self.new }
         ensures rooms { KeepsRooms self.old (SomePlace.ReadFuo p source) known.now (SomeVerb.Fuo p)
@@ -163,8 +156,8 @@ impl Lead {
         ensures named { self.new.named ≡ self.old.named }
         ensures note { result ≡ SomeNote.Working }
         ensures going { self.new.under_way ≡ going_after self.old.under_way result }
-        ensures leads { (number : ℕ) → answer ≡ SomeAnswer.Number number
-            → leads_at self.new.place ≡ true }
+        ensures listed { FollowsFrom self.old (SomePlace.ReadFuo p source) known.now (SomeVerb.Fuo p)
+            answer self.new }
     {
         match number_in(answer) {
             Some(number) => self.took_fuo(p, source, number, known),
@@ -173,7 +166,7 @@ impl Lead {
     }
 
     /// Takes the answer at this place.
-    pub fn at_enter_behind(&mut self, p: u8, then: Then, answer: Answer) -> Note
+    pub(crate) fn at_enter_behind(&mut self, p: u8, then: Then, answer: Answer) -> Note
         ensures stands { (values : List ℕ)
             → Takes self.old (SomePlace.EnterBehind p then) values
             (SomeVerb.Enter p
@@ -189,9 +182,9 @@ impl Lead {
         ensures named { self.new.named ≡ self.old.named }
         ensures note { NotesEnter p answer result }
         ensures going { self.new.under_way ≡ going_after self.old.under_way result }
-        ensures leads { answer ≡ SomeAnswer.Entered → leads_at self.new.place ≡ true }
-        ensures ended { (fence : SomeFence) → answer ≡ SomeAnswer.Lost fence
-            → self.new.place ≡ SomePlace.Ask 0 }
+        ensures listed { (values : List ℕ)
+            → FollowsFrom self.old (SomePlace.EnterBehind p then) values (SomeVerb.Enter p (SomeTarget.Place (get_or self.old.up p 0 % self.old.config.ring)))
+            answer self.new }
     {
         match lost_in(answer) {
             Some(fence) => self.lost_place(p, self.up_of(p), fence),
@@ -200,7 +193,7 @@ impl Lead {
     }
 
     /// Takes the answer at this place.
-    pub fn at_put_behind(&mut self, p: u8, then: Then, answer: Answer, known: &[u16]) -> Note
+    pub(crate) fn at_put_behind(&mut self, p: u8, then: Then, answer: Answer, known: &[u16]) -> Note
         ensures stands { Takes self.old (SomePlace.PutBehind p then) known.now
             (SomeVerb.PutSlot p (get_or self.old.up p 0) self.old.number
             (get_or known.now (get_or self.old.up p 0) 0))
@@ -209,14 +202,14 @@ impl Lead {
             (SomeVerb.PutSlot p (get_or self.old.up p 0) self.old.number
             (get_or known.now (get_or self.old.up p 0) 0))
             answer self.new }
-        ensures leads { answer ≡ SomeAnswer.Done → leads_at self.new.place ≡ true }
         ensures quiet { value_committed result ≡ None }
-        ensures missed { answer ≡ SomeAnswer.Missed → self.new.place ≡ SomePlace.Evidence p }
         ensures config { self.new.config ≡ self.old.config }
         ensures id { self.new.id ≡ self.old.id }
         ensures named { self.new.named ≡ self.old.named }
         ensures note { result ≡ SomeNote.Working }
         ensures going { self.new.under_way ≡ going_after self.old.under_way result }
+        ensures listed { FollowsFrom self.old (SomePlace.PutBehind p then) known.now (SomeVerb.PutSlot p (get_or self.old.up p 0) self.old.number (get_or known.now (get_or self.old.up p 0) 0))
+            answer self.new }
     {
         match answer {
             Answer::Missed => self.missed_slot(p, narrow(self.up_of(p)), self.lacked(p, known)),
@@ -225,20 +218,22 @@ impl Lead {
     }
 
     /// Takes the answer at this place.
-    pub fn at_fence_behind(&mut self, p: u8, then: Then, answer: Answer) -> Note
+    pub(crate) fn at_fence_behind(&mut self, p: u8, then: Then, answer: Answer) -> Note
         ensures stands { (values : List ℕ)
             → Takes self.old (SomePlace.FenceBehind p then) values (SomeVerb.Fence p) answer
             self.new }
         ensures rooms { (values : List ℕ)
             → KeepsRooms self.old (SomePlace.FenceBehind p then) values (SomeVerb.Fence p) answer
             self.new }
-        ensures leads { LeadsBy self.old (SomeVerb.Fence p) answer self.new }
         ensures quiet { value_committed result ≡ None }
         ensures config { self.new.config ≡ self.old.config }
         ensures id { self.new.id ≡ self.old.id }
         ensures named { self.new.named ≡ self.old.named }
         ensures note { (is_working_or_lost result ≡ true) × NotesOver self.old p answer result }
         ensures going { self.new.under_way ≡ going_after self.old.under_way result }
+        ensures listed { (values : List ℕ)
+            → FollowsFrom self.old (SomePlace.FenceBehind p then) values (SomeVerb.Fence p)
+            answer self.new }
     {
         match fence_in(answer) {
             Some(fence) => self.took_fence_behind(p, then, fence),
@@ -247,28 +242,19 @@ impl Lead {
     }
 
     /// Takes the answer at this place.
-    pub fn at_late_fence(&mut self, p: u8, answer: Answer, known: &[u16]) -> Note
+    pub(crate) fn at_late_fence(&mut self, p: u8, answer: Answer, known: &[u16]) -> Note
         ensures stands { Takes self.old (SomePlace.LateFence p) known.now
             (SomeVerb.Fence p) answer self.new }
         ensures rooms { KeepsRooms self.old (SomePlace.LateFence p) known.now (SomeVerb.Fence p)
             answer self.new }
-        ensures welcomed { (mine : List SomeEvent) → StandsFor mine self.old
-            → self.old.place ≡ SomePlace.LateFence p
-            → IsPossible self.old.config self.old.id
-            (record { by = self.old.id; verb = SomeVerb.Fence p; answer = answer } ∷ mine)
-            → is_some
-            (noted_grant self.old.id p
-            (record { by = self.old.id; verb = SomeVerb.Fence p; answer = answer } ∷ mine))
-            ≡ true
-            → self.new.place ≡ SomePlace.LateMin p }
         ensures quiet { value_committed result ≡ None }
         ensures config { self.new.config ≡ self.old.config }
         ensures id { self.new.id ≡ self.old.id }
         ensures named { self.new.named ≡ self.old.named }
         ensures note { result ≡ SomeNote.Working }
         ensures going { self.new.under_way ≡ going_after self.old.under_way result }
-        ensures leads { (fence : SomeFence) → answer ≡ SomeAnswer.Seen fence
-            → leads_at self.new.place ≡ true }
+        ensures listed { FollowsFrom self.old (SomePlace.LateFence p) known.now (SomeVerb.Fence p)
+            answer self.new }
     {
         match fence_in(answer) {
             Some(fence) => self.took_late_fence(p, fence, known),
@@ -277,21 +263,20 @@ impl Lead {
     }
 
     /// Takes the answer at this place.
-    pub fn at_late_min(&mut self, p: u8, answer: Answer) -> Note
+    pub(crate) fn at_late_min(&mut self, p: u8, answer: Answer) -> Note
         ensures stands { (values : List ℕ)
             → Takes self.old (SomePlace.LateMin p) values (SomeVerb.Min p) answer self.new }
         ensures rooms { (values : List ℕ)
             → KeepsRooms self.old (SomePlace.LateMin p) values (SomeVerb.Min p) answer self.new }
-        ensures low { (x : ℕ) → answer ≡ SomeAnswer.Number x → x ≤ self.old.number
-            → self.new.place ≡ SomePlace.LateFuo p }
         ensures quiet { value_committed result ≡ None }
         ensures config { self.new.config ≡ self.old.config }
         ensures id { self.new.id ≡ self.old.id }
         ensures named { self.new.named ≡ self.old.named }
         ensures note { NotesMin p self.old.number answer result }
         ensures going { self.new.under_way ≡ going_after self.old.under_way result }
-        ensures high { (x : ℕ) → answer ≡ SomeAnswer.Number x → self.old.number < x
-            → self.new.place ≡ SomePlace.Ask 0 }
+        ensures listed { (values : List ℕ)
+            → FollowsFrom self.old (SomePlace.LateMin p) values (SomeVerb.Min p)
+            answer self.new }
     {
         match number_in(answer) {
             Some(number) => self.took_late_min(p, number),
@@ -300,21 +285,19 @@ impl Lead {
     }
 
     /// Takes the answer at this place.
-    pub fn at_late_fuo(&mut self, p: u8, answer: Answer, known: &[u16]) -> Note
+    pub(crate) fn at_late_fuo(&mut self, p: u8, answer: Answer, known: &[u16]) -> Note
         ensures stands { Takes self.old (SomePlace.LateFuo p) known.now
             (SomeVerb.Fuo p) answer self.new }
         ensures rooms { KeepsRooms self.old (SomePlace.LateFuo p) known.now (SomeVerb.Fuo p) answer
             self.new }
-        ensures short { (u : ℕ) → answer ≡ SomeAnswer.Number u → u ≤ length known.now
-            → self.new.place ≡ SomePlace.LateEnter p }
         ensures quiet { value_committed result ≡ None }
         ensures config { self.new.config ≡ self.old.config }
         ensures id { self.new.id ≡ self.old.id }
         ensures named { self.new.named ≡ self.old.named }
         ensures note { result ≡ SomeNote.Working }
         ensures going { self.new.under_way ≡ going_after self.old.under_way result }
-        ensures leads { (number : ℕ) → answer ≡ SomeAnswer.Number number
-            → leads_at self.new.place ≡ true }
+        ensures listed { FollowsFrom self.old (SomePlace.LateFuo p) known.now (SomeVerb.Fuo p)
+            answer self.new }
     {
         match number_in(answer) {
             Some(number) => self.took_late_fuo(p, number, known),
@@ -323,22 +306,22 @@ impl Lead {
     }
 
     /// Takes the answer at this place.
-    pub fn at_late_enter(&mut self, p: u8, answer: Answer) -> Note
+    pub(crate) fn at_late_enter(&mut self, p: u8, answer: Answer) -> Note
         ensures stands { (values : List ℕ)
             → Takes self.old (SomePlace.LateEnter p) values (SomeVerb.Enter p SomeTarget.Min) answer
             self.new }
         ensures rooms { (values : List ℕ)
             → KeepsRooms self.old (SomePlace.LateEnter p) values (SomeVerb.Enter p SomeTarget.Min)
             answer self.new }
-        ensures entered { answer ≡ SomeAnswer.Entered → self.new.place ≡ SomePlace.LatePut p }
         ensures quiet { value_committed result ≡ None }
         ensures config { self.new.config ≡ self.old.config }
         ensures id { self.new.id ≡ self.old.id }
         ensures named { self.new.named ≡ self.old.named }
         ensures note { NotesEnter p answer result }
         ensures going { self.new.under_way ≡ going_after self.old.under_way result }
-        ensures ended { (fence : SomeFence) → answer ≡ SomeAnswer.Lost fence
-            → self.new.place ≡ SomePlace.Ask 0 }
+        ensures listed { (values : List ℕ)
+            → FollowsFrom self.old (SomePlace.LateEnter p) values (SomeVerb.Enter p SomeTarget.Min)
+            answer self.new }
     {
         match lost_in(answer) {
             Some(fence) => self.lost_min(p, fence),
@@ -347,21 +330,21 @@ impl Lead {
     }
 
     /// Takes the answer at this place.
-    pub fn at_late_put(&mut self, p: u8, answer: Answer, known: &[u16]) -> Note
+    pub(crate) fn at_late_put(&mut self, p: u8, answer: Answer, known: &[u16]) -> Note
         ensures stands { Takes self.old (SomePlace.LatePut p) known.now
             (SomeVerb.PutMin p self.old.number)
             answer self.new }
         ensures rooms { KeepsRooms self.old (SomePlace.LatePut p) known.now
             (SomeVerb.PutMin p self.old.number) answer self.new }
         ensures quiet { value_committed result ≡ None }
-        ensures missed { answer ≡ SomeAnswer.Missed → self.new.place ≡ SomePlace.Evidence p }
         ensures config { self.new.config ≡ self.old.config }
         ensures id { self.new.id ≡ self.old.id }
         ensures named { self.new.named ≡ self.old.named }
         ensures note { length self.old.up ≡ 7
             → NotesJoin p (nat_lt (get_or self.old.up p 0) (length known.now)) answer result }
         ensures going { self.new.under_way ≡ going_after self.old.under_way result }
-        ensures leads { answer ≡ SomeAnswer.Done → leads_at self.new.place ≡ true }
+        ensures listed { FollowsFrom self.old (SomePlace.LatePut p) known.now (SomeVerb.PutMin p self.old.number)
+            answer self.new }
     {
         match answer {
             Answer::Missed => self.missed_min(p),
@@ -370,7 +353,7 @@ impl Lead {
     }
 
     /// Takes the answer at this place.
-    pub fn at_read_head(
+    pub(crate) fn at_read_head(
         &mut self,
         q: u8,
         candidate: Option<u8>,
@@ -393,8 +376,7 @@ impl Lead {
         ensures named { self.new.named ≡ self.old.named }
         ensures note { NotesHead self.old q known.now answer result }
         ensures going { self.new.under_way ≡ going_after self.old.under_way result }
-        ensures leads { (number : ℕ) → answer ≡ SomeAnswer.Number number
-            → leads_at self.new.place ≡ true }
+        ensures listed { FollowsHead self.old q candidate known.now answer self.new }
     {
         match number_in(answer) {
             Some(number) => self.took_head(q, candidate, number, known),
@@ -403,7 +385,7 @@ impl Lead {
     }
 
     /// Takes the answer at this place.
-    pub fn at_enter(&mut self, p: u8, offer: Offer, answer: Answer, known: &[u16]) -> Note
+    pub(crate) fn at_enter(&mut self, p: u8, offer: Offer, answer: Answer, known: &[u16]) -> Note
         ensures stands { Takes self.old (SomePlace.Enter p offer) known.now
             (SomeVerb.Enter p (SomeTarget.Place (length known.now % self.old.config.ring))) answer
             self.new }
@@ -416,9 +398,8 @@ impl Lead {
         ensures named { self.new.named ≡ self.old.named }
         ensures note { NotesEnter p answer result }
         ensures going { self.new.under_way ≡ going_after self.old.under_way result }
-        ensures leads { answer ≡ SomeAnswer.Entered → leads_at self.new.place ≡ true }
-        ensures ended { (fence : SomeFence) → answer ≡ SomeAnswer.Lost fence
-            → self.new.place ≡ SomePlace.Ask 0 }
+        ensures listed { FollowsFrom self.old (SomePlace.Enter p offer) known.now (SomeVerb.Enter p (SomeTarget.Place (length known.now % self.old.config.ring)))
+            answer self.new }
     {
         match lost_in(answer) {
             Some(fence) => self.lost_place(p, known.len() as u64, fence),
@@ -427,7 +408,7 @@ impl Lead {
     }
 
     /// Takes the answer at this place.
-    pub fn at_put(&mut self, p: u8, offer: Offer, answer: Answer, known: &[u16]) -> Note
+    pub(crate) fn at_put(&mut self, p: u8, offer: Offer, answer: Answer, known: &[u16]) -> Note
         ensures stands { Takes self.old (SomePlace.Put p offer) known.now
             (SomeVerb.PutSlot p (length known.now) self.old.number offer.value) answer self.new }
         ensures rooms { KeepsRooms self.old (SomePlace.Put p offer) known.now
@@ -452,15 +433,13 @@ impl Lead {
             }
             ∷ mine)
             ≡ grown known.now (value_committed result) }
-        ensures missed { answer ≡ SomeAnswer.Missed → self.new.place ≡ SomePlace.Evidence p }
-        ensures raises { KeepsRaises self.old (SomePlace.Put p offer) known.now
-            (SomeVerb.PutSlot p (length known.now) self.old.number offer.value) answer self.new }
         ensures config { self.new.config ≡ self.old.config }
         ensures id { self.new.id ≡ self.old.id }
         ensures named { self.new.named ≡ self.old.named }
         ensures note { NotesPut (length known.now) offer result }
         ensures going { self.new.under_way ≡ going_after self.old.under_way result }
-        ensures leads { answer ≡ SomeAnswer.Done → leads_at self.new.place ≡ true }
+        ensures listed { FollowsFrom self.old (SomePlace.Put p offer) known.now (SomeVerb.PutSlot p (length known.now) self.old.number offer.value)
+            answer self.new }
     {
         match answer {
             Answer::Missed => self.missed_slot(p, end_of(known), offer.value),
@@ -469,19 +448,19 @@ impl Lead {
     }
 
     /// Takes the answer at this place.
-    pub fn at_evidence(&mut self, p: u8, answer: Answer) -> Note
+    pub(crate) fn at_evidence(&mut self, p: u8, answer: Answer) -> Note
         ensures stands { (values : List ℕ)
             → Takes self.old (SomePlace.Evidence p) values (SomeVerb.Fence p) answer self.new }
-        ensures rooms { (values : List ℕ)
-            → KeepsRooms self.old (SomePlace.Evidence p) values (SomeVerb.Fence p) answer self.new }
-        ensures ended { (fence : SomeFence) → answer ≡ SomeAnswer.Seen fence
-            → self.new.place ≡ SomePlace.Ask 0 }
         ensures quiet { value_committed result ≡ None }
         ensures config { self.new.config ≡ self.old.config }
+        ensures written { self.new.written ≡ self.old.written }
         ensures id { self.new.id ≡ self.old.id }
         ensures named { self.new.named ≡ self.old.named }
         ensures note { NotesEvidence p answer result }
         ensures going { self.new.under_way ≡ going_after self.old.under_way result }
+        ensures listed { (values : List ℕ)
+            → FollowsFrom self.old (SomePlace.Evidence p) values (SomeVerb.Fence p)
+            answer self.new }
     {
         match fence_in(answer) {
             Some(fence) => self.took_evidence(p, fence),

@@ -3,7 +3,7 @@ ghost use Rattle.std.specs.Prelude.{None, Some, get_or, length, ℕ, ◌<◌, �
 ghost use Rattle.mu_model.specs.Placing.{is_within_ring, reaches_head};
 
 /// The table with the number at the place.
-pub fn with_number(table: [u64; 7], p: u8, number: u64) -> [u64; 7]
+pub(crate) fn with_number(table: [u64; 7], p: u8, number: u64) -> [u64; 7]
     ensures long { length result ≡ length table }
     ensures here { p < length table → get_or result p 0 ≡ number }
     ensures others { (q : ℕ) → q ≢ p → get_or result q 0 ≡ get_or table q 0 }
@@ -30,7 +30,7 @@ fn farther(held: Option<u64>, u: u64) -> Option<u64>
 }
 
 /// The table with a FUO at the place, where it is the greater one.
-pub fn with_fuo(table: [Option<u64>; 7], p: u8, u: u64) -> [Option<u64>; 7]
+pub(crate) fn with_fuo(table: [Option<u64>; 7], p: u8, u: u64) -> [Option<u64>; 7]
     ensures long { length result ≡ length table }
     ensures ring { p < length table → (i ring : ℕ)
         → is_within_ring i ring (get_or result p None)

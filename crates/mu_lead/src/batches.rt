@@ -1,13 +1,12 @@
 //! Commands and marks among the known values, and what a replica offers next.
-ghost use Rattle.std.specs.Prelude.{List, None, ℕ, [], ◌*◌, ◌++◌, ◌+◌, ◌<◌, ◌∷◌, ◌≡◌, ◌≤◌, false, length, nat_lt, not, true, ◌&&◌};
-ghost use Rattle.mu_model.specs.Contents.{IsConfig, IsInSession, begins_batch, client_of, command_count, holds_all, marked, number_of, row_count, rows_in, rows_of as rows_of_entry};
-ghost use Rattle.mu_known.specs.KnownLog.{CountsCommands};
-ghost use Rattle.mu_lead.specs.Offering.{IsNextRow, NamesRow};
+ghost use Rattle.std.specs.Prelude.{List, None, is_some, ℕ, [], ◌*◌, ◌++◌, ◌+◌, ◌<◌, ◌∷◌, ◌≡◌, ◌≤◌, length, nat_lt, not};
+ghost use Rattle.mu_model.specs.Contents.{IsConfig, IsInSession, client_of, holds_all, marked, row_count, rows_in, rows_of as rows_of_entry};
+ghost use Rattle.mu_known.specs.KnownLog.{HoldsValues};
+ghost use Rattle.mu_known.specs.Offers.{IsNextRow, NamesRow, batch_of, first_in};
+ghost use Rattle.mu_lead.specs.Listing.{batch_of_named, own_offer};
 
-use crate::table::ClientRows;
-use mu_model::{
-    Config, count_of_rows, row_client, row_number, row_rest, stands_for_batch, stands_for_mark,
-};
+use mu_known::KnownLog;
+use mu_model::{Config, count_of_rows, row_rest, stands_for_batch, stands_for_mark};
 
 /// Whether a mark of `q` is among some values and `v`.
 #[tactic(auto, using(mu_model::proofs::Scans::marked_after))]
@@ -20,7 +19,7 @@ fn mark_added(config: &Config, q: u8, found: bool, v: u16) -> bool
 
 /// Whether a mark of `q` is among the values. In the first version there are none.
 #[tactic(auto, using(crate::proofs::Marks::no_marks))]
-pub fn is_marked(config: &Config, q: u8, known: &[u16]) -> bool
+pub(crate) fn is_marked(config: &Config, q: u8, known: &[u16]) -> bool
     ensures { result ≡ marked config.now q known.now }
 {
     if config.version != 2 {
@@ -78,7 +77,7 @@ fn may_hold_all(config: &Config, known: &[u16]) -> bool
 /// Whether the values, which are in session, hold all commands: no row is among theirs twice. Rows
 /// are counted only where there are entries enough.
 #[tactic(auto, using(crate::proofs::Held::all_held, crate::proofs::Held::lacks_some))]
-pub fn knows_all(config: &Config, known: &[u16]) -> bool
+pub(crate) fn knows_all(config: &Config, known: &[u16]) -> bool
     ensures { length known.now < 65536 → IsConfig config.now → IsInSession config.now known.now
         → result ≡ holds_all config.now known.now }
 {
@@ -87,109 +86,53 @@ pub fn knows_all(config: &Config, known: &[u16]) -> bool
 }
 
 /// The own payload number of row `j`.
-pub fn own_value(id: u8, j: u16) -> u16
+pub(crate) fn own_value(id: u8, j: u16) -> u16
     ensures { id < 8 → j < 4096 → result ≡ id * 4096 + j }
 {
     u16::from(id % 8) * 4096 + j % 4096
 }
 
-/// Whether row `j` is there and begins a batch.
-fn is_start(config: &Config, j: u16) -> bool
-    ensures { result ≡ (nat_lt j (row_count config.now) && begins_batch config.now j) }
-{
-    usize::from(j) < count_of_rows(config) && (j == 0 || row_rest(config, j - 1) == 0)
-}
-
-/// Whether row `j` begins the next batch of its client, where so many commands of each are known.
-fn is_next(config: &Config, j: u16, counts: &[u16]) -> bool
-    ensures yes { (values : List ℕ) → CountsCommands config.now values counts.now
-        → result ≡ true → IsNextRow config.now values j }
-    ensures no { (values : List ℕ) → CountsCommands config.now values counts.now
-        → result ≡ false → IsNextRow config.now values j → ⊥ }
-{
-    match counts.get(usize::from(row_client(config, j))) {
-        None => false,
-        Some(count) => {
-            is_start(config, j) && u32::from(row_number(config, j)) == u32::from(*count) + 1
-        }
-    }
-}
-
-/// The row of the next batch of the client, where the table of its rows names one.
-fn next_of(config: &Config, table: &ClientRows, client: u16, counts: &[u16]) -> Option<u16>
-    ensures { (values : List ℕ) → CountsCommands config.now values counts.now
+/// The row of the next batch of the first of these clients that has one.
+fn next_of(config: &Config, from: u16, to: u16, log: &KnownLog) -> Option<u16>
+    ensures named { (values : List ℕ) → IsConfig config.now → to ≤ 256
+        → HoldsValues config.now values log.now
         → NamesRow result (λ j. IsNextRow config.now values j) }
-{
-    let count = *counts.get(usize::from(client))?;
-    let j = table.row_after(client, count)?;
-    if is_next(config, j, counts) {
-        Some(j)
-    } else {
-        None
-    }
-}
-
-/// The row of the next batch of the first of these clients whose rows in the table have one.
-fn next_among(
-    config: &Config,
-    table: &ClientRows,
-    from: u16,
-    to: u16,
-    counts: &[u16],
-) -> Option<u16>
-    ensures { (values : List ℕ) → CountsCommands config.now values counts.now
-        → NamesRow result (λ j. IsNextRow config.now values j) }
+    ensures none { result ≡ None → (values : List ℕ) → IsConfig config.now → to ≤ 256
+        → HoldsValues config.now values log.now
+        → (j : ℕ) → from ≤ client_of config.now j → client_of config.now j < to
+        → IsNextRow config.now values j → ⊥ }
+    ensures listed { (values : List ℕ) → IsConfig config.now → to ≤ 256
+        → HoldsValues config.now values log.now
+        → result
+        ≡ batch_of_named config.now values
+        (first_in (λ w. is_some (batch_of config.now values w)) from to) }
 {
     for client in from..to {
-        if let Some(j) = next_of(config, table, client, counts) {
+        if let Some(j) = log.next_batch(config, client) {
             return Some(j);
         }
     }
     None
 }
 
-/// The first row that begins the next batch of its client.
-fn first_next(config: &Config, counts: &[u16]) -> Option<u16>
-    ensures named { (values : List ℕ) → CountsCommands config.now values counts.now
-        → NamesRow result (λ j. IsNextRow config.now values j) }
-    ensures none { result ≡ None → row_count config.now ≤ 1500 → (values : List ℕ)
-        → CountsCommands config.now values counts.now
-        → (j : ℕ) → IsNextRow config.now values j → ⊥ }
+/// The row of the batch that the replica `id` offers next: that of the first client with one,
+/// counted upwards and round from a client that changes with the position.
+pub(crate) fn next_offer(config: &Config, id: u8, known: &[u16], log: &KnownLog) -> Option<u16>
+    ensures named { IsConfig config.now → HoldsValues config.now known.now log.now
+        → NamesRow result (λ j. IsNextRow config.now known.now j) }
+    ensures none { result ≡ None → IsConfig config.now → HoldsValues config.now known.now log.now
+        → (j : ℕ) → IsNextRow config.now known.now j → ⊥ }
+    ensures listed { length known.now < 65536 → IsConfig config.now
+        → HoldsValues config.now known.now log.now
+        → result ≡ own_offer config.now id known.now (length known.now) }
 {
-    for j in 0..count_of_rows(config).min(1500) as u16 {
-        if is_next(config, j, counts) {
-            return Some(j);
-        }
+    let clients = log.clients();
+    if clients == 0 {
+        return None;
     }
-    None
-}
-
-/// The row of the batch that the replica `id` offers after `known` values, where some client has a
-/// next one. What the table names is tested; where it names nothing, all rows are.
-pub fn next_offer(
-    config: &Config,
-    table: &ClientRows,
-    id: u8,
-    known: usize,
-    counts: &[u16],
-) -> Option<u16>
-    ensures named { (values : List ℕ) → CountsCommands config.now values counts.now
-        → NamesRow result (λ j. IsNextRow config.now values j) }
-    ensures none { result ≡ None → row_count config.now ≤ 1500 → (values : List ℕ)
-        → CountsCommands config.now values counts.now
-        → (j : ℕ) → IsNextRow config.now values j → ⊥ }
-{
-    let clients = table.clients();
-    let first = if clients == 0 {
-        0
-    } else {
-        ((usize::from(id) + known.min(65_535)) % usize::from(clients)) as u16
-    };
-    match next_among(config, table, first, clients, counts) {
+    let first = ((usize::from(id) + known.len().min(65_535)) % usize::from(clients)) as u16;
+    match next_of(config, first, clients, log) {
         Some(j) => Some(j),
-        None => match next_among(config, table, 0, first, counts) {
-            Some(j) => Some(j),
-            None => first_next(config, counts),
-        },
+        None => next_of(config, 0, first, log),
     }
 }

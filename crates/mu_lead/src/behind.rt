@@ -1,5 +1,5 @@
 //! Catching up, and bringing up members that are behind.
-ghost use Rattle.std.specs.Prelude.{Bool, IsTrue, List, None, Some, false, get_or, length, nat_lt, true, ℕ, ◌%◌, ◌&&◌, ◌+◌, ◌<◌, ◌∷◌, ◌≡◌, ◌≤◌};
+ghost use Rattle.std.specs.Prelude.{Bool, IsTrue, List, None, Some, false, get_or, length, nat_lt, not, true, ℕ, ◌==◌, ◌%◌, ◌&&◌, ◌+◌, ◌<◌, ◌∷◌, ◌≡◌, ◌≤◌};
 ghost use Rattle.std.specs.declared.option.Option.{Option};
 ghost use Rattle.mu_model.specs.declared.event.Answer.{Answer as SomeAnswer};
 ghost use Rattle.mu_model.specs.declared.event.Event.{Event as SomeEvent};
@@ -10,16 +10,15 @@ ghost use Rattle.mu_model.specs.Leaderships.{is_member, is_over};
 ghost use Rattle.mu_model.specs.Parts.{IsPossible};
 ghost use Rattle.mu_model.specs.Picks.{is_past as is_past_answer};
 ghost use Rattle.mu_model.specs.Placing.{is_within_ring};
-ghost use Rattle.mu_leading.specs.Leadership.{StandsForLeadership};
 ghost use Rattle.mu_lead.specs.declared.place.Place.{Place as SomePlace};
 ghost use Rattle.mu_lead.specs.Leading.{AtWiden, Behind, HasMost, HasPutNone, HaveAtMost, HaveFew, IsClear, IsDone, IsMember, Leads, Level, RaisedBelow, end_of as end_of_known};
-ghost use Rattle.mu_lead.specs.Sets.{IsFirst};
+ghost use Rattle.mu_known.specs.Offers.{IsFirst};
+ghost use Rattle.mu_lead.specs.Lasting.{FollowsFrom, FollowsLook, tables_of};
+ghost use Rattle.mu_lead.specs.Listing.{after_copy, after_fuo, after_members, bring_up, bring_up_from, farther, learn_from};
 ghost use Rattle.mu_lead.specs.Notes.{value_committed};
 ghost use Rattle.mu_lead.specs.Standing.{HoldsAt, Stands, StandsFor, Takes, TakesLook};
 ghost use Rattle.mu_lead.specs.Saying.{is_working_or_lost, note_of_fence, note_of_learning, note_of_raise, value_seen};
 ghost use Rattle.mu_lead.specs.declared.note.Note.{Note as SomeNote};
-ghost use Rattle.mu_lead.specs.Beside.{leads_at};
-ghost use Rattle.mu_lead.specs.Gathering.{LeadsBy};
 ghost use Rattle.mu_lead.specs.Going.{going_after};
 ghost use Rattle.mu_pace.specs.Members.{IsNextMember, members_from};
 ghost use Rattle.mu_pace.specs.Weights.{Bringing, Stage};
@@ -44,15 +43,22 @@ impl Lead {
         ensures most { (mine : List SomeEvent) → length self.now.up ≡ 7
             → HasMost self.now.id mine self.now.up p source
             → HasMost self.now.id mine self.now.up (p + 1) (Some result) }
+        ensures is { length self.now.up ≡ 7 → result ≡ farther self.now.up source p }
     {
         match source {
-            Some(q) => { if self.up_of(q) < self.up_of(p) { p } else { q } }
+            Some(q) => {
+                if self.up_of(q) < self.up_of(p) {
+                    p
+                } else {
+                    q
+                }
+            }
             None => p,
         }
     }
 
     /// The FUO of the member `p`.
-    pub fn took_fuo(&mut self, p: u8, source: Option<u8>, u: u64, known: &[u16]) -> Note
+    pub(crate) fn took_fuo(&mut self, p: u8, source: Option<u8>, u: u64, known: &[u16]) -> Note
         ensures stands { Takes self.old (SomePlace.ReadFuo p source) known.now (SomeVerb.Fuo p)
             (SomeAnswer.Number u) self.new }
         ensures rooms { KeepsRooms self.old (SomePlace.ReadFuo p source) known.now (SomeVerb.Fuo p)
@@ -63,7 +69,8 @@ impl Lead {
         ensures named { self.new.named ≡ self.old.named }
         ensures note { result ≡ SomeNote.Working }
         ensures going { self.new.under_way ≡ going_after self.old.under_way result }
-        ensures leads { leads_at self.new.place ≡ true }
+        ensures listed { FollowsFrom self.old (SomePlace.ReadFuo p source) known.now (SomeVerb.Fuo p)
+            (SomeAnswer.Number u) self.new }
     {
         self.up = with_number(self.up, p, u);
         self.reach = with_fuo(self.reach, p, u);
@@ -94,7 +101,11 @@ impl Lead {
             → IsNextBehind self.now.config self.now.id mine self.now.up 0 None
             → MayGoOn self.now.config self.now.id mine 0)
             → RoomsAt self.now.config self.now.id mine self.now.written.items result }
-        ensures leads { leads_at result ≡ true }
+        ensures listed { (mine : List SomeEvent) → Stands mine self.now
+            → known.now ≡ known_of self.now.config self.now.id mine
+            → p < self.now.config.replicas
+            → result ≡ after_fuo self.now.config self.now.id mine (tables_of self.now) p
+            (farther self.now.up source p) }
     {
         let from = self.farther(source, p);
         match next_member(&self.leading, p.saturating_add(1), self.config.replicas) {
@@ -120,7 +131,9 @@ impl Lead {
             → (IsNextBehind self.now.config self.now.id mine self.now.up 0 None
             → MayGoOn self.now.config self.now.id mine 0)
             → RoomsAt self.now.config self.now.id mine self.now.written.items result }
-        ensures leads { leads_at result ≡ true }
+        ensures listed { (mine : List SomeEvent) → Stands mine self.now
+            → known.now ≡ known_of self.now.config self.now.id mine
+            → result ≡ learn_from self.now.config self.now.id mine (tables_of self.now) source }
     {
         if (known.len() as u64) < self.up_of(source) {
             Place::Learn(source)
@@ -130,7 +143,7 @@ impl Lead {
     }
 
     /// A look at the first unknown position.
-    pub fn took_learning(&mut self, source: u8, answer: Answer, known: &[u16]) -> Note
+    pub(crate) fn took_learning(&mut self, source: u8, answer: Answer, known: &[u16]) -> Note
         ensures stands { (i : ℕ)
             → TakesLook self.old (SomePlace.Learn source) known.now source i answer self.new }
         ensures rooms { (i : ℕ)
@@ -142,7 +155,8 @@ impl Lead {
         ensures note { length known.now < 65536
             → result ≡ note_of_learning (length known.now) answer }
         ensures going { self.new.under_way ≡ going_after self.old.under_way result }
-        ensures leads { leads_at self.new.place ≡ true }
+        ensures listed { (i : ℕ)
+            → FollowsLook self.old (SomePlace.Learn source) known.now source i answer self.new }
     {
         if is_past(answer) {
             self.place = Place::Outrun;
@@ -171,7 +185,7 @@ impl Lead {
     }
 
     /// Brings up the next member from `p` on that is behind, or goes on.
-    pub fn bring_up_from(&self, p: u8, then: Then, known: &[u16]) -> Place
+    pub(crate) fn bring_up_from(&self, p: u8, then: Then, known: &[u16]) -> Place
         ensures stands { (mine : List SomeEvent) → Stands mine self.now
             → known.now ≡ known_of self.now.config self.now.id mine
             → Leads self.now.config self.now.id self.now.number mine
@@ -189,7 +203,9 @@ impl Lead {
             → (IsNextBehind self.now.config self.now.id mine self.now.up p None
             → MayGoOn self.now.config self.now.id mine (passed_over self.now.config then))
             → RoomsAt self.now.config self.now.id mine self.now.written.items result }
-        ensures leads { leads_at result ≡ true }
+        ensures listed { (mine : List SomeEvent) → Stands mine self.now
+            → known.now ≡ known_of self.now.config self.now.id mine
+            → result ≡ bring_up_from self.now.config self.now.id mine (tables_of self.now) p then }
     {
         match self.next_behind(p, known) {
             Some(q) => self.bring_up(q, then),
@@ -207,7 +223,9 @@ impl Lead {
             → known.now ≡ known_of self.now.config self.now.id mine
             → MayGoOn self.now.config self.now.id mine (passed_over self.now.config then)
             → RoomsAt self.now.config self.now.id mine self.now.written.items result }
-        ensures leads { leads_at result ≡ true }
+        ensures listed { (mine : List SomeEvent) → Stands mine self.now
+            → known.now ≡ known_of self.now.config self.now.id mine
+            → result ≡ after_members self.now.config self.now.id mine self.now.heads then }
     {
         match then {
             Then::Late => self.late_from(0, known),
@@ -217,11 +235,16 @@ impl Lead {
 
     /// Whether the ring of `p` reaches what it lacks, as far as its FUO is known.
     fn is_near(&self, p: u8) -> bool
-        ensures { length self.now.up ≡ 7 → length self.now.reach ≡ 7 → p < 7 → IsTrue result
+        ensures near { length self.now.up ≡ 7 → length self.now.reach ≡ 7 → p < 7 → IsTrue result
             → self.now.config.version ≡ 2
             → is_within_ring (get_or self.now.up p 0) self.now.config.ring
             (get_or self.now.reach p None)
             ≡ true }
+        ensures is { length self.now.up ≡ 7 → length self.now.reach ≡ 7 → p < 7
+            → result
+            ≡ not (self.now.config.version == 2
+            && not (is_within_ring (get_or self.now.up p 0) self.now.config.ring
+            (get_or self.now.reach p None))) }
     {
         if self.config.version != 2 || 7 <= p {
             return true;
@@ -233,14 +256,16 @@ impl Lead {
     }
 
     /// The first step towards what `p` lacks.
-    pub fn bring_up(&self, p: u8, then: Then) -> Place
+    pub(crate) fn bring_up(&self, p: u8, then: Then) -> Place
         ensures stands { (mine : List SomeEvent) → Stands mine self.now
             → AtWiden self.now.config self.now.id self.now.number mine self.now.up self.now.reach p
             then
             → HoldsAt mine self.now result }
         ensures rooms { (mine : List SomeEvent) → MayBringUp self.now.config self.now.id mine p then
             → RoomsAt self.now.config self.now.id mine self.now.written.items result }
-        ensures leads { leads_at result ≡ true }
+        ensures listed { (mine : List SomeEvent) → Stands mine self.now
+            → p < self.now.config.replicas
+            → result ≡ bring_up self.now.config self.now.up self.now.reach p then }
     {
         if self.is_near(p) {
             Place::LookBehind(p, then)
@@ -250,7 +275,7 @@ impl Lead {
     }
 
     /// The FUO of `p` was raised so far as it was brought up.
-    pub fn took_widening(&mut self, p: u8, then: Then) -> Note
+    pub(crate) fn took_widening(&mut self, p: u8, then: Then) -> Note
         ensures stands { (values : List ℕ)
             → Takes self.old (SomePlace.WidenBehind p then) values
             (SomeVerb.RaiseFuo p (get_or self.old.up p 0)) SomeAnswer.Done self.new }
@@ -263,7 +288,9 @@ impl Lead {
         ensures named { self.new.named ≡ self.old.named }
         ensures note { result ≡ SomeNote.Working }
         ensures going { self.new.under_way ≡ going_after self.old.under_way result }
-        ensures leads { leads_at self.new.place ≡ true }
+        ensures listed { (values : List ℕ)
+            → FollowsFrom self.old (SomePlace.WidenBehind p then) values (SomeVerb.RaiseFuo p (get_or self.old.up p 0))
+            SomeAnswer.Done self.new }
     {
         self.reach = with_fuo(self.reach, p, self.up_of(p));
         self.place = Place::LookBehind(p, then);
@@ -271,7 +298,7 @@ impl Lead {
     }
 
     /// A look at what `p` lacks.
-    pub fn took_look_behind(&mut self, p: u8, then: Then, answer: Answer) -> Note
+    pub(crate) fn took_look_behind(&mut self, p: u8, then: Then, answer: Answer) -> Note
         ensures stands { (values : List ℕ)
             → Takes self.old (SomePlace.LookBehind p then) values
             (SomeVerb.Look p (get_or self.old.up p 0)) answer self.new }
@@ -284,7 +311,9 @@ impl Lead {
         ensures named { self.new.named ≡ self.old.named }
         ensures note { result ≡ SomeNote.Working }
         ensures going { self.new.under_way ≡ going_after self.old.under_way result }
-        ensures leads { leads_at self.new.place ≡ true }
+        ensures listed { (values : List ℕ)
+            → FollowsFrom self.old (SomePlace.LookBehind p then) values (SomeVerb.Look p (get_or self.old.up p 0))
+            answer self.new }
     {
         if is_past(answer) {
             self.place = Place::FenceBehind(p, then);
@@ -296,7 +325,7 @@ impl Lead {
     }
 
     /// The region `p` was entered for what it lacks.
-    pub fn entered_behind(&mut self, p: u8, then: Then) -> Note
+    pub(crate) fn entered_behind(&mut self, p: u8, then: Then) -> Note
         ensures stands { (values : List ℕ)
             → Takes self.old (SomePlace.EnterBehind p then) values
             (SomeVerb.Enter p
@@ -312,7 +341,9 @@ impl Lead {
         ensures named { self.new.named ≡ self.old.named }
         ensures note { result ≡ SomeNote.Working }
         ensures going { self.new.under_way ≡ going_after self.old.under_way result }
-        ensures leads { leads_at self.new.place ≡ true }
+        ensures listed { (values : List ℕ)
+            → FollowsFrom self.old (SomePlace.EnterBehind p then) values (SomeVerb.Enter p (SomeTarget.Place (get_or self.old.up p 0 % self.old.config.ring)))
+            SomeAnswer.Entered self.new }
     {
         let event = Event {
             by: self.id,
@@ -325,12 +356,11 @@ impl Lead {
     }
 
     /// What `p` lacked was put.
-    pub fn took_put_behind(&mut self, p: u8, then: Then, known: &[u16]) -> Note
+    pub(crate) fn took_put_behind(&mut self, p: u8, then: Then, known: &[u16]) -> Note
         ensures stands { Takes self.old (SomePlace.PutBehind p then) known.now
             (SomeVerb.PutSlot p (get_or self.old.up p 0) self.old.number
             (get_or known.now (get_or self.old.up p 0) 0))
             SomeAnswer.Done self.new }
-        ensures leads { leads_at self.new.place ≡ true }
         ensures rooms { KeepsRooms self.old (SomePlace.PutBehind p then) known.now
             (SomeVerb.PutSlot p (get_or self.old.up p 0) self.old.number
             (get_or known.now (get_or self.old.up p 0) 0))
@@ -341,6 +371,8 @@ impl Lead {
         ensures named { self.new.named ≡ self.old.named }
         ensures note { result ≡ SomeNote.Working }
         ensures going { self.new.under_way ≡ going_after self.old.under_way result }
+        ensures listed { FollowsFrom self.old (SomePlace.PutBehind p then) known.now (SomeVerb.PutSlot p (get_or self.old.up p 0) self.old.number (get_or known.now (get_or self.old.up p 0) 0))
+            SomeAnswer.Done self.new }
     {
         let event = Event {
             by: self.id,
@@ -356,7 +388,6 @@ impl Lead {
 
     /// The place after what `p` lacked was put.
     fn after_put_behind(&self, p: u8, then: Then, known: &[u16]) -> Place
-        ensures leads { leads_at result ≡ true }
         ensures stands { (mine : List SomeEvent) → Stands mine self.now
             → known.now ≡ known_of self.now.config self.now.id mine
             → Behind self.now.config self.now.id self.now.number mine self.now.up self.now.reach p
@@ -368,6 +399,10 @@ impl Lead {
             → IsLed self.now.config self.now.id mine
             (Stage.Bring (lag_of self.now.config self.now.id mine p then) Bringing.Raise)
             → RoomsAt self.now.config self.now.id mine self.now.written.items result }
+        ensures listed { (mine : List SomeEvent) → Stands mine self.now
+            → known.now ≡ known_of self.now.config self.now.id mine
+            → p < self.now.config.replicas
+            → result ≡ after_copy self.now.config self.now.id mine self.now.up self.now.reach p then }
     {
         if self.up_of(p) < known.len() as u64 {
             self.bring_up(p, then)
@@ -377,7 +412,7 @@ impl Lead {
     }
 
     /// The FUO of `p` was raised over all that is known.
-    pub fn took_raise_behind(&mut self, p: u8, then: Then, known: &[u16]) -> Note
+    pub(crate) fn took_raise_behind(&mut self, p: u8, then: Then, known: &[u16]) -> Note
         ensures stands { Takes self.old (SomePlace.RaiseBehind p then) known.now
             (SomeVerb.RaiseFuo p (get_or self.old.up p 0)) SomeAnswer.Done self.new }
         ensures rooms { KeepsRooms self.old (SomePlace.RaiseBehind p then) known.now
@@ -388,7 +423,8 @@ impl Lead {
         ensures named { self.new.named ≡ self.old.named }
         ensures note { result ≡ note_of_raise p then }
         ensures going { self.new.under_way ≡ going_after self.old.under_way result }
-        ensures leads { leads_at self.new.place ≡ true }
+        ensures listed { FollowsFrom self.old (SomePlace.RaiseBehind p then) known.now (SomeVerb.RaiseFuo p (get_or self.old.up p 0))
+            SomeAnswer.Done self.new }
     {
         self.reach = with_fuo(self.reach, p, self.up_of(p));
         match then {
@@ -404,14 +440,13 @@ impl Lead {
     }
 
     /// The fence after a look that found what `p` lacks overwritten.
-    pub fn took_fence_behind(&mut self, p: u8, then: Then, fence: Fence) -> Note
+    pub(crate) fn took_fence_behind(&mut self, p: u8, then: Then, fence: Fence) -> Note
         ensures stands { (values : List ℕ)
             → Takes self.old (SomePlace.FenceBehind p then) values (SomeVerb.Fence p)
             (SomeAnswer.Seen fence) self.new }
         ensures rooms { (values : List ℕ)
             → KeepsRooms self.old (SomePlace.FenceBehind p then) values (SomeVerb.Fence p)
             (SomeAnswer.Seen fence) self.new }
-        ensures leads { LeadsBy self.old (SomeVerb.Fence p) (SomeAnswer.Seen fence) self.new }
         ensures quiet { value_committed result ≡ None }
         ensures config { self.new.config ≡ self.old.config }
         ensures id { self.new.id ≡ self.old.id }
@@ -433,6 +468,9 @@ impl Lead {
                   fence;
             }
             ∷ mine)) }
+        ensures listed { (values : List ℕ)
+            → FollowsFrom self.old (SomePlace.FenceBehind p then) values (SomeVerb.Fence p)
+            (SomeAnswer.Seen fence) self.new }
     {
         let event = Event {
             by: self.id,
@@ -452,7 +490,7 @@ impl Lead {
 }
 
 /// Whether a look found a later position.
-pub fn is_past(answer: Answer) -> bool
+pub(crate) fn is_past(answer: Answer) -> bool
     ensures { result ≡ is_past_answer answer }
 {
     match answer {
@@ -462,7 +500,7 @@ pub fn is_past(answer: Answer) -> bool
 }
 
 /// The value of the entry that a look showed, or 0.
-pub fn value_in(answer: Answer) -> u16
+pub(crate) fn value_in(answer: Answer) -> u16
     ensures { result ≡ value_seen answer }
 {
     match answer {

@@ -1,5 +1,5 @@
 //! Asks, rounds of fences, minima and the number.
-ghost use Rattle.std.specs.Prelude.{Bool, false, None, IsTrue, List, Some, is_some, true, ℕ, ◌+◌, ◌<◌, ◌==◌, ◌||◌, ◌∷◌, ◌≡◌, ◌≤◌, ◌↔◌};
+ghost use Rattle.std.specs.Prelude.{Bool, false, None, IsTrue, List, Some, if◌then◌else◌, is_some, nat_lt, true, ℕ, ◌+◌, ◌<◌, ◌==◌, ◌||◌, ◌∷◌, ◌≡◌, ◌≤◌, ◌↔◌};
 ghost use Rattle.std.specs.declared.option.Option.{Option};
 ghost use Rattle.mu_model.specs.declared.event.Answer.{Answer as SomeAnswer};
 ghost use Rattle.mu_model.specs.declared.event.Event.{Event as SomeEvent};
@@ -8,21 +8,18 @@ ghost use Rattle.mu_model.specs.declared.event.Target.{Target as SomeTarget};
 ghost use Rattle.mu_lead.specs.declared.place.Place.{Place as SomePlace};
 ghost use Rattle.mu_lead.specs.Confirming.{AtAsk, Confirmed, Fresh, Numbered, Telling};
 ghost use Rattle.mu_model.specs.Leaderships.{is_member};
-ghost use Rattle.mu_lead.specs.Sets.{IsFirst};
+ghost use Rattle.mu_known.specs.Offers.{IsFirst};
 ghost use Rattle.mu_model.specs.Parts.{IsPossible};
 ghost use Rattle.mu_lead.specs.Notes.{TellsRound, value_committed};
 ghost use Rattle.mu_lead.specs.Standing.{At, StandsFor, Takes};
 ghost use Rattle.mu_leading.specs.Leadership.{StandsForLeadership};
 ghost use Rattle.mu_lead.specs.Saying.{TellsAfter};
 ghost use Rattle.mu_lead.specs.declared.note.Note.{Note as SomeNote};
-ghost use Rattle.mu_lead.specs.Beside.{leads_at};
-ghost use Rattle.mu_lead.specs.Gathering.{FollowsAsk, FollowsFence, FollowsRound, reads_first};
 ghost use Rattle.mu_lead.specs.Going.{going_after};
-ghost use Rattle.mu_lead.specs.Confirmations.{ConfirmsAt, KeepsConfirmation, NoneIsAwaited, is_gathering};
 ghost use Rattle.mu_model.specs.Diligence.{is_confirmed as is_confirmed_by};
-ghost use Rattle.mu_pace.specs.Counters.{IsInTime};
-ghost use Rattle.mu_pace.specs.Watches.{confirming};
 ghost use Rattle.mu_lead.specs.Rooms.{IsLed, IsWaiting, KeepsRooms, RoomsAt};
+ghost use Rattle.mu_lead.specs.Lasting.{FollowsFrom};
+ghost use Rattle.mu_lead.specs.Listing.{after_round, first_member, noted_from, or_else};
 ghost use Rattle.mu_pace.specs.Weights.{Stage};
 
 use crate::lead::Lead;
@@ -42,12 +39,10 @@ impl Lead {
             (record { by = self.now.id; verb = SomeVerb.Ask p; answer = SomeAnswer.Done }
             ∷ mine)
             up reach written result }
-        ensures rooms { (mine : List SomeEvent) → (written : List ℕ) → p < self.now.config.replicas
-            → self.now.config.replicas ≤ 7 → IsWaiting self.now.config self.now.id mine
-            → RoomsAt self.now.config self.now.id mine written result }
-        ensures gathers { is_gathering result ≡ true }
-        ensures follows { self.now.config.replicas ≤ 7
-            → FollowsAsk self.now.config.replicas p result }
+        ensures listed { self.now.config.replicas ≤ 7
+            → result
+            ≡ (if nat_lt (p + 1) self.now.config.replicas then SomePlace.Ask (p + 1)
+            else SomePlace.Confirm 0 0) }
     {
         let next = p.saturating_add(1);
         if next < self.config.replicas {
@@ -58,21 +53,19 @@ impl Lead {
     }
 
     /// The region `p` was asked.
-    pub fn took_ask(&mut self, p: u8) -> Note
+    pub(crate) fn took_ask(&mut self, p: u8) -> Note
         ensures stands { (values : List ℕ)
             → Takes self.old (SomePlace.Ask p) values (SomeVerb.Ask p) SomeAnswer.Done self.new }
-        ensures rooms { (values : List ℕ)
-            → KeepsRooms self.old (SomePlace.Ask p) values (SomeVerb.Ask p) SomeAnswer.Done
-            self.new }
-        ensures gathers { is_gathering self.new.place ≡ true }
-        ensures follows { self.old.config.replicas ≤ 7
-            → FollowsAsk self.old.config.replicas p self.new.place }
         ensures quiet { value_committed result ≡ None }
         ensures config { self.new.config ≡ self.old.config }
+        ensures written { self.new.written ≡ self.old.written }
         ensures id { self.new.id ≡ self.old.id }
         ensures named { self.new.named ≡ self.old.named }
         ensures note { result ≡ SomeNote.Working }
         ensures going { self.new.under_way ≡ (p == 0 || self.old.under_way) }
+        ensures listed { (values : List ℕ)
+            → FollowsFrom self.old (SomePlace.Ask p) values (SomeVerb.Ask p)
+            SomeAnswer.Done self.new }
     {
         let event = Event {
             by: self.id,
@@ -92,19 +85,13 @@ impl Lead {
         }
     }
     /// The fence of `p` in a round.
-    pub fn took_fence(&mut self, round: u8, p: u8, fence: Fence) -> Note
+    pub(crate) fn took_fence(&mut self, round: u8, p: u8, fence: Fence) -> Note
         ensures stands { (values : List ℕ)
             → Takes self.old (SomePlace.Confirm round p) values (SomeVerb.Fence p)
             (SomeAnswer.Seen fence) self.new }
-        ensures rooms { (values : List ℕ)
-            → KeepsRooms self.old (SomePlace.Confirm round p) values (SomeVerb.Fence p)
-            (SomeAnswer.Seen fence) self.new }
-        ensures confirms { KeepsConfirmation self.old (SomePlace.Confirm round p) (SomeVerb.Fence p)
-            (SomeAnswer.Seen fence) self.new }
-        ensures follows { self.old.config.replicas ≤ 7
-            → FollowsFence self.old.config.replicas round p self.new.place }
         ensures quiet { value_committed result ≡ None }
         ensures config { self.new.config ≡ self.old.config }
+        ensures written { self.new.written ≡ self.old.written }
         ensures id { self.new.id ≡ self.old.id }
         ensures named { self.new.named ≡ self.old.named }
         ensures note { (mine : List SomeEvent) → StandsFor mine self.old
@@ -116,6 +103,9 @@ impl Lead {
             (record { by = self.old.id; verb = SomeVerb.Fence p; answer = SomeAnswer.Seen fence }
             ∷ mine) result }
         ensures going { self.new.under_way ≡ going_after self.old.under_way result }
+        ensures listed { (values : List ℕ)
+            → FollowsFrom self.old (SomePlace.Confirm round p) values (SomeVerb.Fence p)
+            (SomeAnswer.Seen fence) self.new }
     {
         let event = Event {
             by: self.id,
@@ -135,10 +125,14 @@ impl Lead {
 
     /// Whether a majority with the own region is noted.
     fn is_confirmed(&self) -> bool
-        ensures { (mine : List SomeEvent) → self.now.config.replicas ≤ 7
+        ensures confirmed { (mine : List SomeEvent) → self.now.config.replicas ≤ 7
             → self.now.id < self.now.config.replicas
             → StandsForLeadership self.now.id mine self.now.leading
             → (IsTrue result ↔ Confirmed self.now.config self.now.id mine) }
+        ensures listed { (mine : List SomeEvent) → self.now.config.replicas ≤ 7
+            → self.now.id < self.now.config.replicas
+            → StandsForLeadership self.now.id mine self.now.leading
+            → result ≡ is_confirmed_by self.now.config self.now.id mine }
     {
         let n = self.config.replicas;
         self.leading.noted(self.id).is_some() && majority(n) <= count_noted(&self.leading, n)
@@ -152,19 +146,10 @@ impl Lead {
             → self.now.id < self.now.config.replicas → round < 16
             → StandsForLeadership self.now.id mine self.now.leading → Fresh self.now.id mine
             → At self.now.config self.now.id b mine up reach written result }
-        ensures rooms { (mine : List SomeEvent) → (written : List ℕ) → self.now.config.replicas ≤ 7
+        ensures listed { (mine : List SomeEvent) → self.now.config.replicas ≤ 7
             → self.now.id < self.now.config.replicas
             → StandsForLeadership self.now.id mine self.now.leading
-            → IsWaiting self.now.config self.now.id mine
-            → RoomsAt self.now.config self.now.id mine written result }
-        ensures confirms { (mine : List SomeEvent) → self.now.config.replicas ≤ 7
-            → self.now.id < self.now.config.replicas
-            → StandsForLeadership self.now.id mine self.now.leading
-            → IsInTime (confirming self.now.config self.now.id) mine
-            → (is_confirmed_by self.now.config self.now.id mine ≡ false
-            → NoneIsAwaited self.now.config self.now.id mine)
-            → ConfirmsAt self.now.config self.now.id mine result }
-        ensures follows { FollowsRound round result }
+            → result ≡ after_round self.now.config self.now.id mine round }
     {
         if self.is_confirmed() {
             self.first_to_read()
@@ -201,19 +186,11 @@ impl Lead {
             → StandsForLeadership self.now.id mine self.now.leading → Fresh self.now.id mine
             → Confirmed self.now.config self.now.id mine
             → At self.now.config self.now.id b mine up reach written result }
-        ensures rooms { (mine : List SomeEvent) → (written : List ℕ) → self.now.config.replicas ≤ 7
+        ensures listed { (mine : List SomeEvent) → self.now.config.replicas ≤ 7
             → self.now.id < self.now.config.replicas
             → StandsForLeadership self.now.id mine self.now.leading
-            → Confirmed self.now.config self.now.id mine
-            → IsWaiting self.now.config self.now.id mine
-            → RoomsAt self.now.config self.now.id mine written result }
-        ensures confirms { (mine : List SomeEvent) → self.now.config.replicas ≤ 7
-            → self.now.id < self.now.config.replicas
-            → StandsForLeadership self.now.id mine self.now.leading
-            → Confirmed self.now.config self.now.id mine
-            → IsInTime (confirming self.now.config self.now.id) mine
-            → ConfirmsAt self.now.config self.now.id mine result }
-        ensures reads { reads_first result ≡ true }
+            → result ≡ or_else (noted_from self.now.config self.now.id mine 0) SomePlace.ReadMin
+            SomePlace.Rest }
     {
         match next_noted(&self.leading, 0, self.config.replicas) {
             Some(q) => Place::ReadMin(q),
@@ -222,20 +199,20 @@ impl Lead {
     }
 
     /// The minimum of `p`.
-    pub fn took_min(&mut self, p: u8, min: u64) -> Note
+    pub(crate) fn took_min(&mut self, p: u8, min: u64) -> Note
         ensures stands { (values : List ℕ)
             → Takes self.old (SomePlace.ReadMin p) values (SomeVerb.Min p) (SomeAnswer.Number min)
             self.new }
-        ensures rooms { (values : List ℕ)
-            → KeepsRooms self.old (SomePlace.ReadMin p) values (SomeVerb.Min p)
-            (SomeAnswer.Number min) self.new }
-        ensures leads { leads_at self.new.place ≡ true }
         ensures quiet { value_committed result ≡ None }
         ensures config { self.new.config ≡ self.old.config }
+        ensures written { self.new.written ≡ self.old.written }
         ensures id { self.new.id ≡ self.old.id }
         ensures named { self.new.named ≡ self.old.named }
         ensures note { result ≡ SomeNote.Working }
         ensures going { self.new.under_way ≡ going_after self.old.under_way result }
+        ensures listed { (values : List ℕ)
+            → FollowsFrom self.old (SomePlace.ReadMin p) values (SomeVerb.Min p)
+            (SomeAnswer.Number min) self.new }
     {
         let event = Event {
             by: self.id,
@@ -265,14 +242,11 @@ impl Lead {
             → Telling self.now.config self.now.id mine self.now.config.replicas
             → Numbered self.now.config self.now.id self.now.number mine
             → At self.now.config self.now.id self.now.number mine up reach written result }
-        ensures rooms { (mine : List SomeEvent) → (written : List ℕ) → self.now.config.replicas ≤ 7
+        ensures listed { (mine : List SomeEvent) → self.now.config.replicas ≤ 7
             → self.now.id < self.now.config.replicas
             → StandsForLeadership self.now.id mine self.now.leading
-            → Confirmed self.now.config self.now.id mine
-            → ((q : ℕ) → is_member self.now.id q mine ≡ false)
-            → IsLed self.now.config self.now.id mine Stage.EnterMin
-            → RoomsAt self.now.config self.now.id mine written result }
-        ensures leads { leads_at result ≡ true }
+            → result ≡ or_else (noted_from self.now.config self.now.id mine 0) SomePlace.EnterMin
+            SomePlace.Rest }
     {
         match next_noted(&self.leading, 0, self.config.replicas) {
             Some(q) => Place::EnterMin(q),
@@ -281,20 +255,20 @@ impl Lead {
     }
 
     /// The region `p` was entered for its minimum.
-    pub fn entered_min(&mut self, p: u8) -> Note
+    pub(crate) fn entered_min(&mut self, p: u8) -> Note
         ensures stands { (values : List ℕ)
             → Takes self.old (SomePlace.EnterMin p) values (SomeVerb.Enter p SomeTarget.Min)
             SomeAnswer.Entered self.new }
-        ensures rooms { (values : List ℕ)
-            → KeepsRooms self.old (SomePlace.EnterMin p) values (SomeVerb.Enter p SomeTarget.Min)
-            SomeAnswer.Entered self.new }
         ensures quiet { value_committed result ≡ None }
         ensures config { self.new.config ≡ self.old.config }
+        ensures written { self.new.written ≡ self.old.written }
         ensures id { self.new.id ≡ self.old.id }
         ensures named { self.new.named ≡ self.old.named }
         ensures note { result ≡ SomeNote.Working }
         ensures going { self.new.under_way ≡ going_after self.old.under_way result }
-        ensures leads { leads_at self.new.place ≡ true }
+        ensures listed { (values : List ℕ)
+            → FollowsFrom self.old (SomePlace.EnterMin p) values (SomeVerb.Enter p SomeTarget.Min)
+            SomeAnswer.Entered self.new }
     {
         let event = Event {
             by: self.id,
@@ -307,20 +281,20 @@ impl Lead {
     }
 
     /// The region `p` became a member.
-    pub fn took_put_min(&mut self, p: u8) -> Note
+    pub(crate) fn took_put_min(&mut self, p: u8) -> Note
         ensures stands { (values : List ℕ)
             → Takes self.old (SomePlace.PutMin p) values (SomeVerb.PutMin p self.old.number)
             SomeAnswer.Done self.new }
-        ensures rooms { (values : List ℕ)
-            → KeepsRooms self.old (SomePlace.PutMin p) values (SomeVerb.PutMin p self.old.number)
-            SomeAnswer.Done self.new }
         ensures quiet { value_committed result ≡ None }
         ensures config { self.new.config ≡ self.old.config }
+        ensures written { self.new.written ≡ self.old.written }
         ensures id { self.new.id ≡ self.old.id }
         ensures named { self.new.named ≡ self.old.named }
         ensures note { result ≡ SomeNote.Working }
         ensures going { self.new.under_way ≡ going_after self.old.under_way result }
-        ensures leads { leads_at self.new.place ≡ true }
+        ensures listed { (values : List ℕ)
+            → FollowsFrom self.old (SomePlace.PutMin p) values (SomeVerb.PutMin p self.old.number)
+            SomeAnswer.Done self.new }
     {
         let event = Event {
             by: self.id,
@@ -341,11 +315,15 @@ impl Lead {
     }
 
     /// The first member, which there is.
-    pub fn first_member(&self) -> u8
-        ensures { (mine : List SomeEvent) → (k : ℕ) → self.now.config.replicas ≤ 7
+    pub(crate) fn first_member(&self) -> u8
+        ensures first { (mine : List SomeEvent) → (k : ℕ) → self.now.config.replicas ≤ 7
             → StandsForLeadership self.now.id mine self.now.leading → k < self.now.config.replicas
             → is_member self.now.id k mine ≡ true
             → IsFirst (λ p. is_member self.now.id p mine) 0 self.now.config.replicas (Some result) }
+        ensures listed { (mine : List SomeEvent) → self.now.config.replicas ≤ 7
+            → self.now.id < self.now.config.replicas
+            → StandsForLeadership self.now.id mine self.now.leading
+            → result ≡ first_member self.now.config self.now.id mine }
     {
         match next_member(&self.leading, 0, self.config.replicas) {
             Some(q) => q,

@@ -5,13 +5,12 @@ ghost use Rattle.mu_model.specs.declared.event.Event.{Event as SomeEvent};
 ghost use Rattle.mu_model.specs.declared.event.Target.{Target as SomeTarget};
 ghost use Rattle.mu_model.specs.declared.event.Verb.{Verb as SomeVerb};
 ghost use Rattle.mu_model.specs.Knowledge.{known as known_of};
-ghost use Rattle.mu_model.specs.Leaderships.{noted_grant};
-ghost use Rattle.mu_model.specs.Parts.{IsPossible};
-ghost use Rattle.mu_lead.specs.Beside.{leads_at};
 ghost use Rattle.mu_lead.specs.declared.place.Place.{Place as SomePlace};
 ghost use Rattle.mu_lead.specs.Leading.{Level};
+ghost use Rattle.mu_lead.specs.Lasting.{FollowsFrom};
+ghost use Rattle.mu_lead.specs.Listing.{late_from};
 ghost use Rattle.mu_lead.specs.Notes.{note_of_min, value_committed};
-ghost use Rattle.mu_lead.specs.Standing.{HoldsAt, Stands, StandsFor, Takes};
+ghost use Rattle.mu_lead.specs.Standing.{HoldsAt, Stands, Takes};
 ghost use Rattle.mu_lead.specs.Saying.{note_of_join};
 ghost use Rattle.mu_lead.specs.declared.note.Note.{Note as SomeNote};
 ghost use Rattle.mu_lead.specs.Going.{going_after};
@@ -27,7 +26,7 @@ use mu_model::{Answer, Event, Fence, Target, Verb};
 
 impl Lead {
     /// Goes on with the late followers from `p` on.
-    pub fn late_from(&self, p: u8, known: &[u16]) -> Place
+    pub(crate) fn late_from(&self, p: u8, known: &[u16]) -> Place
         ensures stands { (mine : List SomeEvent) → Stands mine self.now
             → known.now ≡ known_of self.now.config self.now.id mine
             → Level self.now.config self.now.id self.now.number mine self.now.up self.now.reach
@@ -36,7 +35,9 @@ impl Lead {
             → known.now ≡ known_of self.now.config self.now.id mine
             → MayGoOn self.now.config self.now.id mine p
             → RoomsAt self.now.config self.now.id mine self.now.written.items result }
-        ensures leads { leads_at result ≡ true }
+        ensures listed { (mine : List SomeEvent) → Stands mine self.now
+            → known.now ≡ known_of self.now.config self.now.id mine
+            → result ≡ late_from self.now.config self.now.id mine self.now.heads p }
     {
         match next_stranger(&self.leading, p, self.config.replicas) {
             Some(q) => Place::LateFence(q),
@@ -45,29 +46,19 @@ impl Lead {
     }
 
     /// The fence of the late follower `p`.
-    pub fn took_late_fence(&mut self, p: u8, fence: Fence, known: &[u16]) -> Note
+    pub(crate) fn took_late_fence(&mut self, p: u8, fence: Fence, known: &[u16]) -> Note
         ensures stands { Takes self.old (SomePlace.LateFence p) known.now (SomeVerb.Fence p)
             (SomeAnswer.Seen fence) self.new }
         ensures rooms { KeepsRooms self.old (SomePlace.LateFence p) known.now (SomeVerb.Fence p)
             (SomeAnswer.Seen fence) self.new }
-        ensures welcomed { (mine : List SomeEvent) → StandsFor mine self.old
-            → self.old.place ≡ SomePlace.LateFence p
-            → IsPossible self.old.config self.old.id
-            (record { by = self.old.id; verb = SomeVerb.Fence p; answer = SomeAnswer.Seen fence }
-            ∷ mine)
-            → is_some
-            (noted_grant self.old.id p
-            (record { by = self.old.id; verb = SomeVerb.Fence p; answer = SomeAnswer.Seen fence }
-            ∷ mine))
-            ≡ true
-            → self.new.place ≡ SomePlace.LateMin p }
         ensures quiet { value_committed result ≡ None }
         ensures config { self.new.config ≡ self.old.config }
         ensures id { self.new.id ≡ self.old.id }
         ensures named { self.new.named ≡ self.old.named }
         ensures note { result ≡ SomeNote.Working }
         ensures going { self.new.under_way ≡ going_after self.old.under_way result }
-        ensures leads { leads_at self.new.place ≡ true }
+        ensures listed { FollowsFrom self.old (SomePlace.LateFence p) known.now (SomeVerb.Fence p)
+            (SomeAnswer.Seen fence) self.new }
     {
         let event = Event {
             by: self.id,
@@ -85,21 +76,22 @@ impl Lead {
     }
 
     /// The minimum of the late follower `p`.
-    pub fn took_late_min(&mut self, p: u8, min: u64) -> Note
+    pub(crate) fn took_late_min(&mut self, p: u8, min: u64) -> Note
         ensures stands { (values : List ℕ)
             → Takes self.old (SomePlace.LateMin p) values (SomeVerb.Min p) (SomeAnswer.Number min)
             self.new }
         ensures rooms { (values : List ℕ)
             → KeepsRooms self.old (SomePlace.LateMin p) values (SomeVerb.Min p)
             (SomeAnswer.Number min) self.new }
-        ensures low { min ≤ self.old.number → self.new.place ≡ SomePlace.LateFuo p }
         ensures tells { min < 2 ^ 32 → result ≡ note_of_min p self.old.number min }
         ensures quiet { value_committed result ≡ None }
         ensures config { self.new.config ≡ self.old.config }
         ensures id { self.new.id ≡ self.old.id }
         ensures named { self.new.named ≡ self.old.named }
         ensures going { self.new.under_way ≡ going_after self.old.under_way result }
-        ensures high { self.old.number < min → self.new.place ≡ SomePlace.Ask 0 }
+        ensures listed { (values : List ℕ)
+            → FollowsFrom self.old (SomePlace.LateMin p) values (SomeVerb.Min p)
+            (SomeAnswer.Number min) self.new }
     {
         let event = Event {
             by: self.id,
@@ -121,20 +113,20 @@ impl Lead {
     }
 
     /// The FUO of the late follower `p`.
-    pub fn took_late_fuo(&mut self, p: u8, u: u64, known: &[u16]) -> Note
+    pub(crate) fn took_late_fuo(&mut self, p: u8, u: u64, known: &[u16]) -> Note
         ensures stands { Takes self.old (SomePlace.LateFuo p) known.now (SomeVerb.Fuo p)
             (SomeAnswer.Number u)
             self.new }
         ensures rooms { KeepsRooms self.old (SomePlace.LateFuo p) known.now (SomeVerb.Fuo p)
             (SomeAnswer.Number u) self.new }
-        ensures short { u ≤ length known.now → self.new.place ≡ SomePlace.LateEnter p }
         ensures quiet { value_committed result ≡ None }
         ensures config { self.new.config ≡ self.old.config }
         ensures id { self.new.id ≡ self.old.id }
         ensures named { self.new.named ≡ self.old.named }
         ensures note { result ≡ SomeNote.Working }
         ensures going { self.new.under_way ≡ going_after self.old.under_way result }
-        ensures leads { leads_at self.new.place ≡ true }
+        ensures listed { FollowsFrom self.old (SomePlace.LateFuo p) known.now (SomeVerb.Fuo p)
+            (SomeAnswer.Number u) self.new }
     {
         self.reach = with_fuo(self.reach, p, u);
         if (known.len() as u64) < u {
@@ -148,21 +140,22 @@ impl Lead {
     }
 
     /// The late follower `p` was entered for its minimum.
-    pub fn entered_late(&mut self, p: u8) -> Note
+    pub(crate) fn entered_late(&mut self, p: u8) -> Note
         ensures stands { (values : List ℕ)
             → Takes self.old (SomePlace.LateEnter p) values (SomeVerb.Enter p SomeTarget.Min)
             SomeAnswer.Entered self.new }
         ensures rooms { (values : List ℕ)
             → KeepsRooms self.old (SomePlace.LateEnter p) values (SomeVerb.Enter p SomeTarget.Min)
             SomeAnswer.Entered self.new }
-        ensures entered { self.new.place ≡ SomePlace.LatePut p }
         ensures quiet { value_committed result ≡ None }
         ensures config { self.new.config ≡ self.old.config }
         ensures id { self.new.id ≡ self.old.id }
         ensures named { self.new.named ≡ self.old.named }
         ensures note { result ≡ SomeNote.Working }
         ensures going { self.new.under_way ≡ going_after self.old.under_way result }
-        ensures leads { leads_at self.new.place ≡ true }
+        ensures listed { (values : List ℕ)
+            → FollowsFrom self.old (SomePlace.LateEnter p) values (SomeVerb.Enter p SomeTarget.Min)
+            SomeAnswer.Entered self.new }
     {
         let event = Event {
             by: self.id,
@@ -175,7 +168,7 @@ impl Lead {
     }
 
     /// The late follower `p` became a member.
-    pub fn took_late_put(&mut self, p: u8, known: &[u16]) -> Note
+    pub(crate) fn took_late_put(&mut self, p: u8, known: &[u16]) -> Note
         ensures stands { Takes self.old (SomePlace.LatePut p) known.now
             (SomeVerb.PutMin p self.old.number)
             SomeAnswer.Done self.new }
@@ -188,7 +181,8 @@ impl Lead {
         ensures note { length self.old.up ≡ 7
             → result ≡ note_of_join p (nat_lt (get_or self.old.up p 0) (length known.now)) }
         ensures going { self.new.under_way ≡ going_after self.old.under_way result }
-        ensures leads { leads_at self.new.place ≡ true }
+        ensures listed { FollowsFrom self.old (SomePlace.LatePut p) known.now (SomeVerb.PutMin p self.old.number)
+            SomeAnswer.Done self.new }
     {
         let event = Event {
             by: self.id,

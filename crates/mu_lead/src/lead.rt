@@ -7,28 +7,27 @@ ghost use Rattle.mu_model.specs.Allowed.{Allowed};
 ghost use Rattle.mu_model.specs.Contents.{IsConfig, config_word};
 ghost use Rattle.mu_model.specs.Knowledge.{known as known_of};
 ghost use Rattle.mu_model.specs.Parts.{IsPossible};
-ghost use Rattle.mu_known.specs.KnownLog.{CountsCommands};
-ghost use Rattle.mu_leading.specs.Leadership.{StandsForLeadership};
+ghost use Rattle.mu_known.specs.KnownLog.{HoldsValues};
 ghost use Rattle.mu_lead.specs.Beside.{leads_at};
 ghost use Rattle.mu_lead.specs.declared.note.Note.{Note as SomeNote};
-ghost use Rattle.mu_lead.specs.Causes.{CausesAt, CausesNext};
-ghost use Rattle.mu_lead.specs.Confirmations.{ConfirmsAt, ConfirmsDue, ConfirmsNext};
-ghost use Rattle.mu_lead.specs.Elections.{ElectsAt, ElectsNext};
-ghost use Rattle.mu_lead.specs.Evidence.{ExplainsAt, ExplainsDue, ExplainsNext};
-ghost use Rattle.mu_lead.specs.Raising.{RaisesAt, RaisesDue, RaisesNext};
+ghost use Rattle.mu_lead.specs.Causes.{CausesAt};
+ghost use Rattle.mu_lead.specs.Confirmations.{ConfirmsAt};
+ghost use Rattle.mu_lead.specs.Elections.{ElectsAt};
+ghost use Rattle.mu_lead.specs.Evidence.{ExplainsAt};
+ghost use Rattle.mu_lead.specs.Lasting.{Follows, FollowsDue, KeepsNext};
+ghost use Rattle.mu_lead.specs.Raising.{RaisesAt};
 ghost use Rattle.mu_lead.specs.Resigning.{IsTold};
 ghost use Rattle.mu_lead.specs.Rooms.{HasRooms, RoomsDue, RoomsNext, gives_up};
 ghost use Rattle.mu_lead.specs.Standing.{HasHeeded, StandsFor, TakesDue, TakesNext, TellsDue, TellsFailed, TellsNext, verb_of};
-ghost use Rattle.mu_lead.specs.Gathering.{GoesDue};
 ghost use Rattle.mu_lead.specs.Going.{begins_at, going_after};
 ghost use Rattle.mu_lead.specs.Saying.{NotesDue, SaysNext, is_working as is_working_note};
-ghost use Rattle.mu_lead.specs.Welcomes.{JoinsAt, JoinsDue, JoinsNext};
+ghost use Rattle.mu_lead.specs.Welcomes.{JoinsAt};
 
 use crate::batches::knows_all;
 use crate::note::Note;
 use crate::place::{Offer, Place};
 use crate::positions::{end_of, narrow};
-use crate::table::ClientRows;
+use mu_known::KnownLog;
 use mu_leading::Leadership;
 use mu_model::{Answer, Config, Event, Fence, NoMemory, Target, Verb, count_of_rows, row_word};
 use std::alloc::Global;
@@ -60,8 +59,6 @@ pub struct Lead {
     pub heads: [u64; 7],
     /// How many words of each own row are written.
     pub written: Vec<u8>,
-    /// Where the rows of each client stand.
-    pub table: ClientRows,
 }
 
 impl Lead {
@@ -96,7 +93,6 @@ impl Lead {
             reach: [None; 7],
             heads: [0; 7],
             written: vec![in alloc; 0; count_of_rows(config)]?,
-            table: ClientRows::new(alloc, config)?,
         })
     }
 
@@ -182,7 +178,7 @@ impl Lead {
     }
 
     /// The place of the ring that holds the position.
-    pub fn place_of(&self, position: u64) -> Target
+    pub(crate) fn place_of(&self, position: u64) -> Target
         ensures { 0 < self.now.config.ring
             → result ≡ SomeTarget.Place (position % self.now.config.ring) }
     {
@@ -194,14 +190,14 @@ impl Lead {
     }
 
     /// Up to where the region has what is known.
-    pub fn up_of(&self, p: u8) -> u64
+    pub(crate) fn up_of(&self, p: u8) -> u64
         ensures { length self.now.up ≡ 7 → result ≡ get_or self.now.up p 0 }
     {
         if p < 7 { self.up[usize::from(p)] } else { 0 }
     }
 
     /// The word of row `j` that is to be written next.
-    pub fn next_word(&self, j: u16) -> u8
+    pub(crate) fn next_word(&self, j: u16) -> u8
         ensures { result ≡ get_or self.now.written.items j 12 }
     {
         match self.written.get(usize::from(j)) {
@@ -248,7 +244,7 @@ impl Lead {
     }
 
     /// The value that the region lacks next.
-    pub fn lacked(&self, p: u8, known: &[u16]) -> u16
+    pub(crate) fn lacked(&self, p: u8, known: &[u16]) -> u16
         ensures { length self.now.up ≡ 7 → get_or self.now.up p 0 < 65536
             → result ≡ get_or known.now (get_or self.now.up p 0) 0 }
     {
@@ -259,7 +255,7 @@ impl Lead {
     }
 
     /// The put of what the region lacks.
-    pub fn put_behind(&self, p: u8, known: &[u16]) -> Verb
+    pub(crate) fn put_behind(&self, p: u8, known: &[u16]) -> Verb
         ensures { length self.now.up ≡ 7 → get_or self.now.up p 0 < 65536
             → result
             ≡ SomeVerb.PutSlot p (get_or self.now.up p 0) self.now.number
@@ -284,24 +280,31 @@ impl Lead {
         Verb::WriteRow(j, k, word)
     }
 
-    /// Takes the answer of the verb that was due. `counts` tells how many commands of each client
-    /// are known.
+    /// Takes the answer of the verb that was due. `log` is what the replica
+    /// knows, `known` its values.
     #[tactic(auto, using(crate::proofs::Says::says_next, crate::proofs::Says::says_idle))]
-    pub fn take(&mut self, answer: Answer, known: &[u16], counts: &[u16]) -> Note
+    pub fn take(&mut self, answer: Answer, known: &[u16], log: &KnownLog) -> Note
         ghost mine: { List Event }
         requires stands { StandsFor mine self.old }
         requires heeded { HasHeeded mine self.old }
-        ensures stands { CountsCommands self.old.config known.now counts.now
+        ensures stands { HoldsValues self.old.config known.now log.now
             → TakesNext mine self.old known.now answer self.new }
-        ensures rooms { CountsCommands self.old.config known.now counts.now
+        ensures rooms { HoldsValues self.old.config known.now log.now
             → RoomsNext mine self.old known.now answer self.new }
-        ensures evidence { ExplainsNext mine self.old answer self.new }
-        ensures raises { RaisesNext mine self.old known.now answer self.new }
-        ensures confirms { ConfirmsNext mine self.old answer self.new }
-        ensures joins { JoinsNext mine self.old known.now answer self.new }
-        ensures causes { CausesNext mine self.old answer self.new }
-        ensures elects { CountsCommands self.old.config known.now counts.now
-            → ElectsNext mine self.old known.now answer self.new }
+        ensures evidence { HoldsValues self.old.config known.now log.now
+            → KeepsNext ExplainsAt mine self.old known.now answer self.new }
+        ensures raises { HoldsValues self.old.config known.now log.now
+            → KeepsNext RaisesAt mine self.old known.now answer self.new }
+        ensures confirms { HoldsValues self.old.config known.now log.now
+            → KeepsNext ConfirmsAt mine self.old known.now answer self.new }
+        ensures joins { HoldsValues self.old.config known.now log.now
+            → KeepsNext JoinsAt mine self.old known.now answer self.new }
+        ensures causes { HoldsValues self.old.config known.now log.now
+            → KeepsNext CausesAt mine self.old known.now answer self.new }
+        ensures elects { HoldsValues self.old.config known.now log.now
+            → KeepsNext ElectsAt mine self.old known.now answer self.new }
+        ensures listed { HoldsValues self.old.config known.now log.now
+            → Follows mine self.old known.now answer self.new }
         ensures tells { TellsNext mine self.old known.now answer result }
         ensures config { self.new.config ≡ self.old.config }
         ensures id { self.new.id ≡ self.old.id }
@@ -310,7 +313,7 @@ impl Lead {
         ensures going { self.new.under_way
             ≡ going_after (begins_at self.old.place || self.old.under_way) result }
     {
-        let note = self.take_answer(answer, known, counts);
+        let note = self.take_answer(answer, known, log);
         if is_working(note) && knows_all(&self.config, known) {
             Note::Idle
         } else {
@@ -320,16 +323,11 @@ impl Lead {
 
     /// Takes the answer, by the place that asked.
     #[tactic(auto, using(crate::proofs::Taking::takes_head))]
-    fn take_answer(&mut self, answer: Answer, known: &[u16], counts: &[u16]) -> Note
-        ensures stands { CountsCommands self.old.config known.now counts.now
+    fn take_answer(&mut self, answer: Answer, known: &[u16], log: &KnownLog) -> Note
+        ensures stands { HoldsValues self.old.config known.now log.now
             → TakesDue self.old known.now answer self.new }
-        ensures rooms { CountsCommands self.old.config known.now counts.now
+        ensures rooms { HoldsValues self.old.config known.now log.now
             → RoomsDue self.old known.now answer self.new }
-        ensures evidence { ExplainsDue self.old answer self.new }
-        ensures raises { RaisesDue self.old known.now answer self.new }
-        ensures confirms { ConfirmsDue self.old answer self.new }
-        ensures joins { JoinsDue self.old known.now answer self.new }
-        ensures goes { GoesDue self.old answer self.new }
         ensures tells { TellsDue self.old known.now answer result }
         ensures config { self.new.config ≡ self.old.config }
         ensures id { self.new.id ≡ self.old.id }
@@ -337,6 +335,8 @@ impl Lead {
         ensures note { NotesDue self.old known.now answer result }
         ensures going { self.new.under_way
             ≡ going_after (begins_at self.old.place || self.old.under_way) result }
+        ensures listed { HoldsValues self.old.config known.now log.now
+            → FollowsDue self.old known.now answer self.new }
     {
         match self.place {
             Place::Ask(p) => self.took_ask(p),
@@ -359,7 +359,7 @@ impl Lead {
             Place::LatePut(p) => self.at_late_put(p, answer, known),
             Place::ReadHead(q, candidate) => self.at_read_head(q, candidate, answer, known),
             Place::Look(p, i, candidate, best) => {
-                self.took_look(p, i, candidate, best, answer, known, counts)
+                self.took_look(p, i, candidate, best, answer, known, log)
             }
             Place::Write(j, last, offer) => self.took_write(j, last, offer),
             Place::Enter(p, offer) => self.at_enter(p, offer, answer, known),

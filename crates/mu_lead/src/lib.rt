@@ -25,7 +25,6 @@ mod offering;
 mod place;
 mod positions;
 mod regions;
-mod table;
 mod writing;
 
 pub use lead::Lead;

@@ -21,15 +21,13 @@ use mu_model::{Answer, Event, Fence, Target, Verb};
 
 impl Lead {
     /// The fence after a put that missed.
-    pub fn took_evidence(&mut self, p: u8, fence: Fence) -> Note
+    pub(crate) fn took_evidence(&mut self, p: u8, fence: Fence) -> Note
         ensures stands { TakesFrom self.old (SomeVerb.Fence p) (SomeAnswer.Seen fence) self.new }
-        ensures rooms { (values : List ℕ)
-            → KeepsRooms self.old (SomePlace.Evidence p) values (SomeVerb.Fence p)
-            (SomeAnswer.Seen fence) self.new }
         ensures ended { self.new.place ≡ SomePlace.Ask 0 }
         ensures tells { result ≡ SomeNote.Aborted (SomeCause.Lost p fence) }
         ensures quiet { value_committed result ≡ None }
         ensures config { self.new.config ≡ self.old.config }
+        ensures written { self.new.written ≡ self.old.written }
         ensures id { self.new.id ≡ self.old.id }
         ensures named { self.new.named ≡ self.old.named }
         ensures going { self.new.under_way ≡ going_after self.old.under_way result }
@@ -54,6 +52,7 @@ impl Lead {
         ensures tells { result ≡ SomeNote.Aborted (SomeCause.Lost p fence) }
         ensures quiet { value_committed result ≡ None }
         ensures config { self.new.config ≡ self.old.config }
+        ensures written { self.new.written ≡ self.old.written }
         ensures id { self.new.id ≡ self.old.id }
         ensures named { self.new.named ≡ self.old.named }
         ensures going { self.new.under_way ≡ going_after self.old.under_way result }
@@ -71,7 +70,7 @@ impl Lead {
     }
 
     /// The enter for the minimum of `p` was lost.
-    pub fn lost_min(&mut self, p: u8, fence: Fence) -> Note
+    pub(crate) fn lost_min(&mut self, p: u8, fence: Fence) -> Note
         ensures stands { TakesFrom self.old (SomeVerb.Enter p SomeTarget.Min)
             (SomeAnswer.Lost fence) self.new }
         ensures rooms { (mine : List SomeEvent)
@@ -79,6 +78,7 @@ impl Lead {
             self.new }
         ensures quiet { value_committed result ≡ None }
         ensures config { self.new.config ≡ self.old.config }
+        ensures written { self.new.written ≡ self.old.written }
         ensures id { self.new.id ≡ self.old.id }
         ensures named { self.new.named ≡ self.old.named }
         ensures note { result ≡ SomeNote.Aborted (SomeCause.Lost p fence) }
@@ -89,7 +89,7 @@ impl Lead {
     }
 
     /// The enter of `p` for the place of a position was lost.
-    pub fn lost_place(&mut self, p: u8, position: u64, fence: Fence) -> Note
+    pub(crate) fn lost_place(&mut self, p: u8, position: u64, fence: Fence) -> Note
         ensures stands { 0 < self.old.config.ring
             → TakesFrom self.old
             (SomeVerb.Enter p (SomeTarget.Place (position % self.old.config.ring)))
@@ -110,7 +110,7 @@ impl Lead {
     }
 
     /// The put of the number at `p` missed.
-    pub fn missed_min(&mut self, p: u8) -> Note
+    pub(crate) fn missed_min(&mut self, p: u8) -> Note
         ensures stands { (mine : List SomeEvent) → p < self.old.config.replicas
             → has_begun self.old.id mine ≡ true → IsEnteredNow self.old.id p mine
             → TakesAt mine self.old (SomeVerb.PutMin p self.old.number) SomeAnswer.Missed self.new }
@@ -120,6 +120,7 @@ impl Lead {
         ensures missed { self.new.place ≡ SomePlace.Evidence p }
         ensures quiet { value_committed result ≡ None }
         ensures config { self.new.config ≡ self.old.config }
+        ensures written { self.new.written ≡ self.old.written }
         ensures id { self.new.id ≡ self.old.id }
         ensures named { self.new.named ≡ self.old.named }
         ensures note { result ≡ SomeNote.Working }
@@ -136,7 +137,7 @@ impl Lead {
     }
 
     /// The put at `p` missed.
-    pub fn missed_slot(&mut self, p: u8, i: u16, value: u16) -> Note
+    pub(crate) fn missed_slot(&mut self, p: u8, i: u16, value: u16) -> Note
         ensures stands { (mine : List SomeEvent) → p < self.old.config.replicas
             → has_begun self.old.id mine ≡ true → IsEnteredNow self.old.id p mine
             → TakesAt mine self.old (SomeVerb.PutSlot p i self.old.number value) SomeAnswer.Missed

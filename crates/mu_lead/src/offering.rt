@@ -5,21 +5,22 @@ ghost use Rattle.mu_model.specs.declared.event.Answer.{Answer as SomeAnswer};
 ghost use Rattle.mu_model.specs.declared.event.Event.{Event as SomeEvent};
 ghost use Rattle.mu_model.specs.declared.event.Target.{Target as SomeTarget};
 ghost use Rattle.mu_model.specs.declared.event.Verb.{Verb as SomeVerb};
-ghost use Rattle.mu_model.specs.Contents.{config_word, marked, row_count};
+ghost use Rattle.mu_model.specs.Contents.{marked, row_count};
 ghost use Rattle.mu_model.specs.Knowledge.{known as known_of};
 ghost use Rattle.mu_model.specs.Leaderships.{is_member};
 ghost use Rattle.mu_model.specs.Parts.{IsPossible};
 ghost use Rattle.mu_model.specs.Room.{reserve};
-ghost use Rattle.mu_known.specs.KnownLog.{CountsCommands};
-ghost use Rattle.mu_leading.specs.Leadership.{StandsForLeadership};
+ghost use Rattle.mu_known.specs.KnownLog.{HoldsValues};
+ghost use Rattle.mu_known.specs.Offers.{IsFirst};
 ghost use Rattle.mu_model.specs.declared.config.Config.{Config};
-ghost use Rattle.mu_lead.specs.Beside.{leads_at};
 ghost use Rattle.mu_lead.specs.declared.place.Sight.{Sight as SomeSight};
 ghost use Rattle.mu_lead.specs.declared.place.Place.{Place as SomePlace};
 ghost use Rattle.mu_lead.specs.Leading.{Level, end_of as end_of_known};
+ghost use Rattle.mu_lead.specs.Lasting.{FollowsFrom, FollowsHead, FollowsLook};
+ghost use Rattle.mu_lead.specs.Listing.{first_member, heads_from, least_candidate, member_from, next_position, offer_row, or_else, own_offer, pick};
 ghost use Rattle.mu_lead.specs.Notes.{TellsPut, note_of_commit, note_of_head, value_committed};
-ghost use Rattle.mu_lead.specs.Offering.{Looking, LooksShow, MayBeMarked, MayOffer, Roomy, Writing};
-ghost use Rattle.mu_lead.specs.Sets.{IsFirst, is_bit};
+ghost use Rattle.mu_lead.specs.Offering.{Looking, LooksShow, MayBeMarked, MayOffer, Roomy};
+ghost use Rattle.mu_lead.specs.Sets.{is_bit};
 ghost use Rattle.mu_lead.specs.Standing.{HasHeeded, HoldsAt, Stands, StandsFor, Takes, TakesLook};
 ghost use Rattle.mu_lead.specs.Saying.{NotesPut, note_of_look};
 ghost use Rattle.mu_lead.specs.declared.note.Note.{Note as SomeNote};
@@ -28,7 +29,6 @@ ghost use Rattle.mu_model.specs.Bounds.{members};
 ghost use Rattle.mu_pace.specs.Weights.{Stage};
 ghost use Rattle.mu_lead.specs.Onward.{IsNextStranger, MayGoOn};
 ghost use Rattle.mu_pace.specs.Members.{IsNextMember, members_from};
-ghost use Rattle.mu_lead.specs.Raising.{KeepsRaises};
 ghost use Rattle.mu_lead.specs.Rooms.{IsLed, KeepsRooms, RoomsAt};
 
 use crate::arrays::{with_fuo, with_number};
@@ -40,11 +40,12 @@ use crate::note::Note;
 use crate::place::{Offer, Place, Sight, Then};
 use crate::positions::{end_of, narrow};
 use crate::regions::{next_member, next_stranger};
+use mu_known::KnownLog;
 use mu_model::{Answer, Event, Verb, count_of_rows, reserve_of, row_rest};
 
 impl Lead {
     /// Goes on with the next position, or with late followers where all commands are known.
-    pub fn next_position(&self, known: &[u16]) -> Place
+    pub(crate) fn next_position(&self, known: &[u16]) -> Place
         ensures stands { (mine : List SomeEvent) → Stands mine self.now
             → known.now ≡ known_of self.now.config self.now.id mine
             → Level self.now.config self.now.id self.now.number mine self.now.up self.now.reach
@@ -54,7 +55,9 @@ impl Lead {
             → IsNextStranger self.now.config self.now.id mine p None
             → MayGoOn self.now.config self.now.id mine p
             → RoomsAt self.now.config self.now.id mine self.now.written.items result }
-        ensures leads { leads_at result ≡ true }
+        ensures listed { (mine : List SomeEvent) → Stands mine self.now
+            → known.now ≡ known_of self.now.config self.now.id mine
+            → result ≡ next_position self.now.config self.now.id mine self.now.heads }
     {
         if knows_all(&self.config, known) {
             match next_stranger(&self.leading, 0, self.config.replicas) {
@@ -125,7 +128,9 @@ impl Lead {
             → ((k : ℕ) → k ≤ members self.now.config self.now.id mine
             → IsLed self.now.config self.now.id mine (Stage.LookAt k))
             → RoomsAt self.now.config self.now.id mine self.now.written.items result }
-        ensures leads { leads_at result ≡ true }
+        ensures listed { (mine : List SomeEvent) → Stands mine self.now
+            → known.now ≡ known_of self.now.config self.now.id mine
+            → result ≡ heads_from self.now.config self.now.id mine self.now.heads q candidate }
     {
         match self.next_low(q, known) {
             Some(p) => Place::ReadHead(p, candidate),
@@ -141,7 +146,13 @@ impl Lead {
     }
 
     /// The head of `q`.
-    pub fn took_head(&mut self, q: u8, candidate: Option<u8>, head: u64, known: &[u16]) -> Note
+    pub(crate) fn took_head(
+        &mut self,
+        q: u8,
+        candidate: Option<u8>,
+        head: u64,
+        known: &[u16],
+    ) -> Note
         ensures stands { (mine : List SomeEvent) → HasHeeded mine self.old → StandsFor mine self.old
             → self.old.place ≡ SomePlace.ReadHead q candidate
             → IsPossible self.old.config self.old.id
@@ -173,7 +184,8 @@ impl Lead {
             && (is_bit q self.old.failed
             && nat_lt (length known.now + 0) (head + self.old.config.ring))) }
         ensures going { self.new.under_way ≡ going_after self.old.under_way result }
-        ensures leads { leads_at self.new.place ≡ true }
+        ensures listed { FollowsHead self.old q candidate known.now (SomeAnswer.Number head)
+            self.new }
     {
         self.heads = with_number(self.heads, q, head);
         if self.leaves_room(head, reserve_of(&self.config), known) {
@@ -206,7 +218,7 @@ impl Lead {
     }
 
     /// A look at the new position of `p`.
-    pub fn took_look(
+    pub(crate) fn took_look(
         &mut self,
         p: u8,
         position: u16,
@@ -214,13 +226,13 @@ impl Lead {
         best: Option<Sight>,
         answer: Answer,
         known: &[u16],
-        counts: &[u16],
+        log: &KnownLog,
     ) -> Note
-        ensures stands { CountsCommands self.old.config known.now counts.now
+        ensures stands { HoldsValues self.old.config known.now log.now
             → TakesLook self.old
             (SomePlace.Look p position candidate best) known.now p position
             answer self.new }
-        ensures rooms { CountsCommands self.old.config known.now counts.now
+        ensures rooms { HoldsValues self.old.config known.now log.now
             → KeepsRooms self.old (SomePlace.Look p position candidate best) known.now
             (SomeVerb.Look p position) answer self.new }
         ensures quiet { value_committed result ≡ None }
@@ -229,7 +241,9 @@ impl Lead {
         ensures named { self.new.named ≡ self.old.named }
         ensures note { result ≡ note_of_look position (length known.now) answer }
         ensures going { self.new.under_way ≡ going_after self.old.under_way result }
-        ensures leads { leads_at self.new.place ≡ true }
+        ensures listed { HoldsValues self.old.config known.now log.now
+            → FollowsLook self.old (SomePlace.Look p position candidate best) known.now p
+            position answer self.new }
     {
         if is_past(answer) {
             self.place = Place::Outrun;
@@ -242,7 +256,7 @@ impl Lead {
             }
         } else {
             let shown = larger(best, sight_in(answer));
-            self.place = self.after_look(p, candidate, shown, known, counts);
+            self.place = self.after_look(p, candidate, shown, known, log);
             Note::Working
         }
     }
@@ -254,15 +268,15 @@ impl Lead {
         candidate: Option<u8>,
         best: Option<Sight>,
         known: &[u16],
-        counts: &[u16],
+        log: &KnownLog,
     ) -> Place
-        ensures stands { CountsCommands self.now.config known.now counts.now
+        ensures stands { HoldsValues self.now.config known.now log.now
             → (mine : List SomeEvent) → Stands mine self.now
             → known.now ≡ known_of self.now.config self.now.id mine → p < self.now.config.replicas
             → Looking self.now.config self.now.id self.now.number mine self.now.up self.now.reach
             (p + 1) candidate best
             → HoldsAt mine self.now result }
-        ensures rooms { CountsCommands self.now.config known.now counts.now
+        ensures rooms { HoldsValues self.now.config known.now log.now
             → (mine : List SomeEvent) → Stands mine self.now
             → known.now ≡ known_of self.now.config self.now.id mine
             → p < self.now.config.replicas → is_member self.now.id p mine ≡ true
@@ -276,11 +290,19 @@ impl Lead {
             → ((k : ℕ) → 1 ≤ k → k ≤ members self.now.config self.now.id mine
             → IsLed self.now.config self.now.id mine (Stage.EnterAt k))
             → RoomsAt self.now.config self.now.id mine self.now.written.items result }
-        ensures leads { leads_at result ≡ true }
+        ensures listed { HoldsValues self.now.config known.now log.now
+            → (mine : List SomeEvent) → Stands mine self.now
+            → known.now ≡ known_of self.now.config self.now.id mine
+            → p < self.now.config.replicas
+            → Looking self.now.config self.now.id self.now.number mine self.now.up self.now.reach
+            (p + 1) candidate best
+            → result ≡ or_else (member_from self.now.config self.now.id mine (p + 1))
+            (λ q. SomePlace.Look q (end_of_known self.now.config self.now.id mine) candidate best)
+            (pick self.now.config self.now.id mine self.now.written.items candidate best) }
     {
         match next_member(&self.leading, p.saturating_add(1), self.config.replicas) {
             Some(q) => Place::Look(q, end_of(known), candidate, best),
-            None => self.pick(candidate, best, known, counts),
+            None => self.pick(candidate, best, known, log),
         }
     }
 
@@ -290,15 +312,15 @@ impl Lead {
         candidate: Option<u8>,
         best: Option<Sight>,
         known: &[u16],
-        counts: &[u16],
+        log: &KnownLog,
     ) -> Place
-        ensures stands { CountsCommands self.now.config known.now counts.now
+        ensures stands { HoldsValues self.now.config known.now log.now
             → (mine : List SomeEvent) → Stands mine self.now
             → known.now ≡ known_of self.now.config self.now.id mine
             → Looking self.now.config self.now.id self.now.number mine self.now.up self.now.reach
             self.now.config.replicas candidate best
             → HoldsAt mine self.now result }
-        ensures rooms { CountsCommands self.now.config known.now counts.now
+        ensures rooms { HoldsValues self.now.config known.now log.now
             → (mine : List SomeEvent) → Stands mine self.now
             → known.now ≡ known_of self.now.config self.now.id mine
             → Looking self.now.config self.now.id self.now.number mine self.now.up self.now.reach
@@ -308,7 +330,12 @@ impl Lead {
             → ((k : ℕ) → 1 ≤ k → k ≤ members self.now.config self.now.id mine
             → IsLed self.now.config self.now.id mine (Stage.EnterAt k))
             → RoomsAt self.now.config self.now.id mine self.now.written.items result }
-        ensures leads { leads_at result ≡ true }
+        ensures listed { HoldsValues self.now.config known.now log.now
+            → (mine : List SomeEvent) → Stands mine self.now
+            → known.now ≡ known_of self.now.config self.now.id mine
+            → Looking self.now.config self.now.id self.now.number mine self.now.up self.now.reach
+            self.now.config.replicas candidate best
+            → result ≡ pick self.now.config self.now.id mine self.now.written.items candidate best }
     {
         match best {
             Some(sight) => self.offer(Offer {
@@ -320,20 +347,20 @@ impl Lead {
                     value: own_value(self.id, 4080 + u16::from(q % 8)),
                     adopted: false,
                 }),
-                None => self.offer_own(known, counts),
+                None => self.offer_own(known, log),
             },
         }
     }
 
     /// Begins with the next own batch, where there is one.
-    fn offer_own(&self, known: &[u16], counts: &[u16]) -> Place
-        ensures stands { CountsCommands self.now.config known.now counts.now
+    fn offer_own(&self, known: &[u16], log: &KnownLog) -> Place
+        ensures stands { HoldsValues self.now.config known.now log.now
             → (mine : List SomeEvent) → Stands mine self.now
             → known.now ≡ known_of self.now.config self.now.id mine
             → Looking self.now.config self.now.id self.now.number mine self.now.up self.now.reach
             self.now.config.replicas None None
             → HoldsAt mine self.now result }
-        ensures rooms { CountsCommands self.now.config known.now counts.now
+        ensures rooms { HoldsValues self.now.config known.now log.now
             → (mine : List SomeEvent) → Stands mine self.now
             → known.now ≡ known_of self.now.config self.now.id mine
             → Looking self.now.config self.now.id self.now.number mine self.now.up self.now.reach
@@ -343,9 +370,14 @@ impl Lead {
             → ((k : ℕ) → 1 ≤ k → k ≤ members self.now.config self.now.id mine
             → IsLed self.now.config self.now.id mine (Stage.EnterAt k))
             → RoomsAt self.now.config self.now.id mine self.now.written.items result }
-        ensures leads { leads_at result ≡ true }
+        ensures listed { HoldsValues self.now.config known.now log.now
+            → (mine : List SomeEvent) → Stands mine self.now
+            → known.now ≡ known_of self.now.config self.now.id mine
+            → result ≡ or_else (own_offer self.now.config self.now.id
+            (known_of self.now.config self.now.id mine) (end_of_known self.now.config self.now.id mine))
+            (offer_row self.now.config self.now.id mine self.now.written.items) SomePlace.Rest }
     {
-        match next_offer(&self.config, &self.table, self.id, known.len(), counts) {
+        match next_offer(&self.config, self.id, known, log) {
             None => Place::Rest,
             Some(j) => self.write_from(
                 j,
@@ -359,7 +391,7 @@ impl Lead {
     }
 
     /// Begins to put the value.
-    pub fn offer(&self, offer: Offer) -> Place
+    pub(crate) fn offer(&self, offer: Offer) -> Place
         ensures stands { (mine : List SomeEvent) → (candidate : Option ℕ)
             → (best : Option SomeSight)
             → Stands mine self.now
@@ -374,13 +406,14 @@ impl Lead {
             → ((k : ℕ) → 1 ≤ k → k ≤ members self.now.config self.now.id mine
             → IsLed self.now.config self.now.id mine (Stage.EnterAt k))
             → RoomsAt self.now.config self.now.id mine self.now.written.items result }
-        ensures leads { leads_at result ≡ true }
+        ensures listed { (mine : List SomeEvent) → Stands mine self.now
+            → result ≡ SomePlace.Enter (first_member self.now.config self.now.id mine) offer }
     {
         Place::Enter(self.first_member(), offer)
     }
 
     /// The region `p` was entered for the offer.
-    pub fn entered_new(&mut self, p: u8, offer: Offer, known: &[u16]) -> Note
+    pub(crate) fn entered_new(&mut self, p: u8, offer: Offer, known: &[u16]) -> Note
         ensures stands { Takes self.old (SomePlace.Enter p offer) known.now
             (SomeVerb.Enter p (SomeTarget.Place (length known.now % self.old.config.ring)))
             SomeAnswer.Entered self.new }
@@ -393,7 +426,8 @@ impl Lead {
         ensures named { self.new.named ≡ self.old.named }
         ensures note { result ≡ SomeNote.Working }
         ensures going { self.new.under_way ≡ going_after self.old.under_way result }
-        ensures leads { leads_at self.new.place ≡ true }
+        ensures listed { FollowsFrom self.old (SomePlace.Enter p offer) known.now (SomeVerb.Enter p (SomeTarget.Place (length known.now % self.old.config.ring)))
+            SomeAnswer.Entered self.new }
     {
         let event = Event {
             by: self.id,
@@ -406,7 +440,7 @@ impl Lead {
     }
 
     /// The offer was put at `p`.
-    pub fn took_put(&mut self, p: u8, offer: Offer, known: &[u16]) -> Note
+    pub(crate) fn took_put(&mut self, p: u8, offer: Offer, known: &[u16]) -> Note
         ensures stands { Takes self.old (SomePlace.Put p offer) known.now
             (SomeVerb.PutSlot p (length known.now) self.old.number offer.value) SomeAnswer.Done
             self.new }
@@ -432,15 +466,13 @@ impl Lead {
               answer = SomeAnswer.Done;
             })
             known.now offer result }
-        ensures raises { KeepsRaises self.old (SomePlace.Put p offer) known.now
-            (SomeVerb.PutSlot p (length known.now) self.old.number offer.value) SomeAnswer.Done
-            self.new }
         ensures config { self.new.config ≡ self.old.config }
         ensures id { self.new.id ≡ self.old.id }
         ensures named { self.new.named ≡ self.old.named }
         ensures note { NotesPut (length known.now) offer result }
         ensures going { self.new.under_way ≡ going_after self.old.under_way result }
-        ensures leads { leads_at self.new.place ≡ true }
+        ensures listed { FollowsFrom self.old (SomePlace.Put p offer) known.now (SomeVerb.PutSlot p (length known.now) self.old.number offer.value)
+            SomeAnswer.Done self.new }
     {
         let position = end_of(known);
         let event = Event {
@@ -463,21 +495,20 @@ impl Lead {
     }
 
     /// The FUO of `p` was raised over what was committed.
-    pub fn took_raise(&mut self, p: u8, known: &[u16]) -> Note
+    pub(crate) fn took_raise(&mut self, p: u8, known: &[u16]) -> Note
         ensures stands { Takes self.old (SomePlace.Raise p) known.now
             (SomeVerb.RaiseFuo p (length known.now))
             SomeAnswer.Done self.new }
         ensures rooms { KeepsRooms self.old (SomePlace.Raise p) known.now
             (SomeVerb.RaiseFuo p (length known.now)) SomeAnswer.Done self.new }
         ensures quiet { value_committed result ≡ None }
-        ensures raises { KeepsRaises self.old (SomePlace.Raise p) known.now
-            (SomeVerb.RaiseFuo p (length known.now)) SomeAnswer.Done self.new }
         ensures config { self.new.config ≡ self.old.config }
         ensures id { self.new.id ≡ self.old.id }
         ensures named { self.new.named ≡ self.old.named }
         ensures note { result ≡ SomeNote.Working }
         ensures going { self.new.under_way ≡ going_after self.old.under_way result }
-        ensures leads { leads_at self.new.place ≡ true }
+        ensures listed { FollowsFrom self.old (SomePlace.Raise p) known.now (SomeVerb.RaiseFuo p (length known.now))
+            SomeAnswer.Done self.new }
     {
         self.reach = with_fuo(self.reach, p, known.len() as u64);
         match next_member(&self.leading, p.saturating_add(1), self.config.replicas) {
@@ -506,8 +537,9 @@ fn has_bit(set: u8, q: u8) -> bool
 
 /// The first of the replicas that may be marked.
 fn first_of(candidate: Option<u8>, q: u8) -> u8
-    ensures { (c : Config) → (r : ℕ) → (mine : List SomeEvent) → MayBeMarked c r mine candidate
+    ensures may { (c : Config) → (r : ℕ) → (mine : List SomeEvent) → MayBeMarked c r mine candidate
         → MayBeMarked c r mine (Some q) → MayBeMarked c r mine (Some result) }
+    ensures is { Some result ≡ least_candidate candidate q }
 {
     match candidate {
         Some(k) => k,

@@ -2,7 +2,7 @@
 ghost use Rattle.std.specs.Prelude.{length, min, ◌<◌, ◌≡◌};
 
 /// The number in 16 bits, where it fits.
-pub fn narrow(x: u64) -> u16
+pub(crate) fn narrow(x: u64) -> u16
     ensures fits { x < 65536 → result ≡ x }
     ensures least { result ≡ min x 65535 }
 {
@@ -10,7 +10,7 @@ pub fn narrow(x: u64) -> u16
 }
 
 /// The first position after the values.
-pub fn end_of(known: &[u16]) -> u16
+pub(crate) fn end_of(known: &[u16]) -> u16
     ensures { length known.now < 65536 → result ≡ length known.now }
 {
     narrow(known.len() as u64)

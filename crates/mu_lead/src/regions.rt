@@ -4,14 +4,15 @@ ghost use Rattle.mu_model.specs.declared.event.Event.{Event};
 ghost use Rattle.mu_model.specs.Histories.{count_below};
 ghost use Rattle.mu_model.specs.Leaderships.{is_member, noted_grant};
 ghost use Rattle.mu_leading.specs.Leadership.{StandsForLeadership};
-ghost use Rattle.mu_lead.specs.Sets.{IsFirst, bit, bits};
+ghost use Rattle.mu_lead.specs.Sets.{bit, bits};
+ghost use Rattle.mu_known.specs.Offers.{IsFirst};
 
 use crate::lead::Lead;
 use mu_leading::Leadership;
 
 impl Lead {
     /// Up to where each region has what is known, where the members have all below `u`.
-    pub fn brought_to(&self, u: u64) -> [u64; 7]
+    pub(crate) fn brought_to(&self, u: u64) -> [u64; 7]
         ensures long { length result ≡ length self.now.up }
         ensures members { (mine : List Event) → (p : ℕ) → p < 7 → length self.now.up ≡ 7
             → StandsForLeadership self.now.id mine self.now.leading
@@ -31,7 +32,7 @@ impl Lead {
 }
 
 /// The first member from `from` on, below `n`.
-pub fn next_member(leading: &Leadership, from: u8, n: u8) -> Option<u8>
+pub(crate) fn next_member(leading: &Leadership, from: u8, n: u8) -> Option<u8>
     ensures { (r : ℕ) → (mine : List Event) → n ≤ 7 → StandsForLeadership r mine leading.now
         → IsFirst (λ p. is_member r p mine) from n result }
 {
@@ -44,7 +45,7 @@ pub fn next_member(leading: &Leadership, from: u8, n: u8) -> Option<u8>
 }
 
 /// The first region from `from` on, below `n`, that isn't a member.
-pub fn next_stranger(leading: &Leadership, from: u8, n: u8) -> Option<u8>
+pub(crate) fn next_stranger(leading: &Leadership, from: u8, n: u8) -> Option<u8>
     ensures { (r : ℕ) → (mine : List Event) → n ≤ 7 → StandsForLeadership r mine leading.now
         → IsFirst (λ p. not (is_member r p mine)) from n result }
 {
@@ -57,7 +58,7 @@ pub fn next_stranger(leading: &Leadership, from: u8, n: u8) -> Option<u8>
 }
 
 /// The first region from `from` on, below `n`, whose grant is noted.
-pub fn next_noted(leading: &Leadership, from: u8, n: u8) -> Option<u8>
+pub(crate) fn next_noted(leading: &Leadership, from: u8, n: u8) -> Option<u8>
     ensures { (r : ℕ) → (mine : List Event) → n ≤ 7 → StandsForLeadership r mine leading.now
         → IsFirst (λ p. is_some (noted_grant r p mine)) from n result }
 {
@@ -70,7 +71,7 @@ pub fn next_noted(leading: &Leadership, from: u8, n: u8) -> Option<u8>
 }
 
 /// How many of the first `n` regions have a noted grant.
-pub fn count_noted(leading: &Leadership, n: u8) -> u8
+pub(crate) fn count_noted(leading: &Leadership, n: u8) -> u8
     ensures { (r : ℕ) → (mine : List Event) → n ≤ 7 → StandsForLeadership r mine leading.now
         → result ≡ count_below n (λ p. is_some (noted_grant r p mine)) }
 {
@@ -94,7 +95,7 @@ fn bit_of(leading: &Leadership, p: u8) -> u8
 }
 
 /// The regions whose grants are noted, bit p for region p.
-pub fn noted_bits(leading: &Leadership) -> u8
+pub(crate) fn noted_bits(leading: &Leadership) -> u8
     ensures { (r : ℕ) → (mine : List Event) → StandsForLeadership r mine leading.now
         → result ≡ bits (λ p. is_some (noted_grant r p mine)) }
 {

@@ -3,25 +3,15 @@ ghost use Rattle.std.specs.Prelude.{IsTrue, List, None, Some, false, get_or, if�
 ghost use Rattle.std.specs.declared.option.Option.{Option};
 ghost use Rattle.mu_model.specs.declared.event.Answer.{Answer as SomeAnswer};
 ghost use Rattle.mu_model.specs.declared.event.Event.{Event as SomeEvent};
-ghost use Rattle.mu_model.specs.declared.event.Target.{Target as SomeTarget};
 ghost use Rattle.mu_model.specs.declared.event.Verb.{Verb as SomeVerb};
-ghost use Rattle.mu_model.specs.Contents.{config_word, marked, row_count};
-ghost use Rattle.mu_model.specs.Knowledge.{known as known_of};
-ghost use Rattle.mu_model.specs.Leaderships.{is_member};
-ghost use Rattle.mu_model.specs.Parts.{IsPossible};
-ghost use Rattle.mu_model.specs.Picks.{entry_of, larger as larger_entry};
-ghost use Rattle.mu_model.specs.Room.{reserve};
-ghost use Rattle.mu_leading.specs.Leadership.{StandsForLeadership};
-ghost use Rattle.mu_model.specs.declared.config.Config.{Config};
-ghost use Rattle.mu_lead.specs.Beside.{leads_at};
-ghost use Rattle.mu_lead.specs.declared.place.Sight.{Sight as SomeSight};
+ghost use Rattle.mu_model.specs.Contents.{config_word};
 ghost use Rattle.mu_lead.specs.declared.place.Place.{Place as SomePlace};
-ghost use Rattle.mu_lead.specs.Leading.{Level, end_of as end_of_known};
-ghost use Rattle.mu_lead.specs.Notes.{TellsPut, note_of_commit, note_of_head, value_committed};
-ghost use Rattle.mu_lead.specs.Offering.{Looking, LooksShow, MayBeMarked, MayOffer, Roomy, Writing, entry_in};
-ghost use Rattle.mu_lead.specs.Sets.{IsFirst};
-ghost use Rattle.mu_lead.specs.Standing.{HasHeeded, HoldsAt, Stands, StandsFor, Takes, TakesLook};
-ghost use Rattle.mu_lead.specs.Saying.{NotesPut, note_of_look};
+ghost use Rattle.mu_lead.specs.Lasting.{FollowsFrom};
+ghost use Rattle.mu_lead.specs.Listing.{write_from};
+ghost use Rattle.mu_lead.specs.Notes.{value_committed};
+ghost use Rattle.mu_lead.specs.Offering.{Writing};
+ghost use Rattle.mu_known.specs.Offers.{IsFirst};
+ghost use Rattle.mu_lead.specs.Standing.{HoldsAt, Stands, Takes};
 ghost use Rattle.mu_lead.specs.declared.note.Note.{Note as SomeNote};
 ghost use Rattle.mu_lead.specs.Going.{going_after};
 ghost use Rattle.mu_model.specs.Bounds.{members};
@@ -48,7 +38,7 @@ impl Lead {
     }
 
     /// Writes what isn't written yet of the rows up to the last one, or begins to put.
-    pub fn write_from(&self, first: u16, last: u16, offer: Offer) -> Place
+    pub(crate) fn write_from(&self, first: u16, last: u16, offer: Offer) -> Place
         ensures stands { (mine : List SomeEvent) → Stands mine self.now
             → Writing self.now.config self.now.id self.now.number mine self.now.up self.now.reach
             first last offer
@@ -62,7 +52,9 @@ impl Lead {
             → ((k : ℕ) → 1 ≤ k → k ≤ members self.now.config self.now.id mine
             → IsLed self.now.config self.now.id mine (Stage.EnterAt k))
             → RoomsAt self.now.config self.now.id mine self.now.written.items result }
-        ensures leads { leads_at result ≡ true }
+        ensures listed { (mine : List SomeEvent) → Stands mine self.now
+            → last < 65535
+            → result ≡ write_from self.now.config self.now.id mine self.now.written.items first last offer }
     {
         match self.next_unwritten(first, last) {
             Some(j) => Place::Write(j, last, offer),
@@ -71,7 +63,7 @@ impl Lead {
     }
 
     /// A word of row `j` was written.
-    pub fn took_write(&mut self, j: u16, last: u16, offer: Offer) -> Note
+    pub(crate) fn took_write(&mut self, j: u16, last: u16, offer: Offer) -> Note
         ensures stands { (values : List ℕ)
             → Takes self.old (SomePlace.Write j last offer) values
             (SomeVerb.WriteRow j (get_or self.old.written.items j 12)
@@ -88,7 +80,11 @@ impl Lead {
         ensures named { self.new.named ≡ self.old.named }
         ensures note { result ≡ SomeNote.Working }
         ensures going { self.new.under_way ≡ going_after self.old.under_way result }
-        ensures leads { leads_at self.new.place ≡ true }
+        ensures listed { (values : List ℕ)
+            → FollowsFrom self.old (SomePlace.Write j last offer) values
+            (SomeVerb.WriteRow j (get_or self.old.written.items j 12)
+            (config_word self.old.config j (get_or self.old.written.items j 12)))
+            SomeAnswer.Done self.new }
     {
         let count = self.next_word(j).saturating_add(1);
         note_words(&mut self.written, j, count);

@@ -21,7 +21,8 @@ use Rattle.mu_follow.specs.declared.follow.Follow.{Follow}
 use Rattle.mu_follow.specs.Due.{IsReplay, is_replay}
 use Rattle.mu_follow.specs.Follow.{AwaitsEntry, HoldsFollow, StandsForFollow, commit_of}
 use Rattle.mu_follow.proofs.Putting.{is_committed, put_known}
-use Rattle.mu_known.specs.KnownLog.{CountsCommands}
+use Rattle.mu_known.specs.declared.known_log.KnownLog.{KnownLog}
+use Rattle.mu_known.specs.KnownLog.{HoldsValues}
 use Rattle.mu_lead.specs.declared.lead.Lead.{Lead}
 use Rattle.mu_lead.specs.Beside.{is_beside, leads_at}
 use Rattle.mu_lead.specs.declared.note.Note.{Note}
@@ -253,22 +254,22 @@ led_told c r mine verb answer noted values stands awaits reads = go (commit_of c
     go None none = reads now (length now) (stands none).follow ∙ told_none c r mine verb answer none
     go (Some entry) some = reads mine (length mine + 1) (awaits entry some).follow ∙ told_some c r mine verb answer entry some
 
--- the counts that the leader was told are those of what it was told
-pub led_counts : (c : Config) (r : ℕ) (mine : List Event) (verb : Verb) (answer : Answer) (noted : Node) (values counts : List ℕ)
+-- the log that the leader was told of holds what it was told
+pub led_log : (c : Config) (r : ℕ) (mine : List Event) (verb : Verb) (answer : Answer) (noted : Node) (values : List ℕ) (log : KnownLog)
     → (commit_of c r mine (event_by r verb answer) ≡ None → HoldsBeside c r (event_by r verb answer ∷ mine) noted)
     → ((entry : ℕ × ℕ) → commit_of c r mine (event_by r verb answer) ≡ Some entry → AwaitsBeside c r mine (event_by r verb answer) noted)
     → ((l : List Event) (n : ℕ) → HoldsFollow c r l n noted.follow → values ≡ known c r l)
-    → ((l : List Event) (n : ℕ) → HoldsFollow c r l n noted.follow → CountsCommands c (known c r l) counts)
-    → CountsCommands c values counts
-led_counts c r mine verb answer noted values counts stands awaits reads counted = go (commit_of c r mine (event_by r verb answer)) refl
+    → ((l : List Event) (n : ℕ) → HoldsFollow c r l n noted.follow → HoldsValues c (known c r l) log)
+    → HoldsValues c values log
+led_log c r mine verb answer noted values log stands awaits reads holding = go (commit_of c r mine (event_by r verb answer)) refl
   where
     now : List Event
     now = event_by r verb answer ∷ mine
 
-    here : (l : List Event) (n : ℕ) → HoldsFollow c r l n noted.follow → CountsCommands c values counts
-    here l n holds = subst (λ v. CountsCommands c v counts) (sym (reads l n holds)) (counted l n holds)
+    here : (l : List Event) (n : ℕ) → HoldsFollow c r l n noted.follow → HoldsValues c values log
+    here l n holds = subst (λ v. HoldsValues c v log) (sym (reads l n holds)) (holding l n holds)
 
-    go : (o : Option (ℕ × ℕ)) → commit_of c r mine (event_by r verb answer) ≡ o → CountsCommands c values counts
+    go : (o : Option (ℕ × ℕ)) → commit_of c r mine (event_by r verb answer) ≡ o → HoldsValues c values log
     go None none = here now (length now) (stands none).follow
     go (Some entry) some = here mine (length mine + 1) (awaits entry some).follow
 

@@ -26,16 +26,17 @@ use Rattle.mu_pace.specs.Watches.{confirming}
 use Rattle.mu_lead.specs.declared.lead.Lead.{Lead}
 use Rattle.mu_lead.specs.declared.place.Place.{Place}
 use Rattle.mu_lead.specs.Beside.{is_beside, leads_at}
-use Rattle.mu_lead.specs.Confirmations.{ConfirmsNext}
-use Rattle.mu_lead.specs.Evidence.{ExplainsNext}
+use Rattle.mu_lead.specs.Confirmations.{ConfirmsAt}
+use Rattle.mu_lead.specs.Evidence.{ExplainsAt}
 use Rattle.mu_lead.specs.Going.{begins_at}
-use Rattle.mu_lead.specs.Raising.{RaisesNext}
+use Rattle.mu_lead.specs.Raising.{RaisesAt}
 use Rattle.mu_lead.specs.Rooms.{RoomsAt, RoomsNext, gives_up}
 use Rattle.mu_lead.specs.Standing.{At, known_told, verb_at, verb_of}
-use Rattle.mu_lead.specs.Welcomes.{JoinsNext}
+use Rattle.mu_lead.specs.Welcomes.{JoinsAt}
 use Rattle.mu_lead.proofs.Confirms.{minima_come_in_time}
-use Rattle.mu_lead.specs.Causes.{CausesAt, CausesNext}
-use Rattle.mu_lead.specs.Elections.{ElectsAt, ElectsNext}
+use Rattle.mu_lead.specs.Causes.{CausesAt}
+use Rattle.mu_lead.specs.Lasting.{KeepsNext}
+use Rattle.mu_lead.specs.Elections.{ElectsAt}
 use Rattle.mu_lead.specs.Resigning.{CountsAt, IsTold, KeepsCounts}
 use Rattle.mu_lead.proofs.Causes.{leaders_ask_with_cause}
 use Rattle.mu_lead.proofs.Elections.{elections_come_in_time}
@@ -69,12 +70,12 @@ paces_beside c r mine lead verb answer even beside held paces = record {
 -- what the contract of the leader says of the answer to its verb
 pub record TakesPaces (mine : List Event) (old : Lead) (values : List ℕ) (answer : Answer) (new : Lead) : Type 0 where
   pub rooms : RoomsNext mine old values answer new
-  pub evidence : ExplainsNext mine old answer new
-  pub raises : RaisesNext mine old values answer new
-  pub confirms : ConfirmsNext mine old answer new
-  pub joins : JoinsNext mine old values answer new
-  pub causes : CausesNext mine old answer new
-  pub elects : ElectsNext mine old values answer new
+  pub evidence : KeepsNext ExplainsAt mine old values answer new
+  pub raises : KeepsNext RaisesAt mine old values answer new
+  pub confirms : KeepsNext ConfirmsAt mine old values answer new
+  pub joins : KeepsNext JoinsAt mine old values answer new
+  pub causes : KeepsNext CausesAt mine old values answer new
+  pub elects : KeepsNext ElectsAt mine old values answer new
 
 -- of its own configuration and id
 own_led : (mine : List Event) (old new : Lead) (verb : Verb) (answer : Answer) (values : List ℕ) → new.config ≡ old.config → new.id ≡ old.id → TakesPaces mine old values answer new → is_odd (length mine) ≡ true
@@ -83,12 +84,12 @@ own_led : (mine : List Event) (old new : Lead) (verb : Verb) (answer : Answer) (
 own_led mine old new verb answer values same_c same_r takes odd is possible told paces = record {
   counts = record {
     rooms = of_node (λ k i. RoomsAt k i (event_by old.id verb answer ∷ mine) new.written.items new.place) old.config old.id new same_c same_r (takes.rooms verb is possible told odd paces.counts.rooms);
-    evidence = takes.evidence verb is odd paces.counts.evidence;
+    evidence = takes.evidence verb is possible told odd paces.counts.evidence;
     raises = takes.raises verb is possible told odd paces.counts.raises;
-    confirms = takes.confirms verb is possible odd paces.counts.confirms;
+    confirms = takes.confirms verb is possible told odd paces.counts.confirms;
     joins = takes.joins verb is possible told odd paces.counts.joins;
   };
-  causes = takes.causes verb is possible paces.causes;
+  causes = takes.causes verb is possible told odd paces.causes;
   elects = takes.elects verb is possible told odd paces.elects;
 }
 

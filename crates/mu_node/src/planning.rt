@@ -340,7 +340,7 @@ impl Node {
         self.note(by, verb, answer);
         let known = self.follow.known();
         let position = known.len();
-        let note = self.lead.take(answer, known, self.follow.counts());
+        let note = self.lead.take(answer, known, self.follow.log());
         self.learn(position, note);
         told(heeded, note)
     }

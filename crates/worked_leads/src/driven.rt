@@ -188,7 +188,7 @@ impl Driven {
         let note = self.lead.take(
             answer,
             self.own.known_log.known(),
-            self.own.known_log.counts(),
+            &self.own.known_log,
         );
         note_own(
             &mut self.own,
@@ -226,7 +226,7 @@ impl Driven {
         self.lead.take(
             answer,
             self.own.known_log.known(),
-            self.own.known_log.counts(),
+            &self.own.known_log,
         )
     }
 

@@ -1,4 +1,4 @@
-use Rattle.std.proofs.Common.{ap, arith, suc, sym, ◌+◌, ◌-◌, ◌∙◌, ◌≡◌}
+use Rattle.std.proofs.Common.{ap, arith, suc, ◌+◌, ◌-◌, ◌∙◌, ◌≡◌}
 use Rattle.mu_lead.specs.Sets.{is_bit}
 use Rattle.mu_lead.proofs.offering.has_bit.Goals as goal
 

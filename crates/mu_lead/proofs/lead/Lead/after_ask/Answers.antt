@@ -1,16 +1,12 @@
+use Rattle.std.proofs.Common.{◌+◌}
+use Rattle.std.proofs.lemmas.Bool.{le-ltb, lt-ltb}
 use Rattle.std.proofs.Common.{arith}
-use Rattle.std.proofs.Common.{ap, inl, inr, refl}
+use Rattle.std.proofs.Common.{ap, refl}
 use Rattle.mu_lead.specs.declared.place.Place.{Place}
 use Rattle.mu_lead.proofs.lead.Lead.after_ask.Goals as goal
 
-pub returns-then-next-self-clause-rooms : goal.returns-then-next-self-clause-rooms
-returns-then-next-self-clause-rooms c = λ mine written region few waiting. let next = c.saturating_add-next.ensures in ((λ zero. absurd (omega (arith, next, zero))), λ other. waiting)
+pub returns-then-next-self-clause-listed : goal.returns-then-next-self-clause-listed
+returns-then-next-self-clause-listed c = λ few. let next = c.saturating_add-next.ensures in let low = c.if-next-self.true in rw (lt-ltb (c.args.p + 1) c.args.self.now.config.replicas (omega (arith, next, low, few))) (ap Place.Ask (omega (arith, next, low, few)))
 
-pub returns-else-next-self-clause-rooms : goal.returns-else-next-self-clause-rooms
-returns-else-next-self-clause-rooms c = λ mine written region few waiting. waiting
-
-pub returns-then-next-self-clause-follows : goal.returns-then-next-self-clause-follows
-returns-then-next-self-clause-follows c = λ few. let next = c.saturating_add-next.ensures in let low = c.if-next-self.true in inl (ap Place.Ask (omega (arith, next, low, few)))
-
-pub returns-else-next-self-clause-follows : goal.returns-else-next-self-clause-follows
-returns-else-next-self-clause-follows c = λ few. let next = c.saturating_add-next.ensures in let high = c.if-next-self.false in inr (omega (arith, next, high, few), refl)
+pub returns-else-next-self-clause-listed : goal.returns-else-next-self-clause-listed
+returns-else-next-self-clause-listed c = λ few. let next = c.saturating_add-next.ensures in let high = c.if-next-self.false in rw (le-ltb (c.args.p + 1) c.args.self.now.config.replicas (omega (arith, next, high, few))) refl

@@ -1,3 +1,9 @@
+use Rattle.mu_lead.proofs.Firsts.{found_place}
+use Rattle.mu_lead.specs.declared.place.Place.{Place}
+use Rattle.std.proofs.Common.{Some, None, ℕ}
+use Rattle.mu_model.specs.Leaderships.{is_member}
+use Rattle.mu_lead.specs.Leading.{end_of}
+use Rattle.mu_lead.specs.Listing.{pick}
 use Rattle.std.proofs.Common.{ap, arith, length, subst, sym, ◌+◌, ◌<◌, ◌∙◌, ◌≡◌}
 use Rattle.mu_leading.proofs.Within.{known_few}
 use Rattle.mu_lead.proofs.Looks.{looking_to}
@@ -45,3 +51,27 @@ returns-in-None-clause-rooms c = λ counts mine s same region member looking nex
     let next : c.saturating_add.result ≡ c.args.p + 1 = omega (arith, more, region, few) in
     let none = c.in-None.ensures l.id mine few s.leading in
     c.pick.ensures.rooms counts mine s same (looking_to l.config l.id l.number (c.args.p + 1) l.config.replicas mine l.up l.reach c.args.candidate c.args.best (omega (arith, region)) (λ k more less. none k (omega (arith, more, next)) less) looking) writes puts
+
+pub returns-in-Some-clause-listed : goal.returns-in-Some-clause-listed
+returns-in-Some-clause-listed c = λ counts mine s same region looking.
+    let l = c.args.self.now in
+    let few = s.config.replicas.1 in
+    let few_known = known_few l.config l.id mine s.config s.possible in
+    let more = c.saturating_add.ensures in
+    let look = λ (q : ℕ). Place.Look q (end_of l.config l.id mine) c.args.candidate c.args.best in
+    let picked = pick l.config l.id mine l.written.items c.args.candidate c.args.best in
+    ap (λ i. Place.Look c.in-Some.q i c.args.candidate c.args.best) (c.end_of.ensures (subst (λ values. length values < 65536) (sym same) few_known) ∙ ap length same)
+    ∙ found_place (λ k. is_member l.id k mine) (c.args.p + 1) c.saturating_add.result l.config.replicas (Some c.in-Some.q) look picked (omega (arith, more, region, few)) (c.in-Some.ensures l.id mine few s.leading)
+
+pub returns-in-None-clause-listed : goal.returns-in-None-clause-listed
+returns-in-None-clause-listed c = λ counts mine s same region looking.
+    let l = c.args.self.now in
+    let few = s.config.replicas.1 in
+    let few_known = known_few l.config l.id mine s.config s.possible in
+    let more = c.saturating_add.ensures in
+    let look = λ (q : ℕ). Place.Look q (end_of l.config l.id mine) c.args.candidate c.args.best in
+    let picked = pick l.config l.id mine l.written.items c.args.candidate c.args.best in
+    let none = c.in-None.ensures l.id mine few s.leading in
+    let next : c.saturating_add.result ≡ c.args.p + 1 = omega (arith, more, region, few) in
+    c.pick.ensures.listed counts mine s same (looking_to l.config l.id l.number (c.args.p + 1) l.config.replicas mine l.up l.reach c.args.candidate c.args.best (omega (arith, region)) (λ k more less. none k (omega (arith, more, next)) less) looking)
+    ∙ found_place (λ k. is_member l.id k mine) (c.args.p + 1) c.saturating_add.result l.config.replicas None look picked next none

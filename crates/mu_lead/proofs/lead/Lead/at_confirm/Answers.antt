@@ -1,3 +1,5 @@
+use Rattle.mu_lead.specs.Lasting.{GoesTo}
+use Rattle.mu_lead.specs.declared.place.Place.{Place}
 use Rattle.std.proofs.Common.{subst, sym}
 use Rattle.mu_lead.specs.Saying.{NotesRound}
 use Rattle.mu_lead.proofs.Replies.{sees_fence}
@@ -5,8 +7,6 @@ use Rattle.std.proofs.Common.{subst, sym, ◌∷◌}
 use Rattle.mu_model.proofs.Basics.{event_by}
 use Rattle.mu_model.specs.declared.event.Verb.{Verb}
 use Rattle.mu_model.specs.Parts.{IsPossible}
-use Rattle.mu_lead.specs.Rooms.{HasRooms}
-use Rattle.mu_lead.specs.Confirmations.{ConfirmsAt}
 use Rattle.mu_lead.proofs.lead.Lead.at_confirm.Goals as goal
 
 pub returns-in-None-clause-stands : goal.returns-in-None-clause-stands
@@ -18,24 +18,10 @@ returns-in-None-clause-note c = λ mine s region possible. let l = c.args.self.n
 pub returns-in-Some-clause-note : goal.returns-in-Some-clause-note
 returns-in-Some-clause-note c = subst (λ a. NotesRound c.args.self.now c.args.p a c.took_fence.result) (sym c.in-Some.ensures) c.took_fence.ensures.note
 
-pub returns-in-None-clause-rooms : goal.returns-in-None-clause-rooms
-returns-in-None-clause-rooms c = λ values mine s is possible told turn rooms. let l = c.args.self.now in let x = sees_fence l.config l.id c.args.p c.args.answer mine possible in absurd (c.in-None.ensures x.0 x.1)
+pub returns-in-None-clause-listed : goal.returns-in-None-clause-listed
+returns-in-None-clause-listed c = λ values mine s is possible told. let l = c.args.self.now in let x = sees_fence l.config l.id c.args.p c.args.answer mine possible in absurd (c.in-None.ensures x.0 x.1)
 
-pub returns-in-Some-clause-rooms : goal.returns-in-Some-clause-rooms
-returns-in-Some-clause-rooms c = λ values mine s is possible told turn rooms.
+pub returns-in-Some-clause-listed : goal.returns-in-Some-clause-listed
+returns-in-Some-clause-listed c = λ values mine s is possible told.
     let l = c.args.self.now in
-    subst (λ a. HasRooms (event_by l.id (Verb.Fence c.args.p) a ∷ mine) c.took_fence.new.self) (sym c.in-Some.ensures) (c.took_fence.ensures.rooms values mine s is (subst (λ a. IsPossible l.config l.id (event_by l.id (Verb.Fence c.args.p) a ∷ mine)) c.in-Some.ensures possible) told turn rooms)
-
-pub returns-in-None-clause-confirms : goal.returns-in-None-clause-confirms
-returns-in-None-clause-confirms c = λ mine s is possible turn confirms. let l = c.args.self.now in let x = sees_fence l.config l.id c.args.p c.args.answer mine possible in absurd (c.in-None.ensures x.0 x.1)
-
-pub returns-in-Some-clause-confirms : goal.returns-in-Some-clause-confirms
-returns-in-Some-clause-confirms c = λ mine s is possible turn confirms.
-    let l = c.args.self.now in
-    subst (λ a. ConfirmsAt l.config l.id (event_by l.id (Verb.Fence c.args.p) a ∷ mine) c.took_fence.new.self.place) (sym c.in-Some.ensures) (c.took_fence.ensures.confirms mine s is (subst (λ a. IsPossible l.config l.id (event_by l.id (Verb.Fence c.args.p) a ∷ mine)) c.in-Some.ensures possible) turn confirms)
-
-pub returns-in-Some-clause-follows : goal.returns-in-Some-clause-follows
-returns-in-Some-clause-follows c = λ fence seen few. c.took_fence.ensures.follows few
-
-pub returns-in-None-clause-follows : goal.returns-in-None-clause-follows
-returns-in-None-clause-follows c = λ fence seen few. absurd (c.in-None.ensures fence seen)
+    subst (λ a. GoesTo l (event_by l.id (Verb.Fence c.args.p) a ∷ mine) a (Place.Confirm c.args.round c.args.p) c.took_fence.new.self) (sym c.in-Some.ensures) (c.took_fence.ensures.listed values mine s is (subst (λ a. IsPossible l.config l.id (event_by l.id (Verb.Fence c.args.p) a ∷ mine)) c.in-Some.ensures possible) told)

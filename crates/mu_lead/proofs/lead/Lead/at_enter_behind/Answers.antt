@@ -1,3 +1,12 @@
+use Rattle.mu_lead.specs.Lasting.{GoesTo}
+use Rattle.mu_lead.specs.declared.place.Place.{Place}
+use Rattle.mu_model.proofs.Basics.{event_by}
+use Rattle.mu_model.specs.declared.event.Verb.{Verb}
+use Rattle.mu_model.specs.declared.event.Answer.{Answer}
+use Rattle.std.proofs.Common.{subst, sym, ◌∷◌, get_or, inl, inr, ◌%◌}
+use Rattle.mu_model.specs.declared.event.Target.{Target}
+use Rattle.mu_model.specs.Parts.{IsPossible}
+use Rattle.mu_lead.proofs.Replies.{enters_or}
 use Rattle.mu_model.specs.declared.event.Target.{Target}
 use Rattle.mu_model.specs.Parts.{IsPossible}
 use Rattle.std.proofs.Common.{arith, get_or, inl, subst, sym, ◌%◌, ◌<◌, ◌∷◌}
@@ -59,11 +68,16 @@ returns-in-Some-clause-rooms c = λ values mine s is possible told turn rooms.
     (subst (λ u. HasRooms (event_by l.id (Verb.Enter c.args.p (Target.Place (u % l.config.ring))) (Answer.Lost c.in-Some.fence) ∷ mine) c.lost_place.new.self) up_is
     (c.lost_place.ensures.rooms ring mine (Stage.Bring (lag_of l.config l.id mine c.args.p c.args.then) Bringing.Enter) s.config turn led.placed))
 
-pub returns-in-None-clause-leads : goal.returns-in-None-clause-leads
-returns-in-None-clause-leads c = λ entered. c.entered_behind.ensures.leads
+pub returns-in-None-clause-listed : goal.returns-in-None-clause-listed
+returns-in-None-clause-listed c = λ values mine s is possible told.
+    let l = c.args.self.now in
+    let t = Target.Place (get_or l.up c.args.p 0 % l.config.ring) in
+    elim (enters_or l.config l.id c.args.p t c.args.answer mine possible) [
+      | inl entered ↦ subst (λ a. GoesTo l (event_by l.id (Verb.Enter c.args.p t) a ∷ mine) a (Place.EnterBehind c.args.p c.args.then) c.entered_behind.new.self) (sym entered) (c.entered_behind.ensures.listed values mine s is (subst (λ a. IsPossible l.config l.id (event_by l.id (Verb.Enter c.args.p t) a ∷ mine)) entered possible) told)
+      | inr lost ↦ absurd (c.in-None.ensures lost.0 lost.1)
+    ]
 
-pub returns-in-None-clause-ended : goal.returns-in-None-clause-ended
-returns-in-None-clause-ended c = λ fence lost. absurd (c.in-None.ensures fence lost)
-
-pub returns-in-Some-clause-ended : goal.returns-in-Some-clause-ended
-returns-in-Some-clause-ended c = λ fence lost. c.lost_place.ensures.ended
+pub returns-in-Some-clause-listed : goal.returns-in-Some-clause-listed
+returns-in-Some-clause-listed c = λ values mine s is possible told.
+    let l = c.args.self.now in
+    subst (λ a. GoesTo l (event_by l.id (Verb.Enter c.args.p (Target.Place (get_or l.up c.args.p 0 % l.config.ring))) a ∷ mine) a (Place.EnterBehind c.args.p c.args.then) c.lost_place.new.self) (sym c.in-Some.ensures) c.lost_place.ensures.ended

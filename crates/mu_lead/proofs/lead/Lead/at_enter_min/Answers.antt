@@ -1,3 +1,5 @@
+use Rattle.mu_lead.specs.Lasting.{GoesTo}
+use Rattle.mu_lead.specs.declared.place.Place.{Place}
 use Rattle.mu_model.specs.declared.event.Target.{Target}
 use Rattle.mu_model.specs.Parts.{IsPossible}
 use Rattle.std.proofs.Common.{inl, subst, sym, ◌∷◌}
@@ -7,8 +9,6 @@ use Rattle.mu_lead.specs.Standing.{StandsFor}
 use Rattle.mu_lead.proofs.Replies.{enters_or}
 use Rattle.std.proofs.Common.{inr}
 use Rattle.mu_lead.proofs.Saying.{notes_entered, notes_lost}
-use Rattle.mu_pace.specs.Weights.{Stage}
-use Rattle.mu_lead.specs.Rooms.{HasRooms}
 use Rattle.mu_lead.proofs.lead.Lead.at_enter_min.Goals as goal
 
 pub returns-in-None-clause-stands : goal.returns-in-None-clause-stands
@@ -34,26 +34,16 @@ returns-in-Some-clause-note c = notes_lost c.args.p c.args.answer c.in-Some.fenc
 pub returns-in-None-clause-note : goal.returns-in-None-clause-note
 returns-in-None-clause-note c = notes_entered c.args.p c.args.answer c.entered_min.result c.in-None.ensures c.entered_min.ensures.note
 
-pub returns-in-None-clause-rooms : goal.returns-in-None-clause-rooms
-returns-in-None-clause-rooms c = λ values mine s is possible told turn rooms.
+pub returns-in-None-clause-listed : goal.returns-in-None-clause-listed
+returns-in-None-clause-listed c = λ values mine s is possible told.
     let l = c.args.self.now in
     let t = Target.Min in
     elim (enters_or l.config l.id c.args.p t c.args.answer mine possible) [
-      | inl entered ↦ subst (λ a. HasRooms (event_by l.id (Verb.Enter c.args.p t) a ∷ mine) c.entered_min.new.self) (sym entered) (c.entered_min.ensures.rooms values mine s is (subst (λ a. IsPossible l.config l.id (event_by l.id (Verb.Enter c.args.p t) a ∷ mine)) entered possible) told turn rooms)
+      | inl entered ↦ subst (λ a. GoesTo l (event_by l.id (Verb.Enter c.args.p t) a ∷ mine) a (Place.EnterMin c.args.p) c.entered_min.new.self) (sym entered) (c.entered_min.ensures.listed values mine s is (subst (λ a. IsPossible l.config l.id (event_by l.id (Verb.Enter c.args.p t) a ∷ mine)) entered possible) told)
       | inr lost ↦ absurd (c.in-None.ensures lost.0 lost.1)
     ]
 
-pub returns-in-Some-clause-rooms : goal.returns-in-Some-clause-rooms
-returns-in-Some-clause-rooms c = λ values mine s is possible told turn rooms.
+pub returns-in-Some-clause-listed : goal.returns-in-Some-clause-listed
+returns-in-Some-clause-listed c = λ values mine s is possible told.
     let l = c.args.self.now in
-    let numbering = rw is at rooms in
-    subst (λ a. HasRooms (event_by l.id (Verb.Enter c.args.p Target.Min) a ∷ mine) c.lost_min.new.self) (sym c.in-Some.ensures) (c.lost_min.ensures.rooms mine Stage.EnterMin s.config turn numbering.led.placed)
-
-pub returns-in-None-clause-leads : goal.returns-in-None-clause-leads
-returns-in-None-clause-leads c = λ entered. c.entered_min.ensures.leads
-
-pub returns-in-None-clause-ended : goal.returns-in-None-clause-ended
-returns-in-None-clause-ended c = λ fence lost. absurd (c.in-None.ensures fence lost)
-
-pub returns-in-Some-clause-ended : goal.returns-in-Some-clause-ended
-returns-in-Some-clause-ended c = λ fence lost. c.lost_min.ensures.ended
+    subst (λ a. GoesTo l (event_by l.id (Verb.Enter c.args.p Target.Min) a ∷ mine) a (Place.EnterMin c.args.p) c.lost_min.new.self) (sym c.in-Some.ensures) c.lost_min.ensures.ended

@@ -1,3 +1,10 @@
+use Rattle.mu_lead.specs.Lasting.{GoesTo}
+use Rattle.mu_lead.specs.declared.place.Place.{Place}
+use Rattle.mu_model.proofs.Basics.{event_by}
+use Rattle.mu_model.specs.declared.event.Verb.{Verb}
+use Rattle.std.proofs.Common.{subst, sym, ◌∷◌}
+use Rattle.mu_model.specs.Parts.{IsPossible}
+use Rattle.mu_lead.proofs.Replies.{sees_fence}
 use Rattle.mu_lead.proofs.Replies.{sees_fence}
 use Rattle.std.proofs.Common.{refl}
 use Rattle.mu_lead.proofs.Saying.{notes_over}
@@ -6,7 +13,6 @@ use Rattle.mu_model.proofs.Basics.{event_by}
 use Rattle.mu_model.specs.declared.event.Verb.{Verb}
 use Rattle.mu_model.specs.Parts.{IsPossible}
 use Rattle.mu_lead.specs.Rooms.{HasRooms}
-use Rattle.mu_lead.specs.Gathering.{LeadsBy}
 use Rattle.mu_lead.specs.Standing.{StandsFor}
 use Rattle.mu_lead.proofs.lead.Lead.at_fence_behind.Goals as goal
 
@@ -32,8 +38,13 @@ returns-in-Some-clause-stands c = λ values mine s is possible told.
     let l = c.args.self.now in
     subst (λ a. StandsFor (event_by l.id (Verb.Fence c.args.p) a ∷ mine) c.took_fence_behind.new.self) (sym c.in-Some.ensures) (c.took_fence_behind.ensures.stands values mine s is (subst (λ a. IsPossible l.config l.id (event_by l.id (Verb.Fence c.args.p) a ∷ mine)) c.in-Some.ensures possible) told)
 
-pub returns-in-None-clause-leads : goal.returns-in-None-clause-leads
-returns-in-None-clause-leads c = λ mine s possible. let l = c.args.self.now in let x = sees_fence l.config l.id c.args.p c.args.answer mine possible in absurd (c.in-None.ensures x.0 x.1)
+pub returns-in-None-clause-listed : goal.returns-in-None-clause-listed
+returns-in-None-clause-listed c = λ values mine s is possible told.
+    let l = c.args.self.now in
+    let x = sees_fence l.config l.id c.args.p c.args.answer mine possible in
+    absurd (c.in-None.ensures x.0 x.1)
 
-pub returns-in-Some-clause-leads : goal.returns-in-Some-clause-leads
-returns-in-Some-clause-leads c = subst (λ a. LeadsBy c.args.self.now (Verb.Fence c.args.p) a c.took_fence_behind.new.self) (sym c.in-Some.ensures) c.took_fence_behind.ensures.leads
+pub returns-in-Some-clause-listed : goal.returns-in-Some-clause-listed
+returns-in-Some-clause-listed c = λ values mine s is possible told.
+    let l = c.args.self.now in
+    subst (λ a. GoesTo l (event_by l.id (Verb.Fence c.args.p) a ∷ mine) a (Place.FenceBehind c.args.p c.args.then) c.took_fence_behind.new.self) (sym c.in-Some.ensures) (c.took_fence_behind.ensures.listed values mine s is (subst (λ a. IsPossible l.config l.id (event_by l.id (Verb.Fence c.args.p) a ∷ mine)) c.in-Some.ensures possible) told)

@@ -1,3 +1,11 @@
+use Rattle.mu_lead.specs.Lasting.{GoesTo}
+use Rattle.mu_lead.specs.declared.place.Place.{Place}
+use Rattle.mu_model.proofs.Basics.{event_by}
+use Rattle.mu_model.specs.declared.event.Verb.{Verb}
+use Rattle.std.proofs.Common.{subst, sym, ◌∷◌, inl, inr}
+use Rattle.mu_model.specs.declared.event.Target.{Target}
+use Rattle.mu_model.specs.Parts.{IsPossible}
+use Rattle.mu_lead.proofs.Replies.{enters_or}
 use Rattle.mu_model.specs.declared.event.Target.{Target}
 use Rattle.mu_model.specs.Parts.{IsPossible}
 use Rattle.std.proofs.Common.{inl, subst, sym, ◌∷◌}
@@ -49,8 +57,16 @@ returns-in-Some-clause-rooms c = λ values mine s is possible told turn rooms.
     let led = rw is at rooms in
     subst (λ a. HasRooms (event_by l.id (Verb.Enter c.args.p Target.Min) a ∷ mine) c.lost_min.new.self) (sym c.in-Some.ensures) (c.lost_min.ensures.rooms mine (Stage.LateEnter c.args.p) s.config turn led.placed)
 
-pub returns-in-None-clause-ended : goal.returns-in-None-clause-ended
-returns-in-None-clause-ended c = λ fence lost. absurd (c.in-None.ensures fence lost)
+pub returns-in-None-clause-listed : goal.returns-in-None-clause-listed
+returns-in-None-clause-listed c = λ values mine s is possible told.
+    let l = c.args.self.now in
+    let t = Target.Min in
+    elim (enters_or l.config l.id c.args.p t c.args.answer mine possible) [
+      | inl entered ↦ subst (λ a. GoesTo l (event_by l.id (Verb.Enter c.args.p t) a ∷ mine) a (Place.LateEnter c.args.p) c.entered_late.new.self) (sym entered) (c.entered_late.ensures.listed values mine s is (subst (λ a. IsPossible l.config l.id (event_by l.id (Verb.Enter c.args.p t) a ∷ mine)) entered possible) told)
+      | inr lost ↦ absurd (c.in-None.ensures lost.0 lost.1)
+    ]
 
-pub returns-in-Some-clause-ended : goal.returns-in-Some-clause-ended
-returns-in-Some-clause-ended c = λ fence lost. c.lost_min.ensures.ended
+pub returns-in-Some-clause-listed : goal.returns-in-Some-clause-listed
+returns-in-Some-clause-listed c = λ values mine s is possible told.
+    let l = c.args.self.now in
+    subst (λ a. GoesTo l (event_by l.id (Verb.Enter c.args.p (Target.Min)) a ∷ mine) a (Place.LateEnter c.args.p) c.lost_min.new.self) (sym c.in-Some.ensures) c.lost_min.ensures.ended

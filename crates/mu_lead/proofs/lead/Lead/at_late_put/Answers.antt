@@ -1,3 +1,10 @@
+use Rattle.mu_lead.specs.Lasting.{GoesTo}
+use Rattle.mu_lead.specs.declared.place.Place.{Place}
+use Rattle.mu_model.proofs.Basics.{event_by}
+use Rattle.mu_model.specs.declared.event.Verb.{Verb}
+use Rattle.std.proofs.Common.{subst, sym, ◌∷◌, inl, inr}
+use Rattle.mu_model.specs.Parts.{IsPossible}
+use Rattle.mu_lead.proofs.Replies.{puts_min_or}
 use Rattle.mu_model.specs.Parts.{IsPossible}
 use Rattle.std.proofs.Common.{inl, subst, sym, ◌∷◌}
 use Rattle.mu_model.specs.declared.event.Verb.{Verb}
@@ -39,11 +46,15 @@ returns-in-Missed-clause-rooms c = λ mine s is possible told turn rooms.
     let led = rw is at rooms in
     subst (λ a. HasRooms (event_by l.id (Verb.PutMin c.args.p l.number) a ∷ mine) c.missed_min.new.self) (sym c.in-Missed.is) (c.missed_min.ensures.rooms mine (Stage.LatePut c.args.p) s.config turn led.placed)
 
-pub returns-in-Missed-clause-missed : goal.returns-in-Missed-clause-missed
-returns-in-Missed-clause-missed c = λ missed. c.missed_min.ensures.missed
+pub returns-in_default-clause-listed : goal.returns-in_default-clause-listed
+returns-in_default-clause-listed c = λ mine s is possible told.
+    let l = c.args.self.now in
+    elim (puts_min_or l.config l.id c.args.p l.number c.args.answer mine possible) [
+      | inl done ↦ subst (λ a. GoesTo l (event_by l.id (Verb.PutMin c.args.p l.number) a ∷ mine) a (Place.LatePut c.args.p) c.took_late_put.new.self) (sym done) (c.took_late_put.ensures.listed mine s is (subst (λ a. IsPossible l.config l.id (event_by l.id (Verb.PutMin c.args.p l.number) a ∷ mine)) done possible) told)
+      | inr missed ↦ absurd (c.in_default.not-Missed missed)
+    ]
 
-pub returns-in_default-clause-missed : goal.returns-in_default-clause-missed
-returns-in_default-clause-missed c = λ missed. absurd (c.in_default.not-Missed missed)
-
-pub returns-in_default-clause-leads : goal.returns-in_default-clause-leads
-returns-in_default-clause-leads c = λ done. c.took_late_put.ensures.leads
+pub returns-in-Missed-clause-listed : goal.returns-in-Missed-clause-listed
+returns-in-Missed-clause-listed c = λ mine s is possible told.
+    let l = c.args.self.now in
+    subst (λ a. GoesTo l (event_by l.id (Verb.PutMin c.args.p l.number) a ∷ mine) a (Place.LatePut c.args.p) c.missed_min.new.self) (sym c.in-Missed.is) c.missed_min.ensures.missed

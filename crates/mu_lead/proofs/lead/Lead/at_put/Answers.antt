@@ -1,3 +1,11 @@
+use Rattle.mu_lead.specs.Lasting.{GoesTo}
+use Rattle.mu_lead.specs.declared.place.Place.{Place}
+use Rattle.mu_model.proofs.Basics.{event_by}
+use Rattle.mu_model.specs.declared.event.Verb.{Verb}
+use Rattle.mu_model.specs.declared.event.Answer.{Answer}
+use Rattle.std.proofs.Common.{subst, sym, ◌∷◌, ◌≡◌, length, inl, inr}
+use Rattle.mu_model.specs.Parts.{IsPossible}
+use Rattle.mu_lead.proofs.Replies.{puts_slot_or}
 use Rattle.mu_model.specs.Parts.{IsPossible}
 use Rattle.mu_agree.proofs.Possible.{parts_shorten_law}
 use Rattle.std.proofs.Common.{ap, inl, length, subst, sym, ◌<◌, ◌∙◌, ◌∷◌, ◌≡◌}
@@ -15,10 +23,6 @@ use Rattle.mu_lead.proofs.Telling.{put_tells}
 use Rattle.mu_lead.specs.Rooms.{HasRooms}
 use Rattle.mu_pace.specs.Weights.{Stage}
 use Rattle.mu_pace.specs.Members.{members_from}
-use Rattle.mu_model.specs.Knowledge.{commits}
-use Rattle.mu_pace.proofs.Beside.{not_more}
-use Rattle.mu_lead.specs.Raising.{RaisesAt}
-use Rattle.mu_lead.proofs.Raises.{raised_anywhere, raised_on}
 use Rattle.mu_lead.proofs.lead.Lead.at_put.Goals as goal
 
 pub returns-in_default-clause-stands : goal.returns-in_default-clause-stands
@@ -78,27 +82,15 @@ returns-in-Missed-clause-rooms c = λ mine s is possible told turn rooms.
     (subst (λ i. HasRooms (event_by l.id (Verb.PutSlot c.args.p i l.number c.args.offer.value) Answer.Missed ∷ mine) c.missed_slot.new.self) position
     (c.missed_slot.ensures.rooms mine (Stage.PutAt (members_from l.config l.id c.args.p mine)) s.config turn led.placed))
 
-pub returns-in-Missed-clause-missed : goal.returns-in-Missed-clause-missed
-returns-in-Missed-clause-missed c = λ missed. c.missed_slot.ensures.missed
-
-pub returns-in_default-clause-missed : goal.returns-in_default-clause-missed
-returns-in_default-clause-missed c = λ missed. absurd (c.in_default.not-Missed missed)
-
-pub returns-in_default-clause-raises : goal.returns-in_default-clause-raises
-returns-in_default-clause-raises c = λ mine s is possible told turn raised.
+pub returns-in_default-clause-listed : goal.returns-in_default-clause-listed
+returns-in_default-clause-listed c = λ mine s is possible told.
     let l = c.args.self.now in
-    let v = Verb.PutSlot c.args.p (length c.args.known.now) l.number c.args.offer.value in
     elim (puts_slot_or l.config l.id c.args.p (length c.args.known.now) l.number c.args.offer.value c.args.answer mine possible) [
-      | inl done ↦ subst (λ a. RaisesAt l.config l.id (event_by l.id v a ∷ mine) c.took_put.new.self.place) (sym done) (c.took_put.ensures.raises mine s is (subst (λ a. IsPossible l.config l.id (event_by l.id v a ∷ mine)) done possible) told turn raised)
+      | inl done ↦ subst (λ a. GoesTo l (event_by l.id (Verb.PutSlot c.args.p (length c.args.known.now) l.number c.args.offer.value) a ∷ mine) a (Place.Put c.args.p c.args.offer) c.took_put.new.self) (sym done) (c.took_put.ensures.listed mine s is (subst (λ a. IsPossible l.config l.id (event_by l.id (Verb.PutSlot c.args.p (length c.args.known.now) l.number c.args.offer.value) a ∷ mine)) done possible) told)
       | inr missed ↦ absurd (c.in_default.not-Missed missed)
     ]
 
-pub returns-in-Missed-clause-raises : goal.returns-in-Missed-clause-raises
-returns-in-Missed-clause-raises c = λ mine s is possible told turn raised.
+pub returns-in-Missed-clause-listed : goal.returns-in-Missed-clause-listed
+returns-in-Missed-clause-listed c = λ mine s is possible told.
     let l = c.args.self.now in
-    let v = Verb.PutSlot c.args.p (length c.args.known.now) l.number c.args.offer.value in
-    subst (λ a. RaisesAt l.config l.id (event_by l.id v a ∷ mine) c.missed_slot.new.self.place) (sym c.in-Missed.is)
-    (raised_anywhere l.config l.id (event_by l.id v Answer.Missed ∷ mine) c.missed_slot.new.self.place (raised_on l.config l.id mine (event_by l.id v Answer.Missed) (not_more (length (commits l.config l.id mine))) raised))
-
-pub returns-in_default-clause-leads : goal.returns-in_default-clause-leads
-returns-in_default-clause-leads c = λ done. c.took_put.ensures.leads
+    subst (λ a. GoesTo l (event_by l.id (Verb.PutSlot c.args.p (length c.args.known.now) l.number c.args.offer.value) a ∷ mine) a (Place.Put c.args.p c.args.offer) c.missed_slot.new.self) (sym c.in-Missed.is) c.missed_slot.ensures.missed

@@ -1,3 +1,11 @@
+use Rattle.mu_lead.specs.Lasting.{GoesTo}
+use Rattle.mu_lead.specs.declared.place.Place.{Place}
+use Rattle.mu_model.proofs.Basics.{event_by}
+use Rattle.mu_model.specs.declared.event.Verb.{Verb}
+use Rattle.mu_model.specs.declared.event.Answer.{Answer}
+use Rattle.std.proofs.Common.{subst, sym, ◌∷◌, get_or, inl, inr}
+use Rattle.mu_model.specs.Parts.{IsPossible}
+use Rattle.mu_lead.proofs.Replies.{puts_slot_or}
 use Rattle.mu_model.specs.Parts.{IsPossible}
 use Rattle.mu_agree.proofs.Possible.{parts_shorten_law}
 use Rattle.std.proofs.Common.{arith, get_or, inl, subst, sym, ◌<◌, ◌∙◌, ◌∷◌}
@@ -39,12 +47,6 @@ returns-in-Missed-clause-stands c = λ mine s is possible told.
     (subst (λ v. StandsFor (event_by l.id (Verb.PutSlot c.args.p c.narrow.result l.number v) Answer.Missed ∷ mine) c.missed_slot.new.self) value
     (c.missed_slot.ensures.stands mine here.near.behind.region here.near.behind.leads.begun here.under s (subst (λ v. IsPossible l.config l.id (event_by l.id (Verb.PutSlot c.args.p c.narrow.result l.number v) Answer.Missed ∷ mine)) (sym value) (subst (λ i. IsPossible l.config l.id (event_by l.id (Verb.PutSlot c.args.p i l.number (get_or c.args.known.now (get_or l.up c.args.p 0) 0)) Answer.Missed ∷ mine)) (sym position) now))))))
 
-pub returns-in-Missed-clause-missed : goal.returns-in-Missed-clause-missed
-returns-in-Missed-clause-missed c = λ missed. c.missed_slot.ensures.missed
-
-pub returns-in_default-clause-missed : goal.returns-in_default-clause-missed
-returns-in_default-clause-missed c = λ missed. absurd (c.in_default.not-Missed missed)
-
 pub returns-in_default-clause-rooms : goal.returns-in_default-clause-rooms
 returns-in_default-clause-rooms c = λ mine s is possible told turn rooms.
     let l = c.args.self.now in
@@ -73,5 +75,15 @@ returns-in-Missed-clause-rooms c = λ mine s is possible told turn rooms.
     (subst (λ w. HasRooms (event_by l.id (Verb.PutSlot c.args.p c.narrow.result l.number w) Answer.Missed ∷ mine) c.missed_slot.new.self) (c.lacked.ensures s.tables.ups fits)
     (c.missed_slot.ensures.rooms mine (Stage.Bring (lag_of l.config l.id mine c.args.p c.args.then) Bringing.Put) s.config turn led.placed)))
 
-pub returns-in_default-clause-leads : goal.returns-in_default-clause-leads
-returns-in_default-clause-leads c = λ done. c.took_put_behind.ensures.leads
+pub returns-in_default-clause-listed : goal.returns-in_default-clause-listed
+returns-in_default-clause-listed c = λ mine s is possible told.
+    let l = c.args.self.now in
+    elim (puts_slot_or l.config l.id c.args.p (get_or l.up c.args.p 0) l.number (get_or c.args.known.now (get_or l.up c.args.p 0) 0) c.args.answer mine possible) [
+      | inl done ↦ subst (λ a. GoesTo l (event_by l.id (Verb.PutSlot c.args.p (get_or l.up c.args.p 0) l.number (get_or c.args.known.now (get_or l.up c.args.p 0) 0)) a ∷ mine) a (Place.PutBehind c.args.p c.args.then) c.took_put_behind.new.self) (sym done) (c.took_put_behind.ensures.listed mine s is (subst (λ a. IsPossible l.config l.id (event_by l.id (Verb.PutSlot c.args.p (get_or l.up c.args.p 0) l.number (get_or c.args.known.now (get_or l.up c.args.p 0) 0)) a ∷ mine)) done possible) told)
+      | inr missed ↦ absurd (c.in_default.not-Missed missed)
+    ]
+
+pub returns-in-Missed-clause-listed : goal.returns-in-Missed-clause-listed
+returns-in-Missed-clause-listed c = λ mine s is possible told.
+    let l = c.args.self.now in
+    subst (λ a. GoesTo l (event_by l.id (Verb.PutSlot c.args.p (get_or l.up c.args.p 0) l.number (get_or c.args.known.now (get_or l.up c.args.p 0) 0)) a ∷ mine) a (Place.PutBehind c.args.p c.args.then) c.missed_slot.new.self) (sym c.in-Missed.is) c.missed_slot.ensures.missed

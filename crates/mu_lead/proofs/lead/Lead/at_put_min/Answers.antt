@@ -1,3 +1,5 @@
+use Rattle.mu_lead.specs.Lasting.{GoesTo}
+use Rattle.mu_lead.specs.declared.place.Place.{Place}
 use Rattle.mu_model.specs.Parts.{IsPossible}
 use Rattle.std.proofs.Common.{inl, subst, sym, ◌∷◌}
 use Rattle.mu_model.specs.declared.event.Verb.{Verb}
@@ -5,8 +7,6 @@ use Rattle.mu_model.proofs.Basics.{event_by}
 use Rattle.mu_lead.specs.Standing.{StandsFor}
 use Rattle.mu_lead.proofs.Replies.{puts_min_or}
 use Rattle.std.proofs.Common.{inr}
-use Rattle.mu_pace.specs.Weights.{Stage}
-use Rattle.mu_lead.specs.Rooms.{HasRooms}
 use Rattle.mu_lead.proofs.lead.Lead.at_put_min.Goals as goal
 
 pub returns-in_default-clause-stands : goal.returns-in_default-clause-stands
@@ -25,25 +25,15 @@ returns-in-Missed-clause-stands c = λ values mine s is possible told.
     let now = subst (λ a. IsPossible l.config l.id (event_by l.id (Verb.PutMin c.args.p l.number) a ∷ mine)) missed possible in
     subst (λ a. StandsFor (event_by l.id (Verb.PutMin c.args.p l.number) a ∷ mine) c.missed_min.new.self) (sym missed) (c.missed_min.ensures.stands mine here.entering.region here.entering.numbered.begun here.under s now)
 
-pub returns-in_default-clause-rooms : goal.returns-in_default-clause-rooms
-returns-in_default-clause-rooms c = λ values mine s is possible told turn rooms.
+pub returns-in_default-clause-listed : goal.returns-in_default-clause-listed
+returns-in_default-clause-listed c = λ values mine s is possible told.
     let l = c.args.self.now in
     elim (puts_min_or l.config l.id c.args.p l.number c.args.answer mine possible) [
-      | inl done ↦ subst (λ a. HasRooms (event_by l.id (Verb.PutMin c.args.p l.number) a ∷ mine) c.took_put_min.new.self) (sym done) (c.took_put_min.ensures.rooms values mine s is (subst (λ a. IsPossible l.config l.id (event_by l.id (Verb.PutMin c.args.p l.number) a ∷ mine)) done possible) told turn rooms)
+      | inl done ↦ subst (λ a. GoesTo l (event_by l.id (Verb.PutMin c.args.p l.number) a ∷ mine) a (Place.PutMin c.args.p) c.took_put_min.new.self) (sym done) (c.took_put_min.ensures.listed values mine s is (subst (λ a. IsPossible l.config l.id (event_by l.id (Verb.PutMin c.args.p l.number) a ∷ mine)) done possible) told)
       | inr missed ↦ absurd (c.in_default.not-Missed missed)
     ]
 
-pub returns-in-Missed-clause-rooms : goal.returns-in-Missed-clause-rooms
-returns-in-Missed-clause-rooms c = λ values mine s is possible told turn rooms.
+pub returns-in-Missed-clause-listed : goal.returns-in-Missed-clause-listed
+returns-in-Missed-clause-listed c = λ values mine s is possible told.
     let l = c.args.self.now in
-    let numbering = rw is at rooms in
-    subst (λ a. HasRooms (event_by l.id (Verb.PutMin c.args.p l.number) a ∷ mine) c.missed_min.new.self) (sym c.in-Missed.is) (c.missed_min.ensures.rooms mine Stage.PutMin s.config turn numbering.led.placed)
-
-pub returns-in-Missed-clause-missed : goal.returns-in-Missed-clause-missed
-returns-in-Missed-clause-missed c = λ missed. c.missed_min.ensures.missed
-
-pub returns-in_default-clause-missed : goal.returns-in_default-clause-missed
-returns-in_default-clause-missed c = λ missed. absurd (c.in_default.not-Missed missed)
-
-pub returns-in_default-clause-leads : goal.returns-in_default-clause-leads
-returns-in_default-clause-leads c = λ done. c.took_put_min.ensures.leads
+    subst (λ a. GoesTo l (event_by l.id (Verb.PutMin c.args.p l.number) a ∷ mine) a (Place.PutMin c.args.p) c.missed_min.new.self) (sym c.in-Missed.is) c.missed_min.ensures.missed

@@ -1,3 +1,10 @@
+use Rattle.mu_lead.specs.Lasting.{GoesTo}
+use Rattle.mu_lead.specs.declared.place.Place.{Place}
+use Rattle.mu_model.proofs.Basics.{event_by}
+use Rattle.mu_model.specs.declared.event.Verb.{Verb}
+use Rattle.std.proofs.Common.{subst, sym, ◌∷◌}
+use Rattle.mu_model.specs.Parts.{IsPossible}
+use Rattle.mu_lead.proofs.Replies.{tells_head}
 use Rattle.mu_lead.proofs.Replies.{tells_head}
 use Rattle.std.proofs.Common.{subst, sym, ◌∷◌}
 use Rattle.mu_model.proofs.Basics.{event_by}
@@ -17,8 +24,13 @@ returns-in-Some-clause-rooms c = λ mine s is possible told turn rooms.
     let l = c.args.self.now in
     subst (λ a. HasRooms (event_by l.id (Verb.Head c.args.q) a ∷ mine) c.took_head.new.self) (sym c.in-Some.ensures) (c.took_head.ensures.rooms mine s is (subst (λ a. IsPossible l.config l.id (event_by l.id (Verb.Head c.args.q) a ∷ mine)) c.in-Some.ensures possible) told turn rooms)
 
-pub returns-in-Some-clause-leads : goal.returns-in-Some-clause-leads
-returns-in-Some-clause-leads c = λ number told. c.took_head.ensures.leads
+pub returns-in-None-clause-listed : goal.returns-in-None-clause-listed
+returns-in-None-clause-listed c = λ mine heeded s is possible told.
+    let l = c.args.self.now in
+    let x = tells_head l.config l.id c.args.q c.args.answer mine possible in
+    absurd (c.in-None.ensures x.0 x.1)
 
-pub returns-in-None-clause-leads : goal.returns-in-None-clause-leads
-returns-in-None-clause-leads c = λ number told. absurd (c.in-None.ensures number told)
+pub returns-in-Some-clause-listed : goal.returns-in-Some-clause-listed
+returns-in-Some-clause-listed c = λ mine heeded s is possible told.
+    let l = c.args.self.now in
+    subst (λ a. GoesTo l (event_by l.id (Verb.Head c.args.q) a ∷ mine) a (Place.ReadHead c.args.q c.args.candidate) c.took_head.new.self) (sym c.in-Some.ensures) (c.took_head.ensures.listed mine heeded s is (subst (λ a. IsPossible l.config l.id (event_by l.id (Verb.Head c.args.q) a ∷ mine)) c.in-Some.ensures possible) told)

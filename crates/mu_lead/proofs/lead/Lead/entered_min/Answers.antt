@@ -1,6 +1,5 @@
 use Rattle.std.proofs.Common.{refl}
 use Rattle.mu_lead.proofs.Numbering.{puts_now}
-use Rattle.mu_lead.proofs.RoomsMin.{rooms_entered}
 use Rattle.mu_lead.proofs.Tables.{tables_kept}
 use Rattle.mu_lead.proofs.lead.Lead.entered_min.Goals as goal
 
@@ -15,8 +14,3 @@ returns-clause-stands c = λ values mine s is possible told.
       tables = tables_kept l.config l.id _ mine l.up l.reach l.heads l.written.items possible refl refl s.tables;
       at = puts_now l.config l.id l.number c.args.p mine (rw is at s.at);
     }
-
-pub returns-clause-rooms : goal.returns-clause-rooms
-returns-clause-rooms c = λ values mine s is possible told turn rooms.
-    let l = c.args.self.now in
-    rooms_entered l.config l.id c.args.p mine s.config turn (rw is at rooms)

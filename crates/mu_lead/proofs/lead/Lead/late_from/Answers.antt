@@ -1,3 +1,9 @@
+use Rattle.mu_lead.proofs.Firsts.{found_place}
+use Rattle.std.proofs.Common.{None, Some, refl, ◌∙◌}
+use Rattle.std.specs.Prelude.{not}
+use Rattle.mu_model.specs.Leaderships.{is_member}
+use Rattle.mu_lead.specs.declared.place.Place.{Place}
+use Rattle.mu_lead.specs.Listing.{next_position}
 use Rattle.mu_lead.proofs.Rooms.{not_so}
 use Rattle.mu_lead.proofs.lead.Lead.late_from.Goals as goal
 
@@ -12,3 +18,9 @@ returns-in-Some-clause-rooms c = λ mine s same may. may.asks c.in-Some.q (c.in-
 
 pub returns-in-None-clause-rooms : goal.returns-in-None-clause-rooms
 returns-in-None-clause-rooms c = λ mine s same may. c.next_position.ensures.rooms mine c.args.p s same (c.in-None.ensures c.args.self.now.id mine s.config.replicas.1 s.leading) may
+
+pub returns-in-Some-clause-listed : goal.returns-in-Some-clause-listed
+returns-in-Some-clause-listed c = λ mine s same. let l = c.args.self.now in found_place (λ k. not (is_member l.id k mine)) c.args.p c.args.p l.config.replicas (Some c.in-Some.q) Place.LateFence (next_position l.config l.id mine l.heads) refl (c.in-Some.ensures l.id mine s.config.replicas.1 s.leading)
+
+pub returns-in-None-clause-listed : goal.returns-in-None-clause-listed
+returns-in-None-clause-listed c = λ mine s same. let l = c.args.self.now in c.next_position.ensures.listed mine s same ∙ found_place (λ k. not (is_member l.id k mine)) c.args.p c.args.p l.config.replicas None Place.LateFence (next_position l.config l.id mine l.heads) refl (c.in-None.ensures l.id mine s.config.replicas.1 s.leading)

@@ -1,3 +1,6 @@
+use Rattle.std.proofs.Common.{get_or, refl}
+use Rattle.std.proofs.lemmas.Bool.{le-ltb, lt-ltb}
+use Rattle.mu_lead.specs.Leading.{end_of}
 use Rattle.std.proofs.Common.{ap, arith, length}
 use Rattle.mu_lead.proofs.Copying.{clear_all}
 use Rattle.mu_lead.proofs.lead.Lead.learn_from.Goals as goal
@@ -21,3 +24,19 @@ returns-then-known-up_of-clause-rooms c = λ mine s same learn ups alls. learn
 
 pub returns-else-known-up_of-clause-rooms : goal.returns-else-known-up_of-clause-rooms
 returns-else-known-up_of-clause-rooms c = λ mine s same learn ups alls. c.bring_up_from.ensures.rooms mine s same (λ q first. ups q) alls
+
+pub returns-then-known-up_of-clause-listed : goal.returns-then-known-up_of-clause-listed
+returns-then-known-up_of-clause-listed c = λ mine s same.
+    let l = c.args.self.now in
+    let up_is = c.up_of.ensures s.tables.ups in
+    let long = ap length same in
+    let more = c.if-known-up_of.true in
+    rw (lt-ltb (end_of l.config l.id mine) (get_or l.up c.args.source 0) (omega (arith, up_is, long, more))) refl
+
+pub returns-else-known-up_of-clause-listed : goal.returns-else-known-up_of-clause-listed
+returns-else-known-up_of-clause-listed c = λ mine s same.
+    let l = c.args.self.now in
+    let up_is = c.up_of.ensures s.tables.ups in
+    let long = ap length same in
+    let less = c.if-known-up_of.false in
+    rw (le-ltb (end_of l.config l.id mine) (get_or l.up c.args.source 0) (omega (arith, up_is, long, less))) (c.bring_up_from.ensures.listed mine s same)

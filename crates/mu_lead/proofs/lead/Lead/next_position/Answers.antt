@@ -1,3 +1,9 @@
+use Rattle.mu_lead.proofs.Firsts.{found_place}
+use Rattle.std.proofs.Common.{None, Some, refl}
+use Rattle.std.specs.Prelude.{not}
+use Rattle.std.proofs.lemmas.Bool.{le-ltb, lt-ltb}
+use Rattle.mu_model.specs.Leaderships.{is_member}
+use Rattle.mu_lead.specs.declared.place.Place.{Place}
 use Rattle.std.proofs.Common.{ap, arith, length, sym, ◌+◌, ◌<◌, ◌∙◌, ◌≤◌}
 use Rattle.mu_model.specs.Contents.{row_count}
 use Rattle.mu_model.specs.Room.{reserve}
@@ -50,3 +56,35 @@ returns-then-known-count_of_places-clause-rooms c = λ mine p s same none may. c
 
 pub returns-else-known-count_of_places-clause-rooms : goal.returns-else-known-count_of_places-clause-rooms
 returns-else-known-count_of_places-clause-rooms c = λ mine p s same none may. may.beyond Stage.Rest none rest_room
+
+pub returns-in-Some-clause-listed : goal.returns-in-Some-clause-listed
+returns-in-Some-clause-listed c = λ mine s same.
+    let l = c.args.self.now in
+    let all = knows_is l.config l.id mine c.args.known.now c.knows_all.result s.config s.possible same c.knows_all.ensures in
+    rw (sym all ∙ c.if-knows_all.true) (found_place (λ k. not (is_member l.id k mine)) 0 0 l.config.replicas (Some c.in-Some.q) Place.LateFence Place.Rest refl (c.in-Some.ensures l.id mine s.config.replicas.1 s.leading))
+
+pub returns-in-None-clause-listed : goal.returns-in-None-clause-listed
+returns-in-None-clause-listed c = λ mine s same.
+    let l = c.args.self.now in
+    let all = knows_is l.config l.id mine c.args.known.now c.knows_all.result s.config s.possible same c.knows_all.ensures in
+    rw (sym all ∙ c.if-knows_all.true) (found_place (λ k. not (is_member l.id k mine)) 0 0 l.config.replicas None Place.LateFence Place.Rest refl (c.in-None.ensures l.id mine s.config.replicas.1 s.leading))
+
+pub returns-then-known-count_of_places-clause-listed : goal.returns-then-known-count_of_places-clause-listed
+returns-then-known-count_of_places-clause-listed c = λ mine s same.
+    let l = c.args.self.now in
+    let all = knows_is l.config l.id mine c.args.known.now c.knows_all.result s.config s.possible same c.knows_all.ensures in
+    let rows = s.config.few in
+    let places = c.count_of_places.ensures (omega (arith, rows)) in
+    let low = c.if-known-count_of_places.true in
+    let long = ap length same in
+    rw (sym all ∙ c.if-knows_all.false, lt-ltb (end_of l.config l.id mine) (row_count l.config + reserve l.config) (omega (arith, low, places, long))) (c.heads_from.ensures.listed mine s same)
+
+pub returns-else-known-count_of_places-clause-listed : goal.returns-else-known-count_of_places-clause-listed
+returns-else-known-count_of_places-clause-listed c = λ mine s same.
+    let l = c.args.self.now in
+    let all = knows_is l.config l.id mine c.args.known.now c.knows_all.result s.config s.possible same c.knows_all.ensures in
+    let rows = s.config.few in
+    let places = c.count_of_places.ensures (omega (arith, rows)) in
+    let high = c.if-known-count_of_places.false in
+    let long = ap length same in
+    rw (sym all ∙ c.if-knows_all.false, le-ltb (end_of l.config l.id mine) (row_count l.config + reserve l.config) (omega (arith, high, places, long))) refl

@@ -1,3 +1,6 @@
+use Rattle.mu_lead.specs.declared.place.Place.{Place}
+use Rattle.std.proofs.Common.{ap, sym, ◌∙◌, ℕ, false}
+use Rattle.mu_lead.specs.Listing.{first_member, pick as listed_pick}
 use Rattle.std.proofs.Common.{None, Some, arith, subst, ◌+◌, ◌≡◌}
 use Rattle.mu_lead.proofs.Looks.{may_adopt, may_mark_it}
 use Rattle.mu_lead.proofs.Sights.{looks_empty, looks_shown}
@@ -30,3 +33,29 @@ returns-in-Some-clause-rooms c = λ counts mine s same looking writes puts. let 
 
 pub returns-in-Some-candidate-clause-rooms : goal.returns-in-Some-candidate-clause-rooms
 returns-in-Some-candidate-clause-rooms c = λ counts mine s same looking writes puts. let l = c.args.self.now in c.offer-in-Some-candidate.ensures.rooms mine s (and_parts (is_member l.id l.id mine) (nat_le (majority_of l.config.replicas) (count_below l.config.replicas (λ p. is_member l.id p mine))) looking.level.leads.carried).0 puts
+
+pub returns-in-Some-clause-listed : goal.returns-in-Some-clause-listed
+returns-in-Some-clause-listed c = λ counts mine s same looking. let l = c.args.self.now in c.offer.ensures.listed mine s ∙ ap (listed_pick l.config l.id mine l.written.items c.args.candidate) (sym c.in-Some.is)
+
+pub returns-in-Some-candidate-clause-listed : goal.returns-in-Some-candidate-clause-listed
+returns-in-Some-candidate-clause-listed c = λ counts mine s same looking.
+    let l = c.args.self.now in
+    let q = c.in-Some-candidate.q in
+    let here = subst (λ o. Looking l.config l.id l.number mine l.up l.reach l.config.replicas o None) c.in-Some-candidate.is (subst (λ o. Looking l.config l.id l.number mine l.up l.reach l.config.replicas c.args.candidate o) c.in-None.is looking) in
+    let few = s.config.replicas.1 in
+    let inside = s.inside in
+    let region = here.roomy.marks.region in
+    let from = c.from.ensures in
+    let value = c.own_value.ensures (omega (arith, inside, few)) (omega (arith, from, region, few)) in
+    let v : c.own_value.result ≡ l.id * 4096 + (4080 + q) = omega (arith, value, from, region, few) in
+    c.offer-in-Some-candidate.ensures.listed mine s
+    ∙ ap (λ (n : ℕ). Place.Enter (first_member l.config l.id mine) (record { value = n; adopted = false })) v
+    ∙ ap (λ o. listed_pick l.config l.id mine l.written.items o None) (sym c.in-Some-candidate.is)
+    ∙ ap (listed_pick l.config l.id mine l.written.items c.args.candidate) (sym c.in-None.is)
+
+pub returns-in-None-candidate-clause-listed : goal.returns-in-None-candidate-clause-listed
+returns-in-None-candidate-clause-listed c = λ counts mine s same looking.
+    let l = c.args.self.now in
+    c.offer_own.ensures.listed counts mine s same
+    ∙ ap (λ o. listed_pick l.config l.id mine l.written.items o None) (sym c.in-None-candidate.is)
+    ∙ ap (listed_pick l.config l.id mine l.written.items c.args.candidate) (sym c.in-None.is)

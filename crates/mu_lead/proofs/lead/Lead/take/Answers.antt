@@ -6,8 +6,15 @@ use Rattle.mu_lead.proofs.Going.{goes_idle}
 use Rattle.mu_lead.proofs.Rows.{working_is}
 use Rattle.mu_lead.proofs.Says.{says_idle, says_next}
 use Rattle.mu_lead.proofs.lead.Lead.take.Goals.{else-is_working-via-then-is_working+else-knows_all, else-is_working-via-else-is_working}
-use Rattle.mu_lead.proofs.Causes.{causes_next}
+use Rattle.mu_lead.specs.Causes.{CausesAt}
+use Rattle.mu_lead.specs.Confirmations.{ConfirmsAt}
+use Rattle.mu_lead.specs.Evidence.{ExplainsAt}
+use Rattle.mu_lead.specs.Raising.{RaisesAt}
+use Rattle.mu_lead.specs.Welcomes.{JoinsAt}
+use Rattle.mu_lead.proofs.Causes.{asks_have_cause}
 use Rattle.mu_lead.proofs.Elections.{elects_next}
+use Rattle.mu_lead.proofs.Laws.{followers_join, fuos_are_raised, minima_are_read, misses_are_explained}
+use Rattle.mu_lead.proofs.Listed.{kept}
 use Rattle.mu_lead.proofs.lead.Lead.take.Goals as goal
 
 pub returns-then-knows_all-clause-says : goal.returns-then-knows_all-clause-says
@@ -39,14 +46,44 @@ returns-then-knows_all-clause-going g c =
     let note = c.take_answer-note.result in
     goes_idle (begins_at l.place || l.under_way) c.take_answer-note.new.self.under_way note (working_is note (sym c.is_working.ensures ∙ c.if-is_working.true)) c.take_answer-note.ensures.going
 
+pub returns-then-knows_all-clause-evidence : goal.returns-then-knows_all-clause-evidence
+returns-then-knows_all-clause-evidence g c = λ counts. let took = c.take_answer-note in kept ExplainsAt g.mine c.args.self.now took.new.self c.args.known.now c.args.answer misses_are_explained c.requires.0 c.requires.1 (took.ensures.listed counts)
+
+pub returns-then-knows_all-clause-raises : goal.returns-then-knows_all-clause-raises
+returns-then-knows_all-clause-raises g c = λ counts. let took = c.take_answer-note in kept RaisesAt g.mine c.args.self.now took.new.self c.args.known.now c.args.answer fuos_are_raised c.requires.0 c.requires.1 (took.ensures.listed counts)
+
+pub returns-then-knows_all-clause-confirms : goal.returns-then-knows_all-clause-confirms
+returns-then-knows_all-clause-confirms g c = λ counts. let took = c.take_answer-note in kept ConfirmsAt g.mine c.args.self.now took.new.self c.args.known.now c.args.answer minima_are_read c.requires.0 c.requires.1 (took.ensures.listed counts)
+
+pub returns-then-knows_all-clause-joins : goal.returns-then-knows_all-clause-joins
+returns-then-knows_all-clause-joins g c = λ counts. let took = c.take_answer-note in kept JoinsAt g.mine c.args.self.now took.new.self c.args.known.now c.args.answer followers_join c.requires.0 c.requires.1 (took.ensures.listed counts)
+
 pub returns-then-knows_all-clause-causes : goal.returns-then-knows_all-clause-causes
-returns-then-knows_all-clause-causes g c = let l = c.args.self.now in let took = c.take_answer-note in causes_next g.mine l took.new.self c.args.answer c.requires.0 took.ensures.goes
+returns-then-knows_all-clause-causes g c = λ counts. let took = c.take_answer-note in kept CausesAt g.mine c.args.self.now took.new.self c.args.known.now c.args.answer asks_have_cause c.requires.0 c.requires.1 (took.ensures.listed counts)
 
 pub returns-then-knows_all-clause-elects : goal.returns-then-knows_all-clause-elects
-returns-then-knows_all-clause-elects g c = λ counts. let l = c.args.self.now in let took = c.take_answer-note in elects_next g.mine l took.new.self c.args.known.now c.args.answer c.requires.0 c.requires.1 (took.ensures.stands counts) took.ensures.goes took.ensures.config took.ensures.id
+returns-then-knows_all-clause-elects g c = λ counts. let took = c.take_answer-note in elects_next g.mine c.args.self.now took.new.self c.args.known.now c.args.answer c.requires.0 c.requires.1 (took.ensures.stands counts) (took.ensures.listed counts) took.ensures.config took.ensures.id
+
+pub returns-then-knows_all-clause-listed : goal.returns-then-knows_all-clause-listed
+returns-then-knows_all-clause-listed g c = λ counts verb due possible told. c.take_answer-note.ensures.listed counts g.mine verb c.requires.1 c.requires.0 due possible told
+
+pub returns-else-is_working-clause-evidence : goal.returns-else-is_working-clause-evidence
+returns-else-is_working-clause-evidence g c = λ counts. let took = c.take_answer-note in kept ExplainsAt g.mine c.args.self.now took.new.self c.args.known.now c.args.answer misses_are_explained c.requires.0 c.requires.1 (took.ensures.listed counts)
+
+pub returns-else-is_working-clause-raises : goal.returns-else-is_working-clause-raises
+returns-else-is_working-clause-raises g c = λ counts. let took = c.take_answer-note in kept RaisesAt g.mine c.args.self.now took.new.self c.args.known.now c.args.answer fuos_are_raised c.requires.0 c.requires.1 (took.ensures.listed counts)
+
+pub returns-else-is_working-clause-confirms : goal.returns-else-is_working-clause-confirms
+returns-else-is_working-clause-confirms g c = λ counts. let took = c.take_answer-note in kept ConfirmsAt g.mine c.args.self.now took.new.self c.args.known.now c.args.answer minima_are_read c.requires.0 c.requires.1 (took.ensures.listed counts)
+
+pub returns-else-is_working-clause-joins : goal.returns-else-is_working-clause-joins
+returns-else-is_working-clause-joins g c = λ counts. let took = c.take_answer-note in kept JoinsAt g.mine c.args.self.now took.new.self c.args.known.now c.args.answer followers_join c.requires.0 c.requires.1 (took.ensures.listed counts)
 
 pub returns-else-is_working-clause-causes : goal.returns-else-is_working-clause-causes
-returns-else-is_working-clause-causes g c = let l = c.args.self.now in let took = c.take_answer-note in causes_next g.mine l took.new.self c.args.answer c.requires.0 took.ensures.goes
+returns-else-is_working-clause-causes g c = λ counts. let took = c.take_answer-note in kept CausesAt g.mine c.args.self.now took.new.self c.args.known.now c.args.answer asks_have_cause c.requires.0 c.requires.1 (took.ensures.listed counts)
 
 pub returns-else-is_working-clause-elects : goal.returns-else-is_working-clause-elects
-returns-else-is_working-clause-elects g c = λ counts. let l = c.args.self.now in let took = c.take_answer-note in elects_next g.mine l took.new.self c.args.known.now c.args.answer c.requires.0 c.requires.1 (took.ensures.stands counts) took.ensures.goes took.ensures.config took.ensures.id
+returns-else-is_working-clause-elects g c = λ counts. let took = c.take_answer-note in elects_next g.mine c.args.self.now took.new.self c.args.known.now c.args.answer c.requires.0 c.requires.1 (took.ensures.stands counts) (took.ensures.listed counts) took.ensures.config took.ensures.id
+
+pub returns-else-is_working-clause-listed : goal.returns-else-is_working-clause-listed
+returns-else-is_working-clause-listed g c = λ counts verb due possible told. c.take_answer-note.ensures.listed counts g.mine verb c.requires.1 c.requires.0 due possible told

@@ -2,7 +2,6 @@ use Rattle.std.proofs.Common.{refl}
 use Rattle.mu_model.specs.declared.event.Answer.{Answer}
 use Rattle.mu_lead.proofs.Asking.{begins_not}
 use Rattle.mu_lead.proofs.Tables.{tables_first, tables_kept}
-use Rattle.mu_lead.proofs.RoomsAsking.{rooms_ask, rooms_first_ask}
 use Rattle.mu_lead.proofs.lead.Lead.took_ask.Goals as goal
 
 pub returns-then-p-eq0-clause-stands : goal.returns-then-p-eq0-clause-stands
@@ -27,21 +26,8 @@ returns-else-p-eq0-clause-stands c = λ values mine s is possible told.
       at = c.after_ask-self-else-p-eq0.ensures.stands l.number mine _ _ l.written.items (rw is at s.at);
     }
 
-pub returns-then-p-eq0-clause-rooms : goal.returns-then-p-eq0-clause-rooms
-returns-then-p-eq0-clause-rooms c = λ values mine s is possible told turn rooms.
-    let l = c.args.self.now in
-    let here = rw is at s.at in
-    c.after_ask-self.ensures.rooms _ l.written.items here.region s.config.replicas.1 (rooms_first_ask l.config l.id c.args.p Answer.Done mine c.if-p-eq0.true)
+pub returns-then-p-eq0-clause-listed : goal.returns-then-p-eq0-clause-listed
+returns-then-p-eq0-clause-listed c = λ values mine s is possible told. c.after_ask-self.ensures.listed s.config.replicas.1
 
-pub returns-else-p-eq0-clause-rooms : goal.returns-else-p-eq0-clause-rooms
-returns-else-p-eq0-clause-rooms c = λ values mine s is possible told turn rooms.
-    let l = c.args.self.now in
-    let here = rw is at s.at in
-    let waiting = rw is at rooms in
-    c.after_ask-self-else-p-eq0.ensures.rooms _ l.written.items here.region s.config.replicas.1 (rooms_ask l.config l.id c.args.p Answer.Done mine c.if-p-eq0.false turn (waiting.1 c.if-p-eq0.false))
-
-pub returns-then-p-eq0-clause-follows : goal.returns-then-p-eq0-clause-follows
-returns-then-p-eq0-clause-follows c = c.after_ask-self.ensures.follows
-
-pub returns-else-p-eq0-clause-follows : goal.returns-else-p-eq0-clause-follows
-returns-else-p-eq0-clause-follows c = c.after_ask-self-else-p-eq0.ensures.follows
+pub returns-else-p-eq0-clause-listed : goal.returns-else-p-eq0-clause-listed
+returns-else-p-eq0-clause-listed c = λ values mine s is possible told. c.after_ask-self-else-p-eq0.ensures.listed s.config.replicas.1

@@ -1,3 +1,5 @@
+use Rattle.std.proofs.Common.{◌+◌}
+use Rattle.std.proofs.lemmas.Bool.{le-ltb, lt-ltb}
 use Rattle.std.proofs.Common.{arith, refl, sym, ◌∷◌}
 use Rattle.mu_model.specs.declared.event.Answer.{Answer}
 use Rattle.mu_lead.proofs.Asking.{fresh_fenced}
@@ -5,9 +7,7 @@ use Rattle.mu_lead.proofs.Tables.{tables_kept}
 use Rattle.mu_model.specs.declared.event.Verb.{Verb}
 use Rattle.mu_model.proofs.Basics.{event_by}
 use Rattle.mu_lead.proofs.Rounds.{at_last, not_yet}
-use Rattle.mu_lead.proofs.RoomsAsking.{rooms_fence}
-use Rattle.mu_lead.proofs.Confirms.{last_fence, next_fence, unconfirmed_fence}
-use Rattle.std.proofs.Common.{ap, inl, inr}
+use Rattle.std.proofs.Common.{ap}
 use Rattle.mu_lead.specs.declared.place.Place.{Place}
 use Rattle.mu_lead.proofs.lead.Lead.took_fence.Goals as goal
 
@@ -56,33 +56,17 @@ returns-else-next-self-clause-note c = λ mine s region possible.
 pub returns-else-next-self-clause-going : goal.returns-else-next-self-clause-going
 returns-else-next-self-clause-going c = sym (c.note_of_round.ensures.going c.args.self.now.under_way)
 
-pub returns-then-next-self-clause-rooms : goal.returns-then-next-self-clause-rooms
-returns-then-next-self-clause-rooms c = λ values mine s is possible told turn rooms. let l = c.args.self.now in rooms_fence l.config l.id c.args.p c.args.fence mine turn (rw is at rooms)
-
-pub returns-else-next-self-clause-rooms : goal.returns-else-next-self-clause-rooms
-returns-else-next-self-clause-rooms c = λ values mine s is possible told turn rooms.
-    let l = c.args.self.now in
+pub returns-then-next-self-clause-listed : goal.returns-then-next-self-clause-listed
+returns-then-next-self-clause-listed c = λ values mine s is possible told.
     let few = s.config.replicas.1 in
-    c.after_round-self.ensures.rooms _ l.written.items few s.inside (c.take.ensures l.config mine few possible s.leading) (rooms_fence l.config l.id c.args.p c.args.fence mine turn (rw is at rooms))
-
-pub returns-then-next-self-clause-confirms : goal.returns-then-next-self-clause-confirms
-returns-then-next-self-clause-confirms c = λ mine s is possible turn room.
-    let l = c.args.self.now in
-    let here = rw is at s.at in
-    let few = s.config.replicas.1 in
-    let region = here.1.region in
     let next = c.saturating_add-next.ensures in
-    next_fence l.config l.id c.args.p c.saturating_add-next.result (Answer.Seen c.args.fence) mine (omega (arith, next, region, few)) c.if-next-self.true room
+    let low = c.if-next-self.true in
+    rw (lt-ltb (c.args.p + 1) c.args.self.now.config.replicas (omega (arith, next, low, few))) (ap (Place.Confirm c.args.round) (omega (arith, next, low, few)))
 
-pub returns-else-next-self-clause-confirms : goal.returns-else-next-self-clause-confirms
-returns-else-next-self-clause-confirms c = λ mine s is possible turn room.
-    let l = c.args.self.now in
-    let here = rw is at s.at in
+pub returns-else-next-self-clause-listed : goal.returns-else-next-self-clause-listed
+returns-else-next-self-clause-listed c = λ values mine s is possible told.
     let few = s.config.replicas.1 in
-    c.after_round-self.ensures.confirms _ few s.inside (c.take.ensures l.config mine few possible s.leading) (last_fence l.config l.id c.args.p (Answer.Seen c.args.fence) mine here.1.region room) (unconfirmed_fence l.config l.id c.args.p (Answer.Seen c.args.fence) mine turn)
-
-pub returns-then-next-self-clause-follows : goal.returns-then-next-self-clause-follows
-returns-then-next-self-clause-follows c = λ few. let next = c.saturating_add-next.ensures in let low = c.if-next-self.true in inl (ap (Place.Confirm c.args.round) (omega (arith, next, low, few)))
-
-pub returns-else-next-self-clause-follows : goal.returns-else-next-self-clause-follows
-returns-else-next-self-clause-follows c = λ few. let next = c.saturating_add-next.ensures in let high = c.if-next-self.false in inr (omega (arith, next, high, few), c.after_round-self.ensures.follows)
+    let next = c.saturating_add-next.ensures in
+    let high = c.if-next-self.false in
+    rw (le-ltb (c.args.p + 1) c.args.self.now.config.replicas (omega (arith, next, high, few)))
+    (c.after_round-self.ensures.listed (event_by c.args.self.now.id (Verb.Fence c.args.p) (Answer.Seen c.args.fence) ∷ mine) few s.inside (c.take.ensures c.args.self.now.config mine few possible s.leading))

@@ -1,4 +1,4 @@
-use Rattle.std.proofs.Common.{ap, arith, get_or, inl, inr, refl, sym, ◌∙◌, ◌∷◌}
+use Rattle.std.proofs.Common.{ap, arith, get_or, inl, refl, sym, ◌∙◌, ◌∷◌}
 use Rattle.mu_lead.proofs.Tables.{tables_kept}
 use Rattle.mu_lead.proofs.Lates.{fence_ends, fence_event}
 use Rattle.mu_lead.specs.Saying.{note_of_fence}
@@ -61,11 +61,12 @@ returns-else-is_over-clause-rooms c = λ values mine s is possible told turn roo
     let leading = c.take.ensures l.config mine s.config.replicas.1 possible s.leading in
     absurd (true≢false (sym (fence_ends l.config l.id c.args.p (get_or l.up c.args.p 0) c.args.fence mine possible here.near.behind.region here.past) ∙ (sym (c.is_over.ensures l.id (e ∷ mine) leading) ∙ c.if-is_over.false)))
 
-pub returns-then-is_over-clause-leads : goal.returns-then-is_over-clause-leads
-returns-then-is_over-clause-leads c = λ mine s possible.
+pub returns-then-is_over-clause-listed : goal.returns-then-is_over-clause-listed
+returns-then-is_over-clause-listed c = λ values mine s is possible told.
     let l = c.args.self.now in
-    let leading = c.take.ensures l.config mine s.config.replicas.1 possible s.leading in
-    inr (sym (c.is_over.ensures l.id (fence_event l.id c.args.p c.args.fence ∷ mine) leading) ∙ c.if-is_over.true, refl)
+    rw (sym (c.is_over.ensures l.id (fence_event l.id c.args.p c.args.fence ∷ mine) (c.take.ensures l.config mine s.config.replicas.1 possible s.leading)) ∙ c.if-is_over.true) refl
 
-pub returns-else-is_over-clause-leads : goal.returns-else-is_over-clause-leads
-returns-else-is_over-clause-leads c = λ mine s possible. inl refl
+pub returns-else-is_over-clause-listed : goal.returns-else-is_over-clause-listed
+returns-else-is_over-clause-listed c = λ values mine s is possible told.
+    let l = c.args.self.now in
+    rw (sym (c.is_over.ensures l.id (fence_event l.id c.args.p c.args.fence ∷ mine) (c.take.ensures l.config mine s.config.replicas.1 possible s.leading)) ∙ c.if-is_over.false) refl

@@ -75,3 +75,9 @@ returns-clause-rooms c = λ mine s is possible told turn rooms.
     (λ all none. rooms_level l.config l.id p u c.args.source mine l.written.items s.config turn region member
     (none_brought l.config l.id (e ∷ mine) c.with_number-self.result c.with_fuo-self.result l.heads l.written.items possible tables
     (none_lacks l.config l.id 0 (e ∷ mine) c.with_number-self.result Then.Late (λ k few member low. absurd (omega (arith, low))) none) all) led)
+
+pub returns-clause-listed : goal.returns-clause-listed
+returns-clause-listed c = λ mine s is possible told.
+    let l = c.args.self.now in
+    let now = returns-clause-stands c mine s is possible told in
+    c.after_fuo-self.ensures.listed (fuo_event l.id c.args.p c.args.u ∷ mine) (record { possible = possible; config = now.config; inside = now.inside; leading = now.leading; tables = now.tables }) told (rw is at s.at).region

@@ -1,3 +1,8 @@
+use Rattle.std.proofs.Common.{Some}
+use Rattle.std.proofs.Common.{List, ℕ}
+use Rattle.std.specs.Prelude.{not, ◌&&◌, ◌==◌}
+use Rattle.mu_model.specs.Scores.{is_failed}
+use Rattle.mu_lead.specs.Listing.{heads_from, may_mark}
 use Rattle.mu_lead.specs.Leading.{end_of}
 use Rattle.std.proofs.Common.{ap, arith, length, refl, subst, sym, ◌+◌, ◌<◌, ◌∙◌, ◌∷◌, ◌≡◌}
 use Rattle.mu_model.specs.declared.event.Verb.{Verb}
@@ -62,7 +67,7 @@ returns-then-may_mark-clause-stands c = λ mine heeded s is possible told.
     let may = (c.may_mark.ensures.may short).0 c.if-may_mark.true in
     let room = subst (λ values. nat_lt (length values + 0) (h + l.config.ring) ≡ true) told may.2 in
     let mark = marks_now l.config l.id q h mine region may.0 here.unmarked (sym (heeded q region) ∙ may.1) (sym high ∙ c.if-leaves_room.false) room in
-    let marks = c.first_of.ensures l.config l.id (e ∷ mine) (marks_head l.config l.id q h mine c.args.candidate here.roomy.marks) mark in
+    let marks = c.first_of.ensures.may l.config l.id (e ∷ mine) (marks_head l.config l.id q h mine c.args.candidate here.roomy.marks) mark in
     record {
       config = s.config;
       inside = s.inside;
@@ -167,3 +172,46 @@ returns-else-may_mark-clause-rooms c = λ mine s is possible told turn rooms.
     let high = subst (λ values. c.leaves_room.result ≡ nat_lt (length values + c.reserve_of.result) (h + l.config.ring)) told (c.leaves_room.ensures short) ∙ ap (λ free. nat_lt (end_of l.config l.id mine + free) (h + l.config.ring)) c.reserve_of.ensures in
     c.late_from-self.ensures.rooms (e ∷ mine) (record { possible = possible; config = s.config; inside = s.inside; leading = leading; tables = tables }) told
     (rooms_no_room l.config l.id q h c.args.candidate mine l.written.items s.config turn region here.unmarked (sym high ∙ c.if-leaves_room.false) (rw is at rooms))
+
+pub returns-then-leaves_room-clause-listed : goal.returns-then-leaves_room-clause-listed
+returns-then-leaves_room-clause-listed c = λ mine heeded s is possible told.
+    let l = c.args.self.now in
+    let now = returns-then-leaves_room-clause-stands c mine heeded s is possible told in
+    let few = s.config.replicas.1 in
+    let q = c.args.q in
+    let h = c.args.head in
+    let region = (rw is at s.at).region in
+    let after = head_event l.id q h ∷ mine in
+    let short = subst (λ values. length values < 65536) (sym told) (known_few l.config l.id after s.config possible) in
+    let high = subst (λ values. c.leaves_room.result ≡ nat_lt (length values + c.reserve_of.result) (h + l.config.ring)) told (c.leaves_room.ensures short) ∙ ap (λ free. nat_lt (end_of l.config l.id mine + free) (h + l.config.ring)) c.reserve_of.ensures in
+    let more = c.saturating_add.ensures in
+    rw (sym high ∙ c.if-leaves_room.true) (c.heads_from-self.ensures.listed after (record { possible = possible; config = now.config; inside = now.inside; leading = now.leading; tables = now.tables }) told ∙ ap (λ k. heads_from l.config l.id after c.with_number-self.result k c.args.candidate) (let next : c.saturating_add.result ≡ q + 1 = omega (arith, more, region, few) in next))
+
+pub returns-then-may_mark-clause-listed : goal.returns-then-may_mark-clause-listed
+returns-then-may_mark-clause-listed c = λ mine heeded s is possible told.
+    let l = c.args.self.now in
+    let now = returns-then-may_mark-clause-stands c mine heeded s is possible told in
+    let few = s.config.replicas.1 in
+    let q = c.args.q in
+    let h = c.args.head in
+    let region = (rw is at s.at).region in
+    let after = head_event l.id q h ∷ mine in
+    let short = subst (λ values. length values < 65536) (sym told) (known_few l.config l.id after s.config possible) in
+    let high = subst (λ values. c.leaves_room.result ≡ nat_lt (length values + c.reserve_of.result) (h + l.config.ring)) told (c.leaves_room.ensures short) ∙ ap (λ free. nat_lt (end_of l.config l.id mine + free) (h + l.config.ring)) c.reserve_of.ensures in
+    let may : may_mark l.config l.id after q h ≡ c.may_mark.result = sym (c.may_mark.ensures.is short ∙ ap (λ t. not (q == l.id) && (t && nat_lt (length c.args.known.now + 0) (h + l.config.ring))) (heeded q region) ∙ ap (λ (values : List ℕ). not (q == l.id) && (is_failed l.id q mine && nat_lt (length values + 0) (h + l.config.ring))) told ∙ ap (λ n. not (q == l.id) && (is_failed l.id q mine && nat_lt n (h + l.config.ring))) (let plain : end_of l.config l.id mine + 0 ≡ end_of l.config l.id mine = omega arith in plain)) in
+    let more = c.saturating_add-then-may_mark.ensures in
+    rw (sym high ∙ c.if-leaves_room.false, may ∙ c.if-may_mark.true) (c.heads_from-self-then-may_mark.ensures.listed after (record { possible = possible; config = now.config; inside = now.inside; leading = now.leading; tables = now.tables }) told ∙ ap (λ k. heads_from l.config l.id after c.with_number-self.result k (Some c.first_of.result)) (let next : c.saturating_add-then-may_mark.result ≡ q + 1 = omega (arith, more, region, few) in next) ∙ ap (heads_from l.config l.id after c.with_number-self.result (q + 1)) c.first_of.ensures.is)
+
+pub returns-else-may_mark-clause-listed : goal.returns-else-may_mark-clause-listed
+returns-else-may_mark-clause-listed c = λ mine heeded s is possible told.
+    let l = c.args.self.now in
+    let now = returns-else-may_mark-clause-stands c mine heeded s is possible told in
+    let few = s.config.replicas.1 in
+    let q = c.args.q in
+    let h = c.args.head in
+    let region = (rw is at s.at).region in
+    let after = head_event l.id q h ∷ mine in
+    let short = subst (λ values. length values < 65536) (sym told) (known_few l.config l.id after s.config possible) in
+    let high = subst (λ values. c.leaves_room.result ≡ nat_lt (length values + c.reserve_of.result) (h + l.config.ring)) told (c.leaves_room.ensures short) ∙ ap (λ free. nat_lt (end_of l.config l.id mine + free) (h + l.config.ring)) c.reserve_of.ensures in
+    let may : may_mark l.config l.id after q h ≡ c.may_mark.result = sym (c.may_mark.ensures.is short ∙ ap (λ t. not (q == l.id) && (t && nat_lt (length c.args.known.now + 0) (h + l.config.ring))) (heeded q region) ∙ ap (λ (values : List ℕ). not (q == l.id) && (is_failed l.id q mine && nat_lt (length values + 0) (h + l.config.ring))) told ∙ ap (λ n. not (q == l.id) && (is_failed l.id q mine && nat_lt n (h + l.config.ring))) (let plain : end_of l.config l.id mine + 0 ≡ end_of l.config l.id mine = omega arith in plain)) in
+    rw (sym high ∙ c.if-leaves_room.false, may ∙ c.if-may_mark.false) (c.late_from-self.ensures.listed after (record { possible = possible; config = now.config; inside = now.inside; leading = now.leading; tables = now.tables }) told)

@@ -1,3 +1,6 @@
+use Rattle.std.proofs.lemmas.Bool.{le-ltb, lt-ltb}
+use Rattle.std.proofs.Common.{◌+◌, ◌≡◌}
+use Rattle.mu_lead.specs.Listing.{late_from}
 use Rattle.mu_lead.specs.Leading.{end_of}
 use Rattle.std.proofs.Common.{None, ap, arith, get_or, length, refl, ◌<◌, ◌≤◌, ◌∙◌, ◌∷◌}
 use Rattle.mu_model.specs.declared.event.Verb.{Verb}
@@ -91,3 +94,22 @@ returns-else-known-u-clause-rooms c = λ mine s is possible told turn rooms.
     let l = c.args.self.now in
     let here = rw is at s.at in
     rooms_late_fuo l.config l.id c.args.p c.args.u mine l.written.items s.config turn here.late.region (rw is at rooms)
+
+pub returns-then-known-u-clause-listed : goal.returns-then-known-u-clause-listed
+returns-then-known-u-clause-listed c = λ mine s is possible told.
+    let l = c.args.self.now in
+    let now = returns-then-known-u-clause-stands c mine s is possible told in
+    let few = s.config.replicas.1 in
+    let region = (rw is at s.at).late.region in
+    let more = c.saturating_add.ensures in
+    let less = c.if-known-u.true in
+    let same = ap length told in
+    let after = fuo_event l.id c.args.p c.args.u ∷ mine in
+    rw (lt-ltb (end_of l.config l.id after) c.args.u (omega (arith, less, same))) (c.late_from-self.ensures.listed after (record { possible = possible; config = now.config; inside = now.inside; leading = now.leading; tables = now.tables }) told ∙ ap (late_from l.config l.id after l.heads) (let next : c.saturating_add.result ≡ c.args.p + 1 = omega (arith, more, region, few) in next))
+
+pub returns-else-known-u-clause-listed : goal.returns-else-known-u-clause-listed
+returns-else-known-u-clause-listed c = λ mine s is possible told.
+    let l = c.args.self.now in
+    let high = c.if-known-u.false in
+    let same = ap length told in
+    rw (le-ltb (end_of l.config l.id (fuo_event l.id c.args.p c.args.u ∷ mine)) c.args.u (omega (arith, high, same))) refl

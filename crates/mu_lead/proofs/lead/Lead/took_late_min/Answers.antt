@@ -1,3 +1,4 @@
+use Rattle.std.proofs.lemmas.Bool.{le-ltb, lt-ltb}
 use Rattle.std.proofs.Common.{arith, inl, refl}
 use Rattle.mu_lead.proofs.Tables.{tables_kept}
 use Rattle.mu_lead.proofs.Lates.{late_told, min_event}
@@ -51,3 +52,15 @@ returns-else-from-min-clause-rooms c = λ values mine s is possible told turn ro
     let l = c.args.self.now in
     let here = rw is at s.at in
     rooms_late_min l.config l.id c.args.p (Answer.Number c.args.min) mine l.written.items s.config turn here.late.region here.late.level.leads.begun (rw is at rooms)
+
+pub returns-then-from-min-clause-listed : goal.returns-then-from-min-clause-listed
+returns-then-from-min-clause-listed c = λ values mine s is possible told.
+    let l = c.args.self.now in
+    let more = c.if-from-min.true in
+    rw (lt-ltb l.number c.args.min (omega (arith, more))) refl
+
+pub returns-else-from-min-clause-listed : goal.returns-else-from-min-clause-listed
+returns-else-from-min-clause-listed c = λ values mine s is possible told.
+    let l = c.args.self.now in
+    let low = c.if-from-min.false in
+    rw (le-ltb l.number c.args.min (omega (arith, low))) refl

@@ -1,3 +1,6 @@
+use Rattle.std.proofs.lemmas.Bool.{le-ltb, lt-ltb}
+use Rattle.std.proofs.Common.{◌+◌, ◌≡◌, ◌∙◌}
+use Rattle.mu_lead.specs.Listing.{late_from}
 use Rattle.mu_lead.specs.Leading.{end_of}
 use Rattle.std.proofs.Common.{ap, arith, get_or, length, refl, ◌<◌, ◌≤◌, ◌∷◌}
 use Rattle.mu_lead.proofs.Tables.{tables_kept}
@@ -67,3 +70,26 @@ returns-else-up_of-known-clause-rooms c = λ mine s is possible told turn rooms.
     c.late_from-self.ensures.rooms (e ∷ mine) (record { possible = possible; config = s.config; inside = s.inside; leading = leading; tables = tables }) told
     (rooms_joined_level l.config l.id p c.saturating_add.result l.number mine l.written.items s.config turn region late.stranger (omega (arith, next, region, few))
     (level_brought l.config l.id l.number (e ∷ mine) l.up l.reach l.heads l.written.items possible tables (late_level l.config l.id l.number p mine l.up l.reach here has)) (rw is at rooms))
+
+pub returns-then-up_of-known-clause-listed : goal.returns-then-up_of-known-clause-listed
+returns-then-up_of-known-clause-listed c = λ mine s is possible told.
+    let l = c.args.self.now in
+    let now = returns-then-up_of-known-clause-stands c mine s is possible told in
+    let up_is = c.up_of.ensures s.tables.ups in
+    let less = c.if-up_of-known.true in
+    let same = ap length told in
+    let after = landed_min l.id c.args.p l.number ∷ mine in
+    rw (lt-ltb (get_or l.up c.args.p 0) (end_of l.config l.id after) (omega (arith, less, same, up_is))) (c.bring_up-self.ensures.listed after (record { possible = possible; config = now.config; inside = now.inside; leading = now.leading; tables = now.tables }) (rw is at s.at).entering.told.late.region)
+
+pub returns-else-up_of-known-clause-listed : goal.returns-else-up_of-known-clause-listed
+returns-else-up_of-known-clause-listed c = λ mine s is possible told.
+    let l = c.args.self.now in
+    let now = returns-else-up_of-known-clause-stands c mine s is possible told in
+    let few = s.config.replicas.1 in
+    let region = (rw is at s.at).entering.told.late.region in
+    let up_is = c.up_of.ensures s.tables.ups in
+    let high = c.if-up_of-known.false in
+    let more = c.saturating_add.ensures in
+    let same = ap length told in
+    let after = landed_min l.id c.args.p l.number ∷ mine in
+    rw (le-ltb (get_or l.up c.args.p 0) (end_of l.config l.id after) (omega (arith, high, same, up_is))) (c.late_from-self.ensures.listed after (record { possible = possible; config = now.config; inside = now.inside; leading = now.leading; tables = now.tables }) told ∙ ap (late_from l.config l.id after l.heads) (let next : c.saturating_add.result ≡ c.args.p + 1 = omega (arith, more, region, few) in next))

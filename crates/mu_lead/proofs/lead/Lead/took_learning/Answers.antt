@@ -1,3 +1,4 @@
+use Rattle.std.proofs.Common.{refl, sym}
 use Rattle.std.proofs.Common.{refl, sym, ◌∙◌, ◌∷◌}
 use Rattle.mu_model.specs.declared.event.Verb.{Verb}
 use Rattle.mu_lead.proofs.Keeping.{leading_calm, leads_kept}
@@ -84,3 +85,14 @@ returns-else-is_past-clause-rooms c = λ i mine s is position possible told turn
     (λ none. rooms_learnt_level l.config l.id p i a mine s.config turn more led
     (none_brought l.config l.id (e ∷ mine) l.up l.reach l.heads l.written.items possible tables
     (none_lacks l.config l.id 0 (e ∷ mine) l.up Then.Late (λ k few_members member low. absurd (omega (arith, low))) none) here.raised))
+
+pub returns-then-is_past-clause-listed : goal.returns-then-is_past-clause-listed
+returns-then-is_past-clause-listed c = λ i mine s is position possible told.
+    let l = c.args.self.now in
+    rw (sym c.is_past.ensures ∙ c.if-is_past.true) refl
+
+pub returns-else-is_past-clause-listed : goal.returns-else-is_past-clause-listed
+returns-else-is_past-clause-listed c = λ i mine s is position possible told.
+    let l = c.args.self.now in
+    let now = returns-else-is_past-clause-stands c i mine s is position possible told in
+    rw (sym c.is_past.ensures ∙ c.if-is_past.false) (c.learn_from-self.ensures.listed (look_event l.id c.args.source i c.args.answer ∷ mine) (record { possible = possible; config = now.config; inside = now.inside; leading = now.leading; tables = now.tables }) told)

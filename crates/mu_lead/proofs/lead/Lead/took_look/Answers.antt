@@ -1,3 +1,7 @@
+use Rattle.std.proofs.lemmas.Bool.{le-ltb, lt-ltb}
+use Rattle.std.proofs.Common.{◌+◌}
+use Rattle.mu_lead.specs.Listing.{larger_sight, or_else, member_from, pick}
+use Rattle.mu_lead.specs.declared.place.Place.{Place}
 use Rattle.std.proofs.Common.{ap, arith, length, refl, sym, ◌∙◌, ◌∷◌}
 use Rattle.mu_model.specs.declared.event.Verb.{Verb}
 use Rattle.mu_lead.proofs.Keeping.{leading_calm, leads_kept}
@@ -75,7 +79,7 @@ returns-else-from-known-clause-stands c = λ counts mine s is position possible 
     let long = ap length told in
     let none = c.if-from-known.false in
     let same = look_same l.config l.id e mine (omega (arith, from, long, none, position)) in
-    let best = c.larger-shown.ensures ∙ ap (larger (entry_in c.args.best)) c.sight_in.ensures in
+    let best = c.larger-shown.ensures.entry ∙ ap (larger (entry_in c.args.best)) c.sight_in.ensures.entry in
     record {
       config = s.config;
       inside = s.inside;
@@ -133,7 +137,7 @@ returns-else-from-known-clause-rooms c = λ counts mine s is possible told turn 
     let no_more = c.if-from-known.false in
     let same = look_same l.config l.id e mine (omega (arith, from, long, no_more, position)) in
     let none = untaught l.config l.id e mine same in
-    let best = c.larger-shown.ensures ∙ ap (larger (entry_in c.args.best)) c.sight_in.ensures in
+    let best = c.larger-shown.ensures.entry ∙ ap (larger (entry_in c.args.best)) c.sight_in.ensures.entry in
     let led = rw is at rooms in
     let region = here.region in
     let member = here.member in
@@ -142,3 +146,34 @@ returns-else-from-known-clause-rooms c = λ counts mine s is possible told turn 
     (λ q next. rooms_next_look l.config l.id p q i a mine s.config turn none (record { there = next.there; member = next.member; above = next.above; between = next.between }) led)
     (λ words some few_words. rooms_writes l.config l.id p i words a mine s.config turn none region member some few_words led)
     (λ k some few_members. rooms_picks l.config l.id p i k a mine s.config turn none region member some few_members led)
+
+pub returns-then-is_past-clause-listed : goal.returns-then-is_past-clause-listed
+returns-then-is_past-clause-listed c = λ counts mine s is position possible told.
+    let l = c.args.self.now in
+    rw (sym c.is_past.ensures ∙ c.if-is_past.true) refl
+
+pub returns-then-from-known-clause-listed : goal.returns-then-from-known-clause-listed
+returns-then-from-known-clause-listed c = λ counts mine s is position possible told.
+    let l = c.args.self.now in
+    let now = returns-then-from-known-clause-stands c counts mine s is position possible told in
+    let after = look_event l.id c.args.p c.args.position c.args.answer ∷ mine in
+    let from = c.from.ensures in
+    let long = ap length told in
+    let more = c.if-from-known.true in
+    rw (sym c.is_past.ensures ∙ c.if-is_past.false, lt-ltb c.args.position (end_of l.config l.id after) (omega (arith, from, long, more))) (c.bring_up_from-self.ensures.listed after (record { possible = possible; config = now.config; inside = now.inside; leading = now.leading; tables = now.tables }) told)
+
+pub returns-else-from-known-clause-listed : goal.returns-else-from-known-clause-listed
+returns-else-from-known-clause-listed c = λ counts mine s is position possible told.
+    let l = c.args.self.now in
+    let now = returns-else-from-known-clause-stands c counts mine s is position possible told in
+    let e = look_event l.id c.args.p c.args.position c.args.answer in
+    let here = rw is at s.at in
+    let from = c.from.ensures in
+    let long = ap length told in
+    let none = c.if-from-known.false in
+    let same = look_same l.config l.id e mine (omega (arith, from, long, none, position)) in
+    let best = c.larger-shown.ensures.entry ∙ ap (larger (entry_in c.args.best)) c.sight_in.ensures.entry in
+    let sight = c.larger-shown.ensures.listed ∙ ap (larger_sight c.args.best) c.sight_in.ensures.listed in
+    rw (sym c.is_past.ensures ∙ c.if-is_past.false, le-ltb c.args.position (end_of l.config l.id (e ∷ mine)) (omega (arith, from, long, none)))
+    (c.after_look-self.ensures.listed counts (e ∷ mine) (record { possible = possible; config = now.config; inside = now.inside; leading = now.leading; tables = now.tables }) told here.region (looking_on l.config l.id l.number c.args.p c.args.position c.args.answer mine l.up l.reach c.args.candidate c.args.best c.larger-shown.result possible here same (sym c.is_past.ensures ∙ c.if-is_past.false) best)
+    ∙ ap (λ b. or_else (member_from l.config l.id (e ∷ mine) (c.args.p + 1)) (λ q. Place.Look q (end_of l.config l.id (e ∷ mine)) c.args.candidate b) (pick l.config l.id (e ∷ mine) l.written.items c.args.candidate b)) sight)

@@ -1,3 +1,4 @@
+use Rattle.std.proofs.Common.{refl, sym, ◌∙◌}
 use Rattle.std.proofs.Common.{get_or, refl, sym, ◌∙◌}
 use Rattle.mu_model.specs.declared.event.Verb.{Verb}
 use Rattle.mu_lead.proofs.Keeping.{leading_calm}
@@ -51,3 +52,13 @@ returns-else-is_past-clause-rooms c = λ values mine s is possible told turn roo
     let lacks = here.lacks in
     let same = look_known l.config l.id c.args.p (get_or l.up c.args.p 0) c.args.answer mine (λ e. omega (arith, lacks, e)) in
     (rooms_looked l.config l.id c.args.p (get_or l.up c.args.p 0) c.args.answer mine l.written.items c.args.then s.config turn same here.behind.region here.behind.member (rw is at rooms)).0
+
+pub returns-then-is_past-clause-listed : goal.returns-then-is_past-clause-listed
+returns-then-is_past-clause-listed c = λ values mine s is possible told.
+    let l = c.args.self.now in
+    rw (sym c.is_past.ensures ∙ c.if-is_past.true) refl
+
+pub returns-else-is_past-clause-listed : goal.returns-else-is_past-clause-listed
+returns-else-is_past-clause-listed c = λ values mine s is possible told.
+    let l = c.args.self.now in
+    rw (sym c.is_past.ensures ∙ c.if-is_past.false) refl

@@ -1,9 +1,16 @@
+use Rattle.std.proofs.Common.{◌+◌}
+use Rattle.mu_lead.proofs.Firsts.{found_place}
+use Rattle.std.proofs.Common.{None, Some, is_some, ◌∙◌, ◌∷◌}
+use Rattle.mu_model.specs.declared.event.Verb.{Verb}
+use Rattle.mu_model.specs.Leaderships.{noted_grant}
+use Rattle.mu_model.proofs.Basics.{event_by}
+use Rattle.mu_lead.specs.declared.place.Place.{Place}
+use Rattle.mu_lead.specs.Listing.{noted_from, or_else}
 use Rattle.std.proofs.Common.{arith, refl}
 use Rattle.mu_agree.proofs.Readings.{parts_count_law}
 use Rattle.mu_lead.proofs.Numbering.{numbered_now, reads_next, told_all}
 use Rattle.mu_lead.proofs.Tables.{tables_kept}
 use Rattle.mu_model.specs.declared.event.Answer.{Answer}
-use Rattle.mu_lead.proofs.RoomsMin.{rooms_last_min, rooms_next_min}
 use Rattle.mu_lead.proofs.lead.Lead.took_min.Goals as goal
 
 pub returns-in-Some-clause-stands : goal.returns-in-Some-clause-stands
@@ -39,25 +46,22 @@ returns-in-None-clause-stands c = λ values mine s is possible told.
       at = c.first_to_enter-self.ensures.stands _ l.up l.reach l.written.items s.config.replicas.1 s.inside leading telling (numbered_now l.config l.id c.next_number-self.result _ telling number);
     }
 
-pub returns-in-Some-clause-rooms : goal.returns-in-Some-clause-rooms
-returns-in-Some-clause-rooms c = λ values mine s is possible told turn rooms.
+pub returns-in-Some-clause-listed : goal.returns-in-Some-clause-listed
+returns-in-Some-clause-listed c = λ values mine s is possible told.
     let l = c.args.self.now in
-    let here = rw is at s.at in
     let few = s.config.replicas.1 in
-    let low = here.region in
+    let now = event_by l.id (Verb.Min c.args.p) (Answer.Number c.args.min) ∷ mine in
+    let low = (rw is at s.at).region in
     let next = c.saturating_add.ensures in
-    let leading = c.take.ensures l.config mine few possible s.leading in
-    let first = c.in-Some.ensures l.id _ few leading in
-    let from = first.0 in
-    rooms_next_min l.config l.id c.args.p c.in-Some.q (Answer.Number c.args.min) mine l.written.items s.config turn here.telling.fresh.begun (omega (arith, next, low, few, from)) first.1 (rw is at rooms)
+    found_place (λ k. is_some (noted_grant l.id k now)) (c.args.p + 1) c.saturating_add.result l.config.replicas (Some c.in-Some.q) Place.ReadMin (or_else (noted_from l.config l.id now 0) Place.EnterMin Place.Rest) (omega (arith, next, low, few)) (c.in-Some.ensures l.id now few (c.take.ensures l.config mine few possible s.leading))
 
-pub returns-in-None-clause-rooms : goal.returns-in-None-clause-rooms
-returns-in-None-clause-rooms c = λ values mine s is possible told turn rooms.
+pub returns-in-None-clause-listed : goal.returns-in-None-clause-listed
+returns-in-None-clause-listed c = λ values mine s is possible told.
     let l = c.args.self.now in
-    let here = rw is at s.at in
     let few = s.config.replicas.1 in
-    let low = here.region in
+    let now = event_by l.id (Verb.Min c.args.p) (Answer.Number c.args.min) ∷ mine in
+    let low = (rw is at s.at).region in
     let next = c.saturating_add.ensures in
     let leading = c.take.ensures l.config mine few possible s.leading in
-    let telling = told_all l.config l.id c.args.p c.saturating_add.result c.args.min mine here (omega (arith, next, low, few)) (c.in-None.ensures l.id _ few leading) in
-    c.first_to_enter-self.ensures.rooms _ l.written.items few s.inside leading telling.confirmed telling.fresh.alone (rooms_last_min l.config l.id c.args.p (Answer.Number c.args.min) mine l.written.items s.config turn here.telling.fresh.begun low (rw is at rooms))
+    c.first_to_enter-self.ensures.listed now few s.inside leading
+    ∙ found_place (λ k. is_some (noted_grant l.id k now)) (c.args.p + 1) c.saturating_add.result l.config.replicas None Place.ReadMin (or_else (noted_from l.config l.id now 0) Place.EnterMin Place.Rest) (omega (arith, next, low, few)) (c.in-None.ensures l.id now few leading)

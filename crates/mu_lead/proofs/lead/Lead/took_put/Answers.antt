@@ -1,3 +1,7 @@
+use Rattle.mu_lead.proofs.Firsts.{found_place}
+use Rattle.mu_lead.specs.declared.place.Place.{Place}
+use Rattle.std.proofs.Common.{None, Some, ap, ◌+◌, ◌∙◌}
+use Rattle.mu_lead.specs.Listing.{first_member}
 use Rattle.mu_model.specs.Parts.{IsPossible}
 use Rattle.mu_leading.specs.Leadership.{StandsForLeadership}
 use Rattle.mu_lead.specs.Leading.{AtRaise, HoldsTables, end_of}
@@ -20,8 +24,6 @@ use Rattle.mu_lead.specs.Offering.{AtEnter, LooksShow, took}
 use Rattle.std.proofs.Common.{[], false, length-append, true, ◌++◌}
 use Rattle.mu_model.specs.Leaderships.{is_member}
 use Rattle.mu_lead.proofs.RoomsPutting.{rooms_committed, rooms_next_put}
-use Rattle.mu_lead.proofs.Raises.{raised_on, raises_committed}
-use Rattle.mu_lead.proofs.RoomsPutting.{next_put_commits_none, put_commits}
 use Rattle.mu_lead.proofs.lead.Lead.took_put.Goals as goal
 
 pub returns-in-Some-clause-stands : goal.returns-in-Some-clause-stands
@@ -98,7 +100,7 @@ returns-in-None-clause-stands c = λ mine s is possible told.
       tables = subst (λ values. HoldsTables l.config l.id (put_event l.id p (length values) b v ∷ mine) c.brought_to-self.result l.reach l.heads l.written.items) (sym told) (tables_committed l.config l.id (end + 1) now l.up c.brought_to-self.result l.reach l.heads l.written.items now_kept (c.brought_to-self.ensures.long ∙ ups) (λ q stranger. c.brought_to-self.ensures.others now q now_leading stranger)
           (λ q member. (let low_q = member_within l.config l.id q now now_possible member in
           (here_up q low_q member, brought_committed l.config l.id b v p q mine grows (brought_less l.config l.id q end (get_or l.up q 0) mine (o.have q low_q member) (s.tables.brought q)) (all q low_q member)))) low);
-      at = subst (λ values. AtRaise l.config l.id b (put_event l.id p (length values) b v ∷ mine) c.brought_to-self.result l.reach c.first_member.result) (sym told) (raises_first l.config l.id b v p c.first_member.result mine l.up c.brought_to-self.result l.reach here.0 grows here_up (c.first_member.ensures now p few now_leading region here.0.entering.member));
+      at = subst (λ values. AtRaise l.config l.id b (put_event l.id p (length values) b v ∷ mine) c.brought_to-self.result l.reach c.first_member.result) (sym told) (raises_first l.config l.id b v p c.first_member.result mine l.up c.brought_to-self.result l.reach here.0 grows here_up (c.first_member.ensures.first now p few now_leading region here.0.entering.member));
     }
 
 pub returns-in-Some-clause-tells : goal.returns-in-Some-clause-tells
@@ -189,47 +191,23 @@ returns-in-None-clause-rooms c = λ mine s is possible told turn rooms.
     rooms_committed l.config l.id p c.first_member.result (length c.args.known.now) b v c.args.offer mine l.written.items s.config turn region here.0.entering.member
     (subst (λ values. known l.config l.id (put_event l.id p (length values) b v ∷ mine) ≡ known l.config l.id mine ++ v ∷ []) (sym told) grows) (rw is at rooms)
 
-pub returns-in-Some-clause-raises : goal.returns-in-Some-clause-raises
-returns-in-Some-clause-raises c = λ mine s is possible told turn raised.
+pub returns-in-Some-clause-listed : goal.returns-in-Some-clause-listed
+returns-in-Some-clause-listed c = λ mine s is possible told.
     let l = c.args.self.now in
-    let here = rw is at s.at in
+    let now = returns-in-Some-clause-stands c mine s is possible told in
     let few = s.config.replicas.1 in
-    let p = c.args.p in
-    let q = c.in-Some.q in
-    let v = c.args.offer.value in
-    let b = l.number in
-    let region = here.0.entering.region in
-    let i = length c.args.known.now in
-    let few_known = known_few l.config l.id mine s.config (parts_shorten_law l.config l.id mine (put_event l.id p i b v) possible).before in
-    let position = c.end_of-position.ensures (subst (λ values. length values < 65536) (sym told) few_known) in
-    let leading = subst (λ j. IsPossible l.config l.id (put_event l.id p j b v ∷ mine) → StandsForLeadership l.id (put_event l.id p j b v ∷ mine) c.take.new.self) position (λ may. c.take.ensures l.config mine few may s.leading) possible in
+    let region = (rw is at s.at).0.entering.region in
     let more = c.saturating_add.ensures in
-    let next : c.saturating_add.result ≡ p + 1 = omega (arith, more, region, few) in
-    let first = c.in-Some.ensures l.id (put_event l.id p i b v ∷ mine) few leading in
-    let low = first.0 in
-    let above : p < q = omega (arith, low, next) in
-    raised_on l.config l.id mine (put_event l.id p i b v)
-    (next_put_commits_none l.config l.id p q i b v mine first.1 first.2 (λ e. omega (arith, above, e)) (subst (λ values. took l.id q (length values) b v mine ≡ false) (sym told) (here.0.entering.offering.above q (omega (arith, above))))) raised
+    let after = put_event l.id c.args.p (length c.args.known.now) l.number c.args.offer.value ∷ mine in
+    found_place (λ k. is_member l.id k after) (c.args.p + 1) c.saturating_add.result l.config.replicas (Some c.in-Some.q) (λ q. Place.Enter q c.args.offer) (Place.Raise (first_member l.config l.id after)) (omega (arith, more, region, few)) (c.in-Some.ensures l.id after few now.leading)
 
-pub returns-in-None-clause-raises : goal.returns-in-None-clause-raises
-returns-in-None-clause-raises c = λ mine s is possible told turn raised.
+pub returns-in-None-clause-listed : goal.returns-in-None-clause-listed
+returns-in-None-clause-listed c = λ mine s is possible told.
     let l = c.args.self.now in
-    let here = rw is at s.at in
+    let now = returns-in-None-clause-stands c mine s is possible told in
     let few = s.config.replicas.1 in
-    let p = c.args.p in
-    let v = c.args.offer.value in
-    let b = l.number in
-    let region = here.0.entering.region in
-    let now_possible = subst (λ values. IsPossible l.config l.id (put_event l.id p (length values) b v ∷ mine)) told possible in
-    let few_known = known_few l.config l.id mine s.config (parts_shorten_law l.config l.id mine (put_event l.id p (end_of l.config l.id mine) b v) now_possible).before in
-    let position = c.end_of-position.ensures (subst (λ values. length values < 65536) (sym told) few_known) ∙ ap length told in
-    let leading = subst (λ j. IsPossible l.config l.id (put_event l.id p j b v ∷ mine) → StandsForLeadership l.id (put_event l.id p j b v ∷ mine) c.take.new.self) position (λ may. c.take.ensures l.config mine few may s.leading) now_possible in
+    let region = (rw is at s.at).0.entering.region in
     let more = c.saturating_add.ensures in
-    let next : c.saturating_add.result ≡ p + 1 = omega (arith, more, region, few) in
-    let all = took_all l.config l.id b v p c.saturating_add.result mine l.up l.reach here.0 next (c.in-None.ensures l.id (put_event l.id p (end_of l.config l.id mine) b v ∷ mine) few leading) in
-    let grows = known_more l.config l.id b v p mine l.up l.reach here.0.entering.offering all in
-    let i = length c.args.known.now in
-    let first = c.first_member.ensures (put_event l.id p (end_of l.config l.id mine) b v ∷ mine) p few leading region here.0.entering.member in
-    raises_committed l.config l.id c.first_member.result mine (put_event l.id p i b v)
-    (put_commits l.config l.id p i b v mine (subst (λ values. known l.config l.id (put_event l.id p (length values) b v ∷ mine) ≡ known l.config l.id mine ++ v ∷ []) (sym told) grows))
-    (λ k below. first.3 k (omega arith) below) raised
+    let after = put_event l.id c.args.p (length c.args.known.now) l.number c.args.offer.value ∷ mine in
+    ap Place.Raise (c.first_member.ensures.listed after few s.inside now.leading)
+    ∙ found_place (λ k. is_member l.id k after) (c.args.p + 1) c.saturating_add.result l.config.replicas None (λ q. Place.Enter q c.args.offer) (Place.Raise (first_member l.config l.id after)) (omega (arith, more, region, few)) (c.in-None.ensures l.id after few now.leading)

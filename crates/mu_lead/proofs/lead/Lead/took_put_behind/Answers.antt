@@ -72,3 +72,12 @@ returns-clause-rooms c = λ mine s is possible told turn rooms.
     (first_read l.config l.id p held.grant u mine before held.noted (behind.read p behind.region behind.member)) in
     let on = rooms_copied l.config l.id p u l.number v mine l.written.items c.args.then s.config turn behind.region behind.member lacks copies led in
     c.after_put_behind-self.ensures.rooms (e ∷ mine) on.0 on.1
+
+pub returns-clause-listed : goal.returns-clause-listed
+returns-clause-listed c = λ mine s is possible told.
+    let l = c.args.self.now in
+    let now = returns-clause-stands c mine s is possible told in
+    let near = (rw is at s.at).near in
+    let u = get_or l.up c.args.p 0 in
+    let v = get_or c.args.known.now u 0 in
+    c.after_put_behind-self.ensures.listed (put_event l.id c.args.p u l.number v ∷ mine) (record { possible = possible; config = now.config; inside = now.inside; leading = now.leading; tables = now.tables }) (told ∙ sym (put_known l.config l.id c.args.p u l.number v mine near.lacks)) near.behind.region

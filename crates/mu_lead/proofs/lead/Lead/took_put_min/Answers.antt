@@ -1,7 +1,15 @@
+use Rattle.std.proofs.Common.{◌+◌}
+use Rattle.mu_lead.proofs.Firsts.{found_place}
+use Rattle.std.proofs.Common.{None, Some, ap, is_some, ◌∙◌, ◌∷◌}
+use Rattle.mu_model.specs.declared.event.Answer.{Answer}
+use Rattle.mu_model.specs.declared.event.Verb.{Verb}
+use Rattle.mu_model.specs.Leaderships.{noted_grant}
+use Rattle.mu_model.proofs.Basics.{event_by}
+use Rattle.mu_lead.specs.declared.place.Place.{Place}
+use Rattle.mu_lead.specs.Listing.{first_member}
 use Rattle.std.proofs.Common.{arith, refl}
 use Rattle.mu_lead.proofs.Numbering.{joins_all, joins_next, member_now, reads_first}
 use Rattle.mu_lead.proofs.Tables.{tables_kept}
-use Rattle.mu_lead.proofs.RoomsMin.{rooms_last_join, rooms_next_join}
 use Rattle.mu_lead.proofs.lead.Lead.took_put_min.Goals as goal
 
 pub returns-in-Some-clause-stands : goal.returns-in-Some-clause-stands
@@ -31,22 +39,25 @@ returns-in-None-clause-stands c = λ values mine s is possible told.
       inside = s.inside;
       leading = leading;
       tables = tables_kept l.config l.id _ mine l.up l.reach l.heads l.written.items possible refl refl s.tables;
-      at = reads_first l.config l.id l.number c.first_member.result _ l.up l.reach leads here.entering.numbered.unput (c.first_member.ensures _ c.args.p few leading low (member_now l.id c.args.p l.number mine));
+      at = reads_first l.config l.id l.number c.first_member.result _ l.up l.reach leads here.entering.numbered.unput (c.first_member.ensures.first _ c.args.p few leading low (member_now l.id c.args.p l.number mine));
     }
 
-pub returns-in-Some-clause-rooms : goal.returns-in-Some-clause-rooms
-returns-in-Some-clause-rooms c = λ values mine s is possible told turn rooms.
+pub returns-in-Some-clause-listed : goal.returns-in-Some-clause-listed
+returns-in-Some-clause-listed c = λ values mine s is possible told.
     let l = c.args.self.now in
-    let here = rw is at s.at in
     let few = s.config.replicas.1 in
-    let low = here.entering.region in
+    let now = event_by l.id (Verb.PutMin c.args.p l.number) Answer.Done ∷ mine in
+    let low = (rw is at s.at).entering.region in
     let next = c.saturating_add.ensures in
-    let first = c.in-Some.ensures l.id _ few (c.take.ensures l.config mine few possible s.leading) in
-    let from = first.0 in
-    rooms_next_join l.config l.id c.args.p c.in-Some.q l.number mine s.config turn low (omega (arith, next, low, few, from)) (rw is at rooms)
+    found_place (λ k. is_some (noted_grant l.id k now)) (c.args.p + 1) c.saturating_add.result l.config.replicas (Some c.in-Some.q) Place.EnterMin (Place.ReadFuo (first_member l.config l.id now) None) (omega (arith, next, low, few)) (c.in-Some.ensures l.id now few (c.take.ensures l.config mine few possible s.leading))
 
-pub returns-in-None-clause-rooms : goal.returns-in-None-clause-rooms
-returns-in-None-clause-rooms c = λ values mine s is possible told turn rooms.
+pub returns-in-None-clause-listed : goal.returns-in-None-clause-listed
+returns-in-None-clause-listed c = λ values mine s is possible told.
     let l = c.args.self.now in
-    let here = rw is at s.at in
-    rooms_last_join l.config l.id c.args.p c.first_member.result l.number mine l.written.items s.config turn here.entering.region (rw is at rooms)
+    let few = s.config.replicas.1 in
+    let now = event_by l.id (Verb.PutMin c.args.p l.number) Answer.Done ∷ mine in
+    let low = (rw is at s.at).entering.region in
+    let next = c.saturating_add.ensures in
+    let leading = c.take.ensures l.config mine few possible s.leading in
+    ap (λ k. Place.ReadFuo k None) (c.first_member.ensures.listed now few s.inside leading)
+    ∙ found_place (λ k. is_some (noted_grant l.id k now)) (c.args.p + 1) c.saturating_add.result l.config.replicas None Place.EnterMin (Place.ReadFuo (first_member l.config l.id now) None) (omega (arith, next, low, few)) (c.in-None.ensures l.id now few leading)

@@ -1,3 +1,8 @@
+use Rattle.mu_lead.proofs.Firsts.{found_place}
+use Rattle.mu_lead.specs.declared.place.Place.{Place}
+use Rattle.std.proofs.Common.{None, Some, ◌+◌, ◌∙◌}
+use Rattle.mu_model.specs.Leaderships.{is_member}
+use Rattle.mu_lead.specs.Listing.{late_from}
 use Rattle.mu_model.specs.Placing.{is_within_ring, reaches_head}
 use Rattle.mu_model.specs.Parts.{IsPossible}
 use Rattle.mu_lead.specs.Leading.{AtRaise, HoldsTables, end_of}
@@ -12,8 +17,6 @@ use Rattle.mu_lead.specs.Rooms.{RoomsAt}
 use Rattle.mu_lead.proofs.RoomsRaising.{rooms_next_raise, rooms_raised}
 use Rattle.std.proofs.Common.{true}
 use Rattle.mu_model.specs.Stretches.{is_replication}
-use Rattle.std.proofs.Common.{ap}
-use Rattle.mu_lead.proofs.Raises.{raises_last, raises_member}
 use Rattle.mu_lead.proofs.lead.Lead.took_raise.Goals as goal
 
 pub returns-in-Some-clause-stands : goal.returns-in-Some-clause-stands
@@ -113,27 +116,22 @@ returns-in-None-clause-rooms c = λ mine s is possible told turn rooms.
     (c.late_from-self.ensures.rooms now (record { possible = now_possible; config = s.config; inside = s.inside; leading = leading; tables = tables }) told
     (rooms_raised l.config l.id p end mine l.written.items s.config turn_now region here.member (rw is at rooms)))
 
-pub returns-in-Some-clause-raises : goal.returns-in-Some-clause-raises
-returns-in-Some-clause-raises c = λ mine s is possible told turn raised.
+pub returns-in-Some-clause-listed : goal.returns-in-Some-clause-listed
+returns-in-Some-clause-listed c = λ mine s is possible told.
     let l = c.args.self.now in
-    let here = rw is at s.at in
     let few = s.config.replicas.1 in
-    let region = here.region in
+    let region = (rw is at s.at).region in
     let more = c.saturating_add.ensures in
-    let first = c.in-Some.ensures l.id mine few s.leading in
-    let from = first.0 in
-    let full = ap length told in
-    raises_member l.config l.id c.args.p c.in-Some.q (length c.args.known.now) mine turn (omega (arith, full))
-    (record { there = region; member = here.member; above = omega (arith, more, region, few, from); between = λ k after before. first.3 k (omega (arith, more, region, few, after)) before }) raised
+    let after = raise_event l.id c.args.p (length c.args.known.now) ∷ mine in
+    found_place (λ k. is_member l.id k mine) (c.args.p + 1) c.saturating_add.result l.config.replicas (Some c.in-Some.q) Place.Raise (late_from l.config l.id after l.heads 0) (omega (arith, more, region, few)) (c.in-Some.ensures l.id mine few s.leading)
 
-pub returns-in-None-clause-raises : goal.returns-in-None-clause-raises
-returns-in-None-clause-raises c = λ mine s is possible told turn raised.
+pub returns-in-None-clause-listed : goal.returns-in-None-clause-listed
+returns-in-None-clause-listed c = λ mine s is possible told.
     let l = c.args.self.now in
-    let here = rw is at s.at in
+    let now = returns-in-None-clause-stands c mine s is possible told in
     let few = s.config.replicas.1 in
-    let region = here.region in
+    let region = (rw is at s.at).region in
     let more = c.saturating_add.ensures in
-    let none = c.in-None.ensures l.id mine few s.leading in
-    let full = ap length told in
-    raises_last l.config l.id c.args.p (length c.args.known.now) c.late_from-self.result mine possible turn (omega (arith, full)) region here.member
-    (λ k after before. none k (omega (arith, more, region, few, after)) before) raised
+    let after = raise_event l.id c.args.p (length c.args.known.now) ∷ mine in
+    c.late_from-self.ensures.listed after (record { possible = possible; config = now.config; inside = now.inside; leading = now.leading; tables = now.tables }) told
+    ∙ found_place (λ k. is_member l.id k mine) (c.args.p + 1) c.saturating_add.result l.config.replicas None Place.Raise (late_from l.config l.id after l.heads 0) (omega (arith, more, region, few)) (c.in-None.ensures l.id mine few s.leading)

@@ -1,3 +1,6 @@
+use Rattle.std.proofs.Common.{ap, ◌+◌, ◌∙◌, ◌∷◌}
+use Rattle.mu_lead.specs.Listing.{Tables, bring_up_from, late_from}
+use Rattle.mu_lead.proofs.Firsts.{joined_region, other_region}
 use Rattle.mu_model.specs.Placing.{is_within_ring, reaches_head}
 use Rattle.std.proofs.Common.{None, Some, arith, get_or, length, refl, subst, ℕ, ◌+◌, ◌<◌, ◌||◌, ◌∙◌, ◌∷◌, ◌≡◌}
 use Rattle.mu_model.specs.declared.event.Verb.{Verb}
@@ -172,3 +175,25 @@ returns-in_default-clause-rooms c = λ mine s is possible told turn rooms.
           (none_brought l.config l.id (e ∷ mine) l.up c.with_fuo-self.result l.heads l.written.items possible tables
           (none_lacks l.config l.id c.saturating_add-in_default.result (e ∷ mine) l.up c.args.then done none) raised) placed)))
     ]
+
+pub returns-in-Joined-clause-listed : goal.returns-in-Joined-clause-listed
+returns-in-Joined-clause-listed c = λ mine s is possible told.
+    let l = c.args.self.now in
+    let now = returns-in-Joined-clause-stands c mine s is possible told in
+    let few = s.config.replicas.1 in
+    let region = (rw is at s.at).behind.region in
+    let more = c.saturating_add.ensures in
+    let after = raise_event l.id c.args.p (get_or l.up c.args.p 0) ∷ mine in
+    let t : Tables = record { up = l.up; reach = c.with_fuo-self.result; heads = l.heads; written = l.written.items } in
+    c.late_from-self.ensures.listed after (record { possible = possible; config = now.config; inside = now.inside; leading = now.leading; tables = now.tables }) told ∙ ap (late_from l.config l.id after l.heads) (let next : c.saturating_add.result ≡ c.args.p + 1 = omega (arith, more, region, few) in next) ∙ joined_region l.config l.id after t c.args.p c.args.then c.in-Joined.is
+
+pub returns-in_default-clause-listed : goal.returns-in_default-clause-listed
+returns-in_default-clause-listed c = λ mine s is possible told.
+    let l = c.args.self.now in
+    let now = returns-in_default-clause-stands c mine s is possible told in
+    let few = s.config.replicas.1 in
+    let region = (rw is at s.at).behind.region in
+    let more = c.saturating_add-in_default.ensures in
+    let after = raise_event l.id c.args.p (get_or l.up c.args.p 0) ∷ mine in
+    let t : Tables = record { up = l.up; reach = c.with_fuo-self.result; heads = l.heads; written = l.written.items } in
+    c.bring_up_from-self.ensures.listed after (record { possible = possible; config = now.config; inside = now.inside; leading = now.leading; tables = now.tables }) told ∙ ap (λ q. bring_up_from l.config l.id after t q c.args.then) (let next : c.saturating_add-in_default.result ≡ c.args.p + 1 = omega (arith, more, region, few) in next) ∙ other_region l.config l.id after t c.args.p c.args.then c.in_default.not-Joined

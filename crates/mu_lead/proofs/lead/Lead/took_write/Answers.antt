@@ -74,3 +74,14 @@ returns-clause-rooms c = λ values mine s is possible told turn rooms.
     c.write_from-self.ensures.rooms (e ∷ mine) (record { possible = possible; config = s.config; inside = s.inside; leading = leading; tables = tables }) (writing_row l.config l.id l.number j k x j last c.args.offer mine l.up l.reach w)
     (λ some. rooms_next_word l.config l.id j k x (words_left l.written.items j (last + 1 - j)) (words_left new j (last + 1 - j)) mine s.config turn one some led)
     (λ m some most. rooms_last_word l.config l.id j k x (words_left l.written.items j (last + 1 - j)) m mine s.config turn (omega (arith, one)) some most led)
+
+pub returns-clause-listed : goal.returns-clause-listed
+returns-clause-listed c = λ values mine s is possible told.
+    let l = c.args.self.now in
+    let now = returns-clause-stands c values mine s is possible told in
+    let here = rw is at s.at in
+    let w = here.0.writing in
+    let end = last_there l.config w.first (rest_of l.config w.first) s.config w.batch.row refl in
+    let last_is = w.last_row in
+    let rows = s.config.few in
+    c.write_from-self.ensures.listed (row_event l.id c.args.j (get_or l.written.items c.args.j 12) (config_word l.config c.args.j (get_or l.written.items c.args.j 12)) ∷ mine) (record { possible = possible; config = now.config; inside = now.inside; leading = now.leading; tables = now.tables }) (omega (arith, end, last_is, rows))

@@ -1,3 +1,8 @@
+use Rattle.mu_lead.proofs.Firsts.{found_place}
+use Rattle.mu_lead.specs.declared.place.Place.{Place}
+use Rattle.std.proofs.Common.{Some, ◌∙◌}
+use Rattle.std.specs.Prelude.{nat_lt}
+use Rattle.mu_lead.specs.Listing.{first_member}
 use Rattle.std.proofs.Common.{None, arith, get_or, refl, subst, sym, ◌+◌, ◌≡◌}
 use Rattle.std.proofs.Common.{true}
 use Rattle.mu_lead.proofs.Looks.{may_offer_own}
@@ -63,3 +68,14 @@ returns-in-None-clause-rooms c = λ mine s w writes puts.
     let l = c.args.self.now in
     let own = (and_parts (is_member l.id l.id mine) (nat_le (majority_of l.config.replicas) (count_below l.config.replicas (λ p. is_member l.id p mine))) w.looking.level.leads.carried).0 in
     c.offer.ensures.rooms mine s own puts
+
+pub returns-in-Some-clause-listed : goal.returns-in-Some-clause-listed
+returns-in-Some-clause-listed c = λ mine s low.
+    let l = c.args.self.now in
+    found_place (λ j. nat_lt (get_or l.written.items j 12) 12) c.args.first c.args.first (c.args.last + 1) (Some c.in-Some.j) (λ j. Place.Write j c.args.last c.args.offer) (Place.Enter (first_member l.config l.id mine) c.args.offer) refl (c.in-Some.ensures low)
+
+pub returns-in-None-clause-listed : goal.returns-in-None-clause-listed
+returns-in-None-clause-listed c = λ mine s low.
+    let l = c.args.self.now in
+    c.offer.ensures.listed mine s
+    ∙ found_place (λ j. nat_lt (get_or l.written.items j 12) 12) c.args.first c.args.first (c.args.last + 1) None (λ j. Place.Write j c.args.last c.args.offer) (Place.Enter (first_member l.config l.id mine) c.args.offer) refl (c.in-None.ensures low)

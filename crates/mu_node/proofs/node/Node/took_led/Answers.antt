@@ -4,7 +4,7 @@ use Rattle.mu_model.specs.Contents.{IsConfig}
 use Rattle.mu_model.specs.Knowledge.{grown, known}
 use Rattle.mu_model.specs.Parts.{IsPossible}
 use Rattle.mu_model.proofs.Basics.{none_some, same_some}
-use Rattle.mu_known.specs.KnownLog.{CountsCommands}
+use Rattle.mu_known.specs.KnownLog.{HoldsValues}
 use Rattle.mu_lead.specs.declared.lead.Lead.{Lead}
 use Rattle.mu_lead.specs.Going.{begins_at, going_after}
 use Rattle.mu_lead.specs.Notes.{value_committed}
@@ -16,7 +16,7 @@ use Rattle.mu_node.specs.Paced.{HasPaces, HasPlannedPaces}
 use Rattle.mu_node.specs.Cycle.{handed}
 use Rattle.mu_node.proofs.Answering.{answers_stay}
 use Rattle.mu_node.proofs.Leading.{due_leads_on}
-use Rattle.mu_node.proofs.Leads.{lead_says, lead_takes, lead_tells, led_beside, led_counts, led_told}
+use Rattle.mu_node.proofs.Leads.{lead_says, lead_takes, lead_tells, led_beside, led_log, led_told}
 use Rattle.mu_node.proofs.Moving.{event_by}
 use Rattle.mu_node.proofs.Pacing.{TakesPaces, kept_led, led_paces, paces_led}
 use Rattle.mu_node.proofs.node.Node.took_led.Goals as goal
@@ -36,21 +36,21 @@ returns-clause-stands g c follows possible =
     let lead = subst (λ l. StandsForLead k r mine l) (sym c.note.ensures.lead) held.lead in
     let due = subst (λ l. lead_due k r mine l ≡ Some verb) (sym c.note.ensures.lead) c.requires.1.1.1.0 in
     let told = led_told k r mine verb c.args.answer c.note.new.self values (λ none. c.note.ensures.stands mine possible held.beside none) (λ entry some. c.note.ensures.awaits mine entry possible held.beside some) (λ l n h. c.known-known.ensures k r l n h) in
-    let of_config = led_counts k r mine verb c.args.answer c.note.new.self values c.counts.result.now (λ none. c.note.ensures.stands mine possible held.beside none) (λ entry some. c.note.ensures.awaits mine entry possible held.beside some) (λ l n h. c.known-known.ensures k r l n h) (λ l n h. c.counts.ensures k r l n h) in
-    let counts = subst (λ x. CountsCommands x values c.counts.result.now) (sym lead.config) of_config in
+    let of_config = led_log k r mine verb c.args.answer c.note.new.self values c.log.result.now (λ none. c.note.ensures.stands mine possible held.beside none) (λ entry some. c.note.ensures.awaits mine entry possible held.beside some) (λ l n h. c.known-known.ensures k r l n h) (λ l n h. c.log.ensures k r l n h) in
+    let log = subst (λ x. HoldsValues x values c.log.result.now) (sym lead.config) of_config in
     let takes : TakesPaces mine old values c.args.answer c.take-note.new.self = record {
-      rooms = c.take-note.ensures.rooms counts;
-      evidence = c.take-note.ensures.evidence;
-      raises = c.take-note.ensures.raises;
-      confirms = c.take-note.ensures.confirms;
-      joins = c.take-note.ensures.joins;
-      causes = c.take-note.ensures.causes;
-      elects = c.take-note.ensures.elects counts;
+      rooms = c.take-note.ensures.rooms log;
+      evidence = c.take-note.ensures.evidence log;
+      raises = c.take-note.ensures.raises log;
+      confirms = c.take-note.ensures.confirms log;
+      joins = c.take-note.ensures.joins log;
+      causes = c.take-note.ensures.causes log;
+      elects = c.take-note.ensures.elects log;
     } in
     let odd = c.requires.1.1.1.1.0 in
     let before : HasPaces k r mine old = led_paces k r mine old verb odd due (subst (λ l. HasPlannedPaces k r mine l) (sym c.note.ensures.lead) held.paces) in
     let paces = paces_led k r mine old c.take-note.new.self verb c.args.answer values lead c.take-note.ensures.config c.take-note.ensures.id takes odd due possible told before in
-    let taken = lead_takes k r mine old c.take-note.new.self verb c.args.answer values lead c.take-note.ensures.config c.take-note.ensures.id (c.take-note.ensures.stands counts) due possible told in
+    let taken = lead_takes k r mine old c.take-note.new.self verb c.args.answer values lead c.take-note.ensures.config c.take-note.ensures.id (c.take-note.ensures.stands log) due possible told in
     record {
       beside = led_beside k r mine verb c.args.answer c.note.new.self c.learn.new.self c.take-note.new.self values (length values) c.take-note.result c.requires.0 possible
           (λ none. c.note.ensures.stands mine possible held.beside none)

@@ -2,7 +2,7 @@ use Rattle.std.proofs.Common.{◌∙◌, ◌∷◌, ap, subst, sym}
 use Rattle.mu_model.specs.Histories.{part}
 use Rattle.mu_model.specs.Knowledge.{known}
 use Rattle.mu_model.proofs.Basics.{event_by}
-use Rattle.mu_known.specs.KnownLog.{CountsCommands}
+use Rattle.mu_known.specs.KnownLog.{HoldsValues}
 use Rattle.mu_lead.specs.Standing.{StandsFor}
 use Rattle.worked_leads.proofs.Driving.{beside_same, told_other}
 use Rattle.mu_model.proofs.Parts.{part_of_maker, possible_for_maker}
@@ -22,8 +22,8 @@ returns-clause-drives g c =
     let told = c.known.ensures l.config l.id (part l.id (e ∷ g.past)) stood.own_stands.known_log ∙ (ap (λ m. known l.config l.id m) own ∙ told_other l.config l.id mine c.args.verb c.args.answer c.requires.1.1.1.1) in
     let log = stood.own_stands.known_log in
     let later = part l.id (e ∷ g.past) in
-    let counts = subst (λ values. CountsCommands l.config values c.counts.result.now) (sym (c.known.ensures l.config l.id later log)) (c.counts.ensures l.config l.id later log) in
-    let stands = c.take.ensures.stands counts c.args.verb c.requires.1.1.0 possible told in
+    let holds = subst (λ values. HoldsValues l.config values c.args.self.now.own.known_log) (sym (c.known.ensures l.config l.id later log)) log.values in
+    let stands = c.take.ensures.stands holds c.args.verb c.requires.1.1.0 possible told in
     record {
       beside = beside_same (e ∷ g.past) l now c.note_own.new.own c.note_own.new.scores c.note_own.new.all c.take.ensures.config c.take.ensures.id stood;
       stands = subst (λ i. StandsFor (part i (e ∷ g.past)) now) (sym c.take.ensures.id) (subst (λ m. StandsFor m now) (sym own) stands);

@@ -2,7 +2,7 @@ use Rattle.std.proofs.Common.{◌∙◌, ◌∷◌, subst, sym}
 use Rattle.mu_model.specs.Histories.{part}
 use Rattle.mu_model.specs.Legal.{IsLegalHistory}
 use Rattle.mu_model.proofs.Basics.{event_by}
-use Rattle.mu_known.specs.KnownLog.{CountsCommands}
+use Rattle.mu_known.specs.KnownLog.{HoldsValues}
 use Rattle.mu_lead.specs.Standing.{StandsFor}
 use Rattle.worked_leads.specs.Driven.{Beside}
 use Rattle.worked_leads.proofs.Driving.{told_put}
@@ -23,8 +23,8 @@ returns-clause-drives g c =
     let possible = possible_for_maker l.config e g.past legal in
     let told = c.known.ensures l.config l.id mine held.beside.own_stands.known_log ∙ told_put l.config l.id mine c.args.verb c.args.answer c.requires.1.1.1.1 in
     let log = held.beside.own_stands.known_log in
-    let counts = subst (λ values. CountsCommands l.config values c.counts.result.now) (sym (c.known.ensures l.config l.id mine log)) (c.counts.ensures l.config l.id mine log) in
-    let stands = c.take-note.ensures.stands counts c.args.verb c.requires.1.1.0 possible told in
+    let holds = subst (λ values. HoldsValues l.config values c.args.self.now.own.known_log) (sym (c.known.ensures l.config l.id mine log)) log.values in
+    let stands = c.take-note.ensures.stands holds c.args.verb c.requires.1.1.0 possible told in
     let stood = c.note_own.ensures g.past (subst (λ k. IsLegalHistory k (e ∷ g.past)) (sym same) legal) (subst (λ k. Beside k l.id g.past d.own d.scores d.all) (sym same) held.beside) in
     record {
       beside = subst (λ i. Beside now.config i (e ∷ g.past) c.note_own.new.own c.note_own.new.scores c.note_own.new.all) (sym c.take-note.ensures.id) stood;

@@ -1,0 +1,113 @@
+-- What holds at each place of the listing, whatever its verb was answered.
+use Rattle.std.specs.Prelude.{List, None, Some, true, ℕ, ◌<◌, ◌∷◌, ◌≡◌}
+use Rattle.std.specs.declared.option.Option.{Option}
+use Rattle.mu_model.specs.declared.config.Config.{Config}
+use Rattle.mu_model.specs.declared.event.Answer.{Answer}
+use Rattle.mu_model.specs.declared.event.Event.{Event}
+use Rattle.mu_model.specs.declared.event.Verb.{Verb}
+use Rattle.mu_model.specs.Contents.{IsConfig}
+use Rattle.mu_model.specs.Knowledge.{known}
+use Rattle.mu_model.specs.Parts.{IsPossible}
+use Rattle.mu_model.specs.Stretches.{is_replication}
+use Rattle.mu_lead.specs.declared.lead.Lead.{Lead}
+use Rattle.mu_lead.specs.declared.place.Place.{Place}
+use Rattle.mu_lead.specs.Leading.{end_of}
+use Rattle.mu_lead.specs.Listing.{Tables, next_place}
+use Rattle.mu_lead.specs.Standing.{At, HasHeeded, StandsFor, known_told, verb_at, verb_of}
+
+-- the verb, where there is one, else a beat
+abbrev pub verb_or : Option Verb → Verb
+verb_or None = Verb.Beat
+verb_or (Some verb) = verb
+
+-- the step of a place: its verb, answered so
+abbrev pub step_of : Config → ℕ → ℕ → List Event → List ℕ → List ℕ → Place → Answer → Event
+step_of c r b mine up written place a = record {
+  by = r;
+  verb = verb_or (verb_at c b (known c r mine) up written place);
+  answer = a;
+}
+
+-- the leader's tables
+abbrev pub tables_of : Lead → Tables
+tables_of l = record { up = l.up; reach = l.reach; heads = l.heads; written = l.written.items }
+
+-- the leader comes to the place that follows in the listing, with these events
+abbrev pub GoesTo : Lead → List Event → Answer → Place → Lead → Type 0
+GoesTo old now answer place new =
+    new.place ≡ next_place old.config old.id old.number now (tables_of new) answer place
+
+-- by the answer to the verb that was due, with these values known, it does
+abbrev pub Follows : List Event → Lead → List ℕ → Answer → Lead → Type 0
+Follows mine old values answer new =
+    (verb : Verb) → verb_of old (known old.config old.id mine) ≡ Some verb
+    → IsPossible old.config old.id (record { by = old.id; verb = verb; answer = answer } ∷ mine)
+    → values ≡ known_told old.config old.id mine old.id verb answer
+    → GoesTo old (record { by = old.id; verb = verb; answer = answer } ∷ mine) answer old.place new
+
+-- from its place, by the event and with these values known, it does
+abbrev pub FollowsFrom : Lead → Place → List ℕ → Verb → Answer → Lead → Type 0
+FollowsFrom old place values verb answer new =
+    (mine : List Event) → StandsFor mine old → old.place ≡ place
+    → IsPossible old.config old.id (record { by = old.id; verb = verb; answer = answer } ∷ mine)
+    → values ≡ known_told old.config old.id mine old.id verb answer
+    → GoesTo old (record { by = old.id; verb = verb; answer = answer } ∷ mine) answer place new
+
+-- the same by the answer to the verb that was due
+abbrev pub FollowsDue : Lead → List ℕ → Answer → Lead → Type 0
+FollowsDue old values answer new =
+    (mine : List Event) (verb : Verb) → HasHeeded mine old → StandsFor mine old
+    → verb_at old.config old.number (known old.config old.id mine) old.up old.written.items
+    old.place
+    ≡ Some verb
+    → IsPossible old.config old.id (record { by = old.id; verb = verb; answer = answer } ∷ mine)
+    → values ≡ known_told old.config old.id mine old.id verb answer
+    → GoesTo old (record { by = old.id; verb = verb; answer = answer } ∷ mine) answer old.place new
+
+-- the same of a look at the first unknown position
+abbrev pub FollowsLook : Lead → Place → List ℕ → ℕ → ℕ → Answer → Lead → Type 0
+FollowsLook old place values p i answer new =
+    (mine : List Event) → StandsFor mine old → old.place ≡ place → i ≡ end_of old.config old.id mine
+    → IsPossible old.config old.id
+    (record { by = old.id; verb = Verb.Look p i; answer = answer } ∷ mine)
+    → values ≡ known old.config old.id
+    (record { by = old.id; verb = Verb.Look p i; answer = answer } ∷ mine)
+    → GoesTo old (record { by = old.id; verb = Verb.Look p i; answer = answer } ∷ mine) answer place
+    new
+
+-- the same of a head, with what was heeded of failed replicas
+abbrev pub FollowsHead : Lead → ℕ → Option ℕ → List ℕ → Answer → Lead → Type 0
+FollowsHead old q candidate values answer new =
+    (mine : List Event) → HasHeeded mine old → StandsFor mine old
+    → old.place ≡ Place.ReadHead q candidate
+    → IsPossible old.config old.id
+    (record { by = old.id; verb = Verb.Head q; answer = answer } ∷ mine)
+    → values ≡ known old.config old.id mine
+    → GoesTo old (record { by = old.id; verb = Verb.Head q; answer = answer } ∷ mine) answer
+    (Place.ReadHead q candidate) new
+
+-- what holds of a replica's events at a place lasts: by each replication step of the listing it
+-- comes to a place where it holds again
+abbrev pub Lasts : (Config → ℕ → List Event → Place → Type 0) → Type 0
+Lasts holds =
+    (c : Config) (r b : ℕ) (mine : List Event) (up : List ℕ) (reach : List (Option ℕ))
+    (written : List ℕ) (t : Tables) (place : Place) (a : Answer)
+    → IsConfig c → r < c.replicas
+    → At c r b mine up reach written place
+    → IsPossible c r (step_of c r b mine up written place a ∷ mine)
+    → is_replication mine (step_of c r b mine up written place a) ≡ true
+    → holds c r mine place
+    → holds c r (step_of c r b mine up written place a ∷ mine)
+    (next_place c r b (step_of c r b mine up written place a ∷ mine) t a place)
+
+-- it does so by the leader's step from these events, with these values known
+abbrev pub KeepsNext :
+    (Config → ℕ → List Event → Place → Type 0) → List Event → Lead → List ℕ → Answer → Lead → Type 0
+KeepsNext holds mine old values answer new =
+    (verb : Verb) → verb_of old (known old.config old.id mine) ≡ Some verb
+    → IsPossible old.config old.id (record { by = old.id; verb = verb; answer = answer } ∷ mine)
+    → values ≡ known_told old.config old.id mine old.id verb answer
+    → is_replication mine (record { by = old.id; verb = verb; answer = answer }) ≡ true
+    → holds old.config old.id mine old.place
+    → holds old.config old.id (record { by = old.id; verb = verb; answer = answer } ∷ mine)
+    new.place
