@@ -4,6 +4,7 @@
 //! a function of the commands, and equal logs have equal books.
 #![tactic(auto)]
 
+ghost use Rattle.std.specs.Prelude.{◌≡◌};
 ghost use Rattle.match_book.specs.Laws.{AddsUp, BooksAreArranged, IsDetermined, IsUncrossed, SessionsDiffer};
 
 mod book;
@@ -28,6 +29,14 @@ pub const CANCEL: u8 = b'C';
 
 /// The byte between a price and a quantity.
 pub const TIMES: u8 = b'x';
+
+/// The limit and each letter is this number; a letter is its ASCII code.
+pub fn limits_are_stated()
+    ensures amount { MOST_AMOUNT ≡ 999999999 }
+    ensures sides { (BUY ≡ 66) × (SELL ≡ 83) }
+    ensures cancel { CANCEL ≡ 67 }
+    ensures times { TIMES ≡ 120 }
+{}
 
 /// The arrangement of a book has its orders and no others, in order, and at equal prices in order
 /// of arrival.

@@ -1,23 +1,28 @@
 -- A put that missed shows why: its region was closed, or granted on.
-use Rattle.std.proofs.Common.{◌≡◌, ℕ, ◌+◌, ◌<◌, ◌≤◌, ◌⊎◌, inl, inr, Bool, true, false, cond, ◌==◌, List, [], ◌∷◌, ◌++◌, refl, sym, ◌∙◌, ap, arith, Some, subst, eqb-true, true≢false}
+use Rattle.std.proofs.Common.{◌≡◌, ℕ, ◌%◌, ◌+◌, ◌<◌, ◌≤◌, ◌⊎◌, inl, inr, Bool, true, false, cond, ◌&&◌, ◌==◌, List, [], ◌∷◌, ◌++◌, refl, sym, ◌∙◌, ap, arith, Some, subst, eqb-true, true≢false}
 use Rattle.std.proofs.lemmas.Bool.{and_parts}
-use Rattle.std.proofs.lemmas.List.{append_assoc}
+use Rattle.std.proofs.lemmas.List.{append_assoc, reverse-append}
+use mathlib.Core.List.{reverse}
 use Rattle.mu_model.specs.declared.config.Config.{Config}
 use Rattle.mu_model.specs.declared.event.Answer.{Answer}
 use Rattle.mu_model.specs.declared.event.Event.{Event}
+use Rattle.mu_model.specs.declared.event.Target.{Target}
 use Rattle.mu_model.specs.declared.event.Verb.{Verb}
 use Rattle.mu_model.specs.Allowed.{Allowed, Needs}
-use Rattle.mu_model.specs.Answers.{answer_of, drained, is_enter_by, is_enter_of, put_answer}
+use Rattle.mu_model.specs.Answers.{answer_of, drained, entered_or_lost, is_enter_by, is_enter_of, put_answer}
+use Rattle.mu_model.specs.Entering.{open_target}
 use Rattle.mu_model.specs.Histories.{has, part, since}
-use Rattle.mu_model.specs.Leaderships.{noted_grant}
-use Rattle.mu_model.specs.Legal.{IsLegalHistory}
+use Rattle.mu_model.specs.Leaderships.{is_first_ask, noted_grant}
+use Rattle.mu_model.specs.Legal.{IsLegalHistory, MayFollow}
 use Rattle.mu_model.specs.Regions.{fence, fence_closing, fence_grant, is_close_of, is_drain_of, is_grant_of}
-use Rattle.mu_model.specs.Serving.{must_drain, names_target}
-use Rattle.mu_model.specs.Steps.{is_missed_at_verb}
+use Rattle.mu_model.specs.Serving.{has_target, must_drain, names_target}
+use Rattle.mu_model.specs.Steps.{is_missed_at, is_missed_at_verb}
 use Rattle.mu_model.proofs.Basics.{none_some}
 use Rattle.mu_model.proofs.Owned.{noted-part}
-use Rattle.mu_agree.proofs.Access.{last_close, must_drain-part, noted_grant_is_owned}
-use Rattle.mu_agree.proofs.Legal.{legal_induction, event_after}
+use Rattle.mu_agree.proofs.Access.{entered_facts, last_close, must_drain-part, no_target, noted_grant_is_owned, open_target-part, reversed_at}
+use Rattle.mu_agree.proofs.Entering.{slot_entered}
+use Rattle.mu_agree.proofs.Legal.{event_after, legal_induction, legal_older}
+use Rattle.mu_agree.specs.Laws.{IsShutOut, MissesShutOut}
 use Rattle.mu_agree.specs.Possible.{PartsShowMisses, entered_under}
 use Rattle.mu_agree.proofs.Possible.{answered, at_event, earlier, same_fence}
 
@@ -144,3 +149,72 @@ parts_show_misses_law c r p g mine between e f x poss m u v a =
     let seen : Answer.Seen x ≡ Answer.Seen (fence p s.older) = sym a ∙ answered c r (between ++ e ∷ mine) f (Verb.Fence p) poss v in
     let is = same_fence x (fence p s.older) seen in
     subst (λ y. (y.closing ≡ true) ⊎ (g < y.grant)) (sym is) now
+
+-- r entered p under a grant that it had noted
+pub record HasEntered (r p : ℕ) (past : List Event) : Type 0 where
+  pub grant : ℕ
+  pub noted : entered_under r p past ≡ Some grant
+
+-- a replica with an open `Enter` at p had noted a grant before it
+abbrev OpenedUnder : ℕ → ℕ → List Event → Type 0
+OpenedUnder r p past = (t : Target) → open_target r p past ≡ Some t → has_target t ≡ true → HasEntered r p past
+
+opened_ask : (c : Config) (r p by q : ℕ) (past : List Event) → OpenedUnder r p past → (t : Bool) → is_first_ask r by (Verb.Ask q) ≡ t → OpenedUnder r p (event_after c past by (Verb.Ask q) ∷ past)
+opened_ask c r p by q past o true h = rw h (λ t e. cc)
+opened_ask c r p by q past o false h = rw h (λ t e f. let k = o t e f in record { grant = k.grant; noted = k.noted })
+
+opened_put_min : (c : Config) (r p by q b : ℕ) (past : List Event) → OpenedUnder r p past → (t : Bool) → ((by == r) && (q == p)) ≡ t → OpenedUnder r p (event_after c past by (Verb.PutMin q b) ∷ past)
+opened_put_min c r p by q b past o true h = rw h (λ t e f. absurd (no_target t e f))
+opened_put_min c r p by q b past o false h = rw h (λ t e f. let k = o t e f in record { grant = k.grant; noted = k.noted })
+
+opened_put_slot : (c : Config) (r p by q i b v : ℕ) (past : List Event) → OpenedUnder r p past → (t : Bool) → ((by == r) && (q == p)) ≡ t → OpenedUnder r p (event_after c past by (Verb.PutSlot q i b v) ∷ past)
+opened_put_slot c r p by q i b v past o true h = rw h (λ t e f. absurd (no_target t e f))
+opened_put_slot c r p by q i b v past o false h = rw h (λ t e f. let k = o t e f in record { grant = k.grant; noted = k.noted })
+
+opened_enter : (c : Config) (r p by q : ℕ) (t : Target) (past : List Event) → OpenedUnder r p past
+    → (a : Answer) → entered_or_lost (noted_grant by q past) (fence q past) ≡ a → (x : Bool) → (by == r) ≡ x → (y : Bool) → (q == p) ≡ y
+    → OpenedUnder r p (record { by = by; verb = Verb.Enter q t; answer = a } ∷ past)
+opened_enter c r p by q t past o Answer.Entered e true hx true hy =
+    let at_p = subst (λ z. entered_or_lost (noted_grant by z past) (fence z past) ≡ Answer.Entered) (eqb-true q p hy) e in
+    let facts = entered_facts (noted_grant r p past) (fence p past) (subst (λ z. entered_or_lost (noted_grant z p past) (fence p past) ≡ Answer.Entered) (eqb-true by r hx) at_p) in
+    λ t' e' f. record { grant = facts.g; noted = rw (hx, hy) facts.is }
+opened_enter c r p by q t past o Answer.Entered e false hx y hy = rw hx (λ t' e' f. let k = o t' e' f in record { grant = k.grant; noted = rw hx k.noted })
+opened_enter c r p by q t past o Answer.Entered e true hx false hy = rw (hx, hy) (λ t' e' f. let k = o t' e' f in record { grant = k.grant; noted = rw (hx, hy) k.noted })
+opened_enter c r p by q t past o a e true hx true hy = rw (hx, hy) (λ t' e' f. absurd (no_target t' e' f))
+opened_enter c r p by q t past o a e false hx y hy = rw hx (λ t' e' f. let k = o t' e' f in record { grant = k.grant; noted = rw hx k.noted })
+opened_enter c r p by q t past o a e true hx false hy = rw (hx, hy) (λ t' e' f. let k = o t' e' f in record { grant = k.grant; noted = rw (hx, hy) k.noted })
+
+opened_step : (c : Config) (r p by : ℕ) (v : Verb) (past : List Event) → OpenedUnder r p past → OpenedUnder r p (event_after c past by v ∷ past)
+opened_step c r p by (Verb.Ask q) past o = opened_ask c r p by q past o (is_first_ask r by (Verb.Ask q)) refl
+opened_step c r p by (Verb.Enter q t) past o =
+    opened_enter c r p by q t past o (entered_or_lost (noted_grant by q past) (fence q past)) refl (by == r) refl (q == p) refl
+opened_step c r p by (Verb.PutMin q b) past o = opened_put_min c r p by q b past o ((by == r) && (q == p)) refl
+opened_step c r p by (Verb.PutSlot q i b v) past o = opened_put_slot c r p by q i b v past o ((by == r) && (q == p)) refl
+opened_step c r p by v past o = λ t e f. let k = o t e f in record { grant = k.grant; noted = k.noted }
+
+opened_under : (c : Config) (r p : ℕ) (past : List Event) → IsLegalHistory c past → OpenedUnder r p past
+opened_under c r p = legal_induction c (OpenedUnder r p) (λ t e. cc) (λ past by v h may o. opened_step c r p by v past o)
+
+-- who misses at p had entered it under a noted grant
+put_entered : (c : Config) (p by : ℕ) (v : Verb) (a : Answer) (past : List Event) → IsLegalHistory c past → Needs c by (part by past) v → is_missed_at_verb p v a ≡ true → HasEntered by p past
+put_entered c p by (Verb.PutMin q b) Answer.Missed past h may m =
+    subst (λ z. HasEntered by z past) (eqb-true q p m) (opened_under c by q past h Target.Min (sym (open_target-part by q past) ∙ may.1.entered) refl)
+put_entered c p by (Verb.PutSlot q i b w) Answer.Missed past h may m =
+    subst (λ z. HasEntered by z past) (eqb-true q p m) (opened_under c by q past h (Target.Place (i % c.ring)) (sym (open_target-part by q past) ∙ slot_entered c by q i b w (part by past) may.2) refl)
+put_entered c p by v a past h may m = absurd (true≢false (sym m))
+
+shut_out : (c : Config) (p : ℕ) (e : Event) (newer older : List Event) → IsLegalHistory c older → MayFollow c older e → is_missed_at p e ≡ true → IsShutOut e.by p older (newer ++ e ∷ older)
+shut_out c p e newer older h f m =
+    let entered = put_entered c p e.by e.verb e.answer older h f.allowed.may m in
+    let missed : is_missed_at_verb p e.verb (answer_of c e.by older e.verb) ≡ true = subst (λ z. is_missed_at_verb p e.verb z ≡ true) f.answer m in
+    let k = under c e.by p older h entered.grant entered.noted in
+    let moved = moved_along p entered.grant (newer ++ e ∷ []) older k.given (k.moved (missed_drained c e.by p e.verb older missed)) in
+    record { grant = entered.grant; noted = entered.noted; shut = subst (IsMoved p entered.grant) (append_assoc newer (e ∷ []) older) moved.1 }
+
+pub misses_shut_out_law : MissesShutOut
+misses_shut_out_law c earlier between later e p h m =
+    let is : reverse (earlier ++ e ∷ (between ++ later)) ≡ reverse later ++ (reverse between ++ (e ∷ reverse earlier)) =
+    reversed_at earlier (between ++ later) e ∙ ap (λ z. z ++ (e ∷ reverse earlier)) (reverse-append between later) ∙ append_assoc (reverse later) (reverse between) (e ∷ reverse earlier) in
+    let whole : IsLegalHistory c (reverse later ++ (reverse between ++ (e ∷ reverse earlier))) = subst (IsLegalHistory c) is h in
+    let here : IsLegalHistory c (e ∷ reverse earlier) = legal_older c (reverse between) (e ∷ reverse earlier) (legal_older c (reverse later) (reverse between ++ (e ∷ reverse earlier)) whole) in
+    subst (IsShutOut e.by p (reverse earlier)) (sym (reversed_at earlier between e)) (shut_out c p e (reverse between) (reverse earlier) here.0 here.1 m)

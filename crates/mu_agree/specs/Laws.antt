@@ -1,5 +1,5 @@
 -- What holds of the writers of every legal list of events.
-use Rattle.std.specs.Prelude.{Bool, List, Some, false, true, ℕ, ◌++◌, ◌==◌, ◌∷◌, ◌≡◌, ◌≤◌}
+use Rattle.std.specs.Prelude.{Bool, List, Some, false, true, ℕ, ◌++◌, ◌<◌, ◌==◌, ◌∷◌, ◌≡◌, ◌≤◌, ◌⊎◌}
 use Rattle.std.specs.List.{slice_get}
 use Rattle.mu_model.specs.declared.config.Config.{Config}
 use Rattle.mu_model.specs.declared.event.Answer.{Answer}
@@ -8,7 +8,9 @@ use Rattle.mu_model.specs.declared.event.Verb.{Verb}
 use Rattle.mu_model.specs.Histories.{has, history, since}
 use Rattle.mu_model.specs.Leaderships.{leaderships, proposal_number}
 use Rattle.mu_model.specs.Legal.{IsLegal}
-use Rattle.mu_model.specs.Regions.{fence_owner, is_drain_of, is_grant_of, region_log, region_min}
+use Rattle.mu_agree.specs.Possible.{entered_under}
+use Rattle.mu_model.specs.Regions.{fence_closing, fence_grant, fence_owner, is_drain_of, is_grant_of, region_log, region_min}
+use Rattle.mu_model.specs.Steps.{is_missed_at}
 
 -- two leaderships under way at two moments that have one number are the same leadership of the same
 -- replica
@@ -45,3 +47,18 @@ SlotNumbersRise =
     (c : Config) (earlier later : List Event) (p i : ℕ) (x y : ℕ × ℕ) → IsLegal c (earlier ++ later)
     → slice_get (region_log p (history earlier)) i ≡ Some x
     → slice_get (region_log p (history (earlier ++ later))) i ≡ Some y → x.0 ≤ y.0
+
+-- before the one moment r had entered p under a noted grant, and at the other p is closing or was
+-- granted on since
+pub record IsShutOut (r p : ℕ) (before now : List Event) : Type 0 where
+  pub grant : ℕ
+  pub noted : entered_under r p before ≡ Some grant
+  pub shut : (fence_closing p now ≡ true) ⊎ (grant < fence_grant p now)
+
+-- once a put missed at p, p is closing at each later moment, or has a larger grant than the one
+-- that its writer had noted when it entered
+abbrev pub MissesShutOut : Type 0
+MissesShutOut =
+    (c : Config) (earlier between later : List Event) (e : Event) (p : ℕ)
+    → IsLegal c (earlier ++ e ∷ (between ++ later)) → is_missed_at p e ≡ true
+    → IsShutOut e.by p (history earlier) (history (earlier ++ e ∷ between))

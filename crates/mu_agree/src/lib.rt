@@ -3,7 +3,7 @@
 
 ghost use Rattle.mu_agree.specs.Agreement.{AtMostOneChosen, FuoIsChosen, FuoIsKept, HeadWithinFuo, KnownAgree, KnownIsChosen, LogWithinFuo, LogWithinReach, LooksAreKept, MarksHaveCause, PlacesAreKept};
 ghost use Rattle.mu_agree.specs.Journals.{BeginningsAreDiligent, ObeysOnce};
-ghost use Rattle.mu_agree.specs.Laws.{MinimumRises, NumbersDiffer, OnlyOwnersPut, SlotNumbersRise};
+ghost use Rattle.mu_agree.specs.Laws.{MinimumRises, MissesShutOut, NumbersDiffer, OnlyOwnersPut, SlotNumbersRise};
 ghost use Rattle.mu_agree.specs.Paces.{RecentAsksAreInTime, RecentReadsAreInTime};
 ghost use Rattle.mu_agree.specs.Possible.{PartsClimb, PartsCount, PartsFind, PartsFit, PartsHaveNext, PartsHold, PartsInSession, PartsKeep, PartsMarkOnce, PartsMove, PartsReach, PartsReadRight, PartsShorten, PartsShowMisses, PartsStand, PartsStayFilled, PartsStayPast};
 ghost use Rattle.mu_agree.specs.Sessions.{KnownInSession, KnownMarkedOnce, KnownStands, MarkedOnce, RowsComeFirst, RowsReadRight};
@@ -16,6 +16,12 @@ pub fn numbers_differ()
 /// A put lands at a region only while its writer owns it, and before it is drained.
 pub fn only_owners_put()
     ensures { OnlyOwnersPut }
+{}
+
+/// Once a put missed, its region is closing at each later moment, or has a larger grant than the
+/// one that its writer had noted when it entered.
+pub fn misses_shut_out()
+    ensures { MissesShutOut }
 {}
 
 /// The minimum of a region never goes down.

@@ -18,4 +18,4 @@ mod whole;
 pub use memory::{MemSink, MemSource};
 pub use std_streams::{StdSink, StdSource};
 pub use streams::{Failed, Sink, Source};
-pub use whole::{Bytes, PIECE, ReadEnd, WriteFault, read_all, write_all};
+pub use whole::{Bytes, PIECE, ReadEnd, WriteFault, limits_are_stated, read_all, write_all};

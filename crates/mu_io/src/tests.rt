@@ -74,6 +74,14 @@ fn refuses_a_limit_without_memory(rt: HostRuntime) -> Result<(), Fail> {
         format!(in rt.alloc(); "{}", ReadEnd::NoMemory)?.as_str(),
         "out of memory"
     );
+    assert_eq!(rt;
+        format!(in rt.alloc(); "{}", ReadEnd::Fault)?.as_str(),
+        "a read failed"
+    );
+    assert_eq!(rt;
+        format!(in rt.alloc(); "{}", ReadEnd::TooLong)?.as_str(),
+        "the input is too long"
+    );
     Ok(())
 }
 

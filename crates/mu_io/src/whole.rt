@@ -13,6 +13,11 @@ use std::marker::Model;
 /// The most bytes that one read of [`read_all`] asks for.
 pub const PIECE: usize = 65_536;
 
+/// The limit is this number.
+pub fn limits_are_stated()
+    ensures { PIECE ≡ 65536 }
+{}
+
 /// Bytes that were read. A contract sees them as a list.
 #[derive(Debug, Drop)]
 pub struct Bytes {

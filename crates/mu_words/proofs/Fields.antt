@@ -1,6 +1,5 @@
 -- What the words hold after a legal history has room in their fields.
-use Rattle.std.proofs.Common.{◌≡◌, ℕ, ◌<◌, List, Some, arith, length}
-use Rattle.std.specs.List.{slice_get}
+use Rattle.std.proofs.Common.{ℕ, ◌<◌, List, arith, length}
 use Rattle.std.proofs.lemmas.Option.{slice_get_within}
 use Rattle.mu_model.specs.declared.config.Config.{Config}
 use Rattle.mu_model.specs.declared.event.Event.{Event}

@@ -22,6 +22,7 @@ pub mod LookWords
 pub mod Law
 pub mod Fitting
 pub mod Stand
+mod Lists
 pub mod Forms
 pub mod Examples
 pub mod Founds

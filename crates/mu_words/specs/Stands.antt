@@ -1,5 +1,5 @@
 -- Words that stand for a list of events, in true order, and one step on them.
-use Rattle.std.specs.Prelude.{List, Some, [], bit_or, if◌then◌else◌, true, ℕ, ◌*◌, ◌++◌, ◌/◌, ◌<◌, ◌==◌, ◌∷◌, ◌≡◌}
+use Rattle.std.specs.Prelude.{List, Some, [], bit_or, if◌then◌else◌, length, slice_index, true, ℕ, ◌++◌, ◌/◌, ◌<◌, ◌==◌, ◌∷◌, ◌≡◌}
 use Rattle.std.specs.List.{slice_get}
 use Rattle.mu_model.specs.declared.config.Config.{Config}
 use Rattle.mu_model.specs.declared.event.Event.{Event}
@@ -70,6 +70,21 @@ abbrev pub WordsAreUnique : Type 0
 WordsAreUnique =
     (c : Config) (l : Layout) (events : List Event) (words other : ℕ → ℕ) → Stands c l events words
     → Stands c l events other → (i : ℕ) → i < word_count l → words i ≡ other i
+
+-- a list of words, one for each place, stands for the list of events
+pub record IsListFor (c : Config) (l : Layout) (events : List Event) (words : List ℕ) : Type 0 where
+  pub count : length words ≡ word_count l
+  pub stands : Stands c l events (slice_index words)
+
+-- there is such a list, and no other
+pub record HasOneList (c : Config) (l : Layout) (events : List Event) : Type 0 where
+  pub words : List ℕ
+  pub is : IsListFor c l events words
+  pub only : (other : List ℕ) → IsListFor c l events other → other ≡ words
+
+-- exactly one list of words stands for a list of events
+abbrev pub OneListStands : Type 0
+OneListStands = (c : Config) (l : Layout) (events : List Event) → HasOneList c l events
 
 -- a step that is an exchange, a `Close` or a `Grant` in the form of one step of a table: an
 -- exchange of the expected word by one made from it, a fetch-or, and a swap by a word made from the

@@ -7,7 +7,7 @@
 
 ghost use Rattle.mu_words.specs.Founds.{AllowedArePrepared};
 ghost use Rattle.mu_words.specs.Places.{PlacesAreInside, PlacesDiffer};
-ghost use Rattle.mu_words.specs.Stands.{FieldsAlwaysFit, FirstWords, StepsInTableForms, WordsAreUnique, WordsStand};
+ghost use Rattle.mu_words.specs.Stands.{FieldsAlwaysFit, FirstWords, OneListStands, StepsInTableForms, WordsAreUnique, WordsStand};
 ghost use Rattle.mu_words.specs.Steps.{WordSteps};
 
 mod found;
@@ -49,6 +49,11 @@ pub fn words_stand()
 /// At most one list of words stands for a list of events.
 pub fn words_are_unique()
     ensures { WordsAreUnique }
+{}
+
+/// Exactly one list of words, one for each place, stands for a list of events.
+pub fn one_list_stands()
+    ensures { OneListStands }
 {}
 
 /// An exchange, a `Close` and a `Grant` are each one step of a table of words: an exchange by a
