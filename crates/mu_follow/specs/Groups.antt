@@ -21,12 +21,16 @@ abbrev pub groups_of : Config → List Request → List ℕ → List Request
 groups_of c commands [] = []
 groups_of c commands (v ∷ vs) = group_of c commands v ++ groups_of c commands vs
 
--- row j of the configuration spells the command
-pub record IsSpelled (c : Config) (j : ℕ) (command : Request) : Type 0 where
+-- twelve words spell the command
+pub record Spells (row : List ℕ) (command : Request) : Type 0 where
   pub is : IsCommand command
   pub rest : ℕ
   pub low : rest ≤ 3
-  pub words : config_words c j ≡ spelled command rest
+  pub words : row ≡ spelled command rest
+
+-- row j of the configuration spells the command
+abbrev pub IsSpelled : Config → ℕ → Request → Type 0
+IsSpelled c j command = Spells (config_words c j) command
 
 -- the rows of the configuration spell these commands, one each
 pub record AreSpelled (c : Config) (commands : List Request) : Type 0 where

@@ -240,19 +240,6 @@ impl Follow {
         self.outrun
     }
 
-    /// Hands on every entry that the replica has in full.
-    pub fn hand_on(&mut self)
-        ensures stands { (c : Config) → (r : ℕ) → (mine : List Event)
-            → StandsForFollow c r mine self.old
-            → StandsForFollow c r mine self.new }
-        ensures config { self.new.config ≡ self.old.config }
-        ensures all { (c : Config) → (r : ℕ) → (mine : List Event)
-            → StandsForFollow c r mine self.old
-            → self.new.progress.handed ≡ length (applied c r mine) }
-    {
-        self.progress.handed = self.rows.applied_length();
-    }
-
     /// The verb of a place of the replayer, 0 to 17, where one is due: the first three are left to
     /// the leader while the replica leads.
     pub fn due(&self, place: u8, leading: bool) -> Option<Verb>

@@ -8,7 +8,7 @@ ghost use Rattle.mu_model.specs.Contents.{row_count};
 ghost use Rattle.mu_model.specs.Knowledge.{applied};
 ghost use Rattle.mu_known.specs.RowWords.{config_words, words_held};
 ghost use Rattle.mu_follow.specs.Follow.{StandsForFollow};
-ghost use Rattle.mu_follow.specs.Groups.{IsSpelled, group_size};
+ghost use Rattle.mu_follow.specs.Groups.{IsSpelled, Spells, group_size};
 
 use crate::follow::Follow;
 use kv_store::Command;
@@ -59,10 +59,16 @@ impl Follow {
         }
     }
 
-    /// The command that a row spells, by its twelve words as the replica wrote or read them. Takes
-    /// no memory.
+    /// The command that a row spells, by its twelve words as the replica wrote or read them, and
+    /// `None` where they spell no command. Takes no memory.
     pub fn command(&self, row: u16) -> Option<Command>
-        ensures { (c : Config) → (r : ℕ) → (mine : List Event) → (command : Request)
+        ensures some { (c : Config) → (r : ℕ) → (mine : List Event) → row < row_count c
+            → StandsForFollow c r mine self.now
+            → IfSome result (λ command. Spells (words_held r row mine) command) }
+        ensures none { (c : Config) → (r : ℕ) → (mine : List Event) → row < row_count c
+            → StandsForFollow c r mine self.now → result ≡ None
+            → (command : Request) → ¬ Spells (words_held r row mine) command }
+        ensures right { (c : Config) → (r : ℕ) → (mine : List Event) → (command : Request)
             → row < row_count c → StandsForFollow c r mine self.now
             → words_held r row mine ≡ config_words c row → IsSpelled c row command
             → result ≡ Some command }

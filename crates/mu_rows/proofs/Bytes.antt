@@ -1,5 +1,6 @@
 -- A word of bytes is the sum of its eight bytes, each at its place.
-use Rattle.std.proofs.Common.{◌≡◌, ℕ, ◌+◌, ◌*◌, List, [], ◌∷◌, take, drop, get_or, ap, ◌∙◌, get_or-drop, add-zero, arith}
+use Rattle.std.proofs.Common.{◌≡◌, ℕ, ◌+◌, ◌*◌, ◌≤◌, length, List, [], ◌∷◌, take, drop, get_or, ap, ◌∙◌, get_or-drop, add-zero, arith}
+use Rattle.std.proofs.lemmas.List.{get_or_past}
 use Rattle.mu_rows.specs.Rows.{number_of, word_of}
 
 eight : (bytes : List ℕ) → number_of (take 8 bytes)
@@ -22,3 +23,9 @@ unfolding word_of
 word_of-bytes bytes index =
     let at = λ (i : ℕ). get_or-drop (8 * index) bytes i 0 in
     omega (arith, eight (drop (8 * index) bytes), get_or-drop (8 * index) bytes 0 0 ∙ ap (λ i. get_or bytes i 0) (add-zero (8 * index)), at 1, at 2, at 3, at 4, at 5, at 6, at 7)
+
+-- past the end there are zeros
+pub word_of-past : (bytes : List ℕ) (index : ℕ) → length bytes ≤ 8 * index → word_of bytes index ≡ 0
+word_of-past bytes index past =
+    let at : (m : ℕ) → get_or bytes (8 * index + m) 0 ≡ 0 = λ m. get_or_past bytes (8 * index + m) 0 (omega (arith, past)) in
+    omega (arith, word_of-bytes bytes index, get_or_past bytes (8 * index) 0 past, at 1, at 2, at 3, at 4, at 5, at 6, at 7)

@@ -1,7 +1,8 @@
 -- What a row says of the command that it spells.
-use Rattle.std.proofs.Common.{◌≡◌, ◌↔◌, Option, None, Some, subst, add-zero, ℕ, zero, suc, ◌+◌, ◌*◌, ◌<◌, ◌≤◌, ◌/◌, ◌%◌, List, [], ◌∷◌, length, map, take, drop, get_or, refl, sym, ap, ◌∙◌, arith, length-take, get_or-take}
+use Rattle.std.proofs.Common.{◌≡◌, ◌↔◌, Option, None, Some, subst, add-zero, ℕ, zero, suc, ◌+◌, ◌*◌, ◌<◌, ◌≤◌, ◌/◌, ◌%◌, List, [], ◌∷◌, length, map, take, drop, get_or, refl, sym, ap, ◌∙◌, arith, length-take, get_or-take, inl, inr}
+use Rattle.std.specs.Prelude.{nat_lt}
 use Rattle.std.specs.Option.{IsSome, IfSome}
-use Rattle.std.proofs.lemmas.Bool.{false≢true}
+use Rattle.std.proofs.lemmas.Bool.{cases_Bool, false≢true, ltb-false, ltb-true}
 use Rattle.std.specs.Int.{w64, to_le_bytes}
 use Rattle.std.specs.List.{range_with_len, slice_range}
 use Rattle.std.proofs.lemmas.Grind.{common_steps, same_number_lists}
@@ -53,6 +54,20 @@ bytes-back bytes words back count text fits same long reads =
     ∙ reads i (omega (arith, text.fits)) (omega arith)
     ∙ ap (λ w. get_or (to_le_bytes w64 w) (i % 8) 0) (word (i / 8) (omega arith))
     ∙ byte-back bytes small i)
+
+-- one word more is put where its bytes stand
+pub word-put : (words old new : List ℕ) (index : ℕ) → ((k : ℕ) → k < 8 * index → get_or old k 0 ≡ get_or (to_le_bytes w64 (get_or words (k / 8) 0)) (k % 8) 0)
+    → ((m : ℕ) → m < 8 → get_or new (8 * index + m) 0 ≡ get_or (to_le_bytes w64 (get_or words index 0)) m 0)
+    → ((k : ℕ) → k < 8 * index → get_or new k 0 ≡ get_or old k 0)
+    → (k : ℕ) → k < 8 * (index + 1) → get_or new k 0 ≡ get_or (to_le_bytes w64 (get_or words (k / 8) 0)) (k % 8) 0
+word-put words old new index done own before k low = elim (cases_Bool (nat_lt k (8 * index))) [
+  | inl there ↦ let early = ltb-true k (8 * index) there in before k early ∙ done k early
+  | inr late ↦
+      let high = ltb-false k (8 * index) late in
+      let place : 8 * index + k % 8 ≡ k = omega (arith, high, low) in
+      let word : index ≡ k / 8 = omega (arith, high, low) in
+      sym (ap (λ i. get_or new i 0) place) ∙ own (k % 8) (omega arith) ∙ ap (λ j. get_or (to_le_bytes w64 (get_or words j 0)) (k % 8) 0) word
+]
 
 -- words of bytes of one length tell them
 words-tell : (most : ℕ) (a b : List ℕ) (count : ℕ) → IsWord most a → IsWord most b → length a ≡ length b → length a ≤ 8 * count

@@ -164,6 +164,9 @@ fn word_at(bytes: &[u8], index: usize) -> u64
     ensures { result ≡ word_of bytes.now index }
 {
     let start = 8 * index;
+    if bytes.len() <= start {
+        return 0;
+    }
     u64::from_le_bytes([
         byte_at(bytes, start),
         byte_at(bytes, start + 1),

@@ -1,5 +1,5 @@
 //! Rows read back as commands.
-ghost use Rattle.std.specs.Prelude.{◌≡◌, ◌≢◌, ℕ, ◌*◌, ◌<◌, ◌≤◌, ◌/◌, ◌%◌, List, length, map, take, slice_index, None, Some, IfSome};
+ghost use Rattle.std.specs.Prelude.{◌≡◌, ◌≢◌, ℕ, ◌+◌, ◌*◌, ◌<◌, ◌≤◌, ◌/◌, ◌%◌, List, length, map, take, slice_index, None, Some, IfSome};
 ghost use Rattle.std.specs.Int.{w64, to_le_bytes};
 ghost use Rattle.std.specs.List.{range_with_len};
 ghost use Rattle.kv_store.specs.Commands.{Request, key_of};
@@ -102,24 +102,26 @@ fn second_text_in(words: &[u64; 12]) -> Option<Text>
 
 /// The bytes of words, which stand eight to a word. Zeros follow.
 fn bytes_of(words: &[u64]) -> [u8; TEXT_BYTES]
+    requires { length words.now ≤ 8 }
     ensures { (bytes : List ℕ) (count : ℕ) → IsText bytes → length bytes ≤ 8 * count
         → take count words.now ≡ map (word_of bytes) (range_with_len 0 count)
         → take (length bytes) result ≡ bytes }
 {
     let mut bytes = [0; TEXT_BYTES];
-    for (index, byte) in bytes.iter_mut().enumerate() {
-        *byte = byte_of(words, index);
+    for (index, word) in words.iter().enumerate() {
+        put_word(&mut bytes, index, *word);
     }
     bytes
 }
 
-/// The byte at an index, or 0 past the last word.
-fn byte_of(words: &[u64], index: usize) -> u8
-    ensures { index / 8 < length words.now
-        → result ≡ slice_index (to_le_bytes w64 (slice_index words.now (index / 8))) (index % 8) }
+/// Puts the eight bytes of a word in their place.
+fn put_word(bytes: &mut [u8; TEXT_BYTES], index: usize, word: u64)
+    requires { index < 8 }
+    ensures own { (m : ℕ) → m < 8
+        → slice_index bytes.new (8 * index + m) ≡ slice_index (to_le_bytes w64 word) m }
+    ensures before { (k : ℕ) → k < 8 * index
+        → slice_index bytes.new k ≡ slice_index bytes.old k }
 {
-    match words.get(index / 8) {
-        Some(word) => word.to_le_bytes()[index % 8],
-        None => 0,
-    }
+    let start = 8 * index;
+    bytes[start..start + 8].copy_from_slice(&word.to_le_bytes());
 }
