@@ -9,7 +9,7 @@ what an independent program says of it in NAME.stdout. The input gets them, byte
 separator of crates/mu_judge/src/main.rt between two; the output gets one line for each, and
 cases/judged.names its name. The lines are those of the cases, never the program's own. A job that is
 refused for a line after its `end` is left out: events may follow there in a trace (such jobs stand in
-crates/worked_rows/src/jobs.rt).
+crates/worked_rows/src/refusals.rt).
 """
 
 import pathlib

@@ -11,8 +11,6 @@
 mod memory;
 mod std_streams;
 mod streams;
-#[cfg(test)]
-mod tests;
 mod whole;
 
 pub use memory::{MemSink, MemSource};

@@ -17,6 +17,3 @@ pub use knowing::{Log, both_know, known};
 pub use legality::is_legal;
 pub use mu_model::NoMemory;
 pub use sessions::session_of;
-
-#[cfg(test)]
-mod untrue_tests;

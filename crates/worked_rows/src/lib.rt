@@ -25,17 +25,21 @@ mod order_cases;
 #[cfg(test)]
 mod orders;
 #[cfg(test)]
+mod refusals;
+#[cfg(test)]
 mod rows;
 #[cfg(test)]
 mod scores;
 #[cfg(test)]
-mod scripts;
-#[cfg(test)]
 mod shared_ports;
+#[cfg(test)]
+mod spelled;
 #[cfg(test)]
 mod store;
 #[cfg(test)]
-mod traces;
+mod streams;
+#[cfg(test)]
+mod untrue;
 #[cfg(test)]
 mod verdicts;
 #[cfg(test)]

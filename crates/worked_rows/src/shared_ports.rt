@@ -6,12 +6,12 @@ ghost use Rattle.mu_model.specs.Contents.{IsConfig};
 ghost use Rattle.shared_fabric.specs.Gathering.{AreAllPorts, IsSamePort, StayPorts};
 ghost use Rattle.worked_rows.specs.SharedPorts.{AreOf, AreSame};
 
-use crate::event_scripts::{adopted_value, config, late_exchange, missed_after_drain};
+use crate::event_scripts::{JOB, LONG_JOB, SCRIPTS, config, events_of};
 use mu_model::{Answer, Config, Event, Verb};
 use mu_oracle::allows;
 use mu_port::Port;
 use shared_fabric::{Gathered, Shared, SharedPort, SharedPorts};
-use std::alloc::{AllocError, Global};
+use std::alloc::Global;
 use std::process::Abort;
 use std::test::Fail;
 use std::thread;
@@ -184,7 +184,7 @@ fn act_all<R: Threads + Sync>(rt: &R, config: &Config, ports: &mut [SharedPort])
 #[test]
 fn threads_keep_one_list(rt: HostRuntime) -> Result<(), Fail> {
     let alloc = rt.alloc();
-    let config = config(alloc, 1_000)?;
+    let config = config(alloc, LONG_JOB)?;
     let mut shared = Shared::start(alloc, &config)?;
     let room = Vec::with_capacity(alloc, 3)?;
     let (ports, parts) = shared.ports(alloc)?;
@@ -219,7 +219,7 @@ fn check_parts(rt: &impl Abort, gathered: &Gathered) {
 #[test]
 fn slices_of_ports_keep_one_list(rt: HostRuntime) -> Result<(), Fail> {
     let alloc = rt.alloc();
-    let config = config(alloc, 1_000)?;
+    let config = config(alloc, LONG_JOB)?;
     let mut shared = Shared::start(alloc, &config)?;
     let (ports, room) = shared.ports(alloc)?;
     let ports = acted(&rt, &config, ports.into_ports());
@@ -247,11 +247,11 @@ fn first_wrong(config: &Config, three: &mut Three, script: &[Event]) -> Option<u
 }
 
 /// Three ports before any event, with their configuration.
-fn started(alloc: Global) -> Result<Option<(Config, Three)>, AllocError>
+fn started(alloc: Global) -> Result<Option<(Config, Three)>, Fail>
     ensures { IfOk result
         (λ o. IfSome o (λ t. AreOf t.0 t.1.first t.1.second t.1.third × (0 < t.0.ring))) }
 {
-    let config = config(alloc, 100)?;
+    let config = config(alloc, JOB)?;
     let mut shared = Shared::start(alloc, &config)?;
     let (ports, _) = shared.ports(alloc)?;
     Ok(match apart(ports) {
@@ -260,29 +260,23 @@ fn started(alloc: Global) -> Result<Option<(Config, Three)>, AllocError>
     })
 }
 
-/// Steps through three ports by the script.
-fn check_script(rt: &impl Abort, alloc: Global, script: &[Event]) -> Result<(), Fail> {
+/// The first event of a script that new ports don't allow or answer otherwise.
+fn first_wrong_of_new(alloc: Global, script: &[Event]) -> Result<Option<usize>, Fail> {
     let Some((config, mut three)) = started(alloc)? else {
         return Err(Fail::from("no ports"));
     };
-    assert_eq!(rt; first_wrong(&config, &mut three, script), None);
+    Ok(first_wrong(&config, &mut three, script))
+}
+
+#[test]
+fn ports_step_by_the_scripts(rt: HostRuntime) -> Result<(), Fail> {
+    for (name, _, pieces) in SCRIPTS {
+        let events = events_of(rt.alloc(), pieces)?;
+        assert_eq!(rt;
+            first_wrong_of_new(rt.alloc(), events.as_slice())?,
+            None,
+            "{name}"
+        );
+    }
     Ok(())
-}
-
-#[test]
-fn misses_after_drain(rt: HostRuntime) -> Result<(), Fail> {
-    let alloc = rt.alloc();
-    check_script(&rt, alloc, missed_after_drain(alloc)?.as_slice())
-}
-
-#[test]
-fn adopts_a_value(rt: HostRuntime) -> Result<(), Fail> {
-    let alloc = rt.alloc();
-    check_script(&rt, alloc, adopted_value(alloc)?.as_slice())
-}
-
-#[test]
-fn exchanges_late(rt: HostRuntime) -> Result<(), Fail> {
-    let alloc = rt.alloc();
-    check_script(&rt, alloc, late_exchange(alloc)?.as_slice())
 }

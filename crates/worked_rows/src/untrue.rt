@@ -1,12 +1,15 @@
 //! Statements on legal lists that look right and are false, each shown by a list.
-ghost use Rattle.std.specs.Prelude.{IfOk, ◌<◌, ◌≤◌};
 ghost use Rattle.mu_model.specs.Contents.{IsConfig};
 
-use crate::{chosen_at, is_legal};
-use mu_model::{Answer, Config, Event, NoMemory, Row, Sequence, Target, Verb};
+use crate::event_scripts::{LONG_JOB, config_of};
+use mu_law::{chosen_at, is_legal};
+use mu_model::{Answer, Config, Event, NoMemory, Target, Verb};
 use mu_regions::Regions;
 use std::alloc::Global;
 use std::test::Fail;
+
+/// Five replicas with one command.
+const JOB_OF_FIVE: &str = "mu 1\nreplicas 5\nring 8\nbudget 1000\nclient 0\nput a 5\nend\n";
 
 /// The row of `put a 5` of client 0, number 1.
 const WORDS: [u64; 12] = [1_103_806_660_609, 97, 0, 0, 53, 0, 0, 0, 0, 0, 0, 0];
@@ -17,24 +20,6 @@ const FIRST: u16 = 0;
 const SECOND: u16 = 4096;
 
 const THIRD: u16 = 8192;
-
-/// A job of one command for so many replicas.
-fn one_command(alloc: Global, replicas: u8) -> Result<Config, NoMemory>
-    requires few { replicas ≤ 7 }
-    requires some { 0 < replicas }
-    ensures { IfOk result IsConfig }
-{
-    let mut rows = Vec::new(alloc);
-    rows.push(Row { words: WORDS })?;
-    Ok(Config {
-        version: 1,
-        width: 1,
-        replicas,
-        ring: 8,
-        budget: 1_000,
-        rows: Sequence::from_vec(rows),
-    })
-}
 
 /// A stretch of steps of one replica.
 #[derive(Clone, Copy)]
@@ -163,124 +148,139 @@ fn was_shown(events: &[Event], p: u8, number: u32, value: u16) -> bool {
     shown
 }
 
+/// What an entry is found as in the first slot of a region: the region, the number and the value.
+type Sight = (u8, u32, u16);
+
+/// A job, the stretches of a legal list, what is chosen at the first position, and what the hosts
+/// once found in their first slots.
+type Shown = (&'static str, &'static [Stretch], u16, &'static [Sight]);
+
 /// False: a leadership ends when its replica grants its own region away. And false: after the
 /// choice every put that lands has the chosen value.
-#[test]
-fn leader_goes_on_elsewhere(rt: HostRuntime) -> Result<(), Fail> {
-    let config = one_command(rt.alloc(), 3)?;
-    let events = events_of(
-        rt.alloc(),
-        &config,
-        &[
-            Stretch::Lead(0, &[0, 2], 8),
-            Stretch::Write(0),
-            Stretch::Step(0, Verb::Enter(2, Target::Place(0))),
-            Stretch::Lead(1, &[1, 0], 9),
-            Stretch::Write(1),
-            Stretch::Fill(1, 1, 9, SECOND),
-            Stretch::Fill(1, 0, 9, SECOND),
-            Stretch::Step(0, Verb::PutSlot(2, 0, 8, FIRST)),
-            Stretch::Step(2, Verb::Look(2, 0)),
-        ],
-    )?;
-    let events = events.as_slice();
-    assert!(rt; is_legal(rt.alloc(), &config, events)?);
-    assert_eq!(rt; chosen_at(rt.alloc(), &config, events, 0)?, Some(SECOND));
-    assert!(rt; was_shown(events, 2, 8, FIRST));
-    Ok(())
-}
+const LEADER_GOES_ON_ELSEWHERE: Shown = (
+    LONG_JOB,
+    &[
+        Stretch::Lead(0, &[0, 2], 8),
+        Stretch::Write(0),
+        Stretch::Step(0, Verb::Enter(2, Target::Place(0))),
+        Stretch::Lead(1, &[1, 0], 9),
+        Stretch::Write(1),
+        Stretch::Fill(1, 1, 9, SECOND),
+        Stretch::Fill(1, 0, 9, SECOND),
+        Stretch::Step(0, Verb::PutSlot(2, 0, 8, FIRST)),
+        Stretch::Step(2, Verb::Look(2, 0)),
+    ],
+    SECOND,
+    &[(2, 8, FIRST)],
+);
 
 /// False: the number of the first choice is the least under which the value is chosen.
-#[test]
-fn chosen_again_under_a_smaller_number(rt: HostRuntime) -> Result<(), Fail> {
-    let config = one_command(rt.alloc(), 3)?;
-    let events = events_of(
-        rt.alloc(),
-        &config,
-        &[
-            Stretch::Lead(0, &[0, 1], 8),
-            Stretch::Write(0),
-            Stretch::Fill(0, 1, 8, FIRST),
-            Stretch::Step(1, Verb::Look(1, 0)),
-            Stretch::Step(0, Verb::Enter(0, Target::Place(0))),
-            Stretch::Lead(1, &[1, 2], 9),
-            Stretch::Fill(1, 1, 9, FIRST),
-            Stretch::Fill(1, 2, 9, FIRST),
-            Stretch::Step(1, Verb::Look(1, 0)),
-            Stretch::Step(2, Verb::Look(2, 0)),
-            Stretch::Step(0, Verb::PutSlot(0, 0, 8, FIRST)),
-            Stretch::Step(0, Verb::Look(0, 0)),
-        ],
-    )?;
-    let events = events.as_slice();
-    assert!(rt; is_legal(rt.alloc(), &config, events)?);
-    for (p, number) in [(1, 9), (2, 9), (1, 8), (0, 8)] {
-        assert!(rt; was_shown(events, p, number, FIRST));
-    }
-    Ok(())
-}
+const CHOSEN_AGAIN_UNDER_A_SMALLER_NUMBER: Shown = (
+    LONG_JOB,
+    &[
+        Stretch::Lead(0, &[0, 1], 8),
+        Stretch::Write(0),
+        Stretch::Fill(0, 1, 8, FIRST),
+        Stretch::Step(1, Verb::Look(1, 0)),
+        Stretch::Step(0, Verb::Enter(0, Target::Place(0))),
+        Stretch::Lead(1, &[1, 2], 9),
+        Stretch::Fill(1, 1, 9, FIRST),
+        Stretch::Fill(1, 2, 9, FIRST),
+        Stretch::Step(1, Verb::Look(1, 0)),
+        Stretch::Step(2, Verb::Look(2, 0)),
+        Stretch::Step(0, Verb::PutSlot(0, 0, 8, FIRST)),
+        Stretch::Step(0, Verb::Look(0, 0)),
+    ],
+    FIRST,
+    &[(1, 9, FIRST), (2, 9, FIRST), (1, 8, FIRST), (0, 8, FIRST)],
+);
 
 /// False: a number has one value at each position.
-#[test]
-fn number_with_two_values(rt: HostRuntime) -> Result<(), Fail> {
-    let config = one_command(rt.alloc(), 3)?;
-    let events = events_of(
-        rt.alloc(),
-        &config,
-        &[
-            Stretch::Lead(0, &[0, 1], 8),
-            Stretch::Write(0),
-            Stretch::Fill(0, 0, 8, FIRST),
-            Stretch::Step(0, Verb::Look(0, 0)),
-            Stretch::Lead(1, &[1, 2], 9),
-            Stretch::Write(1),
-            Stretch::Fill(1, 1, 9, SECOND),
-            Stretch::Fill(1, 2, 9, SECOND),
-            Stretch::Step(1, Verb::RaiseFuo(1, 1)),
-            Stretch::Step(0, Verb::Fuo(1)),
-            Stretch::Step(0, Verb::Look(1, 0)),
-            Stretch::Fill(0, 0, 8, SECOND),
-            Stretch::Step(0, Verb::Look(0, 0)),
-        ],
-    )?;
-    let events = events.as_slice();
-    assert!(rt; is_legal(rt.alloc(), &config, events)?);
-    for value in [FIRST, SECOND] {
-        assert!(rt; was_shown(events, 0, 8, value));
-    }
-    Ok(())
-}
+const NUMBER_WITH_TWO_VALUES: Shown = (
+    LONG_JOB,
+    &[
+        Stretch::Lead(0, &[0, 1], 8),
+        Stretch::Write(0),
+        Stretch::Fill(0, 0, 8, FIRST),
+        Stretch::Step(0, Verb::Look(0, 0)),
+        Stretch::Lead(1, &[1, 2], 9),
+        Stretch::Write(1),
+        Stretch::Fill(1, 1, 9, SECOND),
+        Stretch::Fill(1, 2, 9, SECOND),
+        Stretch::Step(1, Verb::RaiseFuo(1, 1)),
+        Stretch::Step(0, Verb::Fuo(1)),
+        Stretch::Step(0, Verb::Look(1, 0)),
+        Stretch::Fill(0, 0, 8, SECOND),
+        Stretch::Step(0, Verb::Look(0, 0)),
+    ],
+    SECOND,
+    &[(0, 8, FIRST), (0, 8, SECOND)],
+);
 
 /// False: once the chosen value stands in a log, it stays.
-#[test]
-fn chosen_value_is_overwritten(rt: HostRuntime) -> Result<(), Fail> {
-    let config = one_command(rt.alloc(), 5)?;
-    let events = events_of(
-        rt.alloc(),
-        &config,
-        &[
-            Stretch::Lead(0, &[0, 1, 2], 8),
-            Stretch::Write(0),
-            Stretch::Fill(0, 0, 8, FIRST),
-            Stretch::Fill(0, 1, 8, FIRST),
-            Stretch::Lead(2, &[2, 3, 4], 10),
-            Stretch::Write(2),
-            Stretch::Fill(2, 2, 10, THIRD),
-            Stretch::Lead(3, &[3, 0, 2], 11),
-            Stretch::Step(3, Verb::Enter(0, Target::Place(0))),
-            Stretch::Lead(1, &[1, 3, 4], 17),
-            Stretch::Fill(1, 1, 17, FIRST),
-            Stretch::Fill(1, 3, 17, FIRST),
-            Stretch::Fill(1, 4, 17, FIRST),
-            Stretch::Step(0, Verb::Look(0, 0)),
-            Stretch::Step(3, Verb::PutSlot(0, 0, 11, THIRD)),
-            Stretch::Step(0, Verb::Look(0, 0)),
-        ],
-    )?;
+const CHOSEN_VALUE_IS_OVERWRITTEN: Shown = (
+    JOB_OF_FIVE,
+    &[
+        Stretch::Lead(0, &[0, 1, 2], 8),
+        Stretch::Write(0),
+        Stretch::Fill(0, 0, 8, FIRST),
+        Stretch::Fill(0, 1, 8, FIRST),
+        Stretch::Lead(2, &[2, 3, 4], 10),
+        Stretch::Write(2),
+        Stretch::Fill(2, 2, 10, THIRD),
+        Stretch::Lead(3, &[3, 0, 2], 11),
+        Stretch::Step(3, Verb::Enter(0, Target::Place(0))),
+        Stretch::Lead(1, &[1, 3, 4], 17),
+        Stretch::Fill(1, 1, 17, FIRST),
+        Stretch::Fill(1, 3, 17, FIRST),
+        Stretch::Fill(1, 4, 17, FIRST),
+        Stretch::Step(0, Verb::Look(0, 0)),
+        Stretch::Step(3, Verb::PutSlot(0, 0, 11, THIRD)),
+        Stretch::Step(0, Verb::Look(0, 0)),
+    ],
+    FIRST,
+    &[(0, 8, FIRST), (0, 11, THIRD)],
+);
+
+/// The statements of `docs/AGREEMENT.md` that are false, and a list that shows each.
+const UNTRUE: [(&str, Shown); 4] = [
+    ("leader goes on elsewhere", LEADER_GOES_ON_ELSEWHERE),
+    (
+        "chosen again under a smaller number",
+        CHOSEN_AGAIN_UNDER_A_SMALLER_NUMBER,
+    ),
+    ("number with two values", NUMBER_WITH_TWO_VALUES),
+    ("chosen value is overwritten", CHOSEN_VALUE_IS_OVERWRITTEN),
+];
+
+/// What is chosen at the first position of a legal list.
+fn first_chosen(alloc: Global, config: &Config, events: &[Event]) -> Result<Option<u16>, Fail>
+    requires { IsConfig config.now }
+{
+    if is_legal(alloc, config, events)? {
+        Ok(chosen_at(alloc, config, events, 0)?)
+    } else {
+        Err(Fail::from("not legal"))
+    }
+}
+
+/// Goes through the stretches, and says whether the list shows what it should.
+fn is_shown(alloc: Global, shown: &Shown) -> Result<bool, Fail> {
+    let (job, stretches, chosen, sights) = *shown;
+    let config = config_of(alloc, job)?;
+    let events = events_of(alloc, &config, stretches)?;
     let events = events.as_slice();
-    assert!(rt; is_legal(rt.alloc(), &config, events)?);
-    assert_eq!(rt; chosen_at(rt.alloc(), &config, events, 0)?, Some(FIRST));
-    assert!(rt; was_shown(events, 0, 8, FIRST));
-    assert!(rt; was_shown(events, 0, 11, THIRD));
+    let mut all = first_chosen(alloc, &config, events)? == Some(chosen);
+    for &(p, number, value) in sights {
+        all &= was_shown(events, p, number, value);
+    }
+    Ok(all)
+}
+
+#[test]
+fn lists_show_what_is_untrue(rt: HostRuntime) -> Result<(), Fail> {
+    for (name, shown) in UNTRUE {
+        assert!(rt; is_shown(rt.alloc(), &shown)?, "{name}");
+    }
     Ok(())
 }
