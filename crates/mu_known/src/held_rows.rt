@@ -93,7 +93,7 @@ impl HeldRows {
     }
 
     /// Whether the replica has word `k` of the row of `v`.
-    fn has_word(&self, v: usize, k: u8) -> bool
+    pub fn has_word(&self, v: usize, k: u8) -> bool
         ensures { (c : Config) → (r : ℕ) → (mine : List Event) → v / 4096 < 7
             → v % 4096 < row_count c
             → k < 12 → HasWords c r mine self.now.got.items → result ≡ has_word r v k mine }

@@ -322,7 +322,7 @@ impl Looks {
     }
 
     /// Whether `p` is no member, or no look at position `i` there saw `Past` in the leadership.
-    fn is_clear(&self, p: u8, leading: &Leadership, i: u16) -> bool
+    pub fn is_clear(&self, p: u8, leading: &Leadership, i: u16) -> bool
         ensures { (c : Config) → (r : ℕ) → (mine : List Event) → p < 7 → i ≤ row_count c + reserve c
             → StandsForLeadership r mine leading.now → StandsForLooks c r mine self.now
             → result

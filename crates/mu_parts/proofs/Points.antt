@@ -1,14 +1,19 @@
 -- Tests that tell whether a point is met.
 use Rattle.std.proofs.lemmas.List.{append-nil}
-use Rattle.std.proofs.Common.{suc, ◌+◌, ℕ, ◌<◌, ◌≤◌, ◌≡◌, Bool, true, false, None, Some, List, [], ◌∷◌, ◌++◌, sym, ◌∙◌, ap, subst, arith, append_assoc}
-use Rattle.std.specs.Prelude.{IsTrue, is_some, nat_le, nat_lt, not, ◌==◌, ◌↔◌, ◌≢◌}
+use Rattle.std.proofs.Common.{suc, ◌+◌, ℕ, ◌<◌, ◌≤◌, ◌≡◌, Bool, true, false, None, Some, List, [], ◌∷◌, ◌++◌, refl, sym, ◌∙◌, ap, subst, arith, append_assoc}
+use Rattle.std.specs.Prelude.{IsTrue, is_some, max, nat_le, nat_lt, not, ◌==◌, ◌↔◌, ◌≢◌}
 use Rattle.std.specs.declared.option.Option.{Option}
-use Rattle.std.proofs.lemmas.Bool.{eq-eqb, eqb-true, eqb-false, le-leb, leb-true, lt-ltb, ltb-true, ne_eqb, not-true, not_from_false}
+use Rattle.std.proofs.lemmas.Bool.{and_parts, eq-eqb, eqb-true, eqb-false, le-leb, leb-true, lt-ltb, ltb-true, ne_eqb, not-true, not_from_false}
 use Rattle.mu_model.specs.declared.config.Config.{Config}
 use Rattle.mu_model.specs.declared.event.Event.{Event}
+use Rattle.mu_model.specs.Entering.{any_min_read}
+use Rattle.mu_model.specs.Histories.{all_below, greatest}
+use Rattle.mu_model.specs.Leaderships.{leadership, number_put, proposal_number}
+use Rattle.mu_model.specs.Serving.{has_unserved_ask, is_least_waiting}
 use Rattle.mu_reasons.specs.declared.reason.Reason.{Reason}
-use Rattle.mu_reasons.specs.Reasons.{AreMet, Finds, IsMet, each_below}
+use Rattle.mu_reasons.specs.Reasons.{AreMet, Finds, IsMet, each_below, first_below, greatest_used, right_number}
 use Rattle.mu_reasons.proofs.Lists.{found_on, met_front}
+use Rattle.mu_reasons.proofs.Numbers.{none_found, one_found}
 
 pub low : (p n : ℕ) → p < n → n ≤ 7 → p < 7
 low p n below few = omega (arith, below, few)
@@ -93,3 +98,19 @@ no_more c r past xs found finds = subst (λ l. Finds c r past l found) (sym (app
 
 pub less_from : (a b n : ℕ) → a ≡ n → (IsTrue (nat_lt a b) ↔ (n < b))
 less_from a b n same = subst (λ k. (IsTrue (nat_lt a b) ↔ (k < b))) same (less a b)
+
+-- the first that waits, where one was found, and where nobody does
+pub waiting_is : (n r : ℕ) (mine : List Event) (found : Option ℕ) → ((w : ℕ) → found ≡ Some w → (w < n) × (is_least_waiting r mine w ≡ true)) → (found ≡ None → all_below n (λ w. not (has_unserved_ask r mine w)) ≡ true) → found ≡ first_below n (has_unserved_ask r mine)
+waiting_is n r mine None one nobody = sym (none_found n (has_unserved_ask r mine) (nobody refl))
+waiting_is n r mine (Some w) one nobody =
+    let first = one w refl in
+    let least = and_parts (has_unserved_ask r mine w) (all_below w (λ q. not (has_unserved_ask r mine q))) first.1 in
+    sym (one_found n w (has_unserved_ask r mine) first.0 least.0 least.1)
+
+-- the number that is told is that of the definitions
+pub number_told : (r : ℕ) (mine : List Event) (own : Option ℕ) (read put id above : ℕ) (right : Option ℕ) → own ≡ proposal_number r mine → read ≡ greatest (λ e. any_min_read r e.by e.verb e.answer) (leadership r mine) → put ≡ greatest (λ e. number_put r e.by e.verb) mine → id ≡ r → above ≡ max read put → right ≡ right_number id above own → right ≡ right_number r (greatest_used r mine) (proposal_number r mine)
+number_told r mine own read put id above right is saw made self most told =
+    told
+    ∙ ap (λ i. right_number i above own) self
+    ∙ ap (λ a. right_number r a own) (most ∙ ap (λ x. max x put) saw ∙ ap (λ x. max (greatest (λ e. any_min_read r e.by e.verb e.answer) (leadership r mine)) x) made)
+    ∙ ap (λ o. right_number r (greatest_used r mine) o) is

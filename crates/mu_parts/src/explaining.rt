@@ -1,5 +1,5 @@
 //! Why a replica may not make a verb: the first point of what is allowed that it doesn't meet.
-ghost use Rattle.std.specs.Prelude.{IsTrue, List, None, Some, is_some, length, not, ◌||◌, [], true, ◌++◌, ◌+◌, ◌<◌, ◌∷◌, ◌≡◌, ◌≤◌, ◌↔◌, ℕ};
+ghost use Rattle.std.specs.Prelude.{IsTrue, List, None, Some, is_some, length, not, ◌||◌, [], true, ◌%◌, ◌++◌, ◌+◌, ◌/◌, ◌<◌, ◌∷◌, ◌≡◌, ◌≤◌, ◌↔◌, ℕ};
 ghost use Rattle.mu_model.specs.declared.config.Config.{Config};
 ghost use Rattle.mu_model.specs.declared.event.Event.{Event};
 ghost use Rattle.mu_model.specs.declared.event.Target.{Target as SomeTarget};
@@ -7,19 +7,20 @@ ghost use Rattle.mu_model.specs.declared.event.Verb.{Verb as SomeVerb};
 ghost use Rattle.mu_model.specs.Contents.{IsConfig, row_count};
 ghost use Rattle.mu_model.specs.Entering.{has_confirmed_majority};
 ghost use Rattle.std.specs.List.{slice_get};
-ghost use Rattle.mu_model.specs.Knowledge.{is_value, known};
+ghost use Rattle.mu_model.specs.Knowledge.{applied, is_value, known};
 ghost use Rattle.mu_model.specs.Leaderships.{is_member, proposal_number};
 ghost use Rattle.mu_model.specs.Parts.{IsPossible};
 ghost use Rattle.mu_model.specs.Serving.{drained_since_close, must_drain};
 ghost use Rattle.mu_model.specs.Picks.{first_value, highest_accepted, last_look};
 ghost use Rattle.mu_model.specs.Room.{reserve};
 ghost use Rattle.mu_reasons.specs.declared.reason.Reason.{Reason as SomeReason};
-ghost use Rattle.mu_reasons.specs.Reasons.{AreMet, Finds, bounds, each_below, new_values, offers, picks, points, proposals, puts, reserved_rooms, rooms, values};
+ghost use Rattle.mu_reasons.specs.Reasons.{AreMet, Finds, applied_to, batch_written, bounds, clear_members, each_below, entry_there, last_position, least_number, new_values, offers, picks, points, proposals, puts, reserved_rooms, right_number, rooms, row_there, row_written, values};
 ghost use Rattle.mu_parts.specs.Parts.{StandsForReplica};
 
 use crate::replica::{Replica, is_position};
 use mu_model::{
-    Config, PAYLOADS, Target, Verb, reserve_of, row_client, row_number, row_word, stands_for_batch,
+    Config, PAYLOADS, Target, Verb, positions_in, reserve_of, row_client, row_number, row_rest,
+    row_word, stands_for_batch,
 };
 use mu_reasons::{Found, Reason};
 
@@ -42,6 +43,37 @@ fn is_row(config: &Config, j: u16) -> bool
     ensures { IsTrue result ↔ (j < row_count config.now) }
 {
     usize::from(j) < config.rows.len()
+}
+
+/// The last position of a log.
+fn last_position(config: &Config) -> usize
+    requires { IsConfig config.now }
+    ensures { result ≡ last_position config.now }
+{
+    positions_in(config) - 1
+}
+
+/// The least number above this that is `r` modulo 8, from 8 on.
+fn least_number(r: u8, above: u64) -> u128
+    ensures { result ≡ least_number r above }
+{
+    let round = u128::from(above / 8 * 8);
+    let same = round + u128::from(r);
+    if 7 < above && u128::from(above) < same {
+        same
+    } else {
+        same + 8
+    }
+}
+
+/// The number to put: that of the leadership, or the least of 32 bits that a new one may take.
+fn right_number(r: u8, above: u64, own: Option<u32>) -> Option<u32>
+    ensures { result ≡ right_number r above own }
+{
+    match own {
+        Some(number) => Some(number),
+        None => u32::try_from(least_number(r, above)).ok(),
+    }
 }
 
 impl Replica {
@@ -211,6 +243,7 @@ impl Replica {
         let own = leading.number();
         let read = leading.greatest_minimum();
         let put = leading.greatest_number();
+        let right = right_number(self.replica, read.max(u64::from(put)), own);
         let open = is_entered_for(entered, Target::Min);
         found
             .needs(p < config.replicas, Reason::NoRegion { region: p })
@@ -227,6 +260,7 @@ impl Replica {
                     own,
                     read,
                     put,
+                    right,
                 },
             )
     }
@@ -240,9 +274,13 @@ impl Replica {
             result.reason }
     {
         let n = config.replicas;
+        let last = last_position(config);
         found
             .needs(p < n, Reason::NoRegion { region: p })
-            .needs(is_position(config, i), Reason::NoPosition { position: i })
+            .needs(
+                is_position(config, i),
+                Reason::NoPosition { position: i, last },
+            )
             .needs(
                 self.leadership.may_look(n, p),
                 Reason::NotReadable { region: p },
@@ -314,8 +352,20 @@ impl Replica {
         }
         let spelled = row_word(config, j, k);
         let written = self.held_rows.has_written(j, k);
+        let client = row_client(config, j);
+        let number = row_number(config, j);
         found
-            .needs(x == spelled, Reason::OtherWord { given: x, spelled })
+            .needs(
+                x == spelled,
+                Reason::OtherWord {
+                    row: j,
+                    word: k,
+                    given: x,
+                    spelled,
+                    client,
+                    number,
+                },
+            )
             .needs(!written, Reason::Written { row: j, word: k })
     }
 
@@ -335,6 +385,102 @@ impl Replica {
             .needs(k < 12, Reason::NoWord { word: k })
     }
 
+    /// That the words of the row of a value are there, of which a head above so many applied
+    /// entries has need.
+    fn why_row_not_there(
+        &self,
+        config: &Config,
+        h: u16,
+        applied: usize,
+        v: u16,
+        found: Found,
+    ) -> Found
+        requires { IsConfig config.now }
+        ensures { (r : ℕ) → (mine : List Event) → (reasons : List SomeReason) → v / 4096 < 7
+            → v % 4096 < row_count config.now
+            → StandsForReplica config.now r mine self.now
+            → Finds config.now r mine reasons found.reason
+            → Finds config.now r mine (reasons ++ row_there h applied v) result.reason }
+    {
+        let mut found = found;
+        for k in 0..12u8 {
+            let there = self.held_rows.has_word(usize::from(v), k);
+            found = found.needs(
+                there,
+                Reason::NoRowWord {
+                    head: h,
+                    applied,
+                    value: v,
+                    word: k,
+                },
+            );
+        }
+        found
+    }
+
+    /// That the rows of an entry are there.
+    fn why_entry_not_there(
+        &self,
+        config: &Config,
+        h: u16,
+        applied: usize,
+        v: u16,
+        found: Found,
+    ) -> Found
+        requires { IsConfig config.now }
+        ensures { (r : ℕ) → (mine : List Event) → (reasons : List SomeReason)
+            → StandsForReplica config.now r mine self.now
+            → Finds config.now r mine reasons found.reason
+            → Finds config.now r mine (reasons ++ entry_there config.now h applied (Some v))
+            result.reason }
+    {
+        if !stands_for_batch(config, v) {
+            return found;
+        }
+        let rows = u16::from(row_rest(config, v % PAYLOADS)) + 1;
+        let mut found = found;
+        for t in 0..rows {
+            found = self.why_row_not_there(config, h, applied, v.saturating_add(t), found);
+        }
+        found
+    }
+
+    /// That the rows of the entry at a position are there, where it is known.
+    fn why_next_not_there(&self, config: &Config, h: u16, applied: usize, found: Found) -> Found
+        requires { IsConfig config.now }
+        ensures { (r : ℕ) → (mine : List Event) → (reasons : List SomeReason)
+            → StandsForReplica config.now r mine self.now
+            → Finds config.now r mine reasons found.reason
+            → Finds config.now r mine
+            (reasons
+            ++ entry_there config.now h applied (slice_get (known config.now r mine) applied))
+            result.reason }
+    {
+        match self.value_at(applied) {
+            None => found,
+            Some(v) => self.why_entry_not_there(config, h, applied, v, found),
+        }
+    }
+
+    /// That so many entries are applied.
+    fn why_not_applied(&self, config: &Config, h: u16, found: Found) -> Found
+        requires { IsConfig config.now }
+        ensures { (r : ℕ) → (mine : List Event) → (reasons : List SomeReason)
+            → StandsForReplica config.now r mine self.now
+            → Finds config.now r mine reasons found.reason
+            → Finds config.now r mine
+            (reasons ++ applied_to config.now r mine h (length (applied config.now r mine)))
+            result.reason }
+    {
+        let applied = self.held_rows.applied_length();
+        let done = usize::from(h) <= applied;
+        if done {
+            return found;
+        }
+        let found = self.why_next_not_there(config, h, applied, found);
+        found.needs(false, Reason::NotApplied { head: h, applied })
+    }
+
     /// What a `RaiseHead` needs.
     fn why_no_raise_head(&self, config: &Config, h: u16, found: Found) -> Found
         requires { IsConfig config.now }
@@ -343,18 +489,8 @@ impl Replica {
             → Finds config.now r mine (points config.now r mine (SomeVerb.RaiseHead h))
             result.reason }
     {
-        let applied = self.held_rows.applied_length();
-        let next = self.value_at(applied);
-        found
-            .needs(
-                usize::from(h) <= applied,
-                Reason::NotApplied {
-                    head: h,
-                    applied,
-                    next,
-                },
-            )
-            .needs(self.looks.reaches_head(h), Reason::NotReached { head: h })
+        let found = self.why_not_applied(config, h, found);
+        found.needs(self.looks.reaches_head(h), Reason::NotReached { head: h })
     }
 
     /// What a `Close` needs.
@@ -404,11 +540,15 @@ impl Replica {
             result.reason }
     {
         let grants = &self.grants;
+        let least = grants.first_waiting();
         found
             .needs(w < config.replicas, Reason::NoRegion { region: w })
             .needs(grants.is_closing(), Reason::NotClosing)
             .needs(self.is_drained(), Reason::NotDrained)
-            .needs(grants.may_grant(w), Reason::NotLeastWaiting { replica: w })
+            .needs(
+                grants.may_grant(w),
+                Reason::NotLeastWaiting { replica: w, least },
+            )
     }
 
     /// That the heads leave room.
@@ -453,6 +593,48 @@ impl Replica {
         }
     }
 
+    /// That the words of a row of a value are written.
+    fn why_row_not_written(&self, config: &Config, v: u16, j: u16, found: Found) -> Found
+        requires { IsConfig config.now }
+        ensures { (r : ℕ) → (mine : List Event) → (reasons : List SomeReason)
+            → j < row_count config.now
+            → StandsForReplica config.now r mine self.now
+            → Finds config.now r mine reasons found.reason
+            → Finds config.now r mine (reasons ++ row_written v j) result.reason }
+    {
+        let mut found = found;
+        for k in 0..12u8 {
+            let written = self.held_rows.has_written(j, k);
+            found = found.needs(
+                written,
+                Reason::NotWritten {
+                    value: v,
+                    row: j,
+                    word: k,
+                },
+            );
+        }
+        found
+    }
+
+    /// That the rows of a batch are written.
+    fn why_not_written(&self, config: &Config, v: u16, found: Found) -> Found
+        requires { IsConfig config.now }
+        ensures { (r : ℕ) → (mine : List Event) → (reasons : List SomeReason)
+            → v % 4096 < row_count config.now
+            → StandsForReplica config.now r mine self.now
+            → Finds config.now r mine reasons found.reason
+            → Finds config.now r mine (reasons ++ batch_written config.now v) result.reason }
+    {
+        let row = v % PAYLOADS;
+        let rows = u16::from(row_rest(config, row)) + 1;
+        let mut found = found;
+        for t in 0..rows {
+            found = self.why_row_not_written(config, v, row + t, found);
+        }
+        found
+    }
+
     /// That the value is an offer.
     fn why_no_offer(&self, config: &Config, v: u16, found: Found) -> Found
         requires { IsConfig config.now }
@@ -473,19 +655,17 @@ impl Replica {
         if !batch {
             return found;
         }
-        let written = self.held_rows.wrote_batch(config, row);
         let next = u32::from(number) == u32::from(known) + 1;
-        found
-            .needs(own, Reason::NotOwn { value: v })
-            .needs(written, Reason::NotWritten { value: v })
-            .needs(
-                next,
-                Reason::NotNextOfClient {
-                    value: v,
-                    number,
-                    known,
-                },
-            )
+        let found = found.needs(own, Reason::NotOwn { value: v });
+        let found = self.why_not_written(config, v, found);
+        found.needs(
+            next,
+            Reason::NotNextOfClient {
+                value: v,
+                number,
+                known,
+            },
+        )
     }
 
     /// That the looks at the position allow the value.
@@ -574,6 +754,29 @@ impl Replica {
         }
     }
 
+    /// That no member was seen past the position.
+    fn why_past_seen(&self, config: &Config, i: u16, found: Found) -> Found
+        requires { IsConfig config.now }
+        ensures { (r : ℕ) → (mine : List Event) → (reasons : List SomeReason)
+            → i ≤ row_count config.now + reserve config.now
+            → StandsForReplica config.now r mine self.now
+            → Finds config.now r mine reasons found.reason
+            → Finds config.now r mine (reasons ++ clear_members config.now i) result.reason }
+    {
+        let mut found = found;
+        for p in 0..config.replicas {
+            let clear = self.looks.is_clear(p, &self.leadership, i);
+            found = found.needs(
+                clear,
+                Reason::PastSeen {
+                    region: p,
+                    position: i,
+                },
+            );
+        }
+        found
+    }
+
     /// That the value may be put at a new position.
     fn why_not_new(&self, config: &Config, i: u16, v: u16, found: Found) -> Found
         requires { IsConfig config.now }
@@ -585,14 +788,13 @@ impl Replica {
             result.reason }
     {
         let known = self.known_log.known().len();
-        let clear = self.looks.none_past(config.replicas, &self.leadership, i);
         let found = found.needs(
             usize::from(i) == known,
             Reason::NotNext { position: i, known },
         );
         let found = self.why_no_room(config, i, 0, found);
         let found = self.why_no_reserve(config, i, v, found);
-        let found = found.needs(clear, Reason::PastSeen { position: i });
+        let found = self.why_past_seen(config, i, found);
         self.why_no_proposal(config, i, v, found)
     }
 
@@ -641,11 +843,13 @@ impl Replica {
         requires { IsConfig config.now }
         ensures { (r : ℕ) → (mine : List Event) → StandsForReplica config.now r mine self.now
             → Finds config.now r mine
-            (bounds r mine ++ (SomeReason.NoRegion p ∷ SomeReason.NoPosition i ∷ []))
+            (bounds r mine
+            ++ (SomeReason.NoRegion p ∷ SomeReason.NoPosition i (last_position config.now) ∷ []))
             found.reason
             → Finds config.now r mine
             (bounds r mine
-            ++ (SomeReason.NoRegion p ∷ SomeReason.NoPosition i ∷ puts config.now r mine p i b))
+            ++ (SomeReason.NoRegion p ∷ SomeReason.NoPosition i (last_position config.now)
+            ∷ puts config.now r mine p i b))
             result.reason }
     {
         let leading = &self.leadership;
@@ -695,9 +899,10 @@ impl Replica {
             result.reason }
     {
         let there = is_position(config, i);
+        let last = last_position(config);
         let found = found
             .needs(p < config.replicas, Reason::NoRegion { region: p })
-            .needs(there, Reason::NoPosition { position: i });
+            .needs(there, Reason::NoPosition { position: i, last });
         if !there {
             return found;
         }

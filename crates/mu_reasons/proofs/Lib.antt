@@ -1,2 +1,3 @@
 pub mod Lists
 pub mod Meeting
+pub mod Numbers

@@ -1,6 +1,6 @@
 -- A verb is allowed exactly where all of its points are met.
-use Rattle.std.proofs.Common.{List, [], ◌++◌, ◌∷◌, ℕ, zero, suc, ◌<◌, ◌≡◌, None, Some, Bool, true, false, refl, sym, ◌∙◌, ap, subst, inl, inr, arith}
-use Rattle.std.specs.Prelude.{not, ◌&&◌, ◌||◌, ◌==◌, ◌↔◌, ◌⊎◌, ◌+◌, ◌%◌, ◌/◌, if◌then◌else◌, nat_lt, is_some, length}
+use Rattle.std.proofs.Common.{List, [], ◌++◌, ◌∷◌, ℕ, zero, suc, ◌<◌, ◌≤◌, ◌≡◌, None, Some, Bool, true, false, refl, sym, ◌∙◌, ap, subst, inl, inr, arith}
+use Rattle.std.specs.Prelude.{not, ◌&&◌, ◌||◌, ◌==◌, ◌↔◌, ◌⊎◌, ◌+◌, ◌%◌, ◌/◌, if◌then◌else◌, nat_le, nat_lt, is_some, length}
 use Rattle.std.specs.declared.option.Option.{Option}
 use Rattle.std.specs.List.{slice_get}
 use Rattle.mu_model.specs.declared.config.Config.{Config}
@@ -8,20 +8,27 @@ use Rattle.mu_model.specs.declared.event.Event.{Event}
 use Rattle.mu_model.specs.declared.event.Target.{Target}
 use Rattle.mu_model.specs.declared.event.Verb.{Verb}
 use Rattle.mu_model.specs.Allowed.{Allowed, Needs}
-use Rattle.mu_model.specs.Contents.{client_of, command_count, is_batch, marked, number_of}
-use Rattle.mu_model.specs.Histories.{all_below}
-use Rattle.mu_model.specs.Knowledge.{is_filled, is_value, known, wrote_batch}
-use Rattle.mu_model.specs.Leaderships.{is_member}
-use Rattle.mu_model.specs.Picks.{first_value, highest_accepted, is_fresh_batch, is_mark_offer, is_offer, joined_since_first_put, last_look, may_propose, pick}
+use Rattle.mu_model.specs.Contents.{client_of, command_count, is_batch, marked, number_of, rest_of}
+use Rattle.mu_model.specs.Histories.{all_below, has}
+use Rattle.mu_model.specs.Knowledge.{applied, is_filled, is_value, known, wrote, wrote_batch}
+use Rattle.mu_model.specs.Leaderships.{is_member, leadership}
+use Rattle.mu_model.specs.Picks.{first_value, highest_accepted, is_fresh_batch, is_mark_offer, is_offer, is_past_look, joined_since_first_put, last_look, look_answer, may_propose, pick}
 use Rattle.mu_model.specs.Placing.{IsNew, is_caught_up_at}
 use Rattle.mu_model.specs.Room.{has_room, last_head, reserve}
-use Rattle.std.proofs.lemmas.Bool.{and_from, and_parts, eq-eqb, eqb-true, false≢true, or_cases}
+use Rattle.std.proofs.lemmas.Bool.{and_from, and_parts, eq-eqb, eqb-true, false≢true, le-leb, leb-true, or_cases}
 use Rattle.std.proofs.lemmas.Bool.Decides.{eqb_tells}
 use Rattle.mu_model.proofs.Basics.{none_some, or_true, same_number, same_some, true_or}
 use Rattle.mu_model.proofs.Scans.{all_at, each_all}
 use Rattle.mu_reasons.specs.declared.reason.Reason.{Reason}
-use Rattle.mu_reasons.specs.Reasons.{AreMet, MetWhereAllowed, each_below, needs, new_values, offers, picks, proposals, puts, reserved_rooms, rooms, values}
+use Rattle.mu_reasons.specs.Reasons.{AreMet, MetWhereAllowed, applied_to, batch_points, batch_written, clear_members, each_below, entry_there, needs, new_values, offers, picks, proposals, puts, reserved_rooms, rooms, row_written, values}
 use Rattle.mu_reasons.proofs.Lists.{each_met, met_append, met_each, met_front, met_rest}
+
+-- those of each number are met exactly where a test of each passes
+pub all_met : (c : Config) (r : ℕ) (past : List Event) (n : ℕ) (test : ℕ → Bool) (of_each : ℕ → List Reason) → ((j : ℕ) → (AreMet c r past (of_each j) ↔ (test j ≡ true))) → (AreMet c r past (each_below n of_each) ↔ (all_below n test ≡ true))
+all_met c r past n test of_each tells = (
+  λ m. each_all n test (λ j low. (tells j).0 (met_each c r past n of_each m j low)),
+  λ h. each_met c r past n of_each (λ j low. (tells j).1 (all_at n test h j low)),
+)
 
 pub rooms_met : (c : Config) (r : ℕ) (past : List Event) (i free : ℕ) → (AreMet c r past (rooms c r past i free) ↔ (has_room c r past i free ≡ true))
 rooms_met c r past i free =
@@ -38,6 +45,19 @@ where_fresh c r past false room xs met = (λ m is. absurd (false≢true is), λ 
 pub reserved_met : (c : Config) (r : ℕ) (past : List Event) (i v : ℕ) → (AreMet c r past (reserved_rooms c r past i v) ↔ (is_fresh_batch c r past i v ≡ true → has_room c r past i (reserve c) ≡ true))
 reserved_met c r past i v = where_fresh c r past (is_fresh_batch c r past i v) (has_room c r past i (reserve c)) (rooms c r past i (reserve c)) (rooms_met c r past i (reserve c))
 
+pub batch_written_met : (c : Config) (r : ℕ) (past : List Event) (v : ℕ) → (AreMet c r past (batch_written c v) ↔ (wrote_batch c r (v % 4096) past ≡ true))
+batch_written_met c r past v =
+    all_met c r past (rest_of c (v % 4096) + 1) (λ t. all_below 12 (λ k. wrote r (v % 4096 + t) k past)) (λ t. row_written v (v % 4096 + t)) (λ t.
+    all_met c r past 12 (λ k. wrote r (v % 4096 + t) k past) (λ k. Reason.NotWritten v (v % 4096 + t) k ∷ []) (λ k. (λ m. m.0, λ h. (h, tt))))
+
+-- where the test fails, the last point fails
+where_applied : (c : Config) (r : ℕ) (past : List Event) (t : Bool) (h count : ℕ) (xs : List Reason) → nat_le h count ≡ t → (AreMet c r past (if t then [] else (xs ++ Reason.NotApplied h count ∷ [])) ↔ (h ≤ count))
+where_applied c r past true h count xs is = (λ m. leb-true h count is, λ low. tt)
+where_applied c r past false h count xs is = (λ m. (met_rest c r past xs (Reason.NotApplied h count ∷ []) m).0, λ low. absurd (false≢true (sym is ∙ le-leb h count low)))
+
+pub applied_met : (c : Config) (r : ℕ) (past : List Event) (h count : ℕ) → (AreMet c r past (applied_to c r past h count) ↔ (h ≤ count))
+applied_met c r past h count = where_applied c r past (nat_le h count) h count (entry_there c h count (slice_get (known c r past) count)) refl
+
 all_four : (a b : Bool) (x y n m : ℕ) → a ≡ true → x ≡ y → b ≡ true → n ≡ m → (a && ((x == y) && (b && (n == m)))) ≡ true
 all_four a b x y n m p q s t = and_from _ _ p (and_from _ _ (eq-eqb x y q) (and_from _ _ s (eq-eqb n m t)))
 
@@ -51,13 +71,15 @@ each_of_four a b x y n m h =
 pub offers_met : (c : Config) (r : ℕ) (past : List Event) (v : ℕ) → (AreMet c r past (offers c r past v) ↔ (pick c r past v None ≡ true))
 offers_met c r past v = go (is_mark_offer c r past v)
   where
-    go : (t : Bool) → (AreMet c r past (if t then [] else (Reason.NoBatch v ∷ Reason.NotOwn v ∷ Reason.NotWritten v ∷ Reason.NotNextOfClient v (number_of c (v % 4096)) (command_count c (client_of c (v % 4096)) (known c r past)) ∷ []))
+    go : (t : Bool) → (AreMet c r past (if t then [] else batch_points c r past v)
         ↔ ((is_offer c r past v || t) ≡ true))
     go true = (λ m. or_true _ true refl, λ h. tt)
-    go false = (
-      λ m. true_or _ false (all_four _ _ _ _ _ _ m.0 m.1.0 m.1.1.0 m.1.1.1.0),
-      λ h. elim (or_cases _ false h) [ inl own ↦ (let all = each_of_four _ _ _ _ _ _ own in (all.0, (all.1, (all.2, (all.3, tt))))) | inr bad ↦ absurd (false≢true bad) ],
-    )
+    go false =
+        let rows = batch_written c v in
+        let last : List Reason = Reason.NotNextOfClient v (number_of c (v % 4096)) (command_count c (client_of c (v % 4096)) (known c r past)) ∷ [] in (
+          λ m. true_or _ false (all_four _ _ _ _ _ _ m.0 m.1.0 ((batch_written_met c r past v).0 (met_front c r past rows last m.1.1)) (met_rest c r past rows last m.1.1).0),
+          λ h. elim (or_cases _ false h) [ inl own ↦ (let all = each_of_four _ _ _ _ _ _ own in (all.0, (all.1, met_append c r past rows last ((batch_written_met c r past v).1 all.2) (all.3, tt)))) | inr bad ↦ absurd (false≢true bad) ],
+        )
 
 pub picks_met : (c : Config) (r : ℕ) (past : List Event) (i v : ℕ) (o : Option (ℕ × ℕ)) → (AreMet c r past (picks c r past i v o) ↔ (pick c r past v o ≡ true))
 picks_met c r past i v (Some entry) = (λ m. eq-eqb entry.1 v m.0, λ h. (eqb-true entry.1 v h, tt))
@@ -88,17 +110,23 @@ proposals_met c r past i v None =
           ((picks_met c r past i v top).1 both.1),
     )
 
+pub clear_met : (c : Config) (r : ℕ) (past : List Event) (i : ℕ) → (AreMet c r past (clear_members c i) ↔ (all_below c.replicas (λ p. not (is_member r p past && has (λ e. is_past_look (look_answer r p i e.by e.verb e.answer)) (leadership r past))) ≡ true))
+clear_met c r past i =
+    all_met c r past c.replicas (λ p. not (is_member r p past && has (λ e. is_past_look (look_answer r p i e.by e.verb e.answer)) (leadership r past))) (λ p. Reason.PastSeen p i ∷ []) (λ p. (λ m. m.0, λ h. (h, tt)))
+
 pub new_met : (c : Config) (r : ℕ) (past : List Event) (i v : ℕ) → (AreMet c r past (new_values c r past i v) ↔ IsNew c r past i v)
 new_met c r past i v =
     let first = first_value r i past in
-    let late : List Reason = Reason.PastSeen i ∷ proposals c r past i v first in
+    let clear = clear_members c i in
+    let offered = proposals c r past i v first in
+    let late = clear ++ offered in
     let kept = reserved_rooms c r past i v in
     let all = rooms c r past i 0 in (
       λ m.
           let more = met_rest c r past all (kept ++ late) m.1 in
           let last = met_rest c r past kept late more in
-          record { next = m.0; room = (rooms_met c r past i 0).0 (met_front c r past all (kept ++ late) m.1); reserve_kept = (reserved_met c r past i v).0 (met_front c r past kept late more); none_past = last.0; value = (proposals_met c r past i v first).0 last.1 },
-      λ h. (h.next, met_append c r past all (kept ++ late) ((rooms_met c r past i 0).1 h.room) (met_append c r past kept late ((reserved_met c r past i v).1 h.reserve_kept) (h.none_past, (proposals_met c r past i v first).1 h.value))),
+          record { next = m.0; room = (rooms_met c r past i 0).0 (met_front c r past all (kept ++ late) m.1); reserve_kept = (reserved_met c r past i v).0 (met_front c r past kept late more); none_past = (clear_met c r past i).0 (met_front c r past clear offered last); value = (proposals_met c r past i v first).0 (met_rest c r past clear offered last) },
+      λ h. (h.next, met_append c r past all (kept ++ late) ((rooms_met c r past i 0).1 h.room) (met_append c r past kept late ((reserved_met c r past i v).1 h.reserve_kept) (met_append c r past clear offered ((clear_met c r past i).1 h.none_past) ((proposals_met c r past i v first).1 h.value)))),
     )
 
 -- the points of a new value are asked for where the value isn't known
@@ -148,7 +176,10 @@ needs_met c r past (Verb.Head q) m = m.0
 needs_met c r past (Verb.ReadBeat q) m = (m.0, m.1.0)
 needs_met c r past (Verb.WriteRow j k x) m = (m.0, m.1.0, m.1.1.0, m.1.1.1.0)
 needs_met c r past (Verb.ReadRow v k) m = (m.0, m.1.0, m.1.1.0)
-needs_met c r past (Verb.RaiseHead h) m = (m.0, m.1.0)
+needs_met c r past (Verb.RaiseHead h) m =
+    let count = length (applied c r past) in
+    let there = applied_to c r past h count in
+    ((applied_met c r past h count).0 (met_front c r past there (Reason.NotReached h ∷ []) m), (met_rest c r past there (Reason.NotReached h ∷ []) m).0)
 needs_met c r past Verb.Beat m = tt
 needs_met c r past (Verb.ReadAsk w) m = m.0
 needs_met c r past Verb.Close m = (m.0, m.1.0)
@@ -178,7 +209,7 @@ met_needs c r past (Verb.Head q) h = (h, tt)
 met_needs c r past (Verb.ReadBeat q) h = (h.0, (h.1, tt))
 met_needs c r past (Verb.WriteRow j k x) h = (h.0, (h.1, (h.2, (h.3, tt))))
 met_needs c r past (Verb.ReadRow v k) h = (h.0, (h.1, (h.2, tt)))
-met_needs c r past (Verb.RaiseHead a) h = (h.0, (h.1, tt))
+met_needs c r past (Verb.RaiseHead a) h = met_append c r past (applied_to c r past a (length (applied c r past))) (Reason.NotReached a ∷ []) ((applied_met c r past a (length (applied c r past))).1 h.0) (h.1, tt)
 met_needs c r past Verb.Beat h = tt
 met_needs c r past (Verb.ReadAsk w) h = (h, tt)
 met_needs c r past Verb.Close h = (h.0, (h.1, tt))

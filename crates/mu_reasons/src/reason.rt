@@ -3,7 +3,7 @@ ghost use Rattle.std.specs.Prelude.{IsTrue, List, [], ℕ, ◌++◌, ◌∷◌, 
 ghost use Rattle.mu_model.specs.declared.config.Config.{Config};
 ghost use Rattle.mu_model.specs.declared.event.Event.{Event};
 ghost use Rattle.mu_reasons.specs.declared.reason.Reason.{Reason as SomeReason};
-ghost use Rattle.mu_reasons.specs.Reasons.{AreMet, AtMostOneReason, Finds, IsMet, MetWhereAllowed};
+ghost use Rattle.mu_reasons.specs.Reasons.{AreMet, AtMostOneReason, Finds, IsMet, MetWhereAllowed, RightNumberAllowed};
 
 use mu_model::Target;
 
@@ -87,11 +87,15 @@ pub enum Reason {
         read: u64,
         /// The greatest number that the replica ever put.
         put: u32,
+        /// The number to put, if one of 32 bits is left.
+        right: Option<u32>,
     },
     /// There is no such position.
     NoPosition {
         /// The position that the verb names.
         position: u16,
+        /// The last position of a log.
+        last: usize,
     },
     /// The region is neither the own one nor granted.
     NotReadable {
@@ -159,6 +163,8 @@ pub enum Reason {
     },
     /// A member was seen past the position in the leadership.
     PastSeen {
+        /// The region.
+        region: u8,
         /// The position.
         position: u16,
     },
@@ -204,10 +210,14 @@ pub enum Reason {
         /// The value.
         value: u16,
     },
-    /// Not all words of the batch's rows are written.
+    /// A word of the batch's rows isn't written.
     NotWritten {
         /// The value.
         value: u16,
+        /// The row.
+        row: u16,
+        /// The word.
+        word: u8,
     },
     /// The batch isn't the next of its client.
     NotNextOfClient {
@@ -249,10 +259,18 @@ pub enum Reason {
     },
     /// The job spells another word.
     OtherWord {
+        /// The row.
+        row: u16,
+        /// The word's place in the row.
+        word: u8,
         /// The word that would be written.
         given: u64,
         /// The word that the job spells.
         spelled: u64,
+        /// The client whose command the row is.
+        client: u8,
+        /// Which command of the client it is.
+        number: u16,
     },
     /// The word is written.
     Written {
@@ -266,14 +284,24 @@ pub enum Reason {
         /// The value.
         value: u16,
     },
-    /// Not so many entries are applied.
+    /// Not so many entries are applied: of the first that isn't, a word of a row is neither read
+    /// nor written.
+    NoRowWord {
+        /// The head that would be raised to.
+        head: u16,
+        /// How many entries are applied.
+        applied: usize,
+        /// The payload number of the row.
+        value: u16,
+        /// The word.
+        word: u8,
+    },
+    /// Not so many entries are applied, and no more are known.
     NotApplied {
         /// The head that would be raised to.
         head: u16,
         /// How many entries are applied.
         applied: usize,
-        /// The value of the first entry that isn't, where it is known.
-        next: Option<u16>,
     },
     /// No first undecided offset of the own region that reaches the head was read or raised.
     NotReached {
@@ -300,6 +328,8 @@ pub enum Reason {
     NotLeastWaiting {
         /// The replica that would be granted the region.
         replica: u8,
+        /// The least that waits, if any does.
+        least: Option<u8>,
     },
 }
 
@@ -350,4 +380,9 @@ pub fn points_are_allowance()
 /// No verb has two reasons.
 pub fn at_most_one_reason()
     ensures { AtMostOneReason }
+{}
+
+/// The number that is told in place of a wrong one is allowed.
+pub fn right_number_is_allowed()
+    ensures { RightNumberAllowed }
 {}

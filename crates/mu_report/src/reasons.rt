@@ -3,7 +3,7 @@ ghost use Rattle.std.specs.Prelude.{◌≡◌, ◌+◌, ◌<◌, ◌≤◌, ◌+
 ghost use Rattle.std.specs.Fmt.{decimal};
 ghost use Rattle.mu_report.specs.declared.line.TheConstants.{LINE_BYTES};
 ghost use Rattle.mu_report.specs.Printing.{PrintsAll, PrintsPart};
-ghost use Rattle.mu_report.specs.Reasons.{entered_words, explained_lines, fault_words, first_words, number_or_none, reason_words};
+ghost use Rattle.mu_report.specs.Reasons.{entered_words, explained_lines, fault_words, first_words, number_or_none, number_words, reason_words};
 
 use crate::line::{Line, print_line};
 use mu_events::{event_line, push_answer};
@@ -52,15 +52,21 @@ fn push_own(line: &mut Line, own: Option<u32>)
     }
 }
 
-/// Adds a value, if there is one.
-fn push_value(line: &mut Line, value: Option<u16>)
-    requires { length line.old + 20 ≤ LINE_BYTES }
-    ensures bytes { line.new ≡ line.old ++ number_or_none value }
-    ensures room { length line.new ≤ length line.old + 5 }
+/// Adds how the number to put comes about.
+fn push_why_number(line: &mut Line, own: Option<u32>, read: u64, put: u32)
+    requires { length line.old + 110 ≤ LINE_BYTES }
+    ensures bytes { line.new ≡ line.old ++ number_words own read put }
+    ensures room { length line.new ≤ length line.old + 110 }
 {
-    match value {
-        None => line.push(b"none"),
-        Some(number) => line.push_number(u64::from(number)),
+    match own {
+        Some(_) => line.push(b"that of the leadership"),
+        None => {
+            line.push(b"the least from 8 on that is the replica modulo 8 and above ");
+            line.push_number(read);
+            line.push(b" read and ");
+            line.push_number(u64::from(put));
+            line.push(b" put");
+        }
     }
 }
 
@@ -133,20 +139,19 @@ fn push_reason(line: &mut Line, reason: Reason)
             line.push(b" is below the min that was read, ");
             line.push_number(minimum);
         }
-        Reason::NotTheNumber { number, own, read, put } => {
+        Reason::NotTheNumber { number, own, read, put, right } => {
             line.push(b"number ");
             line.push_number(u64::from(number));
-            line.push(b" is not that of the leadership, ");
-            push_own(line, own);
-            line.push(b", and not the least of the replica (id modulo 8, from 8 on) above ");
-            line.push_number(read);
-            line.push(b" read and ");
-            line.push_number(u64::from(put));
-            line.push(b" put");
+            line.push(b" is not the one to put, ");
+            push_own(line, right);
+            line.push(b": ");
+            push_why_number(line, own, read, put);
         }
-        Reason::NoPosition { position } => {
+        Reason::NoPosition { position, last } => {
             line.push(b"there is no position ");
             line.push_number(u64::from(position));
+            line.push(b": the last one is ");
+            line.push_number(last as u64);
         }
         Reason::NotReadable { region } => {
             line.push(b"region ");
@@ -207,10 +212,12 @@ fn push_reason(line: &mut Line, reason: Reason)
             line.push(b" that was read is ");
             line.push_number(head);
         }
-        Reason::PastSeen { position } => {
+        Reason::PastSeen { region, position } => {
             line.push(b"a look at position ");
             line.push_number(u64::from(position));
-            line.push(b" of a member was past in the leadership");
+            line.push(b" of region ");
+            line.push_number(u64::from(region));
+            line.push(b", a member, was past in the leadership");
         }
         Reason::OtherFirst { position, value, first } => {
             line.push(b"value ");
@@ -251,10 +258,14 @@ fn push_reason(line: &mut Line, reason: Reason)
             line.push_number(u64::from(value));
             line.push(b" is not 4096 times this replica and a row");
         }
-        Reason::NotWritten { value } => {
-            line.push(b"not all 12 words of each row of value ");
+        Reason::NotWritten { value, row, word } => {
+            line.push(b"word ");
+            line.push_number(u64::from(word));
+            line.push(b" of row ");
+            line.push_number(u64::from(row));
+            line.push(b" is not written, and value ");
             line.push_number(u64::from(value));
-            line.push(b" are written");
+            line.push(b" stands for all words of its rows");
         }
         Reason::NotNextOfClient { value, number, known } => {
             line.push(b"value ");
@@ -270,6 +281,7 @@ fn push_reason(line: &mut Line, reason: Reason)
             line.push_number(known as u64);
             line.push(b" positions are known, fewer than ");
             line.push_number(u64::from(fuo));
+            line.push(b": put the value at every member first, or look at it below a fuo");
         }
         Reason::NotFilled { region, position } => {
             line.push(b"position ");
@@ -291,10 +303,18 @@ fn push_reason(line: &mut Line, reason: Reason)
             line.push(b"a row has the words 0 to 11, and no word ");
             line.push_number(u64::from(word));
         }
-        Reason::OtherWord { given, spelled } => {
-            line.push(b"the job spells the word ");
+        Reason::OtherWord { row, word, given, spelled, client, number } => {
+            line.push(b"word ");
+            line.push_number(u64::from(word));
+            line.push(b" of row ");
+            line.push_number(u64::from(row));
+            line.push(b", which is command ");
+            line.push_number(u64::from(client));
+            line.push(b".");
+            line.push_number(u64::from(number));
+            line.push(b" of the job, is ");
             line.push_number(spelled);
-            line.push(b" there, and not ");
+            line.push(b" and not ");
             line.push_number(given);
         }
         Reason::Written { row, word } => {
@@ -307,15 +327,25 @@ fn push_reason(line: &mut Line, reason: Reason)
         Reason::NoWriter { value } => {
             line.push(b"value ");
             line.push_number(u64::from(value));
-            line.push(b" is 4096 times no replica of the job, and a row");
+            line.push(b" names no replica of the job: it is 4096 times a replica, and a row");
         }
-        Reason::NotApplied { head, applied, next } => {
+        Reason::NoRowWord { head, applied, value, word } => {
             line.push(b"only ");
             line.push_number(applied as u64);
             line.push(b" entries are applied, fewer than ");
             line.push_number(u64::from(head));
-            line.push(b": not all row words are there of value ");
-            push_value(line, next);
+            line.push(b": word ");
+            line.push_number(u64::from(word));
+            line.push(b" of value ");
+            line.push_number(u64::from(value));
+            line.push(b" is neither written nor read");
+        }
+        Reason::NotApplied { head, applied } => {
+            line.push(b"only ");
+            line.push_number(applied as u64);
+            line.push(b" entries are applied, fewer than ");
+            line.push_number(u64::from(head));
+            line.push(b": no more are known");
         }
         Reason::NotReached { head } => {
             line.push(b"no fuo of the own region of at least ");
@@ -346,10 +376,11 @@ fn push_reason(line: &mut Line, reason: Reason)
         Reason::NotDrained => {
             line.push(b"the word that the closed fence named is not drained");
         }
-        Reason::NotLeastWaiting { replica } => {
+        Reason::NotLeastWaiting { replica, least } => {
             line.push(b"replica ");
             line.push_number(u64::from(replica));
-            line.push(b" is not the least whose ask was read and is not served");
+            line.push(b" is not the least whose ask was read and is not served: that is ");
+            push_region(line, least);
         }
     }
 }

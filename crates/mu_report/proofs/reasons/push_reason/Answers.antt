@@ -35,10 +35,10 @@ pub returns-in-BelowMinimum-clause-bytes : goal.returns-in-BelowMinimum-clause-b
 returns-in-BelowMinimum-clause-bytes c = rw c.in-BelowMinimum.is (rw c.push_number-in-BelowMinimum-2.ensures.bytes (rw c.push-in-BelowMinimum-2.ensures.bytes (rw c.push_number-in-BelowMinimum.ensures.bytes (rw c.from-in-BelowMinimum.ensures (rw c.push-in-BelowMinimum.ensures.bytes (simp append_assoc refl))))))
 
 pub returns-in-NotTheNumber-clause-bytes : goal.returns-in-NotTheNumber-clause-bytes
-returns-in-NotTheNumber-clause-bytes c = rw c.in-NotTheNumber.is (rw c.push-in-NotTheNumber-5.ensures.bytes (rw c.push_number-in-NotTheNumber-3.ensures.bytes (rw c.from-in-NotTheNumber-2.ensures (rw c.push-in-NotTheNumber-4.ensures.bytes (rw c.push_number-in-NotTheNumber-2.ensures.bytes (rw c.push-in-NotTheNumber-3.ensures.bytes (rw c.push_own.ensures.bytes (rw c.push-in-NotTheNumber-2.ensures.bytes (rw c.push_number-in-NotTheNumber.ensures.bytes (rw c.from-in-NotTheNumber.ensures (rw c.push-in-NotTheNumber.ensures.bytes (simp append_assoc refl))))))))))))
+returns-in-NotTheNumber-clause-bytes c = rw c.in-NotTheNumber.is (rw c.push_why_number.ensures.bytes (rw c.push-in-NotTheNumber-3.ensures.bytes (rw c.push_own.ensures.bytes (rw c.push-in-NotTheNumber-2.ensures.bytes (rw c.push_number-in-NotTheNumber.ensures.bytes (rw c.from-in-NotTheNumber.ensures (rw c.push-in-NotTheNumber.ensures.bytes (simp append_assoc refl))))))))
 
 pub returns-in-NoPosition-clause-bytes : goal.returns-in-NoPosition-clause-bytes
-returns-in-NoPosition-clause-bytes c = rw c.in-NoPosition.is (rw c.push_number-in-NoPosition.ensures.bytes (rw c.from-in-NoPosition.ensures (rw c.push-in-NoPosition.ensures.bytes (simp append_assoc refl))))
+returns-in-NoPosition-clause-bytes c = rw c.in-NoPosition.is (rw c.push_number-in-NoPosition-2.ensures.bytes (rw c.push-in-NoPosition-2.ensures.bytes (rw c.push_number-in-NoPosition.ensures.bytes (rw c.from-in-NoPosition.ensures (rw c.push-in-NoPosition.ensures.bytes (simp append_assoc refl))))))
 
 pub returns-in-NotReadable-clause-bytes : goal.returns-in-NotReadable-clause-bytes
 returns-in-NotReadable-clause-bytes c = rw c.in-NotReadable.is (rw c.push-in-NotReadable-2.ensures.bytes (rw c.push_number-in-NotReadable.ensures.bytes (rw c.from-in-NotReadable.ensures (rw c.push-in-NotReadable.ensures.bytes (simp append_assoc refl)))))
@@ -65,7 +65,7 @@ pub returns-in-NoRoom-clause-bytes : goal.returns-in-NoRoom-clause-bytes
 returns-in-NoRoom-clause-bytes c = rw c.in-NoRoom.is (rw c.push_number-in-NoRoom-4.ensures.bytes (rw c.push-in-NoRoom-4.ensures.bytes (rw c.push_number-in-NoRoom-3.ensures.bytes (rw c.from-in-NoRoom-3.ensures (rw c.push-in-NoRoom-3.ensures.bytes (rw c.push_number-in-NoRoom-2.ensures.bytes (rw c.from-in-NoRoom-2.ensures (rw c.push-in-NoRoom-2.ensures.bytes (rw c.push_number-in-NoRoom.ensures.bytes (rw c.from-in-NoRoom.ensures (rw c.push-in-NoRoom.ensures.bytes (simp append_assoc refl))))))))))))
 
 pub returns-in-PastSeen-clause-bytes : goal.returns-in-PastSeen-clause-bytes
-returns-in-PastSeen-clause-bytes c = rw c.in-PastSeen.is (rw c.push-in-PastSeen-2.ensures.bytes (rw c.push_number-in-PastSeen.ensures.bytes (rw c.from-in-PastSeen.ensures (rw c.push-in-PastSeen.ensures.bytes (simp append_assoc refl)))))
+returns-in-PastSeen-clause-bytes c = rw c.in-PastSeen.is (rw c.push-in-PastSeen-3.ensures.bytes (rw c.push_number-in-PastSeen-2.ensures.bytes (rw c.from-in-PastSeen-2.ensures (rw c.push-in-PastSeen-2.ensures.bytes (rw c.push_number-in-PastSeen.ensures.bytes (rw c.from-in-PastSeen.ensures (rw c.push-in-PastSeen.ensures.bytes (simp append_assoc refl))))))))
 
 pub returns-in-OtherFirst-clause-bytes : goal.returns-in-OtherFirst-clause-bytes
 returns-in-OtherFirst-clause-bytes c = rw c.in-OtherFirst.is (rw c.push_number-in-OtherFirst-3.ensures.bytes (rw c.from-in-OtherFirst-3.ensures (rw c.push-in-OtherFirst-3.ensures.bytes (rw c.push_number-in-OtherFirst-2.ensures.bytes (rw c.from-in-OtherFirst-2.ensures (rw c.push-in-OtherFirst-2.ensures.bytes (rw c.push_number-in-OtherFirst.ensures.bytes (rw c.from-in-OtherFirst.ensures (rw c.push-in-OtherFirst.ensures.bytes (simp append_assoc refl))))))))))
@@ -86,10 +86,13 @@ pub returns-in-NotOwn-clause-bytes : goal.returns-in-NotOwn-clause-bytes
 returns-in-NotOwn-clause-bytes c = rw c.in-NotOwn.is (rw c.push-in-NotOwn-2.ensures.bytes (rw c.push_number-in-NotOwn.ensures.bytes (rw c.from-in-NotOwn.ensures (rw c.push-in-NotOwn.ensures.bytes (simp append_assoc refl)))))
 
 pub returns-in-NotWritten-clause-bytes : goal.returns-in-NotWritten-clause-bytes
-returns-in-NotWritten-clause-bytes c = rw c.in-NotWritten.is (rw c.push-in-NotWritten-2.ensures.bytes (rw c.push_number-in-NotWritten.ensures.bytes (rw c.from-in-NotWritten.ensures (rw c.push-in-NotWritten.ensures.bytes (simp append_assoc refl)))))
+returns-in-NotWritten-clause-bytes c = rw c.in-NotWritten.is (rw c.push-in-NotWritten-4.ensures.bytes (rw c.push_number-in-NotWritten-3.ensures.bytes (rw c.from-in-NotWritten-3.ensures (rw c.push-in-NotWritten-3.ensures.bytes (rw c.push_number-in-NotWritten-2.ensures.bytes (rw c.from-in-NotWritten-2.ensures (rw c.push-in-NotWritten-2.ensures.bytes (rw c.push_number-in-NotWritten.ensures.bytes (rw c.from-in-NotWritten.ensures (rw c.push-in-NotWritten.ensures.bytes (simp append_assoc refl)))))))))))
 
 pub returns-in-NotNextOfClient-clause-bytes : goal.returns-in-NotNextOfClient-clause-bytes
 returns-in-NotNextOfClient-clause-bytes c = rw c.in-NotNextOfClient.is (rw c.push-in-NotNextOfClient-4.ensures.bytes (rw c.push_number-in-NotNextOfClient-3.ensures.bytes (rw c.from-in-NotNextOfClient-3.ensures (rw c.push-in-NotNextOfClient-3.ensures.bytes (rw c.push_number-in-NotNextOfClient-2.ensures.bytes (rw c.from-in-NotNextOfClient-2.ensures (rw c.push-in-NotNextOfClient-2.ensures.bytes (rw c.push_number-in-NotNextOfClient.ensures.bytes (rw c.from-in-NotNextOfClient.ensures (rw c.push-in-NotNextOfClient.ensures.bytes (simp append_assoc refl)))))))))))
+
+pub returns-in-NotKnown-clause-bytes : goal.returns-in-NotKnown-clause-bytes
+returns-in-NotKnown-clause-bytes c = rw c.in-NotKnown.is (rw c.push-in-NotKnown-3.ensures.bytes (rw c.push_number-in-NotKnown-2.ensures.bytes (rw c.from-in-NotKnown.ensures (rw c.push-in-NotKnown-2.ensures.bytes (rw c.push_number-in-NotKnown.ensures.bytes (rw c.push-in-NotKnown.ensures.bytes (simp append_assoc refl)))))))
 
 pub returns-in-NoRow-clause-bytes : goal.returns-in-NoRow-clause-bytes
 returns-in-NoRow-clause-bytes c = rw c.in-NoRow.is (rw c.push_number-in-NoRow.ensures.bytes (rw c.from-in-NoRow.ensures (rw c.push-in-NoRow.ensures.bytes (simp append_assoc refl))))
@@ -98,10 +101,19 @@ pub returns-in-NoWord-clause-bytes : goal.returns-in-NoWord-clause-bytes
 returns-in-NoWord-clause-bytes c = rw c.in-NoWord.is (rw c.push_number-in-NoWord.ensures.bytes (rw c.from-in-NoWord.ensures (rw c.push-in-NoWord.ensures.bytes (simp append_assoc refl))))
 
 pub returns-in-OtherWord-clause-bytes : goal.returns-in-OtherWord-clause-bytes
-returns-in-OtherWord-clause-bytes c = rw c.in-OtherWord.is (rw c.push_number-in-OtherWord-2.ensures.bytes (rw c.push-in-OtherWord-2.ensures.bytes (rw c.push_number-in-OtherWord.ensures.bytes (rw c.push-in-OtherWord.ensures.bytes (simp append_assoc refl)))))
+returns-in-OtherWord-clause-bytes c = rw c.in-OtherWord.is (rw c.push_number-in-OtherWord-6.ensures.bytes (rw c.push-in-OtherWord-6.ensures.bytes (rw c.push_number-in-OtherWord-5.ensures.bytes (rw c.push-in-OtherWord-5.ensures.bytes (rw c.push_number-in-OtherWord-4.ensures.bytes (rw c.from-in-OtherWord-4.ensures (rw c.push-in-OtherWord-4.ensures.bytes (rw c.push_number-in-OtherWord-3.ensures.bytes (rw c.from-in-OtherWord-3.ensures (rw c.push-in-OtherWord-3.ensures.bytes (rw c.push_number-in-OtherWord-2.ensures.bytes (rw c.from-in-OtherWord-2.ensures (rw c.push-in-OtherWord-2.ensures.bytes (rw c.push_number-in-OtherWord.ensures.bytes (rw c.from-in-OtherWord.ensures (rw c.push-in-OtherWord.ensures.bytes (simp append_assoc refl)))))))))))))))))
 
 pub returns-in-Written-clause-bytes : goal.returns-in-Written-clause-bytes
 returns-in-Written-clause-bytes c = rw c.in-Written.is (rw c.push-in-Written-3.ensures.bytes (rw c.push_number-in-Written-2.ensures.bytes (rw c.from-in-Written-2.ensures (rw c.push-in-Written-2.ensures.bytes (rw c.push_number-in-Written.ensures.bytes (rw c.from-in-Written.ensures (rw c.push-in-Written.ensures.bytes (simp append_assoc refl))))))))
+
+pub returns-in-NoWriter-clause-bytes : goal.returns-in-NoWriter-clause-bytes
+returns-in-NoWriter-clause-bytes c = rw c.in-NoWriter.is (rw c.push-in-NoWriter-2.ensures.bytes (rw c.push_number-in-NoWriter.ensures.bytes (rw c.from-in-NoWriter.ensures (rw c.push-in-NoWriter.ensures.bytes (simp append_assoc refl)))))
+
+pub returns-in-NoRowWord-clause-bytes : goal.returns-in-NoRowWord-clause-bytes
+returns-in-NoRowWord-clause-bytes c = rw c.in-NoRowWord.is (rw c.push-in-NoRowWord-5.ensures.bytes (rw c.push_number-in-NoRowWord-4.ensures.bytes (rw c.from-in-NoRowWord-3.ensures (rw c.push-in-NoRowWord-4.ensures.bytes (rw c.push_number-in-NoRowWord-3.ensures.bytes (rw c.from-in-NoRowWord-2.ensures (rw c.push-in-NoRowWord-3.ensures.bytes (rw c.push_number-in-NoRowWord-2.ensures.bytes (rw c.from-in-NoRowWord.ensures (rw c.push-in-NoRowWord-2.ensures.bytes (rw c.push_number-in-NoRowWord.ensures.bytes (rw c.push-in-NoRowWord.ensures.bytes (simp append_assoc refl)))))))))))))
+
+pub returns-in-NotApplied-clause-bytes : goal.returns-in-NotApplied-clause-bytes
+returns-in-NotApplied-clause-bytes c = rw c.in-NotApplied.is (rw c.push-in-NotApplied-3.ensures.bytes (rw c.push_number-in-NotApplied-2.ensures.bytes (rw c.from-in-NotApplied.ensures (rw c.push-in-NotApplied-2.ensures.bytes (rw c.push_number-in-NotApplied.ensures.bytes (rw c.push-in-NotApplied.ensures.bytes (simp append_assoc refl)))))))
 
 pub returns-in-NotReached-clause-bytes : goal.returns-in-NotReached-clause-bytes
 returns-in-NotReached-clause-bytes c = rw c.in-NotReached.is (rw c.push-in-NotReached-2.ensures.bytes (rw c.push_number-in-NotReached.ensures.bytes (rw c.from-in-NotReached.ensures (rw c.push-in-NotReached.ensures.bytes (simp append_assoc refl)))))
@@ -123,3 +135,6 @@ returns-in-NotClosing-clause-bytes c = rw c.in-NotClosing.is (rw c.push-in-NotCl
 
 pub returns-in-NotDrained-clause-bytes : goal.returns-in-NotDrained-clause-bytes
 returns-in-NotDrained-clause-bytes c = rw c.in-NotDrained.is (rw c.push-in-NotDrained.ensures.bytes (refl))
+
+pub returns-in-NotLeastWaiting-clause-bytes : goal.returns-in-NotLeastWaiting-clause-bytes
+returns-in-NotLeastWaiting-clause-bytes c = rw c.in-NotLeastWaiting.is (rw c.push_region-in-NotLeastWaiting.ensures.bytes (rw c.push-in-NotLeastWaiting-2.ensures.bytes (rw c.push_number-in-NotLeastWaiting.ensures.bytes (rw c.from-in-NotLeastWaiting.ensures (rw c.push-in-NotLeastWaiting.ensures.bytes (simp append_assoc refl))))))

@@ -1,4 +1,4 @@
-use Rattle.std.proofs.Common.{[], ◌++◌, ◌∷◌}
+use Rattle.std.proofs.Common.{[], ◌++◌, ◌∷◌, sym}
 use Rattle.mu_reasons.specs.declared.reason.Reason.{Reason}
 use Rattle.mu_reasons.specs.Reasons.{bounds}
 use Rattle.mu_parts.proofs.Points.{iff_both, less}
@@ -10,4 +10,5 @@ returns c r mine held start =
     let few = c.requires.replicas.1 in
     let one = c.needs.ensures k r mine (bounds r mine) start (λ m. less _ _) in
     let two = c.needs-2.ensures k r mine ((bounds r mine) ++ Reason.NoRegion c.args.p ∷ []) one (λ m. c.is_position.ensures) in
-    c.needs-3.ensures k r mine (((bounds r mine) ++ Reason.NoRegion c.args.p ∷ []) ++ Reason.NoPosition c.args.i ∷ []) two (λ m. iff_both _ _ _ (c.may_look.ensures r mine held.leadership) m.1.1.0)
+    rw (sym c.last_position-last.ensures)
+    (c.needs-3.ensures k r mine (((bounds r mine) ++ Reason.NoRegion c.args.p ∷ []) ++ Reason.NoPosition c.args.i c.last_position-last.result ∷ []) two (λ m. iff_both _ _ _ (c.may_look.ensures r mine held.leadership) m.1.1.0))

@@ -1,5 +1,5 @@
 use Rattle.std.specs.Prelude.{◌&&◌}
-use Rattle.mu_reasons.specs.Reasons.{batch_points, later_points}
+use Rattle.mu_reasons.specs.Reasons.{batch_points, batch_written, later_points}
 use Rattle.std.proofs.Common.{[], ◌++◌, ◌∷◌, ◌+◌, ◌≡◌, ◌/◌, ◌%◌, List, refl, sym, ◌∙◌, ap, subst}
 use Rattle.std.specs.Prelude.{if◌then◌else◌, nat_lt}
 use Rattle.std.proofs.lemmas.Bool.{and_parts, false≢true, ltb-true}
@@ -36,15 +36,15 @@ returns c r mine reasons held start =
     let inside = (and_parts (nat_lt (v % 4096) (row_count k)) (begins_batch k (v % 4096)) (and_parts (nat_lt (v / 4096) k.replicas) (nat_lt (v % 4096) (row_count k) && begins_batch k (v % 4096)) batch).1).0 in
     let a : List Reason = Reason.NoBatch v ∷ [] in
     let b : List Reason = Reason.NotOwn v ∷ [] in
-    let d : List Reason = Reason.NotWritten v ∷ [] in
+    let d = batch_written k v in
     let e : List Reason = Reason.NotNextOfClient v c.row_number-number.result c.count_of-known.result ∷ [] in
     let f : List Reason = Reason.NotNextOfClient v (number_of k (v % 4096)) (command_count k (client_of k (v % 4096)) (known k r mine)) ∷ [] in
     let one = c.needs-found.ensures k r mine reasons start (λ m. tells _ _ c.stands_for_batch-batch.ensures) in
-    let two = c.needs.ensures k r mine (reasons ++ a) one (λ m. equal_as _ _ _ _ refl (c.from.ensures ∙ held.replica)) in
-    let three = c.needs-2.ensures k r mine ((reasons ++ a) ++ b) two (λ m. tells _ _ (c.wrote_batch-written.ensures r mine c.requires (ltb-true _ _ inside) held.held_rows)) in
-    let four = c.needs-3.ensures k r mine (((reasons ++ a) ++ b) ++ d) three (λ m. equal_as _ _ _ _ c.from-2.ensures (ap (λ n. n + 1) c.from-3.ensures)) in
+    let two = c.needs-found-2.ensures k r mine (reasons ++ a) one (λ m. equal_as _ _ _ _ refl (c.from.ensures ∙ held.replica)) in
+    let three = c.why_not_written-found.ensures r mine ((reasons ++ a) ++ b) (ltb-true _ _ inside) held two in
+    let four = c.needs.ensures k r mine (((reasons ++ a) ++ b) ++ d) three (λ m. equal_as _ _ _ _ c.from-2.ensures (ap (λ n. n + 1) c.from-3.ensures)) in
     let count = subst (λ w. c.count_of-known.result ≡ command_count k w (known k r mine)) c.row_client.ensures (c.count_of-known.ensures k r mine held.known_log) in
-    let five = subst (λ n. Finds k r mine ((((reasons ++ a) ++ b) ++ d) ++ Reason.NotNextOfClient v n (command_count k (client_of k (v % 4096)) (known k r mine)) ∷ []) c.needs-3.result.reason) c.row_number-number.ensures
-    (subst (λ n. Finds k r mine ((((reasons ++ a) ++ b) ++ d) ++ Reason.NotNextOfClient v c.row_number-number.result n ∷ []) c.needs-3.result.reason) count four) in
-    subst (λ t. Finds k r mine (reasons ++ (if t then [] else batch_points k r mine v)) c.needs-3.result.reason) (sym mark)
+    let five = subst (λ n. Finds k r mine ((((reasons ++ a) ++ b) ++ d) ++ Reason.NotNextOfClient v n (command_count k (client_of k (v % 4096)) (known k r mine)) ∷ []) c.needs.result.reason) c.row_number-number.ensures
+    (subst (λ n. Finds k r mine ((((reasons ++ a) ++ b) ++ d) ++ Reason.NotNextOfClient v c.row_number-number.result n ∷ []) c.needs.result.reason) count four) in
+    subst (λ t. Finds k r mine (reasons ++ (if t then [] else batch_points k r mine v)) c.needs.result.reason) (sym mark)
     (apart k r mine reasons a (b ++ (d ++ f)) _ (apart k r mine (reasons ++ a) b (d ++ f) _ (apart k r mine ((reasons ++ a) ++ b) d f _ five)))

@@ -1,8 +1,7 @@
-use Rattle.mu_model.specs.Contents.{config_word}
 use Rattle.std.proofs.Common.{arith}
 use Rattle.std.proofs.Common.{[], ◌++◌, ◌∷◌, sym}
 use Rattle.mu_reasons.specs.declared.reason.Reason.{Reason}
-use Rattle.mu_reasons.specs.Reasons.{bounds}
+use Rattle.mu_reasons.specs.Reasons.{bounds, spelled_word}
 use Rattle.mu_parts.proofs.Points.{denies, equal, less, stops}
 use Rattle.mu_parts.proofs.replica.Replica.why_no_write_row.Goals as goal
 
@@ -12,7 +11,7 @@ returns-then-k-ge12 c r mine held start =
     let one = c.needs.ensures k r mine (bounds r mine) start (λ m. c.is_row.ensures) in
     let two = c.needs-found.ensures k r mine (bounds r mine ++ Reason.NoRow c.args.j ∷ []) one (λ m. less _ _) in
     let high = c.if-k-ge12.true in
-    stops k r mine (bounds r mine ++ Reason.NoRow c.args.j ∷ Reason.NoWord c.args.k ∷ []) (Reason.OtherWord c.args.x (config_word k c.args.j c.args.k) ∷ Reason.Written c.args.j c.args.k ∷ []) _ (λ m. let l = m.1.1.1.0 in absurd (omega (arith, l, high))) two
+    stops k r mine (bounds r mine ++ Reason.NoRow c.args.j ∷ Reason.NoWord c.args.k ∷ []) (spelled_word k c.args.j c.args.k c.args.x ∷ Reason.Written c.args.j c.args.k ∷ []) _ (λ m. let l = m.1.1.1.0 in absurd (omega (arith, l, high))) two
 
 pub returns : goal.returns
 returns c r mine held start =
@@ -20,5 +19,5 @@ returns c r mine held start =
     let one = c.needs.ensures k r mine (bounds r mine) start (λ m. c.is_row.ensures) in
     let two = c.needs-found.ensures k r mine (bounds r mine ++ Reason.NoRow c.args.j ∷ []) one (λ m. less _ _) in
     let three = c.needs-2.ensures k r mine (bounds r mine ++ Reason.NoRow c.args.j ∷ Reason.NoWord c.args.k ∷ []) two (λ m. equal _ _) in
-    let four = c.needs-3.ensures k r mine (bounds r mine ++ Reason.NoRow c.args.j ∷ Reason.NoWord c.args.k ∷ Reason.OtherWord c.args.x c.row_word-spelled.result ∷ []) three (λ m. denies _ _ (c.has_written-written.ensures k r mine m.1.1.0 m.1.1.1.0 held.held_rows)) in
-    rw (sym c.row_word-spelled.ensures) four
+    let four = c.needs-3.ensures k r mine (bounds r mine ++ Reason.NoRow c.args.j ∷ Reason.NoWord c.args.k ∷ Reason.OtherWord c.args.j c.args.k c.args.x c.row_word-spelled.result c.row_client-client.result c.row_number-number.result ∷ []) three (λ m. denies _ _ (c.has_written-written.ensures k r mine m.1.1.0 m.1.1.1.0 held.held_rows)) in
+    rw (sym c.row_word-spelled.ensures) (rw (sym c.row_client-client.ensures) (rw (sym c.row_number-number.ensures) four))

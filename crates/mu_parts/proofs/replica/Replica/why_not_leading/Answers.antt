@@ -1,7 +1,7 @@
 use Rattle.std.proofs.Common.{[], ◌++◌, ◌∷◌, ◌%◌, refl, sym, ◌∙◌, arith, inl, inr}
 use Rattle.std.proofs.lemmas.Bool.{cases_lt}
 use Rattle.mu_reasons.specs.declared.reason.Reason.{Reason}
-use Rattle.mu_reasons.specs.Reasons.{bounds, puts}
+use Rattle.mu_reasons.specs.Reasons.{bounds, last_position, puts}
 use Rattle.mu_parts.proofs.Points.{denies, elsewhere, low, tells}
 use Rattle.mu_parts.proofs.replica.Replica.why_not_leading.Goals as goal
 
@@ -12,7 +12,7 @@ returns c r mine held start =
     let p = c.args.p in
     let i = c.args.i in
     let b = c.args.b in
-    let front = bounds r mine ++ Reason.NoRegion p ∷ Reason.NoPosition i ∷ [] in
+    let front = bounds r mine ++ Reason.NoRegion p ∷ Reason.NoPosition i (last_position k) ∷ [] in
     let one = c.needs.ensures k r mine front start (λ m. c.is_in_reach-reach.ensures r mine (low _ _ m.1.1.0 few) held) in
     let two = c.needs-2.ensures k r mine (front ++ Reason.OutOfReach p i ∷ []) one (λ m. denies _ _ (c.is_over.ensures r mine held.leadership)) in
     let three = c.needs-3.ensures k r mine (front ++ Reason.OutOfReach p i ∷ Reason.Over ∷ []) two (λ m. tells _ _ (c.has_quorum.ensures k r mine refl (low _ _ m.0 few) held.leadership)) in
