@@ -65,9 +65,9 @@ def sources_sum():
 def set_mark_time(moment):
     """Says that the mark is of the sources as they were at a moment.
 
-    A second before it, since the time of a file may lag behind the clock.
+    It is set a little before, since the time of a file may lag behind the clock.
     """
-    os.utime(MARK, (moment - 1, moment - 1))
+    os.utime(MARK, (moment - 0.1, moment - 0.1))
 
 
 def proved_program(name):

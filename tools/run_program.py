@@ -11,12 +11,11 @@ import sys
 
 import programs
 
-# The words in which `rt try` says how a run went, and what is told of each.
-NO_BUILD = "the unproved build failed, for the cause above"
+# What is said of a run that didn't end, by the word that `rt try` has for it.
 TOLD_OF = {
     "fault": "the unproved build met the fault above",
     "differs": "two unproved builds differ, as told above",
-    "none": NO_BUILD,
+    "none": "these sources don't build, for the cause above",
 }
 
 
@@ -41,16 +40,16 @@ def run_unproved(name, words):
     done = subprocess.run(["rt", "try", "--", *words], stderr=subprocess.PIPE, check=False,
                           cwd=os.path.join(programs.CRATES, programs.CRATE_OF[name]))
     lines = done.stderr.decode(errors="replace").splitlines()
-    last = lines[-1] if lines else ""
-    state = last.split()[0][4:] if last.startswith("run=") else "none"
+    state = lines[-1].split()[0][4:] if lines and lines[-1].startswith("run=") else None
     if state == "ended":
         return done.returncode
     if state == "no-answer":
         say(name, f"the unproved build gave no answer: {cause_of(lines)}. "
                   "The program that ./prove builds has no such limit")
         return programs.NO_ANSWER
-    print("\n".join(lines), file=sys.stderr)
-    say(name, TOLD_OF.get(state, NO_BUILD))
+    for line in lines:
+        print(line, file=sys.stderr)
+    say(name, TOLD_OF.get(state, f"rt try broke off with status {done.returncode}: memory may be short"))
     return programs.NO_ANSWER
 
 
