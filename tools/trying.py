@@ -11,7 +11,9 @@ from programs import CRATE_OF, CRATES, TOP, proved_program
 # Before a run is given up: a machine may be busy.
 MOST_SECONDS = 600
 CASE_LINE = re.compile(r"case=(\S+) run=(\S+)(?: status=(\d+))?")
-TEST_LINE = re.compile(rb"test (\S+) \.\.\. (\S+)")
+TEST_LINE = re.compile(rb"^test (\S+) \.\.\. (\S+)", re.MULTILINE)
+# What says nothing of a test that failed.
+SILENT_LINE = re.compile(r"tests: |test \S+ \.\.\. ok|test result: |races: |run=")
 
 
 class NotBuilt(Exception):
@@ -121,16 +123,17 @@ def without_tests(crate, left, room):
 
 
 def try_tests(crate, left=()):
-    """Runs the tests of a crate but for some: which passed, which failed, and what rt told of them."""
+    """Runs the tests of a crate but for some: which passed, which failed, and what was said of these."""
     with tempfile.TemporaryDirectory(prefix="tests-") as room:
         done = rt_try(without_tests(crate, left, room) if left else crate, "--test")
-    told = done.stderr.decode(errors="replace").strip()
     results = TEST_LINE.findall(done.stdout)
     if not results:
+        told = done.stderr.decode(errors="replace").strip()
         raise NotBuilt(told or f"rt ended with status {done.returncode} and said nothing")
     passed = [name.decode() for name, word in results if word == b"ok"]
     failed = [name.decode() for name, word in results if word != b"ok"]
-    return passed, failed, told
+    lines = (done.stdout + done.stderr).decode(errors="replace").splitlines()
+    return passed, failed, [line for line in lines if line and not SILENT_LINE.match(line)]
 
 
 def run_cases(path, cases):
