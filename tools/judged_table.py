@@ -32,6 +32,12 @@ def cases(folder):
             yield name, line.with_suffix("").read_bytes(), line.read_bytes()
 
 
+def judged():
+    """The name, the trace and the wanted line of each case of the table."""
+    names = NAMES.read_text(encoding="ascii").splitlines()
+    return zip(names, INPUT.read_bytes().split(SEPARATOR), OUTPUT.read_bytes().splitlines(keepends=True))
+
+
 def write(traces_folder, jobs_folder, more):
     jobs = [case for case in cases(jobs_folder) if not case[2].endswith(AFTER_END)]
     others = [case for folder in more for case in cases(folder)]
@@ -47,10 +53,8 @@ def write(traces_folder, jobs_folder, more):
 
 
 def show(line):
-    name = NAMES.read_text(encoding="ascii").splitlines()[line - 1]
-    wanted = OUTPUT.read_bytes().splitlines(keepends=True)[line - 1]
-    sys.stdout.buffer.write(f"case {name}\n".encode() + INPUT.read_bytes().split(SEPARATOR)[line - 1])
-    sys.stdout.buffer.write(b"\nwanted: " + wanted)
+    name, trace, wanted = list(judged())[line - 1]
+    sys.stdout.buffer.write(f"case {name}\n".encode() + trace + b"\nwanted: " + wanted)
 
 
 def main():

@@ -359,6 +359,9 @@ def differs(program, text):
 
 def main():
     """Draws one trace, or compares many."""
+    if len(sys.argv) < 3:
+        print(__doc__.split("\n\n")[1], "\n\nno trace is named", file=sys.stderr)
+        sys.exit(2)
     if sys.argv[1] == "--draw":
         with open(sys.argv[2], encoding="ascii") as file:
             sys.stdout.write(drawn(file.read()))

@@ -1,60 +1,96 @@
 #!/usr/bin/env python3
-"""Runs a program over folders of cases, and names each case that differs.
+"""Runs the program mu over stored cases, and names each case that differs.
 
-    tools/run_cases.py cases/replay              over ./mu
-    tools/run_cases.py PROGRAM FOLDER [FOLDER..]
+    tools/run_cases.py CASES [CASES..]             the proved program, or one unproved build for all cases
+    tools/run_cases.py PROGRAM CASES [CASES..]     a program that is named
 
-A case NAME is a file NAME with the input, NAME.args with the words, one a line, and NAME.stdout with what has to
-be printed. The status that is wanted is that of the last line, `status S`, or of what is said: refused 2, illegal 7.
+CASES is a folder or a table. In a folder a case NAME is a file NAME with the input, NAME.args with the
+words, one a line, and NAME.stdout with what has to be printed. A table is a file NAME.table. A case of
+it is a line `case NAME WORD`, the input, and a line `prints` with what has to be printed below it, or
+`prints sha256 SUM` with its checksum. The status that is wanted is that of the last line, `status S`,
+or of what is said: usage 1, refused 2, illegal 7.
 """
 import os
-import subprocess
+import re
 import sys
 
-TOP = os.path.dirname(os.path.dirname(os.path.abspath(__file__)))
+import programs
+import trying
+
 STATUS_OF = {b"usage:": 1, b"refused": 2, b"illegal": 7, b"legal": 0}
 
 
+def contents(path):
+    with open(path, "rb") as source:
+        return source.read()
+
+
 def wanted_status(text):
+    """The status that belongs to what is printed; None where the text doesn't tell."""
     last = text.rstrip(b"\n").rsplit(b"\n", 1)[-1]
     if last.startswith(b"status "):
         return int(last.split()[1])
     return STATUS_OF.get(text.split(b" ", 1)[0], None)
 
 
-def differs(program, folder, name):
-    """What is wrong with a case, or None."""
-    path = os.path.join(folder, name)
-    words = open(path + ".args", encoding="utf-8").read().split("\n")
-    text = open(path + ".stdout", "rb").read()
-    with open(path, "rb") as given:
-        try:
-            run = subprocess.run([program, *[w for w in words if w]], stdin=given, capture_output=True, timeout=120)
-        except subprocess.TimeoutExpired:
-            return "doesn't end in 120 seconds"
-    if run.stdout != text:
-        return "prints something else"
-    status = wanted_status(text)
-    if status is not None and run.returncode != status:
-        return f"has status {run.returncode}, not {status}"
-    return None
+def stored_cases(folder):
+    """The cases of a folder, by name."""
+    cases = []
+    for name in sorted(os.listdir(folder)):
+        path = os.path.join(folder, name)
+        if os.path.exists(path + ".args") and os.path.exists(path + ".stdout"):
+            words, wanted = contents(path + ".args").decode().split("\n"), contents(path + ".stdout")
+            title = os.path.join(os.path.basename(os.path.normpath(folder)), name)
+            cases.append(trying.Case(title, [word for word in words if word], contents(path), wanted,
+                                     wanted_status(wanted)))
+    return cases
+
+
+def table_cases(path):
+    """The cases of a table."""
+    cases, name = [], os.path.basename(path)
+    for text in re.split(rb"^case ", contents(path), flags=re.MULTILINE)[1:]:
+        head, rest = text.split(b"\n", 1)
+        given, wanted = re.split(rb"^prints", rest, flags=re.MULTILINE)
+        title, *words = head.decode().split(" ")
+        if wanted.startswith(b" sha256 "):
+            cases.append(trying.SummedCase(f"{name}/{title}", words, given, wanted.split()[1].decode()))
+        else:
+            cases.append(trying.Case(f"{name}/{title}", words, given, wanted[1:], wanted_status(wanted)))
+    return cases
+
+
+def cases_at(path):
+    """The cases of a table or a folder."""
+    return table_cases(path) if path.endswith(".table") else stored_cases(path)
+
+
+def troubles(cases, answers):
+    """What is wrong with the answers, a line for each case that isn't right."""
+    found = [(case, case.trouble(answer)) for case, answer in zip(cases, answers)]
+    return [f"{case.name}: {trouble}" for case, trouble in found if trouble]
 
 
 def main():
     given = sys.argv[1:]
-    program = given.pop(0) if given and not os.path.isdir(given[0]) else os.path.join(TOP, "mu")
-    failed = count = 0
-    for folder in given:
-        for name in sorted(os.listdir(folder)):
-            if not os.path.exists(os.path.join(folder, name + ".args")):
-                continue
-            count += 1
-            why = differs(program, folder, name)
-            if why:
-                failed += 1
-                print(f"{os.path.join(folder, name)}: {why}")
-    print(f"{count - failed} passed, {failed} failed")
-    return 1 if failed else 0
+    is_program = given and not os.path.isdir(given[0]) and not given[0].endswith(".table")
+    program = given.pop(0) if is_program else None
+    cases = [case for path in given for case in cases_at(path)]
+    if not cases:
+        print(__doc__.split("\n\n")[1], "\n\nno case is named", file=sys.stderr)
+        return 2
+    if program is None:
+        programs.need_toolchain("run_cases.py")
+    try:
+        answers = trying.run_cases(program, cases) if program else trying.answers_of("mu", cases)
+    except (OSError, trying.NotBuilt) as cause:
+        print(f"run_cases.py: {cause}", file=sys.stderr)
+        return programs.NO_ANSWER
+    wrong = troubles(cases, answers)
+    for line in wrong:
+        print(line)
+    print(f"{len(cases) - len(wrong)} passed, {len(wrong)} failed")
+    return 1 if wrong else 0
 
 
 if __name__ == "__main__":

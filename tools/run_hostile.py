@@ -1,7 +1,7 @@
 #!/usr/bin/env python3
 """Uses the built programs in hostile ways, and counts what they answered.
 
-    tools/run_hostile.py [MU [MU_DRAW]]     those of crates/mu_tool/out and crates/mu_draw/out where none is named
+    tools/run_hostile.py [MU [MU_DRAW]]     those that ./prove left in out/bin/ where none is named
 
 - Every prefix of two jobs, and every change of one byte of one of them: refused exactly where tools/job_reader.py
   refuses it, with its line and cause; else the status is 0 or 3.
@@ -318,18 +318,22 @@ def large_job(seed, pauses):
 
 
 def main():
-    built = [os.path.join(TOP, "crates", name, "out", name) for name in ("mu_tool", "mu_draw")]
+    built = [os.path.join(TOP, "out", "bin", name) for name in ("mu", "mu_draw")]
     programs = sys.argv[1:] + built[len(sys.argv) - 1:]
+    missing = [path for path in programs if not os.access(path, os.X_OK)]
+    if missing:
+        print(f"no program at {missing[0]}: ./prove builds it", file=sys.stderr)
+        return 70
     with tempfile.TemporaryDirectory() as folder:
         trials, draw = Trials(programs[0], folder), Trials(programs[1], folder, "mu_draw")
         _, trace, _ = trials.run(["trace"], TWO_CLIENTS)
         trials.reads("prefixes of two jobs", [job[:n] for job in (TWO_CLIENTS, BATCHED) for n in range(len(job))])
         trials.reads("changes of one byte", list(changes(TWO_CLIENTS)))
         judged = open(os.path.join(TOP, "examples", "late-exchange.trace"), "rb").read()
+        broken = open(os.path.join(TOP, "examples", "grant-before-drain.trace"), "rb").read()
         jobs = [(["replay"], TWO_CLIENTS), (["run"], TWO_CLIENTS), (["trace"], TWO_CLIENTS), (["check"], trace),
-                (["check"], judged), (["replay"], BATCHED), (["desk"], TWO_CLIENTS), (["book"], TWO_CLIENTS),
-                (["live", "2"], TWO_CLIENTS),
-                (["bulk", "10"], b"")]
+                (["check"], judged), (["why"], judged), (["why"], broken), (["replay"], BATCHED),
+                (["desk"], TWO_CLIENTS), (["book"], TWO_CLIENTS), (["live", "2"], TWO_CLIENTS), (["bulk", "10"], b"")]
         for words, given in jobs:
             if given:
                 trials.faults("read", 4, words, given)

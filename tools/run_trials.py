@@ -1,7 +1,7 @@
 #!/usr/bin/env python3
 """Runs a command of the built program over jobs, and checks each report by itself.
 
-    tools/run_trials.py [--command run] [--runs 200] [--program crates/mu_tool/out/mu_tool] [JOBS]
+    tools/run_trials.py [--command run] [--runs 200] [--program out/bin/mu] [JOBS]
     tools/run_trials.py --speed [--program PROGRAM]
 
 JOBS is a folder of jobs, examples/jobs where none is named. Files with the endings .args and .stdout
@@ -361,11 +361,11 @@ def main():
     parser.add_argument('jobs', nargs='?', default=os.path.join(TOP, 'examples', 'jobs'))
     parser.add_argument('--command', default='run', choices=['run', 'replay'])
     parser.add_argument('--runs', type=int, default=200)
-    parser.add_argument('--program', default=os.path.join(TOP, 'crates/mu_tool/out/mu_tool'))
+    parser.add_argument('--program', default=os.path.join(TOP, 'out/bin/mu'))
     parser.add_argument('--speed', action='store_true')
     args = parser.parse_args()
     if not os.access(args.program, os.X_OK):
-        print(f'no program at {args.program}: build it by ./mu', file=sys.stderr)
+        print(f'no program at {args.program}: ./prove builds it', file=sys.stderr)
         return 70
     if args.speed:
         return speed(args.program)

@@ -1,0 +1,103 @@
+"""What ./mu, ./prove, ./test and ./tour share: where things are, the toolchain that is needed, and
+the programs that ./prove left."""
+import hashlib
+import os
+import re
+import shutil
+import subprocess
+import sys
+import time
+
+TOP = os.path.dirname(os.path.dirname(os.path.abspath(__file__)))
+CRATES = os.path.join(TOP, "crates")
+EXAMPLES = os.path.join(TOP, "examples")
+README = os.path.join(TOP, "README.md")
+# Where ./prove leaves the programs, and of which sources they are.
+BIN = os.path.join(TOP, "out", "bin")
+MARK = os.path.join(BIN, "proved.sum")
+# The crate of each program.
+CRATE_OF = {"mu": "mu_tool", "mu_draw": "mu_draw"}
+# The status where there is no answer of a program.
+NO_ANSWER = 70
+
+
+def toolchain_named():
+    """The toolchain that README.md names, as `rt version` prints it."""
+    with open(README, encoding="utf-8") as text:
+        return re.search(r"`(rattle-kit-[^`]+)`", text.read()).group(1)
+
+
+def toolchain_trouble():
+    """What keeps the toolchain from being used, in a line; else None."""
+    needed = toolchain_named()
+    if shutil.which("rt") is None:
+        return f"rt isn't found in PATH: it comes with {needed}, as \"What it needs\" in README.md says"
+    run = subprocess.run(["rt", "version"], stdout=subprocess.PIPE, check=False)
+    found = run.stdout.decode(errors="replace").strip() or "one that tells no version"
+    if found != needed:
+        return f"this needs {needed}, as README.md says, and rt is {found}"
+    return None
+
+
+def need_toolchain(name):
+    """Ends with one line where the toolchain isn't the one that is needed."""
+    trouble = toolchain_trouble()
+    if trouble:
+        print(f"{name}: {trouble}", file=sys.stderr)
+        sys.exit(NO_ANSWER)
+
+
+def sources_sum():
+    """One checksum of all that the programs are made of: sources, specs, proofs and the toolchain."""
+    paths = [os.path.join(TOP, "crates.txt")]
+    for folder, below, files in os.walk(CRATES):
+        if "out" in below:
+            below.remove("out")
+        paths += [os.path.join(folder, name) for name in files if name.endswith((".rt", ".antt"))]
+    whole = hashlib.sha256(toolchain_named().encode())
+    for path in sorted(paths):
+        with open(path, "rb") as source:
+            digest = hashlib.sha256(source.read()).hexdigest()
+        whole.update(f"\n{digest} {os.path.relpath(path, TOP)}".encode())
+    return whole.hexdigest()
+
+
+def set_mark_time(moment):
+    """Says that the mark is of the sources as they were at a moment.
+
+    It is set a little before, since the time of a file may lag behind the clock.
+    """
+    os.utime(MARK, (moment - 0.1, moment - 0.1))
+
+
+def proved_program(name):
+    """The program that ./prove left, where it proved just these sources; else None."""
+    path, now = os.path.join(BIN, name), time.time()
+    if not os.access(path, os.X_OK) or not os.path.exists(MARK):
+        return None
+    with open(MARK, encoding="ascii") as mark:
+        if mark.read().strip() != sources_sum():
+            return None
+    try:
+        set_mark_time(now)
+    except OSError:
+        pass  # It is another user's: the checksum decides the next time too.
+    return path
+
+
+def forget_proved():
+    """From now on no program is run as proved."""
+    if os.path.exists(MARK):
+        os.remove(MARK)
+
+
+def leave_proved(checksum, moment):
+    """Leaves the programs in out/bin, as those of the sources that had this checksum at a moment."""
+    os.makedirs(BIN, exist_ok=True)
+    for name, crate in CRATE_OF.items():
+        path = os.path.join(BIN, name)
+        shutil.copy(os.path.join(CRATES, crate, "out", crate), path + ".new")
+        os.replace(path + ".new", path)
+    with open(MARK, "w", encoding="ascii") as mark:
+        mark.write(checksum + "\n")
+    set_mark_time(moment)

@@ -1,0 +1,157 @@
+"""Unproved builds: `rt try` over many cases of a program, or over the tests of a crate, built once each."""
+import hashlib
+import os
+import re
+import shutil
+import subprocess
+import tempfile
+
+from programs import CRATE_OF, CRATES, TOP, proved_program
+
+# Before a run is given up: a machine may be busy.
+MOST_SECONDS = 600
+CASE_LINE = re.compile(r"case=(\S+) run=(\S+)(?: status=(\d+))?")
+TEST_LINE = re.compile(rb"^test (\S+) \.\.\. (\S+)", re.MULTILINE)
+# What says nothing of a test that failed.
+SILENT_LINE = re.compile(r"tests: |test \S+ \.\.\. ok|test result: |races: |run=")
+
+
+class NotBuilt(Exception):
+    """What rt says where it builds nothing."""
+
+
+class Answer:
+    """How a run went, its status and output, and what rt told of it."""
+
+    def __init__(self, state, status, output, told):
+        self.state, self.status, self.output, self.told = state, status, output, told
+
+
+class Case:
+    """A run of a program: its words and its input, and what is wanted where that is known."""
+
+    def __init__(self, name, words, given, wanted=None, status=None):
+        self.name, self.words, self.given = name, words, given
+        self.wanted, self.status = wanted, status
+
+    def trouble(self, answer):
+        """What is wrong with an answer, in a few words; else None."""
+        if answer.state != "ended":
+            return " ".join([answer.state, *answer.told])
+        if self.wanted is not None and answer.output != self.wanted:
+            return f"printed something else: {first_difference(self.wanted, answer.output)}"
+        if self.status is not None and answer.status != self.status:
+            return f"has status {answer.status}, not {self.status}"
+        return None
+
+
+class SummedCase(Case):
+    """A run of whose output the checksum alone is known."""
+
+    def __init__(self, name, words, given, summed):
+        super().__init__(name, words, given)
+        self.summed = summed
+
+    def trouble(self, answer):
+        found = hashlib.sha256(answer.output).hexdigest()
+        other = None if found == self.summed else f"printed something else, with the checksum {found}"
+        return super().trouble(answer) or other
+
+
+def first_difference(wanted, output):
+    """The first line in which two texts differ."""
+    lines, others = wanted.split(b"\n"), output.split(b"\n")
+    at = next((k for k, (one, other) in enumerate(zip(lines, others)) if one != other), min(len(lines), len(others)))
+    wants, has = (text[at].decode(errors="replace") if at < len(text) else "no more" for text in (lines, others))
+    return f"line {at + 1} is {has!r}, wanted {wants!r}"
+
+
+def rt_try(crate, *words):
+    """Runs `rt try` in a crate's folder."""
+    return subprocess.run(["rt", "try", "--seconds", str(MOST_SECONDS), *words], check=False, stdin=subprocess.DEVNULL,
+                          cwd=os.path.join(CRATES, crate), stdout=subprocess.PIPE, stderr=subprocess.PIPE)
+
+
+def write_cases(folder, cases):
+    """Writes cases as `rt try --cases` reads them, with names that no output has."""
+    for number, case in enumerate(cases):
+        path = os.path.join(folder, f"case{number:05d}")
+        with open(path, "wb") as given:
+            given.write(case.given)
+        if case.words:
+            with open(path + ".args", "w", encoding="utf-8") as words:
+                words.writelines(word + "\n" for word in case.words)
+
+
+def try_cases(crate, cases):
+    """Builds a program without proofs, once, and runs it for each case: the answers, in order."""
+    with tempfile.TemporaryDirectory(prefix="cases-") as folder:
+        write_cases(folder, cases)
+        done = rt_try(crate, "--cases", folder)
+    text = done.stderr.decode(errors="replace")
+    if not re.search(r"^cases=\d", text, re.MULTILINE):
+        raise NotBuilt(text.strip() or f"rt ended with status {done.returncode} and said nothing")
+    parts = re.split(rb"^== (case\d{5})\n", done.stdout, flags=re.MULTILINE)
+    outputs = dict(zip(parts[1::2], parts[2::2]))
+    answers, told = [], []
+    for line in text.splitlines():
+        found = CASE_LINE.match(line)
+        if found:
+            status = int(found[3]) if found[3] else None
+            answers.append(Answer(found[2], status, outputs.get(found[1].encode(), b""), told))
+        told = [] if found else [*told, line]
+    return answers
+
+
+def without_tests(crate, left, room):
+    """A copy of the crates, without some tests of one of them: its folder."""
+    shutil.copytree(CRATES, os.path.join(room, "crates"), ignore=shutil.ignore_patterns("out", "specs", "proofs", "must-fail"))
+    for name in ("crates.txt", "HANDLES"):
+        shutil.copy(os.path.join(TOP, name), room)
+    copy = os.path.join(room, "crates", crate)
+    for test in left:
+        module, name = test.split("::")
+        path = os.path.join(copy, "src", module + ".rt")
+        with open(path, encoding="utf-8") as source:
+            text = source.read()
+        rest, count = re.subn(rf"#\[test\]\nfn {name}\(.*?\n}}\n", "", text, flags=re.DOTALL)
+        if count != 1:
+            raise NotBuilt(f"{path} has no test {name}")
+        with open(path, "w", encoding="utf-8") as source:
+            source.write(rest)
+    return copy
+
+
+def try_tests(crate, left=()):
+    """Runs the tests of a crate but for some: which passed, which failed, and what was said of these."""
+    with tempfile.TemporaryDirectory(prefix="tests-") as room:
+        done = rt_try(without_tests(crate, left, room) if left else crate, "--test")
+    results = TEST_LINE.findall(done.stdout)
+    if not results:
+        told = done.stderr.decode(errors="replace").strip()
+        raise NotBuilt(told or f"rt ended with status {done.returncode} and said nothing")
+    passed = [name.decode() for name, word in results if word == b"ok"]
+    failed = [name.decode() for name, word in results if word != b"ok"]
+    lines = (done.stdout + done.stderr).decode(errors="replace").splitlines()
+    return passed, failed, [line for line in lines if line and not SILENT_LINE.match(line)]
+
+
+def run_cases(path, cases):
+    """Runs a built program for each case: the answers, in order."""
+    answers = []
+    for case in cases:
+        try:
+            done = subprocess.run([path, *case.words], input=case.given, stdout=subprocess.PIPE,
+                                  stderr=subprocess.PIPE, timeout=MOST_SECONDS, check=False)
+        except subprocess.TimeoutExpired:
+            answers.append(Answer("no-answer", None, b"", [f"no end in {MOST_SECONDS} seconds"]))
+            continue
+        state = "ended" if done.returncode >= 0 else f"ended by signal {-done.returncode}"
+        answers.append(Answer(state, done.returncode, done.stdout, done.stderr.decode(errors="replace").splitlines()))
+    return answers
+
+
+def answers_of(name, cases):
+    """The answers of a program: the proved one where ./prove left it, else one unproved build."""
+    path = proved_program(name)
+    return run_cases(path, cases) if path else try_cases(CRATE_OF[name], cases)
