@@ -186,6 +186,7 @@ impl Lead {
         ensures going { self.new.under_way ≡ going_after self.old.under_way result }
         ensures listed { FollowsHead self.old q candidate known.now (SomeAnswer.Number head)
             self.new }
+        ensures kept { length self.old.heads ≡ 7 → q < 7 → get_or self.new.heads q 0 ≡ head }
     {
         self.heads = with_number(self.heads, q, head);
         if self.leaves_room(head, reserve_of(&self.config), known) {
