@@ -69,6 +69,7 @@ fn arrive<R: Threads + Wait + Sync, G: Gate + Sync>(
     requires hand { view pass ≡ whole_hand }
     requires senders { HaveSenders commands.now }
     requires few { length commands.now ≤ MOST_COMMANDS }
+    requires line { length commands.now ≤ ruled_capacity line.now }
     requires empty { room.items ≡ [] }
     requires room { length commands.now ≤ vec_capacity room }
     ensures arrival { IsArrival commands.now result.items }

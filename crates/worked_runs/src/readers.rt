@@ -47,11 +47,16 @@ fn publish_and_tell(rt: HostRuntime) -> Result<(), Fail> {
 }
 
 /// Holds the fourth publishing until the first reader comes to its sixth get, and that get until
-/// the fourth publishing.
+/// the fourth publishing; the fifth and the seventh get for each other, so that the sixth get sees
+/// what was published between; and the tenth gets of both readers.
 #[derive(Drop)]
 struct Crossed {
     publishing: AtomicU64,
     get: AtomicU64,
+    fifth: AtomicU64,
+    next: AtomicU64,
+    one: AtomicU64,
+    other: AtomicU64,
     failures: AtomicU64,
 }
 
@@ -74,6 +79,10 @@ impl Gate for Crossed {
         match (branch, count) {
             (0, 3) => self.meet(&self.publishing, &self.get),
             (1, 5) => self.meet(&self.get, &self.publishing),
+            (0, 4) => self.meet(&self.fifth, &self.next),
+            (1, 6) => self.meet(&self.next, &self.fifth),
+            (1, 9) => self.meet(&self.one, &self.other),
+            (2, 9) => self.meet(&self.other, &self.one),
             _ => {}
         }
     }
@@ -122,11 +131,26 @@ fn saw_last(lived: &Lived, wanted: [Option<[(Key, Option<Text>, u16); 2]>; 2]) -
     lists.map(|sights| last_two(sights.as_slice())).eq(wanted)
 }
 
+/// Whether the sixth get of the first reader saw what was published before the fourth publishing.
+fn saw_beside(lived: &Lived) -> bool {
+    match lived.sights.as_slice() {
+        [first, ..] => match first.as_slice() {
+            [_, _, _, _, _, sight, ..] => sight.seen.upto() >= 3,
+            _ => false,
+        },
+        _ => false,
+    }
+}
+
 #[test]
 fn readers_go_on_beside_the_writer(rt: HostRuntime) -> Result<(), Fail> {
     let gate = Crossed {
         publishing: AtomicU64::new(0),
         get: AtomicU64::new(0),
+        fifth: AtomicU64::new(0),
+        next: AtomicU64::new(0),
+        one: AtomicU64::new(0),
+        other: AtomicU64::new(0),
         failures: AtomicU64::new(0),
     };
     let wanted = [
@@ -134,7 +158,9 @@ fn readers_go_on_beside_the_writer(rt: HostRuntime) -> Result<(), Fail> {
         (key("b")?, Some(text("7")?), 6),
     ];
     let lived = lived(&rt, rt.alloc(), TWO_CLIENTS, 2, &gate)?;
-    let are_right = counts(&lived, &[202, 202]) && saw_last(&lived, [Some(wanted); 2]);
+    let are_right = saw_beside(&lived)
+        && counts(&lived, &[202, 202])
+        && saw_last(&lived, [Some(wanted); 2]);
     assert!(rt; are_right && gate.failures.load(Ordering::SeqCst) == 0);
     Ok(())
 }
