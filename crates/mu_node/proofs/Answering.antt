@@ -2,24 +2,24 @@
 use Rattle.std.proofs.Common.{◌≡◌, ◌∙◌, ℕ, zero, suc, ◌+◌, ◌*◌, ◌%◌, ◌<◌, ◌≤◌, Bool, true, false, cond, List, [], ◌∷◌, ◌++◌, None, Some, ap, append-nil, append_assoc, arith, drop, length, refl, subst, sym, take, true≢false, inl, inr}
 use Rattle.std.specs.List.{slice_get}
 use Rattle.std.proofs.lemmas.Bool.{cases_lt}
-use Rattle.std.proofs.lemmas.List.{length-append, length-drop, length-take}
+use Rattle.std.proofs.lemmas.List.{length-append, length-take}
+use Rattle.std.proofs.lemmas.Option.{slice_get_within}
 use Rattle.kv_store.specs.Commands.{Request}
 use Rattle.kv_store.specs.Tables.{empty_table, replies, replies_from, reply_to, store, store_from, table_after}
 use Rattle.kv_store.proofs.Runs.{replies_from-append, store_from-append}
 use Rattle.mu_model.specs.declared.config.Config.{Config}
 use Rattle.mu_model.specs.declared.event.Event.{Event}
 use Rattle.mu_model.specs.Contents.{IsConfig, is_batch, rest_of, row_count}
-use Rattle.mu_model.specs.Knowledge.{applied, has_entry, known}
+use Rattle.mu_model.specs.Knowledge.{applied, known}
 use Rattle.mu_model.specs.Parts.{IsPossible}
-use Rattle.mu_model.specs.Room.{reserve}
 use Rattle.mu_model.proofs.Basics.{none_some, same_some}
 use Rattle.mu_model.proofs.Lists.{item_below}
-use Rattle.mu_agree.proofs.Readings.{known_within}
-use Rattle.mu_known.proofs.Fetched.{applied_grows, batch_there, front_fits}
+use Rattle.mu_known.proofs.Fetched.{applied_grows, batch_there}
 use Rattle.mu_follow.specs.Groups.{AreSpelled, group_of, group_size, groups_of}
 use Rattle.mu_follow.proofs.Kept.{applied_begins, applied_is}
 use Rattle.mu_node.specs.Answering.{Answering}
 use Rattle.mu_node.specs.Answers.{HasAnswered, HoldsAnswers}
+use Rattle.mu_node.proofs.FewRows.{few_first}
 
 -- lists
 pub take_whole : {A : Type 0} (n : ℕ) (xs : List A) → length xs ≤ n → take n xs ≡ xs
@@ -82,26 +82,13 @@ more_answered xs ys a b d first next = record {
   left = (let long = length-append xs ys in let one = first.left in let two = next.left in omega (arith, long, one, two));
 }
 
--- an entry has at most four commands
-pub group_few : (c : Config) (commands : List Request) (v : ℕ) → IsConfig c → length (group_of c commands v) ≤ 4
-group_few c commands v good = go (is_batch c v) refl
-  where
-    go : (t : Bool) → is_batch c v ≡ t → length (cond t (take (rest_of c (v % 4096) + 1) (drop (v % 4096) commands)) []) ≤ 4
-    go true batch =
-        let low = (batch_there c v good batch).1 in
-        let few = good.rests (v % 4096) (omega (arith, low)) in
-        let wide = good.widths in
-        let long = length-take (rest_of c (v % 4096) + 1) (drop (v % 4096) commands) in
-        omega (arith, few, wide, long)
-    go false batch = omega arith
-
 -- the next command of an entry
 pub record NextCommand (c : Config) (commands : List Request) (v t : ℕ) : Type 0 where
   pub command : Request
   pub batch : is_batch c v ≡ true
   pub within : t ≤ rest_of c (v % 4096)
   pub low : v % 4096 + t < row_count c
-  pub few : t < 4
+  pub inside : t < length (group_of c commands v)
   pub at : slice_get commands (v % 4096 + t) ≡ Some command
   pub more : take (t + 1) (group_of c commands v) ≡ take t (group_of c commands v) ++ command ∷ []
 
@@ -111,8 +98,6 @@ next_command c commands v t good are low = go (is_batch c v) refl low
     go : (b : Bool) → is_batch c v ≡ b → t < cond b (rest_of c (v % 4096) + 1) 0 → NextCommand c commands v t
     go true batch low =
         let there = (batch_there c v good batch).1 in
-        let few = good.rests (v % 4096) (omega (arith, there)) in
-        let wide = good.widths in
         let long = are.count in
         let found = item_below commands (v % 4096 + t) (omega (arith, long, there, low)) in
         let whole : group_of c commands v ≡ take (rest_of c (v % 4096) + 1) (drop (v % 4096) commands) = rw batch refl in
@@ -122,7 +107,7 @@ next_command c commands v t good are low = go (is_batch c v) refl low
           batch = batch;
           within = omega (arith, low);
           low = omega (arith, there, low);
-          few = omega (arith, low, few, wide);
+          inside = slice_get_within (group_of c commands v) t found.0 here;
           at = found.1;
           more = take_more t (group_of c commands v) found.0 here;
         }
@@ -145,26 +130,28 @@ pub groups-push : (c : Config) (commands : List Request) (xs : List ℕ) (v : �
 groups-push c commands xs v = groups-append c commands xs (v ∷ []) ∙ ap (λ l. groups_of c commands xs ++ l) (append-nil (group_of c commands v))
 
 -- one more entry is answered
-pub hold_more : (c : Config) (commands : List Request) (xs : List ℕ) (v : ℕ) (a b : Answering) → IsConfig c → HoldsAnswers c commands xs a → HasAnswered (group_of c commands v) a b → HoldsAnswers c commands (xs ++ v ∷ []) b
-hold_more c commands xs v a b good held answered = record {
+pub hold_more : (c : Config) (commands : List Request) (xs : List ℕ) (v : ℕ) (a b : Answering) → HoldsAnswers c commands xs a → HasAnswered (group_of c commands v) a b → HoldsAnswers c commands (xs ++ v ∷ []) b
+hold_more c commands xs v a b held answered = record {
   replies =
       answered.replies ∙ ap (λ l. l ++ replies_from a.table (group_of c commands v)) held.replies ∙ ap (λ t. replies (groups_of c commands xs) ++ replies_from t (group_of c commands v)) held.table
       ∙ sym (ap replies (groups-push c commands xs v) ∙ replies_from-append _ (groups_of c commands xs) (group_of c commands v));
   table = answered.table ∙ ap (λ t. store_from t (group_of c commands v)) held.table ∙ sym (ap store (groups-push c commands xs v) ∙ store_from-append _ (groups_of c commands xs) (group_of c commands v));
-  left = (let few = group_few c commands v good in let long = length-append xs (v ∷ []) in let left = held.left in let one = answered.left in omega (arith, few, long, left, one));
+  left = (let more = ap length (groups-push c commands xs v) in let long = length-append (groups_of c commands xs) (group_of c commands v) in let left = held.left in let one = answered.left in omega (arith, more, long, left, one));
 }
 
 -- there is room for the next entry
-pub room_left : (c : Config) (r n : ℕ) (mine : List Event) (commands : List Request) (a : Answering) → IsPossible c r mine → n < length (applied c r mine) → HoldsAnswers c commands (take n (applied c r mine)) a → 4 ≤ a.left
-room_left c r n mine commands a possible low held =
-    let within = known_within c r mine possible in
-    let fits = front_fits (λ v. has_entry c r v mine) (known c r mine) in
+pub room_left : (c : Config) (r n v : ℕ) (mine : List Event) (commands : List Request) (a : Answering) → IsConfig c → IsPossible c r mine → slice_get (applied c r mine) n ≡ Some v → HoldsAnswers c commands (take n (applied c r mine)) a
+    → length (group_of c commands v) ≤ a.left
+room_left c r n v mine commands a good possible at held =
+    let few = few_first c r (n + 1) mine commands good possible in
+    let next = ap (λ l. length (groups_of c commands l)) (take_more n (applied c r mine) v at) in
+    let more = ap length (groups-push c commands (take n (applied c r mine)) v) in
+    let long = length-append (groups_of c commands (take n (applied c r mine))) (group_of c commands v) in
     let left = held.left in
-    let long = length-take n (applied c r mine) in
-    omega (arith, within, fits, left, long, low)
+    omega (arith, few, next, more, long, left)
 
 -- the answers before any entry
-pub first_answers : (c : Config) (commands : List Request) (a : Answering) → a.table ≡ empty_table → a.replies ≡ [] → a.left ≡ (row_count c + reserve c + 1) * 4 → HoldsAnswers c commands [] a
+pub first_answers : (c : Config) (commands : List Request) (a : Answering) → a.table ≡ empty_table → a.replies ≡ [] → a.left ≡ row_count c → HoldsAnswers c commands [] a
 first_answers c commands a table told left = record { replies = told; table = table; left = omega (arith, left) }
 
 -- the answers stay as an event comes

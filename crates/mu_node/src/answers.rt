@@ -104,7 +104,8 @@ fn answer_entry(follow: &Follow, ready: Ready, answers: &mut Answers)
         → IsConfig c → IsPossible c r mine → ReadsKnown c r mine → AreSpelled c commands
         → StandsForFollow c r mine follow.now
         → slice_get (applied c r mine) i ≡ Some ready.value
-        → ready.rows ≡ group_size c ready.value → 4 ≤ answers.old.left
+        → ready.rows ≡ group_size c ready.value
+        → length (group_of c commands ready.value) ≤ answers.old.left
         → HasAnswered (group_of c commands ready.value) answers.old answers.new }
 {
     let first = ready.value % PAYLOADS;

@@ -30,9 +30,6 @@ use mu_model::{End, Journal, NoMemory, Sequence, Stop, Verb, positions_in};
 use mu_port::Port;
 use std::alloc::Global;
 
-/// How many commands an entry has at most.
-const MOST_COMMANDS: usize = 4;
-
 /// One replica.
 #[derive(Drop)]
 pub struct Node {
@@ -111,6 +108,8 @@ impl Node {
         ensures stands { IfOk result (λ node. StandsForNode job.now.config id [] node) }
         ensures stops { IfOk result (λ node. node.stops.items ≡ job.now.script.stops) }
         ensures idle { IfOk result (λ node. node.lead.under_way ≡ false) }
+        ensures room { IfOk result (λ node. node.journal.room ≡ job.now.config.budget) }
+        ensures answers { IfOk result (λ node. node.answers.left ≡ length job.now.config.rows) }
     {
         let config = &job.config;
         Ok(Node {
@@ -125,7 +124,7 @@ impl Node {
             follow: Follow::new(alloc, config, id)?,
             log: Vec::with_capacity(alloc, positions_in(config))?,
             commits: Vec::with_capacity(alloc, positions_in(config))?,
-            answers: Answers::with_room(alloc, positions_in(config) * MOST_COMMANDS)?,
+            answers: Answers::with_room(alloc, config.rows.len())?,
         })
     }
 

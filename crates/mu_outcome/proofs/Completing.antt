@@ -27,7 +27,7 @@ use Rattle.mu_outcome.specs.Entries.{commands_in, longest}
 use Rattle.mu_outcome.specs.Outcomes.{Agrees, journal_of, log_of, or_empty}
 use Rattle.mu_outcome.specs.Runs.{IsRunOver}
 use Rattle.mu_outcome.proofs.LongestLogs.{longest_is, longest_most}
-use Rattle.mu_outcome.proofs.RowsOnce.{Count, at_least, at_most, fewer, once, place_of, stands_at}
+use Rattle.mu_rows.proofs.RowsOnce.{Count, at_least, at_most, fewer, once, place_of, stands_at}
 use Rattle.mu_outcome.proofs.Spelled.{spell_at, spell_in, spell_length, spell_numbers, spell_row}
 use Rattle.mu_agree.proofs.NextBatch.{same_number_same_row}
 

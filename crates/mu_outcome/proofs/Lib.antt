@@ -2,5 +2,4 @@ pub mod Completing
 mod Deciding
 pub mod LongestLogs
 pub mod Places
-mod RowsOnce
 mod Spelled

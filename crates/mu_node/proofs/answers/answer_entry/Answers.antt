@@ -16,7 +16,7 @@ loop-t-preserved c k r mine commands i good possible reads are stands at size ro
     let next = next_command k commands v t good are (omega (arith, inside, size)) in
     let few = good.few in
     let near = next.low in
-    let low = next.few in
+    let low = next.inside in
     let here : c.saturating_add.result ≡ v % 4096 + t = omega (arith, c.saturating_add.ensures, near, few) in
     let row : IsHeldRow k r mine (v % 4096 + t) next.command follow = record {
       there = next.low;

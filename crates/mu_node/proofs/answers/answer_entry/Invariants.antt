@@ -1,4 +1,4 @@
-use Rattle.std.proofs.Common.{◌≡◌, ◌≤◌, ◌%◌, List, Some, take, ℕ}
+use Rattle.std.proofs.Common.{◌≡◌, ◌≤◌, ◌%◌, List, Some, length, take, ℕ}
 use Rattle.std.specs.List.{slice_get}
 use Rattle.kv_store.specs.Commands.{Request}
 use Rattle.mu_model.specs.declared.config.Config.{Config}
@@ -15,5 +15,5 @@ use Rattle.mu_node.proofs.answers.answer_entry.Given as goal
 abbrev pub invariant-loop-t : goal.invariant-loop-t
 invariant-loop-t l =
     (c : Config) (r : ℕ) (mine : List Event) (commands : List Request) (i : ℕ) → IsConfig c → IsPossible c r mine → ReadsKnown c r mine → AreSpelled c commands → StandsForFollow c r mine l.follow
-    → slice_get (applied c r mine) i ≡ Some l.fn.ready.value → l.fn.ready.rows ≡ group_size c l.fn.ready.value → 4 ≤ l.initial.answers.left
+    → slice_get (applied c r mine) i ≡ Some l.fn.ready.value → l.fn.ready.rows ≡ group_size c l.fn.ready.value → length (group_of c commands l.fn.ready.value) ≤ l.initial.answers.left
     → HasAnswered (take l.t (group_of c commands l.fn.ready.value)) l.initial.answers l.answers

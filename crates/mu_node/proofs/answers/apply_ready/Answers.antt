@@ -17,11 +17,8 @@ loop-ready-preserved c = record {
       let stands = c.loop-ready.invariant.stands k r mine held in
       let entry = c.in-Some.ensures.entry k r mine stands in
       let so_far = c.loop-ready.invariant.answers k r mine commands good possible reads are held told in
-      let count = stands.rows.applied in
-      let there = c.in-Some.ensures.there in
-      let low : h < length (applied k r mine) = omega (arith, count, there) in
-      let answered = c.answer_entry.ensures k r mine commands h good possible reads are stands entry.0 entry.1 (room_left k r h mine commands c.loop-ready.answers possible low so_far) in
-      let next = hold_more k commands (take h (applied k r mine)) v c.loop-ready.answers c.answer_entry.new.answers good so_far answered in
+      let answered = c.answer_entry.ensures k r mine commands h good possible reads are stands entry.0 entry.1 (room_left k r h v mine commands c.loop-ready.answers good possible entry.0 so_far) in
+      let next = hold_more k commands (take h (applied k r mine)) v c.loop-ready.answers c.answer_entry.new.answers so_far answered in
       subst (λ l. HoldsAnswers k commands l c.answer_entry.new.answers) (sym (ap (λ n. take n (applied k r mine)) c.applied.ensures.one ∙ take_more h (applied k r mine) v entry.0)) next;
 }
 

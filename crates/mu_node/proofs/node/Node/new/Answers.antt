@@ -1,4 +1,4 @@
-use Rattle.std.proofs.Common.{◌∙◌, ◌*◌, ap, arith, refl, sym}
+use Rattle.std.proofs.Common.{◌∙◌, ap, arith, refl, sym}
 use Rattle.std.proofs.lemmas.Bool.{true≢false}
 use Rattle.mu_model.specs.Histories.{history}
 use Rattle.mu_node.proofs.Answering.{first_answers}
@@ -23,7 +23,7 @@ returns-clause-stands c = record {
   };
   lead = record { config = c.in_ok-new.ensures.config; id = c.in_ok-new.ensures.id; stands = c.in_ok-new.ensures.stands };
   handed = c.in_ok-new-2.ensures.handed;
-  answers = λ commands are. first_answers c.args.job.now.config commands c.in_ok-with_room-2.field-0 c.in_ok-with_room-2.ensures.table c.in_ok-with_room-2.ensures.replies (c.in_ok-with_room-2.ensures.left ∙ ap (λ n. n * 4) c.positions_in-3.ensures.count);
+  answers = λ commands are. first_answers c.args.job.now.config commands c.in_ok-with_room-2.field-0 c.in_ok-with_room-2.ensures.table c.in_ok-with_room-2.ensures.replies (c.in_ok-with_room-2.ensures.left ∙ c.len.ensures);
   cycle = tt;
   made = tt;
   leads = λ leads. absurd (true≢false (sym leads ∙ c.in_ok-new.ensures.rests));

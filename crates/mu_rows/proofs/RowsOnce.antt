@@ -58,7 +58,7 @@ once c (j ∷ js) counts = IsDistinct-cons eqb j js (apart j js out) (once c js 
     out there = own (client_of c j == client_of c j) (eq-eqb (client_of c j) (client_of c j) refl) (counts (client_of c j)) there
 
 -- so many rows from one on stand once each
-from_above : (n j q : ℕ) → list_any (eqb q) (rows_from n j) ≡ true → (j ≤ q) × (q < j + n)
+pub from_above : (n j q : ℕ) → list_any (eqb q) (rows_from n j) ≡ true → (j ≤ q) × (q < j + n)
 from_above zero j q there = absurd (true≢false (sym there))
 from_above (suc n) j q there = elim (or_cases (eqb q j) (list_any (eqb q) (rows_from n (j + 1))) there) [
   | inl e ↦ (let same = eqb-true q j e in (omega (arith, same), omega (arith, same)))
@@ -70,7 +70,7 @@ unfolding IsDistinct
 from_once zero j = tt
 from_once (suc n) j = IsDistinct-cons eqb j (rows_from n (j + 1)) (apart j (rows_from n (j + 1)) (λ there. let low = (from_above n (j + 1) j there).0 in absurd (omega (arith, low)))) (from_once n (j + 1))
 
-length-from : (n j : ℕ) → length (rows_from n j) ≡ n
+pub length-from : (n j : ℕ) → length (rows_from n j) ≡ n
 length-from zero j = refl
 length-from (suc n) j = ap suc (length-from n (j + 1))
 
