@@ -16,6 +16,6 @@ mod tests;
 mod whole;
 
 pub use memory::{MemSink, MemSource};
-pub use std_streams::{StdSink, StdSource};
+pub use std_streams::{StdSink, StdSource, Unbuffered};
 pub use streams::{Failed, Sink, Source};
 pub use whole::{Bytes, PIECE, ReadEnd, WriteFault, read_all, write_all};
