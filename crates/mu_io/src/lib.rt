@@ -14,6 +14,6 @@ mod streams;
 mod whole;
 
 pub use memory::{MemSink, MemSource};
-pub use std_streams::{StdSink, StdSource};
+pub use std_streams::{StdSink, StdSource, Unbuffered};
 pub use streams::{Failed, Sink, Source};
 pub use whole::{Bytes, PIECE, ReadEnd, WriteFault, limits_are_stated, read_all, write_all};

@@ -5,7 +5,7 @@ ghost use Rattle.mu_io.specs.Faults.{Rose, one_more};
 
 use crate::streams::fault;
 use crate::{Failed, Sink, Source};
-use std::io::{Read, Write};
+use std::io::{Cursor, Read, Stdout, Write};
 use std::marker::Model;
 
 /// A reader of `std` as a source, as `StdSource::new(rt.stdin())`. It tells of the bytes what the
@@ -60,9 +60,21 @@ impl<I: Read> Source for StdSource<I> {
     }
 }
 
+/// A writer that keeps no byte back: what a write took has left it, so there is nothing to flush.
+/// A writer that buffers must not have it.
+pub trait Unbuffered {}
+
+impl Unbuffered for Stdout {}
+
+impl Unbuffered for Vec<u8> {}
+
+impl Unbuffered for Cursor<&mut [u8]> {}
+
+impl<W: Unbuffered> Unbuffered for &mut W {}
+
 /// A writer of `std` as a sink, as `StdSink::new(rt.stdout())`. It tells of the bytes what the
-/// writer tells: nothing where that is a standard stream. It flushes nothing: give it a writer that
-/// does not buffer. A contract sees the writer and the number of its faults.
+/// writer tells: nothing where that is a standard stream. It flushes nothing, so it asks for a
+/// writer that does not buffer. A contract sees the writer and the number of its faults.
 #[derive(Drop)]
 pub struct StdSink<O> {
     output: O,
@@ -77,7 +89,7 @@ impl<O> Model for StdSink<O> {
     ghost view = { λ s. (s.output, s.faults) };
 }
 
-impl<O: Write> StdSink<O> {
+impl<O: Write + Unbuffered> StdSink<O> {
     /// A sink that writes to `output`, with no fault so far.
     pub fn new(output: O) -> StdSink<O>
         ensures { result ≡ (output, 0) }

@@ -1,6 +1,7 @@
 -- What the program says, as text.
 use Rattle.std.specs.Prelude.{ℕ, List, [], ◌∷◌, ◌++◌, ⊤, codes}
 use Rattle.std.specs.Fmt.{decimal}
+use Rattle.mu_input.specs.declared.job.InputEnd.{InputEnd}
 use Rattle.mu_report.specs.declared.said.Said.{Said}
 use Rattle.mu_report.specs.declared.said.Said.TheVariants.{Usage, Refused, Ran, Traced, Summed, Booked, Lived, Judged, Explained, ReadFault, NoMemory, TooLong}
 use Rattle.mu_report.specs.Answers.{verdict_line}
@@ -33,6 +34,11 @@ lines_of TooLong = codes "too long" ∷ []
 -- what is said, as the bytes that are printed
 abbrev pub text : Said → List ℕ
 text said = ended (lines_of said)
+
+-- what is said where no job and no trace was read
+abbrev pub said_of_end : InputEnd → Said
+said_of_end (InputEnd.Refused line cause) = Refused line cause
+said_of_end InputEnd.NoMemory = NoMemory
 
 -- a run that is reported has short lists, as have its readers, and the bytes of a trace can be
 -- counted

@@ -5,7 +5,7 @@ ghost use Rattle.std.specs.Fmt.{decimal};
 ghost use Rattle.mu_io.specs.Faults.{Rose};
 ghost use Rattle.mu_report.specs.declared.line.TheConstants.{LINE_BYTES};
 ghost use Rattle.mu_report.specs.Printing.{PrintsAll, PrintsPart};
-ghost use Rattle.mu_report.specs.Said.{text, lines_of, IsShort};
+ghost use Rattle.mu_report.specs.Said.{text, lines_of, said_of_end, IsShort};
 
 use crate::answers::verdict_line;
 use crate::book::print_book;
@@ -16,13 +16,13 @@ use crate::report::print_report;
 use crate::summary::print_summary;
 use crate::trace::print_trace;
 use match_book::Book;
+use mu_input::InputEnd;
 use mu_io::{Sink, WriteFault};
 use mu_outcome::{Outcome, Verdict};
 use mu_reasons::Broken;
 use snap_reads::Lived;
 
 /// What the program says at its end.
-#[derive(Drop)]
 pub enum Said {
     /// How it is called.
     Usage,
@@ -65,6 +65,49 @@ pub enum Said {
     NoMemory,
     /// The input has too many bytes.
     TooLong,
+}
+
+/// Written by hand, so that who lets what is said go calls one function: derived, each of its
+/// variants is proved to be let go at each place where one is.
+impl Drop for Said {
+    fn drop(self) {
+        match self {
+            Said::Usage => {}
+            Said::Refused { line: _, cause: _ } => {}
+            Said::Ran(outcome) => let_go(outcome),
+            Said::Traced(outcome) => let_go(outcome),
+            Said::Summed(outcome) => let_go(outcome),
+            Said::Booked(outcome, _) => let_go(outcome),
+            Said::Lived(outcome, _) => let_go(outcome),
+            Said::Judged {
+                events: _,
+                verdict: _,
+            } => {}
+            Said::Explained {
+                events: _,
+                line: _,
+                broken: _,
+            } => {}
+            Said::ReadFault => {}
+            Said::NoMemory => {}
+            Said::TooLong => {}
+        }
+    }
+}
+
+/// Lets an outcome go.
+fn let_go(_outcome: Outcome) {}
+
+impl From<InputEnd> for Said {
+    ghost from_gives = { λ end said. said ≡ said_of_end end };
+
+    /// What is said where no job and no trace was read.
+    fn from(end: InputEnd) -> Said {
+        match end {
+            InputEnd::Refused { line, cause } => Said::Refused { line, cause },
+            InputEnd::NoMemory => Said::NoMemory,
+        }
+    }
 }
 
 /// Writes the text of what is said, each line in one call where the sink takes it whole, and of the

@@ -2,8 +2,8 @@
 ghost use Rattle.std.specs.Prelude.{IfOk, ◌<◌, ◌≤◌};
 
 use mu_io::{
-    Failed, MemSink, MemSource, ReadEnd, Sink, Source, StdSink, StdSource, WriteFault, read_all,
-    write_all,
+    Failed, MemSink, MemSource, ReadEnd, Sink, Source, StdSink, StdSource, Unbuffered, WriteFault,
+    read_all, write_all,
 };
 use std::alloc::Global;
 use std::io::{Cursor, Error, ErrorKind, Read, Result as IoResult, Write};
@@ -156,6 +156,8 @@ impl Write for Breaking {
         Ok(())
     }
 }
+
+impl Unbuffered for Breaking {}
 
 #[test]
 fn passes_bytes_on(rt: HostRuntime) -> Result<(), Fail> {
