@@ -1,8 +1,13 @@
 //! Replicas in threads of their own: each takes its turns over a port of its own.
-ghost use Rattle.std.specs.Prelude.{All, IfOk, Some, [], length, map, slice_index_or, vec_capacity, vec_len, ℕ, ◌<◌, ◌≡◌, ◌≤◌};
+ghost use Rattle.std.specs.Prelude.{All, IfOk, None, Some, [], length, map, slice_index_or, vec_capacity, vec_len, ℕ, ◌<◌, ◌≡◌, ◌≤◌};
 ghost use Rattle.std.specs.List.{slice_get};
 ghost use Rattle.mu_model.specs.Contents.{IsConfig};
-ghost use Rattle.shared_fabric.specs.Gathering.{PortValue};
+ghost use Rattle.mu_model.specs.declared.script.Script.{Script as SomeScript};
+ghost use Rattle.mu_node.specs.Beats.{ends_by_beat};
+ghost use Rattle.mu_node.specs.Node.{StandsForNode};
+ghost use Rattle.mu_node.specs.Turns.{IsTurn};
+ghost use Rattle.mu_outcome.specs.Turns.{rounds_paused as rounds_paused_of};
+ghost use Rattle.shared_fabric.specs.Gathering.{IsSamePort, PortValue};
 ghost use Rattle.mu_cluster.specs.declared.branch.Branch.{Branch as SomeBranch};
 ghost use Rattle.mu_cluster.specs.Branches.{Drives, IsDriven, IsFreshPort};
 
@@ -25,15 +30,47 @@ pub(crate) struct Branch {
     port: SharedPort,
 }
 
-/// Lets the other threads on, so many times.
-fn rest(times: u32) {
-    for _ in 0..times {
+/// How a thread let the others on before a turn of its replica.
+#[derive(Drop)]
+struct Rested {
+    /// For how many rounds of a pause.
+    paused: u32,
+    /// Whether for a beat.
+    beaten: bool,
+}
+
+/// Lets the other threads on: once for each round of a pause, and once for a beat.
+fn rest(paused: u32, beaten: bool) -> Rested
+    ensures paused { result.paused ≡ paused }
+    ensures beaten { result.beaten ≡ beaten }
+{
+    for _ in 0..paused {
         thread::yield_now();
     }
+    if beaten {
+        thread::yield_now();
+    }
+    Rested { paused, beaten }
+}
+
+/// The next turn of a replica that let the others on as its script and its last step have it.
+fn turn_rested(node: &mut Node, port: &mut SharedPort, script: &Script, rested: &Rested) -> Turn
+    requires config { IsConfig port.old.config }
+    requires stands { StandsForNode port.old.config port.old.id port.old.part node.old }
+    requires paused { rested.now.paused
+        ≡ rounds_paused_of script.now.pauses port.old.id (length port.old.part) }
+    requires beaten { rested.now.beaten ≡ ends_by_beat port.old.part }
+    ensures stands { StandsForNode port.new.config port.new.id port.new.part node.new }
+    ensures same { IsSamePort port.old port.new }
+    ensures stops { node.new.stops ≡ node.old.stops }
+    ensures turn { (script : SomeScript) → script.stops ≡ node.old.stops.items
+        → IsTurn port.old.config script port.old.id port.old.part port.new.part None None result }
+{
+    node.turn(port)
 }
 
 /// Turns of one replica until its journal has an end. It lets the others on at a pause and after a
-/// heartbeat; nothing here waits for another replica.
+/// beat; nothing here waits for another replica.
 fn drive<R: Wait, G: Gate>(rt: &R, branch: &mut Branch, script: &Script, gate: &G)
     requires { Drives script.now branch.old }
     ensures { IsDriven script.now branch.old branch.new }
@@ -41,10 +78,11 @@ fn drive<R: Wait, G: Gate>(rt: &R, branch: &mut Branch, script: &Script, gate: &
     let Branch { node, port } = branch;
     for _ in rt.forever() {
         let steps = node.steps();
-        rest(rounds_paused(script.pauses.as_slice(), node.id(), steps));
+        let paused = rounds_paused(script.pauses.as_slice(), node.id(), steps);
+        let rested = rest(paused, node.has_beaten());
         gate.pass(node.id(), steps);
-        match node.turn(port) {
-            Turn::Took(_) => rest(u32::from(node.has_beaten())),
+        match turn_rested(node, port, script, &rested) {
+            Turn::Took(_) => {}
             Turn::Ended(_) => break,
         }
     }

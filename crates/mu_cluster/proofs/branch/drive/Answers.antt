@@ -11,11 +11,11 @@ pub loop-preserved : goal.loop-preserved
 loop-preserved g c =
     let script = c.args.script.now in
     let was = c.loop.invariant.2 in
-    let told = c.turn.ensures.turn script (sym was.goes.stops) in (
+    let told = c.turn_rested.ensures.turn script (sym was.goes.stops) in (
       tt,
       tt,
-      turned_on script c.loop.port c.turn.new.port c.loop.node c.turn.new.self c.turn.result was c.turn.ensures.same c.turn.ensures.stands c.turn.ensures.stops told,
-      same_same c.args.branch.now.port c.loop.port c.turn.new.port c.loop.invariant.3 c.turn.ensures.same,
+      turned_on script c.loop.port c.turn_rested.new.port c.loop.node c.turn_rested.new.self c.turn_rested.result was c.turn_rested.ensures.same c.turn_rested.ensures.stands c.turn_rested.ensures.stops told,
+      same_same c.args.branch.now.port c.loop.port c.turn_rested.new.port c.loop.invariant.3 c.turn_rested.ensures.same,
     )
 
 pub returns : goal.returns
@@ -24,13 +24,13 @@ returns g c = elim c.match-next.branch [
   | in-Some+in-Ended w ↦
       let script = c.args.script.now in
       let p = c.loop.port in
-      let q = w.turn.new.port in
+      let q = w.turn_rested.new.port in
       let was = c.loop.invariant.2 in
-      let told = w.turn.ensures.turn script (sym was.goes.stops) in
+      let told = w.turn_rested.ensures.turn script (sym was.goes.stops) in
       let ended = subst (λ u. IsTurn p.config script p.id p.part q.part None None u) w.in-Ended.is told in
       subst (λ b. IsDriven script c.args.branch.now b) (sym w.branch'-is) (record {
-        same = same_same c.args.branch.now.port p q c.loop.invariant.3 w.turn.ensures.same;
-        drives = turned_on script p q c.loop.node w.turn.new.self w.turn.result was w.turn.ensures.same w.turn.ensures.stands w.turn.ensures.stops told;
-        ends = ended_on script p q _ w.turn.ensures.same ended;
+        same = same_same c.args.branch.now.port p q c.loop.invariant.3 w.turn_rested.ensures.same;
+        drives = turned_on script p q c.loop.node w.turn_rested.new.self w.turn_rested.result was w.turn_rested.ensures.same w.turn_rested.ensures.stands w.turn_rested.ensures.stops told;
+        ends = ended_on script p q _ w.turn_rested.ensures.same ended;
       })
 ]
