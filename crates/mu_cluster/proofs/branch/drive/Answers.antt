@@ -14,7 +14,7 @@ loop-preserved g c =
     let told = c.turn_rested.ensures.turn script (sym was.goes.stops) in (
       tt,
       tt,
-      turned_on script c.loop.port c.turn_rested.new.port c.loop.node c.turn_rested.new.self c.turn_rested.result was c.turn_rested.ensures.same c.turn_rested.ensures.stands c.turn_rested.ensures.stops told,
+      turned_on script c.loop.port c.turn_rested.new.port c.loop.node c.turn_rested.new.node c.turn_rested.result was c.turn_rested.ensures.same c.turn_rested.ensures.stands c.turn_rested.ensures.stops told,
       same_same c.args.branch.now.port c.loop.port c.turn_rested.new.port c.loop.invariant.3 c.turn_rested.ensures.same,
     )
 
@@ -30,7 +30,7 @@ returns g c = elim c.match-next.branch [
       let ended = subst (λ u. IsTurn p.config script p.id p.part q.part None None u) w.in-Ended.is told in
       subst (λ b. IsDriven script c.args.branch.now b) (sym w.branch'-is) (record {
         same = same_same c.args.branch.now.port p q c.loop.invariant.3 w.turn_rested.ensures.same;
-        drives = turned_on script p q c.loop.node w.turn_rested.new.self w.turn_rested.result was w.turn_rested.ensures.same w.turn_rested.ensures.stands w.turn_rested.ensures.stops told;
+        drives = turned_on script p q c.loop.node w.turn_rested.new.node w.turn_rested.result was w.turn_rested.ensures.same w.turn_rested.ensures.stands w.turn_rested.ensures.stops told;
         ends = ended_on script p q _ w.turn_rested.ensures.same ended;
       })
 ]
