@@ -22,7 +22,7 @@ returns-clause-drives g c =
     let told = c.known.ensures l.config l.id (part l.id (e ∷ g.past)) stood.own_stands.known_log ∙ (ap (λ m. known l.config l.id m) own ∙ told_other l.config l.id mine c.args.verb c.args.answer c.requires.1.1.1.1) in
     let log = stood.own_stands.known_log in
     let later = part l.id (e ∷ g.past) in
-    let holds = subst (λ values. HoldsValues l.config values c.args.self.now.own.known_log) (sym (c.known.ensures l.config l.id later log)) log.values in
+    let holds = subst (λ values. HoldsValues l.config values c.note_own.new.own.known_log) (sym (c.known.ensures l.config l.id later log)) log.values in
     let stands = c.take.ensures.stands holds c.args.verb c.requires.1.1.0 possible told in
     record {
       beside = beside_same (e ∷ g.past) l now c.note_own.new.own c.note_own.new.scores c.note_own.new.all c.take.ensures.config c.take.ensures.id stood;
