@@ -54,7 +54,9 @@ def main():
                 failed += 1
                 print(f"{os.path.join(folder, name)}: {why}")
     print(f"{count - failed} passed, {failed} failed")
-    return 1 if failed else 0
+    if count == 0:
+        print("no case was found")
+    return 1 if failed or count == 0 else 0
 
 
 if __name__ == "__main__":
