@@ -86,6 +86,7 @@ kept_by c p by verb answer past region later other h = record {
   noted = λ r few. h.noted r few ∙ ap Some (sym (noted_elsewhere r p by verb answer past later other));
   drained = λ r few. h.drained r few ∙ ap Some (sym (drained_elsewhere r p by verb answer past other));
   rows = λ v k here row word. h.rows v k here row word ∙ ap Some (sym (word_elsewhere v k p by verb answer past here other));
+  words = h.words;
 }
 
 -- what is held of a region stays, where the event reads another one

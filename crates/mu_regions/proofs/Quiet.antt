@@ -38,6 +38,7 @@ read_kept c p by verb answer past region read h = record {
   noted = h.noted;
   drained = h.drained;
   rows = h.rows;
+  words = h.words;
 }
 
 -- what is held of a region after a beat, with the count of beats then
@@ -56,5 +57,6 @@ beat_taken c p by count Verb.Beat answer past region beat is h = record {
   noted = h.noted;
   drained = h.drained;
   rows = h.rows;
+  words = h.words;
 }
 beat_taken c p by count verb answer past region beat is h = absurd (true≢false (sym beat))

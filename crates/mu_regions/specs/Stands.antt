@@ -44,6 +44,7 @@ pub record Holds (c : Config) (p : ℕ) (past : List Event) (region : Region) : 
   pub noted : NotesGrants p past region.noted
   pub drained : MarksDrains p past region.drained
   pub rows : HoldsRows c p past region.words.items
+  pub words : length region.words.items ≡ row_count c * 12
 
 -- each region of the list, counted from 0, stands for the history
 abbrev pub HoldsEach : Config → List Event → List Region → Type 0

@@ -19,4 +19,5 @@ returns c = record {
   rows = λ v k own low few.
       let zeros : c.in_ok-vec.field-0.items ≡ replicate (c.len.result * 12) 0 = search (rules, c.in_ok-vec.ensures.items_if_clones_equal) in
       rw zeros (get_replicate (c.len.result * 12) _ 0 (omega (arith, low, few, c.len.ensures)));
+  words = search rules;
 }
