@@ -8,6 +8,8 @@ import tempfile
 
 from programs import CRATE_OF, CRATES, TOP, proved_program
 
+# The crate in which the tests of several crates are built.
+MERGED = "merged_tests"
 # Before a run is given up: a machine may be busy.
 MOST_SECONDS = 600
 CASE_LINE = re.compile(r"case=(\S+) run=(\S+)(?: status=(\d+))?")
@@ -103,29 +105,57 @@ def try_cases(crate, cases):
     return answers
 
 
-def without_tests(crate, left, room):
-    """A copy of the crates, without some tests of one of them: its folder."""
-    shutil.copytree(CRATES, os.path.join(room, "crates"), ignore=shutil.ignore_patterns("out", "specs", "proofs", "must-fail"))
-    for name in ("crates.txt", "HANDLES"):
-        shutil.copy(os.path.join(TOP, name), room)
-    copy = os.path.join(room, "crates", crate)
-    for test in left:
-        module, name = test.split("::")
-        path = os.path.join(copy, "src", module + ".rt")
-        with open(path, encoding="utf-8") as source:
-            text = source.read()
-        rest, count = re.subn(rf"#\[test\]\nfn {name}\(.*?\n}}\n", "", text, flags=re.DOTALL)
+def without(tests, text):
+    """The text of a file without some tests."""
+    for name in tests:
+        text, count = re.subn(rf"#\[test\]\nfn {name}\(.*?\n}}\n", "", text, flags=re.DOTALL)
         if count != 1:
-            raise NotBuilt(f"{path} has no test {name}")
-        with open(path, "w", encoding="utf-8") as source:
-            source.write(rest)
-    return copy
+            raise NotBuilt(f"there is no test {name}, which is to be left out")
+    return text
 
 
-def try_tests(crate, left=()):
-    """Runs the tests of a crate but for some: which passed, which failed, and what was said of these."""
+def write_module(crate, left, sources):
+    """Writes a crate as a module of that name: its root file, and the others in a folder."""
+    for name in os.listdir(os.path.join(CRATES, crate, "src")):
+        with open(os.path.join(CRATES, crate, "src", name), encoding="utf-8") as source:
+            text = source.read().replace("crate::", f"crate::{crate}::").replace("#![tactic(auto)]\n", "")
+        module = name[:-len(".rt")]
+        text = without([test[len(module) + 2:] for test in left if test.startswith(module + "::")], text)
+        path = os.path.join(sources, crate + ".rt" if name == "lib.rt" else os.path.join(crate, name))
+        os.makedirs(os.path.dirname(path), exist_ok=True)
+        with open(path, "w", encoding="utf-8") as out:
+            out.write(text)
+
+
+def write_merged(left_of, room):
+    """A copy of the sources with one more crate, whose modules are some crates: its folder.
+
+    So the tests of several crates are built once: a build takes a minute of a processor. Tests that
+    are to be left out aren't in it.
+    """
+    kept = shutil.ignore_patterns("out", "specs", "proofs", "must-fail")
+    shutil.copytree(CRATES, os.path.join(room, "crates"), ignore=kept)
+    shutil.copy(os.path.join(TOP, "HANDLES"), room)
+    sources = os.path.join(room, "crates", MERGED, "src")
+    for crate, left in left_of.items():
+        write_module(crate, left, sources)
+    with open(os.path.join(sources, "lib.rt"), "w", encoding="utf-8") as root:
+        root.write("#![tactic(auto)]\n" + "".join(f"#[cfg(test)]\nmod {crate};\n" for crate in left_of))
+    with open(os.path.join(TOP, "crates.txt"), encoding="utf-8") as lines:
+        listed = lines.read()
+    below = {it for crate in left_of for it in re.search(rf"^{crate}\b.*:(.*)$", listed, re.MULTILINE)[1].split()}
+    with open(os.path.join(room, "crates.txt"), "w", encoding="utf-8") as out:
+        out.write(f"{listed.rstrip()}\n{MERGED}: {' '.join(sorted(below))}\n")
+    return os.path.dirname(sources)
+
+
+def try_tests(left_of):
+    """Runs the tests of some crates but for those that are left out, in one build.
+
+    Which passed and which failed, with their crates, and what was said of these.
+    """
     with tempfile.TemporaryDirectory(prefix="tests-") as room:
-        done = rt_try(without_tests(crate, left, room) if left else crate, "--test")
+        done = rt_try(write_merged(left_of, room), "--test")
     results = TEST_LINE.findall(done.stdout)
     if not results:
         told = done.stderr.decode(errors="replace").strip()
