@@ -2,7 +2,6 @@
 use Rattle.std.specs.Prelude.{ℕ, ◌≡◌, ◌<◌, ◌≤◌, ◌==◌, ◌⊎◌, Bool, true, false, List, codes, length, take, None, Some, Err, Ok, IfSome, MatchBool}
 use Rattle.std.specs.declared.option.Option.{Option}
 use Rattle.std.specs.declared.result.Result.{Result}
-use Rattle.std.specs.declared.alloc.AllocError.{AllocError}
 use Rattle.std.specs.Io.KnownBytes.{Appends}
 use Rattle.mu_io.specs.Faults.{Rose}
 use Rattle.mu_io.specs.Whole.{TakesAtMost}
@@ -21,10 +20,11 @@ use Rattle.mu_picture.specs.Drawing.{svg_of}
 use Rattle.mu_picture.specs.Marks.{IsPictureOf}
 use Rattle.mu_picture.specs.Xml.{IsDocument}
 use Rattle.mu_picture.specs.declared.marks.Picture.{Picture}
-use Rattle.mu_report.specs.Said.{text, IsShort}
+use Rattle.mu_report.specs.Said.{text, said_of_end, IsShort}
 use Rattle.mu_report.specs.declared.said.Said.{Said}
 use Rattle.mu_draw.specs.declared.asking.Asked.{Asked}
 use Rattle.mu_draw.specs.declared.drawing.Told.{Told}
+use Rattle.mu_draw.specs.declared.drawing.Undrawn.{Undrawn}
 
 -- the events are legal, and this is the drawing of the picture of the steps that are asked for, a
 -- document of XML
@@ -81,10 +81,11 @@ abbrev pub Tells : Option Asked → Option (List ℕ) → Option (List ℕ) → 
 Tells None left now before after told = (told ≡ Told.Usage) × (now ≡ left) × (after ≡ before)
 Tells (Some asked) left now before after told = TellsOfSource left now before after asked told
 
--- a drawing, or want of memory for it
-abbrev pub told_with : Result (List ℕ) AllocError → Told
+-- what is told of a drawing, or of why there is none
+abbrev pub told_with : Result (List ℕ) Undrawn → Told
 told_with (Ok sheet) = Told.Drawn sheet
-told_with (Err failed) = Told.Said Said.NoMemory
+told_with (Err (Undrawn.Unread end)) = Told.Said (said_of_end end)
+told_with (Err (Undrawn.Illegal events verdict)) = Told.Said (Said.Judged events verdict)
 
 -- what is told, as the bytes that are written
 abbrev pub text_of : Told → List ℕ

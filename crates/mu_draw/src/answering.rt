@@ -2,6 +2,7 @@
 //! bytes of a sink.
 ghost use Rattle.std.specs.Prelude.{◌≡◌, ◌<◌, ◌≤◌, [], ◌∷◌, length, take, codes, IfErr, IfOk, OnErr, OnOk, ⊤};
 ghost use Rattle.std.specs.Io.KnownBytes.{Appends};
+ghost use Rattle.std.specs.Process.{exit_status};
 ghost use Rattle.mu_io.specs.Faults.{Rose};
 ghost use Rattle.mu_draw.specs.Answers.{IsSayable, Tells, TellsOfSource, Wrote, status_for, text_of};
 ghost use Rattle.mu_draw.specs.Words.{asked_of as asked_of_words};
@@ -13,6 +14,7 @@ use mu_io::{ReadEnd, Sink, Source, WriteFault, read_all, write_all};
 use mu_outcome::Status;
 use mu_report::{Said, print};
 use std::alloc::Global;
+use std::process::ExitCode;
 
 /// What the call answers.
 #[derive(Drop)]
@@ -27,11 +29,11 @@ pub struct Answered {
 }
 
 impl Answered {
-    /// The status that the program ends with. What there was to tell is let go.
-    pub fn into_status(self) -> u8
-        ensures { result ≡ self.status }
+    /// What the program ends with. What there was to tell is let go.
+    pub fn into_exit_code(self) -> ExitCode
+        ensures { exit_status result ≡ self.status }
     {
-        self.status
+        ExitCode::from(self.status)
     }
 }
 

@@ -46,5 +46,5 @@ fn main(rt: HostRuntime) -> ExitCode {
         Ok(words) => draw(rt.alloc(), words.as_slice(), &mut source, &mut sink),
         Err(kind) => answer(&mut sink, asking::unread(kind)),
     };
-    ExitCode::from(answered.into_status())
+    answered.into_exit_code()
 }

@@ -55,8 +55,11 @@ fn after(
     let mut source = MemSource::new(bytes, 16, vec![in alloc; failing_read]?);
     let room = vec![in alloc; 0; ROOM]?;
     let mut sink = MemSink::new(room, ROOM, vec![in alloc; failing_write]?);
-    let status = draw(alloc, words.as_slice(), &mut source, &mut sink).into_status();
-    Ok(Drawn { status, sink })
+    let answered = draw(alloc, words.as_slice(), &mut source, &mut sink);
+    Ok(Drawn {
+        status: answered.status,
+        sink,
+    })
 }
 
 #[test]

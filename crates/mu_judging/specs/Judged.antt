@@ -1,13 +1,16 @@
 -- What there is to say of the bytes of a trace.
-use Rattle.std.specs.Prelude.{ℕ, ◌≡◌, List, length, ⊤}
+use Rattle.std.specs.Prelude.{ℕ, ◌≡◌, List, Err, Ok, length, ⊤}
+use Rattle.mu_input.specs.declared.job.InputEnd.{InputEnd}
 use Rattle.mu_input.specs.Readings.{Fits, Leaves}
 use Rattle.mu_input.specs.Traces.{Trace, trace}
 use Rattle.std.specs.declared.option.Option.{Option}
+use Rattle.std.specs.declared.result.Result.{Result}
 use Rattle.mu_reasons.specs.declared.fault.Broken.{Broken}
 use Rattle.mu_reasons.specs.Breaks.{Explains}
 use Rattle.mu_outcome.specs.Verdicts.{Judges}
 use Rattle.mu_outcome.specs.declared.verdict.Verdict.{Verdict}
 use Rattle.mu_report.specs.declared.said.Said.{Said}
+use Rattle.mu_report.specs.Said.{said_of_end}
 
 -- the bytes spell a trace of so many events, and this is the verdict on them
 pub record IsJudged (bytes : List ℕ) (events : ℕ) (verdict : Verdict) : Type 0 where
@@ -23,6 +26,17 @@ SaysOf bytes (Said.Refused line cause) = trace bytes ≡ Leaves line cause
 SaysOf bytes (Said.Judged events verdict) = IsJudged bytes events verdict
 SaysOf bytes Said.NoMemory = ⊤
 SaysOf bytes _ = ⊥
+
+-- the bytes leave the grammar of traces first at this line for this cause; want of memory can come
+-- at any bytes
+abbrev pub IsEndOfTrace : List ℕ → InputEnd → Type 0
+IsEndOfTrace bytes (InputEnd.Refused line cause) = trace bytes ≡ Leaves line cause
+IsEndOfTrace bytes InputEnd.NoMemory = ⊤
+
+-- what is said of so many events with this verdict, or of why no trace was judged
+abbrev pub said_of : Result (ℕ × Verdict) InputEnd → Said
+said_of (Ok judged) = Said.Judged judged.0 judged.1
+said_of (Err end) = said_of_end end
 
 -- the bytes spell a trace of so many events, and this is where it breaks and why, if it does
 pub record IsExplained (bytes : List ℕ) (events : ℕ) (broken : Option Broken) : Type 0 where

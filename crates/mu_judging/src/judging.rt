@@ -1,11 +1,12 @@
 //! From the bytes of a trace to what there is to say of it.
-ghost use Rattle.std.specs.Prelude.{◌≤◌, length};
+ghost use Rattle.std.specs.Prelude.{◌≡◌, ◌≤◌, length, IfErr, IfOk};
 ghost use Rattle.mu_input.specs.declared.TheConstants.{TRACE_LIMIT};
-ghost use Rattle.mu_judging.specs.Judged.{ExplainsOf, SaysOf};
+ghost use Rattle.mu_judging.specs.Judged.{said_of, ExplainsOf, IsEndOfTrace, IsJudged, SaysOf};
 ghost use Rattle.mu_report.specs.Said.{IsShort};
 
 use mu_check::{Broken, check, explain};
 use mu_input::{InputEnd, read_trace};
+use mu_outcome::Verdict;
 use mu_report::Said;
 use std::alloc::Global;
 
@@ -17,18 +18,31 @@ pub fn judge(alloc: Global, bytes: &[u8]) -> Said
     ensures says { SaysOf bytes.now result }
     ensures short { IsShort result }
 {
-    let (job, journal) = match read_trace(alloc, bytes) {
-        Ok(read) => read,
-        Err(InputEnd::Refused { line, cause }) => return Said::Refused { line, cause },
-        Err(InputEnd::NoMemory) => return Said::NoMemory,
-    };
+    told(judged(alloc, bytes))
+}
+
+/// How many events the trace that the bytes spell has, and the verdict on them.
+///
+/// # Errors
+///
+/// `Refused` exactly where the bytes leave the grammar of traces; `NoMemory` for want of memory.
+fn judged(alloc: Global, bytes: &[u8]) -> Result<(u32, Verdict), InputEnd>
+    requires { length bytes.now ≤ TRACE_LIMIT }
+    ensures verdict { IfOk result (λ judged. IsJudged bytes.now judged.0 judged.1) }
+    ensures end { IfErr result (IsEndOfTrace bytes.now) }
+{
+    let (job, journal) = read_trace(alloc, bytes)?;
     let events = journal.as_slice();
-    match check(alloc, &job.config, events) {
-        Ok(verdict) => Said::Judged {
-            events: events.len() as u32,
-            verdict,
-        },
-        Err(_) => Said::NoMemory,
+    Ok((events.len() as u32, check(alloc, &job.config, events)?))
+}
+
+/// What is said of so many events with this verdict, or of why no trace was judged.
+fn told(judged: Result<(u32, Verdict), InputEnd>) -> Said
+    ensures { result ≡ said_of judged }
+{
+    match judged {
+        Ok((events, verdict)) => Said::Judged { events, verdict },
+        Err(end) => Said::from(end),
     }
 }
 
