@@ -1,12 +1,14 @@
 -- The replicas of a run agree, and the replies are the store's over what they agree on.
-use Rattle.std.proofs.Common.{◌≡◌, ◌∙◌, ℕ, suc, zero, ◌+◌, ◌%◌, ◌<◌, ◌≤◌, ◌==◌, ◌&&◌, Bool, true, false, cond, List, [], ◌∷◌, ◌++◌, None, Some, ap, arith, drop, get_or, inl, inr, length, refl, subst, sym, take, ◌⊎◌}
+use Rattle.std.proofs.Common.{◌≡◌, ◌∙◌, ℕ, suc, zero, ◌+◌, ◌%◌, ◌<◌, ◌≤◌, ◌==◌, ◌&&◌, Bool, true, false, cond, List, [], ◌∷◌, ◌++◌, None, Some, ap, append-nil, arith, drop, get_or, inl, inr, length, refl, subst, sym, take, ◌⊎◌}
 use Rattle.std.specs.List.{slice_get}
 use Rattle.std.proofs.lemmas.Bool.{cases_eq, eqb-true}
-use Rattle.std.proofs.lemmas.List.{take-append-drop}
-use Rattle.std.proofs.lemmas.Option.{slice_get-get_or}
+use Rattle.std.proofs.lemmas.List.{length-append, take-append-drop}
+use Rattle.std.proofs.lemmas.Option.{slice_get-get_or, slice_get_within}
 use Rattle.kv_store.specs.Commands.{Request}
 use Rattle.kv_store.specs.Sessions.{CountsFrom, IsInSession, numbers_of}
 use Rattle.kv_store.proofs.InSession.{numbers_of-append}
+use Rattle.kv_store.proofs.Runs.{replies_from-append}
+use Rattle.kv_store.specs.Tables.{empty_table, replies, replies_from, store}
 use Rattle.mu_input.specs.Heads.{HaveHeads}
 use Rattle.mu_input.specs.declared.job.Job.{Job}
 use Rattle.mu_input.proofs.JobConfigs.{as_many, row_at}
@@ -29,8 +31,10 @@ use Rattle.mu_model.specs.Room.{reserve}
 use Rattle.std.proofs.lemmas.List.Elements.{All-from_get_or}
 use Rattle.mu_follow.proofs.Kept.{applied_is}
 use Rattle.mu_outcome.specs.declared.outcome.Outcome.{Outcome}
-use Rattle.mu_outcome.specs.Entries.{commands_in, commands_of}
-use Rattle.mu_outcome.specs.Outcomes.{Agrees, IsRun, IsWithinJob, journal_of, log_of, or_empty}
+use Rattle.mu_outcome.proofs.LongestLogs.{longest_is}
+use Rattle.mu_cluster.proofs.LogCommands.{commands_in-append}
+use Rattle.mu_outcome.specs.Entries.{commands_in, commands_of, longest}
+use Rattle.mu_outcome.specs.Outcomes.{Agrees, IsRun, IsWithinJob, journal_of, log_of, or_empty, replies_of}
 use Rattle.mu_outcome.specs.Runs.{IsRunOver}
 
 -- what is applied is known
@@ -133,6 +137,25 @@ in_session job values rest all good have begins whole client =
     let front = sym (session_append c client values rest) ∙ (both ∙ whole client) in
     subst (λ l. CountsFrom 1 l) (sym (session_same job client values good have)) (counts_front (session c client values) (session c client rest) (length (session c client all)) 1 front)
 
+-- a list that begins one no longer is that one
+same_begun : (xs ys : List ℕ) → IsPrefixOf xs ys → length ys ≤ length xs → ys ≡ xs
+same_begun xs ys begins few = go begins.0 begins.1
+  where
+    go : (rest : List ℕ) → ys ≡ xs ++ rest → ys ≡ xs
+    go [] is = is ∙ append-nil xs
+    go (z ∷ rest) is = let long = ap length is in let both = length-append xs (z ∷ rest) in absurd (omega (arith, long, both, few))
+
+empty_one : (xs : List ℕ) → length xs ≡ 0 → xs ≡ []
+empty_one [] none = refl
+empty_one (x ∷ xs) none = absurd (omega (arith, none))
+
+-- the replies over a log begin those over a longer one
+replies_begin : (job : Job) (xs ys : List ℕ) → IsPrefixOf xs ys → IsPrefixOf (replies (commands_in job xs)) (replies (commands_in job ys))
+replies_begin job xs ys begins = (
+    replies_from (store (commands_in job xs)) (commands_in job begins.0),
+    ap (λ l. replies (commands_in job l)) begins.1 ∙ ap replies (commands_in-append job xs begins.0) ∙ replies_from-append empty_table (commands_in job xs) (commands_in job begins.0),
+)
+
 -- the replicas agree, in whatever order they took their turns
 pub agrees_over : (o : Outcome) (events : List Event) → IsConfig o.job.config → HaveHeads o.job.config.width o.job.commands o.job.config.rows → IsRunOver events o → Agrees o
 agrees_over o events good have run = record {
@@ -149,6 +172,8 @@ agrees_over o events good have run = record {
       let found = has_value (log_of o s) i inside in
       found.1 ∙ ap (λ w. Some w) (known_agree c s r (history events) run.legal i found.0 v (known_at s i found.0 there found.1) knows);
   answered = run.replies;
+  told = told;
+  replied = replied;
 }
   where
     c : Config
@@ -165,6 +190,34 @@ agrees_over o events good have run = record {
 
     prefixes : (r s : ℕ) → r < o.job.config.replicas → s < o.job.config.replicas → IsPrefixOf (log_of o r) (log_of o s) ⊎ IsPrefixOf (log_of o s) (log_of o r)
     prefixes r s low there = lists_agree (log_of o r) (log_of o s) (λ i v w a b. known_agree o.job.config r s (history events) run.legal i v w (known_at r i v low a) (known_at s i w there b))
+
+    -- a log as long as the longest is that one
+    same_as_longest : (r : ℕ) → r < o.job.config.replicas → length (log_of o r) ≡ length (longest o.logs) → log_of o r ≡ longest o.logs
+    same_as_longest r low long = elim (longest_is o.logs) [
+      | inl none ↦ (let zero = ap length none in empty_one (log_of o r) (omega (arith, long, zero)) ∙ sym none)
+      | inr some ↦ (
+          let at = some.1 in
+          let count = run.counts.0 in
+          let within = slice_get_within o.logs some.0 (longest o.logs) at in
+          let is : log_of o some.0 ≡ longest o.logs = ap or_empty at in
+          let as_long = ap length is in
+          elim (prefixes r some.0 low (omega (arith, within, count))) [
+            | inl begins ↦ sym (same_begun (log_of o r) (log_of o some.0) begins (omega (arith, long, as_long))) ∙ is
+            | inr begins ↦ same_begun (log_of o some.0) (log_of o r) begins (omega (arith, long, as_long)) ∙ is
+          ])
+    ]
+
+    told : (r : ℕ) → r < o.job.config.replicas → length (log_of o r) ≡ length (longest o.logs) → o.replies ≡ replies_of o r
+    told r low long = run.replies ∙ ap (λ l. replies (commands_in o.job l)) (sym (same_as_longest r low long)) ∙ sym (run.own_replies r low)
+
+    replied : (r s : ℕ) → r < o.job.config.replicas → s < o.job.config.replicas → length (log_of o r) ≤ length (log_of o s) → IsPrefixOf (replies_of o r) (replies_of o s)
+    replied r s low there short =
+        let begins : IsPrefixOf (log_of o r) (log_of o s) = elim (prefixes r s low there) [
+          | inl begins ↦ begins
+          | inr begins ↦ ([], sym (append-nil (log_of o r) ∙ same_begun (log_of o s) (log_of o r) begins short))
+        ] in
+        let more = replies_begin o.job (log_of o r) (log_of o s) begins in
+        (more.0, run.own_replies s there ∙ more.1 ∙ ap (λ l. l ++ more.0) (sym (run.own_replies r low)))
 
 reserve_few : (t : Bool) (n : ℕ) → n ≤ 7 → cond t n 0 ≤ 7
 reserve_few true n few = few
@@ -192,7 +245,7 @@ within_over o events good have run =
 
 -- the list of a replay is such a list
 pub over_order : (o : Outcome) (run : IsRun o) → IsRunOver run.order.events o
-over_order o run = record { legal = run.legal; parts = run.parts; counts = run.counts; ended = run.ended; logs = run.logs; commits = run.commits; replies = run.replies }
+over_order o run = record { legal = run.legal; parts = run.parts; counts = run.counts; ended = run.ended; logs = run.logs; commits = run.commits; replies = run.replies; reply_count = run.reply_count; own_replies = run.own_replies }
 
 -- the replicas of a run agree
 pub agrees_of : (o : Outcome) → IsConfig o.job.config → HaveHeads o.job.config.width o.job.commands o.job.config.rows → IsRun o → Agrees o

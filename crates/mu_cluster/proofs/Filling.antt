@@ -9,8 +9,11 @@ use Rattle.std.proofs.lemmas.Option.{slice_get_within}
 use mathlib.Core.List.{reverse}
 use Rattle.kv_store.specs.Commands.{Request}
 use Rattle.kv_store.specs.Tables.{replies}
+use Rattle.kv_store.specs.declared.store.Reply.{Reply}
+use Rattle.kv_store.proofs.Runs.{length-replies}
 use Rattle.mu_follow.specs.Groups.{AreSpelled, groups_of}
-use Rattle.mu_outcome.proofs.LongestLogs.{longer, longer-nil, longer_assoc, nil-longer}
+use Rattle.mu_node.proofs.FewRows.{few_applied}
+use Rattle.mu_outcome.proofs.LongestLogs.{longest_is}
 use Rattle.mu_input.specs.declared.job.Job.{Job}
 use Rattle.mu_model.specs.declared.config.Config.{Config}
 use Rattle.mu_model.specs.declared.event.Event.{Event}
@@ -37,7 +40,7 @@ use Rattle.mu_cluster.specs.declared.lists.Lists.{Lists}
 use Rattle.mu_outcome.specs.declared.outcome.Outcome.{Outcome}
 use Rattle.mu_cluster.specs.declared.rounds.Seat.{Seat}
 use Rattle.mu_outcome.specs.Entries.{commands_in, commands_of, longest}
-use Rattle.mu_cluster.specs.Lists.{Adds, HasRoom, HoldsLists, Leaves}
+use Rattle.mu_cluster.specs.Lists.{Adds, AreOf, HasRoom, HoldsLists, Leaves}
 use Rattle.mu_cluster.specs.Paces.{AreDiligent}
 use Rattle.mu_outcome.specs.Outcomes.{IsRun, events_of, journal_of, or_empty}
 use Rattle.mu_outcome.specs.Runs.{IsRunOver}
@@ -49,24 +52,15 @@ end_told : (c : Config) (script : Script) (r : ℕ) (mine : List Event) (o : Opt
 end_told c script r mine None none ends = absurd (none ends.0 ends.1)
 end_told c script r mine (Some e) told ends = (e, (refl, told))
 
--- the longest with one more
-pub longest-push : (logs : List (List ℕ)) (log : List ℕ) → longest (logs ++ log ∷ []) ≡ longer (longest logs) log
-longest-push [] log = longer-nil log ∙ sym (nil-longer log)
-longest-push (first ∷ logs) log = ap (λ l. longer first l) (longest-push logs log) ∙ longer_assoc first (longest logs) log
-
 -- the commands of a job by its rows
 pub commands_grouped : (job : Job) (values : List ℕ) → groups_of job.config job.commands values ≡ commands_in job values
 commands_grouped job [] = refl
 commands_grouped job (v ∷ vs) = ap (λ l. commands_of job v ++ l) (commands_grouped job vs)
 
--- what is told of the longest log
-pub told_longest : (job : Job) (script : Script) (events : List Event) (n : ℕ) (lists : Lists) (logs : List (List ℕ)) → AreSpelled job.config job.commands → HoldsLists job.config script events n lists → logs ≡ lists.logs.items → lists.replies ≡ replies (commands_in job (longest logs))
-told_longest job script events n lists logs are held same = held.told job.commands are ∙ ap replies (commands_grouped job (longest lists.logs.items)) ∙ ap (λ l. replies (commands_in job (longest l))) (sym same)
-
 -- longer lists still hold it
-leaves_front : (c : Config) (script : Script) (r : ℕ) (mine : List Event) (js ks : List Record) (ls ms : List (List ℕ)) (cs ds : List (List Commit)) (es fs : List End)
-    → Leaves c script r mine js ls cs es → Leaves c script r mine (js ++ ks) (ls ++ ms) (cs ++ ds) (es ++ fs)
-leaves_front c script r mine js ks ls ms cs ds es fs was = record {
+leaves_front : (c : Config) (script : Script) (r : ℕ) (mine : List Event) (js ks : List Record) (ls ms : List (List ℕ)) (cs ds : List (List Commit)) (rs ts : List (List Reply)) (es fs : List End)
+    → Leaves c script r mine js ls cs rs es → Leaves c script r mine (js ++ ks) (ls ++ ms) (cs ++ ds) (rs ++ ts) (es ++ fs)
+leaves_front c script r mine js ks ls ms cs ds rs ts es fs was = record {
   journal = was.journal;
   journal_at = get_front js ks r was.journal was.journal_at;
   journal_is = was.journal_is;
@@ -74,6 +68,9 @@ leaves_front c script r mine js ks ls ms cs ds es fs was = record {
   made = was.made;
   made_at = get_front cs ds r was.made was.made_at;
   made_is = was.made_is;
+  told = was.told;
+  told_at = get_front rs ts r was.told was.told_at;
+  told_is = was.told_is;
   end = was.end;
   end_at = get_front es fs r was.end was.end_at;
   obeys = was.obeys;
@@ -81,15 +78,16 @@ leaves_front c script r mine js ks ls ms cs ds es fs was = record {
 }
 
 -- the same of lists that are equal to these
-leaves_in : (c : Config) (script : Script) (r : ℕ) (mine : List Event) (js ks : List Record) (ls ms : List (List ℕ)) (cs ds : List (List Commit)) (es fs : List End)
-    → ks ≡ js → ms ≡ ls → ds ≡ cs → fs ≡ es → Leaves c script r mine js ls cs es → Leaves c script r mine ks ms ds fs
-leaves_in c script r mine js ks ls ms cs ds es fs a b d e was =
-    subst (λ x. Leaves c script r mine ks ms ds x) (sym e) (subst (λ x. Leaves c script r mine ks ms x es) (sym d) (subst (λ x. Leaves c script r mine ks x cs es) (sym b) (subst (λ x. Leaves c script r mine x ls cs es) (sym a) was)))
+leaves_in : (c : Config) (script : Script) (r : ℕ) (mine : List Event) (js ks : List Record) (ls ms : List (List ℕ)) (cs ds : List (List Commit)) (rs ts : List (List Reply)) (es fs : List End)
+    → ks ≡ js → ms ≡ ls → ds ≡ cs → ts ≡ rs → fs ≡ es → Leaves c script r mine js ls cs rs es → Leaves c script r mine ks ms ds ts fs
+leaves_in c script r mine js ks ls ms cs ds rs ts es fs a b d t e was =
+    subst (λ x. Leaves c script r mine ks ms ds ts x) (sym e) (subst (λ x. Leaves c script r mine ks ms ds x es) (sym t)
+    (subst (λ x. Leaves c script r mine ks ms x rs es) (sym d) (subst (λ x. Leaves c script r mine ks x cs rs es) (sym b) (subst (λ x. Leaves c script r mine x ls cs rs es) (sym a) was))))
 
 -- one more replica
 pub held_left : (c : Config) (script : Script) (events : List Event) (n : ℕ) (old new : Lists) (result : NodeResult) → HoldsLists c script events n old → Adds old new result → EndsNowhereBefore c script n (part_of n events)
     → (end : End) × EndsBy c script n (part_of n events) end → IsResult c n (part_of n events) result → TellsEnd c script n (part_of n events) result.end → HoldsLists c script events (n + 1) new
-held_left c script events n old new result was adds before ends is told = record { room = room; each = each; best = longest_now; told = told_now }
+held_left c script events n old new result was adds before ends is told = record { room = room; each = each }
   where
     end : (e : End) × ((result.end ≡ Some e) × EndsBy c script n (part_of n events) e)
     end = end_told c script n (part_of n events) result.end told ends
@@ -102,10 +100,11 @@ held_left c script events n old new result was adds before ends is told = record
       journals = (ap length adds.journals.0 ∙ (length_push old.journals.items result.journal ∙ ap (λ m. m + 1) was.room.journals.0), (let a = was.room.journals.1 in let b = adds.journals.1 in omega (arith, a, b)));
       logs = (ap length adds.logs.0 ∙ (length_push old.logs.items result.log ∙ ap (λ m. m + 1) was.room.logs.0), (let a = was.room.logs.1 in let b = adds.logs.1 in omega (arith, a, b)));
       commits = (ap length adds.commits.0 ∙ (length_push old.commits.items result.commits ∙ ap (λ m. m + 1) was.room.commits.0), (let a = was.room.commits.1 in let b = adds.commits.1 in omega (arith, a, b)));
+      replies = (ap length adds.replies.0 ∙ (length_push old.replies.items result.replies ∙ ap (λ m. m + 1) was.room.replies.0), (let a = was.room.replies.1 in let b = adds.replies.1 in omega (arith, a, b)));
       ends = (ap length ends_are ∙ (length_push old.ends.items end.0 ∙ ap (λ m. m + 1) was.room.ends.0), (let a = was.room.ends.1 in let b = adds.ends.1 in omega (arith, a, b)));
     }
 
-    here : Leaves c script n (part_of n events) (old.journals.items ++ result.journal ∷ []) (old.logs.items ++ result.log ∷ []) (old.commits.items ++ result.commits ∷ []) (old.ends.items ++ end.0 ∷ [])
+    here : Leaves c script n (part_of n events) (old.journals.items ++ result.journal ∷ []) (old.logs.items ++ result.log ∷ []) (old.commits.items ++ result.commits ∷ []) (old.replies.items ++ result.replies ∷ []) (old.ends.items ++ end.0 ∷ [])
     here = record {
       journal = result.journal;
       journal_at = get_push_here old.journals.items n result.journal (sym was.room.journals.0);
@@ -114,46 +113,27 @@ held_left c script events n old new result was adds before ends is told = record
       made = result.commits;
       made_at = get_push_here old.commits.items n result.commits (sym was.room.commits.0);
       made_is = is.commits;
+      told = result.replies;
+      told_at = get_push_here old.replies.items n result.replies (sym was.room.replies.0);
+      told_is = is.replies;
       end = end.0;
       end_at = get_push_here old.ends.items n end.0 (sym was.room.ends.0);
       obeys = record { ends = end.1.1; first = λ newer older other same some there. before newer older other same some there };
       diligent = is.diligent;
     }
 
-    best : longest new.logs.items ≡ longer (longest old.logs.items) (applied c n (part_of n events))
-    best = ap longest adds.logs.0 ∙ longest-push old.logs.items result.log ∙ ap (λ l. longer (longest old.logs.items) l) is.log
-
-    test : nat_lt old.longest (length result.log) ≡ nat_lt (length (longest old.logs.items)) (length (applied c n (part_of n events)))
-    test = ap (λ m. nat_lt m (length result.log)) was.best ∙ ap (λ l. nat_lt (length (longest old.logs.items)) (length l)) is.log
-
-    longest_now : new.longest ≡ length (longest new.logs.items)
-    longest_now =
-        adds.longest ∙ ap (λ t. cond t (length result.log) old.longest) test ∙ go (nat_lt (length (longest old.logs.items)) (length (applied c n (part_of n events)))) ∙ sym (ap length best)
-      where
-        go : (t : Bool) → cond t (length result.log) old.longest ≡ length (cond t (applied c n (part_of n events)) (longest old.logs.items))
-        go true = ap length is.log
-        go false = was.best
-
-    told_now : (commands : List Request) → AreSpelled c commands → new.replies ≡ replies (groups_of c commands (longest new.logs.items))
-    told_now commands are =
-        adds.replies ∙ ap (λ t. cond t result.replies old.replies) test ∙ go (nat_lt (length (longest old.logs.items)) (length (applied c n (part_of n events)))) ∙ sym (ap (λ l. replies (groups_of c commands l)) best)
-      where
-        go : (t : Bool) → cond t result.replies old.replies ≡ replies (groups_of c commands (cond t (applied c n (part_of n events)) (longest old.logs.items)))
-        go true = is.replies commands are
-        go false = was.told commands are
-
-    both : (r : ℕ) → Leaves c script r (part_of r events) (old.journals.items ++ result.journal ∷ []) (old.logs.items ++ result.log ∷ []) (old.commits.items ++ result.commits ∷ []) (old.ends.items ++ end.0 ∷ [])
-        → Leaves c script r (part_of r events) new.journals.items new.logs.items new.commits.items new.ends.items
+    both : (r : ℕ) → Leaves c script r (part_of r events) (old.journals.items ++ result.journal ∷ []) (old.logs.items ++ result.log ∷ []) (old.commits.items ++ result.commits ∷ []) (old.replies.items ++ result.replies ∷ []) (old.ends.items ++ end.0 ∷ [])
+        → Leaves c script r (part_of r events) new.journals.items new.logs.items new.commits.items new.replies.items new.ends.items
     both r leaves =
-        leaves_in c script r (part_of r events) (old.journals.items ++ result.journal ∷ []) new.journals.items (old.logs.items ++ result.log ∷ []) new.logs.items (old.commits.items ++ result.commits ∷ []) new.commits.items (old.ends.items ++ end.0 ∷ []) new.ends.items
-        adds.journals.0 adds.logs.0 adds.commits.0 ends_are leaves
+        leaves_in c script r (part_of r events) (old.journals.items ++ result.journal ∷ []) new.journals.items (old.logs.items ++ result.log ∷ []) new.logs.items (old.commits.items ++ result.commits ∷ []) new.commits.items (old.replies.items ++ result.replies ∷ []) new.replies.items (old.ends.items ++ end.0 ∷ []) new.ends.items
+        adds.journals.0 adds.logs.0 adds.commits.0 adds.replies.0 ends_are leaves
 
-    each : (r : ℕ) → r < n + 1 → Leaves c script r (part_of r events) new.journals.items new.logs.items new.commits.items new.ends.items
+    each : (r : ℕ) → r < n + 1 → Leaves c script r (part_of r events) new.journals.items new.logs.items new.commits.items new.replies.items new.ends.items
     each r low = both r (elim (cases_lt r n) [
-      | inl below ↦ leaves_front c script r (part_of r events) old.journals.items (result.journal ∷ []) old.logs.items (result.log ∷ []) old.commits.items (result.commits ∷ []) old.ends.items (end.0 ∷ []) (was.each r below)
+      | inl below ↦ leaves_front c script r (part_of r events) old.journals.items (result.journal ∷ []) old.logs.items (result.log ∷ []) old.commits.items (result.commits ∷ []) old.replies.items (result.replies ∷ []) old.ends.items (end.0 ∷ []) (was.each r below)
       | inr above ↦
           let same : n ≡ r = omega (arith, low, above) in
-          subst (λ i. Leaves c script i (part_of i events) (old.journals.items ++ result.journal ∷ []) (old.logs.items ++ result.log ∷ []) (old.commits.items ++ result.commits ∷ []) (old.ends.items ++ end.0 ∷ [])) same here
+          subst (λ i. Leaves c script i (part_of i events) (old.journals.items ++ result.journal ∷ []) (old.logs.items ++ result.log ∷ []) (old.commits.items ++ result.commits ∷ []) (old.replies.items ++ result.replies ∷ []) (old.ends.items ++ end.0 ∷ [])) same here
     ])
 
 -- the same where the replica sits in rounds
@@ -176,20 +156,26 @@ index_of (y ∷ ys) zero x at = same_some y x at
 index_of (y ∷ ys) (suc i) x at = index_of ys i x at
 
 -- what a run leaves is what the definitions give of the parts of its list
-pub run_over : (o : Outcome) (events : List Event) (lists : Lists) → IsLegal o.job.config events → o.journals ≡ lists.journals.items → o.logs ≡ lists.logs.items → o.commits ≡ lists.commits.items → o.ends ≡ lists.ends.items
-    → HoldsLists o.job.config o.job.script events o.job.config.replicas lists → has (λ e. not (nat_lt e.by o.job.config.replicas)) (history events) ≡ false → o.replies ≡ replies (commands_in o.job (longest o.logs)) → IsRunOver events o
-run_over o events lists legal js ls cs es held whole answered = record {
+pub run_over : (o : Outcome) (events : List Event) (lists : Lists) → IsLegal o.job.config events → o.journals ≡ lists.journals.items → o.logs ≡ lists.logs.items → o.commits ≡ lists.commits.items → o.own_replies ≡ lists.replies.items → o.ends ≡ lists.ends.items
+    → HoldsLists o.job.config o.job.script events o.job.config.replicas lists → has (λ e. not (nat_lt e.by o.job.config.replicas)) (history events) ≡ false → AreSpelled o.job.config o.job.commands
+    → o.replies ≡ replies (commands_in o.job (longest lists.logs.items)) → IsRunOver events o
+run_over o events lists legal js ls cs rs es held whole are answered = record {
   legal = legal;
   parts = record { count = count; each = λ r low. part_at r low; whole = whole };
   counts = (ap length ls ∙ held.room.logs.0, ap length cs ∙ held.room.commits.0, ap length es ∙ held.room.ends.0);
   ended = λ r low. let l = left r low in (l.end, l.end_at, subst (λ h. Obeys o.job.config o.job.script r h l.end) (sym (own r low)) l.obeys);
   logs = λ r low. let l = left r low in ap or_empty l.log_at ∙ ap (applied o.job.config r) (sym (own r low));
   commits = λ r low. let l = left r low in ap or_empty (get_map (map pair_of) o.commits r l.made l.made_at) ∙ (l.made_is ∙ ap (commits o.job.config r) (sym (own r low)));
-  replies = answered;
+  replies = answered ∙ ap (λ l. replies (commands_in o.job (longest l))) (sym ls);
+  reply_count = ap length rs ∙ held.room.replies.0;
+  own_replies = λ r low.
+      let l = left r low in
+      let log = applied o.job.config r (part_of r events) in
+      ap or_empty l.told_at ∙ (l.told_is o.job.commands are ∙ ap replies (commands_grouped o.job log)) ∙ ap (λ x. replies (commands_in o.job (or_empty x))) (sym l.log_at);
 }
   where
-    left : (r : ℕ) → r < o.job.config.replicas → Leaves o.job.config o.job.script r (part_of r events) o.journals o.logs o.commits o.ends
-    left r low = leaves_in o.job.config o.job.script r (part_of r events) lists.journals.items o.journals lists.logs.items o.logs lists.commits.items o.commits lists.ends.items o.ends js ls cs es (held.each r low)
+    left : (r : ℕ) → r < o.job.config.replicas → Leaves o.job.config o.job.script r (part_of r events) o.journals o.logs o.commits o.own_replies o.ends
+    left r low = leaves_in o.job.config o.job.script r (part_of r events) lists.journals.items o.journals lists.logs.items o.logs lists.commits.items o.commits lists.replies.items o.own_replies lists.ends.items o.ends js ls cs rs es (held.each r low)
 
     own : (r : ℕ) → r < o.job.config.replicas → history (journal_of o r) ≡ part_of r events
     own r low = let l = left r low in ap (λ x. history (or_empty x)) (get_map events_of o.journals r l.journal l.journal_at) ∙ l.journal_is
@@ -210,9 +196,9 @@ diligent_of o events lists js held r low =
 
 -- what a replay leaves is a run of its job
 pub run_of : (o : Outcome) (order : Record) (lists : Lists) (seats : List Seat) (rounds : ℕ) → o.order ≡ Some order → IsLegal o.job.config order.events → o.journals ≡ lists.journals.items → o.logs ≡ lists.logs.items
-    → o.commits ≡ lists.commits.items → o.ends ≡ lists.ends.items → HoldsLists o.job.config o.job.script order.events o.job.config.replicas lists
-    → Played o.job.config o.job.script order.events seats rounds 0 → ((r : ℕ) (seat : Seat) → slice_get seats r ≡ Some seat → seat.ended ≡ true) → o.replies ≡ replies (commands_in o.job (longest o.logs)) → IsRun o
-run_of o order lists seats rounds given legal js ls cs es held played ended answered = record {
+    → o.commits ≡ lists.commits.items → o.own_replies ≡ lists.replies.items → o.ends ≡ lists.ends.items → HoldsLists o.job.config o.job.script order.events o.job.config.replicas lists
+    → Played o.job.config o.job.script order.events seats rounds 0 → ((r : ℕ) (seat : Seat) → slice_get seats r ≡ Some seat → seat.ended ≡ true) → AreSpelled o.job.config o.job.commands → o.replies ≡ replies (commands_in o.job (longest lists.logs.items)) → IsRun o
+run_of o order lists seats rounds given legal js ls cs rs es held played ended are answered = record {
   order = order;
   given = given;
   legal = legal;
@@ -226,11 +212,13 @@ run_of o order lists seats rounds given legal js ls cs es held played ended answ
   ended = over.ended;
   logs = over.logs;
   commits = over.commits;
-  replies = answered;
+  replies = over.replies;
+  reply_count = over.reply_count;
+  own_replies = over.own_replies;
 }
   where
     over : IsRunOver order.events o
-    over = run_over o order.events lists legal js ls cs es held played.own answered
+    over = run_over o order.events lists legal js ls cs rs es held played.own are answered
 
     lengths : List ℕ
     lengths = map (λ journal. length (events_of journal)) o.journals
@@ -240,7 +228,7 @@ run_of o order lists seats rounds given legal js ls cs es held played ended answ
 
     long : (r : ℕ) → r < o.job.config.replicas → slice_index lengths r ≡ length (part_of r order.events)
     long r low =
-        let l = leaves_in o.job.config o.job.script r (part_of r order.events) lists.journals.items o.journals lists.logs.items o.logs lists.commits.items o.commits lists.ends.items o.ends js ls cs es (held.each r low) in
+        let l = leaves_in o.job.config o.job.script r (part_of r order.events) lists.journals.items o.journals lists.logs.items o.logs lists.commits.items o.commits lists.replies.items o.own_replies lists.ends.items o.ends js ls cs rs es (held.each r low) in
         index_of lengths r (length l.journal.events) (get_map (λ journal. length (events_of journal)) o.journals r l.journal l.journal_at) ∙ (sym (length-reverse l.journal.events) ∙ ap length l.journal_is)
 
     may : MayTake order.events seats lengths
@@ -261,31 +249,47 @@ run_of o order lists seats rounds given legal js ls cs es held played ended answ
         let is = long r (omega (arith, low, many)) in
         (sits.keeps (slice_index lengths r) (omega (arith, is)) (λ _. is)).0 ∙ sym is
 
--- no log is longer than there are positions
-pub logs_within : (c : Config) (script : Script) (events : List Event) (lists : Lists) → IsLegal c events → HoldsLists c script events c.replicas lists
-    → (r : ℕ) (log : List ℕ) → slice_get lists.logs.items r ≡ Some log → length log ≤ row_count c + reserve c + 1
-logs_within c script events lists legal held r log at =
+-- each replica's replies are those over the commands of its log
+pub replies_are : (job : Job) (script : Script) (events : List Event) (lists : Lists) → AreSpelled job.config job.commands → HoldsLists job.config script events job.config.replicas lists → AreOf (λ log. replies (commands_in job log)) lists
+replies_are job script events lists are held r log at =
     let low = slice_get_within lists.logs.items r log at in
     let count = held.room.logs.0 in
-    let leaves = held.each r (omega (arith, low, count)) in
-    let is = ap length (same_some log (applied c r (part_of r events)) (sym at ∙ leaves.log_at)) in
-    let fits = front_fits (λ v. has_entry c r v (part_of r events)) (known c r (part_of r events)) in
-    let within = known_within c r (part_of r events) (part_is_possible c r (history events) legal) in
-    omega (arith, is, fits, within)
+    let l = held.each r (omega (arith, low, count)) in
+    let mine = applied job.config r (part_of r events) in
+    let same : mine ≡ log = same_some mine log (sym l.log_at ∙ at) in
+    l.told_at ∙ ap (λ x. Some x) (l.told_is job.commands are ∙ ap replies (commands_grouped job mine) ∙ ap (λ x. replies (commands_in job x)) same)
 
-few_of : (job : Job) (v : ℕ) → IsConfig job.config → length (commands_of job v) ≤ 4
-few_of job v good = go (is_batch job.config v) refl
-  where
-    go : (t : Bool) → is_batch job.config v ≡ t → length (cond t (take (rest_of job.config (v % 4096) + 1) (drop (v % 4096) job.commands)) []) ≤ 4
-    go true batch =
-        let low = (batch_there job.config v good batch).1 in
-        let few = good.rests (v % 4096) (omega (arith, low)) in
-        let wide = good.widths in
-        let long = length-take (rest_of job.config (v % 4096) + 1) (drop (v % 4096) job.commands) in
-        omega (arith, few, wide, long)
-    go false batch = omega arith
+-- the longest log is that of a replica, or there is nothing in any: it tells no more commands than there are rows
+few_longest : (job : Job) (script : Script) (events : List Event) (lists : Lists) → IsConfig job.config → IsLegal job.config events → HoldsLists job.config script events job.config.replicas lists
+    → length (commands_in job (longest lists.logs.items)) ≤ row_count job.config
+few_longest job script events lists good legal held = elim (longest_is lists.logs.items) [
+  | inl none ↦ (let few = ap (λ l. length (commands_in job l)) none in omega (arith, few))
+  | inr some ↦ (
+      let r = some.0 in
+      let count = held.room.logs.0 in
+      let low = slice_get_within lists.logs.items r (longest lists.logs.items) some.1 in
+      let l = held.each r (omega (arith, low, count)) in
+      let mine = part_of r events in
+      let is = same_some (applied job.config r mine) (longest lists.logs.items) (sym l.log_at ∙ some.1) in
+      let told = ap length (commands_grouped job (applied job.config r mine)) in
+      let same = ap (λ x. length (commands_in job x)) is in
+      let few = few_applied job.config r mine job.commands good (part_is_possible job.config r (history events) legal) in
+      omega (arith, told, same, few))
+]
 
--- an entry has at most four commands
-pub few_commands_in : (job : Job) (values : List ℕ) → IsConfig job.config → length (commands_in job values) ≤ 4 * length values
-few_commands_in job [] good = omega arith
-few_commands_in job (v ∷ vs) good = let rest = few_commands_in job vs good in let few = few_of job v good in let both = length-append (commands_of job v) (commands_in job vs) in omega (arith, rest, few, both)
+-- there are few replies to the longest log
+pub few_replies : (job : Job) (script : Script) (events : List Event) (lists : Lists) → IsConfig job.config → IsLegal job.config events → HoldsLists job.config script events job.config.replicas lists
+    → length (replies (commands_in job (longest lists.logs.items))) ≤ row_count job.config
+few_replies job script events lists good legal held =
+    let few = few_longest job script events lists good legal held in
+    let each = length-replies (commands_in job (longest lists.logs.items)) in
+    omega (arith, few, each)
+
+-- what is printed are the replies over the longest log
+pub printed_is : (job : Job) (script : Script) (events : List Event) (lists : Lists) (told : List Reply) (empty : Type 0) (room : ℕ) → IsConfig job.config → IsLegal job.config events → AreSpelled job.config job.commands
+    → HoldsLists job.config script events job.config.replicas lists → empty → row_count job.config ≤ room
+    → ((f : List ℕ → List Reply) → f [] ≡ [] → AreOf f lists → empty → length (f (longest lists.logs.items)) ≤ room → told ≡ f (longest lists.logs.items))
+    → told ≡ replies (commands_in job (longest lists.logs.items))
+printed_is job script events lists told empty room good legal are held is_empty wide is =
+    let few = few_replies job script events lists good legal held in
+    is (λ log. replies (commands_in job log)) refl (replies_are job script events lists are held) is_empty (omega (arith, few, wide))

@@ -13,6 +13,7 @@ pub mod Onward
 pub mod Outrunning
 pub mod Ports
 pub mod Rounding
+pub mod RowsMade
 pub mod Seats
 pub mod Trusting
 pub mod Turned

@@ -1,24 +1,12 @@
 -- The commands of a log, entry by entry.
 use Rattle.std.proofs.Common.{◌≡◌, ℕ, suc, ◌+◌, ◌<◌, List, [], ◌∷◌, ◌++◌, length, drop, get_or, refl, sym, ap, ◌∙◌, arith, append_assoc}
 use Rattle.std.proofs.Math.Seq.{drop-cons}
-use Rattle.kv_store.specs.Commands.{Request}
-use Rattle.kv_store.specs.Tables.{Table, replies_from, store_from}
-use Rattle.kv_store.proofs.Runs.{replies_from-append}
-use Rattle.kv_store.specs.declared.store.Reply.{Reply}
 use Rattle.mu_input.specs.declared.job.Job.{Job}
 use Rattle.mu_outcome.specs.Entries.{commands_of, commands_in}
 
 -- the commands from an entry on are its own and those from the next one on
 pub commands_in-drop : (job : Job) (values : List ℕ) (i : ℕ) → i < length values → commands_in job (drop i values) ≡ commands_of job (get_or values i 0) ++ commands_in job (drop (i + 1) values)
 commands_in-drop job values i low = ap (commands_in job) (drop-cons values i 0 low) ∙ (let one : suc i ≡ i + 1 = omega arith in ap (λ n. commands_of job (get_or values i 0) ++ commands_in job (drop n values)) one)
-
--- replies told so far, those of an entry, and those of the rest
-pub told_more : (told own : List Reply) (table next : Table) (mine rest all : List Request) → own ≡ told ++ replies_from table mine → next ≡ store_from table mine → all ≡ mine ++ rest
-    → own ++ replies_from next rest ≡ told ++ replies_from table all
-told_more told own table next mine rest all is_own is_next is_all =
-    ap (λ xs. xs ++ replies_from next rest) is_own ∙ append_assoc told (replies_from table mine) (replies_from next rest)
-    ∙ ap (λ t. told ++ (replies_from table mine ++ replies_from t rest)) is_next
-    ∙ ap (λ xs. told ++ xs) (sym (replies_from-append table mine rest)) ∙ ap (λ xs. told ++ replies_from table xs) (sym is_all)
 
 -- the commands of two stretches of a log
 pub commands_in-append : (job : Job) (xs ys : List ℕ) → commands_in job (xs ++ ys) ≡ commands_in job xs ++ commands_in job ys

@@ -5,12 +5,12 @@ ghost use Rattle.mu_model.specs.Contents.{IsConfig};
 ghost use Rattle.mu_model.specs.Legal.{IsLegal};
 ghost use Rattle.mu_model.specs.Parts.{HasParts};
 ghost use Rattle.mu_cluster.specs.Branches.{AreLeft};
-ghost use Rattle.mu_cluster.specs.Lists.{HasRoom, HoldsLists, IsFresh, IsOutcomeRoom};
+ghost use Rattle.mu_cluster.specs.Lists.{HasRoom, HoldsLists, IsOutcomeRoom};
 ghost use Rattle.mu_follow.specs.Groups.{AreSpelled};
 ghost use Rattle.mu_cluster.specs.Paces.{AreDiligent};
 ghost use Rattle.mu_outcome.specs.Runs.{IsThreadRun};
 
-use crate::lists::{Lists, OutcomeRoom};
+use crate::lists::{Lists, OutcomeRoom, printed};
 use mu_input::Job;
 use mu_model::Sequence;
 use mu_node::Node;
@@ -33,21 +33,26 @@ pub(crate) fn gathered_outcome(
     ensures run { IsThreadRun result }
     ensures diligent { AreDiligent result }
 {
-    let OutcomeRoom { lists } = room;
+    let OutcomeRoom {
+        lists,
+        printed: room,
+    } = room;
+    let lists = left_by(lists, &job, gathered.parts(), nodes);
+    let printed = printed(room, &lists);
     let Lists {
         journals,
         logs,
         commits,
-        ends,
-        longest: _,
         replies,
-    } = left_by(lists, &job, gathered.parts(), nodes);
+        ends,
+    } = lists;
     Outcome {
         job,
         journals: Sequence::from_vec(journals),
         logs: Sequence::from_vec(logs),
         commits: Sequence::from_vec(commits),
-        replies,
+        replies: printed,
+        own_replies: Sequence::from_vec(replies),
         ends: Sequence::from_vec(ends),
         order: None,
         gathered: Some(gathered),
@@ -58,7 +63,6 @@ pub(crate) fn gathered_outcome(
 fn left_by(mut lists: Lists, _job: &Job, _parts: &Parts, nodes: Vec<Node>) -> Lists
     requires good { IsConfig _job.now.config }
     requires room { HasRoom _job.now.config.replicas 0 lists }
-    requires fresh { IsFresh lists }
     requires list { (events : List Event)
         × (IsLegal _job.now.config events
         × HasParts _job.now.config events (map (λ j. j.events) _parts.now)) }

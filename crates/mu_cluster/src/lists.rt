@@ -1,6 +1,7 @@
 //! The lists of an outcome, in memory that is taken before the first step and filled after the last
 //! one.
-ghost use Rattle.std.specs.Prelude.{IfOk, if◌then◌else◌, List, Some, [], length, nat_lt, slice_get, true, vec_capacity, ℕ, ◌++◌, ◌+◌, ◌<◌, ◌∷◌, ◌≡◌, ◌≤◌};
+ghost use Rattle.std.specs.Prelude.{IfOk, List, Some, [], length, slice_get, true, vec_capacity, ℕ, ◌++◌, ◌+◌, ◌<◌, ◌∷◌, ◌≡◌, ◌≤◌};
+ghost use Rattle.kv_store.specs.declared.store.Reply.{Reply as SomeReply};
 ghost use Rattle.mu_model.specs.declared.script.End.{End as SomeEnd};
 ghost use Rattle.mu_model.specs.Contents.{IsConfig};
 ghost use Rattle.mu_model.specs.Legal.{IsLegal};
@@ -8,18 +9,20 @@ ghost use Rattle.mu_cluster.specs.declared.rounds.Seat.{Seat as SomeSeat};
 ghost use Rattle.mu_cluster.specs.Leading.{LeadOnUnpaused};
 ghost use Rattle.mu_cluster.specs.Living.{AppliesAllUnpaused};
 ghost use Rattle.mu_cluster.specs.Naming.{NamesFirstUnpaused, NoneOutrunUnpaused};
-ghost use Rattle.mu_cluster.specs.Lists.{Adds, HasRoom, HoldsLists, IsFresh, IsOutcomeRoom};
+ghost use Rattle.mu_cluster.specs.Lists.{Adds, AreOf, HasRoom, HoldsLists, IsOutcomeRoom};
 ghost use Rattle.mu_follow.specs.Groups.{AreSpelled};
 ghost use Rattle.mu_cluster.specs.Paces.{AreDiligent};
+ghost use Rattle.mu_outcome.specs.Entries.{longest};
 ghost use Rattle.mu_outcome.specs.Outcomes.{IsRun};
 ghost use Rattle.mu_cluster.specs.Rounds.{Played};
 
 use crate::rounds::Seat;
+use kv_store::Reply;
 use mu_input::Job;
 use mu_known::{Commits, Log};
 use mu_model::{Config, End, Event, Journal, NoMemory, Sequence};
-use mu_node::{NodeResult, Replies};
-use mu_outcome::Outcome;
+use mu_node::NodeResult;
+use mu_outcome::{Outcome, Replies};
 use std::alloc::Global;
 
 /// What the replicas left so far.
@@ -28,17 +31,16 @@ pub(crate) struct Lists {
     pub(crate) journals: Vec<Journal>,
     pub(crate) logs: Vec<Log>,
     pub(crate) commits: Vec<Commits>,
+    pub(crate) replies: Vec<Replies>,
     pub(crate) ends: Vec<End>,
-    /// How long the longest log is.
-    pub(crate) longest: usize,
-    /// What its replica replied, the first at a tie.
-    pub(crate) replies: Replies,
 }
 
 /// The memory of an outcome.
 #[derive(Drop)]
 pub(crate) struct OutcomeRoom {
     pub(crate) lists: Lists,
+    /// Room for a copy of the replies over the longest log.
+    pub(crate) printed: Vec<Reply>,
 }
 
 /// Adds the end, where there is one.
@@ -52,31 +54,39 @@ fn add_end(ends: &mut Vec<End>, end: Option<End>)
     }
 }
 
-/// Keeps what the replica with the longer log replied, the first at a tie.
-fn keep_longer(longest: &mut usize, kept: &mut Replies, long: usize, replies: Replies)
-    ensures longest { longest.new
-        ≡ (if nat_lt longest.old long then long else longest.old) }
-    ensures replies { kept.new ≡ (if nat_lt longest.old long then replies else kept.old) }
+/// Adds the replies, where there is room, as there is for all.
+fn fill_replies(list: &mut Vec<Reply>, replies: &[Reply])
+    ensures { list.old.items ≡ [] → length replies.now ≤ vec_capacity list.old
+        → list.new.items ≡ replies.now }
 {
-    if *longest < long {
-        *longest = long;
-        *kept = replies;
+    for reply in replies {
+        if list.len() < list.capacity() {
+            list.push_reserved(*reply);
+        }
     }
+}
+
+/// A copy of the replies over the longest log, the first at a tie. Takes no memory.
+pub(crate) fn printed(mut room: Vec<Reply>, lists: &Lists) -> Replies
+    ensures { (f : List ℕ → List SomeReply) → f [] ≡ [] → AreOf f lists.now → room.items ≡ []
+        → length (f (longest lists.now.logs.items)) ≤ vec_capacity room
+        → result ≡ f (longest lists.now.logs.items) }
+{
+    fill_replies(&mut room, lists.longest_replies());
+    Sequence::from_vec(room)
 }
 
 impl Lists {
     /// Empty lists with room for so many replicas.
     fn with_room(alloc: Global, replicas: usize) -> Result<Lists, NoMemory>
-        ensures room { IfOk result (λ lists. HasRoom replicas 0 lists) }
-        ensures fresh { IfOk result IsFresh }
+        ensures { IfOk result (λ lists. HasRoom replicas 0 lists) }
     {
         Ok(Lists {
             journals: Vec::with_capacity(alloc, replicas)?,
             logs: Vec::with_capacity(alloc, replicas)?,
             commits: Vec::with_capacity(alloc, replicas)?,
+            replies: Vec::with_capacity(alloc, replicas)?,
             ends: Vec::with_capacity(alloc, replicas)?,
-            longest: 0,
-            replies: Sequence::from_vec(Vec::with_capacity(alloc, 0)?),
         })
     }
 
@@ -92,12 +102,38 @@ impl Lists {
             replies,
             end,
         } = left;
-        let long = log.len();
         self.journals.push_reserved(journal);
         self.logs.push_reserved(log);
         self.commits.push_reserved(commits);
+        self.replies.push_reserved(replies);
         add_end(&mut self.ends, end);
-        keep_longer(&mut self.longest, &mut self.replies, long, replies);
+    }
+
+    /// What the replica replied.
+    fn replies_of(&self, r: usize) -> &[Reply]
+        ensures { (replies : List SomeReply) → slice_get self.now.replies.items r ≡ Some replies
+            → result.now ≡ replies }
+    {
+        match self.replies.get(r) {
+            Some(replies) => replies.as_slice(),
+            None => &[],
+        }
+    }
+
+    /// What the replica with the longest log replied, the first at a tie.
+    fn longest_replies(&self) -> &[Reply]
+        ensures { (f : List ℕ → List SomeReply) → f [] ≡ [] → AreOf f self.now
+            → result.now ≡ f (longest self.now.logs.items) }
+    {
+        let mut best: &[u16] = &[];
+        let mut replies: &[Reply] = &[];
+        for (r, log) in self.logs.iter().enumerate() {
+            if log.len() > best.len() {
+                best = log.as_slice();
+                replies = self.replies_of(r);
+            }
+        }
+        replies
     }
 }
 
@@ -109,6 +145,7 @@ impl OutcomeRoom {
     {
         Ok(OutcomeRoom {
             lists: Lists::with_room(alloc, usize::from(config.replicas))?,
+            printed: Vec::with_capacity(alloc, config.rows.len())?,
         })
     }
 
@@ -130,21 +167,26 @@ impl OutcomeRoom {
         ensures applies { AppliesAllUnpaused result }
         ensures leads { LeadOnUnpaused result }
     {
-        let OutcomeRoom { lists } = self;
+        let OutcomeRoom {
+            lists,
+            printed: room,
+        } = self;
+        let lists = filled(lists, &job, order.as_slice(), seats);
+        let printed = printed(room, &lists);
         let Lists {
             journals,
             logs,
             commits,
-            ends,
-            longest: _,
             replies,
-        } = filled(lists, &job, order.as_slice(), seats);
+            ends,
+        } = lists;
         Outcome {
             job,
             journals: Sequence::from_vec(journals),
             logs: Sequence::from_vec(logs),
             commits: Sequence::from_vec(commits),
-            replies,
+            replies: printed,
+            own_replies: Sequence::from_vec(replies),
             ends: Sequence::from_vec(ends),
             order: Some(order),
             gathered: None,
@@ -157,7 +199,6 @@ fn filled(mut lists: Lists, _job: &Job, _events: &[Event], seats: Vec<Seat>) -> 
     requires good { IsConfig _job.now.config }
     requires legal { IsLegal _job.now.config _events.now }
     requires room { HasRoom _job.now.config.replicas 0 lists }
-    requires fresh { IsFresh lists }
     requires played { (rounds : ℕ)
         × Played _job.now.config _job.now.script _events.now seats.items rounds 0 }
     requires ended { (r : ℕ) → (seat : SomeSeat) → slice_get seats.items r ≡ Some seat

@@ -2,6 +2,7 @@
 use Rattle.std.specs.Prelude.{ℕ, ◌+◌, ◌≡◌, ◌<◌, ◌≤◌, ◌⊎◌, ◌==◌, if◌then◌else◌, List, [], length, slice_get, map, Some, None, All}
 use Rattle.std.specs.declared.option.Option.{Option}
 use Rattle.kv_store.specs.Tables.{replies}
+use Rattle.kv_store.specs.declared.store.Reply.{Reply}
 use Rattle.kv_store.specs.Sessions.{IsInSession}
 use Rattle.mu_model.specs.declared.event.Event.{Event}
 use Rattle.mu_model.specs.declared.script.End.{End}
@@ -40,6 +41,10 @@ log_of o r = or_empty (slice_get o.logs r)
 abbrev pub commits_of : Outcome → ℕ → List (ℕ × ℕ)
 commits_of o r = or_empty (slice_get (map (map pair_of) o.commits) r)
 
+-- what replica r replied
+abbrev pub replies_of : Outcome → ℕ → List Reply
+replies_of o r = or_empty (slice_get o.own_replies r)
+
 -- the agreement of the replicas, and the replies over what they agreed on
 pub record Agrees (o : Outcome) : Type 0 where
   -- of any two logs one is a prefix of the other
@@ -59,10 +64,19 @@ pub record Agrees (o : Outcome) : Type 0 where
       → slice_get (log_of o s) i ≡ Some v
   -- the replies are those of the store over the commands of the longest log
   pub answered : o.replies ≡ replies (commands_in o.job (longest o.logs))
+  -- and each replica replied so whose log is as long
+  pub told :
+      (r : ℕ) → r < o.job.config.replicas → length (log_of o r) ≡ length (longest o.logs)
+      → o.replies ≡ replies_of o r
+  -- of two replicas the replies of the one with the shorter log begin those of the other
+  pub replied :
+      (r s : ℕ) → r < o.job.config.replicas → s < o.job.config.replicas
+      → length (log_of o r) ≤ length (log_of o s) → IsPrefixOf (replies_of o r) (replies_of o s)
 
 -- the outcome is a run of its job: one legal list of events has the journals as its parts, in the
 -- order of turns; each journal has its end there and not before; the logs, commits and ends are
--- those that the definitions give of the journals
+-- those that the definitions give of the journals; each replica's replies are those of the store
+-- over the commands of its log, and what is told are those of the longest
 pub record IsRun (o : Outcome) : Type 0 where
   pub order : Record
   pub given : o.order ≡ Some order
@@ -84,6 +98,10 @@ pub record IsRun (o : Outcome) : Type 0 where
   pub commits :
       (r : ℕ) → r < o.job.config.replicas
       → commits_of o r ≡ commits o.job.config r (history (journal_of o r))
+  pub reply_count : length o.own_replies ≡ o.job.config.replicas
+  pub own_replies :
+      (r : ℕ) → r < o.job.config.replicas
+      → replies_of o r ≡ replies (commands_in o.job (log_of o r))
   pub replies : o.replies ≡ replies (commands_in o.job (longest o.logs))
 
 -- the job has few commands, and no log is longer than its positions

@@ -12,10 +12,11 @@ use Rattle.mu_model.specs.Parts.{HasParts}
 use Rattle.shared_fabric.specs.Gathering.{Collected}
 use Rattle.mu_outcome.specs.declared.outcome.Outcome.{Outcome}
 use Rattle.mu_outcome.specs.Entries.{commands_in, longest}
-use Rattle.mu_outcome.specs.Outcomes.{commits_of, events_of, journal_of, log_of}
+use Rattle.mu_outcome.specs.Outcomes.{commits_of, events_of, journal_of, log_of, replies_of}
 
 -- the list is legal and has the journals as its parts; each journal has its end there and not
--- before; the logs, commits, ends and replies are those that the definitions give of the journals
+-- before; the logs, commits, ends and replies are those that the definitions give of the journals,
+-- each replica's replies those over its own log
 pub record IsRunOver (events : List Event) (o : Outcome) : Type 0 where
   pub legal : IsLegal o.job.config events
   pub parts : HasParts o.job.config events (map events_of o.journals)
@@ -32,6 +33,10 @@ pub record IsRunOver (events : List Event) (o : Outcome) : Type 0 where
   pub commits :
       (r : ℕ) → r < o.job.config.replicas
       → commits_of o r ≡ commits o.job.config r (history (journal_of o r))
+  pub reply_count : length o.own_replies ≡ o.job.config.replicas
+  pub own_replies :
+      (r : ℕ) → r < o.job.config.replicas
+      → replies_of o r ≡ replies (commands_in o.job (log_of o r))
   pub replies : o.replies ≡ replies (commands_in o.job (longest o.logs))
 
 -- the outcome is a run of its job by threads: no order is given, the parts that were gathered are

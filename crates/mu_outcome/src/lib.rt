@@ -11,6 +11,6 @@ mod verdict;
 pub use entries::commands_of;
 pub use logs::longest;
 pub use mu_known::{Commit, Commits, Log};
-pub use outcome::{AllCommits, Ends, Journals, Logs, Outcome, Replies};
+pub use outcome::{AllCommits, AllReplies, Ends, Journals, Logs, Outcome, Replies};
 pub use status::Status;
 pub use verdict::{Verdict, Wrong, at_most_one_verdict};

@@ -14,8 +14,11 @@ pub type Journals = Sequence<Journal>;
 /// What each replica committed.
 pub type AllCommits = Sequence<Commits>;
 
-/// The replies of the store to the commands of the longest log, in order.
+/// The replies of a store to the commands of a log, in order.
 pub type Replies = Sequence<Reply>;
+
+/// What each replica replied.
+pub type AllReplies = Sequence<Replies>;
 
 /// How each replica ended.
 pub type Ends = Sequence<End>;
@@ -33,6 +36,8 @@ pub struct Outcome {
     pub commits: AllCommits,
     /// The replies over the longest log, that of the least id at a tie.
     pub replies: Replies,
+    /// What each replica's own store replied over its log.
+    pub own_replies: AllReplies,
     /// How each replica ended.
     pub ends: Ends,
     /// All events in their order, where the run took turns on one thread.

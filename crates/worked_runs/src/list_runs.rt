@@ -2,10 +2,10 @@
 ghost use Rattle.mu_report.specs.Said.{IsShort};
 
 use crate::printing::text_of;
-use crate::replays::SAID;
+use crate::replays::{SAID, read_job};
 use list_fabric::ListFabric;
-use mu_cluster::replay_over;
-use mu_input::{InputEnd, read};
+use mu_cluster::{replay_over, rows_spell_commands};
+use mu_input::InputEnd;
 use mu_report::Said;
 use std::alloc::Global;
 use std::test::Fail;
@@ -14,7 +14,7 @@ use std::test::Fail;
 fn said_over_lists(alloc: Global, text: &str) -> Said
     ensures { IsShort result }
 {
-    let job = match read(alloc, text.as_bytes()) {
+    let job = match read_job(alloc, text) {
         Ok(job) => job,
         Err(InputEnd::Refused { line, cause }) => return Said::Refused { line, cause },
         Err(InputEnd::NoMemory) => return Said::NoMemory,
@@ -23,6 +23,7 @@ fn said_over_lists(alloc: Global, text: &str) -> Said
         Ok(memory) => memory,
         Err(_) => return Said::NoMemory,
     };
+    rows_spell_commands(&job);
     match replay_over(alloc, job, memory) {
         Ok(outcome) => Said::Ran(outcome),
         Err(_) => Said::NoMemory,

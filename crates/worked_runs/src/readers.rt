@@ -4,7 +4,7 @@ ghost use Rattle.snap_reads.specs.Lives.{told_commands};
 
 use crate::replays::{TWO_CLIENTS, job_of};
 use kv_store::{Command, Key, Op, Text};
-use mu_cluster::{Gate, OpenGate, Outcome, replay};
+use mu_cluster::{Gate, OpenGate, Outcome, replay, rows_spell_commands};
 use snap_reads::{Lived, Sight, live, start};
 use std::alloc::Global;
 use std::sync::atomic::{AtomicU64, Ordering};
@@ -93,6 +93,7 @@ fn replayed(alloc: Global, text: &str) -> Result<Outcome, Fail>
     ensures { IfOk result (λ outcome. length (told_commands outcome) ≤ 1500) }
 {
     let job = job_of(alloc, text)?;
+    rows_spell_commands(&job);
     let outcome = replay(alloc, job)?;
     Ok(outcome)
 }

@@ -1,12 +1,14 @@
 //! Whole jobs, whose replicas take turns on one thread: what is said of them, and what they leave.
-ghost use Rattle.std.specs.Prelude.{IfOk};
+ghost use Rattle.std.specs.Prelude.{IfOk, ◌≡◌};
+ghost use Rattle.mu_input.specs.Batches.{rows_of};
 ghost use Rattle.mu_input.specs.Heads.{HaveHeads};
 ghost use Rattle.mu_model.specs.Contents.{IsConfig};
 ghost use Rattle.mu_report.specs.Said.{IsShort};
 
 use crate::printing::text_of;
+use kv_store::{Reply, Text};
 use mu_check::{Verdict, check};
-use mu_cluster::{Outcome, replay};
+use mu_cluster::{Outcome, replay, rows_spell_commands};
 use mu_input::{InputEnd, Job, bulk, read};
 use mu_model::{Config, End, Pause, Sequence, Stop, Verb};
 use mu_report::Said;
@@ -64,15 +66,26 @@ pub(crate) const SAID: [(&str, &str, &str); 8] = [
     ),
 ];
 
+/// The job that a text spells, with the commands and their rows in order.
+pub(crate) fn read_job(alloc: Global, text: &str) -> Result<Job, InputEnd>
+    ensures { IfOk result (λ job. IsConfig job.config
+        × HaveHeads job.config.width job.commands job.config.rows
+        × (job.config.rows ≡ rows_of job.config.width job.commands)) }
+{
+    let job = read(alloc, text.as_bytes())?;
+    Ok(job)
+}
+
 /// What there is to say of a replay of the job of these bytes.
 pub(crate) fn said_of(alloc: Global, text: &str) -> Said
     ensures { IsShort result }
 {
-    let job = match read(alloc, text.as_bytes()) {
+    let job = match read_job(alloc, text) {
         Ok(job) => job,
         Err(InputEnd::Refused { line, cause }) => return Said::Refused { line, cause },
         Err(InputEnd::NoMemory) => return Said::NoMemory,
     };
+    rows_spell_commands(&job);
     match replay(alloc, job) {
         Ok(outcome) => Said::Ran(outcome),
         Err(_) => Said::NoMemory,
@@ -85,12 +98,13 @@ fn printed(alloc: Global, text: &str) -> Result<Vec<u8>, Fail> {
     text_of(alloc, &said)
 }
 
-/// The job that a text spells, with the commands and their rows in order.
+/// The same, where the text spells one.
 pub(crate) fn job_of(alloc: Global, text: &str) -> Result<Job, Fail>
-    ensures { IfOk result
-        (λ job. IsConfig job.config × HaveHeads job.config.width job.commands job.config.rows) }
+    ensures { IfOk result (λ job. IsConfig job.config
+        × HaveHeads job.config.width job.commands job.config.rows
+        × (job.config.rows ≡ rows_of job.config.width job.commands)) }
 {
-    match read(alloc, text.as_bytes()) {
+    match read_job(alloc, text) {
         Ok(job) => Ok(job),
         Err(_) => Err(Fail::from("no job")),
     }
@@ -98,8 +112,10 @@ pub(crate) fn job_of(alloc: Global, text: &str) -> Result<Job, Fail>
 
 /// What a job leaves.
 fn replayed(alloc: Global, job: Job) -> Result<Outcome, Fail>
-    requires { IsConfig job.config × HaveHeads job.config.width job.commands job.config.rows }
+    requires { IsConfig job.config × HaveHeads job.config.width job.commands job.config.rows
+        × (job.config.rows ≡ rows_of job.config.width job.commands) }
 {
+    rows_spell_commands(&job);
     Ok(replay(alloc, job)?)
 }
 
@@ -127,6 +143,35 @@ fn commit_count(outcome: &Outcome, replica: u8) -> usize {
         .as_slice()
         .get(usize::from(replica))
         .map_or(0, |commits| commits.len())
+}
+
+/// What a replica's own store replied.
+fn own_replies(outcome: &Outcome, replica: u8) -> &[Reply] {
+    outcome
+        .own_replies
+        .as_slice()
+        .get(usize::from(replica))
+        .map_or(&[], |replies| replies.as_slice())
+}
+
+/// The replies to the six commands of two clients, where nobody stops.
+fn six_replies() -> Result<[Reply; 6], Fail> {
+    let five = Text::new(b"5").ok_or("no text")?;
+    let nine = Text::new(b"9").ok_or("no text")?;
+    Ok([
+        Reply::Done,
+        Reply::Done,
+        Reply::Value(five),
+        Reply::Value(five),
+        Reply::Kept(nine),
+        Reply::Done,
+    ])
+}
+
+/// Whether a replica replied to each entry of its log, and as these begin.
+fn replied(outcome: &Outcome, replica: u8, whole: &[Reply]) -> bool {
+    let replies = own_replies(outcome, replica);
+    replies.len() == log(outcome, replica).len() && whole.starts_with(replies)
 }
 
 /// Whether one list begins the other.
@@ -218,10 +263,11 @@ fn follow_on(outcome: &Outcome) -> bool {
         && is_prefix(log(outcome, 0), log(outcome, 1))
 }
 
-/// Whether all six commands are replicated after replica 0 stopped.
+/// Whether all six commands are replicated after replica 0 stopped, and its own replies are those
+/// of its log.
 fn leader_stopped(alloc: Global, steps: u32) -> Result<bool, Fail> {
     let outcome = left(alloc, TWO_CLIENTS, &[Stop { replica: 0, steps }], &[])?;
-    Ok(follow_on(&outcome))
+    Ok(follow_on(&outcome) && replied(&outcome, 0, &six_replies()?))
 }
 
 #[test]
@@ -229,6 +275,40 @@ fn leader_stops_anywhere(rt: HostRuntime) -> Result<(), Fail> {
     for steps in 0..=400 {
         let is_right = leader_stopped(rt.alloc(), steps)?;
         assert!(rt; is_right, "at {steps}");
+    }
+    Ok(())
+}
+
+/// Jobs of three replicas, and how many commands each replica applied: all where each finished, and
+/// none where it was stopped at once or outrun at position 1. One job has batches, and in one a mark
+/// stands between the commands.
+const APPLIED: [(&str, [usize; 3]); 4] = [
+    ("two_clients", [6, 6, 6]),
+    ("no_room", [8, 8, 0]),
+    ("batches", [6, 6, 6]),
+    ("outrun_replica", [12, 12, 0]),
+];
+
+/// The job of this name, or the empty text.
+fn named(name: &str) -> &'static str {
+    SAID.iter()
+        .find(|row| row.0 == name)
+        .map_or("", |row| row.1)
+}
+
+/// Whether each replica replied to so many commands, with the replies that are printed.
+fn replied_to(outcome: &Outcome, counts: [usize; 3]) -> bool {
+    let lists = [0, 1, 2].map(|replica| own_replies(outcome, replica));
+    lists.map(|replies| replies.len()) == counts
+        && lists.iter().all(|replies| outcome.replies.as_slice().starts_with(replies))
+}
+
+#[test]
+fn each_replica_replies(rt: HostRuntime) -> Result<(), Fail> {
+    for (name, counts) in APPLIED {
+        let outcome = left(rt.alloc(), named(name), &[], &[])?;
+        let is_right = replied_to(&outcome, counts);
+        assert!(rt; is_right, "{name}");
     }
     Ok(())
 }
@@ -253,7 +333,8 @@ fn follower_stopped(alloc: Global, replica: u8, other: u8, steps: u32) -> Result
     Ok(
         log(&outcome, 0).len() == 6
             && log(&outcome, other).len() == 6
-            && is_prefix(log(&outcome, replica), log(&outcome, 0)),
+            && is_prefix(log(&outcome, replica), log(&outcome, 0))
+            && replied(&outcome, replica, &six_replies()?),
     )
 }
 

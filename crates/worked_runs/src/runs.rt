@@ -1,7 +1,7 @@
 //! Whole jobs, whose replicas run in threads.
 use crate::replays::{ONE_PUT, TWO_CLIENTS, job_of};
 use kv_store::Reply;
-use mu_cluster::{Gate, OpenGate, Outcome, run};
+use mu_cluster::{Gate, OpenGate, Outcome, rows_spell_commands, run};
 use mu_model::End;
 use mu_outcome::Log;
 use std::alloc::Global;
@@ -72,7 +72,9 @@ fn ran<R: Threads + Wait + Sync, G: Gate + Sync>(
     text: &str,
     gate: &G,
 ) -> Result<Outcome, Fail> {
-    Ok(run(rt, alloc, job_of(alloc, text)?, gate)?)
+    let job = job_of(alloc, text)?;
+    rows_spell_commands(&job);
+    Ok(run(rt, alloc, job, gate)?)
 }
 
 /// Whether one list begins the other.

@@ -5,25 +5,26 @@ use Rattle.mu_cluster.specs.Branches.{AreLeft}
 use Rattle.mu_outcome.specs.Outcomes.{events_of}
 use Rattle.mu_outcome.specs.Runs.{IsRunOver}
 use Rattle.mu_cluster.proofs.Branching.{one_list, parts_same}
-use Rattle.mu_cluster.proofs.Filling.{diligent_of, run_over, told_longest}
+use Rattle.mu_cluster.proofs.Filling.{diligent_of, printed_is, run_over}
 use Rattle.mu_cluster.proofs.leaving.gathered_outcome.Goals as goal
 
-pub left_by-journals-requires-clause-list : goal.left_by-journals-requires-clause-list
-left_by-journals-requires-clause-list c = one_list c.args.job.config c.args.gathered (map (λ j. j.events) c.parts.result.now) c.requires.config c.parts.ensures.parts c.parts.ensures.list
+pub left_by-lists-requires-clause-list : goal.left_by-lists-requires-clause-list
+left_by-lists-requires-clause-list c = one_list c.args.job.config c.args.gathered (map (λ j. j.events) c.parts.result.now) c.requires.config c.parts.ensures.parts c.parts.ensures.list
 
-pub left_by-journals-requires-clause-left : goal.left_by-journals-requires-clause-left
-left_by-journals-requires-clause-left c = subst (λ l. AreLeft c.args.job.config c.args.job.script l c.args.nodes.items) (sym c.parts.ensures.parts) c.requires.left
+pub left_by-lists-requires-clause-left : goal.left_by-lists-requires-clause-left
+left_by-lists-requires-clause-left c = subst (λ l. AreLeft c.args.job.config c.args.job.script l c.args.nodes.items) (sym c.parts.ensures.parts) c.requires.left
 
 pub returns-clause-run : goal.returns-clause-run
 returns-clause-run c =
     let job = c.args.job in
     let k = job.config in
-    let lists = c.left_by-journals.result in
+    let lists = c.left_by-lists.result in
     let g = c.args.gathered in
     let one = one_list k g (map (λ j. j.events) c.parts.result.now) c.requires.config c.parts.ensures.parts c.parts.ensures.list in
-    let held = c.left_by-journals.ensures one.0 one.1.0 one.1.1 in
-    let o : Outcome = record { job = job; journals = c.from_vec.result; logs = c.from_vec-2.result; commits = c.from_vec-3.result; replies = lists.replies; ends = c.from_vec-4.result; order = None; gathered = Some g } in
-    let over : IsRunOver one.0 o = run_over o one.0 lists one.1.0 c.from_vec.ensures c.from_vec-2.ensures c.from_vec-3.ensures c.from_vec-4.ensures held one.1.1.whole (told_longest job job.script one.0 k.replicas lists o.logs c.requires.spelled held c.from_vec-2.ensures) in
+    let held = c.left_by-lists.ensures one.0 one.1.0 one.1.1 in
+    let o : Outcome = record { job = job; journals = c.from_vec.result; logs = c.from_vec-2.result; commits = c.from_vec-3.result; replies = c.printed-printed.result; own_replies = c.from_vec-4.result; ends = c.from_vec-5.result; order = None; gathered = Some g } in
+    let over : IsRunOver one.0 o = run_over o one.0 lists one.1.0 c.from_vec.ensures c.from_vec-2.ensures c.from_vec-3.ensures c.from_vec-4.ensures c.from_vec-5.ensures held one.1.1.whole c.requires.spelled
+    (printed_is job job.script one.0 lists c.printed-printed.result _ _ c.requires.good one.1.0 c.requires.spelled held c.requires.room.empty c.requires.room.printed c.printed-printed.ensures) in
     let has : HasParts k one.0 g.parts = subst (λ l. HasParts k one.0 l) c.parts.ensures.parts one.1.1 in
     record {
       no_order = refl;
@@ -39,9 +40,9 @@ pub returns-clause-diligent : goal.returns-clause-diligent
 returns-clause-diligent c =
     let job = c.args.job in
     let k = job.config in
-    let lists = c.left_by-journals.result in
+    let lists = c.left_by-lists.result in
     let g = c.args.gathered in
     let one = one_list k g (map (λ j. j.events) c.parts.result.now) c.requires.config c.parts.ensures.parts c.parts.ensures.list in
-    let held = c.left_by-journals.ensures one.0 one.1.0 one.1.1 in
-    let o : Outcome = record { job = job; journals = c.from_vec.result; logs = c.from_vec-2.result; commits = c.from_vec-3.result; replies = lists.replies; ends = c.from_vec-4.result; order = None; gathered = Some g } in
+    let held = c.left_by-lists.ensures one.0 one.1.0 one.1.1 in
+    let o : Outcome = record { job = job; journals = c.from_vec.result; logs = c.from_vec-2.result; commits = c.from_vec-3.result; replies = c.printed-printed.result; own_replies = c.from_vec-4.result; ends = c.from_vec-5.result; order = None; gathered = Some g } in
     diligent_of o one.0 lists c.from_vec.ensures held

@@ -2,7 +2,7 @@ use Rattle.std.proofs.Common.{◌∙◌, ◌+◌, None, Some, ap, arith, length,
 use Rattle.mu_model.specs.Legal.{IsLegal}
 use Rattle.mu_outcome.specs.declared.outcome.Outcome.{Outcome}
 use Rattle.mu_cluster.specs.Lists.{HoldsLists}
-use Rattle.mu_cluster.proofs.Filling.{diligent_of, run_of, told_longest}
+use Rattle.mu_cluster.proofs.Filling.{diligent_of, printed_is, run_of}
 use Rattle.mu_cluster.proofs.Living.{applies_of}
 use Rattle.mu_cluster.proofs.Naming.{named_of}
 use Rattle.mu_cluster.proofs.Onward.{leads_of}
@@ -14,22 +14,22 @@ returns-clause-run c =
     let job = c.args.job in
     let k = job.config in
     let order = c.args.order in
-    let lists = c.filled-journals.result in
+    let lists = c.filled-lists.result in
     let legal : IsLegal k order.events = c.requires.legal in
-    let held = subst (λ l. HoldsLists k job.script l k.replicas lists) c.as_slice.ensures c.filled-journals.ensures in
+    let held = subst (λ l. HoldsLists k job.script l k.replicas lists) c.as_slice.ensures c.filled-lists.ensures in
     let played = c.requires.played.1 in
-    let o : Outcome = record { job = job; journals = c.from_vec.result; logs = c.from_vec-2.result; commits = c.from_vec-3.result; replies = lists.replies; ends = c.from_vec-4.result; order = Some order; gathered = None } in
-    run_of o order lists c.args.seats.items c.requires.played.0 refl legal c.from_vec.ensures c.from_vec-2.ensures c.from_vec-3.ensures c.from_vec-4.ensures held played c.requires.ended
-    (told_longest job job.script order.events k.replicas lists o.logs c.requires.spelled held c.from_vec-2.ensures)
+    let o : Outcome = record { job = job; journals = c.from_vec.result; logs = c.from_vec-2.result; commits = c.from_vec-3.result; replies = c.printed-printed.result; own_replies = c.from_vec-4.result; ends = c.from_vec-5.result; order = Some order; gathered = None } in
+    run_of o order lists c.args.seats.items c.requires.played.0 refl legal c.from_vec.ensures c.from_vec-2.ensures c.from_vec-3.ensures c.from_vec-4.ensures c.from_vec-5.ensures held played c.requires.ended c.requires.spelled
+    (printed_is job job.script order.events lists c.printed-printed.result _ _ c.requires.good legal c.requires.spelled held c.requires.room.empty c.requires.room.printed c.printed-printed.ensures)
 
 pub returns-clause-diligent : goal.returns-clause-diligent
 returns-clause-diligent c =
     let job = c.args.job in
     let k = job.config in
     let order = c.args.order in
-    let lists = c.filled-journals.result in
-    let held = subst (λ l. HoldsLists k job.script l k.replicas lists) c.as_slice.ensures c.filled-journals.ensures in
-    let o : Outcome = record { job = job; journals = c.from_vec.result; logs = c.from_vec-2.result; commits = c.from_vec-3.result; replies = lists.replies; ends = c.from_vec-4.result; order = Some order; gathered = None } in
+    let lists = c.filled-lists.result in
+    let held = subst (λ l. HoldsLists k job.script l k.replicas lists) c.as_slice.ensures c.filled-lists.ensures in
+    let o : Outcome = record { job = job; journals = c.from_vec.result; logs = c.from_vec-2.result; commits = c.from_vec-3.result; replies = c.printed-printed.result; own_replies = c.from_vec-4.result; ends = c.from_vec-5.result; order = Some order; gathered = None } in
     diligent_of o order.events lists c.from_vec.ensures held
 
 pub returns-clause-names : goal.returns-clause-names
@@ -37,13 +37,13 @@ returns-clause-names c =
     let job = c.args.job in
     let k = job.config in
     let order = c.args.order in
-    let lists = c.filled-journals.result in
+    let lists = c.filled-lists.result in
     let legal : IsLegal k order.events = c.requires.legal in
-    let held = subst (λ l. HoldsLists k job.script l k.replicas lists) c.as_slice.ensures c.filled-journals.ensures in
+    let held = subst (λ l. HoldsLists k job.script l k.replicas lists) c.as_slice.ensures c.filled-lists.ensures in
     let played = c.requires.played.1 in
-    let o : Outcome = record { job = job; journals = c.from_vec.result; logs = c.from_vec-2.result; commits = c.from_vec-3.result; replies = lists.replies; ends = c.from_vec-4.result; order = Some order; gathered = None } in
-    let run = run_of o order lists c.args.seats.items c.requires.played.0 refl legal c.from_vec.ensures c.from_vec-2.ensures c.from_vec-3.ensures c.from_vec-4.ensures held played c.requires.ended
-    (told_longest job job.script order.events k.replicas lists o.logs c.requires.spelled held c.from_vec-2.ensures) in
+    let o : Outcome = record { job = job; journals = c.from_vec.result; logs = c.from_vec-2.result; commits = c.from_vec-3.result; replies = c.printed-printed.result; own_replies = c.from_vec-4.result; ends = c.from_vec-5.result; order = Some order; gathered = None } in
+    let run = run_of o order lists c.args.seats.items c.requires.played.0 refl legal c.from_vec.ensures c.from_vec-2.ensures c.from_vec-3.ensures c.from_vec-4.ensures c.from_vec-5.ensures held played c.requires.ended c.requires.spelled
+    (printed_is job job.script order.events lists c.printed-printed.result _ _ c.requires.good legal c.requires.spelled held c.requires.room.empty c.requires.room.printed c.printed-printed.ensures) in
     named_of o order c.args.seats.items c.requires.played.0 run refl played
 
 pub returns-clause-none_outrun : goal.returns-clause-none_outrun
@@ -51,13 +51,13 @@ returns-clause-none_outrun c =
     let job = c.args.job in
     let k = job.config in
     let order = c.args.order in
-    let lists = c.filled-journals.result in
+    let lists = c.filled-lists.result in
     let legal : IsLegal k order.events = c.requires.legal in
-    let held = subst (λ l. HoldsLists k job.script l k.replicas lists) c.as_slice.ensures c.filled-journals.ensures in
+    let held = subst (λ l. HoldsLists k job.script l k.replicas lists) c.as_slice.ensures c.filled-lists.ensures in
     let played = c.requires.played.1 in
-    let o : Outcome = record { job = job; journals = c.from_vec.result; logs = c.from_vec-2.result; commits = c.from_vec-3.result; replies = lists.replies; ends = c.from_vec-4.result; order = Some order; gathered = None } in
-    let run = run_of o order lists c.args.seats.items c.requires.played.0 refl legal c.from_vec.ensures c.from_vec-2.ensures c.from_vec-3.ensures c.from_vec-4.ensures held played c.requires.ended
-    (told_longest job job.script order.events k.replicas lists o.logs c.requires.spelled held c.from_vec-2.ensures) in
+    let o : Outcome = record { job = job; journals = c.from_vec.result; logs = c.from_vec-2.result; commits = c.from_vec-3.result; replies = c.printed-printed.result; own_replies = c.from_vec-4.result; ends = c.from_vec-5.result; order = Some order; gathered = None } in
+    let run = run_of o order lists c.args.seats.items c.requires.played.0 refl legal c.from_vec.ensures c.from_vec-2.ensures c.from_vec-3.ensures c.from_vec-4.ensures c.from_vec-5.ensures held played c.requires.ended c.requires.spelled
+    (printed_is job job.script order.events lists c.printed-printed.result _ _ c.requires.good legal c.requires.spelled held c.requires.room.empty c.requires.room.printed c.printed-printed.ensures) in
     none_outrun_of o order c.args.seats.items c.requires.played.0 c.requires.good run refl played
 
 pub returns-clause-applies : goal.returns-clause-applies
@@ -65,13 +65,13 @@ returns-clause-applies c =
     let job = c.args.job in
     let k = job.config in
     let order = c.args.order in
-    let lists = c.filled-journals.result in
+    let lists = c.filled-lists.result in
     let legal : IsLegal k order.events = c.requires.legal in
-    let held = subst (λ l. HoldsLists k job.script l k.replicas lists) c.as_slice.ensures c.filled-journals.ensures in
+    let held = subst (λ l. HoldsLists k job.script l k.replicas lists) c.as_slice.ensures c.filled-lists.ensures in
     let played = c.requires.played.1 in
-    let o : Outcome = record { job = job; journals = c.from_vec.result; logs = c.from_vec-2.result; commits = c.from_vec-3.result; replies = lists.replies; ends = c.from_vec-4.result; order = Some order; gathered = None } in
-    let run = run_of o order lists c.args.seats.items c.requires.played.0 refl legal c.from_vec.ensures c.from_vec-2.ensures c.from_vec-3.ensures c.from_vec-4.ensures held played c.requires.ended
-    (told_longest job job.script order.events k.replicas lists o.logs c.requires.spelled held c.from_vec-2.ensures) in
+    let o : Outcome = record { job = job; journals = c.from_vec.result; logs = c.from_vec-2.result; commits = c.from_vec-3.result; replies = c.printed-printed.result; own_replies = c.from_vec-4.result; ends = c.from_vec-5.result; order = Some order; gathered = None } in
+    let run = run_of o order lists c.args.seats.items c.requires.played.0 refl legal c.from_vec.ensures c.from_vec-2.ensures c.from_vec-3.ensures c.from_vec-4.ensures c.from_vec-5.ensures held played c.requires.ended c.requires.spelled
+    (printed_is job job.script order.events lists c.printed-printed.result _ _ c.requires.good legal c.requires.spelled held c.requires.room.empty c.requires.room.printed c.printed-printed.ensures) in
     applies_of o order c.args.seats.items c.requires.played.0 c.requires.good run refl played (diligent_of o order.events lists c.from_vec.ensures held)
 
 pub returns-clause-leads : goal.returns-clause-leads
@@ -79,11 +79,11 @@ returns-clause-leads c =
     let job = c.args.job in
     let k = job.config in
     let order = c.args.order in
-    let lists = c.filled-journals.result in
+    let lists = c.filled-lists.result in
     let legal : IsLegal k order.events = c.requires.legal in
-    let held = subst (λ l. HoldsLists k job.script l k.replicas lists) c.as_slice.ensures c.filled-journals.ensures in
+    let held = subst (λ l. HoldsLists k job.script l k.replicas lists) c.as_slice.ensures c.filled-lists.ensures in
     let played = c.requires.played.1 in
-    let o : Outcome = record { job = job; journals = c.from_vec.result; logs = c.from_vec-2.result; commits = c.from_vec-3.result; replies = lists.replies; ends = c.from_vec-4.result; order = Some order; gathered = None } in
-    let run = run_of o order lists c.args.seats.items c.requires.played.0 refl legal c.from_vec.ensures c.from_vec-2.ensures c.from_vec-3.ensures c.from_vec-4.ensures held played c.requires.ended
-    (told_longest job job.script order.events k.replicas lists o.logs c.requires.spelled held c.from_vec-2.ensures) in
+    let o : Outcome = record { job = job; journals = c.from_vec.result; logs = c.from_vec-2.result; commits = c.from_vec-3.result; replies = c.printed-printed.result; own_replies = c.from_vec-4.result; ends = c.from_vec-5.result; order = Some order; gathered = None } in
+    let run = run_of o order lists c.args.seats.items c.requires.played.0 refl legal c.from_vec.ensures c.from_vec-2.ensures c.from_vec-3.ensures c.from_vec-4.ensures c.from_vec-5.ensures held played c.requires.ended c.requires.spelled
+    (printed_is job job.script order.events lists c.printed-printed.result _ _ c.requires.good legal c.requires.spelled held c.requires.room.empty c.requires.room.printed c.printed-printed.ensures) in
     leads_of o order c.args.seats.items c.requires.played.0 c.requires.good run refl played (diligent_of o order.events lists c.from_vec.ensures held)
