@@ -74,12 +74,13 @@ fn is_slot_put(verb: &Verb) -> bool
     }
 }
 
-/// Whether the verb is one of the host or of the scores.
+/// Whether the verb is one of the host or of the scores, or raises the head.
 fn is_aside(verb: &Verb) -> bool
     ensures { IsTrue result → (leading : Bool) → is_beside leading verb.now ≡ true }
 {
     match *verb {
         Verb::ReadBeat(_) => true,
+        Verb::RaiseHead(_) => true,
         Verb::Beat => true,
         Verb::ReadAsk(_) => true,
         Verb::Close => true,
@@ -136,8 +137,8 @@ impl Driven {
         })
     }
 
-    /// Tells the leader whom the scores name, and whom they hold to be failed.
-    fn heed(&mut self)
+    /// Tells the leader whom the scores name, and whom they hold to be failed. What it notes then.
+    fn heed(&mut self) -> Note
         ghost past: { List SomeEvent }
         requires { Drives past self.old }
         ensures drives { Drives past self.new }
@@ -146,7 +147,7 @@ impl Driven {
     {
         let leader = self.scores.leader();
         let failed = failed_in(&self.scores);
-        self.lead.heed(leader, failed);
+        self.lead.heed(leader, failed)
     }
 
     /// The verb that is due, where a step is left.
@@ -255,7 +256,7 @@ impl Driven {
     }
 
     /// One turn after these events.
-    fn turn_after<M: Memory>(&mut self, memory: &mut M) -> Option<Led>
+    fn turn_after<M: Memory>(&mut self, memory: &mut M) -> (Note, Option<Led>)
         ghost past: { List SomeEvent }
         requires past { history (M.events memory.old) ≡ past }
         requires config { M.config memory.old ≡ self.old.lead.config }
@@ -264,16 +265,16 @@ impl Driven {
         ensures config { M.config memory.new ≡ self.new.lead.config }
         ensures drives { Drives (history (M.events memory.new)) self.new }
     {
-        self.heed();
+        let heeded = self.heed();
         match self.due() {
-            Some(verb) => Some(self.make(memory, verb)),
-            None => None,
+            Some(verb) => (heeded, Some(self.make(memory, verb))),
+            None => (heeded, None),
         }
     }
 
-    /// One turn of the leader: it is told whom the scores name, and makes the step that is due,
-    /// where one is.
-    pub fn turn<M: Memory>(&mut self, memory: &mut M) -> Option<Led>
+    /// One turn of the leader: what it notes when it is told whom the scores name, and the step
+    /// that is due, if one is.
+    pub fn turn<M: Memory>(&mut self, memory: &mut M) -> (Note, Option<Led>)
         requires config { M.config memory.old ≡ self.old.lead.config }
         requires drives { Drives (history (M.events memory.old)) self.old }
         ensures config { M.config memory.new ≡ self.new.lead.config }

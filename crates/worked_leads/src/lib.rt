@@ -4,6 +4,8 @@
 
 mod driven;
 #[cfg(test)]
+mod notes;
+#[cfg(test)]
 mod rows;
 
 pub use driven::{Driven, Led};

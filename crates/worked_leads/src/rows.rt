@@ -16,22 +16,24 @@ use std::test::Fail;
 use word_fabric::WordFabric;
 
 /// Three replicas with one command.
-const JOB: &str = "mu 1\nreplicas 3\nring 8\nbudget 100\nclient 0\nput a 5\nend\n";
+pub(crate) const JOB: &str = "mu 1\nreplicas 3\nring 8\nbudget 100\nclient 0\nput a 5\nend\n";
 
 /// One step of a row.
 #[derive(Clone, Copy)]
-enum Step {
+pub(crate) enum Step {
     /// The leader makes what is due, is answered so, and notes so.
     Due(Verb, Answer, Note),
+    /// Nothing is due, and the leader noted so when it was told whom the scores name.
+    Rest(Note),
     /// A replica makes a step that isn't the leader's, and is answered so.
     Aside(u8, Verb, Answer),
 }
 
-/// The configuration of the job.
-fn config(alloc: Global) -> Result<Config, Fail>
+/// The configuration of a job.
+fn config(alloc: Global, job: &str) -> Result<Config, Fail>
     ensures { IfOk result (λ c. IsConfig c × (c.replicas ≡ 3)) }
 {
-    match read(alloc, JOB.as_bytes()) {
+    match read(alloc, job.as_bytes()) {
         Ok(job) => {
             if job.config.replicas == 3 {
                 Ok(job.config.copied(alloc)?)
@@ -51,7 +53,10 @@ fn is_as_told<M: Memory>(driven: &mut Driven, memory: &mut M, step: &Step) -> bo
     ensures drives { Drives (history (M.events memory.new)) driven.new }
 {
     match *step {
-        Step::Due(verb, answer, note) => { driven.turn(memory) == Some(Led { verb, answer, note }) }
+        Step::Due(verb, answer, note) => {
+            driven.turn(memory) == (Note::Working, Some(Led { verb, answer, note }))
+        }
+        Step::Rest(note) => driven.turn(memory) == (note, None),
         Step::Aside(by, verb, answer) => driven.aside(memory, by, verb) == Some(answer),
     }
 }
@@ -87,11 +92,17 @@ fn first_wrong_in<M: Memory>(
     Ok(first_wrong(&mut driven, memory, row))
 }
 
-/// Goes through the row with the leader `id`, in each memory.
-fn check_row(rt: &impl Abort, alloc: Global, id: u8, row: &[Step]) -> Result<(), Fail>
+/// Goes through the row of a job with the leader `id`, in each memory.
+pub(crate) fn check_row(
+    rt: &impl Abort,
+    alloc: Global,
+    job: &str,
+    id: u8,
+    row: &[Step],
+) -> Result<(), Fail>
     requires { id < 3 }
 {
-    let config = config(alloc)?;
+    let config = config(alloc, job)?;
     let mut lists = ListFabric::start(alloc, &config)?;
     let wrong = first_wrong_in(alloc, &config, &mut lists, id, row)?;
     assert_eq!(rt; wrong, None, "lists");
@@ -111,27 +122,27 @@ fn fence(owner: Option<u8>, grant: u32, target: Target) -> Fence {
 }
 
 /// The answer that shows an open fence.
-fn open(owner: Option<u8>, grant: u32, target: Target) -> Answer {
+pub(crate) fn open(owner: Option<u8>, grant: u32, target: Target) -> Answer {
     Answer::Seen(fence(owner, grant, target))
 }
 
 /// A step of the leader of which there is nothing to note.
-fn due(verb: Verb, answer: Answer) -> Step {
+pub(crate) fn due(verb: Verb, answer: Answer) -> Step {
     Step::Due(verb, answer, Note::Working)
 }
 
 /// The same where the step was made.
-fn made(verb: Verb) -> Step {
+pub(crate) fn made(verb: Verb) -> Step {
     due(verb, Answer::Done)
 }
 
 /// A step that isn't the leader's, and was made.
-fn done(by: u8, verb: Verb) -> Step {
+pub(crate) fn done(by: u8, verb: Verb) -> Step {
     Step::Aside(by, verb, Answer::Done)
 }
 
 /// The leader enters a region for its minimum, and puts it there.
-fn joins(p: u8, number: u32) -> [Step; 2] {
+pub(crate) fn joins(p: u8, number: u32) -> [Step; 2] {
     [
         due(Verb::Enter(p, Target::Min), Answer::Entered),
         made(Verb::PutMin(p, number)),
@@ -139,12 +150,12 @@ fn joins(p: u8, number: u32) -> [Step; 2] {
 }
 
 /// The leader asks for all regions.
-fn asks() -> [Step; 3] {
+pub(crate) fn asks() -> [Step; 3] {
     [made(Verb::Ask(0)), made(Verb::Ask(1)), made(Verb::Ask(2))]
 }
 
 /// A region of which nobody was the owner is granted.
-fn first_grant(host: u8, to: u8) -> [Step; 3] {
+pub(crate) fn first_grant(host: u8, to: u8) -> [Step; 3] {
     [
         Step::Aside(host, Verb::ReadAsk(to), Answer::Number(1)),
         Step::Aside(host, Verb::Close, open(None, 0, Target::None)),
@@ -153,7 +164,7 @@ fn first_grant(host: u8, to: u8) -> [Step; 3] {
 }
 
 /// A region is drained of what its first owner entered, and granted on.
-fn granted_on(host: u8, from: u8, target: Target, to: u8) -> [Step; 5] {
+pub(crate) fn granted_on(host: u8, from: u8, target: Target, to: u8) -> [Step; 5] {
     [
         Step::Aside(host, Verb::ReadAsk(to), Answer::Number(1)),
         Step::Aside(host, Verb::Close, open(Some(from), 1, target)),
@@ -164,7 +175,7 @@ fn granted_on(host: u8, from: u8, target: Target, to: u8) -> [Step; 5] {
 }
 
 /// The steps of pieces, one after the other.
-fn joined_up(alloc: Global, pieces: &[&[Step]]) -> Result<Vec<Step>, AllocError> {
+pub(crate) fn joined_up(alloc: Global, pieces: &[&[Step]]) -> Result<Vec<Step>, AllocError> {
     let mut row = Vec::new(alloc);
     for piece in pieces {
         row.extend_from_slice(piece)?;
@@ -221,7 +232,7 @@ fn late_exchange(rt: HostRuntime) -> Result<(), Fail> {
             &late,
         ],
     )?;
-    check_row(&rt, alloc, 0, row.as_slice())
+    check_row(&rt, alloc, JOB, 0, row.as_slice())
 }
 
 /// Replica 1 begins a leadership anew, is granted the regions 1 and 2 as before, reads these
@@ -296,7 +307,7 @@ fn higher_minimum(rt: HostRuntime) -> Result<(), Fail> {
             &late,
         ],
     )?;
-    check_row(&rt, alloc, 0, row.as_slice())
+    check_row(&rt, alloc, JOB, 0, row.as_slice())
 }
 
 /// Replica 0 leads with the regions 0 and 1, and puts a value at region 1 alone.
@@ -409,5 +420,5 @@ fn adopted_value(rt: HostRuntime) -> Result<(), Fail> {
             &put,
         ],
     )?;
-    check_row(&rt, alloc, 1, row.as_slice())
+    check_row(&rt, alloc, JOB, 1, row.as_slice())
 }
