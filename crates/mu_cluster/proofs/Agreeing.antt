@@ -152,8 +152,8 @@ empty_one (x ∷ xs) none = absurd (omega (arith, none))
 -- the replies over a log begin those over a longer one
 replies_begin : (job : Job) (xs ys : List ℕ) → IsPrefixOf xs ys → IsPrefixOf (replies (commands_in job xs)) (replies (commands_in job ys))
 replies_begin job xs ys begins = (
-    replies_from (store (commands_in job xs)) (commands_in job begins.0),
-    ap (λ l. replies (commands_in job l)) begins.1 ∙ ap replies (commands_in-append job xs begins.0) ∙ replies_from-append empty_table (commands_in job xs) (commands_in job begins.0),
+  replies_from (store (commands_in job xs)) (commands_in job begins.0),
+  ap (λ l. replies (commands_in job l)) begins.1 ∙ ap replies (commands_in-append job xs begins.0) ∙ replies_from-append empty_table (commands_in job xs) (commands_in job begins.0),
 )
 
 -- the replicas agree, in whatever order they took their turns

@@ -57,8 +57,9 @@ pub record StandsForLead (c : Config) (r : ℕ) (mine : List Event) (lead : Lead
   pub stands : LeadStandsFor mine lead
 
 -- the node stands for the events, with its leader, which leads only where it may, and with what is
--- said of its counts; it has handed on so many entries, answered to their commands, called the places of its cycle in their
--- order, and made each event as it was due and in time for all that a leader keeps
+-- said of its counts; it has handed on so many entries, answered to their commands, called the
+-- places of its cycle in their order, and made each event as it was due and in time for all that a
+-- leader keeps
 pub record HoldsNode (Paces : Lead → Type 0) (c : Config) (r : ℕ) (mine : List Event) (count : ℕ)
     (may : Bool) (node : Node) : Type 0 where
   pub beside : HoldsBeside c r mine node

@@ -42,7 +42,7 @@ impl Model for Answers {
     ghost view = { λ a. record { table = a.store.table; replies = a.replies.items; left = a.left } };
 
     ghost invariant = { λ a. (a.left ≤ a.store.room)
-      × (vec_len a.replies + a.left ≤ vec_capacity a.replies) };
+        × (vec_len a.replies + a.left ≤ vec_capacity a.replies) };
 }
 
 impl Answers {

@@ -300,7 +300,9 @@ fn named(name: &str) -> &'static str {
 fn replied_to(outcome: &Outcome, counts: [usize; 3]) -> bool {
     let lists = [0, 1, 2].map(|replica| own_replies(outcome, replica));
     lists.map(|replies| replies.len()) == counts
-        && lists.iter().all(|replies| outcome.replies.as_slice().starts_with(replies))
+        && lists
+            .iter()
+            .all(|replies| outcome.replies.as_slice().starts_with(replies))
 }
 
 #[test]
