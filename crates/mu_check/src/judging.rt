@@ -22,7 +22,12 @@ fn is_same(given: Answer, defined: Answer) -> bool
 
 /// What is wrong with an event after the legal history that the states of the regions and of the
 /// replicas stand for.
-pub(crate) fn fault(config: &Config, regions: &Regions, replicas: &Replicas, event: &Event) -> Option<Wrong>
+pub(crate) fn fault(
+    config: &Config,
+    regions: &Regions,
+    replicas: &Replicas,
+    event: &Event,
+) -> Option<Wrong>
     requires { IsConfig config.now }
     ensures { (past : List Event) → IsLegalHistory config.now past
         → Stands config.now past regions.now

@@ -6,5 +6,5 @@ mod judging;
 
 pub use explaining::explain;
 pub use judging::check;
-pub use mu_reasons::{Broken, Fault, Reason};
 pub use mu_outcome::{Verdict, Wrong, at_most_one_verdict};
+pub use mu_reasons::{Broken, Fault, Reason};

@@ -46,13 +46,7 @@ impl Lead {
         ensures is { length self.now.up ≡ 7 → result ≡ farther self.now.up source p }
     {
         match source {
-            Some(q) => {
-                if self.up_of(q) < self.up_of(p) {
-                    p
-                } else {
-                    q
-                }
-            }
+            Some(q) => { if self.up_of(q) < self.up_of(p) { p } else { q } }
             None => p,
         }
     }

@@ -5,9 +5,11 @@
 #![tactic(auto)]
 
 mod explaining;
+mod put_reasons;
 mod putting;
 mod replica;
 mod replicas;
+mod row_reasons;
 
 pub use mu_reasons::Reason;
 pub use replica::Replica;

@@ -28,9 +28,9 @@ least_is r above small = go (nat_lt 7 above && nat_lt above (above / 8 * 8 + r))
         let low : (7 < above) → (above < above / 8 * 8 + r) → ⊥ = λ high same. false≢true (sym is ∙ and_from _ _ (lt-ltb 7 above high) (lt-ltb above (above / 8 * 8 + r) same)) in
         elim (cases_lt 7 above) [
           | inl high ↦ elim (cases_lt above (above / 8 * 8 + r)) [
-              | inl same ↦ absurd (low high same)
-              | inr over ↦ (omega (arith, small), omega (arith, high), omega (arith, small, over), λ n own first past. omega (arith, small, over, own, first, past))
-            ]
+            | inl same ↦ absurd (low high same)
+            | inr over ↦ (omega (arith, small), omega (arith, high), omega (arith, small, over), λ n own first past. omega (arith, small, over, own, first, past))
+          ]
           | inr few ↦ (omega (arith, small), omega (arith, few), omega (arith, small, few), λ n own first past. omega (arith, small, few, own, first, past))
         ]
 

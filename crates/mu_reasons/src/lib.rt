@@ -5,4 +5,6 @@ mod fault;
 mod reason;
 
 pub use fault::{Broken, Fault};
-pub use reason::{Found, Reason, at_most_one_reason, points_are_allowance, right_number_is_allowed};
+pub use reason::{
+    Found, Reason, at_most_one_reason, points_are_allowance, right_number_is_allowed,
+};

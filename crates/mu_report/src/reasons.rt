@@ -116,7 +116,9 @@ fn push_reason(line: &mut Line, reason: Reason)
             line.push(b" was not read since its grant was seen");
         }
         Reason::Unconfirmed => {
-            line.push(b"min was not read yet under the noted grants of a majority with the own region");
+            line.push(
+                b"min was not read yet under the noted grants of a majority with the own region",
+            );
         }
         Reason::NotMember { region } => {
             line.push(b"region ");
@@ -139,7 +141,13 @@ fn push_reason(line: &mut Line, reason: Reason)
             line.push(b" is below the min that was read, ");
             line.push_number(minimum);
         }
-        Reason::NotTheNumber { number, own, read, put, right } => {
+        Reason::NotTheNumber {
+            number,
+            own,
+            read,
+            put,
+            right,
+        } => {
             line.push(b"number ");
             line.push_number(u64::from(number));
             line.push(b" is not the one to put, ");
@@ -161,11 +169,15 @@ fn push_reason(line: &mut Line, reason: Reason)
         Reason::OutOfReach { region, position } => {
             line.push(b"no fuo of region ");
             line.push_number(u64::from(region));
-            line.push(b" was read or raised in the leadership from which the ring reaches position ");
+            line.push(
+                b" was read or raised in the leadership from which the ring reaches position ",
+            );
             line.push_number(u64::from(position));
         }
         Reason::NoQuorum => {
-            line.push(b"the regions where a putmin landed in the leadership are no majority with the own one");
+            line.push(
+                b"the regions where a putmin landed in the leadership are no majority with the own one",
+            );
         }
         Reason::OtherNumber { number, own } => {
             line.push(b"number ");
@@ -173,7 +185,11 @@ fn push_reason(line: &mut Line, reason: Reason)
             line.push(b" is not that of the leadership, ");
             push_own(line, own);
         }
-        Reason::NotEntered { region, place, entered } => {
+        Reason::NotEntered {
+            region,
+            place,
+            entered,
+        } => {
             line.push(b"region ");
             line.push_number(u64::from(region));
             line.push(b" is not entered for place ");
@@ -186,7 +202,9 @@ fn push_reason(line: &mut Line, reason: Reason)
             line.push_number(u64::from(position));
             line.push(b" of region ");
             line.push_number(u64::from(region));
-            line.push(b" was not looked at before the enter, after the region became a member and after the last put in that place");
+            line.push(
+                b" was not looked at before the enter, after the region became a member and after the last put in that place",
+            );
         }
         Reason::Behind { region, position } => {
             line.push(b"region ");
@@ -202,7 +220,12 @@ fn push_reason(line: &mut Line, reason: Reason)
             line.push_number(known as u64);
             line.push(b" positions are known");
         }
-        Reason::NoRoom { position, free, replica, head } => {
+        Reason::NoRoom {
+            position,
+            free,
+            replica,
+            head,
+        } => {
             line.push(b"no room for position ");
             line.push_number(u64::from(position));
             line.push(b" and ");
@@ -219,7 +242,11 @@ fn push_reason(line: &mut Line, reason: Reason)
             line.push_number(u64::from(region));
             line.push(b", a member, was past in the leadership");
         }
-        Reason::OtherFirst { position, value, first } => {
+        Reason::OtherFirst {
+            position,
+            value,
+            first,
+        } => {
             line.push(b"value ");
             line.push_number(u64::from(value));
             line.push(b" is not the one put first at position ");
@@ -238,10 +265,17 @@ fn push_reason(line: &mut Line, reason: Reason)
             line.push_number(u64::from(position));
             line.push(b" since the last region became one");
         }
-        Reason::OtherAccepted { position, value, number, accepted } => {
+        Reason::OtherAccepted {
+            position,
+            value,
+            number,
+            accepted,
+        } => {
             line.push(b"value ");
             line.push_number(u64::from(value));
-            line.push(b" is not that of the entry of the largest number that the looks at position ");
+            line.push(
+                b" is not that of the entry of the largest number that the looks at position ",
+            );
             line.push_number(u64::from(position));
             line.push(b" show: entry ");
             line.push_number(u64::from(number));
@@ -267,7 +301,11 @@ fn push_reason(line: &mut Line, reason: Reason)
             line.push_number(u64::from(value));
             line.push(b" stands for all words of its rows");
         }
-        Reason::NotNextOfClient { value, number, known } => {
+        Reason::NotNextOfClient {
+            value,
+            number,
+            known,
+        } => {
             line.push(b"value ");
             line.push_number(u64::from(value));
             line.push(b" begins with command ");
@@ -303,7 +341,14 @@ fn push_reason(line: &mut Line, reason: Reason)
             line.push(b"a row has the words 0 to 11, and no word ");
             line.push_number(u64::from(word));
         }
-        Reason::OtherWord { row, word, given, spelled, client, number } => {
+        Reason::OtherWord {
+            row,
+            word,
+            given,
+            spelled,
+            client,
+            number,
+        } => {
             line.push(b"word ");
             line.push_number(u64::from(word));
             line.push(b" of row ");
@@ -329,7 +374,12 @@ fn push_reason(line: &mut Line, reason: Reason)
             line.push_number(u64::from(value));
             line.push(b" names no replica of the job: it is 4096 times a replica, and a row");
         }
-        Reason::NoRowWord { head, applied, value, word } => {
+        Reason::NoRowWord {
+            head,
+            applied,
+            value,
+            word,
+        } => {
             line.push(b"only ");
             line.push_number(applied as u64);
             line.push(b" entries are applied, fewer than ");

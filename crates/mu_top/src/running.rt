@@ -7,7 +7,7 @@ ghost use Rattle.mu_report.specs.Said.{IsShort};
 ghost use Rattle.mu_top.specs.Commands.{IsEndOf, IsThreaded, Runs};
 
 use crate::replaying::untold;
-use mu_cluster::{Gate, run, rows_spell_commands};
+use mu_cluster::{Gate, rows_spell_commands, run};
 use mu_input::{InputEnd, read};
 use mu_outcome::Outcome;
 use mu_report::Said;

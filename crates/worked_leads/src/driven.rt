@@ -186,11 +186,9 @@ impl Driven {
         ensures config { self.new.lead.config ≡ self.old.lead.config }
     {
         let by = self.lead.id;
-        let note = self.lead.take(
-            answer,
-            self.own.known_log.known(),
-            &self.own.known_log,
-        );
+        let note = self
+            .lead
+            .take(answer, self.own.known_log.known(), &self.own.known_log);
         note_own(
             &mut self.own,
             &mut self.scores,
@@ -224,11 +222,8 @@ impl Driven {
             &self.lead.config,
             &Event { by, verb, answer },
         );
-        self.lead.take(
-            answer,
-            self.own.known_log.known(),
-            &self.own.known_log,
-        )
+        self.lead
+            .take(answer, self.own.known_log.known(), &self.own.known_log)
     }
 
     /// Makes the step that is due, and takes its answer.
