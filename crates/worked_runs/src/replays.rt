@@ -308,7 +308,7 @@ fn replied_to(outcome: &Outcome, counts: [usize; 3]) -> bool {
 #[test]
 fn each_replica_replies(rt: HostRuntime) -> Result<(), Fail> {
     for (name, counts) in APPLIED {
-        let outcome = left(rt.alloc(), named(name), &[], &[])?;
+        let outcome = replayed(rt.alloc(), job_of(rt.alloc(), named(name))?)?;
         let is_right = replied_to(&outcome, counts);
         assert!(rt; is_right, "{name}");
     }
