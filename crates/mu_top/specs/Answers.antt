@@ -106,3 +106,17 @@ Wrote written now before after said status taken =
     MatchBool (status == code_of Status.WriteFault)
     (IsCut written now before after said taken)
     (IsWhole written now before after said status taken)
+
+-- something is said of what the words ask for, its text is written, and the program ends with this
+-- status
+pub record Ends (asked : Option Asked) (left left_now : Option (List ℕ)) (read read_now : ℕ)
+    (written written_now : Option (List ℕ)) (wrote wrote_now status : ℕ) : Type 0 where
+  pub said : Said
+  pub taken : ℕ
+  pub tells : Tells asked left left_now read read_now said
+  pub writes : Wrote written written_now wrote wrote_now said status taken
+
+-- the usage is written, and the program ends with this status
+pub record WritesUsage (written now : Option (List ℕ)) (before after status : ℕ) : Type 0 where
+  pub taken : ℕ
+  pub writes : Wrote written now before after Said.Usage status taken

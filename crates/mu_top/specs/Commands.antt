@@ -46,11 +46,6 @@ abbrev pub IsEndOf : List ℕ → InputEnd → Type 0
 IsEndOf bytes (InputEnd.Refused line cause) = job bytes ≡ Leaves line cause
 IsEndOf bytes InputEnd.NoMemory = ⊤
 
--- what is said where no job was read, or there was no memory to run it
-abbrev pub said_of : InputEnd → Said
-said_of (InputEnd.Refused line cause) = Said.Refused line cause
-said_of InputEnd.NoMemory = Said.NoMemory
-
 -- `replay`: the bytes leave the grammar first at this line for this cause, or this is the replay of
 -- their job; want of memory can come at any bytes
 abbrev pub Replays : List ℕ → Said → Type 0

@@ -1,18 +1,13 @@
 //! What the words of the command line ask for.
-ghost use Rattle.std.specs.Prelude.{◌≡◌, ◌≢◌, IfSome, None, Some};
-ghost use Rattle.std.specs.declared.io.ErrorKind.TheVariants.{InvalidData};
+ghost use Rattle.std.specs.Prelude.{◌≡◌, IfSome, None, Some};
 ghost use Rattle.mu_input.specs.declared.TheConstants.{TRACE_LIMIT};
-ghost use Rattle.mu_report.specs.declared.said.Said.TheVariants.{NoMemory, Usage};
-ghost use Rattle.mu_report.specs.Said.{IsShort};
 ghost use Rattle.snap_reads.specs.declared.TheConstants.{MOST_READERS};
 ghost use Rattle.mu_top.specs.declared.serving.TheConstants.{SENDERS};
 ghost use Rattle.mu_top.specs.Words.{task_named, asked_of as asked_of_words, asked_of_two, limit_of, IsInReach};
 
 use mu_input::{MOST_COMMANDS, TRACE_LIMIT};
-use mu_report::Said;
 use mu_text::limited;
 use snap_reads::MOST_READERS;
-use std::io::ErrorKind;
 
 /// The most bytes that the input of a job may have.
 pub const INPUT_LIMIT: usize = 1_048_576;
@@ -129,19 +124,5 @@ fn named_task(word: &[u8]) -> Option<Task>
         Some(Task::Book)
     } else {
         None
-    }
-}
-
-/// What is said where the words couldn't be read: the usage where one of them is no text, since no
-/// command has such a word, else want of memory.
-pub fn said_unread(kind: ErrorKind) -> Said
-    ensures no_text { kind ≡ InvalidData → result ≡ Usage }
-    ensures no_memory { kind ≢ InvalidData → result ≡ NoMemory }
-    ensures short { IsShort result }
-{
-    if kind == ErrorKind::InvalidData {
-        Said::Usage
-    } else {
-        Said::NoMemory
     }
 }

@@ -8,7 +8,6 @@ ghost use Rattle.mu_outcome.specs.Entries.{commands_in, longest as longest_of};
 ghost use Rattle.mu_report.specs.Said.{IsShort};
 ghost use Rattle.mu_top.specs.Commands.{Books, IsEndOf, IsReplay};
 
-use crate::replaying::untold;
 use match_book::Book;
 use mu_cluster::{replay, rows_spell_commands};
 use mu_input::{InputEnd, Job, read};
@@ -23,7 +22,7 @@ pub(crate) fn told_of_book(alloc: Global, bytes: &[u8]) -> Said
 {
     match booked(alloc, bytes) {
         Ok((outcome, book)) => Said::Booked(outcome, book),
-        Err(end) => untold(end),
+        Err(end) => Said::from(end),
     }
 }
 

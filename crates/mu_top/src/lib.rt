@@ -8,11 +8,13 @@ mod living;
 mod replaying;
 mod running;
 mod serving;
+mod starting;
 mod statuses;
 mod summing;
 mod top;
 mod tracing;
 
-pub use asking::{Asked, INPUT_LIMIT, Task, limits_are_stated, said_unread};
+pub use asking::{Asked, INPUT_LIMIT, Task, limits_are_stated};
 pub use serving::SENDERS;
-pub use top::{Answered, answer, mu};
+pub use starting::mu_from_words;
+pub use top::{Answered, mu};

@@ -9,7 +9,6 @@ ghost use Rattle.snap_reads.specs.Lives.{AreAllSights};
 ghost use Rattle.snap_reads.specs.declared.TheConstants.{MOST_READERS};
 ghost use Rattle.mu_top.specs.Commands.{IsEndOf, IsReplay, Lives};
 
-use crate::replaying::untold;
 use mu_cluster::{Gate, replay, rows_spell_commands};
 use mu_input::{InputEnd, read};
 use mu_outcome::Outcome;
@@ -33,7 +32,7 @@ pub(crate) fn told_of_live<R: Threads + Sync, G: Gate + Sync>(
 {
     match lived(rt, alloc, bytes, readers, gate) {
         Ok((outcome, lived)) => Said::Lived(outcome, lived),
-        Err(end) => untold(end),
+        Err(end) => Said::from(end),
     }
 }
 

@@ -4,7 +4,7 @@ ghost use Rattle.mu_input.specs.Grammar.{job as job_of};
 ghost use Rattle.mu_input.specs.Readings.{Fits};
 ghost use Rattle.mu_outcome.specs.Outcomes.{IsWithinJob};
 ghost use Rattle.mu_report.specs.Said.{IsShort};
-ghost use Rattle.mu_top.specs.Commands.{IsEndOf, IsReplay, Replays, said_of};
+ghost use Rattle.mu_top.specs.Commands.{IsEndOf, IsReplay, Replays};
 
 use mu_cluster::{replay, rows_spell_commands};
 use mu_input::{InputEnd, read};
@@ -19,7 +19,7 @@ pub(crate) fn told_of_replay(alloc: Global, bytes: &[u8]) -> Said
 {
     match replayed(alloc, bytes) {
         Ok(outcome) => Said::Ran(outcome),
-        Err(end) => untold(end),
+        Err(end) => Said::from(end),
     }
 }
 
@@ -38,14 +38,4 @@ pub(crate) fn replayed(alloc: Global, bytes: &[u8]) -> Result<Outcome, InputEnd>
     let job = read(alloc, bytes)?;
     rows_spell_commands(&job);
     Ok(replay(alloc, job)?)
-}
-
-/// What is said where no job was read, or there was no memory to run it.
-pub(crate) fn untold(end: InputEnd) -> Said
-    ensures { result ≡ said_of end }
-{
-    match end {
-        InputEnd::Refused { line, cause } => Said::Refused { line, cause },
-        InputEnd::NoMemory => Said::NoMemory,
-    }
 }

@@ -6,7 +6,6 @@ ghost use Rattle.mu_outcome.specs.Outcomes.{IsWithinJob};
 ghost use Rattle.mu_report.specs.Said.{IsShort};
 ghost use Rattle.mu_top.specs.Commands.{IsEndOf, IsThreaded, Runs};
 
-use crate::replaying::untold;
 use mu_cluster::{Gate, rows_spell_commands, run};
 use mu_input::{InputEnd, read};
 use mu_outcome::Outcome;
@@ -27,7 +26,7 @@ pub(crate) fn told_of_run<R: Threads + Wait + Sync, G: Gate + Sync>(
 {
     match ran(rt, alloc, bytes, gate) {
         Ok(outcome) => Said::Ran(outcome),
-        Err(end) => untold(end),
+        Err(end) => Said::from(end),
     }
 }
 

@@ -12,7 +12,6 @@ ghost use Rattle.mu_report.specs.Said.{IsShort};
 ghost use Rattle.mu_top.specs.Commands.{IsReplay};
 ghost use Rattle.mu_top.specs.Desks.{Desks, IsEndOfDesk, IsServed, job_at_desk};
 
-use crate::replaying::untold;
 use front_desk::collect;
 use mu_cluster::{Gate, replay, rows_spell_commands};
 use mu_input::{InputEnd, Job, desk_line, read};
@@ -38,7 +37,7 @@ pub(crate) fn told_of_desk<R: Threads + Wait + Sync, G: Gate + Sync>(
 {
     match served(rt, alloc, bytes, gate) {
         Ok(outcome) => Said::Ran(outcome),
-        Err(end) => untold(end),
+        Err(end) => Said::from(end),
     }
 }
 

@@ -1,6 +1,7 @@
 //! The top call: from the words of the command line and the bytes of the input to the bytes of the
 //! output.
 ghost use Rattle.std.specs.Prelude.{◌≡◌, ◌≤◌, length, IfSome};
+ghost use Rattle.std.specs.Process.{exit_status};
 ghost use Rattle.mu_report.specs.Said.{IsShort};
 ghost use Rattle.mu_top.specs.Answers.{Does, Tells, TellsOf, Wrote};
 ghost use Rattle.mu_top.specs.Words.{asked_of as asked_of_words, limit_of, HasReaders, IsInReach};
@@ -20,6 +21,7 @@ use mu_judging::{explain_trace, judge};
 use mu_outcome::Status;
 use mu_report::{Said, print_counted};
 use std::alloc::Global;
+use std::process::ExitCode;
 use std::sync::Wait;
 use std::thread::Threads;
 
@@ -36,11 +38,11 @@ pub struct Answered {
 }
 
 impl Answered {
-    /// The status that the program ends with. What was to be said is let go.
-    pub fn into_status(self) -> u8
-        ensures { result ≡ self.status }
+    /// What the program ends with. What was to be said is let go.
+    pub fn into_exit_code(self) -> ExitCode
+        ensures { exit_status result ≡ self.status }
     {
-        self.status
+        ExitCode::from(self.status)
     }
 }
 
@@ -70,7 +72,7 @@ pub fn mu<R: Threads + Wait + Sync, S: Source, K: Sink, G: Gate + Sync>(
 }
 
 /// Writes what there is to say, and answers how that went.
-pub fn answer<K: Sink>(sink: &mut K, said: Said) -> Answered
+pub(crate) fn answer<K: Sink>(sink: &mut K, said: Said) -> Answered
     requires { IsShort said }
     ensures said { result.said ≡ said }
     ensures wrote { Wrote (K.written sink.old) (K.written sink.new) (K.faults sink.old)

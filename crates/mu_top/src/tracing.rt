@@ -1,9 +1,12 @@
 //! `trace`: a job run in turns, and its events told.
-ghost use Rattle.std.specs.Prelude.{};
+ghost use Rattle.std.specs.Prelude.{◌≡◌, ◌⊎◌};
+ghost use Rattle.mu_report.specs.declared.said.Said.{Said as SomeSaid};
 ghost use Rattle.mu_report.specs.Said.{IsShort};
+ghost use Rattle.mu_report.specs.Trace.{HasShortTrace};
 ghost use Rattle.mu_top.specs.Commands.{Traces};
 
-use crate::replaying::{replayed, untold};
+use crate::replaying::replayed;
+use mu_outcome::Outcome;
 use mu_report::{Said, is_countable};
 use std::alloc::Global;
 
@@ -15,13 +18,21 @@ pub(crate) fn told_of_trace(alloc: Global, bytes: &[u8]) -> Said
     ensures short { IsShort result }
 {
     match replayed(alloc, bytes) {
-        Ok(outcome) => {
-            if is_countable(&outcome) {
-                Said::Traced(outcome)
-            } else {
-                Said::NoMemory
-            }
-        }
-        Err(end) => untold(end),
+        Ok(outcome) => traced(outcome),
+        Err(end) => Said::from(end),
+    }
+}
+
+/// What there is to say of the events of an outcome: they are told wherever their bytes can be
+/// counted.
+fn traced(outcome: Outcome) -> Said
+    ensures told { HasShortTrace outcome → result ≡ SomeSaid.Traced outcome }
+    ensures answers { (result ≡ SomeSaid.Traced outcome) ⊎ (result ≡ SomeSaid.NoMemory) }
+    ensures short { IsShort result }
+{
+    if is_countable(&outcome) {
+        Said::Traced(outcome)
+    } else {
+        Said::NoMemory
     }
 }
