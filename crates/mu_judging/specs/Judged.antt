@@ -3,14 +3,12 @@ use Rattle.std.specs.Prelude.{ℕ, ◌≡◌, List, Err, Ok, length, ⊤}
 use Rattle.mu_input.specs.declared.job.InputEnd.{InputEnd}
 use Rattle.mu_input.specs.Readings.{Fits, Leaves}
 use Rattle.mu_input.specs.Traces.{Trace, trace}
-use Rattle.std.specs.declared.option.Option.{Option}
 use Rattle.std.specs.declared.result.Result.{Result}
-use Rattle.mu_reasons.specs.declared.fault.Broken.{Broken}
-use Rattle.mu_reasons.specs.Breaks.{Explains}
 use Rattle.mu_outcome.specs.Verdicts.{Judges}
 use Rattle.mu_outcome.specs.declared.verdict.Verdict.{Verdict}
 use Rattle.mu_report.specs.declared.said.Said.{Said}
 use Rattle.mu_report.specs.Said.{said_of_end}
+pub use Rattle.mu_judging.specs.Explained.{ExplainsOf}
 
 -- the bytes spell a trace of so many events, and this is the verdict on them
 pub record IsJudged (bytes : List ℕ) (events : ℕ) (verdict : Verdict) : Type 0 where
@@ -37,18 +35,3 @@ IsEndOfTrace bytes InputEnd.NoMemory = ⊤
 abbrev pub said_of : Result (ℕ × Verdict) InputEnd → Said
 said_of (Ok judged) = Said.Judged judged.0 judged.1
 said_of (Err end) = said_of_end end
-
--- the bytes spell a trace of so many events, and this is where it breaks and why, if it does
-pub record IsExplained (bytes : List ℕ) (events : ℕ) (broken : Option Broken) : Type 0 where
-  pub spelled : Trace
-  pub fits : trace bytes ≡ Fits spelled
-  pub count : events ≡ length spelled.events
-  pub explains : Explains spelled.job.config spelled.events broken
-
--- a refusal where the bytes leave the grammar, and else where the trace breaks and why; want of
--- memory can come at any bytes, and nothing else is said
-abbrev pub ExplainsOf : List ℕ → Said → Type 0
-ExplainsOf bytes (Said.Refused line cause) = trace bytes ≡ Leaves line cause
-ExplainsOf bytes (Said.Explained events line broken) = IsExplained bytes events broken
-ExplainsOf bytes Said.NoMemory = ⊤
-ExplainsOf bytes _ = ⊥

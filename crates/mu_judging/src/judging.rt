@@ -1,10 +1,10 @@
 //! From the bytes of a trace to what there is to say of it.
 ghost use Rattle.std.specs.Prelude.{◌≡◌, ◌≤◌, length, IfErr, IfOk};
 ghost use Rattle.mu_input.specs.declared.TheConstants.{TRACE_LIMIT};
-ghost use Rattle.mu_judging.specs.Judged.{said_of, ExplainsOf, IsEndOfTrace, IsJudged, SaysOf};
+ghost use Rattle.mu_judging.specs.Judged.{said_of, IsEndOfTrace, IsJudged, SaysOf};
 ghost use Rattle.mu_report.specs.Said.{IsShort};
 
-use mu_check::{Broken, check, explain};
+use mu_check::check;
 use mu_input::{InputEnd, read_trace};
 use mu_outcome::Verdict;
 use mu_report::Said;
@@ -43,48 +43,5 @@ fn told(judged: Result<(u32, Verdict), InputEnd>) -> Said
     match judged {
         Ok((events, verdict)) => Said::Judged { events, verdict },
         Err(end) => Said::from(end),
-    }
-}
-
-/// How many lines the bytes have.
-fn count_of_lines(bytes: &[u8]) -> u32 {
-    let mut count: u32 = 0;
-    for byte in bytes {
-        if *byte == b'\n' {
-            count = count.saturating_add(1);
-        }
-    }
-    count
-}
-
-/// What there is to say of where a trace breaks and why: `Refused` exactly where the bytes leave
-/// the grammar, and else `Explained`. `NoMemory` for want of memory.
-pub fn explain_trace(alloc: Global, bytes: &[u8]) -> Said
-    requires { length bytes.now ≤ TRACE_LIMIT }
-    ensures says { ExplainsOf bytes.now result }
-    ensures short { IsShort result }
-{
-    let (job, journal) = match read_trace(alloc, bytes) {
-        Ok(read) => read,
-        Err(InputEnd::Refused { line, cause }) => return Said::Refused { line, cause },
-        Err(InputEnd::NoMemory) => return Said::NoMemory,
-    };
-    let events = journal.as_slice();
-    match explain(alloc, &job.config, events) {
-        Ok(broken) => Said::Explained {
-            events: events.len() as u32,
-            line: line_of(count_of_lines(bytes), events.len() as u32, &broken),
-            broken,
-        },
-        Err(_) => Said::NoMemory,
-    }
-}
-
-/// The line of the event that breaks the list, where the input has so many lines: the events stand
-/// in the last ones, before the last `end`.
-fn line_of(lines: u32, events: u32, broken: &Option<Broken>) -> u32 {
-    match broken {
-        None => 0,
-        Some(broken) => lines.saturating_sub(events).saturating_add(broken.index),
     }
 }

@@ -1,6 +1,8 @@
 //! From the bytes of a trace to what there is to say of it.
 #![tactic(auto)]
 
+mod explaining;
 mod judging;
 
-pub use judging::{explain_trace, judge};
+pub use explaining::explain_trace;
+pub use judging::judge;

@@ -1,0 +1,84 @@
+//! From the bytes of a trace to where it breaks and why.
+ghost use Rattle.std.specs.Prelude.{◌+◌, ◌<◌, ◌≡◌, ◌≤◌, ◌^◌, IfOk, IfSome, length};
+ghost use Rattle.mu_input.specs.Readings.{Fits};
+ghost use Rattle.mu_input.specs.Traces.{Trace, trace};
+ghost use Rattle.mu_input.specs.declared.TheConstants.{TRACE_LIMIT};
+ghost use Rattle.mu_judging.specs.Explained.{ExplainsOf, IsExplained};
+ghost use Rattle.mu_model.specs.Contents.{IsConfig};
+ghost use Rattle.mu_report.specs.Said.{IsShort};
+ghost use Rattle.mu_text.specs.Lines.{lines};
+
+use mu_check::{Broken, explain};
+use mu_input::{InputEnd, read_trace};
+use mu_model::{Config, Event, NoMemory};
+use mu_report::Said;
+use mu_text::LineReader;
+use std::alloc::Global;
+
+/// What there is to say of where a trace breaks and why: `Refused` exactly where the bytes leave
+/// the grammar, and else `Explained`. `NoMemory` for want of memory.
+pub fn explain_trace(alloc: Global, bytes: &[u8]) -> Said
+    requires { length bytes.now ≤ TRACE_LIMIT }
+    ensures says { ExplainsOf bytes.now result }
+    ensures short { IsShort result }
+{
+    let (job, journal) = match read_trace(alloc, bytes) {
+        Ok(read) => read,
+        Err(InputEnd::Refused { line, cause }) => return Said::Refused { line, cause },
+        Err(InputEnd::NoMemory) => return Said::NoMemory,
+    };
+    let events = journal.as_slice();
+    match located(alloc, bytes, &job.config, events) {
+        Ok((line, broken)) => Said::Explained {
+            events: events.len() as u32,
+            line,
+            broken,
+        },
+        Err(_) => Said::NoMemory,
+    }
+}
+
+/// Where the events of a trace break and why, and the line there, or 0 where they don't.
+///
+/// # Errors
+///
+/// Want of memory alone.
+fn located(
+    alloc: Global,
+    bytes: &[u8],
+    config: &Config,
+    events: &[Event],
+) -> Result<(u32, Option<Broken>), NoMemory>
+    requires limit { length bytes.now ≤ TRACE_LIMIT }
+    requires config { IsConfig config.now }
+    requires countable { length events.now < 2 ^ 32 }
+    ensures { IfOk result (λ found. (spelled : Trace) → trace bytes.now ≡ Fits spelled
+        → config.now ≡ spelled.job.config → events.now ≡ spelled.events
+        → IsExplained bytes.now (length events.now) found.0 found.1) }
+{
+    let broken = explain(alloc, config, events)?;
+    let line = line_of(count_of_lines(bytes), events.len() as u32, &broken);
+    Ok((line, broken))
+}
+
+/// How many lines the bytes have.
+fn count_of_lines(bytes: &[u8]) -> u32
+    requires { length bytes.now ≤ TRACE_LIMIT }
+    ensures { result ≡ length (lines bytes.now) }
+{
+    let mut rest = LineReader::new(bytes);
+    while let Some(_) = rest.next() {}
+    rest.number() - 1
+}
+
+/// The line of the event that breaks the list, where the input has so many lines: the events stand
+/// in the last ones, before the last `end`.
+fn line_of(lines: u32, events: u32, broken: &Option<Broken>) -> u32
+    ensures { IfSome broken.now (λ broken. events ≤ lines → broken.index ≤ events
+        → lines < 2 ^ 31 → result + events ≡ lines + broken.index) }
+{
+    match broken {
+        None => 0,
+        Some(broken) => lines.saturating_sub(events).saturating_add(broken.index),
+    }
+}
