@@ -3,7 +3,7 @@
 
 use mu_gate::OpenGate;
 use mu_io::{StdSink, StdSource};
-pub use mu_top::{Answered, answer, mu, said_unread};
+pub use mu_top::{Answered, mu, mu_from_words};
 use std::env;
 use std::io::ErrorKind;
 use std::process::ExitCode;
@@ -28,16 +28,6 @@ fn words_after_name<R: Env + AllocGlobal>(rt: &R) -> Result<Vec<String>, ErrorKi
 fn main(rt: HostRuntime) -> ExitCode {
     let mut source = StdSource::new(rt.stdin());
     let mut sink = StdSink::new(rt.stdout());
-    let answered = match words_after_name(&rt) {
-        Ok(words) => mu(
-            &rt,
-            rt.alloc(),
-            words.as_slice(),
-            &mut source,
-            &mut sink,
-            &OpenGate,
-        ),
-        Err(kind) => answer(&mut sink, said_unread(kind)),
-    };
-    ExitCode::from(answered.into_status())
+    let words = words_after_name(&rt);
+    mu_from_words(&rt, rt.alloc(), words, &mut source, &mut sink, &OpenGate)
 }
