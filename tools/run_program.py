@@ -24,12 +24,10 @@ def say(name, text):
 
 
 def cause_of(lines):
-    """Why `rt try` says that it has no answer, in its words."""
-    for line in lines:
-        head, found, cause = line.partition("no-answer: ")
-        if found and not head.startswith("races"):
-            return cause
-    return "rt doesn't say why"
+    """Why `rt try` says that it has no answer: of its two runs the compiled one counts."""
+    found = [line.partition("no-answer: ") for line in lines if "no-answer: " in line]
+    checked = [cause for head, _, cause in found if head.startswith("checked")]
+    return (checked or [cause for _, _, cause in found] or ["rt doesn't say why"])[0]
 
 
 def run_unproved(name, words):
