@@ -1,0 +1,104 @@
+#!/usr/bin/env python3
+"""Checks what the pages name: each path stands, each name is in some source, each link leads somewhere.
+
+    tools/pages.py        prints what is stale; the last line is `pages: N named, N stale`
+
+What stands between backquotes in README.md and docs/ is checked: a path from the top, from crates/, or
+from the crate named before it; a name of code or of a definition. Words of the formats (lower case,
+without `_`) and commands are no names. The status is 1 if something is stale.
+"""
+import os
+import re
+import sys
+
+TOP = os.path.dirname(os.path.dirname(os.path.realpath(__file__)))
+ENDINGS = (".rt", ".antt", ".md", ".py", ".job", ".trace", ".svg", ".table", ".edit", ".txt", ".h", ".c")
+FOLDERS = ("crates", "examples", "cases", "tools", "docs")
+SKIPPED = {"out", ".git"}
+# A name of code: two words joined by `_`, or two capitals with small letters between.
+NAME = re.compile(r"[A-Za-z][A-Za-z0-9]*(_[A-Za-z0-9]+)+|([A-Z][a-z0-9]+){2,}")
+PATH = re.compile(r"[\w.-]+(/[\w.-]+)+/?|[\w-]+\.(rt|antt|md|py|job|trace|svg|table|edit|txt)")
+# Names of the toolchain and of the system, which stand in no source of ours.
+FOREIGN = {"sched_yield", "NoMemory", "BTreeMap", "BTreeMaps", "crossbeam_utils", "left_right"}
+
+
+def files():
+    """Every file of ours, by its path from the top."""
+    for folder, below, names in os.walk(TOP):
+        below[:] = [it for it in below if it not in SKIPPED]
+        for name in names:
+            yield os.path.relpath(os.path.join(folder, name), TOP)
+
+
+def pages():
+    yield "README.md"
+    for name in sorted(os.listdir(os.path.join(TOP, "docs"))):
+        if name.endswith(".md"):
+            yield "docs/" + name
+
+
+def words_of_sources(paths):
+    """Every word that stands in code, definitions, proofs, tools or tables, and each file's name."""
+    words = set(FOREIGN)
+    for path in paths:
+        words |= set(re.findall(r"[A-Za-z_][A-Za-z0-9_]*", path))
+        if path.endswith((".rt", ".antt", ".py", ".edit", ".txt", ".names", ".h", ".c")) or "." not in path:
+            with open(os.path.join(TOP, path), encoding="utf-8", errors="replace") as text:
+                words |= set(re.findall(r"[A-Za-z_][A-Za-z0-9_]*", text.read()))
+    return words
+
+
+def stands(path, known):
+    """Whether a path stands, from the top, from crates/ or below some crate."""
+    path = path.rstrip("/")
+    return any(it in known for it in (path, "crates/" + path)) or any(
+        it.endswith("/" + path) for it in known)
+
+
+def names_in(line):
+    """What a line of a page names: each path, then each name of code, without what a command writes."""
+    for piece in re.findall(r"`([^`]+)`", line):
+        for word in re.sub(r">\s*\S+", "", piece).split():
+            word = word.strip(",;:()<>|[]\"'")
+            if word.startswith(("out/", "/", "./out", "-")):
+                continue
+            word = word.removeprefix("./")
+            if PATH.fullmatch(word) and (word.endswith(ENDINGS) or word.split("/")[0] in FOLDERS):
+                yield word, True
+            else:
+                yield from ((it, False) for it in re.split(r"[^A-Za-z0-9_]+", word) if NAME.fullmatch(it))
+
+
+def judged():
+    """How many things the pages name, and where one is stale."""
+    paths = list(files())
+    known = set(paths)
+    for path in paths:
+        while "/" in path:
+            path = path.rsplit("/", 1)[0]
+            known.add(path)
+    words = words_of_sources(it for it in paths if not it.startswith("docs/"))
+    named, stale = 0, []
+    for page in pages():
+        with open(os.path.join(TOP, page), encoding="utf-8") as text:
+            for number, line in enumerate(text, 1):
+                found = [(it, stands(it, known) if is_path else it in words) for it, is_path in names_in(line)]
+                for link in re.findall(r"\]\(([^)#]+)\)", line):
+                    if not link.startswith("http"):
+                        at = os.path.normpath(os.path.join(os.path.dirname(page), link))
+                        found.append((link, at in known))
+                named += len(found)
+                stale += [f"{page}:{number}: {it}" for it, good in found if not good]
+    return named, stale
+
+
+def main():
+    named, stale = judged()
+    for line in stale:
+        print(line)
+    print(f"pages: {named} named, {len(stale)} stale")
+    return 1 if stale else 0
+
+
+if __name__ == "__main__":
+    sys.exit(main())
