@@ -1,3 +1,3 @@
-pub mod Views
+mod Views
 pub mod Runs
 pub mod InSession

@@ -1,15 +1,15 @@
-pub mod Parting
-pub mod Placing
-pub mod Arranging
-pub mod Filling
-pub mod Trading
-pub mod Ledgers
-pub mod Remaining
-pub mod Sound
-pub mod Naming
-pub mod Steps
-pub mod Standing
-pub mod Crossing
-pub mod Adding
+mod Parting
+mod Placing
+mod Arranging
+mod Filling
+mod Trading
+mod Ledgers
+mod Remaining
+mod Sound
+mod Naming
+mod Steps
+mod Standing
+mod Crossing
+mod Adding
 pub mod Session
 pub mod Fronts

@@ -10,27 +10,27 @@ pub mod Counting
 pub mod Knowing
 pub mod Landings
 pub mod Landed
-pub mod Looks
-pub mod Joins
-pub mod Offers
-pub mod Choice
-pub mod Early
+mod Looks
+mod Joins
+mod Offers
+mod Choice
+mod Early
 pub mod Entries
 pub mod Evidence
-pub mod Late
+mod Late
 pub mod Tame
-pub mod Settled
-pub mod Agreement
-pub mod Copies
-pub mod Filled
+mod Settled
+mod Agreement
+mod Copies
+mod Filled
 pub mod Phases
 pub mod Prefixes
 pub mod Room
 pub mod Sound
 pub mod Sessions
 pub mod Possible
-pub mod Reach
+mod Reach
 pub mod Readings
 pub mod Fitting
 pub mod Windows
-pub mod Journals
+mod Journals

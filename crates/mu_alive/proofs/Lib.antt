@@ -1,13 +1,13 @@
-pub mod Alone
+mod Alone
 pub mod Applying
 pub mod Beginning
-pub mod Calm
+mod Calm
 pub mod Cutting
-pub mod Enough
-pub mod Granting
-pub mod Moments
-pub mod Noting
+mod Enough
+mod Granting
+mod Moments
+mod Noting
 pub mod TurnFences
-pub mod TurnGrants
-pub mod TurnNumbers
+mod TurnGrants
+mod TurnNumbers
 pub mod Turns

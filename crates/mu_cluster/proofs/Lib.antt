@@ -1,21 +1,21 @@
 pub mod Agreeing
-pub mod Branching
-pub mod Driven
+mod Branching
+mod Driven
 pub mod FewCommands
-pub mod Filling
-pub mod InStep
-pub mod InTurn
-pub mod Lives
-pub mod Living
+mod Filling
+mod InStep
+mod InTurn
+mod Lives
+mod Living
 pub mod LogCommands
-pub mod Naming
-pub mod Onward
-pub mod Outrunning
-pub mod Ports
-pub mod Rounding
+mod Naming
+mod Onward
+mod Outrunning
+mod Ports
+mod Rounding
 pub mod RowsMade
-pub mod Seats
-pub mod Trusting
-pub mod Turned
-pub mod Turning
-pub mod Wording
+mod Seats
+mod Trusting
+mod Turned
+mod Turning
+mod Wording

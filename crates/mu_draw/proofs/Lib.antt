@@ -1,1 +1,1 @@
-pub mod Results
+mod Results

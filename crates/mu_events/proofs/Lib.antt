@@ -1,4 +1,4 @@
-pub mod EventLines
-pub mod EventWords
-pub mod Sides
+mod EventLines
+mod EventWords
+mod Sides
 pub mod Spelled

@@ -1,7 +1,7 @@
-pub mod Alike
-pub mod Beyond
-pub mod Caught
-pub mod Cover
+mod Alike
+mod Beyond
+mod Caught
+mod Cover
 pub mod Filled
-pub mod Kept
-pub mod Noted
+mod Kept
+mod Noted

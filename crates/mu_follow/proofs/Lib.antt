@@ -1,8 +1,8 @@
 pub mod Due
-pub mod Full
+mod Full
 pub mod Handing
 pub mod Kept
 pub mod Paces
 pub mod Putting
-pub mod Stays
+mod Stays
 pub mod Waiting

@@ -1,8 +1,8 @@
-pub mod Events
+mod Events
 pub mod Onward
-pub mod Others
-pub mod Places
-pub mod Positions
+mod Others
+mod Places
+mod Positions
 pub mod Rounds
-pub mod Turns
-pub mod Waiting
+mod Turns
+mod Waiting

@@ -1,18 +1,18 @@
 pub mod Advancing
-pub mod BodyBack
-pub mod BodyReadings
-pub mod BulkCommands
-pub mod Clients
-pub mod ClientsBeyond
-pub mod Cuts
+mod BodyBack
+mod BodyReadings
+mod BulkCommands
+mod Clients
+mod ClientsBeyond
+mod Cuts
 pub mod Fronts
 pub mod JobConfigs
-pub mod KeyOrder
-pub mod Keys
-pub mod LegalEvents
-pub mod ManyWords
-pub mod OperationsBack
-pub mod ScriptBack
-pub mod SettingsBack
-pub mod StopsAndPauses
-pub mod TraceBack
+mod KeyOrder
+mod Keys
+mod LegalEvents
+mod ManyWords
+mod OperationsBack
+mod ScriptBack
+mod SettingsBack
+mod StopsAndPauses
+mod TraceBack

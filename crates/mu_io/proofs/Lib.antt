@@ -1,1 +1,1 @@
-pub mod Moved
+mod Moved

@@ -1,1 +1,1 @@
-pub mod EventLines
+mod EventLines

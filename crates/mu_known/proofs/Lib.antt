@@ -1,8 +1,8 @@
 pub mod Fetched
 pub mod Firsts
 pub mod Lasts
-pub mod Learning
+mod Learning
 pub mod NextRows
 pub mod Placed
 pub mod Rows
-pub mod Untouched
+mod Untouched

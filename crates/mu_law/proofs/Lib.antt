@@ -1,4 +1,4 @@
-pub mod Found
-pub mod Grants
-pub mod Lists
-pub mod Stepping
+mod Found
+mod Grants
+mod Lists
+mod Stepping

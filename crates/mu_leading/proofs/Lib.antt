@@ -1,3 +1,3 @@
-pub mod Grants
-pub mod Kept
+mod Grants
+mod Kept
 pub mod Within

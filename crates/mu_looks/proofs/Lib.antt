@@ -1,4 +1,4 @@
-pub mod RegionLooks
-pub mod Tables
-pub mod Times
-pub mod Kept
+mod RegionLooks
+mod Tables
+mod Times
+mod Kept

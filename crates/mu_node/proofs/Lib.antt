@@ -1,19 +1,19 @@
-pub mod Answering
-pub mod Bits
-pub mod Diligent
+mod Answering
+mod Bits
+mod Diligent
 pub mod FewRows
-pub mod Heads
-pub mod Lasts
-pub mod Leading
-pub mod Leads
+mod Heads
+mod Lasts
+mod Leading
+mod Leads
 pub mod Left
-pub mod Moving
+mod Moving
 pub mod Naming
-pub mod Open
-pub mod Paces
-pub mod Pacing
-pub mod Reading
-pub mod Replaying
+mod Open
+mod Paces
+mod Pacing
+mod Reading
+mod Replaying
 pub mod Rounding
-pub mod Turning
-pub mod Watching
+mod Turning
+mod Watching

@@ -1,24 +1,24 @@
 pub mod Counting
-pub mod Stretched
+mod Stretched
 pub mod Growing
-pub mod Hosts
+mod Hosts
 pub mod Leading
-pub mod Confirming
+mod Confirming
 pub mod Replaying
-pub mod Keeping
+mod Keeping
 pub mod Rooms
 pub mod Reading
-pub mod Budgets
+mod Budgets
 pub mod Positions
 pub mod Members
 pub mod Placed
 pub mod Away
 pub mod Countdowns
 pub mod Rounds
-pub mod Collecting
+mod Collecting
 pub mod Weights
-pub mod Asking
-pub mod Opening
+mod Asking
+mod Opening
 pub mod Beside
 pub mod Closing
 pub mod Cycles

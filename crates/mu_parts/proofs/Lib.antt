@@ -1,2 +1,2 @@
-pub mod Points
-pub mod Whole
+mod Points
+mod Whole

@@ -1,5 +1,5 @@
-pub mod Appends
-pub mod Documents
-pub mod LastSteps
-pub mod Steps
-pub mod Unmarked
+mod Appends
+mod Documents
+mod LastSteps
+mod Steps
+mod Unmarked

@@ -1,5 +1,5 @@
-pub mod Counts
-pub mod Each
-pub mod Elsewhere
+mod Counts
+mod Each
+mod Elsewhere
 pub mod Range
-pub mod Quiet
+mod Quiet

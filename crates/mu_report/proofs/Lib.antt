@@ -1,9 +1,9 @@
-pub mod Pushes
-pub mod BookLines
-pub mod LiveLines
-pub mod Lists
-pub mod Pages
-pub mod Prints
-pub mod Sizes
-pub mod Summaries
-pub mod Traces
+mod Pushes
+mod BookLines
+mod LiveLines
+mod Lists
+mod Pages
+mod Prints
+mod Sizes
+mod Summaries
+mod Traces

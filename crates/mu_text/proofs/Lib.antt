@@ -1,7 +1,7 @@
 pub mod Cutting
 pub mod Decimals
-pub mod Digits
-pub mod FirstWords
-pub mod LastDigits
-pub mod Places
+mod Digits
+mod FirstWords
+mod LastDigits
+mod Places
 pub mod SpelledWords

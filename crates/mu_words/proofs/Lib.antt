@@ -1,29 +1,29 @@
 pub mod Limits
 pub mod Places
-pub mod Logs
-pub mod Others
-pub mod Plain
-pub mod Packing
-pub mod Fences
-pub mod Fields
-pub mod Entering
-pub mod Tracking
-pub mod Opening
-pub mod PlaceTies
-pub mod Ranges
-pub mod Values
-pub mod Entries
-pub mod Contents
-pub mod MinTies
-pub mod Loading
-pub mod Stamps
-pub mod Puts
-pub mod LookWords
-pub mod Law
+mod Logs
+mod Others
+mod Plain
+mod Packing
+mod Fences
+mod Fields
+mod Entering
+mod Tracking
+mod Opening
+mod PlaceTies
+mod Ranges
+mod Values
+mod Entries
+mod Contents
+mod MinTies
+mod Loading
+mod Stamps
+mod Puts
+mod LookWords
+mod Law
 pub mod Fitting
 pub mod Stand
 mod Lists
 pub mod Forms
-pub mod Examples
-pub mod Founds
+mod Examples
+mod Founds
 pub mod Prepared

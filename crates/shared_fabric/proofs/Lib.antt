@@ -1,2 +1,2 @@
-pub mod Answering
+mod Answering
 pub mod Gathers

@@ -1,7 +1,7 @@
 pub mod Entries
-pub mod Keeps
-pub mod Cuts
-pub mod Joins
-pub mod Opening
-pub mod Ports
-pub mod Effects
+mod Keeps
+mod Cuts
+mod Joins
+mod Opening
+mod Ports
+mod Effects

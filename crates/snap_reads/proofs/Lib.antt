@@ -1,8 +1,8 @@
-pub mod Rows
-pub mod Keeps
-pub mod Words
-pub mod Writing
-pub mod Sighting
+mod Rows
+mod Keeps
+mod Words
+mod Writing
+mod Sighting
 pub mod Keying
 pub mod Watched
-pub mod Telling
+mod Telling

@@ -1,2 +1,2 @@
-pub mod FirstWords
-pub mod Going
+mod FirstWords
+mod Going
