@@ -4,6 +4,7 @@ pub mod LiveLines
 pub mod Lists
 pub mod Pages
 pub mod Prints
+pub mod Sentences
 pub mod Sizes
 pub mod Summaries
 pub mod Traces
