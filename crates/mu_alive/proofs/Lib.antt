@@ -4,7 +4,11 @@ pub mod Beginning
 pub mod Calm
 pub mod Cutting
 pub mod Enough
+pub mod Failing
+pub mod Fetching
 pub mod Granting
+pub mod LastNoting
+pub mod Lasting
 pub mod Moments
 pub mod Noting
 pub mod TurnFences
