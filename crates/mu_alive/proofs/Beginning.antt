@@ -29,8 +29,8 @@ use Rattle.mu_alive.specs.Lone.{IsNear, LeadsAlone}
 use Rattle.mu_alive.proofs.Alone.{never_over}
 use Rattle.mu_alive.proofs.Cutting.{cut, located, met}
 use Rattle.mu_alive.proofs.Granting.{granted}
-use Rattle.mu_alive.proofs.Moments.{asks_there, both_moments}
-use Rattle.mu_alive.proofs.Noting.{NotesOwned, confirmed, notes_owned}
+use Rattle.mu_alive.proofs.Moments.{From, asks_there, both_moments, from_each}
+use Rattle.mu_alive.proofs.Noting.{confirmed, notes_owned, reads_fence}
 
 -- what a host keeps it kept before
 pub reads_before : (c : Config) (r : ℕ) (newer older : List Event) → ReadsInTime c r (newer ++ older) → ReadsInTime c r older
@@ -70,7 +70,7 @@ cut_at a k (e ∷ events) few = elim (cases_lt (length (part a events)) k) [
     one_more false = omega arith
 
 -- an ask in the part is one that the region counts
-asked_once : (a p : ℕ) (past : List Event) → has (is_asking p) (part a past) ≡ true → 1 ≤ asks a p past
+pub asked_once : (a p : ℕ) (past : List Event) → has (is_asking p) (part a past) ≡ true → 1 ≤ asks a p past
 asked_once a p [] some = absurd (true≢false (sym some))
 asked_once a p (e ∷ past) some = go (e.by == a) refl some (asked_once a p past)
   where
@@ -92,7 +92,7 @@ asked_once a p (e ∷ past) some = go (e.by == a) refl some (asked_once a p past
     go false own some ih = counts (is_ask_by a p e.by e.verb) (ih some)
 
 -- after so many steps each region is granted
-owned : (c : Config) (live : ℕ → Bool) (a p : ℕ) (newer older : List Event) → LeadsAlone c live a (newer ++ older) → AtEachMoment (λ now. has_to_ask c a now ≡ true) (part a (newer ++ older)) → p < c.replicas → live p ≡ true → granting_steps c ≤ length (part a older) → fence_owner p older ≡ Some a
+owned : (c : Config) (live : ℕ → Bool) (a p : ℕ) (newer older : List Event) → LeadsAlone c live a (newer ++ older) → AtEachMoment (From 0 (λ now. has_to_ask c a now ≡ true)) (part a (newer ++ older)) → p < c.replicas → live p ≡ true → granting_steps c ≤ length (part a older) → fence_owner p older ≡ Some a
 owned c live a p newer older lone waits low lives long =
     subst (λ l. fence_owner p l ≡ Some a) (sym first.is)
     (granted c a p first.newer first.rest lone.inside legal alone
@@ -118,7 +118,7 @@ owned c live a p newer older lone waits low lives long =
     asked : has (is_asking p) (part a first.rest) ≡ true
     asked =
         let split = parts a ∙ ap (λ l. part a newer ++ l) (filter-append (λ e. e.by == a) first.newer first.rest) ∙ sym (append_assoc (part a newer) (part a first.newer) (part a first.rest)) in
-        asks_there c a p (part a (newer ++ older)) (part a newer ++ part a first.newer) (part a first.rest) [] lone.asks (split ∙ ap (λ l. (part a newer ++ part a first.newer) ++ l) (sym (append-nil (part a first.rest)))) first.count low waits
+        asks_there c 0 a p (part a (newer ++ older)) (part a newer ++ part a first.newer) (part a first.rest) [] lone.asks (split ∙ ap (λ l. (part a newer ++ part a first.newer) ++ l) (sym (append-nil (part a first.rest)))) first.count (omega arith) low waits
 
     enough : 2 * cycle c ≤ length (part p first.newer)
     enough =
@@ -172,14 +172,21 @@ still_left None false x = (x + 0, refl)
 still_left (Some n) true x = (min n (x + 0 - 1), refl)
 still_left (Some n) false x = (min n (x + 0), refl)
 
--- no minimum was read, and a named itself
-abbrev pub HasNoMin : Config → ℕ → List Event → Type 0
-HasNoMin c a now = (has_min a now ≡ false) × (is_named c a now ≡ true)
+-- no minimum was read, and from some moment on a named itself
+abbrev pub HasNoMin : Config → ℕ → ℕ → List Event → Type 0
+HasNoMin c a start now = (has_min a now ≡ false) × From start (λ now. is_named c a now ≡ true) now
+
+-- the last moment of a stretch is one
+quiet_last : (c : Config) (a start : ℕ) (newer older : List Event) → start ≤ length older → AtEachMoment (HasNoMin c a start) (newer ++ older) → (has_min a (newer ++ older) ≡ false) × (is_named c a (newer ++ older) ≡ true)
+quiet_last c a start newer older late none =
+    let here = last_moment (HasNoMin c a start) (newer ++ older) none in
+    let long = length-append newer older in
+    (here.0, here.1 (omega (arith, long, late)))
 
 -- while it is confirmed a count is open
-waits_for : (c : Config) (a : ℕ) (newer older : List Event) → AtEachMoment (HasNoMin c a) (newer ++ older) → has_begun a older ≡ true → is_confirmed c a older ≡ false → is_confirmed c a (newer ++ older) ≡ true → (left : ℕ) × (steps_left (confirming c a) (newer ++ older) ≡ Some left)
-waits_for c a [] older none begun not_yet is = absurd (true≢false (sym is ∙ not_yet))
-waits_for c a (e ∷ newer) older none begun not_yet is = go (begins_leadership a e) refl (is_any_fencing e) refl (λ still. waits_for c a newer older none.0 begun not_yet still)
+waits_for : (c : Config) (a start : ℕ) (newer older : List Event) → start ≤ length older → AtEachMoment (HasNoMin c a start) (newer ++ older) → has_begun a older ≡ true → is_confirmed c a older ≡ false → is_confirmed c a (newer ++ older) ≡ true → (left : ℕ) × (steps_left (confirming c a) (newer ++ older) ≡ Some left)
+waits_for c a start [] older late none begun not_yet is = absurd (true≢false (sym is ∙ not_yet))
+waits_for c a start (e ∷ newer) older late none begun not_yet is = go (begins_leadership a e) refl (is_any_fencing e) refl (λ still. waits_for c a start newer older late none.0 begun not_yet still)
   where
     past : List Event
     past = newer ++ older
@@ -187,8 +194,8 @@ waits_for c a (e ∷ newer) older none begun not_yet is = go (begins_leadership 
     begun_now : has_begun a past ≡ true
     begun_now = has_more (begins_leadership a) newer older begun
 
-    here : HasNoMin c a past
-    here = last_moment (HasNoMin c a) past none.0
+    here : (has_min a past ≡ false) × (is_named c a past ≡ true)
+    here = quiet_last c a start newer older late none.0
 
     opens : is_any_fencing e ≡ true → is_confirming c a past e ≡ true
     opens h = all_four (has_begun a past) (is_any_fencing e) (has_min a past) (is_confirmed c a (e ∷ past)) begun_now h here.0 is
@@ -220,6 +227,28 @@ waits_for c a (e ∷ newer) older none begun not_yet is = go (begins_leadership 
         let shut : (confirming c a).closes past e ≡ false = stays (is_replication past e) (is_named c a past) (is_min e) (is_any_fencing e) (not (is_confirmed c a (e ∷ past))) here.1 (no_min ht) hu in
         let k = still_left ((confirming c a).allows (e ∷ past)) (is_replication past e) x.0 in
         (k.0, ap (λ o. fewer ((confirming c a).allows (e ∷ past)) (left_after ((confirming c a).closes past e) (is_replication past e) 0 o)) x.1 ∙ ap (λ t. fewer ((confirming c a).allows (e ∷ past)) (left_after t (is_replication past e) 0 (Some x.0))) shut ∙ k.1)
+
+-- since its ask no event of a comes while another is named
+unnamed_since : (c : Config) (a start : ℕ) (newer older : List Event) (first : Event) → start ≤ length older → AtEachMoment (HasNoMin c a start) (newer ++ first ∷ older) → begins_leadership a first ≡ true → was_unnamed c a (newer ++ first ∷ older) ≡ false
+unnamed_since c a start [] older first late none begins = go (is_replication older first) (is_named c a older) (begins_leadership a first) (quiet_last c a start [] older late none.0).1 begins
+  where
+    go : (t u b : Bool) → u ≡ true → b ≡ true → cond (t && not u) true (cond b false (was_unnamed c a older)) ≡ false
+    go true true true hu hb = refl
+    go false u true hu hb = refl
+    go t u false hu hb = absurd (true≢false (sym hb))
+    go true false b hu hb = absurd (true≢false (sym hu))
+unnamed_since c a start (e ∷ newer) older first late none begins =
+    go (is_replication past e) (is_named c a past) (begins_leadership a e) (quiet_last c a start newer (first ∷ older) (omega (arith, late)) none.0).1 (unnamed_since c a start newer older first late none.0 begins)
+  where
+    past : List Event
+    past = newer ++ first ∷ older
+
+    go : (t u b : Bool) → u ≡ true → was_unnamed c a past ≡ false → cond (t && not u) true (cond b false (was_unnamed c a past)) ≡ false
+    go true true true h ih = refl
+    go true true false h ih = ih
+    go true false b h ih = absurd (true≢false (sym h))
+    go false u true h ih = refl
+    go false u false h ih = ih
 
 -- no event of a comes while another is named
 pub never_unnamed : (c : Config) (a : ℕ) (past : List Event) → AtEachMoment (λ now. is_named c a now ≡ true) past → was_unnamed c a past ≡ false
@@ -258,7 +287,7 @@ step_at : (P : List Event → Event → Type 0) (newer older : List Event) (e : 
 step_at P newer older e held = (steps_before P newer (e ∷ older) held).1
 
 -- two first asks of a journal, the earlier one after so many steps
-record TwoAsks (k : ℕ) (mine : List Event) : Type 0 where
+pub record TwoAsks (k : ℕ) (mine : List Event) : Type 0 where
   newer : List Event
   later : Event
   between : List Event
@@ -278,11 +307,11 @@ record OneAsk (mine rest : List Event) (k : ℕ) : Type 0 where
   asks : is_asking 0 asked ≡ true
   long : length mine ≤ length newer + k + length rest
 
-one_ask : (c : Config) (r : ℕ) (mine newer rest : List Event) → AsksInTime c r mine → mine ≡ newer ++ rest → asking_steps c ≤ length newer → 0 < c.replicas → AtEachMoment (λ now. has_to_ask c r now ≡ true) mine → OneAsk mine rest (asking_steps c)
-one_ask c r mine newer rest asks is long some waits =
+one_ask : (c : Config) (start r : ℕ) (mine newer rest : List Event) → AsksInTime c r mine → mine ≡ newer ++ rest → asking_steps c ≤ length newer → start ≤ length rest → 0 < c.replicas → AtEachMoment (From start (λ now. has_to_ask c r now ≡ true)) mine → OneAsk mine rest (asking_steps c)
+one_ask c start r mine newer rest asks is long late some waits =
     let k = cut (asking_steps c) newer long in
     let at : mine ≡ k.newer ++ (k.rest ++ rest) = is ∙ ap (λ l. l ++ rest) k.is ∙ append_assoc k.newer k.rest rest in
-    let m = met (is_asking 0) k.rest (asks_there c r 0 mine k.newer k.rest rest asks at k.count some waits) in
+    let m = met (is_asking 0) k.rest (asks_there c start r 0 mine k.newer k.rest rest asks at k.count late some waits) in
     let split = ap length at ∙ length-append k.newer (k.rest ++ rest) in
     let rests = length-append k.rest rest in
     let both = length-append k.newer m.newer in
@@ -296,21 +325,21 @@ one_ask c r mine newer rest asks is long some waits =
       long = omega (arith, split, rests, both, n);
     }
 
-two_asks : (c : Config) (r : ℕ) (mine : List Event) → AsksInTime c r mine → beginning_steps c ≤ length mine → 0 < c.replicas → AtEachMoment (λ now. has_to_ask c r now ≡ true) mine → TwoAsks (granting_steps c) mine
-two_asks c r mine asks many some waits =
-    let start = cut (granting_steps c) mine (omega (arith, many)) in
-    let l = ap length start.is ∙ length-append start.newer start.rest in
-    let n = start.count in
-    let first = one_ask c r mine start.newer start.rest asks start.is (omega (arith, many, l, n)) some waits in
+pub two_asks : (c : Config) (start k r : ℕ) (mine : List Event) → AsksInTime c r mine → k + 2 * asking_steps c ≤ length mine → start ≤ k → 0 < c.replicas → AtEachMoment (From start (λ now. has_to_ask c r now ≡ true)) mine → TwoAsks k mine
+two_asks c start k r mine asks many after some waits =
+    let bottom = cut k mine (omega (arith, many)) in
+    let l = ap length bottom.is ∙ length-append bottom.newer bottom.rest in
+    let n = bottom.count in
+    let first = one_ask c start r mine bottom.newer bottom.rest asks bottom.is (omega (arith, many, l, n)) (omega (arith, n, after)) some waits in
     let enough = first.long in
-    let second = one_ask c r mine first.newer (first.asked ∷ (first.older ++ start.rest)) asks first.is (omega (arith, many, n, enough)) some waits in
-    let more = length-append first.older start.rest in
+    let more = length-append first.older bottom.rest in
+    let second = one_ask c start r mine first.newer (first.asked ∷ (first.older ++ bottom.rest)) asks first.is (omega (arith, many, n, enough)) (omega (arith, n, after, more)) some waits in
     record {
       newer = second.newer;
       later = second.asked;
       between = second.older;
       first = first.asked;
-      older = first.older ++ start.rest;
+      older = first.older ++ bottom.rest;
       is = second.is;
       asks_later = second.asks;
       asks_first = first.asks;
@@ -318,71 +347,84 @@ two_asks c r mine asks many some waits =
     }
 
 -- an ask at which the replica is confirmed keeps no leader's pace
-no_ask : (c : Config) (a : ℕ) (between older : List Event) (later first : Event) → LeaderKeeps c a (between ++ first ∷ older) later → AtEachMoment (HasNoMin c a) (between ++ first ∷ older) → begins_leadership a first ≡ true → begins_leadership a later ≡ true
+no_ask : (c : Config) (a start : ℕ) (between older : List Event) (later first : Event) → LeaderKeeps c a (between ++ first ∷ older) later → start ≤ length older → AtEachMoment (HasNoMin c a start) (between ++ first ∷ older) → begins_leadership a first ≡ true → begins_leadership a later ≡ true
     → is_confirmed c a (between ++ first ∷ older) ≡ true → ⊥
-no_ask c a between older later first kept quiet begins anew is =
-    let k = waits_for c a between (first ∷ older) quiet (ap (λ t. cond t true (has_begun a older)) begins) (unconfirmed c a first older begins) is in
+no_ask c a start between older later first kept late quiet begins anew is =
+    let k = waits_for c a start between (first ∷ older) (omega (arith, late)) quiet (ap (λ t. cond t true (has_begun a older)) begins) (unconfirmed c a first older begins) is in
     let none = sym (kept.confirmation.anew anew) ∙ k.1 in
     cc
 
--- where a asks anew after it was granted all regions, it is confirmed
-asks_confirmed : (c : Config) (live : ℕ → Bool) (a : ℕ) (between older mine : List Event) (later first : Event) → a < c.replicas → live a ≡ true → majority_of c.replicas ≤ count_below c.replicas live → IsLegalHistory c (between ++ first ∷ older) → AsksAlone a (between ++ first ∷ older) → ((p : ℕ) → p < c.replicas → live p ≡ true → fence_owner p older ≡ Some a)
-    → part a (between ++ first ∷ older) ≡ mine → LeaderKeeps c a mine later → AtEachMoment (HasNoMin c a) mine → has_begun a mine ≡ true → is_asking 0 first ≡ true → is_asking 0 later ≡ true → first.by ≡ a → is_confirmed c a mine ≡ true
-asks_confirmed c live a between older mine later first inside lives majority legal alone owns is kept quiet begun asks_first asks_later own =
-    let on : is_over a mine ≡ false = ap (is_over a) (sym is) ∙ over-part a (between ++ first ∷ older) ∙ never_over c a (between ++ first ∷ older) legal alone in
-    let named = never_unnamed c a mine (each_named mine quiet) in
-    let cause = cause_is c a mine (kept.cause.anew asks_later) begun on named in
-    let notes : (p : ℕ) → p < c.replicas → live p ≡ true → NotesOwned a p (between ++ first ∷ older) = λ p low lives. notes_owned c a p between older first asks_first (eq-eqb first.by a own) (owns p low lives) legal in
-    ap (is_confirmed c a) (sym is)
-    ∙ confirmed c live a (between ++ first ∷ older) inside lives majority alone notes (ap (λ l. all_below c.replicas (λ p. nat_le 16 (how_many (is_fencing p) (leadership a l)))) is ∙ cause.1)
-  where
-    each_named : (past : List Event) → AtEachMoment (HasNoMin c a) past → AtEachMoment (λ now. is_named c a now ≡ true) past
-    each_named [] held = held.1
-    each_named (e ∷ past) held = (each_named past held.0, held.1.1)
+-- what is there where a asks once more: its leadership isn't over, and reads note the grants of the live
+pub record MayConfirm (c : Config) (live : ℕ → Bool) (a : ℕ) (now : List Event) : Type 0 where
+  pub on : is_over a now ≡ false
+  pub notes : (p : ℕ) → p < c.replicas → live p ≡ true → has (reads_fence a p) (leadership a now) ≡ true → is_some (noted_grant a p now) ≡ true
 
 -- so such a replica doesn't ask twice then
-not_twice : (c : Config) (live : ℕ → Bool) (a : ℕ) (past newer between middle oldest : List Event) (later first : Event) → LeadsAlone c live a past → past ≡ newer ++ later ∷ (between ++ first ∷ oldest) → part a (between ++ first ∷ oldest) ≡ middle ++ first ∷ part a oldest
-    → AtEachMoment (λ now. has_to_ask c a now ≡ true) (part a past) → AtEachMoment (HasNoMin c a) (middle ++ first ∷ part a oldest) → LeaderKeeps c a (middle ++ first ∷ part a oldest) later → granting_steps c ≤ length (part a oldest)
-    → is_asking 0 later ≡ true → is_asking 0 first ≡ true → later.by ≡ a → first.by ≡ a → ⊥
-not_twice c live a past newer between middle oldest later first lone is mine waits quiet kept long asks_later asks_first own_later own_first =
-    let owns : (p : ℕ) → p < c.replicas → live p ≡ true → fence_owner p oldest ≡ Some a = λ p low lives. owned c live a p (newer ++ later ∷ (between ++ first ∷ [])) oldest (subst (LeadsAlone c live a) (is ∙ deeper) lone) (subst (λ l. AtEachMoment (λ now. has_to_ask c a now ≡ true) (part a l)) (is ∙ deeper) waits) low lives long in
-    let begins = begins_now a first own_first asks_first in
-    let begun : has_begun a (middle ++ first ∷ part a oldest) ≡ true = has_more (begins_leadership a) middle (first ∷ part a oldest) (ap (λ t. cond t true (has_begun a (part a oldest))) begins) in
-    let legal = (legal_older c newer (later ∷ (between ++ first ∷ oldest)) (subst (IsLegalHistory c) is lone.legal)).0 in
-    let alone = (alone_before a newer (later ∷ (between ++ first ∷ oldest)) (subst (AsksAlone a) is lone.alone)).0 in
-    no_ask c a middle (part a oldest) later first kept quiet begins (begins_now a later own_later asks_later)
-    (asks_confirmed c live a between oldest (middle ++ first ∷ part a oldest) later first lone.inside lone.lives lone.majority legal alone owns mine kept quiet begun asks_first asks_later own_first)
+not_twice : (c : Config) (live : ℕ → Bool) (a start : ℕ) (between middle oldest : List Event) (later first : Event) → a < c.replicas → live a ≡ true → majority_of c.replicas ≤ count_below c.replicas live → MayConfirm c live a (between ++ first ∷ oldest) → part a (between ++ first ∷ oldest) ≡ middle ++ first ∷ part a oldest
+    → start ≤ length (part a oldest) → AtEachMoment (HasNoMin c a start) (middle ++ first ∷ part a oldest) → LeaderKeeps c a (middle ++ first ∷ part a oldest) later → is_asking 0 later ≡ true → is_asking 0 first ≡ true → later.by ≡ a → first.by ≡ a → ⊥
+not_twice c live a start between middle oldest later first inside lives majority may mine late quiet kept asks_later asks_first own_later own_first =
+    no_ask c a start middle (part a oldest) later first kept late quiet begins (begins_now a later own_later asks_later)
+    (ap (is_confirmed c a) (sym mine) ∙ confirmed c live a (between ++ first ∷ oldest) inside lives majority may.notes (ap (λ l. all_below c.replicas (λ p. nat_le 16 (how_many (is_fencing p) (leadership a l)))) mine ∙ cause.1))
   where
-    deeper : newer ++ later ∷ (between ++ first ∷ oldest) ≡ (newer ++ later ∷ (between ++ first ∷ [])) ++ oldest
-    deeper = ap (λ l. newer ++ later ∷ l) (sym (append_assoc between (first ∷ []) oldest)) ∙ sym (append_assoc newer (later ∷ (between ++ first ∷ [])) oldest)
+    begins : begins_leadership a first ≡ true
+    begins = begins_now a first own_first asks_first
 
-has_to_ask_all : (c : Config) (a : ℕ) (mine : List Event) → AtEachMoment (λ now. is_named c a now ≡ true) mine → AtEachMoment (λ now. knows_all c a now ≡ false) mine → AtEachMoment (λ now. has_min a now ≡ false) mine → AtEachMoment (λ now. has_to_ask c a now ≡ true) mine
-has_to_ask_all c a mine named lacks none =
-    both_moments (λ now. is_named c a now ≡ true) (λ now. (not (knows_all c a now) && not (leads a now)) ≡ true) (λ now. has_to_ask c a now ≡ true) (λ now n m. and_from (is_named c a now) (not (knows_all c a now) && not (leads a now)) n m) mine named
+    begun : has_begun a (middle ++ first ∷ part a oldest) ≡ true
+    begun = has_more (begins_leadership a) middle (first ∷ part a oldest) (ap (λ t. cond t true (has_begun a (part a oldest))) begins)
+
+    on : is_over a (middle ++ first ∷ part a oldest) ≡ false
+    on = ap (is_over a) (sym mine) ∙ over-part a (between ++ first ∷ oldest) ∙ may.on
+
+    cause : (has_min a (middle ++ first ∷ part a oldest) ≡ false) × (all_below c.replicas (λ p. nat_le 16 (how_many (is_fencing p) (leadership a (middle ++ first ∷ part a oldest)))) ≡ true)
+    cause = cause_is c a (middle ++ first ∷ part a oldest) (kept.cause.anew asks_later) begun on (unnamed_since c a start middle (part a oldest) first late quiet begins)
+
+pub has_to_ask_all : (c : Config) (a start : ℕ) (mine : List Event) → AtEachMoment (From start (λ now. is_named c a now ≡ true)) mine → AtEachMoment (λ now. knows_all c a now ≡ false) mine → AtEachMoment (λ now. has_min a now ≡ false) mine → AtEachMoment (From start (λ now. has_to_ask c a now ≡ true)) mine
+has_to_ask_all c a start mine named lacks none =
+    both_moments (From start (λ now. is_named c a now ≡ true)) (λ now. (not (knows_all c a now) && not (leads a now)) ≡ true) (From start (λ now. has_to_ask c a now ≡ true)) (λ now n m late. and_from (is_named c a now) (not (knows_all c a now) && not (leads a now)) (n late) m) mine named
     (both_moments (λ now. knows_all c a now ≡ false) (λ now. has_min a now ≡ false) (λ now. (not (knows_all c a now) && not (leads a now)) ≡ true) (λ now k m. both (knows_all c a now) (has_min a now) (is_over a now) k m) mine lacks none)
   where
     both : (k m o : Bool) → k ≡ false → m ≡ false → (not k && not (m && not o)) ≡ true
     both k m o hk hm = rw (hk, hm) refl
 
 -- the two asks in the whole history
-asks_fail : (c : Config) (live : ℕ → Bool) (a : ℕ) (past : List Event) → LeadsAlone c live a past → AtEachMoment (λ now. has_to_ask c a now ≡ true) (part a past) → AtEachMoment (HasNoMin c a) (part a past) → TwoAsks (granting_steps c) (part a past) → ⊥
-asks_fail c live a past lone waits quiet two =
+pub asks_fail : (c : Config) (live : ℕ → Bool) (a start k : ℕ) (past : List Event) → a < c.replicas → live a ≡ true → majority_of c.replicas ≤ count_below c.replicas live → start ≤ k → AtEachStep (LeaderKeeps c a) (part a past) → AtEachMoment (HasNoMin c a start) (part a past)
+    → ((newer between oldest : List Event) (first : Event) → past ≡ newer ++ (between ++ first ∷ oldest) → k ≤ length (part a oldest) → is_asking 0 first ≡ true → first.by ≡ a → MayConfirm c live a (between ++ first ∷ oldest)) → TwoAsks k (part a past) → ⊥
+asks_fail c live a start k past inside lives majority after led quiet may two =
     let late = located a past two.newer (two.between ++ two.first ∷ two.older) two.later two.is in
     let soon = located a late.older two.between two.older two.first late.before in
-    let whole : past ≡ late.newer ++ two.later ∷ (soon.newer ++ two.first ∷ soon.older) = late.is ∙ ap (λ l. late.newer ++ two.later ∷ l) soon.is in
+    let whole : past ≡ (late.newer ++ two.later ∷ []) ++ (soon.newer ++ two.first ∷ soon.older) = late.is ∙ ap (λ l. late.newer ++ two.later ∷ l) soon.is ∙ sym (append_assoc late.newer (two.later ∷ []) (soon.newer ++ two.first ∷ soon.older)) in
     let mine : part a (soon.newer ++ two.first ∷ soon.older) ≡ two.between ++ two.first ∷ part a soon.older = ap (part a) (sym soon.is) ∙ late.before ∙ ap (λ l. two.between ++ two.first ∷ l) (sym soon.before) in
     let there : part a past ≡ two.newer ++ two.later ∷ (two.between ++ two.first ∷ part a soon.older) = two.is ∙ ap (λ l. two.newer ++ two.later ∷ (two.between ++ two.first ∷ l)) (sym soon.before) in
-    let kept = step_at (LeaderKeeps c a) two.newer (two.between ++ two.first ∷ part a soon.older) two.later (subst (AtEachStep (LeaderKeeps c a)) there lone.led) in
-    let still = (moments_before (HasNoMin c a) two.newer (two.later ∷ (two.between ++ two.first ∷ part a soon.older)) (subst (AtEachMoment (HasNoMin c a)) there quiet)).0 in
+    let kept = step_at (LeaderKeeps c a) two.newer (two.between ++ two.first ∷ part a soon.older) two.later (subst (AtEachStep (LeaderKeeps c a)) there led) in
+    let still = (moments_before (HasNoMin c a start) two.newer (two.later ∷ (two.between ++ two.first ∷ part a soon.older)) (subst (AtEachMoment (HasNoMin c a start)) there quiet)).0 in
     let long = two.long in
     let same = ap length soon.before in
-    not_twice c live a past late.newer soon.newer two.between soon.older two.later two.first lone whole mine waits still kept (omega (arith, long, same)) two.asks_later two.asks_first late.own soon.own
+    not_twice c live a start soon.newer two.between soon.older two.later two.first inside lives majority (may (late.newer ++ two.later ∷ []) soon.newer soon.older two.first whole (omega (arith, long, same)) two.asks_first soon.own) mine (omega (arith, long, same, after)) still kept two.asks_later two.asks_first late.own soon.own
+
+-- where a asks alone
+alone_confirms : (c : Config) (live : ℕ → Bool) (a : ℕ) (past newer between oldest : List Event) (first : Event) → LeadsAlone c live a past → AtEachMoment (From 0 (λ now. has_to_ask c a now ≡ true)) (part a past) → past ≡ newer ++ (between ++ first ∷ oldest) → granting_steps c ≤ length (part a oldest) → is_asking 0 first ≡ true → first.by ≡ a
+    → MayConfirm c live a (between ++ first ∷ oldest)
+alone_confirms c live a past newer between oldest first lone waits is long asks own = record { on = never_over c a (between ++ first ∷ oldest) legal alone; notes = λ p low lives read. ap is_some ((notes_owned c a p between oldest first asks (eq-eqb first.by a own) (owns p low lives) legal alone).noted read) }
+  where
+    legal : IsLegalHistory c (between ++ first ∷ oldest)
+    legal = legal_older c newer (between ++ first ∷ oldest) (subst (IsLegalHistory c) is lone.legal)
+
+    alone : AsksAlone a (between ++ first ∷ oldest)
+    alone = alone_before a newer (between ++ first ∷ oldest) (subst (AsksAlone a) is lone.alone)
+
+    deeper : past ≡ (newer ++ (between ++ first ∷ [])) ++ oldest
+    deeper = is ∙ ap (λ l. newer ++ l) (sym (append_assoc between (first ∷ []) oldest)) ∙ sym (append_assoc newer (between ++ first ∷ []) oldest)
+
+    owns : (p : ℕ) → p < c.replicas → live p ≡ true → fence_owner p oldest ≡ Some a
+    owns p low lives = owned c live a p (newer ++ (between ++ first ∷ [])) oldest (subst (LeadsAlone c live a) deeper lone) (subst (λ l. AtEachMoment (From 0 (λ now. has_to_ask c a now ≡ true)) (part a l)) deeper waits) low lives long
 
 pub begins_in_time : (c : Config) (live : ℕ → Bool) (a : ℕ) (past : List Event) → LeadsAlone c live a past → AtEachMoment (λ mine. knows_all c a mine ≡ false) (part a past) → AtEachMoment (λ mine. has_min a mine ≡ false) (part a past) → length (part a past) < beginning_steps c
 begins_in_time c live a past lone lacks none = elim (cases_lt (length (part a past)) (beginning_steps c)) [
   | inl few ↦ few
   | inr many ↦
-      let waits = has_to_ask_all c a (part a past) lone.named lacks none in
+      let named = from_each 0 (λ now. is_named c a now ≡ true) (part a past) lone.named in
+      let waits = has_to_ask_all c a 0 (part a past) named lacks none in
       let l = lone.inside in
-      absurd (asks_fail c live a past lone waits (both_moments (λ now. has_min a now ≡ false) (λ now. is_named c a now ≡ true) (HasNoMin c a) (λ now m n. (m, n)) (part a past) none lone.named) (two_asks c a (part a past) lone.asks many (omega (arith, l)) waits))
+      absurd (asks_fail c live a 0 (granting_steps c) past lone.inside lone.lives lone.majority (omega arith) lone.led (both_moments (λ now. has_min a now ≡ false) (From 0 (λ now. is_named c a now ≡ true)) (HasNoMin c a 0) (λ now m n. (m, n)) (part a past) none named)
+      (λ newer between oldest first is long asks own. alone_confirms c live a past newer between oldest first lone waits is long asks own) (two_asks c 0 (granting_steps c) a (part a past) lone.asks many (omega arith) (omega (arith, l)) waits))
 ]

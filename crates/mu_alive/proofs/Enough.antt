@@ -44,20 +44,20 @@ use Rattle.mu_alive.proofs.Cutting.{located}
 use Rattle.mu_alive.proofs.Moments.{at_least_halves, both_moments}
 
 -- a first minimum of a leadership, before which the journal has none under way
-record FirstMin (a : ℕ) (mine : List Event) : Type 0 where
-  newer : List Event
-  first : Event
-  older : List Event
-  is : mine ≡ newer ++ first ∷ older
-  min : is_min first ≡ true
-  begun : has_begun a older ≡ true
-  none : AtEachMoment (λ now. has_min a now ≡ false) older
+pub record FirstMin (a : ℕ) (mine : List Event) : Type 0 where
+  pub newer : List Event
+  pub first : Event
+  pub older : List Event
+  pub is : mine ≡ newer ++ first ∷ older
+  pub min : is_min first ≡ true
+  pub begun : has_begun a older ≡ true
+  pub none : AtEachMoment (λ now. has_min a now ≡ false) older
 
 first_verb : (a by : ℕ) (verb : Verb) (answer : Answer) → is_min_verb verb ≡ true → begins_leadership a (record { by = by; verb = verb; answer = answer }) ≡ false
 first_verb a by (Verb.Min p) answer is = refl
 first_verb a by verb answer is = absurd (true≢false (sym is))
 
-min_or_none : (a : ℕ) (mine : List Event) → AtEachMoment (λ now. has_min a now ≡ false) mine ⊎ FirstMin a mine
+pub min_or_none : (a : ℕ) (mine : List Event) → AtEachMoment (λ now. has_min a now ≡ false) mine ⊎ FirstMin a mine
 min_or_none a [] = inl refl
 min_or_none a (e ∷ mine) = elim (min_or_none a mine) [
   | inl none ↦ go (has_min a (e ∷ mine)) refl none
@@ -81,7 +81,7 @@ min_or_none a (e ∷ mine) = elim (min_or_none a mine) [
         inr (record { newer = []; first = e; older = mine; is = refl; min = k.0; begun = k.1; none = none })
 
 -- what holds of the whole history held of each beginning
-outrun_before : (c : Config) (r : ℕ) (newer older : List Event) → outrun c r (newer ++ older) ≡ None → outrun c r older ≡ None
+pub outrun_before : (c : Config) (r : ℕ) (newer older : List Event) → outrun c r (newer ++ older) ≡ None → outrun c r older ≡ None
 outrun_before c r [] older none = none
 outrun_before c r (e ∷ newer) older none = outrun_before c r newer older (go (outrun_by r (length (known c r (newer ++ older))) e.by e.verb e.answer) (outrun c r (newer ++ older)) none)
   where
@@ -90,7 +90,7 @@ outrun_before c r (e ∷ newer) older none = outrun_before c r newer older (go (
     go (Some x) None is = refl
     go (Some x) (Some y) is = absurd (let k = is in cc)
 
-asks_before : (c : Config) (r : ℕ) (newer older : List Event) → AsksInTime c r (newer ++ older) → AsksInTime c r older
+pub asks_before : (c : Config) (r : ℕ) (newer older : List Event) → AsksInTime c r (newer ++ older) → AsksInTime c r older
 asks_before c r newer older held = record {
   asks = λ p window o low s n held'. held.asks p window o low (more window o s) n held';
   fences = λ p window o low s n held'. held.fences p window o low (more window o s) n held';
@@ -118,22 +118,26 @@ lone_before c live a newer older lone = record {
     split : (r : ℕ) → part r (newer ++ older) ≡ part r newer ++ part r older
     split r = filter-append (λ e. e.by == r) newer older
 
--- at each moment of a's part its leadership isn't over, and the part is possible
-record IsFine (c : Config) (a : ℕ) (now : List Event) : Type 0 where
-  on : is_over a now ≡ false
-  possible : IsPossible c a now
-  going : outrun c a now ≡ None
-  named : is_named c a now ≡ true
-  lacks : knows_all c a now ≡ false
+-- at each moment of a's part its leadership isn't over, the part is possible, and a command is missing
+pub record IsFine (c : Config) (a : ℕ) (now : List Event) : Type 0 where
+  pub on : is_over a now ≡ false
+  pub possible : IsPossible c a now
+  pub going : outrun c a now ≡ None
+  pub lacks : knows_all c a now ≡ false
 
-abbrev IsOn : Config → ℕ → List Event → Type 0
-IsOn c a now = (is_over a now ≡ false) × IsPossible c a now
-
-on_moments : (c : Config) (a : ℕ) (past : List Event) → IsLegalHistory c past → AsksAlone a past → AtEachMoment (IsOn c a) (part a past)
-on_moments c a [] legal alone = (refl, part_is_possible c a [] legal)
-on_moments c a (e ∷ past) legal alone = go (e.by == a) (on_moments c a past legal.0 alone.0) (over-part a (e ∷ past) ∙ never_over c a (e ∷ past) legal alone, part_is_possible c a (e ∷ past) legal)
+possible_moments : (c : Config) (a : ℕ) (past : List Event) → IsLegalHistory c past → AtEachMoment (IsPossible c a) (part a past)
+possible_moments c a [] legal = part_is_possible c a [] legal
+possible_moments c a (e ∷ past) legal = go (e.by == a) (possible_moments c a past legal.0) (part_is_possible c a (e ∷ past) legal)
   where
-    go : (t : Bool) → AtEachMoment (IsOn c a) (part a past) → IsOn c a (cond t (e ∷ part a past) (part a past)) → AtEachMoment (IsOn c a) (cond t (e ∷ part a past) (part a past))
+    go : (t : Bool) → AtEachMoment (IsPossible c a) (part a past) → IsPossible c a (cond t (e ∷ part a past) (part a past)) → AtEachMoment (IsPossible c a) (cond t (e ∷ part a past) (part a past))
+    go true ih here = (ih, here)
+    go false ih here = ih
+
+lone_on : (c : Config) (a : ℕ) (past : List Event) → IsLegalHistory c past → AsksAlone a past → AtEachMoment (λ now. is_over a now ≡ false) (part a past)
+lone_on c a [] legal alone = refl
+lone_on c a (e ∷ past) legal alone = go (e.by == a) (lone_on c a past legal.0 alone.0) (over-part a (e ∷ past) ∙ never_over c a (e ∷ past) legal alone)
+  where
+    go : (t : Bool) → AtEachMoment (λ now. is_over a now ≡ false) (part a past) → is_over a (cond t (e ∷ part a past) (part a past)) ≡ false → AtEachMoment (λ now. is_over a now ≡ false) (cond t (e ∷ part a past) (part a past))
     go true ih here = (ih, here)
     go false ih here = ih
 
@@ -150,7 +154,7 @@ includes_more j (x ∷ xs) ys some = go (x == j) some (includes_more j xs ys)
     go true some ih = refl
     go false some ih = ih some
 
-holds_more : (c : Config) (xs ys : List ℕ) → holds_all c xs ≡ true → holds_all c (xs ++ ys) ≡ true
+pub holds_more : (c : Config) (xs ys : List ℕ) → holds_all c xs ≡ true → holds_all c (xs ++ ys) ≡ true
 holds_more c xs ys all =
     each_all (row_count c) (λ j. includes j (rows_in c (xs ++ ys)))
     (λ j low. subst (λ l. includes j l ≡ true) (sym (rows_in-append c xs ys)) (includes_more j (rows_in c xs) (rows_in c ys) (all_at (row_count c) (λ j. includes j (rows_in c xs)) all j low)))
@@ -159,7 +163,7 @@ holds_more c xs ys all =
 pub knows_on : (c : Config) (r : ℕ) (newer older : List Event) → knows_all c r older ≡ true → knows_all c r (newer ++ older) ≡ true
 knows_on c r newer older all = let more = known_stays c r newer older in subst (λ l. holds_all c l ≡ true) (sym more.1) (holds_more c (known c r older) more.0 all)
 
-lacks_moments : (c : Config) (r : ℕ) (mine : List Event) → knows_all c r mine ≡ false → AtEachMoment (λ now. knows_all c r now ≡ false) mine
+pub lacks_moments : (c : Config) (r : ℕ) (mine : List Event) → knows_all c r mine ≡ false → AtEachMoment (λ now. knows_all c r now ≡ false) mine
 lacks_moments c r [] lacks = lacks
 lacks_moments c r (e ∷ mine) lacks = (lacks_moments c r mine (go (knows_all c r mine) refl), lacks)
   where
@@ -167,11 +171,11 @@ lacks_moments c r (e ∷ mine) lacks = (lacks_moments c r mine (go (knows_all c 
     go true is = absurd (true≢false (sym (knows_on c r (e ∷ []) mine is) ∙ lacks))
     go false is = is
 
-fine_moments : (c : Config) (live : ℕ → Bool) (a : ℕ) (past : List Event) → LeadsAlone c live a past → knows_all c a (part a past) ≡ false → AtEachMoment (IsFine c a) (part a past)
-fine_moments c live a past lone lacks =
-    both_moments (IsOn c a) (λ now. (outrun c a now ≡ None) × ((is_named c a now ≡ true) × (knows_all c a now ≡ false))) (IsFine c a) (λ now x y. record { on = x.0; possible = x.1; going = y.0; named = y.1.0; lacks = y.1.1 }) (part a past) (on_moments c a past lone.legal lone.alone)
-    (both_moments (λ now. outrun c a now ≡ None) (λ now. (is_named c a now ≡ true) × (knows_all c a now ≡ false)) (λ now. (outrun c a now ≡ None) × ((is_named c a now ≡ true) × (knows_all c a now ≡ false))) (λ now x y. (x, y)) (part a past) (going_moments c a (part a past) lone.going)
-    (both_moments (λ now. is_named c a now ≡ true) (λ now. knows_all c a now ≡ false) (λ now. (is_named c a now ≡ true) × (knows_all c a now ≡ false)) (λ now x y. (x, y)) (part a past) lone.named (lacks_moments c a (part a past) lacks)))
+pub fine_moments : (c : Config) (a : ℕ) (past : List Event) → IsLegalHistory c past → AtEachMoment (λ now. is_over a now ≡ false) (part a past) → outrun c a (part a past) ≡ None → knows_all c a (part a past) ≡ false → AtEachMoment (IsFine c a) (part a past)
+fine_moments c a past legal on going lacks =
+    both_moments (λ now. (is_over a now ≡ false) × IsPossible c a now) (λ now. (outrun c a now ≡ None) × (knows_all c a now ≡ false)) (IsFine c a) (λ now x y. record { on = x.0; possible = x.1; going = y.0; lacks = y.1 }) (part a past)
+    (both_moments (λ now. is_over a now ≡ false) (IsPossible c a) (λ now. (is_over a now ≡ false) × IsPossible c a now) (λ now x y. (x, y)) (part a past) on (possible_moments c a past legal))
+    (both_moments (λ now. outrun c a now ≡ None) (λ now. knows_all c a now ≡ false) (λ now. (outrun c a now ≡ None) × (knows_all c a now ≡ false)) (λ now x y. (x, y)) (part a past) (going_moments c a (part a past) going) (lacks_moments c a (part a past) lacks))
 
 -- no head lacks room in a large ring
 roomy : (n : ℕ) (f : ℕ → Bool) → ((q : ℕ) → f q ≡ false) → not (all_below n (λ q. not (f q))) ≡ false
@@ -191,26 +195,27 @@ not_lagging c a past e low =
     go false u h = refl
 
 -- a leadership that has a minimum begins no other
-begins_verb : (a by : ℕ) (verb : Verb) (answer : Answer) → begins_leadership a (record { by = by; verb = verb; answer = answer }) ≡ true → is_asking_verb 0 verb ≡ true
+pub begins_verb : (a by : ℕ) (verb : Verb) (answer : Answer) → begins_leadership a (record { by = by; verb = verb; answer = answer }) ≡ true → is_asking_verb 0 verb ≡ true
 begins_verb a by (Verb.Ask q) answer is = (and_parts (by == a) (q == 0) is).1
 begins_verb a by verb answer is = absurd (true≢false (sym is))
 
-min_parts : (a : ℕ) (now : List Event) → has_min a now ≡ true → (has_begun a now ≡ true) × (has is_min (leadership a now) ≡ true)
+pub min_parts : (a : ℕ) (now : List Event) → has_min a now ≡ true → (has_begun a now ≡ true) × (has is_min (leadership a now) ≡ true)
 min_parts a now is = and_parts (has_begun a now) (has is_min (leadership a now)) is
 
-none_anew : (c : Config) (a : ℕ) (past : List Event) (e : Event) → AtEachMoment (IsFine c a) past → LeaderKeeps c a past e → has_min a past ≡ true → begins_leadership a e ≡ false
-none_anew c a past e fine kept has_one = go (begins_leadership a e) refl
-  where
-    each_named : (past : List Event) → AtEachMoment (IsFine c a) past → AtEachMoment (λ now. is_named c a now ≡ true) past
-    each_named [] held = held.named
-    each_named (e ∷ past) held = (each_named past held.0, held.1.named)
+-- once a read a minimum it names itself and begins no other leadership
+pub record Leads (c : Config) (a : ℕ) (past : List Event) (e : Event) : Type 0 where
+  pub same : has_min a past ≡ true → begins_leadership a e ≡ false
+  pub named : has_min a past ≡ true → is_named c a past ≡ true
 
-    go : (t : Bool) → begins_leadership a e ≡ t → t ≡ false
-    go true is =
-        let here = last_moment (IsFine c a) past fine in
-        let cause = cause_is c a past (kept.cause.anew (begins_verb a e.by e.verb e.answer is)) (min_parts a past has_one).0 here.on (never_unnamed c a past (each_named past fine)) in
+lone_leads : (c : Config) (a : ℕ) (mine : List Event) → AtEachMoment (λ now. is_over a now ≡ false) mine → AtEachMoment (λ now. is_named c a now ≡ true) mine → AtEachStep (LeaderKeeps c a) mine → AtEachStep (Leads c a) mine
+lone_leads c a [] on named kept = tt
+lone_leads c a (e ∷ past) on named kept = (lone_leads c a past on.0 named.0 kept.0, record { same = λ has_one. go has_one (begins_leadership a e) refl; named = λ _. last_moment (λ now. is_named c a now ≡ true) past named.0 })
+  where
+    go : has_min a past ≡ true → (t : Bool) → begins_leadership a e ≡ t → t ≡ false
+    go has_one true is =
+        let cause = cause_is c a past (kept.1.cause.anew (begins_verb a e.by e.verb e.answer is)) (min_parts a past has_one).0 (last_moment (λ now. is_over a now ≡ false) past on.0) (never_unnamed c a past named.0) in
         absurd (true≢false (sym has_one ∙ cause.0))
-    go false is = refl
+    go has_one false is = refl
 
 min_on : (a : ℕ) (e : Event) (past : List Event) → begins_leadership a e ≡ false → has_min a past ≡ true → has_min a (e ∷ past) ≡ true
 min_on a e past same is =
@@ -230,19 +235,19 @@ puts_inside c a past e possible p i b v is = go e.verb (parts_shorten_law c a pa
     go (Verb.PutSlot q j n w) needs is = let same : q ≡ p = cc in subst (λ x. x < c.replicas) same needs.0
     go verb needs is = cc
 
-calm_on : (c : Config) (a : ℕ) (newer base : List Event) → IsConfig c → HasLargeRing c → AtEachMoment (IsFine c a) (newer ++ base) → AtEachStep (LeaderKeeps c a) (newer ++ base) → has_min a base ≡ true → IsCalm c a newer base × (has_min a (newer ++ base) ≡ true)
+calm_on : (c : Config) (a : ℕ) (newer base : List Event) → IsConfig c → HasLargeRing c → AtEachMoment (IsFine c a) (newer ++ base) → AtEachStep (Leads c a) (newer ++ base) → has_min a base ≡ true → IsCalm c a newer base × (has_min a (newer ++ base) ≡ true)
 calm_on c a [] base good large fine kept is = (tt, is)
 calm_on c a (e ∷ newer) base good large fine kept is =
     let ih = calm_on c a newer base good large fine.0 kept.0 is in
     let past = newer ++ base in
     let here = last_moment (IsFine c a) past fine.0 in
-    let same = none_anew c a past e fine.0 kept.1 ih.1 in
+    let same = kept.1.same ih.1 in
     let fits = parts_fit_law c a past good here.possible here.lacks in (
       (
         ih.0,
         record {
           same = same;
-          named = here.named;
+          named = kept.1.named ih.1;
           leads_on = fine.1.on;
           has_room = not_lagging c a past e (omega (arith, fits, large));
           lacks = here.lacks;
@@ -275,15 +280,20 @@ first_is_milestone c a first older is begun none =
     go m h x hm hh = rw (hm, hh) refl
 
 -- from the first minimum on few steps come
-few_after : (c : Config) (live : ℕ → Bool) (a : ℕ) (past : List Event) → IsConfig c → HasLargeRing c → LeadsAlone c live a past → knows_all c a (part a past) ≡ false → (m : FirstMin a (part a past)) → length m.newer < 2 * calm_steps c (row_count c + reserve c)
-few_after c live a past good large lone lacks m =
-    let fine = subst (AtEachMoment (IsFine c a)) m.is (fine_moments c live a past lone lacks) in
-    let kept = subst (AtEachStep (LeaderKeeps c a)) m.is lone.led in
-    let calm = calm_on c a m.newer (m.first ∷ m.older) good large fine kept (first_has_min a m.first m.older m.min m.begun) in
+pub few_after : (c : Config) (a : ℕ) (mine : List Event) → IsConfig c → HasLargeRing c → AtEachMoment (IsFine c a) mine → AtEachStep (LeaderKeeps c a) mine → AtEachStep (Leads c a) mine → (m : FirstMin a mine) → length m.newer < 2 * calm_steps c (row_count c + reserve c)
+few_after c a mine good large all led leads m =
+    let fine = subst (AtEachMoment (IsFine c a)) m.is all in
+    let kept = subst (AtEachStep (LeaderKeeps c a)) m.is led in
+    let calm = calm_on c a m.newer (m.first ∷ m.older) good large fine (subst (AtEachStep (Leads c a)) m.is leads) (first_has_min a m.first m.older m.min m.begun) in
     let last = last_moment (IsFine c a) (m.newer ++ m.first ∷ m.older) fine in
     let few = calm_commits c a (row_count c + reserve c) m.first m.newer m.older (progress_moments c a (m.newer ++ m.first ∷ m.older) kept) (first_is_milestone c a m.first m.older m.min m.begun (last_moment (λ now. has_min a now ≡ false) m.older m.none)) calm.0 (known_fits c a (m.newer ++ m.first ∷ m.older) good last.possible) in
     let half = at_least_halves m.newer (m.first ∷ m.older) in
     omega (arith, few, half)
+
+lone_after : (c : Config) (live : ℕ → Bool) (a : ℕ) (past : List Event) → IsConfig c → HasLargeRing c → LeadsAlone c live a past → knows_all c a (part a past) ≡ false → (m : FirstMin a (part a past)) → length m.newer < 2 * calm_steps c (row_count c + reserve c)
+lone_after c live a past good large lone lacks m =
+    let on = lone_on c a past lone.legal lone.alone in
+    few_after c a (part a past) good large (fine_moments c a past lone.legal on lone.going lacks) lone.led (lone_leads c a (part a past) on lone.named lone.led) m
 
 -- and few before it
 few_before : (c : Config) (live : ℕ → Bool) (a : ℕ) (past newer older : List Event) (first : Event) → LeadsAlone c live a past → knows_all c a (part a past) ≡ false → part a past ≡ newer ++ first ∷ older → AtEachMoment (λ now. has_min a now ≡ false) older → length older < beginning_steps c
@@ -304,7 +314,7 @@ knows_all_in_time c live a past good large lone many = go (knows_all c a (part a
       | inl none ↦ (let few = begins_in_time c live a past lone (lacks_moments c a (part a past) lacks) none in omega (arith, few, many))
       | inr m ↦
           let before = few_before c live a past m.newer m.older m.first lone lacks m.is m.none in
-          let after = few_after c live a past good large lone lacks m in
+          let after = lone_after c live a past good large lone lacks m in
           let all = ap length m.is ∙ length-append m.newer (m.first ∷ m.older) in
           omega (arith, before, after, all, many)
     ]

@@ -2,6 +2,7 @@
 use Rattle.std.proofs.Common.{◌≡◌, ℕ, suc, zero, ◌+◌, ◌*◌, ◌%◌, ◌<◌, ◌≤◌, ◌&&◌, ◌||◌, not, inl, inr, Bool, true, false, cond, List, [], ◌∷◌, ◌++◌, length, refl, sym, arith, subst, true≢false}
 use Rattle.std.specs.Prelude.{if◌then◌else◌}
 use Rattle.std.proofs.lemmas.Bool.{cases_eq, eq-eqb, ne_eqb}
+use Rattle.std.proofs.lemmas.List.{length-append}
 use Rattle.mu_model.specs.declared.config.Config.{Config}
 use Rattle.mu_model.specs.declared.event.Event.{Event}
 use Rattle.mu_model.specs.Diligence.{AsksInTime, has_to_ask}
@@ -30,10 +31,23 @@ halves (suc n) (e ∷ f ∷ window) older long =
     let one = one_odd (length (window ++ older)) (replications window older) in
     omega (arith, ih, one)
 
--- a test that passes at each moment passes before each step
-pub each_before : (test : List Event → Bool) (unless : List Event → Event → Bool) (window older : List Event) → AtEachMoment (λ now. test now ≡ true) (window ++ older) → each_step (λ before e. not (unless before e) || test before) window older ≡ true
-each_before test unless [] older held = refl
-each_before test unless (e ∷ window) older held = go (unless (window ++ older) e) (test (window ++ older)) (last_moment (λ now. test now ≡ true) (window ++ older) held.0) (each_before test unless window older held.0)
+-- what holds at the moments that are so long
+abbrev pub From : ℕ → (List Event → Type 0) → List Event → Type 0
+From start P now = start ≤ length now → P now
+
+-- what holds at all moments holds at those
+pub from_each : (start : ℕ) (P : List Event → Type 0) (past : List Event) → AtEachMoment P past → AtEachMoment (From start P) past
+from_each start P [] held = λ _. held
+from_each start P (e ∷ past) held = (from_each start P past held.0, λ _. held.1)
+
+-- and the last moment is one of them
+pub last_from : (start : ℕ) (P : List Event → Type 0) (newer older : List Event) → start ≤ length older → AtEachMoment (From start P) (newer ++ older) → P (newer ++ older)
+last_from start P newer older late held = last_moment (From start P) (newer ++ older) held (let long = length-append newer older in omega (arith, long, late))
+
+-- a test that passes at each moment of a stretch passes before each step
+pub each_before : (start : ℕ) (test : List Event → Bool) (unless : List Event → Event → Bool) (window older : List Event) → start ≤ length older → AtEachMoment (From start (λ now. test now ≡ true)) (window ++ older) → each_step (λ before e. not (unless before e) || test before) window older ≡ true
+each_before start test unless [] older late held = refl
+each_before start test unless (e ∷ window) older late held = go (unless (window ++ older) e) (test (window ++ older)) (last_from start (λ now. test now ≡ true) window older late held.0) (each_before start test unless window older late held.0)
   where
     go : (t u : Bool) → u ≡ true → each_step (λ before e. not (unless before e) || test before) window older ≡ true → (if not t || u then each_step (λ before e. not (unless before e) || test before) window older else false) ≡ true
     go true true is ih = ih
@@ -66,9 +80,10 @@ at_least_halves (e ∷ f ∷ window) older =
     omega (arith, ih, one)
 
 -- so many steps hold an ask of each region
-pub asks_there : (c : Config) (r p : ℕ) (past newer window older : List Event) → AsksInTime c r past → past ≡ newer ++ (window ++ older) → length window ≡ asking_steps c → p < c.replicas → AtEachMoment (λ now. has_to_ask c r now ≡ true) past
+pub asks_there : (c : Config) (start r p : ℕ) (past newer window older : List Event) → AsksInTime c r past → past ≡ newer ++ (window ++ older) → length window ≡ asking_steps c → start ≤ length older → p < c.replicas → AtEachMoment (From start (λ now. has_to_ask c r now ≡ true)) past
     → has (is_asking p) window ≡ true
-asks_there c r p past newer window older asks is long low held =
+asks_there c start r p past newer window older asks is long late low held =
     some_event (is_asking p) window older
     (asks.asks p window older low (record { newer = newer; is = is }) (halves (17 * c.replicas + 1) window older long)
-    (each_before (has_to_ask c r) is_replication window older (moments_before (λ now. has_to_ask c r now ≡ true) newer (window ++ older) (subst (AtEachMoment (λ now. has_to_ask c r now ≡ true)) is held))))
+    (each_before start (has_to_ask c r) is_replication window older late
+    (moments_before (From start (λ now. has_to_ask c r now ≡ true)) newer (window ++ older) (subst (AtEachMoment (From start (λ now. has_to_ask c r now ≡ true))) is held))))

@@ -75,10 +75,11 @@ some_read a p (e ∷ past) some = go (is_fencing p e) refl (e.by == a) refl some
     go false ht true hu some ih = ih (subst (λ x. 1 ≤ cond x (how_many (is_fencing p) (part a past) + 1) (how_many (is_fencing p) (part a past))) ht some)
     go false ht false hu some ih = ih some
 
--- so where each fence of a majority was read often a is confirmed
-pub confirmed : (c : Config) (live : ℕ → Bool) (a : ℕ) (past : List Event) → a < c.replicas → live a ≡ true → majority_of c.replicas ≤ count_below c.replicas live → AsksAlone a past → ((p : ℕ) → p < c.replicas → live p ≡ true → NotesOwned a p past)
+-- so where each fence of a majority was read often, and the reads note the grants, a is confirmed
+pub confirmed : (c : Config) (live : ℕ → Bool) (a : ℕ) (past : List Event) → a < c.replicas → live a ≡ true → majority_of c.replicas ≤ count_below c.replicas live
+    → ((p : ℕ) → p < c.replicas → live p ≡ true → has (reads_fence a p) (leadership a past) ≡ true → is_some (noted_grant a p past) ≡ true)
     → all_below c.replicas (λ p. nat_le 16 (how_many (is_fencing p) (leadership a (part a past)))) ≡ true → is_confirmed c a (part a past) ≡ true
-confirmed c live a past inside lives majority alone notes often =
+confirmed c live a past inside lives majority notes often =
     and_from (is_some (noted_grant a a (part a past))) (nat_le (majority_of c.replicas) (count_below c.replicas (λ p. is_some (noted_grant a p (part a past)))))
     (noted a inside lives)
     (le-leb (majority_of c.replicas) (count_below c.replicas (λ p. is_some (noted_grant a p (part a past)))) (let more = count_more c.replicas live (λ p. is_some (noted_grant a p (part a past))) noted in omega (arith, more, majority)))
@@ -88,4 +89,4 @@ confirmed c live a past inside lives majority alone notes often =
         let many : 16 ≤ how_many (is_fencing p) (leadership a (part a past)) = leb-true 16 (how_many (is_fencing p) (leadership a (part a past))) (all_at c.replicas (λ p. nat_le 16 (how_many (is_fencing p) (leadership a (part a past)))) often p low) in
         let same = ap (how_many (is_fencing p)) (since-part (begins_leadership a) a (begins-own a) past) in
         let read = some_read a p (leadership a past) (omega (arith, many, same)) in
-        ap is_some (noted-part a p past ∙ (notes p low lives alone).noted read)
+        ap is_some (noted-part a p past) ∙ notes p low lives read

@@ -294,7 +294,7 @@ pub notes_standing : (c : Config) (r p : ℕ) (past : List Event) → IsLegalHis
 notes_standing c r p = top_induction c r (NotesStanding r p) (λ g e. cc) (λ past by v legal turns turn high may n. notes_step c r p by v past (owned_top c r p past legal turns high) may.may n)
 
 -- a fence of a region that r owns notes the grant
-seen_again : (r p : ℕ) (past : List Event) → OwnedTop r p past → fence_owner p past ≡ Some r → grant_for r (Some (fence p past)) ≡ Some (fence_grant p past)
+pub seen_again : (r p : ℕ) (past : List Event) → OwnedTop r p past → fence_owner p past ≡ Some r → grant_for r (Some (fence p past)) ≡ Some (fence_grant p past)
 seen_again r p past top owns = is (fence_closing p past) (fence_owner p past) (top owns).0 owns
   where
     is : (t : Bool) (owner : Option ℕ) → t ≡ false → owner ≡ Some r → cond (not t && owner_is r owner) (Some (fence_grant p past)) None ≡ Some (fence_grant p past)

@@ -30,11 +30,11 @@ use Rattle.mu_alive.proofs.TurnFences.{IsHighest, OwnedTop, Waits, no_grant, own
 use Rattle.mu_alive.proofs.Turns.{begun_on, not_begun}
 
 -- what came before some events in turn was in turn
-turns_before : (newer older : List Event) → AreInTurn (newer ++ older) → AreInTurn older
+pub turns_before : (newer older : List Event) → AreInTurn (newer ++ older) → AreInTurn older
 turns_before [] older turns = turns
 turns_before (e ∷ newer) older turns = turns_before newer older turns.0
 
-highest_older : (r : ℕ) (newer older : List Event) → IsHighest r (newer ++ older) → IsHighest r older
+pub highest_older : (r : ℕ) (newer older : List Event) → IsHighest r (newer ++ older) → IsHighest r older
 highest_older r [] older high = high
 highest_older r (e ∷ newer) older high = highest_older r newer older (λ w above. not_begun w e (newer ++ older) (high w above))
 

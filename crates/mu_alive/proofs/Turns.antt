@@ -126,7 +126,7 @@ pub min_begun : (c : Config) (w : ℕ) (past : List Event) → IsLegalHistory c 
 min_begun c w = legal_induction c (MinBegun w) (λ some. absurd (true≢false (sym some))) (λ past by v h may s. min_begun_step c w by v past h may.may s)
 
 -- who has an open `Enter` for a minimum has read one
-own_more : (w : ℕ) (e : Event) (past : List Event) → has (is_own_min w) past ≡ true → has (is_own_min w) (e ∷ past) ≡ true
+pub own_more : (w : ℕ) (e : Event) (past : List Event) → has (is_own_min w) past ≡ true → has (is_own_min w) (e ∷ past) ≡ true
 own_more w e past some = go (is_own_min w e)
   where
     go : (t : Bool) → cond t true (has (is_own_min w) past) ≡ true
@@ -149,7 +149,7 @@ under_read w p g (e ∷ past) some = go (is_some (min_read w p e.by e.verb e.ans
     go true is u some ih = ap (λ t. cond t true (has (is_own_min w) past)) (reads e.by e.verb e.answer is)
     go false is u some ih = own_more w e past (ih some)
 
-own_min-part : (w : ℕ) (past : List Event) → has (is_own_min w) (part w past) ≡ has (is_own_min w) past
+pub own_min-part : (w : ℕ) (past : List Event) → has (is_own_min w) (part w past) ≡ has (is_own_min w) past
 own_min-part w past = has-part (is_own_min w) w (record { own = λ e other. go (is_min e) (e.by == w) other }) past
   where
     go : (t u : Bool) → u ≡ false → (t && u) ≡ false

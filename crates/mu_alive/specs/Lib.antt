@@ -1,5 +1,7 @@
 pub mod Alone
 pub mod Calm
 pub mod Enough
+pub mod Failing
+pub mod Last
 pub mod Lone
 pub mod Turns

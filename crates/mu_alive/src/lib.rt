@@ -4,6 +4,8 @@
 ghost use Rattle.mu_alive.specs.Alone.{LoneAskersLead};
 ghost use Rattle.mu_alive.specs.Calm.{CalmLeadersCommit};
 ghost use Rattle.mu_alive.specs.Enough.{LoneLeadersApplyAll, LoneLeadersKnowAll};
+ghost use Rattle.mu_alive.specs.Failing.{HeldFailedInTime};
+ghost use Rattle.mu_alive.specs.Last.{LastLeadersApplyAll, LastLeadersKnowAll};
 ghost use Rattle.mu_alive.specs.Turns.{HostsGrantInTurn, TurnsLeadOn};
 
 /// The leaderships of a replica that asks alone never end.
@@ -34,4 +36,20 @@ pub fn turns_lead_on()
 /// And a host grants its region to the last that asked.
 pub fn hosts_grant_in_turn()
     ensures { HostsGrantInTurn }
+{}
+
+/// Who makes no more events is held failed in time, by each other that reads its counts.
+pub fn held_failed_in_time()
+    ensures { HeldFailedInTime }
+{}
+
+/// So the last of the replicas that ask in turn, while a majority keeps up with it, knows every
+/// command in time.
+pub fn last_leaders_know_all()
+    ensures { LastLeadersKnowAll }
+{}
+
+/// And it has applied them where it fetches the rows that others wrote in time.
+pub fn last_leaders_apply_all()
+    ensures { LastLeadersApplyAll }
 {}

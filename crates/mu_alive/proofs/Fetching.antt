@@ -1,0 +1,250 @@
+-- Who completes a row in each two rounds has applied all that it knows in time.
+use Rattle.std.proofs.Common.{◌≡◌, ℕ, zero, suc, ◌+◌, ◌-◌, ◌*◌, ◌%◌, ◌/◌, ◌<◌, ◌≤◌, ◌==◌, ◌&&◌, ◌||◌, not, inl, inr, Bool, true, false, cond, List, [], ◌∷◌, ◌++◌, length, refl, sym, ◌∙◌, ap, arith, subst, true≢false, append_assoc}
+use Rattle.std.specs.Prelude.{nat_le}
+use Rattle.std.proofs.lemmas.Bool.{and_parts, cases_lt, leb-true}
+use Rattle.std.proofs.lemmas.List.{length-append}
+use Rattle.mu_model.specs.declared.config.Config.{Config}
+use Rattle.mu_model.specs.declared.event.Event.{Event}
+use Rattle.mu_model.specs.declared.event.Verb.{Verb}
+use Rattle.mu_model.specs.Bounds.{cycle}
+use Rattle.mu_model.specs.Contents.{IsConfig, holds_all, is_batch, rest_of, row_count}
+use Rattle.mu_model.specs.Diligence.{completes_row, completes_row_verb, is_row_of}
+use Rattle.mu_model.specs.Histories.{IsPrefixOf, all_below, count_below, has, part}
+use Rattle.mu_model.specs.Knowledge.{applied, front, has_entry, has_row, has_word, is_read, is_written, known, wrote}
+use Rattle.mu_model.specs.Room.{reserve}
+use Rattle.mu_model.specs.Steps.{knows_all}
+use Rattle.mu_model.specs.Stretches.{some_step}
+use Rattle.mu_model.proofs.Basics.{or_true, true_or}
+use Rattle.mu_model.proofs.Parts.{filter-append, part_is_possible}
+use Rattle.mu_model.proofs.Scans.{all_at, each_all}
+use Rattle.mu_agree.proofs.Counting.{count_more}
+use Rattle.mu_agree.proofs.Knowing.{known_stays}
+use Rattle.mu_agree.proofs.Sessions.{row_within}
+use Rattle.mu_pace.proofs.Positions.{known_fits}
+use Rattle.mu_alive.specs.Last.{FetchesInTime, LastLeadersApplyAll, LeadsLast, last_steps}
+use Rattle.mu_alive.proofs.Beginning.{CutAt, cut_at}
+use Rattle.mu_alive.proofs.Calm.{count_adds, count_few}
+use Rattle.mu_alive.proofs.Cutting.{cut}
+use Rattle.mu_alive.proofs.Enough.{holds_more, knows_on}
+use Rattle.mu_alive.proofs.Lasting.{last_before, last_knows_all}
+
+-- what r has it goes on having
+has_on : (test : Event → Bool) (e : Event) (past : List Event) → has test past ≡ true → has test (e ∷ past) ≡ true
+has_on test e past some = go (test e)
+  where
+    go : (t : Bool) → cond t true (has test past) ≡ true
+    go true = refl
+    go false = some
+
+word_on : (r u k : ℕ) (e : Event) (past : List Event) → has_word r u k past ≡ true → has_word r u k (e ∷ past) ≡ true
+word_on r u k e past is = go (u / 4096 == r) (wrote r (u % 4096) k past) refl (has (λ f. is_read r u k f.by f.verb) past) refl is
+  where
+    go : (t w : Bool) → wrote r (u % 4096) k past ≡ w → (x : Bool) → has (λ f. is_read r u k f.by f.verb) past ≡ x → ((t && w) || x) ≡ true → ((t && wrote r (u % 4096) k (e ∷ past)) || has (λ f. is_read r u k f.by f.verb) (e ∷ past)) ≡ true
+    go t w hw true hx is = or_true (t && wrote r (u % 4096) k (e ∷ past)) (has (λ f. is_read r u k f.by f.verb) (e ∷ past)) (has_on (λ f. is_read r u k f.by f.verb) e past hx)
+    go true true hw false hx is = true_or (wrote r (u % 4096) k (e ∷ past)) (has (λ f. is_read r u k f.by f.verb) (e ∷ past)) (has_on (λ f. is_written r (u % 4096) k f.by f.verb) e past hw)
+    go true false hw false hx is = absurd (true≢false (sym is))
+    go false w hw false hx is = absurd (true≢false (sym is))
+
+row_on : (r u : ℕ) (e : Event) (past : List Event) → has_row r u past ≡ true → has_row r u (e ∷ past) ≡ true
+row_on r u e past is = each_all 12 (λ k. has_word r u k (e ∷ past)) (λ k low. word_on r u k e past (all_at 12 (λ k. has_word r u k past) is k low))
+
+entry_on : (c : Config) (r v : ℕ) (e : Event) (past : List Event) → has_entry c r v past ≡ true → has_entry c r v (e ∷ past) ≡ true
+entry_on c r v e past is = go (not (is_batch c v)) is
+  where
+    go : (t : Bool) → (t || all_below (rest_of c (v % 4096) + 1) (λ x. has_row r (v + x) past)) ≡ true → (t || all_below (rest_of c (v % 4096) + 1) (λ x. has_row r (v + x) (e ∷ past))) ≡ true
+    go true is = refl
+    go false is = each_all (rest_of c (v % 4096) + 1) (λ x. has_row r (v + x) (e ∷ past)) (λ x low. row_on r (v + x) e past (all_at (rest_of c (v % 4096) + 1) (λ x. has_row r (v + x) past) is x low))
+
+-- so what is applied stays
+front_grows : (test now : ℕ → Bool) (xs ys : List ℕ) → ((v : ℕ) → test v ≡ true → now v ≡ true) → IsPrefixOf (front test xs) (front now (xs ++ ys))
+front_grows test now [] ys more = (front now ys, refl)
+front_grows test now (x ∷ xs) ys more = go (test x) refl (front_grows test now xs ys more)
+  where
+    go : (t : Bool) → test x ≡ t → IsPrefixOf (front test xs) (front now (xs ++ ys)) → IsPrefixOf (cond t (x ∷ front test xs) []) (cond (now x) (x ∷ front now (xs ++ ys)) [])
+    go true is ih = (ih.0, ap (λ t. cond t (x ∷ front now (xs ++ ys)) []) (more x is) ∙ ap (λ l. x ∷ l) ih.1)
+    go false is ih = (cond (now x) (x ∷ front now (xs ++ ys)) [], refl)
+
+applied_on : (c : Config) (r : ℕ) (newer older : List Event) → holds_all c (applied c r older) ≡ true → holds_all c (applied c r (newer ++ older)) ≡ true
+applied_on c r [] older all = all
+applied_on c r (e ∷ newer) older all =
+    let past = newer ++ older in
+    let ih = applied_on c r newer older all in
+    let more = known_stays c r (e ∷ []) past in
+    let grows = front_grows (λ v. has_entry c r v past) (λ v. has_entry c r v (e ∷ past)) (known c r past) more.0 (λ v is. entry_on c r v e past is) in
+    let is : applied c r (e ∷ past) ≡ applied c r past ++ grows.0 = ap (front (λ v. has_entry c r v (e ∷ past))) more.1 ∙ grows.1 in
+    subst (λ l. holds_all c l ≡ true) (sym is) (holds_more c (applied c r past) grows.0 ih)
+
+-- a front as long as the list is the list
+front_whole : (test : ℕ → Bool) (xs : List ℕ) → length xs ≤ length (front test xs) → front test xs ≡ xs
+front_whole test [] long = refl
+front_whole test (x ∷ xs) long = go (test x) long (front_whole test xs)
+  where
+    go : (t : Bool) → suc (length xs) ≤ length (cond t (x ∷ front test xs) []) → (length xs ≤ length (front test xs) → front test xs ≡ xs) → cond t (x ∷ front test xs) [] ≡ x ∷ xs
+    go true long ih = ap (λ l. x ∷ l) (ih (omega (arith, long)))
+    go false long ih = absurd (omega (arith, long))
+
+-- how many rows of an entry r has, and of some entries
+abbrev rows_of_entry : Config → ℕ → List Event → ℕ → ℕ
+rows_of_entry c r past v = cond (is_batch c v) (count_below (rest_of c (v % 4096) + 1) (λ t. has_row r (v + t) past)) 0
+
+abbrev rows_got : Config → ℕ → List Event → List ℕ → ℕ
+rows_got c r past [] = 0
+rows_got c r past (v ∷ vs) = rows_of_entry c r past v + rows_got c r past vs
+
+few_rows : (c : Config) (r : ℕ) (past : List Event) (values : List ℕ) → IsConfig c → rows_got c r past values ≤ c.width * length values
+few_rows c r past [] good = omega arith
+few_rows c r past (v ∷ vs) good =
+    let ih = few_rows c r past vs good in
+    let one = few (is_batch c v) refl in
+    let next : c.width * suc (length vs) ≡ c.width * length vs + c.width = omega arith in
+    omega (arith, ih, one, next)
+  where
+    few : (t : Bool) → is_batch c v ≡ t → cond t (count_below (rest_of c (v % 4096) + 1) (λ x. has_row r (v + x) past)) 0 ≤ c.width
+    few true batch =
+        let most = count_few (rest_of c (v % 4096) + 1) (λ x. has_row r (v + x) past) in
+        let rests = good.rests (v % 4096) (row_within c v batch) in
+        omega (arith, most, rests)
+    few false other = omega arith
+
+more_of_entry : (c : Config) (r : ℕ) (e : Event) (past : List Event) (v : ℕ) → rows_of_entry c r past v ≤ rows_of_entry c r (e ∷ past) v
+more_of_entry c r e past v = go (is_batch c v)
+  where
+    go : (t : Bool) → cond t (count_below (rest_of c (v % 4096) + 1) (λ x. has_row r (v + x) past)) 0 ≤ cond t (count_below (rest_of c (v % 4096) + 1) (λ x. has_row r (v + x) (e ∷ past))) 0
+    go true = count_more (rest_of c (v % 4096) + 1) (λ x. has_row r (v + x) past) (λ x. has_row r (v + x) (e ∷ past)) (λ x low is. row_on r (v + x) e past is)
+    go false = omega arith
+
+more_got : (c : Config) (r : ℕ) (e : Event) (past : List Event) (values : List ℕ) → rows_got c r past values ≤ rows_got c r (e ∷ past) values
+more_got c r e past [] = omega arith
+more_got c r e past (v ∷ vs) = let ih = more_got c r e past vs in let one = more_of_entry c r e past v in omega (arith, ih, one)
+
+got_both : (c : Config) (r : ℕ) (past : List Event) (xs ys : List ℕ) → rows_got c r past xs ≤ rows_got c r past (xs ++ ys)
+got_both c r past [] ys = omega arith
+got_both c r past (x ∷ xs) ys = let ih = got_both c r past xs ys in omega (arith, ih)
+
+-- of all that it knows
+abbrev got_now : Config → ℕ → List Event → ℕ
+got_now c r past = rows_got c r past (known c r past)
+
+got_on : (c : Config) (r : ℕ) (e : Event) (past : List Event) → rows_got c r (e ∷ past) (known c r past) ≤ got_now c r (e ∷ past)
+got_on c r e past =
+    let more = known_stays c r (e ∷ []) past in
+    subst (λ l. rows_got c r (e ∷ past) (known c r past) ≤ rows_got c r (e ∷ past) l) (sym more.1) (got_both c r (e ∷ past) (known c r past) more.0)
+
+got_stays : (c : Config) (r : ℕ) (newer older : List Event) → got_now c r older ≤ got_now c r (newer ++ older)
+got_stays c r [] older = omega arith
+got_stays c r (e ∷ newer) older =
+    let ih = got_stays c r newer older in
+    let here = more_got c r e (newer ++ older) (known c r (newer ++ older)) in
+    let on = got_on c r e (newer ++ older) in
+    omega (arith, ih, here, on)
+
+-- a row that is completed is one more
+one_more : (c : Config) (r u : ℕ) (e : Event) (past : List Event) (values : List ℕ) → is_row_of c u values ≡ true → has_row r u past ≡ false → has_row r u (e ∷ past) ≡ true → rows_got c r past values + 1 ≤ rows_got c r (e ∷ past) values
+one_more c r u e past [] is lacks has_it = absurd (true≢false (sym is))
+one_more c r u e past (v ∷ vs) is lacks has_it = go (is_batch c v) refl (nat_le v u) refl (nat_le u (v + rest_of c (v % 4096))) refl is (one_more c r u e past vs)
+  where
+    later : (is_row_of c u vs ≡ true → has_row r u past ≡ false → has_row r u (e ∷ past) ≡ true → rows_got c r past vs + 1 ≤ rows_got c r (e ∷ past) vs) → is_row_of c u vs ≡ true → rows_of_entry c r past v + rows_got c r past vs + 1 ≤ rows_of_entry c r (e ∷ past) v + rows_got c r (e ∷ past) vs
+    later ih there = let more = ih there lacks has_it in let one = more_of_entry c r e past v in omega (arith, more, one)
+
+    here : is_batch c v ≡ true → v ≤ u → u ≤ v + rest_of c (v % 4096) → rows_of_entry c r past v + rows_got c r past vs + 1 ≤ rows_of_entry c r (e ∷ past) v + rows_got c r (e ∷ past) vs
+    here batch low high =
+        let at : v + (u - v) ≡ u = omega (arith, low) in
+        let adds = count_adds (rest_of c (v % 4096) + 1) (u - v) (λ x. has_row r (v + x) past) (λ x. has_row r (v + x) (e ∷ past)) (omega (arith, low, high)) (ap (λ x. has_row r x past) at ∙ lacks) (ap (λ x. has_row r x (e ∷ past)) at ∙ has_it) (λ x l is. row_on r (v + x) e past is) in
+        let before = ap (λ t. cond t (count_below (rest_of c (v % 4096) + 1) (λ x. has_row r (v + x) past)) 0) batch in
+        let now = ap (λ t. cond t (count_below (rest_of c (v % 4096) + 1) (λ x. has_row r (v + x) (e ∷ past))) 0) batch in
+        let rest = more_got c r e past vs in
+        omega (arith, adds, before, now, rest)
+
+    go : (b : Bool) → is_batch c v ≡ b → (l : Bool) → nat_le v u ≡ l → (h : Bool) → nat_le u (v + rest_of c (v % 4096)) ≡ h → ((b && (l && h)) || is_row_of c u vs) ≡ true
+        → (is_row_of c u vs ≡ true → has_row r u past ≡ false → has_row r u (e ∷ past) ≡ true → rows_got c r past vs + 1 ≤ rows_got c r (e ∷ past) vs) → rows_of_entry c r past v + rows_got c r past vs + 1 ≤ rows_of_entry c r (e ∷ past) v + rows_got c r (e ∷ past) vs
+    go true hb true hl true hh is ih = here hb (leb-true v u hl) (leb-true u (v + rest_of c (v % 4096)) hh)
+    go true hb true hl false hh is ih = later ih is
+    go true hb false hl h hh is ih = later ih is
+    go false hb l hl h hh is ih = later ih is
+
+completes_one : (c : Config) (r : ℕ) (e : Event) (past : List Event) → completes_row c r past e ≡ true → got_now c r past + 1 ≤ got_now c r (e ∷ past)
+completes_one c r e past is = go e.verb is
+  where
+    go : (verb : Verb) → completes_row_verb c r past (e ∷ past) verb ≡ true → got_now c r past + 1 ≤ got_now c r (e ∷ past)
+    go (Verb.ReadRow u k) is =
+        let a = and_parts (is_row_of c u (known c r past)) (not (has_row r u past) && has_row r u (e ∷ past)) is in
+        let b = and_parts (not (has_row r u past)) (has_row r u (e ∷ past)) a.1 in
+        let more = one_more c r u e past (known c r past) a.0 (lacks (has_row r u past) b.0) b.1 in
+        let on = got_on c r e past in
+        omega (arith, more, on)
+      where
+        lacks : (t : Bool) → not t ≡ true → t ≡ false
+        lacks true is = absurd (true≢false (sym is))
+        lacks false is = refl
+    go verb is = absurd (true≢false (sym is))
+
+some_completed : (c : Config) (r : ℕ) (window older : List Event) → some_step (completes_row c r) window older ≡ true → got_now c r older + 1 ≤ got_now c r (window ++ older)
+some_completed c r [] older some = absurd (true≢false (sym some))
+some_completed c r (e ∷ window) older some = go (completes_row c r (window ++ older) e) refl some (some_completed c r window older)
+  where
+    go : (t : Bool) → completes_row c r (window ++ older) e ≡ t → cond t true (some_step (completes_row c r) window older) ≡ true → (some_step (completes_row c r) window older ≡ true → got_now c r older + 1 ≤ got_now c r (window ++ older)) → got_now c r older + 1 ≤ got_now c r (e ∷ (window ++ older))
+    go true is some ih = let one = completes_one c r e (window ++ older) is in let stays = got_stays c r window older in omega (arith, one, stays)
+    go false is some ih = let more = ih some in let stays = got_stays c r (e ∷ []) (window ++ older) in omega (arith, more, stays)
+
+-- so many rounds complete so many rows
+rows_come : (c : Config) (r k : ℕ) (whole top window base : List Event) → FetchesInTime c r whole → whole ≡ top ++ (window ++ base) → ((newer rest : List Event) → whole ≡ newer ++ (rest ++ base) → length (applied c r (rest ++ base)) < length (known c r (rest ++ base)))
+    → k * (2 * cycle c) ≤ length window → k ≤ got_now c r (window ++ base)
+rows_come c r zero whole top window base fetches is lacks long = omega arith
+rows_come c r (suc k) whole top window base fetches is lacks long =
+    let next : suc k * (2 * cycle c) ≡ k * (2 * cycle c) + 2 * cycle c = omega arith in
+    let under = cut (k * (2 * cycle c)) window (omega (arith, next, long)) in
+    let count = under.count in
+    let sum = ap length under.is ∙ length-append under.newer under.rest in
+    let round = cut (2 * cycle c) under.newer (omega (arith, next, long, count, sum)) in
+    let lower : whole ≡ (top ++ under.newer) ++ (under.rest ++ base) = is ∙ ap (λ l. top ++ (l ++ base)) under.is ∙ ap (λ l. top ++ l) (append_assoc under.newer under.rest base) ∙ sym (append_assoc top under.newer (under.rest ++ base)) in
+    let upper : whole ≡ (top ++ round.newer) ++ (round.rest ++ (under.rest ++ base)) =
+    lower ∙ ap (λ l. (top ++ l) ++ (under.rest ++ base)) round.is ∙ ap (λ l. l ++ (under.rest ++ base)) (sym (append_assoc top round.newer round.rest)) ∙ append_assoc (top ++ round.newer) round.rest (under.rest ++ base) in
+    let ih = rows_come c r k whole (top ++ under.newer) under.rest base fetches lower lacks (omega (arith, count)) in
+    let some = fetches round.rest (under.rest ++ base) (record { newer = top ++ round.newer; is = upper }) round.count (lacks (top ++ under.newer) under.rest lower) in
+    let one = some_completed c r round.rest (under.rest ++ base) some in
+    let all : window ++ base ≡ round.newer ++ (round.rest ++ (under.rest ++ base)) =
+    ap (λ l. l ++ base) under.is ∙ append_assoc under.newer under.rest base ∙ ap (λ l. l ++ (under.rest ++ base)) round.is ∙ append_assoc round.newer round.rest (under.rest ++ base) in
+    let stays = got_stays c r round.newer (round.rest ++ (under.rest ++ base)) in
+    let same = ap (got_now c r) all in
+    omega (arith, ih, one, stays, same)
+
+-- who knows every command and hasn't applied each knows an entry that it hasn't applied
+lacks_one : (c : Config) (r : ℕ) (whole newer rest base : List Event) → whole ≡ newer ++ (rest ++ base) → knows_all c r base ≡ true → holds_all c (applied c r whole) ≡ false → length (applied c r (rest ++ base)) < length (known c r (rest ++ base))
+lacks_one c r whole newer rest base is knows lacks = elim (cases_lt (length (applied c r (rest ++ base))) (length (known c r (rest ++ base)))) [
+  | inl less ↦ less
+  | inr all ↦
+      let same : applied c r (rest ++ base) ≡ known c r (rest ++ base) = front_whole (λ v. has_entry c r v (rest ++ base)) (known c r (rest ++ base)) all in
+      let here = applied_on c r newer (rest ++ base) (ap (holds_all c) same ∙ knows_on c r rest base knows) in
+      absurd (true≢false (sym here ∙ ap (λ l. holds_all c (applied c r l)) (sym is) ∙ lacks))
+]
+
+pub last_applies_all : LastLeadersApplyAll
+last_applies_all c live a start past good large last fetches many = go (holds_all c (applied c a (part a past))) refl
+  where
+    at : CutAt a (start + last_steps c a) past
+    at = cut_at a (start + last_steps c a) past (omega (arith, many))
+
+    split : part a past ≡ part a at.newer ++ part a at.rest
+    split = ap (part a) at.is ∙ filter-append (λ e. e.by == a) at.newer at.rest
+
+    knows : knows_all c a (part a at.rest) ≡ true
+    knows = let count = at.count in last_knows_all c live a start at.rest good large (last_before c live a start at.newer at.rest (subst (LeadsLast c live a start) at.is last)) (omega (arith, count))
+
+    late : holds_all c (applied c a (part a past)) ≡ false → ⊥
+    late lacks =
+        let count = at.count in
+        let sum = ap length split ∙ length-append (part a at.newer) (part a at.rest) in
+        let got = rows_come c a (c.width * (row_count c + reserve c) + 1) (part a past) [] (part a at.newer) (part a at.rest) fetches split (λ newer rest is. lacks_one c a (part a past) newer rest (part a at.rest) is knows lacks) (omega (arith, count, sum, many)) in
+        let few = few_rows c a (part a past) (known c a (part a past)) good in
+        let fits = known_fits c a (part a past) good (part_is_possible c a past last.legal) in
+        let most : c.width * length (known c a (part a past)) ≤ c.width * (row_count c + reserve c) = times c.width (length (known c a (part a past))) (row_count c + reserve c) fits in
+        let same = ap (got_now c a) split in
+        omega (arith, got, few, most, same)
+      where
+        times : (w x y : ℕ) → x ≤ y → w * x ≤ w * y
+        times zero x y less = omega arith
+        times (suc w) x y less = let ih = times w x y less in let a : suc w * x ≡ w * x + x = omega arith in let b : suc w * y ≡ w * y + y = omega arith in omega (arith, ih, a, b, less)
+
+    go : (t : Bool) → holds_all c (applied c a (part a past)) ≡ t → t ≡ true
+    go true is = refl
+    go false is = absurd (late is)

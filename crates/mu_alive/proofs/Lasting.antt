@@ -1,0 +1,263 @@
+-- The last that asks in turn knows every command in time.
+use Rattle.std.proofs.Common.{◌≡◌, ℕ, ◌+◌, ◌*◌, ◌<◌, ◌≤◌, ◌==◌, ◌&&◌, inl, inr, Bool, true, false, cond, Some, List, [], ◌∷◌, ◌++◌, length, refl, sym, ◌∙◌, ap, arith, subst, eqb-true, true≢false, append_assoc}
+use Rattle.std.proofs.lemmas.Bool.{cases_lt, eq-eqb}
+use Rattle.std.proofs.lemmas.List.{length-append}
+use Rattle.mu_model.specs.declared.config.Config.{Config}
+use Rattle.mu_model.specs.declared.event.Answer.{Answer}
+use Rattle.mu_model.specs.declared.event.Event.{Event}
+use Rattle.mu_model.specs.declared.event.Verb.{Verb}
+use Rattle.mu_model.specs.Bounds.{cycle}
+use Rattle.mu_model.specs.Contents.{IsConfig}
+use Rattle.mu_model.specs.Diligence.{AsksInTime, GrantsInTime, ReadsInTime, has_to_ask}
+use Rattle.mu_model.specs.Ends.{outrun}
+use Rattle.mu_model.specs.Histories.{has, part}
+use Rattle.mu_model.specs.Leaderships.{begins_leadership, has_begun, leadership}
+use Rattle.mu_model.specs.Legal.{IsLegalHistory}
+use Rattle.mu_model.specs.Regions.{asks, fence_owner}
+use Rattle.mu_model.specs.Steps.{has_min, is_asking, is_asking_verb, is_min, is_named, knows_all}
+use Rattle.mu_model.proofs.Parts.{filter-append}
+use Rattle.mu_agree.proofs.Legal.{legal_older}
+use Rattle.mu_pace.specs.Collecting.{LeaderKeeps}
+use Rattle.mu_pace.specs.Counters.{AtEachMoment, AtEachStep}
+use Rattle.mu_pace.proofs.Counting.{last_moment, moments_before, steps_before}
+use Rattle.mu_alive.specs.Enough.{asking_steps}
+use Rattle.mu_alive.specs.Last.{LastLeadersKnowAll, LeadsLast, NamesItself, last_granting_steps}
+use Rattle.mu_alive.specs.Lone.{IsNear}
+use Rattle.mu_alive.specs.Turns.{AreInTurn, is_own_min}
+use Rattle.mu_alive.proofs.Beginning.{CutAt, HasNoMin, MayConfirm, asked_once, asks_fail, cut_at, grants_before, has_to_ask_all, reads_before, two_asks}
+use Rattle.mu_alive.proofs.Cutting.{Cut, cut, located}
+use Rattle.mu_alive.proofs.Enough.{Leads, asks_before, begins_verb, few_after, fine_moments, lacks_moments, min_or_none, min_parts, outrun_before}
+use Rattle.mu_alive.proofs.LastNoting.{notes_own}
+use Rattle.mu_alive.proofs.Moments.{From, asks_there, both_moments}
+use Rattle.mu_alive.proofs.TurnFences.{IsHighest, lead_on_moments, turns_lead_on}
+use Rattle.mu_alive.proofs.TurnGrants.{highest_older, hosts_grant, turns_before}
+
+-- it names itself after so many steps
+late_named : (c : Config) (a start : ℕ) (mine : List Event) → AtEachMoment (NamesItself c a start) mine → AtEachMoment (From start (λ now. is_named c a now ≡ true)) mine
+late_named c a start [] named = λ late. named (inl late)
+late_named c a start (e ∷ mine) named = (late_named c a start mine named.0, λ late. named.1 (inl late))
+
+-- who asked a region first has begun
+begun_there : (a : ℕ) (past : List Event) → has (is_asking 0) (part a past) ≡ true → has_begun a past ≡ true
+begun_there a [] some = absurd (true≢false (sym some))
+begun_there a (e ∷ past) some = go (e.by == a) refl some (begun_there a past)
+  where
+    first : (by : ℕ) (verb : Verb) (answer : Answer) → (by == a) ≡ true → begins_leadership a (record { by = by; verb = verb; answer = answer }) ≡ is_asking 0 (record { by = by; verb = verb; answer = answer })
+    first by (Verb.Ask q) answer h = rw h refl
+    first by verb answer h = refl
+
+    go : (t : Bool) → (e.by == a) ≡ t → has (is_asking 0) (cond t (e ∷ part a past) (part a past)) ≡ true → (has (is_asking 0) (part a past) ≡ true → has_begun a past ≡ true) → cond (begins_leadership a e) true (has_begun a past) ≡ true
+    go true own some ih = here (begins_leadership a e) (is_asking 0 e) (first e.by e.verb e.answer own) some
+      where
+        here : (t u : Bool) → t ≡ u → cond u true (has (is_asking 0) (part a past)) ≡ true → cond t true (has_begun a past) ≡ true
+        here true u h some = refl
+        here false true h some = absurd (true≢false (sym h))
+        here false false h some = ih some
+    go false other some ih = later (begins_leadership a e) (ih some)
+      where
+        later : (t : Bool) → has_begun a past ≡ true → cond t true (has_begun a past) ≡ true
+        later true h = refl
+        later false h = h
+
+-- an ask in some events of the part is one in the part
+asked_more : (test : Event → Bool) (newer older : List Event) → has test newer ≡ true → has test (newer ++ older) ≡ true
+asked_more test [] older some = absurd (true≢false (sym some))
+asked_more test (e ∷ newer) older some = go (test e) some (asked_more test newer older)
+  where
+    go : (t : Bool) → cond t true (has test newer) ≡ true → (has test newer ≡ true → has test (newer ++ older) ≡ true) → cond t true (has test (newer ++ older)) ≡ true
+    go true some ih = refl
+    go false some ih = ih some
+
+-- after so many steps more each live host has granted its region to it
+owned : (c : Config) (live : ℕ → Bool) (a start p : ℕ) (newer older : List Event) → LeadsLast c live a start (newer ++ older) → AtEachMoment (From start (λ now. has_to_ask c a now ≡ true)) (part a (newer ++ older)) → p < c.replicas → live p ≡ true → start + last_granting_steps c a ≤ length (part a older) → fence_owner p older ≡ Some a
+owned c live a start p newer older last waits low lives long =
+    subst (λ l. fence_owner p l ≡ Some a) (sym first.is)
+    (hosts_grant c a p first.newer first.rest last.inside legal turns high
+    (reads_before c p (part p newer) (part p (first.newer ++ first.rest)) (subst (ReadsInTime c p) (parts p) (last.reads p low lives)))
+    (grants_before c p (part p newer) (part p (first.newer ++ first.rest)) (subst (GrantsInTime c p) (parts p) (last.grants p low lives)))
+    (begun_there a first.rest (asked 0 some)) (asked_once a p first.rest (asked p low)) enough)
+  where
+    some : 0 < c.replicas
+    some = (let l = last.inside in omega (arith, l))
+
+    first : CutAt a (start + asking_steps c) older
+    first = cut_at a (start + asking_steps c) older (omega (arith, long))
+
+    whole : newer ++ older ≡ newer ++ (first.newer ++ first.rest)
+    whole = ap (λ l. newer ++ l) first.is
+
+    parts : (r : ℕ) → part r (newer ++ older) ≡ part r newer ++ part r (first.newer ++ first.rest)
+    parts r = ap (part r) whole ∙ filter-append (λ e. e.by == r) newer (first.newer ++ first.rest)
+
+    legal : IsLegalHistory c (first.newer ++ first.rest)
+    legal = legal_older c newer (first.newer ++ first.rest) (subst (IsLegalHistory c) whole last.legal)
+
+    turns : AreInTurn (first.newer ++ first.rest)
+    turns = turns_before newer (first.newer ++ first.rest) (subst AreInTurn whole last.turns)
+
+    high : IsHighest a (first.newer ++ first.rest)
+    high = highest_older a newer (first.newer ++ first.rest) (subst (IsHighest a) whole last.highest)
+
+    bottom : Cut start (part a first.rest)
+    bottom = cut start (part a first.rest) (let count = first.count in omega (arith, count))
+
+    asked : (q : ℕ) → q < c.replicas → has (is_asking q) (part a first.rest) ≡ true
+    asked q inside =
+        let split = parts a ∙ ap (λ l. part a newer ++ l) (filter-append (λ e. e.by == a) first.newer first.rest) ∙ sym (append_assoc (part a newer) (part a first.newer) (part a first.rest)) in
+        let all = first.count in
+        let count = bottom.count in
+        let sum = ap length bottom.is ∙ length-append bottom.newer bottom.rest in
+        let there = asks_there c start a q (part a (newer ++ older)) (part a newer ++ part a first.newer) bottom.newer bottom.rest last.asks (split ∙ ap (λ l. (part a newer ++ part a first.newer) ++ l) bottom.is) (omega (arith, all, count, sum)) (omega (arith, count)) inside waits in
+        ap (has (is_asking q)) bottom.is ∙ asked_more (is_asking q) bottom.newer bottom.rest there
+
+    enough : (a + 1) * (2 * cycle c) ≤ length (part p first.newer)
+    enough =
+        let now : AtEachMoment (IsNear c live a) (newer ++ (first.newer ++ first.rest)) = subst (AtEachMoment (IsNear c live a)) whole last.near in
+        let at = moments_before (IsNear c live a) newer (first.newer ++ first.rest) now in
+        let late = (last_moment (IsNear c live a) (first.newer ++ first.rest) at p low lives).1 in
+        let early = (last_moment (IsNear c live a) first.rest (moments_before (IsNear c live a) first.newer first.rest at) p low lives).0 in
+        let same = ap (λ l. length (part a l)) first.is in
+        let split = ap length (filter-append (λ e. e.by == p) first.newer first.rest) ∙ length-append (part p first.newer) (part p first.rest) in
+        let count = first.count in
+        omega (arith, late, early, same, split, count, long)
+
+-- so it may be confirmed then
+last_confirms : (c : Config) (live : ℕ → Bool) (a start : ℕ) (past newer between oldest : List Event) (first : Event) → IsConfig c → LeadsLast c live a start past → AtEachMoment (From start (λ now. has_to_ask c a now ≡ true)) (part a past) → past ≡ newer ++ (between ++ first ∷ oldest)
+    → start + last_granting_steps c a ≤ length (part a oldest) → is_asking 0 first ≡ true → first.by ≡ a → MayConfirm c live a (between ++ first ∷ oldest)
+last_confirms c live a start past newer between oldest first good last waits is long asks own = record {
+  on = turns_lead_on c (between ++ first ∷ oldest) a legal turns (let most = good.replicas.1 in omega (arith, most));
+  notes = λ p low lives read. (notes_own c a p between oldest first asks (eq-eqb first.by a own) (owns p low lives) legal turns high).noted read;
+}
+  where
+    legal : IsLegalHistory c (between ++ first ∷ oldest)
+    legal = legal_older c newer (between ++ first ∷ oldest) (subst (IsLegalHistory c) is last.legal)
+
+    turns : AreInTurn (between ++ first ∷ oldest)
+    turns = turns_before newer (between ++ first ∷ oldest) (subst AreInTurn is last.turns)
+
+    high : IsHighest a (between ++ first ∷ oldest)
+    high = highest_older a newer (between ++ first ∷ oldest) (subst (IsHighest a) is last.highest)
+
+    deeper : past ≡ (newer ++ (between ++ first ∷ [])) ++ oldest
+    deeper = is ∙ ap (λ l. newer ++ l) (sym (append_assoc between (first ∷ []) oldest)) ∙ sym (append_assoc newer (between ++ first ∷ []) oldest)
+
+    owns : (p : ℕ) → p < c.replicas → live p ≡ true → fence_owner p oldest ≡ Some a
+    owns p low lives = owned c live a start p (newer ++ (between ++ first ∷ [])) oldest (subst (LeadsLast c live a start) deeper last) (subst (λ l. AtEachMoment (From start (λ now. has_to_ask c a now ≡ true)) (part a l)) deeper waits) low lives long
+
+-- and reads a minimum in time
+last_begins : (c : Config) (live : ℕ → Bool) (a start : ℕ) (past : List Event) → IsConfig c → LeadsLast c live a start past → AtEachMoment (λ mine. knows_all c a mine ≡ false) (part a past) → AtEachMoment (λ mine. has_min a mine ≡ false) (part a past)
+    → length (part a past) < start + last_granting_steps c a + 2 * asking_steps c
+last_begins c live a start past good last lacks none = elim (cases_lt (length (part a past)) (start + last_granting_steps c a + 2 * asking_steps c)) [
+  | inl few ↦ few
+  | inr many ↦
+      let named = late_named c a start (part a past) last.named in
+      let waits = has_to_ask_all c a start (part a past) named lacks none in
+      let l = last.inside in
+      absurd (asks_fail c live a start (start + last_granting_steps c a) past last.inside last.lives last.majority (omega arith) last.led
+      (both_moments (λ now. has_min a now ≡ false) (From start (λ now. is_named c a now ≡ true)) (HasNoMin c a start) (λ now m n. (m, n)) (part a past) none named)
+      (λ newer between oldest first is long asks own. last_confirms c live a start past newer between oldest first good last waits is long asks own)
+      (two_asks c start (start + last_granting_steps c a) a (part a past) last.asks many (omega arith) (omega (arith, l)) waits))
+]
+
+-- who leads has read a minimum
+min_there : (a : ℕ) (mine : List Event) → has is_min (leadership a mine) ≡ true → has is_min mine ≡ true
+min_there a [] some = some
+min_there a (e ∷ mine) some = go (begins_leadership a e) some (min_there a mine)
+  where
+    here : (u : Bool) → cond u true (has is_min (leadership a mine)) ≡ true → (has is_min (leadership a mine) ≡ true → has is_min mine ≡ true) → cond u true (has is_min mine) ≡ true
+    here true some ih = refl
+    here false some ih = ih some
+
+    go : (t : Bool) → has is_min (cond t [] (e ∷ leadership a mine)) ≡ true → (has is_min (leadership a mine) ≡ true → has is_min mine ≡ true) → has is_min (e ∷ mine) ≡ true
+    go true some ih = absurd (true≢false (sym some))
+    go false some ih = here (is_min e) some ih
+
+own_there : (a : ℕ) (past : List Event) → has is_min (part a past) ≡ true → has (is_own_min a) past ≡ true
+own_there a [] some = some
+own_there a (e ∷ past) some = go (e.by == a) refl some (own_there a past)
+  where
+    go : (t : Bool) → (e.by == a) ≡ t → has is_min (cond t (e ∷ part a past) (part a past)) ≡ true → (has is_min (part a past) ≡ true → has (is_own_min a) past ≡ true) → cond (is_min e && (e.by == a)) true (has (is_own_min a) past) ≡ true
+    go true own some ih = here (is_min e) (e.by == a) own some
+      where
+        here : (m t : Bool) → t ≡ true → cond m true (has is_min (part a past)) ≡ true → cond (m && t) true (has (is_own_min a) past) ≡ true
+        here true t h some = ap (λ u. cond u true (has (is_own_min a) past)) h
+        here false t h some = ih some
+    go false other some ih = later (is_min e && (e.by == a)) (ih some)
+      where
+        later : (t : Bool) → has (is_own_min a) past ≡ true → cond t true (has (is_own_min a) past) ≡ true
+        later true h = refl
+        later false h = h
+
+-- it goes on naming itself, and asks no more
+ask_verb : (verb : Verb) → is_asking_verb 0 verb ≡ true → verb ≡ Verb.Ask 0
+ask_verb (Verb.Ask q) h = ap (λ x. Verb.Ask x) (eqb-true q 0 h)
+ask_verb verb h = absurd (true≢false (sym h))
+
+last_leads : (c : Config) (a start : ℕ) (past : List Event) → AreInTurn past → AtEachMoment (NamesItself c a start) (part a past) → AtEachStep (Leads c a) (part a past)
+last_leads c a start [] turns named = tt
+last_leads c a start (e ∷ past) turns named = go (e.by == a) refl named (λ before. last_leads c a start past turns.0 before)
+  where
+    go : (t : Bool) → (e.by == a) ≡ t → AtEachMoment (NamesItself c a start) (cond t (e ∷ part a past) (part a past)) → (AtEachMoment (NamesItself c a start) (part a past) → AtEachStep (Leads c a) (part a past)) → AtEachStep (Leads c a) (cond t (e ∷ part a past) (part a past))
+    go false other named ih = ih named
+    go true own named ih = (ih named.0, record { same = λ m. same m (begins_leadership a e) refl; named = λ m. last_moment (NamesItself c a start) (part a past) named.0 (inr (min_parts a (part a past) m).0) })
+      where
+        same : has_min a (part a past) ≡ true → (t : Bool) → begins_leadership a e ≡ t → t ≡ false
+        same m true is =
+            let read = own_there a past (min_there a (part a past) (min_parts a (part a past) m).1) in
+            let none = subst (λ i. has (is_own_min i) past ≡ false) (eqb-true e.by a own) (turns.1.once (ask_verb e.verb (begins_verb a e.by e.verb e.answer is))) in
+            absurd (true≢false (sym read ∙ none))
+        same m false is = refl
+
+-- what holds of the whole history held of each beginning
+pub last_before : (c : Config) (live : ℕ → Bool) (a start : ℕ) (newer older : List Event) → LeadsLast c live a start (newer ++ older) → LeadsLast c live a start older
+last_before c live a start newer older last = record {
+  inside = last.inside;
+  lives = last.lives;
+  majority = last.majority;
+  legal = legal_older c newer older last.legal;
+  turns = turns_before newer older last.turns;
+  highest = highest_older a newer older last.highest;
+  near = moments_before (IsNear c live a) newer older last.near;
+  reads = λ r low lives. reads_before c r (part r newer) (part r older) (subst (ReadsInTime c r) (split r) (last.reads r low lives));
+  grants = λ r low lives. grants_before c r (part r newer) (part r older) (subst (GrantsInTime c r) (split r) (last.grants r low lives));
+  asks = asks_before c a (part a newer) (part a older) (subst (AsksInTime c a) (split a) last.asks);
+  led = steps_before (LeaderKeeps c a) (part a newer) (part a older) (subst (AtEachStep (LeaderKeeps c a)) (split a) last.led);
+  named = moments_before (NamesItself c a start) (part a newer) (part a older) (subst (AtEachMoment (NamesItself c a start)) (split a) last.named);
+  going = outrun_before c a (part a newer) (part a older) (sym (ap (outrun c a) (split a)) ∙ last.going);
+}
+  where
+    split : (r : ℕ) → part r (newer ++ older) ≡ part r newer ++ part r older
+    split r = filter-append (λ e. e.by == r) newer older
+
+-- few steps come before its first minimum
+few_first : (c : Config) (live : ℕ → Bool) (a start : ℕ) (past newer older : List Event) (first : Event) → IsConfig c → LeadsLast c live a start past → knows_all c a (part a past) ≡ false → part a past ≡ newer ++ first ∷ older → AtEachMoment (λ now. has_min a now ≡ false) older
+    → length older < start + last_granting_steps c a + 2 * asking_steps c
+few_first c live a start past newer older first good last lacks is none =
+    let at = located a past newer older first is in
+    let whole : past ≡ (at.newer ++ first ∷ []) ++ at.older = at.is ∙ sym (append_assoc at.newer (first ∷ []) at.older) in
+    let there = last_before c live a start (at.newer ++ first ∷ []) at.older (subst (LeadsLast c live a start) whole last) in
+    let lacking = (moments_before (λ now. knows_all c a now ≡ false) newer (first ∷ older) (subst (AtEachMoment (λ now. knows_all c a now ≡ false)) is (lacks_moments c a (part a past) lacks))).0 in
+    let same = ap length at.before in
+    let few = last_begins c live a start at.older good there (subst (AtEachMoment (λ now. knows_all c a now ≡ false)) (sym at.before) lacking) (subst (AtEachMoment (λ now. has_min a now ≡ false)) (sym at.before) none) in
+    omega (arith, few, same)
+
+pub last_knows_all : LastLeadersKnowAll
+last_knows_all c live a start past good large last many = go (knows_all c a (part a past)) refl
+  where
+    few : c.replicas < 8
+    few = (let most = good.replicas.1 in omega (arith, most))
+
+    late : knows_all c a (part a past) ≡ false → ⊥
+    late lacks = elim (min_or_none a (part a past)) [
+      | inl none ↦ (let short = last_begins c live a start past good last (lacks_moments c a (part a past) lacks) none in omega (arith, short, many))
+      | inr m ↦
+          let before = few_first c live a start past m.newer m.older m.first good last lacks m.is m.none in
+          let fine = fine_moments c a past last.legal (lead_on_moments c a past last.legal last.turns few) last.going lacks in
+          let after = few_after c a (part a past) good large fine last.led (last_leads c a start past last.turns last.named) m in
+          let all = ap length m.is ∙ length-append m.newer (m.first ∷ m.older) in
+          omega (arith, before, after, all, many)
+    ]
+
+    go : (t : Bool) → knows_all c a (part a past) ≡ t → t ≡ true
+    go true is = refl
+    go false is = absurd (late is)
