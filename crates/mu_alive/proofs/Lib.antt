@@ -11,3 +11,4 @@ pub mod TurnFences
 pub mod TurnGrants
 pub mod TurnNumbers
 pub mod Turns
+pub mod Unhindered

@@ -3,3 +3,4 @@ pub mod Calm
 pub mod Enough
 pub mod Lone
 pub mod Turns
+pub mod Unhindered

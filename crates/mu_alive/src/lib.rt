@@ -5,6 +5,7 @@ ghost use Rattle.mu_alive.specs.Alone.{LoneAskersLead};
 ghost use Rattle.mu_alive.specs.Calm.{CalmLeadersCommit};
 ghost use Rattle.mu_alive.specs.Enough.{LoneLeadersApplyAll, LoneLeadersKnowAll};
 ghost use Rattle.mu_alive.specs.Turns.{HostsGrantInTurn, TurnsLeadOn};
+ghost use Rattle.mu_alive.specs.Unhindered.{UnhinderedCommit};
 
 /// The leaderships of a replica that asks alone never end.
 pub fn lone_askers_lead()
@@ -34,4 +35,9 @@ pub fn turns_lead_on()
 /// And a host grants its region to the last that asked.
 pub fn hosts_grant_in_turn()
     ensures { HostsGrantInTurn }
+{}
+
+/// A leader that is confirmed, that nobody challenges and that has room commits within the bound.
+pub fn unhindered_leaders_commit()
+    ensures { UnhinderedCommit }
 {}
