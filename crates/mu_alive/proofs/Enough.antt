@@ -217,7 +217,7 @@ lone_leads c a (e ∷ past) on named kept = (lone_leads c a past on.0 named.0 ke
         absurd (true≢false (sym has_one ∙ cause.0))
     go has_one false is = refl
 
-min_on : (a : ℕ) (e : Event) (past : List Event) → begins_leadership a e ≡ false → has_min a past ≡ true → has_min a (e ∷ past) ≡ true
+pub min_on : (a : ℕ) (e : Event) (past : List Event) → begins_leadership a e ≡ false → has_min a past ≡ true → has_min a (e ∷ past) ≡ true
 min_on a e past same is =
     let parts = min_parts a past is in
     and_from (has_begun a (e ∷ past)) (has is_min (leadership a (e ∷ past))) (ap (λ t. cond t true (has_begun a past)) same ∙ parts.0)
@@ -262,13 +262,13 @@ progress_moments : (c : Config) (a : ℕ) (mine : List Event) → AtEachStep (Le
 progress_moments c a [] kept = λ left is. absurd (none_some left is)
 progress_moments c a (e ∷ mine) kept = (progress_moments c a mine kept.0, kept.1.places.progressing)
 
-first_has_min : (a : ℕ) (first : Event) (older : List Event) → is_min first ≡ true → has_begun a older ≡ true → has_min a (first ∷ older) ≡ true
+pub first_has_min : (a : ℕ) (first : Event) (older : List Event) → is_min first ≡ true → has_begun a older ≡ true → has_min a (first ∷ older) ≡ true
 first_has_min a first older is begun =
     let other = first_verb a first.by first.verb first.answer is in
     and_from (has_begun a (first ∷ older)) (has is_min (leadership a (first ∷ older))) (ap (λ t. cond t true (has_begun a older)) other ∙ begun)
     (ap (λ t. has is_min (cond t [] (first ∷ leadership a older))) other ∙ ap (λ t. cond t true (has is_min (leadership a older))) is)
 
-first_is_milestone : (c : Config) (a : ℕ) (first : Event) (older : List Event) → is_min first ≡ true → has_begun a older ≡ true → has_min a older ≡ false → is_milestone c a older first ≡ true
+pub first_is_milestone : (c : Config) (a : ℕ) (first : Event) (older : List Event) → is_min first ≡ true → has_begun a older ≡ true → has_min a older ≡ false → is_milestone c a older first ≡ true
 first_is_milestone c a first older is begun none =
     go (is_min first) (has is_min (leadership a older)) (commits_more c a older first || (is_replication older first && is_lagging c a older first)) is (no_min (has_begun a older) (has is_min (leadership a older)) begun none)
   where

@@ -5,3 +5,4 @@ pub mod Failing
 pub mod Last
 pub mod Lone
 pub mod Turns
+pub mod Unhindered

@@ -7,6 +7,7 @@ ghost use Rattle.mu_alive.specs.Enough.{LoneLeadersApplyAll, LoneLeadersKnowAll}
 ghost use Rattle.mu_alive.specs.Failing.{HeldFailedInTime};
 ghost use Rattle.mu_alive.specs.Last.{LastLeadersApplyAll, LastLeadersKnowAll};
 ghost use Rattle.mu_alive.specs.Turns.{HostsGrantInTurn, TurnsLeadOn};
+ghost use Rattle.mu_alive.specs.Unhindered.{UnhinderedCommit};
 
 /// The leaderships of a replica that asks alone never end.
 pub fn lone_askers_lead()
@@ -52,4 +53,9 @@ pub fn last_leaders_know_all()
 /// And it has applied them where it fetches the rows that others wrote in time.
 pub fn last_leaders_apply_all()
     ensures { LastLeadersApplyAll }
+{}
+
+/// A leader that is confirmed, that nobody challenges and that has room commits within the bound.
+pub fn unhindered_leaders_commit()
+    ensures { UnhinderedCommit }
 {}
