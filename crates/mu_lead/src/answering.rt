@@ -156,7 +156,8 @@ impl Lead {
         ensures named { self.new.named ≡ self.old.named }
         ensures note { result ≡ SomeNote.Working }
         ensures going { self.new.under_way ≡ going_after self.old.under_way result }
-        ensures listed { FollowsFrom self.old (SomePlace.ReadFuo p source) known.now (SomeVerb.Fuo p)
+        ensures listed { FollowsFrom self.old (SomePlace.ReadFuo p source) known.now
+            (SomeVerb.Fuo p)
             answer self.new }
     {
         match number_in(answer) {
@@ -183,7 +184,8 @@ impl Lead {
         ensures note { NotesEnter p answer result }
         ensures going { self.new.under_way ≡ going_after self.old.under_way result }
         ensures listed { (values : List ℕ)
-            → FollowsFrom self.old (SomePlace.EnterBehind p then) values (SomeVerb.Enter p (SomeTarget.Place (get_or self.old.up p 0 % self.old.config.ring)))
+            → FollowsFrom self.old (SomePlace.EnterBehind p then) values
+            (SomeVerb.Enter p (SomeTarget.Place (get_or self.old.up p 0 % self.old.config.ring)))
             answer self.new }
     {
         match lost_in(answer) {
@@ -208,7 +210,9 @@ impl Lead {
         ensures named { self.new.named ≡ self.old.named }
         ensures note { result ≡ SomeNote.Working }
         ensures going { self.new.under_way ≡ going_after self.old.under_way result }
-        ensures listed { FollowsFrom self.old (SomePlace.PutBehind p then) known.now (SomeVerb.PutSlot p (get_or self.old.up p 0) self.old.number (get_or known.now (get_or self.old.up p 0) 0))
+        ensures listed { FollowsFrom self.old (SomePlace.PutBehind p then) known.now
+            (SomeVerb.PutSlot p (get_or self.old.up p 0) self.old.number
+            (get_or known.now (get_or self.old.up p 0) 0))
             answer self.new }
     {
         match answer {
@@ -343,7 +347,8 @@ impl Lead {
         ensures note { length self.old.up ≡ 7
             → NotesJoin p (nat_lt (get_or self.old.up p 0) (length known.now)) answer result }
         ensures going { self.new.under_way ≡ going_after self.old.under_way result }
-        ensures listed { FollowsFrom self.old (SomePlace.LatePut p) known.now (SomeVerb.PutMin p self.old.number)
+        ensures listed { FollowsFrom self.old (SomePlace.LatePut p) known.now
+            (SomeVerb.PutMin p self.old.number)
             answer self.new }
     {
         match answer {
@@ -398,7 +403,8 @@ impl Lead {
         ensures named { self.new.named ≡ self.old.named }
         ensures note { NotesEnter p answer result }
         ensures going { self.new.under_way ≡ going_after self.old.under_way result }
-        ensures listed { FollowsFrom self.old (SomePlace.Enter p offer) known.now (SomeVerb.Enter p (SomeTarget.Place (length known.now % self.old.config.ring)))
+        ensures listed { FollowsFrom self.old (SomePlace.Enter p offer) known.now
+            (SomeVerb.Enter p (SomeTarget.Place (length known.now % self.old.config.ring)))
             answer self.new }
     {
         match lost_in(answer) {
@@ -438,7 +444,8 @@ impl Lead {
         ensures named { self.new.named ≡ self.old.named }
         ensures note { NotesPut (length known.now) offer result }
         ensures going { self.new.under_way ≡ going_after self.old.under_way result }
-        ensures listed { FollowsFrom self.old (SomePlace.Put p offer) known.now (SomeVerb.PutSlot p (length known.now) self.old.number offer.value)
+        ensures listed { FollowsFrom self.old (SomePlace.Put p offer) known.now
+            (SomeVerb.PutSlot p (length known.now) self.old.number offer.value)
             answer self.new }
     {
         match answer {

@@ -63,7 +63,8 @@ impl Lead {
         ensures named { self.new.named ≡ self.old.named }
         ensures note { result ≡ SomeNote.Working }
         ensures going { self.new.under_way ≡ going_after self.old.under_way result }
-        ensures listed { FollowsFrom self.old (SomePlace.ReadFuo p source) known.now (SomeVerb.Fuo p)
+        ensures listed { FollowsFrom self.old (SomePlace.ReadFuo p source) known.now
+            (SomeVerb.Fuo p)
             (SomeAnswer.Number u) self.new }
     {
         self.up = with_number(self.up, p, u);
@@ -283,7 +284,8 @@ impl Lead {
         ensures note { result ≡ SomeNote.Working }
         ensures going { self.new.under_way ≡ going_after self.old.under_way result }
         ensures listed { (values : List ℕ)
-            → FollowsFrom self.old (SomePlace.WidenBehind p then) values (SomeVerb.RaiseFuo p (get_or self.old.up p 0))
+            → FollowsFrom self.old (SomePlace.WidenBehind p then) values
+            (SomeVerb.RaiseFuo p (get_or self.old.up p 0))
             SomeAnswer.Done self.new }
     {
         self.reach = with_fuo(self.reach, p, self.up_of(p));
@@ -306,7 +308,8 @@ impl Lead {
         ensures note { result ≡ SomeNote.Working }
         ensures going { self.new.under_way ≡ going_after self.old.under_way result }
         ensures listed { (values : List ℕ)
-            → FollowsFrom self.old (SomePlace.LookBehind p then) values (SomeVerb.Look p (get_or self.old.up p 0))
+            → FollowsFrom self.old (SomePlace.LookBehind p then) values
+            (SomeVerb.Look p (get_or self.old.up p 0))
             answer self.new }
     {
         if is_past(answer) {
@@ -336,7 +339,8 @@ impl Lead {
         ensures note { result ≡ SomeNote.Working }
         ensures going { self.new.under_way ≡ going_after self.old.under_way result }
         ensures listed { (values : List ℕ)
-            → FollowsFrom self.old (SomePlace.EnterBehind p then) values (SomeVerb.Enter p (SomeTarget.Place (get_or self.old.up p 0 % self.old.config.ring)))
+            → FollowsFrom self.old (SomePlace.EnterBehind p then) values
+            (SomeVerb.Enter p (SomeTarget.Place (get_or self.old.up p 0 % self.old.config.ring)))
             SomeAnswer.Entered self.new }
     {
         let event = Event {
@@ -365,7 +369,9 @@ impl Lead {
         ensures named { self.new.named ≡ self.old.named }
         ensures note { result ≡ SomeNote.Working }
         ensures going { self.new.under_way ≡ going_after self.old.under_way result }
-        ensures listed { FollowsFrom self.old (SomePlace.PutBehind p then) known.now (SomeVerb.PutSlot p (get_or self.old.up p 0) self.old.number (get_or known.now (get_or self.old.up p 0) 0))
+        ensures listed { FollowsFrom self.old (SomePlace.PutBehind p then) known.now
+            (SomeVerb.PutSlot p (get_or self.old.up p 0) self.old.number
+            (get_or known.now (get_or self.old.up p 0) 0))
             SomeAnswer.Done self.new }
     {
         let event = Event {
@@ -396,7 +402,8 @@ impl Lead {
         ensures listed { (mine : List SomeEvent) → Stands mine self.now
             → known.now ≡ known_of self.now.config self.now.id mine
             → p < self.now.config.replicas
-            → result ≡ after_copy self.now.config self.now.id mine self.now.up self.now.reach p then }
+            → result
+            ≡ after_copy self.now.config self.now.id mine self.now.up self.now.reach p then }
     {
         if self.up_of(p) < known.len() as u64 {
             self.bring_up(p, then)
@@ -417,7 +424,8 @@ impl Lead {
         ensures named { self.new.named ≡ self.old.named }
         ensures note { result ≡ note_of_raise p then }
         ensures going { self.new.under_way ≡ going_after self.old.under_way result }
-        ensures listed { FollowsFrom self.old (SomePlace.RaiseBehind p then) known.now (SomeVerb.RaiseFuo p (get_or self.old.up p 0))
+        ensures listed { FollowsFrom self.old (SomePlace.RaiseBehind p then) known.now
+            (SomeVerb.RaiseFuo p (get_or self.old.up p 0))
             SomeAnswer.Done self.new }
     {
         self.reach = with_fuo(self.reach, p, self.up_of(p));

@@ -181,7 +181,8 @@ impl Lead {
         ensures note { length self.old.up ≡ 7
             → result ≡ note_of_join p (nat_lt (get_or self.old.up p 0) (length known.now)) }
         ensures going { self.new.under_way ≡ going_after self.old.under_way result }
-        ensures listed { FollowsFrom self.old (SomePlace.LatePut p) known.now (SomeVerb.PutMin p self.old.number)
+        ensures listed { FollowsFrom self.old (SomePlace.LatePut p) known.now
+            (SomeVerb.PutMin p self.old.number)
             SomeAnswer.Done self.new }
     {
         let event = Event {

@@ -375,7 +375,8 @@ impl Lead {
             → (mine : List SomeEvent) → Stands mine self.now
             → known.now ≡ known_of self.now.config self.now.id mine
             → result ≡ or_else (own_offer self.now.config self.now.id
-            (known_of self.now.config self.now.id mine) (end_of_known self.now.config self.now.id mine))
+            (known_of self.now.config self.now.id mine)
+            (end_of_known self.now.config self.now.id mine))
             (offer_row self.now.config self.now.id mine self.now.written.items) SomePlace.Rest }
     {
         match next_offer(&self.config, self.id, known, log) {
@@ -427,7 +428,8 @@ impl Lead {
         ensures named { self.new.named ≡ self.old.named }
         ensures note { result ≡ SomeNote.Working }
         ensures going { self.new.under_way ≡ going_after self.old.under_way result }
-        ensures listed { FollowsFrom self.old (SomePlace.Enter p offer) known.now (SomeVerb.Enter p (SomeTarget.Place (length known.now % self.old.config.ring)))
+        ensures listed { FollowsFrom self.old (SomePlace.Enter p offer) known.now
+            (SomeVerb.Enter p (SomeTarget.Place (length known.now % self.old.config.ring)))
             SomeAnswer.Entered self.new }
     {
         let event = Event {
@@ -472,7 +474,8 @@ impl Lead {
         ensures named { self.new.named ≡ self.old.named }
         ensures note { NotesPut (length known.now) offer result }
         ensures going { self.new.under_way ≡ going_after self.old.under_way result }
-        ensures listed { FollowsFrom self.old (SomePlace.Put p offer) known.now (SomeVerb.PutSlot p (length known.now) self.old.number offer.value)
+        ensures listed { FollowsFrom self.old (SomePlace.Put p offer) known.now
+            (SomeVerb.PutSlot p (length known.now) self.old.number offer.value)
             SomeAnswer.Done self.new }
     {
         let position = end_of(known);
@@ -508,7 +511,8 @@ impl Lead {
         ensures named { self.new.named ≡ self.old.named }
         ensures note { result ≡ SomeNote.Working }
         ensures going { self.new.under_way ≡ going_after self.old.under_way result }
-        ensures listed { FollowsFrom self.old (SomePlace.Raise p) known.now (SomeVerb.RaiseFuo p (length known.now))
+        ensures listed { FollowsFrom self.old (SomePlace.Raise p) known.now
+            (SomeVerb.RaiseFuo p (length known.now))
             SomeAnswer.Done self.new }
     {
         self.reach = with_fuo(self.reach, p, known.len() as u64);

@@ -54,7 +54,9 @@ impl Lead {
             → RoomsAt self.now.config self.now.id mine self.now.written.items result }
         ensures listed { (mine : List SomeEvent) → Stands mine self.now
             → last < 65535
-            → result ≡ write_from self.now.config self.now.id mine self.now.written.items first last offer }
+            → result
+            ≡ write_from self.now.config self.now.id mine self.now.written.items first last
+            offer }
     {
         match self.next_unwritten(first, last) {
             Some(j) => Place::Write(j, last, offer),
