@@ -1,5 +1,5 @@
 //! The answers that each place may get.
-ghost use Rattle.std.specs.Prelude.{None, List, MatchOption, false, get_or, is_some, length, nat_lt, true, ℕ, ◌%◌, ◌∷◌, ◌≡◌, ◌≢◌, ◌≤◌, ◌<◌};
+ghost use Rattle.std.specs.Prelude.{None, List, get_or, length, nat_lt, true, ℕ, ◌%◌, ◌∷◌, ◌≡◌};
 ghost use Rattle.mu_model.specs.declared.event.Event.{Event as SomeEvent};
 ghost use Rattle.mu_model.specs.declared.event.Target.{Target as SomeTarget};
 ghost use Rattle.mu_model.specs.declared.event.Verb.{Verb as SomeVerb};
@@ -13,7 +13,6 @@ ghost use Rattle.mu_lead.specs.Saying.{NotesEnter, NotesEvidence, NotesHead, Not
 ghost use Rattle.mu_lead.specs.declared.note.Note.{Note as SomeNote};
 ghost use Rattle.mu_lead.specs.Going.{going_after};
 ghost use Rattle.mu_lead.specs.Lasting.{FollowsFrom, FollowsHead};
-ghost use Rattle.mu_lead.specs.Rooms.{KeepsRooms};
 
 use crate::lead::Lead;
 use crate::note::Note;
@@ -58,7 +57,6 @@ impl Lead {
             → Takes self.old (SomePlace.Confirm round p) values (SomeVerb.Fence p) answer self.new }
         ensures quiet { value_committed result ≡ None }
         ensures config { self.new.config ≡ self.old.config }
-        ensures written { self.new.written ≡ self.old.written }
         ensures id { self.new.id ≡ self.old.id }
         ensures named { self.new.named ≡ self.old.named }
         ensures note { NotesRound self.old p answer result }
@@ -79,7 +77,6 @@ impl Lead {
             → Takes self.old (SomePlace.ReadMin p) values (SomeVerb.Min p) answer self.new }
         ensures quiet { value_committed result ≡ None }
         ensures config { self.new.config ≡ self.old.config }
-        ensures written { self.new.written ≡ self.old.written }
         ensures id { self.new.id ≡ self.old.id }
         ensures named { self.new.named ≡ self.old.named }
         ensures note { result ≡ SomeNote.Working }
@@ -101,7 +98,6 @@ impl Lead {
             self.new }
         ensures quiet { value_committed result ≡ None }
         ensures config { self.new.config ≡ self.old.config }
-        ensures written { self.new.written ≡ self.old.written }
         ensures id { self.new.id ≡ self.old.id }
         ensures named { self.new.named ≡ self.old.named }
         ensures note { NotesEnter p answer result }
@@ -123,7 +119,6 @@ impl Lead {
             self.new }
         ensures quiet { value_committed result ≡ None }
         ensures config { self.new.config ≡ self.old.config }
-        ensures written { self.new.written ≡ self.old.written }
         ensures id { self.new.id ≡ self.old.id }
         ensures named { self.new.named ≡ self.old.named }
         ensures note { result ≡ SomeNote.Working }
@@ -148,8 +143,6 @@ impl Lead {
     ) -> Note
         ensures stands { Takes self.old (SomePlace.ReadFuo p source) known.now
             (SomeVerb.Fuo p) answer self.new }
-        ensures rooms { KeepsRooms self.old (SomePlace.ReadFuo p source) known.now (SomeVerb.Fuo p)
-            answer self.new }
         ensures quiet { value_committed result ≡ None }
         ensures config { self.new.config ≡ self.old.config }
         ensures id { self.new.id ≡ self.old.id }
@@ -173,10 +166,6 @@ impl Lead {
             (SomeVerb.Enter p
             (SomeTarget.Place (get_or self.old.up p 0 % self.old.config.ring)))
             answer self.new }
-        ensures rooms { (values : List ℕ)
-            → KeepsRooms self.old (SomePlace.EnterBehind p then) values
-            (SomeVerb.Enter p (SomeTarget.Place (get_or self.old.up p 0 % self.old.config.ring)))
-            answer self.new }
         ensures quiet { value_committed result ≡ None }
         ensures config { self.new.config ≡ self.old.config }
         ensures id { self.new.id ≡ self.old.id }
@@ -197,10 +186,6 @@ impl Lead {
     /// Takes the answer at this place.
     pub(crate) fn at_put_behind(&mut self, p: u8, then: Then, answer: Answer, known: &[u16]) -> Note
         ensures stands { Takes self.old (SomePlace.PutBehind p then) known.now
-            (SomeVerb.PutSlot p (get_or self.old.up p 0) self.old.number
-            (get_or known.now (get_or self.old.up p 0) 0))
-            answer self.new }
-        ensures rooms { KeepsRooms self.old (SomePlace.PutBehind p then) known.now
             (SomeVerb.PutSlot p (get_or self.old.up p 0) self.old.number
             (get_or known.now (get_or self.old.up p 0) 0))
             answer self.new }
@@ -226,9 +211,6 @@ impl Lead {
         ensures stands { (values : List ℕ)
             → Takes self.old (SomePlace.FenceBehind p then) values (SomeVerb.Fence p) answer
             self.new }
-        ensures rooms { (values : List ℕ)
-            → KeepsRooms self.old (SomePlace.FenceBehind p then) values (SomeVerb.Fence p) answer
-            self.new }
         ensures quiet { value_committed result ≡ None }
         ensures config { self.new.config ≡ self.old.config }
         ensures id { self.new.id ≡ self.old.id }
@@ -249,8 +231,6 @@ impl Lead {
     pub(crate) fn at_late_fence(&mut self, p: u8, answer: Answer, known: &[u16]) -> Note
         ensures stands { Takes self.old (SomePlace.LateFence p) known.now
             (SomeVerb.Fence p) answer self.new }
-        ensures rooms { KeepsRooms self.old (SomePlace.LateFence p) known.now (SomeVerb.Fence p)
-            answer self.new }
         ensures quiet { value_committed result ≡ None }
         ensures config { self.new.config ≡ self.old.config }
         ensures id { self.new.id ≡ self.old.id }
@@ -270,8 +250,6 @@ impl Lead {
     pub(crate) fn at_late_min(&mut self, p: u8, answer: Answer) -> Note
         ensures stands { (values : List ℕ)
             → Takes self.old (SomePlace.LateMin p) values (SomeVerb.Min p) answer self.new }
-        ensures rooms { (values : List ℕ)
-            → KeepsRooms self.old (SomePlace.LateMin p) values (SomeVerb.Min p) answer self.new }
         ensures quiet { value_committed result ≡ None }
         ensures config { self.new.config ≡ self.old.config }
         ensures id { self.new.id ≡ self.old.id }
@@ -292,8 +270,6 @@ impl Lead {
     pub(crate) fn at_late_fuo(&mut self, p: u8, answer: Answer, known: &[u16]) -> Note
         ensures stands { Takes self.old (SomePlace.LateFuo p) known.now
             (SomeVerb.Fuo p) answer self.new }
-        ensures rooms { KeepsRooms self.old (SomePlace.LateFuo p) known.now (SomeVerb.Fuo p) answer
-            self.new }
         ensures quiet { value_committed result ≡ None }
         ensures config { self.new.config ≡ self.old.config }
         ensures id { self.new.id ≡ self.old.id }
@@ -314,9 +290,6 @@ impl Lead {
         ensures stands { (values : List ℕ)
             → Takes self.old (SomePlace.LateEnter p) values (SomeVerb.Enter p SomeTarget.Min) answer
             self.new }
-        ensures rooms { (values : List ℕ)
-            → KeepsRooms self.old (SomePlace.LateEnter p) values (SomeVerb.Enter p SomeTarget.Min)
-            answer self.new }
         ensures quiet { value_committed result ≡ None }
         ensures config { self.new.config ≡ self.old.config }
         ensures id { self.new.id ≡ self.old.id }
@@ -338,8 +311,6 @@ impl Lead {
         ensures stands { Takes self.old (SomePlace.LatePut p) known.now
             (SomeVerb.PutMin p self.old.number)
             answer self.new }
-        ensures rooms { KeepsRooms self.old (SomePlace.LatePut p) known.now
-            (SomeVerb.PutMin p self.old.number) answer self.new }
         ensures quiet { value_committed result ≡ None }
         ensures config { self.new.config ≡ self.old.config }
         ensures id { self.new.id ≡ self.old.id }
@@ -373,8 +344,6 @@ impl Lead {
             → StandsFor
             (record { by = self.old.id; verb = SomeVerb.Head q; answer = answer } ∷ mine)
             self.new }
-        ensures rooms { KeepsRooms self.old (SomePlace.ReadHead q candidate) known.now
-            (SomeVerb.Head q) answer self.new }
         ensures quiet { value_committed result ≡ None }
         ensures config { self.new.config ≡ self.old.config }
         ensures id { self.new.id ≡ self.old.id }
@@ -392,9 +361,6 @@ impl Lead {
     /// Takes the answer at this place.
     pub(crate) fn at_enter(&mut self, p: u8, offer: Offer, answer: Answer, known: &[u16]) -> Note
         ensures stands { Takes self.old (SomePlace.Enter p offer) known.now
-            (SomeVerb.Enter p (SomeTarget.Place (length known.now % self.old.config.ring))) answer
-            self.new }
-        ensures rooms { KeepsRooms self.old (SomePlace.Enter p offer) known.now
             (SomeVerb.Enter p (SomeTarget.Place (length known.now % self.old.config.ring))) answer
             self.new }
         ensures quiet { value_committed result ≡ None }
@@ -416,8 +382,6 @@ impl Lead {
     /// Takes the answer at this place.
     pub(crate) fn at_put(&mut self, p: u8, offer: Offer, answer: Answer, known: &[u16]) -> Note
         ensures stands { Takes self.old (SomePlace.Put p offer) known.now
-            (SomeVerb.PutSlot p (length known.now) self.old.number offer.value) answer self.new }
-        ensures rooms { KeepsRooms self.old (SomePlace.Put p offer) known.now
             (SomeVerb.PutSlot p (length known.now) self.old.number offer.value) answer self.new }
         ensures tells { (mine : List SomeEvent) → StandsFor mine self.old
             → self.old.place ≡ SomePlace.Put p offer
@@ -460,7 +424,6 @@ impl Lead {
             → Takes self.old (SomePlace.Evidence p) values (SomeVerb.Fence p) answer self.new }
         ensures quiet { value_committed result ≡ None }
         ensures config { self.new.config ≡ self.old.config }
-        ensures written { self.new.written ≡ self.old.written }
         ensures id { self.new.id ≡ self.old.id }
         ensures named { self.new.named ≡ self.old.named }
         ensures note { NotesEvidence p answer result }
