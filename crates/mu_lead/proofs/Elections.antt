@@ -75,7 +75,7 @@ elects_from c r b mine up reach written values verb a place next inside at due e
 
 rest_now : (c : Config) (r : ℕ) (now : List Event) (new : Lead) → new.config ≡ c → new.id ≡ r → StandsFor now new → new.place ≡ Place.Rest → AtRest c r now
 rest_now c r now new config id s rest =
-    subst (λ k. AtRest k r now) config (subst (λ k. AtRest new.config k now) id (subst (At new.config new.id new.number now new.up new.reach new.written.items) rest s.at))
+    subst (λ k. AtRest k r now) config (subst (λ k. AtRest new.config k now) id (subst (At new.config new.id new.number now new.up new.reach new.written.items) rest s.at).0)
 
 -- by the answer to the verb that was due
 pub elects_next : (mine : List Event) (old new : Lead) (values : List ℕ) (answer : Answer) → StandsFor mine old → HasHeeded mine old → TakesDue old values answer new → FollowsDue old values answer new → new.config ≡ old.config → new.id ≡ old.id

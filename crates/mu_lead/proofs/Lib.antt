@@ -44,8 +44,10 @@ mod RoomsFirsts
 mod RoomsFollowers
 mod RoomsHeads
 mod RoomsInTime
+mod RoomsLasting
 mod RoomsLate
 mod RoomsLearning
+mod RoomsListed
 mod RoomsLooking
 mod RoomsMin
 mod RoomsOnward
@@ -55,7 +57,6 @@ mod RoomsPutting
 mod RoomsQuiet
 mod RoomsRaising
 mod RoomsReading
-mod RoomsTaking
 mod RoomsWriting
 mod Rounds
 mod Rows

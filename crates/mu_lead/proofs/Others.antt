@@ -211,7 +211,7 @@ at_on c r b verb answer mine up reach written (Place.Enter p offer) leading besi
 at_on c r b verb answer mine up reach written (Place.Put p offer) leading beside possible at = (record { entering = record { region = at.0.entering.region; member = at.0.entering.member; offering = record { begun = at.0.entering.offering.begun; goes_on = at.0.entering.offering.goes_on; numbered = at.0.entering.offering.numbered; carried = at.0.entering.offering.carried; held = λ q region member. (let h = at.0.entering.offering.held q region member in record { grant = h.grant; noted = h.noted; joined = h.joined }); have = at.0.entering.offering.have; raised = at.0.entering.offering.raised; few = at.0.entering.offering.few; within = at.0.entering.offering.within; new = new_beside c r verb answer mine (end_of c r mine) offer.value beside possible at.0.entering.offering.new; below = at.0.entering.offering.below; above = at.0.entering.offering.above; unput = at.0.entering.offering.unput }; looked = λ q more region member. rw member (at.0.entering.looked q more region member) }; entered = at.0.entered; under = at.0.under; looked_before = rw at.0.entering.member at.0.looked_before }, shows_kept c r (end_of c r mine) r verb answer mine offer.adopted (keeps_beside verb beside) at.1)
 at_on c r b verb answer mine up reach written (Place.Raise p) leading beside possible at = record { region = at.region; member = at.member; leads = leads_kept c r b r verb answer mine refl at.leads; have = at.have; raised = at.raised; read = at.read }
 at_on c r b verb answer mine up reach written Place.Outrun leading beside possible at = record { region = at.region; within = at.within; member = at.member; past = at.past }
-at_on c r b verb answer mine up reach written Place.Rest leading beside possible at = record { all = at.all; members = at.members }
+at_on c r b verb answer mine up reach written Place.Rest leading beside possible at = (record { all = at.0.all; members = at.0.members }, record { leads = leads_kept c r b r verb answer mine refl at.1.leads; have = at.1.have; raised = at.1.raised; few = at.1.few })
 at_on c r b verb answer mine up reach written (Place.Ask p) leading beside possible at = absurd (true≢false (sym leading))
 at_on c r b verb answer mine up reach written (Place.Confirm round p) leading beside possible at = absurd (true≢false (sym leading))
 at_on c r b verb answer mine up reach written (Place.Evidence p) leading beside possible at = absurd (true≢false (sym leading))

@@ -17,8 +17,7 @@ use Rattle.mu_pace.specs.Watches.{is_brought_up}
 use Rattle.mu_pace.specs.Weights.{AtRoom, From, GoesOn, IsPlace, Joins, Sizes, Stage, asks, at_head, at_late_fence, at_look, at_rest, beyond, heads, joined, looks, rests}
 use Rattle.mu_pace.proofs.Placed.{places_lead}
 use Rattle.mu_pace.proofs.Weights.{weights_fall}
-use Rattle.mu_lead.specs.declared.place.Then.{Then}
-use Rattle.mu_lead.specs.Onward.{IsNextStranger, MayGoOn, passed_over}
+use Rattle.mu_lead.specs.Onward.{IsNextStranger, MayGoOn}
 use Rattle.mu_lead.specs.Rooms.{IsLed, sizes_of}
 use Rattle.mu_known.specs.Offers.{IsFirst}
 use Rattle.mu_lead.proofs.RoomsMin.{more_sizes}
@@ -85,12 +84,6 @@ asks_beyond edge c r p t u s mine e passes none room goes k low stranger = elim 
   ]
   | inr from ↦ absurd (true≢false (sym (ap not stranger) ∙ none k from low))
 ]
-
--- where each member was brought up at one position, no late follower is asked after
-pub passed_all : (c : Config) (then_what : Then) → (then_what ≡ Then.Late → ⊥) → passed_over c then_what ≡ c.replicas
-passed_all c Then.Late other = absurd (other refl)
-passed_all c Then.Position other = refl
-passed_all c Then.Joined other = refl
 
 same_sizes : (c : Config) (r : ℕ) (u : Stage) (mine : List Event) (e : Event) → members c r (e ∷ mine) ≡ members c r mine → IsPlacedAt c r (sizes_of c r mine) u (e ∷ mine) → IsPlacedAt c r (sizes_of c r (e ∷ mine)) u (e ∷ mine)
 same_sizes c r u mine e same at = subst (λ m. IsPlacedAt c r (record { replicas = c.replicas; width = c.width; members = m }) u (e ∷ mine)) (sym same) at

@@ -1,5 +1,5 @@
 -- The counts of a leader while each member is brought up at one position that a look taught.
-use Rattle.std.proofs.Common.{◌≡◌, ℕ, zero, suc, ◌+◌, ◌<◌, ◌⊎◌, inl, inr, Bool, true, false, ◌&&◌, List, ◌∷◌, length, refl, sym, ◌∙◌, subst, arith, true≢false}
+use Rattle.std.proofs.Common.{◌≡◌, ℕ, zero, suc, ◌+◌, ◌<◌, inl, inr, Bool, true, false, ◌&&◌, List, ◌∷◌, length, refl, sym, ◌∙◌, subst, arith, true≢false}
 use Rattle.std.specs.Prelude.{nat_le, nat_lt}
 use Rattle.std.proofs.lemmas.Bool.{leb-true}
 use Rattle.mu_model.specs.declared.config.Config.{Config}
@@ -126,9 +126,3 @@ rooms_last_position c r p u mine written is turn next levels at =
     from_room : (below : ℕ) (t : Stage) → below + 1 ≡ members c r mine → From (sizes_of c r mine) c.replicas t → GoesOn (sizes_of c r mine) (Stage.Bring (Lag.Position below) Bringing.Raise) t
     from_room below t all (asks q from to) = absurd (omega (arith, from, to))
     from_room below t all (beyond u few room) = last_position below u all room
-
--- who didn't join is brought up behind its FUO, or at one position
-pub late_or_position : (then_what : Then) → (then_what ≡ Then.Joined → ⊥) → (then_what ≡ Then.Late) ⊎ (then_what ≡ Then.Position)
-late_or_position Then.Late other = inl refl
-late_or_position Then.Position other = inr refl
-late_or_position Then.Joined other = absurd (other refl)

@@ -119,7 +119,8 @@ after_copy c r now up reach p on =
     if nat_lt (get_or up p 0) (end_of c r now) then bring_up c up reach p on
     else Place.RaiseBehind p on
 
--- what is known elsewhere is learnt from the region of the greatest FUO, then members are brought up
+-- what is known elsewhere is learnt from the region of the greatest FUO, then members are brought
+-- up
 abbrev pub learn_from : Config → ℕ → List Event → Tables → ℕ → Place
 learn_from c r now t source =
     if nat_lt (end_of c r now) (get_or t.up source 0)
@@ -170,7 +171,8 @@ client_round c values k clients =
 abbrev pub own_offer : Config → ℕ → List ℕ → ℕ → Option ℕ
 own_offer c r values i =
     batch_of_named c values
-    (client_round c values ((r + i) % clients_below c (row_count c)) (clients_below c (row_count c)))
+    (client_round c values ((r + i) % clients_below c (row_count c))
+    (clients_below c (row_count c)))
 
 -- the rows are written up to the last one, as far as they aren't; then the offer is put
 abbrev pub write_from : Config → ℕ → List Event → List ℕ → ℕ → ℕ → Offer → Place
@@ -248,7 +250,8 @@ next_place c r b now t a (Place.ReadMin p) =
 next_place c r b now t a (Place.EnterMin p) = unless_lost a (Place.PutMin p)
 next_place c r b now t a (Place.PutMin p) =
     unless_missed a p
-    (or_else (noted_from c r now (p + 1)) Place.EnterMin (Place.ReadFuo (first_member c r now) None))
+    (or_else (noted_from c r now (p + 1)) Place.EnterMin
+    (Place.ReadFuo (first_member c r now) None))
 next_place c r b now t a (Place.ReadFuo p source) =
     after_fuo c r now t p (farther t.up source p)
 next_place c r b now t a (Place.Learn source) =

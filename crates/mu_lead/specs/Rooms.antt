@@ -19,9 +19,9 @@ use Rattle.mu_pace.specs.Weights.{Bringing, Lag, Sizes, Stage}
 use Rattle.mu_lead.specs.declared.lead.Lead.{Lead}
 use Rattle.mu_lead.specs.declared.place.Place.{Place}
 use Rattle.mu_lead.specs.declared.place.Then.{Then}
-use Rattle.mu_lead.specs.Leading.{end_of}
+use Rattle.mu_lead.specs.Listing.{Tables}
 use Rattle.mu_lead.specs.Beside.{is_beside, leads_at}
-use Rattle.mu_lead.specs.Standing.{HasHeeded, StandsFor, known_told, verb_at, verb_of}
+use Rattle.mu_lead.specs.Standing.{StandsFor, known_told, verb_of}
 
 -- how many replicas and members there are, and how many rows a batch has at most
 abbrev pub sizes_of : Config → ℕ → List Event → Sizes
@@ -128,49 +128,17 @@ gives_up l leader = (l.under_way || leads_at l.place) && nat_lt leader l.id
 abbrev pub HasRooms : List Event → Lead → Type 0
 HasRooms mine l = RoomsAt l.config l.id mine l.written.items l.place
 
--- from its place, by the replication event and with these values known, the leader comes to one
--- whose counts have room
-abbrev pub KeepsRooms : Lead → Place → List ℕ → Verb → Answer → Lead → Type 0
-KeepsRooms old place values verb answer new =
-    (mine : List Event) → StandsFor mine old → old.place ≡ place
-    → IsPossible old.config old.id (record { by = old.id; verb = verb; answer = answer } ∷ mine)
-    → values ≡ known_told old.config old.id mine old.id verb answer
-    → is_replication mine (record { by = old.id; verb = verb; answer = answer }) ≡ true
-    → HasRooms mine old → HasRooms (record { by = old.id; verb = verb; answer = answer } ∷ mine) new
+-- what a step from a place leaves of the tables, as far as the counts depend on it: of the words of
+-- the rows that are written one less is left
+abbrev pub KeepsTables : Tables → Tables → Place → Type 0
+KeepsTables old new (Place.RaiseBehind p then) = new.up ≡ old.up
+KeepsTables old new (Place.Look p i candidate best) = new.up ≡ old.up
+KeepsTables old new (Place.Write j last offer) =
+    words_left old.written j (last + 1 - j) ≡ words_left new.written j (last + 1 - j) + 1
+KeepsTables old new place = Unit {0}
 
--- the same of a look at the first unknown position
-abbrev pub KeepsLook : Lead → Place → List ℕ → ℕ → ℕ → Answer → Lead → Type 0
-KeepsLook old place values p i answer new =
-    (mine : List Event) → StandsFor mine old → old.place ≡ place → i ≡ end_of old.config old.id mine
-    → IsPossible old.config old.id
-    (record { by = old.id; verb = Verb.Look p i; answer = answer } ∷ mine)
-    → values ≡ known old.config old.id
-    (record { by = old.id; verb = Verb.Look p i; answer = answer } ∷ mine)
-    → is_replication mine (record { by = old.id; verb = Verb.Look p i; answer = answer }) ≡ true
-    → HasRooms mine old
-    → HasRooms (record { by = old.id; verb = Verb.Look p i; answer = answer } ∷ mine) new
-
--- the event ends the leadership, wherever in it the leader was
-abbrev pub LeavesRooms : List Event → Lead → Verb → Answer → Lead → Type 0
-LeavesRooms mine old verb answer new =
-    (stage : Stage) → IsConfig old.config
-    → is_replication mine (record { by = old.id; verb = verb; answer = answer }) ≡ true
-    → IsPlacedAt old.config old.id (sizes_of old.config old.id mine) stage mine
-    → HasRooms (record { by = old.id; verb = verb; answer = answer } ∷ mine) new
-
--- by the answer to the verb that was due the leader comes to a place whose counts have room
-abbrev pub RoomsDue : Lead → List ℕ → Answer → Lead → Type 0
-RoomsDue old values answer new =
-    (mine : List Event) (verb : Verb) → HasHeeded mine old → StandsFor mine old
-    → verb_at old.config old.number (known old.config old.id mine) old.up old.written.items
-    old.place ≡ Some verb
-    → IsPossible old.config old.id (record { by = old.id; verb = verb; answer = answer } ∷ mine)
-    → values ≡ known_told old.config old.id mine old.id verb answer
-    → is_replication mine (record { by = old.id; verb = verb; answer = answer }) ≡ true
-    → HasRooms mine old
-    → HasRooms (record { by = old.id; verb = verb; answer = answer } ∷ mine) new
-
--- the same after these events
+-- by the answer to the verb that was due, after these events, the leader comes to a place whose
+-- counts have room
 abbrev pub RoomsNext : List Event → Lead → List ℕ → Answer → Lead → Type 0
 RoomsNext mine old values answer new =
     (verb : Verb) → verb_of old (known old.config old.id mine) ≡ Some verb

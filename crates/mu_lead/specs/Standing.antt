@@ -14,7 +14,7 @@ use Rattle.mu_leading.specs.Leadership.{StandsForLeadership}
 use Rattle.mu_lead.specs.declared.lead.Lead.{Lead}
 use Rattle.mu_lead.specs.declared.place.Place.{Place}
 use Rattle.mu_lead.specs.Confirming.{AtAsk, AtConfirm, AtEnterMin, AtEvidence, AtPutMin, AtReadMin}
-use Rattle.mu_lead.specs.Leading.{AtEnterBehind, AtFenceBehind, AtLateEnter, AtLateFuo, AtLateMin, AtLatePut, AtLearn, AtPutBehind, AtRaise, AtRaiseBehind, AtReadFuo, AtWiden, HoldsTables, Late, Near, end_of}
+use Rattle.mu_lead.specs.Leading.{AtEnterBehind, AtFenceBehind, AtLateEnter, AtLateFuo, AtLateMin, AtLatePut, AtLearn, AtPutBehind, AtRaise, AtRaiseBehind, AtReadFuo, AtWiden, HoldsTables, Late, Level, Near, end_of}
 use Rattle.mu_lead.specs.Sets.{is_bit}
 use Rattle.mu_lead.specs.Notes.{value_committed}
 use Rattle.mu_lead.specs.declared.note.Note.{Note}
@@ -53,7 +53,7 @@ At c r b mine up reach written (Place.Put p offer) =
 At c r b mine up reach written (Place.Raise p) = AtRaise c r b mine up reach p
 At c r b mine up reach written (Place.Evidence p) = AtEvidence c r mine p
 At c r b mine up reach written Place.Outrun = AtOutrun c r mine
-At c r b mine up reach written Place.Rest = AtRest c r mine
+At c r b mine up reach written Place.Rest = AtRest c r mine × Level c r b mine up reach
 
 -- the state of the leader stands for the events of its replica
 pub record StandsFor (mine : List Event) (l : Lead) : Type 0 where

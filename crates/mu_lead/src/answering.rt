@@ -1,5 +1,5 @@
 //! The answers that each place may get.
-ghost use Rattle.std.specs.Prelude.{None, List, MatchOption, false, get_or, is_some, length, nat_lt, true, ℕ, ◌%◌, ◌∷◌, ◌≡◌, ◌≢◌, ◌≤◌, ◌<◌};
+ghost use Rattle.std.specs.Prelude.{None, List, get_or, length, nat_lt, true, ℕ, ◌%◌, ◌∷◌, ◌≡◌};
 ghost use Rattle.mu_model.specs.declared.event.Event.{Event as SomeEvent};
 ghost use Rattle.mu_model.specs.declared.event.Target.{Target as SomeTarget};
 ghost use Rattle.mu_model.specs.declared.event.Verb.{Verb as SomeVerb};
@@ -13,7 +13,6 @@ ghost use Rattle.mu_lead.specs.Saying.{NotesEnter, NotesEvidence, NotesHead, Not
 ghost use Rattle.mu_lead.specs.declared.note.Note.{Note as SomeNote};
 ghost use Rattle.mu_lead.specs.Going.{going_after};
 ghost use Rattle.mu_lead.specs.Lasting.{FollowsFrom, FollowsHead};
-ghost use Rattle.mu_lead.specs.Rooms.{KeepsRooms};
 
 use crate::lead::Lead;
 use crate::note::Note;
@@ -58,7 +57,6 @@ impl Lead {
             → Takes self.old (SomePlace.Confirm round p) values (SomeVerb.Fence p) answer self.new }
         ensures quiet { value_committed result ≡ None }
         ensures config { self.new.config ≡ self.old.config }
-        ensures written { self.new.written ≡ self.old.written }
         ensures id { self.new.id ≡ self.old.id }
         ensures named { self.new.named ≡ self.old.named }
         ensures note { NotesRound self.old p answer result }
@@ -79,7 +77,6 @@ impl Lead {
             → Takes self.old (SomePlace.ReadMin p) values (SomeVerb.Min p) answer self.new }
         ensures quiet { value_committed result ≡ None }
         ensures config { self.new.config ≡ self.old.config }
-        ensures written { self.new.written ≡ self.old.written }
         ensures id { self.new.id ≡ self.old.id }
         ensures named { self.new.named ≡ self.old.named }
         ensures note { result ≡ SomeNote.Working }
@@ -101,7 +98,6 @@ impl Lead {
             self.new }
         ensures quiet { value_committed result ≡ None }
         ensures config { self.new.config ≡ self.old.config }
-        ensures written { self.new.written ≡ self.old.written }
         ensures id { self.new.id ≡ self.old.id }
         ensures named { self.new.named ≡ self.old.named }
         ensures note { NotesEnter p answer result }
@@ -123,7 +119,6 @@ impl Lead {
             self.new }
         ensures quiet { value_committed result ≡ None }
         ensures config { self.new.config ≡ self.old.config }
-        ensures written { self.new.written ≡ self.old.written }
         ensures id { self.new.id ≡ self.old.id }
         ensures named { self.new.named ≡ self.old.named }
         ensures note { result ≡ SomeNote.Working }
@@ -148,15 +143,14 @@ impl Lead {
     ) -> Note
         ensures stands { Takes self.old (SomePlace.ReadFuo p source) known.now
             (SomeVerb.Fuo p) answer self.new }
-        ensures rooms { KeepsRooms self.old (SomePlace.ReadFuo p source) known.now (SomeVerb.Fuo p)
-            answer self.new }
         ensures quiet { value_committed result ≡ None }
         ensures config { self.new.config ≡ self.old.config }
         ensures id { self.new.id ≡ self.old.id }
         ensures named { self.new.named ≡ self.old.named }
         ensures note { result ≡ SomeNote.Working }
         ensures going { self.new.under_way ≡ going_after self.old.under_way result }
-        ensures listed { FollowsFrom self.old (SomePlace.ReadFuo p source) known.now (SomeVerb.Fuo p)
+        ensures listed { FollowsFrom self.old (SomePlace.ReadFuo p source) known.now
+            (SomeVerb.Fuo p)
             answer self.new }
     {
         match number_in(answer) {
@@ -172,10 +166,6 @@ impl Lead {
             (SomeVerb.Enter p
             (SomeTarget.Place (get_or self.old.up p 0 % self.old.config.ring)))
             answer self.new }
-        ensures rooms { (values : List ℕ)
-            → KeepsRooms self.old (SomePlace.EnterBehind p then) values
-            (SomeVerb.Enter p (SomeTarget.Place (get_or self.old.up p 0 % self.old.config.ring)))
-            answer self.new }
         ensures quiet { value_committed result ≡ None }
         ensures config { self.new.config ≡ self.old.config }
         ensures id { self.new.id ≡ self.old.id }
@@ -183,7 +173,8 @@ impl Lead {
         ensures note { NotesEnter p answer result }
         ensures going { self.new.under_way ≡ going_after self.old.under_way result }
         ensures listed { (values : List ℕ)
-            → FollowsFrom self.old (SomePlace.EnterBehind p then) values (SomeVerb.Enter p (SomeTarget.Place (get_or self.old.up p 0 % self.old.config.ring)))
+            → FollowsFrom self.old (SomePlace.EnterBehind p then) values
+            (SomeVerb.Enter p (SomeTarget.Place (get_or self.old.up p 0 % self.old.config.ring)))
             answer self.new }
     {
         match lost_in(answer) {
@@ -198,17 +189,15 @@ impl Lead {
             (SomeVerb.PutSlot p (get_or self.old.up p 0) self.old.number
             (get_or known.now (get_or self.old.up p 0) 0))
             answer self.new }
-        ensures rooms { KeepsRooms self.old (SomePlace.PutBehind p then) known.now
-            (SomeVerb.PutSlot p (get_or self.old.up p 0) self.old.number
-            (get_or known.now (get_or self.old.up p 0) 0))
-            answer self.new }
         ensures quiet { value_committed result ≡ None }
         ensures config { self.new.config ≡ self.old.config }
         ensures id { self.new.id ≡ self.old.id }
         ensures named { self.new.named ≡ self.old.named }
         ensures note { result ≡ SomeNote.Working }
         ensures going { self.new.under_way ≡ going_after self.old.under_way result }
-        ensures listed { FollowsFrom self.old (SomePlace.PutBehind p then) known.now (SomeVerb.PutSlot p (get_or self.old.up p 0) self.old.number (get_or known.now (get_or self.old.up p 0) 0))
+        ensures listed { FollowsFrom self.old (SomePlace.PutBehind p then) known.now
+            (SomeVerb.PutSlot p (get_or self.old.up p 0) self.old.number
+            (get_or known.now (get_or self.old.up p 0) 0))
             answer self.new }
     {
         match answer {
@@ -221,9 +210,6 @@ impl Lead {
     pub(crate) fn at_fence_behind(&mut self, p: u8, then: Then, answer: Answer) -> Note
         ensures stands { (values : List ℕ)
             → Takes self.old (SomePlace.FenceBehind p then) values (SomeVerb.Fence p) answer
-            self.new }
-        ensures rooms { (values : List ℕ)
-            → KeepsRooms self.old (SomePlace.FenceBehind p then) values (SomeVerb.Fence p) answer
             self.new }
         ensures quiet { value_committed result ≡ None }
         ensures config { self.new.config ≡ self.old.config }
@@ -245,8 +231,6 @@ impl Lead {
     pub(crate) fn at_late_fence(&mut self, p: u8, answer: Answer, known: &[u16]) -> Note
         ensures stands { Takes self.old (SomePlace.LateFence p) known.now
             (SomeVerb.Fence p) answer self.new }
-        ensures rooms { KeepsRooms self.old (SomePlace.LateFence p) known.now (SomeVerb.Fence p)
-            answer self.new }
         ensures quiet { value_committed result ≡ None }
         ensures config { self.new.config ≡ self.old.config }
         ensures id { self.new.id ≡ self.old.id }
@@ -266,8 +250,6 @@ impl Lead {
     pub(crate) fn at_late_min(&mut self, p: u8, answer: Answer) -> Note
         ensures stands { (values : List ℕ)
             → Takes self.old (SomePlace.LateMin p) values (SomeVerb.Min p) answer self.new }
-        ensures rooms { (values : List ℕ)
-            → KeepsRooms self.old (SomePlace.LateMin p) values (SomeVerb.Min p) answer self.new }
         ensures quiet { value_committed result ≡ None }
         ensures config { self.new.config ≡ self.old.config }
         ensures id { self.new.id ≡ self.old.id }
@@ -288,8 +270,6 @@ impl Lead {
     pub(crate) fn at_late_fuo(&mut self, p: u8, answer: Answer, known: &[u16]) -> Note
         ensures stands { Takes self.old (SomePlace.LateFuo p) known.now
             (SomeVerb.Fuo p) answer self.new }
-        ensures rooms { KeepsRooms self.old (SomePlace.LateFuo p) known.now (SomeVerb.Fuo p) answer
-            self.new }
         ensures quiet { value_committed result ≡ None }
         ensures config { self.new.config ≡ self.old.config }
         ensures id { self.new.id ≡ self.old.id }
@@ -310,9 +290,6 @@ impl Lead {
         ensures stands { (values : List ℕ)
             → Takes self.old (SomePlace.LateEnter p) values (SomeVerb.Enter p SomeTarget.Min) answer
             self.new }
-        ensures rooms { (values : List ℕ)
-            → KeepsRooms self.old (SomePlace.LateEnter p) values (SomeVerb.Enter p SomeTarget.Min)
-            answer self.new }
         ensures quiet { value_committed result ≡ None }
         ensures config { self.new.config ≡ self.old.config }
         ensures id { self.new.id ≡ self.old.id }
@@ -334,8 +311,6 @@ impl Lead {
         ensures stands { Takes self.old (SomePlace.LatePut p) known.now
             (SomeVerb.PutMin p self.old.number)
             answer self.new }
-        ensures rooms { KeepsRooms self.old (SomePlace.LatePut p) known.now
-            (SomeVerb.PutMin p self.old.number) answer self.new }
         ensures quiet { value_committed result ≡ None }
         ensures config { self.new.config ≡ self.old.config }
         ensures id { self.new.id ≡ self.old.id }
@@ -343,7 +318,8 @@ impl Lead {
         ensures note { length self.old.up ≡ 7
             → NotesJoin p (nat_lt (get_or self.old.up p 0) (length known.now)) answer result }
         ensures going { self.new.under_way ≡ going_after self.old.under_way result }
-        ensures listed { FollowsFrom self.old (SomePlace.LatePut p) known.now (SomeVerb.PutMin p self.old.number)
+        ensures listed { FollowsFrom self.old (SomePlace.LatePut p) known.now
+            (SomeVerb.PutMin p self.old.number)
             answer self.new }
     {
         match answer {
@@ -368,8 +344,6 @@ impl Lead {
             → StandsFor
             (record { by = self.old.id; verb = SomeVerb.Head q; answer = answer } ∷ mine)
             self.new }
-        ensures rooms { KeepsRooms self.old (SomePlace.ReadHead q candidate) known.now
-            (SomeVerb.Head q) answer self.new }
         ensures quiet { value_committed result ≡ None }
         ensures config { self.new.config ≡ self.old.config }
         ensures id { self.new.id ≡ self.old.id }
@@ -389,16 +363,14 @@ impl Lead {
         ensures stands { Takes self.old (SomePlace.Enter p offer) known.now
             (SomeVerb.Enter p (SomeTarget.Place (length known.now % self.old.config.ring))) answer
             self.new }
-        ensures rooms { KeepsRooms self.old (SomePlace.Enter p offer) known.now
-            (SomeVerb.Enter p (SomeTarget.Place (length known.now % self.old.config.ring))) answer
-            self.new }
         ensures quiet { value_committed result ≡ None }
         ensures config { self.new.config ≡ self.old.config }
         ensures id { self.new.id ≡ self.old.id }
         ensures named { self.new.named ≡ self.old.named }
         ensures note { NotesEnter p answer result }
         ensures going { self.new.under_way ≡ going_after self.old.under_way result }
-        ensures listed { FollowsFrom self.old (SomePlace.Enter p offer) known.now (SomeVerb.Enter p (SomeTarget.Place (length known.now % self.old.config.ring)))
+        ensures listed { FollowsFrom self.old (SomePlace.Enter p offer) known.now
+            (SomeVerb.Enter p (SomeTarget.Place (length known.now % self.old.config.ring)))
             answer self.new }
     {
         match lost_in(answer) {
@@ -410,8 +382,6 @@ impl Lead {
     /// Takes the answer at this place.
     pub(crate) fn at_put(&mut self, p: u8, offer: Offer, answer: Answer, known: &[u16]) -> Note
         ensures stands { Takes self.old (SomePlace.Put p offer) known.now
-            (SomeVerb.PutSlot p (length known.now) self.old.number offer.value) answer self.new }
-        ensures rooms { KeepsRooms self.old (SomePlace.Put p offer) known.now
             (SomeVerb.PutSlot p (length known.now) self.old.number offer.value) answer self.new }
         ensures tells { (mine : List SomeEvent) → StandsFor mine self.old
             → self.old.place ≡ SomePlace.Put p offer
@@ -438,7 +408,8 @@ impl Lead {
         ensures named { self.new.named ≡ self.old.named }
         ensures note { NotesPut (length known.now) offer result }
         ensures going { self.new.under_way ≡ going_after self.old.under_way result }
-        ensures listed { FollowsFrom self.old (SomePlace.Put p offer) known.now (SomeVerb.PutSlot p (length known.now) self.old.number offer.value)
+        ensures listed { FollowsFrom self.old (SomePlace.Put p offer) known.now
+            (SomeVerb.PutSlot p (length known.now) self.old.number offer.value)
             answer self.new }
     {
         match answer {
@@ -453,7 +424,6 @@ impl Lead {
             → Takes self.old (SomePlace.Evidence p) values (SomeVerb.Fence p) answer self.new }
         ensures quiet { value_committed result ≡ None }
         ensures config { self.new.config ≡ self.old.config }
-        ensures written { self.new.written ≡ self.old.written }
         ensures id { self.new.id ≡ self.old.id }
         ensures named { self.new.named ≡ self.old.named }
         ensures note { NotesEvidence p answer result }

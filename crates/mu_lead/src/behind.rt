@@ -20,11 +20,6 @@ ghost use Rattle.mu_lead.specs.Standing.{HoldsAt, Stands, StandsFor, Takes, Take
 ghost use Rattle.mu_lead.specs.Saying.{is_working_or_lost, note_of_fence, note_of_learning, note_of_raise, value_seen};
 ghost use Rattle.mu_lead.specs.declared.note.Note.{Note as SomeNote};
 ghost use Rattle.mu_lead.specs.Going.{going_after};
-ghost use Rattle.mu_pace.specs.Members.{IsNextMember, members_from};
-ghost use Rattle.mu_pace.specs.Weights.{Bringing, Stage};
-ghost use Rattle.mu_lead.specs.declared.place.Then.{Then as SomeThen};
-ghost use Rattle.mu_lead.specs.Onward.{IsNextBehind, MayBringUp, MayGoOn, passed_over};
-ghost use Rattle.mu_lead.specs.Rooms.{IsLed, KeepsLook, KeepsRooms, RoomsAt, lag_of};
 
 use crate::arrays::{with_fuo, with_number};
 use crate::lead::Lead;
@@ -55,15 +50,14 @@ impl Lead {
     pub(crate) fn took_fuo(&mut self, p: u8, source: Option<u8>, u: u64, known: &[u16]) -> Note
         ensures stands { Takes self.old (SomePlace.ReadFuo p source) known.now (SomeVerb.Fuo p)
             (SomeAnswer.Number u) self.new }
-        ensures rooms { KeepsRooms self.old (SomePlace.ReadFuo p source) known.now (SomeVerb.Fuo p)
-            (SomeAnswer.Number u) self.new }
         ensures quiet { value_committed result ≡ None }
         ensures config { self.new.config ≡ self.old.config }
         ensures id { self.new.id ≡ self.old.id }
         ensures named { self.new.named ≡ self.old.named }
         ensures note { result ≡ SomeNote.Working }
         ensures going { self.new.under_way ≡ going_after self.old.under_way result }
-        ensures listed { FollowsFrom self.old (SomePlace.ReadFuo p source) known.now (SomeVerb.Fuo p)
+        ensures listed { FollowsFrom self.old (SomePlace.ReadFuo p source) known.now
+            (SomeVerb.Fuo p)
             (SomeAnswer.Number u) self.new }
     {
         self.up = with_number(self.up, p, u);
@@ -82,19 +76,6 @@ impl Lead {
             → HasPutNone self.now.id mine
             → IsMember self.now.config self.now.id mine source
             → HasMost self.now.id mine self.now.up p source → HoldsAt mine self.now result }
-        ensures rooms { (mine : List SomeEvent) → Stands mine self.now
-            → known.now ≡ known_of self.now.config self.now.id mine
-            → p < self.now.config.replicas → is_member self.now.id p mine ≡ true
-            → RaisedBelow self.now.id mine self.now.up self.now.reach (p + 1)
-            → ((q : ℕ) → IsNextMember self.now.config self.now.id p q mine
-            → IsLed self.now.config self.now.id mine
-            (Stage.ReadFuo (members_from self.now.config self.now.id q mine)))
-            → IsLed self.now.config self.now.id mine Stage.Learn
-            → ((q : ℕ) → MayBringUp self.now.config self.now.id mine q SomeThen.Late)
-            → (RaisedBelow self.now.id mine self.now.up self.now.reach self.now.config.replicas
-            → IsNextBehind self.now.config self.now.id mine self.now.up 0 None
-            → MayGoOn self.now.config self.now.id mine 0)
-            → RoomsAt self.now.config self.now.id mine self.now.written.items result }
         ensures listed { (mine : List SomeEvent) → Stands mine self.now
             → known.now ≡ known_of self.now.config self.now.id mine
             → p < self.now.config.replicas
@@ -118,13 +99,6 @@ impl Lead {
             → IsMember self.now.config self.now.id mine (Some source)
             → HaveAtMost self.now.config self.now.id mine self.now.up (get_or self.now.up source 0)
             → HoldsAt mine self.now result }
-        ensures rooms { (mine : List SomeEvent) → Stands mine self.now
-            → known.now ≡ known_of self.now.config self.now.id mine
-            → IsLed self.now.config self.now.id mine Stage.Learn
-            → ((q : ℕ) → MayBringUp self.now.config self.now.id mine q SomeThen.Late)
-            → (IsNextBehind self.now.config self.now.id mine self.now.up 0 None
-            → MayGoOn self.now.config self.now.id mine 0)
-            → RoomsAt self.now.config self.now.id mine self.now.written.items result }
         ensures listed { (mine : List SomeEvent) → Stands mine self.now
             → known.now ≡ known_of self.now.config self.now.id mine
             → result ≡ learn_from self.now.config self.now.id mine (tables_of self.now) source }
@@ -140,8 +114,6 @@ impl Lead {
     pub(crate) fn took_learning(&mut self, source: u8, answer: Answer, known: &[u16]) -> Note
         ensures stands { (i : ℕ)
             → TakesLook self.old (SomePlace.Learn source) known.now source i answer self.new }
-        ensures rooms { (i : ℕ)
-            → KeepsLook self.old (SomePlace.Learn source) known.now source i answer self.new }
         ensures quiet { value_committed result ≡ None }
         ensures config { self.new.config ≡ self.old.config }
         ensures id { self.new.id ≡ self.old.id }
@@ -190,13 +162,6 @@ impl Lead {
             → end_of_known self.now.config self.now.id mine ≤ get_or self.now.up k 0)
             → HaveFew self.now.config self.now.id mine self.now.up then p
             → HoldsAt mine self.now result }
-        ensures rooms { (mine : List SomeEvent) → Stands mine self.now
-            → known.now ≡ known_of self.now.config self.now.id mine
-            → ((q : ℕ) → IsNextBehind self.now.config self.now.id mine self.now.up p (Some q)
-            → MayBringUp self.now.config self.now.id mine q then)
-            → (IsNextBehind self.now.config self.now.id mine self.now.up p None
-            → MayGoOn self.now.config self.now.id mine (passed_over self.now.config then))
-            → RoomsAt self.now.config self.now.id mine self.now.written.items result }
         ensures listed { (mine : List SomeEvent) → Stands mine self.now
             → known.now ≡ known_of self.now.config self.now.id mine
             → result ≡ bring_up_from self.now.config self.now.id mine (tables_of self.now) p then }
@@ -213,10 +178,6 @@ impl Lead {
             → known.now ≡ known_of self.now.config self.now.id mine
             → Level self.now.config self.now.id self.now.number mine self.now.up self.now.reach
             → HoldsAt mine self.now result }
-        ensures rooms { (mine : List SomeEvent) → Stands mine self.now
-            → known.now ≡ known_of self.now.config self.now.id mine
-            → MayGoOn self.now.config self.now.id mine (passed_over self.now.config then)
-            → RoomsAt self.now.config self.now.id mine self.now.written.items result }
         ensures listed { (mine : List SomeEvent) → Stands mine self.now
             → known.now ≡ known_of self.now.config self.now.id mine
             → result ≡ after_members self.now.config self.now.id mine self.now.heads then }
@@ -255,8 +216,6 @@ impl Lead {
             → AtWiden self.now.config self.now.id self.now.number mine self.now.up self.now.reach p
             then
             → HoldsAt mine self.now result }
-        ensures rooms { (mine : List SomeEvent) → MayBringUp self.now.config self.now.id mine p then
-            → RoomsAt self.now.config self.now.id mine self.now.written.items result }
         ensures listed { (mine : List SomeEvent) → Stands mine self.now
             → p < self.now.config.replicas
             → result ≡ bring_up self.now.config self.now.up self.now.reach p then }
@@ -273,9 +232,6 @@ impl Lead {
         ensures stands { (values : List ℕ)
             → Takes self.old (SomePlace.WidenBehind p then) values
             (SomeVerb.RaiseFuo p (get_or self.old.up p 0)) SomeAnswer.Done self.new }
-        ensures rooms { (values : List ℕ)
-            → KeepsRooms self.old (SomePlace.WidenBehind p then) values
-            (SomeVerb.RaiseFuo p (get_or self.old.up p 0)) SomeAnswer.Done self.new }
         ensures quiet { value_committed result ≡ None }
         ensures config { self.new.config ≡ self.old.config }
         ensures id { self.new.id ≡ self.old.id }
@@ -283,7 +239,8 @@ impl Lead {
         ensures note { result ≡ SomeNote.Working }
         ensures going { self.new.under_way ≡ going_after self.old.under_way result }
         ensures listed { (values : List ℕ)
-            → FollowsFrom self.old (SomePlace.WidenBehind p then) values (SomeVerb.RaiseFuo p (get_or self.old.up p 0))
+            → FollowsFrom self.old (SomePlace.WidenBehind p then) values
+            (SomeVerb.RaiseFuo p (get_or self.old.up p 0))
             SomeAnswer.Done self.new }
     {
         self.reach = with_fuo(self.reach, p, self.up_of(p));
@@ -296,9 +253,6 @@ impl Lead {
         ensures stands { (values : List ℕ)
             → Takes self.old (SomePlace.LookBehind p then) values
             (SomeVerb.Look p (get_or self.old.up p 0)) answer self.new }
-        ensures rooms { (values : List ℕ)
-            → KeepsRooms self.old (SomePlace.LookBehind p then) values
-            (SomeVerb.Look p (get_or self.old.up p 0)) answer self.new }
         ensures quiet { value_committed result ≡ None }
         ensures config { self.new.config ≡ self.old.config }
         ensures id { self.new.id ≡ self.old.id }
@@ -306,7 +260,8 @@ impl Lead {
         ensures note { result ≡ SomeNote.Working }
         ensures going { self.new.under_way ≡ going_after self.old.under_way result }
         ensures listed { (values : List ℕ)
-            → FollowsFrom self.old (SomePlace.LookBehind p then) values (SomeVerb.Look p (get_or self.old.up p 0))
+            → FollowsFrom self.old (SomePlace.LookBehind p then) values
+            (SomeVerb.Look p (get_or self.old.up p 0))
             answer self.new }
     {
         if is_past(answer) {
@@ -325,10 +280,6 @@ impl Lead {
             (SomeVerb.Enter p
             (SomeTarget.Place (get_or self.old.up p 0 % self.old.config.ring)))
             SomeAnswer.Entered self.new }
-        ensures rooms { (values : List ℕ)
-            → KeepsRooms self.old (SomePlace.EnterBehind p then) values
-            (SomeVerb.Enter p (SomeTarget.Place (get_or self.old.up p 0 % self.old.config.ring)))
-            SomeAnswer.Entered self.new }
         ensures quiet { value_committed result ≡ None }
         ensures config { self.new.config ≡ self.old.config }
         ensures id { self.new.id ≡ self.old.id }
@@ -336,7 +287,8 @@ impl Lead {
         ensures note { result ≡ SomeNote.Working }
         ensures going { self.new.under_way ≡ going_after self.old.under_way result }
         ensures listed { (values : List ℕ)
-            → FollowsFrom self.old (SomePlace.EnterBehind p then) values (SomeVerb.Enter p (SomeTarget.Place (get_or self.old.up p 0 % self.old.config.ring)))
+            → FollowsFrom self.old (SomePlace.EnterBehind p then) values
+            (SomeVerb.Enter p (SomeTarget.Place (get_or self.old.up p 0 % self.old.config.ring)))
             SomeAnswer.Entered self.new }
     {
         let event = Event {
@@ -355,17 +307,15 @@ impl Lead {
             (SomeVerb.PutSlot p (get_or self.old.up p 0) self.old.number
             (get_or known.now (get_or self.old.up p 0) 0))
             SomeAnswer.Done self.new }
-        ensures rooms { KeepsRooms self.old (SomePlace.PutBehind p then) known.now
-            (SomeVerb.PutSlot p (get_or self.old.up p 0) self.old.number
-            (get_or known.now (get_or self.old.up p 0) 0))
-            SomeAnswer.Done self.new }
         ensures quiet { value_committed result ≡ None }
         ensures config { self.new.config ≡ self.old.config }
         ensures id { self.new.id ≡ self.old.id }
         ensures named { self.new.named ≡ self.old.named }
         ensures note { result ≡ SomeNote.Working }
         ensures going { self.new.under_way ≡ going_after self.old.under_way result }
-        ensures listed { FollowsFrom self.old (SomePlace.PutBehind p then) known.now (SomeVerb.PutSlot p (get_or self.old.up p 0) self.old.number (get_or known.now (get_or self.old.up p 0) 0))
+        ensures listed { FollowsFrom self.old (SomePlace.PutBehind p then) known.now
+            (SomeVerb.PutSlot p (get_or self.old.up p 0) self.old.number
+            (get_or known.now (get_or self.old.up p 0) 0))
             SomeAnswer.Done self.new }
     {
         let event = Event {
@@ -388,15 +338,11 @@ impl Lead {
             then
             → get_or self.now.up p 0 ≤ end_of_known self.now.config self.now.id mine
             → HoldsAt mine self.now result }
-        ensures rooms { (mine : List SomeEvent)
-            → MayBringUp self.now.config self.now.id mine p then
-            → IsLed self.now.config self.now.id mine
-            (Stage.Bring (lag_of self.now.config self.now.id mine p then) Bringing.Raise)
-            → RoomsAt self.now.config self.now.id mine self.now.written.items result }
         ensures listed { (mine : List SomeEvent) → Stands mine self.now
             → known.now ≡ known_of self.now.config self.now.id mine
             → p < self.now.config.replicas
-            → result ≡ after_copy self.now.config self.now.id mine self.now.up self.now.reach p then }
+            → result
+            ≡ after_copy self.now.config self.now.id mine self.now.up self.now.reach p then }
     {
         if self.up_of(p) < known.len() as u64 {
             self.bring_up(p, then)
@@ -409,15 +355,15 @@ impl Lead {
     pub(crate) fn took_raise_behind(&mut self, p: u8, then: Then, known: &[u16]) -> Note
         ensures stands { Takes self.old (SomePlace.RaiseBehind p then) known.now
             (SomeVerb.RaiseFuo p (get_or self.old.up p 0)) SomeAnswer.Done self.new }
-        ensures rooms { KeepsRooms self.old (SomePlace.RaiseBehind p then) known.now
-            (SomeVerb.RaiseFuo p (get_or self.old.up p 0)) SomeAnswer.Done self.new }
+        ensures up { self.new.up ≡ self.old.up }
         ensures quiet { value_committed result ≡ None }
         ensures config { self.new.config ≡ self.old.config }
         ensures id { self.new.id ≡ self.old.id }
         ensures named { self.new.named ≡ self.old.named }
         ensures note { result ≡ note_of_raise p then }
         ensures going { self.new.under_way ≡ going_after self.old.under_way result }
-        ensures listed { FollowsFrom self.old (SomePlace.RaiseBehind p then) known.now (SomeVerb.RaiseFuo p (get_or self.old.up p 0))
+        ensures listed { FollowsFrom self.old (SomePlace.RaiseBehind p then) known.now
+            (SomeVerb.RaiseFuo p (get_or self.old.up p 0))
             SomeAnswer.Done self.new }
     {
         self.reach = with_fuo(self.reach, p, self.up_of(p));
@@ -437,9 +383,6 @@ impl Lead {
     pub(crate) fn took_fence_behind(&mut self, p: u8, then: Then, fence: Fence) -> Note
         ensures stands { (values : List ℕ)
             → Takes self.old (SomePlace.FenceBehind p then) values (SomeVerb.Fence p)
-            (SomeAnswer.Seen fence) self.new }
-        ensures rooms { (values : List ℕ)
-            → KeepsRooms self.old (SomePlace.FenceBehind p then) values (SomeVerb.Fence p)
             (SomeAnswer.Seen fence) self.new }
         ensures quiet { value_committed result ≡ None }
         ensures config { self.new.config ≡ self.old.config }

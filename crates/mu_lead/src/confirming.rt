@@ -1,5 +1,5 @@
 //! Asks, rounds of fences, minima and the number.
-ghost use Rattle.std.specs.Prelude.{Bool, false, None, IsTrue, List, Some, if◌then◌else◌, is_some, nat_lt, true, ℕ, ◌+◌, ◌<◌, ◌==◌, ◌||◌, ◌∷◌, ◌≡◌, ◌≤◌, ◌↔◌};
+ghost use Rattle.std.specs.Prelude.{Bool, None, IsTrue, List, Some, if◌then◌else◌, nat_lt, true, ℕ, ◌+◌, ◌<◌, ◌==◌, ◌||◌, ◌∷◌, ◌≡◌, ◌≤◌, ◌↔◌};
 ghost use Rattle.std.specs.declared.option.Option.{Option};
 ghost use Rattle.mu_model.specs.declared.event.Answer.{Answer as SomeAnswer};
 ghost use Rattle.mu_model.specs.declared.event.Event.{Event as SomeEvent};
@@ -17,10 +17,8 @@ ghost use Rattle.mu_lead.specs.Saying.{TellsAfter};
 ghost use Rattle.mu_lead.specs.declared.note.Note.{Note as SomeNote};
 ghost use Rattle.mu_lead.specs.Going.{going_after};
 ghost use Rattle.mu_model.specs.Diligence.{is_confirmed as is_confirmed_by};
-ghost use Rattle.mu_lead.specs.Rooms.{IsLed, IsWaiting, KeepsRooms, RoomsAt};
 ghost use Rattle.mu_lead.specs.Lasting.{FollowsFrom};
 ghost use Rattle.mu_lead.specs.Listing.{after_round, first_member, noted_from, or_else};
-ghost use Rattle.mu_pace.specs.Weights.{Stage};
 
 use crate::lead::Lead;
 use crate::note::Note;
@@ -58,7 +56,6 @@ impl Lead {
             → Takes self.old (SomePlace.Ask p) values (SomeVerb.Ask p) SomeAnswer.Done self.new }
         ensures quiet { value_committed result ≡ None }
         ensures config { self.new.config ≡ self.old.config }
-        ensures written { self.new.written ≡ self.old.written }
         ensures id { self.new.id ≡ self.old.id }
         ensures named { self.new.named ≡ self.old.named }
         ensures note { result ≡ SomeNote.Working }
@@ -91,7 +88,6 @@ impl Lead {
             (SomeAnswer.Seen fence) self.new }
         ensures quiet { value_committed result ≡ None }
         ensures config { self.new.config ≡ self.old.config }
-        ensures written { self.new.written ≡ self.old.written }
         ensures id { self.new.id ≡ self.old.id }
         ensures named { self.new.named ≡ self.old.named }
         ensures note { (mine : List SomeEvent) → StandsFor mine self.old
@@ -205,7 +201,6 @@ impl Lead {
             self.new }
         ensures quiet { value_committed result ≡ None }
         ensures config { self.new.config ≡ self.old.config }
-        ensures written { self.new.written ≡ self.old.written }
         ensures id { self.new.id ≡ self.old.id }
         ensures named { self.new.named ≡ self.old.named }
         ensures note { result ≡ SomeNote.Working }
@@ -261,7 +256,6 @@ impl Lead {
             SomeAnswer.Entered self.new }
         ensures quiet { value_committed result ≡ None }
         ensures config { self.new.config ≡ self.old.config }
-        ensures written { self.new.written ≡ self.old.written }
         ensures id { self.new.id ≡ self.old.id }
         ensures named { self.new.named ≡ self.old.named }
         ensures note { result ≡ SomeNote.Working }
@@ -287,7 +281,6 @@ impl Lead {
             SomeAnswer.Done self.new }
         ensures quiet { value_committed result ≡ None }
         ensures config { self.new.config ≡ self.old.config }
-        ensures written { self.new.written ≡ self.old.written }
         ensures id { self.new.id ≡ self.old.id }
         ensures named { self.new.named ≡ self.old.named }
         ensures note { result ≡ SomeNote.Working }

@@ -1,5 +1,5 @@
 //! Late followers.
-ghost use Rattle.std.specs.Prelude.{false, None, List, get_or, is_some, length, nat_lt, true, ℕ, ◌+◌, ◌<◌, ◌^◌, ◌∷◌, ◌≡◌, ◌≤◌};
+ghost use Rattle.std.specs.Prelude.{false, None, List, get_or, length, nat_lt, ℕ, ◌<◌, ◌^◌, ◌≡◌};
 ghost use Rattle.mu_model.specs.declared.event.Answer.{Answer as SomeAnswer};
 ghost use Rattle.mu_model.specs.declared.event.Event.{Event as SomeEvent};
 ghost use Rattle.mu_model.specs.declared.event.Target.{Target as SomeTarget};
@@ -14,8 +14,6 @@ ghost use Rattle.mu_lead.specs.Standing.{HoldsAt, Stands, Takes};
 ghost use Rattle.mu_lead.specs.Saying.{note_of_join};
 ghost use Rattle.mu_lead.specs.declared.note.Note.{Note as SomeNote};
 ghost use Rattle.mu_lead.specs.Going.{going_after};
-ghost use Rattle.mu_lead.specs.Onward.{MayGoOn};
-ghost use Rattle.mu_lead.specs.Rooms.{KeepsRooms, RoomsAt};
 
 use crate::arrays::{with_fuo, with_number};
 use crate::lead::Lead;
@@ -31,10 +29,6 @@ impl Lead {
             → known.now ≡ known_of self.now.config self.now.id mine
             → Level self.now.config self.now.id self.now.number mine self.now.up self.now.reach
             → HoldsAt mine self.now result }
-        ensures rooms { (mine : List SomeEvent) → Stands mine self.now
-            → known.now ≡ known_of self.now.config self.now.id mine
-            → MayGoOn self.now.config self.now.id mine p
-            → RoomsAt self.now.config self.now.id mine self.now.written.items result }
         ensures listed { (mine : List SomeEvent) → Stands mine self.now
             → known.now ≡ known_of self.now.config self.now.id mine
             → result ≡ late_from self.now.config self.now.id mine self.now.heads p }
@@ -48,8 +42,6 @@ impl Lead {
     /// The fence of the late follower `p`.
     pub(crate) fn took_late_fence(&mut self, p: u8, fence: Fence, known: &[u16]) -> Note
         ensures stands { Takes self.old (SomePlace.LateFence p) known.now (SomeVerb.Fence p)
-            (SomeAnswer.Seen fence) self.new }
-        ensures rooms { KeepsRooms self.old (SomePlace.LateFence p) known.now (SomeVerb.Fence p)
             (SomeAnswer.Seen fence) self.new }
         ensures quiet { value_committed result ≡ None }
         ensures config { self.new.config ≡ self.old.config }
@@ -80,9 +72,6 @@ impl Lead {
         ensures stands { (values : List ℕ)
             → Takes self.old (SomePlace.LateMin p) values (SomeVerb.Min p) (SomeAnswer.Number min)
             self.new }
-        ensures rooms { (values : List ℕ)
-            → KeepsRooms self.old (SomePlace.LateMin p) values (SomeVerb.Min p)
-            (SomeAnswer.Number min) self.new }
         ensures tells { min < 2 ^ 32 → result ≡ note_of_min p self.old.number min }
         ensures quiet { value_committed result ≡ None }
         ensures config { self.new.config ≡ self.old.config }
@@ -117,8 +106,6 @@ impl Lead {
         ensures stands { Takes self.old (SomePlace.LateFuo p) known.now (SomeVerb.Fuo p)
             (SomeAnswer.Number u)
             self.new }
-        ensures rooms { KeepsRooms self.old (SomePlace.LateFuo p) known.now (SomeVerb.Fuo p)
-            (SomeAnswer.Number u) self.new }
         ensures quiet { value_committed result ≡ None }
         ensures config { self.new.config ≡ self.old.config }
         ensures id { self.new.id ≡ self.old.id }
@@ -143,9 +130,6 @@ impl Lead {
     pub(crate) fn entered_late(&mut self, p: u8) -> Note
         ensures stands { (values : List ℕ)
             → Takes self.old (SomePlace.LateEnter p) values (SomeVerb.Enter p SomeTarget.Min)
-            SomeAnswer.Entered self.new }
-        ensures rooms { (values : List ℕ)
-            → KeepsRooms self.old (SomePlace.LateEnter p) values (SomeVerb.Enter p SomeTarget.Min)
             SomeAnswer.Entered self.new }
         ensures quiet { value_committed result ≡ None }
         ensures config { self.new.config ≡ self.old.config }
@@ -172,8 +156,6 @@ impl Lead {
         ensures stands { Takes self.old (SomePlace.LatePut p) known.now
             (SomeVerb.PutMin p self.old.number)
             SomeAnswer.Done self.new }
-        ensures rooms { KeepsRooms self.old (SomePlace.LatePut p) known.now
-            (SomeVerb.PutMin p self.old.number) SomeAnswer.Done self.new }
         ensures quiet { value_committed result ≡ None }
         ensures config { self.new.config ≡ self.old.config }
         ensures id { self.new.id ≡ self.old.id }
@@ -181,7 +163,8 @@ impl Lead {
         ensures note { length self.old.up ≡ 7
             → result ≡ note_of_join p (nat_lt (get_or self.old.up p 0) (length known.now)) }
         ensures going { self.new.under_way ≡ going_after self.old.under_way result }
-        ensures listed { FollowsFrom self.old (SomePlace.LatePut p) known.now (SomeVerb.PutMin p self.old.number)
+        ensures listed { FollowsFrom self.old (SomePlace.LatePut p) known.now
+            (SomeVerb.PutMin p self.old.number)
             SomeAnswer.Done self.new }
     {
         let event = Event {

@@ -1,5 +1,5 @@
 //! The leader, at its place in the listing.
-ghost use Rattle.std.specs.Prelude.{IfOk, IfSome, List, None, Some, [], false, get_or, if◌then◌else◌, length, nat_lt, not, ℕ, ◌%◌, ◌&&◌, ◌<◌, ◌==◌, ◌||◌, ◌∷◌, ◌≡◌, ◌≤◌};
+ghost use Rattle.std.specs.Prelude.{IfOk, IfSome, List, None, Some, [], false, get_or, if◌then◌else◌, length, nat_lt, not, ℕ, ◌%◌, ◌&&◌, ◌<◌, ◌==◌, ◌||◌, ◌≡◌};
 ghost use Rattle.mu_model.specs.declared.event.Event.{Event};
 ghost use Rattle.mu_model.specs.declared.event.Target.{Target as SomeTarget};
 ghost use Rattle.mu_model.specs.declared.event.Verb.{Verb as SomeVerb};
@@ -14,10 +14,10 @@ ghost use Rattle.mu_lead.specs.Causes.{CausesAt};
 ghost use Rattle.mu_lead.specs.Confirmations.{ConfirmsAt};
 ghost use Rattle.mu_lead.specs.Elections.{ElectsAt};
 ghost use Rattle.mu_lead.specs.Evidence.{ExplainsAt};
-ghost use Rattle.mu_lead.specs.Lasting.{Follows, FollowsDue, KeepsNext};
+ghost use Rattle.mu_lead.specs.Lasting.{Follows, FollowsDue, KeepsNext, tables_of};
 ghost use Rattle.mu_lead.specs.Raising.{RaisesAt};
 ghost use Rattle.mu_lead.specs.Resigning.{IsTold};
-ghost use Rattle.mu_lead.specs.Rooms.{HasRooms, RoomsDue, RoomsNext, gives_up};
+ghost use Rattle.mu_lead.specs.Rooms.{HasRooms, KeepsTables, RoomsNext, gives_up};
 ghost use Rattle.mu_lead.specs.Standing.{HasHeeded, StandsFor, TakesDue, TakesNext, TellsDue, TellsFailed, TellsNext, verb_of};
 ghost use Rattle.mu_lead.specs.Going.{begins_at, going_after};
 ghost use Rattle.mu_lead.specs.Saying.{NotesDue, SaysNext, is_working as is_working_note};
@@ -164,7 +164,7 @@ impl Lead {
     }
 
     /// The verb that is due: none where another replica is named, or where the listing has none.
-    #[tactic(auto, using(crate::proofs::Due::due_allowed, crate::proofs::Tables::tables_kept, crate::proofs::Bringing::done_behind, crate::proofs::Rooms::looks_first, crate::proofs::Lates::late_level, crate::proofs::Puts::raised_all, crate::proofs::Looks::may_offer_own))]
+    #[tactic(auto, using(crate::proofs::Due::due_allowed))]
     pub fn due(&self, known: &[u16]) -> Option<Verb>
         ghost mine: { List Event }
         requires stands { StandsFor mine self.now }
@@ -326,8 +326,8 @@ impl Lead {
     fn take_answer(&mut self, answer: Answer, known: &[u16], log: &KnownLog) -> Note
         ensures stands { HoldsValues self.old.config known.now log.now
             → TakesDue self.old known.now answer self.new }
-        ensures rooms { HoldsValues self.old.config known.now log.now
-            → RoomsDue self.old known.now answer self.new }
+        ensures kept { (mine : List Event) → StandsFor mine self.old
+            → KeepsTables (tables_of self.old) (tables_of self.new) self.old.place }
         ensures tells { TellsDue self.old known.now answer result }
         ensures config { self.new.config ≡ self.old.config }
         ensures id { self.new.id ≡ self.old.id }

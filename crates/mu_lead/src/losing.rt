@@ -1,5 +1,5 @@
 //! Leaderships that end.
-ghost use Rattle.std.specs.Prelude.{◌∷◌, false, None, List, true, ℕ, ◌%◌, ◌<◌, ◌≡◌};
+ghost use Rattle.std.specs.Prelude.{false, None, List, true, ◌%◌, ◌<◌, ◌≡◌};
 ghost use Rattle.mu_model.specs.declared.event.Answer.{Answer as SomeAnswer};
 ghost use Rattle.mu_model.specs.declared.event.Event.{Event as SomeEvent};
 ghost use Rattle.mu_model.specs.declared.event.Target.{Target as SomeTarget};
@@ -12,7 +12,6 @@ ghost use Rattle.mu_lead.specs.Notes.{value_committed};
 ghost use Rattle.mu_lead.specs.Standing.{TakesAt, TakesFrom};
 ghost use Rattle.mu_lead.specs.Going.{going_after};
 ghost use Rattle.mu_lead.specs.declared.place.Place.{Place as SomePlace};
-ghost use Rattle.mu_lead.specs.Rooms.{KeepsRooms, LeavesRooms};
 
 use crate::lead::Lead;
 use crate::note::{AbortCause, Note};
@@ -27,7 +26,6 @@ impl Lead {
         ensures tells { result ≡ SomeNote.Aborted (SomeCause.Lost p fence) }
         ensures quiet { value_committed result ≡ None }
         ensures config { self.new.config ≡ self.old.config }
-        ensures written { self.new.written ≡ self.old.written }
         ensures id { self.new.id ≡ self.old.id }
         ensures named { self.new.named ≡ self.old.named }
         ensures going { self.new.under_way ≡ going_after self.old.under_way result }
@@ -47,12 +45,9 @@ impl Lead {
     fn lost(&mut self, p: u8, target: Target, fence: Fence) -> Note
         ensures stands { TakesFrom self.old (SomeVerb.Enter p target)
             (SomeAnswer.Lost fence) self.new }
-        ensures rooms { (mine : List SomeEvent)
-            → LeavesRooms mine self.old (SomeVerb.Enter p target) (SomeAnswer.Lost fence) self.new }
         ensures tells { result ≡ SomeNote.Aborted (SomeCause.Lost p fence) }
         ensures quiet { value_committed result ≡ None }
         ensures config { self.new.config ≡ self.old.config }
-        ensures written { self.new.written ≡ self.old.written }
         ensures id { self.new.id ≡ self.old.id }
         ensures named { self.new.named ≡ self.old.named }
         ensures going { self.new.under_way ≡ going_after self.old.under_way result }
@@ -73,12 +68,8 @@ impl Lead {
     pub(crate) fn lost_min(&mut self, p: u8, fence: Fence) -> Note
         ensures stands { TakesFrom self.old (SomeVerb.Enter p SomeTarget.Min)
             (SomeAnswer.Lost fence) self.new }
-        ensures rooms { (mine : List SomeEvent)
-            → LeavesRooms mine self.old (SomeVerb.Enter p SomeTarget.Min) (SomeAnswer.Lost fence)
-            self.new }
         ensures quiet { value_committed result ≡ None }
         ensures config { self.new.config ≡ self.old.config }
-        ensures written { self.new.written ≡ self.old.written }
         ensures id { self.new.id ≡ self.old.id }
         ensures named { self.new.named ≡ self.old.named }
         ensures note { result ≡ SomeNote.Aborted (SomeCause.Lost p fence) }
@@ -92,10 +83,6 @@ impl Lead {
     pub(crate) fn lost_place(&mut self, p: u8, position: u64, fence: Fence) -> Note
         ensures stands { 0 < self.old.config.ring
             → TakesFrom self.old
-            (SomeVerb.Enter p (SomeTarget.Place (position % self.old.config.ring)))
-            (SomeAnswer.Lost fence) self.new }
-        ensures rooms { 0 < self.old.config.ring → (mine : List SomeEvent)
-            → LeavesRooms mine self.old
             (SomeVerb.Enter p (SomeTarget.Place (position % self.old.config.ring)))
             (SomeAnswer.Lost fence) self.new }
         ensures quiet { value_committed result ≡ None }
@@ -114,13 +101,9 @@ impl Lead {
         ensures stands { (mine : List SomeEvent) → p < self.old.config.replicas
             → has_begun self.old.id mine ≡ true → IsEnteredNow self.old.id p mine
             → TakesAt mine self.old (SomeVerb.PutMin p self.old.number) SomeAnswer.Missed self.new }
-        ensures rooms { (mine : List SomeEvent)
-            → LeavesRooms mine self.old (SomeVerb.PutMin p self.old.number) SomeAnswer.Missed
-            self.new }
         ensures missed { self.new.place ≡ SomePlace.Evidence p }
         ensures quiet { value_committed result ≡ None }
         ensures config { self.new.config ≡ self.old.config }
-        ensures written { self.new.written ≡ self.old.written }
         ensures id { self.new.id ≡ self.old.id }
         ensures named { self.new.named ≡ self.old.named }
         ensures note { result ≡ SomeNote.Working }
@@ -142,9 +125,6 @@ impl Lead {
             → has_begun self.old.id mine ≡ true → IsEnteredNow self.old.id p mine
             → TakesAt mine self.old (SomeVerb.PutSlot p i self.old.number value) SomeAnswer.Missed
             self.new }
-        ensures rooms { (mine : List SomeEvent)
-            → LeavesRooms mine self.old (SomeVerb.PutSlot p i self.old.number value)
-            SomeAnswer.Missed self.new }
         ensures missed { self.new.place ≡ SomePlace.Evidence p }
         ensures quiet { value_committed result ≡ None }
         ensures config { self.new.config ≡ self.old.config }

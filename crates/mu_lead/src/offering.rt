@@ -1,5 +1,5 @@
 //! New positions: room, looks, the value, puts and FUOs.
-ghost use Rattle.std.specs.Prelude.{IsTrue, List, None, Some, false, get_or, if◌then◌else◌, length, min, nat_lt, not, true, ℕ, ◌%◌, ◌&&◌, ◌*◌, ◌+◌, ◌<◌, ◌==◌, ◌∷◌, ◌||◌, ◌≡◌, ◌≢◌, ◌≤◌, ◌↔◌};
+ghost use Rattle.std.specs.Prelude.{IsTrue, List, None, Some, false, get_or, if◌then◌else◌, length, min, nat_lt, not, true, ℕ, ◌%◌, ◌&&◌, ◌+◌, ◌<◌, ◌==◌, ◌∷◌, ◌||◌, ◌≡◌, ◌≢◌, ◌↔◌};
 ghost use Rattle.std.specs.declared.option.Option.{Option};
 ghost use Rattle.mu_model.specs.declared.event.Answer.{Answer as SomeAnswer};
 ghost use Rattle.mu_model.specs.declared.event.Event.{Event as SomeEvent};
@@ -7,7 +7,6 @@ ghost use Rattle.mu_model.specs.declared.event.Target.{Target as SomeTarget};
 ghost use Rattle.mu_model.specs.declared.event.Verb.{Verb as SomeVerb};
 ghost use Rattle.mu_model.specs.Contents.{marked, row_count};
 ghost use Rattle.mu_model.specs.Knowledge.{known as known_of};
-ghost use Rattle.mu_model.specs.Leaderships.{is_member};
 ghost use Rattle.mu_model.specs.Parts.{IsPossible};
 ghost use Rattle.mu_model.specs.Room.{reserve};
 ghost use Rattle.mu_known.specs.KnownLog.{HoldsValues};
@@ -25,11 +24,6 @@ ghost use Rattle.mu_lead.specs.Standing.{HasHeeded, HoldsAt, Stands, StandsFor, 
 ghost use Rattle.mu_lead.specs.Saying.{NotesPut, note_of_look};
 ghost use Rattle.mu_lead.specs.declared.note.Note.{Note as SomeNote};
 ghost use Rattle.mu_lead.specs.Going.{going_after};
-ghost use Rattle.mu_model.specs.Bounds.{members};
-ghost use Rattle.mu_pace.specs.Weights.{Stage};
-ghost use Rattle.mu_lead.specs.Onward.{IsNextStranger, MayGoOn};
-ghost use Rattle.mu_pace.specs.Members.{IsNextMember, members_from};
-ghost use Rattle.mu_lead.specs.Rooms.{IsLed, KeepsRooms, RoomsAt};
 
 use crate::arrays::{with_fuo, with_number};
 use crate::batches::{is_marked, knows_all, next_offer, own_value};
@@ -50,11 +44,6 @@ impl Lead {
             → known.now ≡ known_of self.now.config self.now.id mine
             → Level self.now.config self.now.id self.now.number mine self.now.up self.now.reach
             → HoldsAt mine self.now result }
-        ensures rooms { (mine : List SomeEvent) → (p : ℕ) → Stands mine self.now
-            → known.now ≡ known_of self.now.config self.now.id mine
-            → IsNextStranger self.now.config self.now.id mine p None
-            → MayGoOn self.now.config self.now.id mine p
-            → RoomsAt self.now.config self.now.id mine self.now.written.items result }
         ensures listed { (mine : List SomeEvent) → Stands mine self.now
             → known.now ≡ known_of self.now.config self.now.id mine
             → result ≡ next_position self.now.config self.now.id mine self.now.heads }
@@ -121,13 +110,6 @@ impl Lead {
             → known.now ≡ known_of self.now.config self.now.id mine
             → Level self.now.config self.now.id self.now.number mine self.now.up self.now.reach
             → Roomy self.now.config self.now.id mine q candidate → HoldsAt mine self.now result }
-        ensures rooms { (mine : List SomeEvent) → Stands mine self.now
-            → known.now ≡ known_of self.now.config self.now.id mine
-            → ((h : ℕ) → q ≤ h → h < self.now.config.replicas
-            → IsLed self.now.config self.now.id mine (Stage.ReadHead h))
-            → ((k : ℕ) → k ≤ members self.now.config self.now.id mine
-            → IsLed self.now.config self.now.id mine (Stage.LookAt k))
-            → RoomsAt self.now.config self.now.id mine self.now.written.items result }
         ensures listed { (mine : List SomeEvent) → Stands mine self.now
             → known.now ≡ known_of self.now.config self.now.id mine
             → result ≡ heads_from self.now.config self.now.id mine self.now.heads q candidate }
@@ -163,8 +145,6 @@ impl Lead {
             (record { by = self.old.id; verb = SomeVerb.Head q; answer = SomeAnswer.Number head }
             ∷ mine)
             self.new }
-        ensures rooms { KeepsRooms self.old (SomePlace.ReadHead q candidate) known.now
-            (SomeVerb.Head q) (SomeAnswer.Number head) self.new }
         ensures tells { length known.now < 65536 → head < 65536 → result
             ≡ note_of_head q head (length known.now)
             (nat_lt (length known.now + reserve self.old.config)
@@ -233,9 +213,7 @@ impl Lead {
             → TakesLook self.old
             (SomePlace.Look p position candidate best) known.now p position
             answer self.new }
-        ensures rooms { HoldsValues self.old.config known.now log.now
-            → KeepsRooms self.old (SomePlace.Look p position candidate best) known.now
-            (SomeVerb.Look p position) answer self.new }
+        ensures up { self.new.up ≡ self.old.up }
         ensures quiet { value_committed result ≡ None }
         ensures config { self.new.config ≡ self.old.config }
         ensures id { self.new.id ≡ self.old.id }
@@ -277,20 +255,6 @@ impl Lead {
             → Looking self.now.config self.now.id self.now.number mine self.now.up self.now.reach
             (p + 1) candidate best
             → HoldsAt mine self.now result }
-        ensures rooms { HoldsValues self.now.config known.now log.now
-            → (mine : List SomeEvent) → Stands mine self.now
-            → known.now ≡ known_of self.now.config self.now.id mine
-            → p < self.now.config.replicas → is_member self.now.id p mine ≡ true
-            → Looking self.now.config self.now.id self.now.number mine self.now.up self.now.reach
-            (p + 1) candidate best
-            → ((q : ℕ) → IsNextMember self.now.config self.now.id p q mine
-            → IsLed self.now.config self.now.id mine
-            (Stage.LookAt (members_from self.now.config self.now.id q mine)))
-            → ((words : ℕ) → 1 ≤ words → words ≤ 12 * self.now.config.width
-            → IsLed self.now.config self.now.id mine (Stage.Write words))
-            → ((k : ℕ) → 1 ≤ k → k ≤ members self.now.config self.now.id mine
-            → IsLed self.now.config self.now.id mine (Stage.EnterAt k))
-            → RoomsAt self.now.config self.now.id mine self.now.written.items result }
         ensures listed { HoldsValues self.now.config known.now log.now
             → (mine : List SomeEvent) → Stands mine self.now
             → known.now ≡ known_of self.now.config self.now.id mine
@@ -321,16 +285,6 @@ impl Lead {
             → Looking self.now.config self.now.id self.now.number mine self.now.up self.now.reach
             self.now.config.replicas candidate best
             → HoldsAt mine self.now result }
-        ensures rooms { HoldsValues self.now.config known.now log.now
-            → (mine : List SomeEvent) → Stands mine self.now
-            → known.now ≡ known_of self.now.config self.now.id mine
-            → Looking self.now.config self.now.id self.now.number mine self.now.up self.now.reach
-            self.now.config.replicas candidate best
-            → ((words : ℕ) → 1 ≤ words → words ≤ 12 * self.now.config.width
-            → IsLed self.now.config self.now.id mine (Stage.Write words))
-            → ((k : ℕ) → 1 ≤ k → k ≤ members self.now.config self.now.id mine
-            → IsLed self.now.config self.now.id mine (Stage.EnterAt k))
-            → RoomsAt self.now.config self.now.id mine self.now.written.items result }
         ensures listed { HoldsValues self.now.config known.now log.now
             → (mine : List SomeEvent) → Stands mine self.now
             → known.now ≡ known_of self.now.config self.now.id mine
@@ -361,21 +315,12 @@ impl Lead {
             → Looking self.now.config self.now.id self.now.number mine self.now.up self.now.reach
             self.now.config.replicas None None
             → HoldsAt mine self.now result }
-        ensures rooms { HoldsValues self.now.config known.now log.now
-            → (mine : List SomeEvent) → Stands mine self.now
-            → known.now ≡ known_of self.now.config self.now.id mine
-            → Looking self.now.config self.now.id self.now.number mine self.now.up self.now.reach
-            self.now.config.replicas None None
-            → ((words : ℕ) → 1 ≤ words → words ≤ 12 * self.now.config.width
-            → IsLed self.now.config self.now.id mine (Stage.Write words))
-            → ((k : ℕ) → 1 ≤ k → k ≤ members self.now.config self.now.id mine
-            → IsLed self.now.config self.now.id mine (Stage.EnterAt k))
-            → RoomsAt self.now.config self.now.id mine self.now.written.items result }
         ensures listed { HoldsValues self.now.config known.now log.now
             → (mine : List SomeEvent) → Stands mine self.now
             → known.now ≡ known_of self.now.config self.now.id mine
             → result ≡ or_else (own_offer self.now.config self.now.id
-            (known_of self.now.config self.now.id mine) (end_of_known self.now.config self.now.id mine))
+            (known_of self.now.config self.now.id mine)
+            (end_of_known self.now.config self.now.id mine))
             (offer_row self.now.config self.now.id mine self.now.written.items) SomePlace.Rest }
     {
         match next_offer(&self.config, self.id, known, log) {
@@ -402,11 +347,6 @@ impl Lead {
             → LooksShow self.now.config self.now.id mine
             (end_of_known self.now.config self.now.id mine) offer.adopted
             → HoldsAt mine self.now result }
-        ensures rooms { (mine : List SomeEvent) → Stands mine self.now
-            → is_member self.now.id self.now.id mine ≡ true
-            → ((k : ℕ) → 1 ≤ k → k ≤ members self.now.config self.now.id mine
-            → IsLed self.now.config self.now.id mine (Stage.EnterAt k))
-            → RoomsAt self.now.config self.now.id mine self.now.written.items result }
         ensures listed { (mine : List SomeEvent) → Stands mine self.now
             → result ≡ SomePlace.Enter (first_member self.now.config self.now.id mine) offer }
     {
@@ -418,16 +358,14 @@ impl Lead {
         ensures stands { Takes self.old (SomePlace.Enter p offer) known.now
             (SomeVerb.Enter p (SomeTarget.Place (length known.now % self.old.config.ring)))
             SomeAnswer.Entered self.new }
-        ensures rooms { KeepsRooms self.old (SomePlace.Enter p offer) known.now
-            (SomeVerb.Enter p (SomeTarget.Place (length known.now % self.old.config.ring)))
-            SomeAnswer.Entered self.new }
         ensures quiet { value_committed result ≡ None }
         ensures config { self.new.config ≡ self.old.config }
         ensures id { self.new.id ≡ self.old.id }
         ensures named { self.new.named ≡ self.old.named }
         ensures note { result ≡ SomeNote.Working }
         ensures going { self.new.under_way ≡ going_after self.old.under_way result }
-        ensures listed { FollowsFrom self.old (SomePlace.Enter p offer) known.now (SomeVerb.Enter p (SomeTarget.Place (length known.now % self.old.config.ring)))
+        ensures listed { FollowsFrom self.old (SomePlace.Enter p offer) known.now
+            (SomeVerb.Enter p (SomeTarget.Place (length known.now % self.old.config.ring)))
             SomeAnswer.Entered self.new }
     {
         let event = Event {
@@ -443,9 +381,6 @@ impl Lead {
     /// The offer was put at `p`.
     pub(crate) fn took_put(&mut self, p: u8, offer: Offer, known: &[u16]) -> Note
         ensures stands { Takes self.old (SomePlace.Put p offer) known.now
-            (SomeVerb.PutSlot p (length known.now) self.old.number offer.value) SomeAnswer.Done
-            self.new }
-        ensures rooms { KeepsRooms self.old (SomePlace.Put p offer) known.now
             (SomeVerb.PutSlot p (length known.now) self.old.number offer.value) SomeAnswer.Done
             self.new }
         ensures tells { (mine : List SomeEvent) → StandsFor mine self.old
@@ -472,7 +407,8 @@ impl Lead {
         ensures named { self.new.named ≡ self.old.named }
         ensures note { NotesPut (length known.now) offer result }
         ensures going { self.new.under_way ≡ going_after self.old.under_way result }
-        ensures listed { FollowsFrom self.old (SomePlace.Put p offer) known.now (SomeVerb.PutSlot p (length known.now) self.old.number offer.value)
+        ensures listed { FollowsFrom self.old (SomePlace.Put p offer) known.now
+            (SomeVerb.PutSlot p (length known.now) self.old.number offer.value)
             SomeAnswer.Done self.new }
     {
         let position = end_of(known);
@@ -500,15 +436,14 @@ impl Lead {
         ensures stands { Takes self.old (SomePlace.Raise p) known.now
             (SomeVerb.RaiseFuo p (length known.now))
             SomeAnswer.Done self.new }
-        ensures rooms { KeepsRooms self.old (SomePlace.Raise p) known.now
-            (SomeVerb.RaiseFuo p (length known.now)) SomeAnswer.Done self.new }
         ensures quiet { value_committed result ≡ None }
         ensures config { self.new.config ≡ self.old.config }
         ensures id { self.new.id ≡ self.old.id }
         ensures named { self.new.named ≡ self.old.named }
         ensures note { result ≡ SomeNote.Working }
         ensures going { self.new.under_way ≡ going_after self.old.under_way result }
-        ensures listed { FollowsFrom self.old (SomePlace.Raise p) known.now (SomeVerb.RaiseFuo p (length known.now))
+        ensures listed { FollowsFrom self.old (SomePlace.Raise p) known.now
+            (SomeVerb.RaiseFuo p (length known.now))
             SomeAnswer.Done self.new }
     {
         self.reach = with_fuo(self.reach, p, known.len() as u64);

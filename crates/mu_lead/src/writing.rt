@@ -1,5 +1,5 @@
 //! The rows of a batch that is offered.
-ghost use Rattle.std.specs.Prelude.{IsTrue, List, None, Some, false, get_or, if◌then◌else◌, length, min, nat_lt, not, true, ℕ, ◌%◌, ◌&&◌, ◌+◌, ◌-◌, ◌<◌, ◌==◌, ◌∷◌, ◌||◌, ◌≡◌, ◌≢◌, ◌≤◌, ◌↔◌};
+ghost use Rattle.std.specs.Prelude.{List, None, Some, get_or, if◌then◌else◌, length, nat_lt, ℕ, ◌+◌, ◌-◌, ◌<◌, ◌≡◌, ◌≢◌};
 ghost use Rattle.std.specs.declared.option.Option.{Option};
 ghost use Rattle.mu_model.specs.declared.event.Answer.{Answer as SomeAnswer};
 ghost use Rattle.mu_model.specs.declared.event.Event.{Event as SomeEvent};
@@ -11,12 +11,10 @@ ghost use Rattle.mu_lead.specs.Listing.{write_from};
 ghost use Rattle.mu_lead.specs.Notes.{value_committed};
 ghost use Rattle.mu_lead.specs.Offering.{Writing};
 ghost use Rattle.mu_known.specs.Offers.{IsFirst};
-ghost use Rattle.mu_lead.specs.Standing.{HoldsAt, Stands, Takes};
+ghost use Rattle.mu_lead.specs.Standing.{HoldsAt, Stands, StandsFor, Takes};
 ghost use Rattle.mu_lead.specs.declared.note.Note.{Note as SomeNote};
 ghost use Rattle.mu_lead.specs.Going.{going_after};
-ghost use Rattle.mu_model.specs.Bounds.{members};
-ghost use Rattle.mu_pace.specs.Weights.{Stage};
-ghost use Rattle.mu_lead.specs.Rooms.{IsLed, KeepsRooms, RoomsAt, words_left};
+ghost use Rattle.mu_lead.specs.Rooms.{words_left};
 
 use crate::lead::Lead;
 use crate::note::Note;
@@ -43,18 +41,11 @@ impl Lead {
             → Writing self.now.config self.now.id self.now.number mine self.now.up self.now.reach
             first last offer
             → HoldsAt mine self.now result }
-        ensures rooms { (mine : List SomeEvent) → Stands mine self.now
-            → Writing self.now.config self.now.id self.now.number mine self.now.up self.now.reach
-            first last offer
-            → (1 ≤ words_left self.now.written.items first (last + 1 - first)
-            → IsLed self.now.config self.now.id mine
-            (Stage.Write (words_left self.now.written.items first (last + 1 - first))))
-            → ((k : ℕ) → 1 ≤ k → k ≤ members self.now.config self.now.id mine
-            → IsLed self.now.config self.now.id mine (Stage.EnterAt k))
-            → RoomsAt self.now.config self.now.id mine self.now.written.items result }
         ensures listed { (mine : List SomeEvent) → Stands mine self.now
             → last < 65535
-            → result ≡ write_from self.now.config self.now.id mine self.now.written.items first last offer }
+            → result
+            ≡ write_from self.now.config self.now.id mine self.now.written.items first last
+            offer }
     {
         match self.next_unwritten(first, last) {
             Some(j) => Place::Write(j, last, offer),
@@ -69,11 +60,10 @@ impl Lead {
             (SomeVerb.WriteRow j (get_or self.old.written.items j 12)
             (config_word self.old.config j (get_or self.old.written.items j 12)))
             SomeAnswer.Done self.new }
-        ensures rooms { (values : List ℕ)
-            → KeepsRooms self.old (SomePlace.Write j last offer) values
-            (SomeVerb.WriteRow j (get_or self.old.written.items j 12)
-            (config_word self.old.config j (get_or self.old.written.items j 12))) SomeAnswer.Done
-            self.new }
+        ensures words { (mine : List SomeEvent) → StandsFor mine self.old
+            → self.old.place ≡ SomePlace.Write j last offer
+            → words_left self.old.written.items j (last + 1 - j)
+            ≡ words_left self.new.written.items j (last + 1 - j) + 1 }
         ensures quiet { value_committed result ≡ None }
         ensures config { self.new.config ≡ self.old.config }
         ensures id { self.new.id ≡ self.old.id }

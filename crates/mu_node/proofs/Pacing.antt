@@ -159,9 +159,9 @@ none_due c b values up written place none = absurd (true≢false (ap is_some non
 rests_on : (c : Config) (r b : ℕ) (mine : List Event) (up : List ℕ) (reach : List (Option ℕ)) (written : List ℕ) (place : Place) (answer : Answer) → IsConfig c → is_odd (length mine) ≡ true → outrun c r mine ≡ None → rests_at place ≡ true
     → At c r b mine up reach written place → PacesAt c r mine written place → PacesAt c r (event_by r Verb.Beat answer ∷ mine) written place
 rests_on c r b mine up reach written Place.Rest answer good odd going rests at paces = record {
-  counts = beats_keep_counts.rests c r mine written answer good odd at paces.counts;
+  counts = beats_keep_counts.rests c r mine written answer good odd at.0 paces.counts;
   causes = leaders_ask_with_cause.beside c r mine Place.Rest Verb.Beat answer refl paces.causes;
-  elects = elections_come_in_time.rest c r mine Verb.Beat answer odd refl at paces.elects;
+  elects = elections_come_in_time.rest c r mine Verb.Beat answer odd refl at.0 paces.elects;
 }
 rests_on c r b mine up reach written Place.Outrun answer good odd going rests at paces = absurd (beats_keep_counts.ends c r mine at going)
 rests_on c r b mine up reach written place answer good odd going rests at paces = absurd (true≢false (sym rests))

@@ -14,22 +14,6 @@ returns-in-Some-clause-stands c = λ mine s same region member leads raised unpu
 pub returns-in-None-clause-stands : goal.returns-in-None-clause-stands
 returns-in-None-clause-stands c = λ mine s same region member leads raised unput source few_ups. let l = c.args.self.now in let few = s.config.replicas.1 in let next = c.saturating_add.ensures in c.learn_from.ensures.stands mine s same leads (read_all l.config l.id c.args.p c.saturating_add.result mine l.up l.reach (omega (arith, next, region, few)) raised (c.in-None.ensures l.id mine few s.leading)) unput (c.farther-from.ensures.member mine source region member) (most_all l.config l.id c.args.p c.saturating_add.result c.farther-from.result mine l.up (omega (arith, next, region, few)) (c.farther-from.ensures.most mine s.tables.ups few_ups) (c.in-None.ensures l.id mine few s.leading))
 
-pub returns-in-Some-clause-rooms : goal.returns-in-Some-clause-rooms
-returns-in-Some-clause-rooms c = λ mine s same region member raised nexts learn ups alls.
-    let l = c.args.self.now in
-    let few = s.config.replicas.1 in
-    let next = c.saturating_add.ensures in
-    let first = c.in-Some.ensures l.id mine few s.leading in
-    let from = first.0 in
-    nexts c.in-Some.q (record { there = region; member = member; above = omega (arith, next, region, few, from); between = λ k after before. first.3 k (omega (arith, next, region, few, after)) before })
-
-pub returns-in-None-clause-rooms : goal.returns-in-None-clause-rooms
-returns-in-None-clause-rooms c = λ mine s same region member raised nexts learn ups alls.
-    let l = c.args.self.now in
-    let few = s.config.replicas.1 in
-    let next = c.saturating_add.ensures in
-    c.learn_from.ensures.rooms mine s same learn ups (alls (read_all l.config l.id c.args.p c.saturating_add.result mine l.up l.reach (omega (arith, next, region, few)) raised (c.in-None.ensures l.id mine few s.leading)))
-
 pub returns-in-Some-clause-listed : goal.returns-in-Some-clause-listed
 returns-in-Some-clause-listed c = λ mine s same region.
     let l = c.args.self.now in

@@ -34,24 +34,6 @@ returns-in-None-clause-stands c = λ counts mine s same region looking.
     let none = c.in-None.ensures l.id mine few s.leading in
     c.pick.ensures.stands counts mine s same (looking_to l.config l.id l.number (c.args.p + 1) l.config.replicas mine l.up l.reach c.args.candidate c.args.best (omega (arith, region)) (λ k more less. none k (omega (arith, more, next)) less) looking)
 
-pub returns-in-Some-clause-rooms : goal.returns-in-Some-clause-rooms
-returns-in-Some-clause-rooms c = λ counts mine s same region member looking nexts writes puts.
-    let l = c.args.self.now in
-    let few = s.config.replicas.1 in
-    let next = c.saturating_add.ensures in
-    let first = c.in-Some.ensures l.id mine few s.leading in
-    let from = first.0 in
-    nexts c.in-Some.q (record { there = region; member = member; above = omega (arith, next, region, few, from); between = λ k after before. first.3 k (omega (arith, next, region, few, after)) before })
-
-pub returns-in-None-clause-rooms : goal.returns-in-None-clause-rooms
-returns-in-None-clause-rooms c = λ counts mine s same region member looking nexts writes puts.
-    let l = c.args.self.now in
-    let few = s.config.replicas.1 in
-    let more = c.saturating_add.ensures in
-    let next : c.saturating_add.result ≡ c.args.p + 1 = omega (arith, more, region, few) in
-    let none = c.in-None.ensures l.id mine few s.leading in
-    c.pick.ensures.rooms counts mine s same (looking_to l.config l.id l.number (c.args.p + 1) l.config.replicas mine l.up l.reach c.args.candidate c.args.best (omega (arith, region)) (λ k more less. none k (omega (arith, more, next)) less) looking) writes puts
-
 pub returns-in-Some-clause-listed : goal.returns-in-Some-clause-listed
 returns-in-Some-clause-listed c = λ counts mine s same region looking.
     let l = c.args.self.now in

@@ -3,9 +3,6 @@ use Rattle.std.proofs.lemmas.Bool.{le-ltb, lt-ltb}
 use Rattle.mu_lead.specs.Leading.{end_of}
 use Rattle.mu_lead.proofs.lead.Lead.after_put_behind.Goals as goal
 
-pub returns-then-up_of-known-clause-rooms : goal.returns-then-up_of-known-clause-rooms
-returns-then-up_of-known-clause-rooms c = λ mine ups raise. c.bring_up.ensures.rooms mine ups
-
 pub returns-then-up_of-known-clause-listed : goal.returns-then-up_of-known-clause-listed
 returns-then-up_of-known-clause-listed c = λ mine s same region.
     let l = c.args.self.now in

@@ -15,9 +15,6 @@ use Rattle.mu_lead.specs.Standing.{StandsFor}
 use Rattle.mu_lead.proofs.Replies.{enters_or}
 use Rattle.std.proofs.Common.{inr}
 use Rattle.mu_lead.proofs.Saying.{notes_entered, notes_lost}
-use Rattle.mu_lead.specs.Rooms.{HasRooms}
-use Rattle.mu_pace.specs.Weights.{Stage}
-use Rattle.mu_pace.specs.Members.{members_from}
 use Rattle.mu_lead.proofs.lead.Lead.at_enter.Goals as goal
 
 pub returns-in-None-clause-stands : goal.returns-in-None-clause-stands
@@ -42,24 +39,6 @@ returns-in-Some-clause-note c = notes_lost c.args.p c.args.answer c.in-Some.fenc
 
 pub returns-in-None-clause-note : goal.returns-in-None-clause-note
 returns-in-None-clause-note c = notes_entered c.args.p c.args.answer c.entered_new.result c.in-None.ensures c.entered_new.ensures.note
-
-pub returns-in-None-clause-rooms : goal.returns-in-None-clause-rooms
-returns-in-None-clause-rooms c = λ mine s is possible told turn rooms.
-    let l = c.args.self.now in
-    let t = Target.Place (length c.args.known.now % l.config.ring) in
-    elim (enters_or l.config l.id c.args.p t c.args.answer mine possible) [
-      | inl entered ↦ subst (λ a. HasRooms (event_by l.id (Verb.Enter c.args.p t) a ∷ mine) c.entered_new.new.self) (sym entered) (c.entered_new.ensures.rooms mine s is (subst (λ a. IsPossible l.config l.id (event_by l.id (Verb.Enter c.args.p t) a ∷ mine)) entered possible) told turn rooms)
-      | inr lost ↦ absurd (c.in-None.ensures lost.0 lost.1)
-    ]
-
-pub returns-in-Some-clause-rooms : goal.returns-in-Some-clause-rooms
-returns-in-Some-clause-rooms c = λ mine s is possible told turn rooms.
-    let l = c.args.self.now in
-    let led = rw is at rooms in
-    let t = Target.Place (length c.args.known.now % l.config.ring) in
-    let ring : 0 < l.config.ring = (let low = s.config.ring.0 in omega (arith, low)) in
-    subst (λ a. HasRooms (event_by l.id (Verb.Enter c.args.p t) a ∷ mine) c.lost_place.new.self) (sym c.in-Some.ensures)
-    (c.lost_place.ensures.rooms ring mine (Stage.EnterAt (members_from l.config l.id c.args.p mine)) s.config turn led.placed)
 
 pub returns-in-None-clause-listed : goal.returns-in-None-clause-listed
 returns-in-None-clause-listed c = λ mine s is possible told.

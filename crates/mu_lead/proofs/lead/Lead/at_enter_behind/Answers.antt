@@ -17,10 +17,6 @@ use Rattle.mu_lead.specs.Standing.{StandsFor}
 use Rattle.mu_lead.proofs.Replies.{enters_or}
 use Rattle.std.proofs.Common.{inr}
 use Rattle.mu_lead.proofs.Saying.{notes_entered, notes_lost}
-use Rattle.mu_lead.specs.Rooms.{HasRooms}
-use Rattle.mu_pace.specs.Weights.{Stage}
-use Rattle.mu_pace.specs.Weights.{Bringing}
-use Rattle.mu_lead.specs.Rooms.{lag_of}
 use Rattle.mu_lead.proofs.lead.Lead.at_enter_behind.Goals as goal
 
 pub returns-in-None-clause-stands : goal.returns-in-None-clause-stands
@@ -47,26 +43,6 @@ returns-in-Some-clause-note c = notes_lost c.args.p c.args.answer c.in-Some.fenc
 
 pub returns-in-None-clause-note : goal.returns-in-None-clause-note
 returns-in-None-clause-note c = notes_entered c.args.p c.args.answer c.entered_behind.result c.in-None.ensures c.entered_behind.ensures.note
-
-pub returns-in-None-clause-rooms : goal.returns-in-None-clause-rooms
-returns-in-None-clause-rooms c = λ values mine s is possible told turn rooms.
-    let l = c.args.self.now in
-    let t = Target.Place (get_or l.up c.args.p 0 % l.config.ring) in
-    elim (enters_or l.config l.id c.args.p t c.args.answer mine possible) [
-      | inl entered ↦ subst (λ a. HasRooms (event_by l.id (Verb.Enter c.args.p t) a ∷ mine) c.entered_behind.new.self) (sym entered) (c.entered_behind.ensures.rooms values mine s is (subst (λ a. IsPossible l.config l.id (event_by l.id (Verb.Enter c.args.p t) a ∷ mine)) entered possible) told turn rooms)
-      | inr lost ↦ absurd (c.in-None.ensures lost.0 lost.1)
-    ]
-
-pub returns-in-Some-clause-rooms : goal.returns-in-Some-clause-rooms
-returns-in-Some-clause-rooms c = λ values mine s is possible told turn rooms.
-    let l = c.args.self.now in
-    let led = rw is at rooms in
-    let t = Target.Place (get_or l.up c.args.p 0 % l.config.ring) in
-    let ring : 0 < l.config.ring = (let low = s.config.ring.0 in omega (arith, low)) in
-    let up_is = c.up_of.ensures s.tables.ups in
-    subst (λ a. HasRooms (event_by l.id (Verb.Enter c.args.p t) a ∷ mine) c.lost_place.new.self) (sym c.in-Some.ensures)
-    (subst (λ u. HasRooms (event_by l.id (Verb.Enter c.args.p (Target.Place (u % l.config.ring))) (Answer.Lost c.in-Some.fence) ∷ mine) c.lost_place.new.self) up_is
-    (c.lost_place.ensures.rooms ring mine (Stage.Bring (lag_of l.config l.id mine c.args.p c.args.then) Bringing.Enter) s.config turn led.placed))
 
 pub returns-in-None-clause-listed : goal.returns-in-None-clause-listed
 returns-in-None-clause-listed c = λ values mine s is possible told.

@@ -12,7 +12,6 @@ use Rattle.std.proofs.Common.{subst, sym, ◌∷◌}
 use Rattle.mu_model.proofs.Basics.{event_by}
 use Rattle.mu_model.specs.declared.event.Verb.{Verb}
 use Rattle.mu_model.specs.Parts.{IsPossible}
-use Rattle.mu_lead.specs.Rooms.{HasRooms}
 use Rattle.mu_lead.specs.Standing.{StandsFor}
 use Rattle.mu_lead.proofs.lead.Lead.at_fence_behind.Goals as goal
 
@@ -24,14 +23,6 @@ returns-in-None-clause-note c = (refl, λ mine f s possible seen. absurd (c.in-N
 
 pub returns-in-Some-clause-note : goal.returns-in-Some-clause-note
 returns-in-Some-clause-note c = (c.took_fence_behind.ensures.note, notes_over c.args.self.now c.args.p c.args.answer c.in-Some.fence c.took_fence_behind.result c.in-Some.ensures c.took_fence_behind.ensures.over)
-
-pub returns-in-None-clause-rooms : goal.returns-in-None-clause-rooms
-returns-in-None-clause-rooms c = λ values mine s is possible told turn rooms. let l = c.args.self.now in let x = sees_fence l.config l.id c.args.p c.args.answer mine possible in absurd (c.in-None.ensures x.0 x.1)
-
-pub returns-in-Some-clause-rooms : goal.returns-in-Some-clause-rooms
-returns-in-Some-clause-rooms c = λ values mine s is possible told turn rooms.
-    let l = c.args.self.now in
-    subst (λ a. HasRooms (event_by l.id (Verb.Fence c.args.p) a ∷ mine) c.took_fence_behind.new.self) (sym c.in-Some.ensures) (c.took_fence_behind.ensures.rooms values mine s is (subst (λ a. IsPossible l.config l.id (event_by l.id (Verb.Fence c.args.p) a ∷ mine)) c.in-Some.ensures possible) told turn rooms)
 
 pub returns-in-Some-clause-stands : goal.returns-in-Some-clause-stands
 returns-in-Some-clause-stands c = λ values mine s is possible told.

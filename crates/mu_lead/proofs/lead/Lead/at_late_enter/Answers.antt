@@ -15,8 +15,6 @@ use Rattle.mu_lead.specs.Standing.{StandsFor}
 use Rattle.mu_lead.proofs.Replies.{enters_or}
 use Rattle.std.proofs.Common.{inr}
 use Rattle.mu_lead.proofs.Saying.{notes_entered, notes_lost}
-use Rattle.mu_lead.specs.Rooms.{HasRooms}
-use Rattle.mu_pace.specs.Weights.{Stage}
 use Rattle.mu_lead.proofs.lead.Lead.at_late_enter.Goals as goal
 
 pub returns-in-None-clause-stands : goal.returns-in-None-clause-stands
@@ -41,21 +39,6 @@ returns-in-Some-clause-note c = notes_lost c.args.p c.args.answer c.in-Some.fenc
 
 pub returns-in-None-clause-note : goal.returns-in-None-clause-note
 returns-in-None-clause-note c = notes_entered c.args.p c.args.answer c.entered_late.result c.in-None.ensures c.entered_late.ensures.note
-
-pub returns-in-None-clause-rooms : goal.returns-in-None-clause-rooms
-returns-in-None-clause-rooms c = λ values mine s is possible told turn rooms.
-    let l = c.args.self.now in
-    let t = Target.Min in
-    elim (enters_or l.config l.id c.args.p t c.args.answer mine possible) [
-      | inl entered ↦ subst (λ a. HasRooms (event_by l.id (Verb.Enter c.args.p t) a ∷ mine) c.entered_late.new.self) (sym entered) (c.entered_late.ensures.rooms values mine s is (subst (λ a. IsPossible l.config l.id (event_by l.id (Verb.Enter c.args.p t) a ∷ mine)) entered possible) told turn rooms)
-      | inr lost ↦ absurd (c.in-None.ensures lost.0 lost.1)
-    ]
-
-pub returns-in-Some-clause-rooms : goal.returns-in-Some-clause-rooms
-returns-in-Some-clause-rooms c = λ values mine s is possible told turn rooms.
-    let l = c.args.self.now in
-    let led = rw is at rooms in
-    subst (λ a. HasRooms (event_by l.id (Verb.Enter c.args.p Target.Min) a ∷ mine) c.lost_min.new.self) (sym c.in-Some.ensures) (c.lost_min.ensures.rooms mine (Stage.LateEnter c.args.p) s.config turn led.placed)
 
 pub returns-in-None-clause-listed : goal.returns-in-None-clause-listed
 returns-in-None-clause-listed c = λ values mine s is possible told.

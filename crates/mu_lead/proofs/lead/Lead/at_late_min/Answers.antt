@@ -10,19 +10,10 @@ use Rattle.std.proofs.Common.{subst, sym, ◌∷◌}
 use Rattle.mu_model.proofs.Basics.{event_by}
 use Rattle.mu_model.specs.declared.event.Verb.{Verb}
 use Rattle.mu_model.specs.Parts.{IsPossible}
-use Rattle.mu_lead.specs.Rooms.{HasRooms}
 use Rattle.mu_lead.proofs.lead.Lead.at_late_min.Goals as goal
 
 pub returns-in-None-clause-stands : goal.returns-in-None-clause-stands
 returns-in-None-clause-stands c = λ values mine s is possible told. let l = c.args.self.now in let x = tells_min l.config l.id c.args.p c.args.answer mine possible in absurd (c.in-None.ensures x.0 x.1)
-
-pub returns-in-Some-clause-rooms : goal.returns-in-Some-clause-rooms
-returns-in-Some-clause-rooms c = λ values mine s is possible told turn rooms.
-    let l = c.args.self.now in
-    subst (λ a. HasRooms (event_by l.id (Verb.Min c.args.p) a ∷ mine) c.took_late_min.new.self) (sym c.in-Some.ensures) (c.took_late_min.ensures.rooms values mine s is (subst (λ a. IsPossible l.config l.id (event_by l.id (Verb.Min c.args.p) a ∷ mine)) c.in-Some.ensures possible) told turn rooms)
-
-pub returns-in-None-clause-rooms : goal.returns-in-None-clause-rooms
-returns-in-None-clause-rooms c = λ values mine s is possible told turn rooms. let l = c.args.self.now in let x = tells_min l.config l.id c.args.p c.args.answer mine possible in absurd (c.in-None.ensures x.0 x.1)
 
 pub returns-in-None-clause-listed : goal.returns-in-None-clause-listed
 returns-in-None-clause-listed c = λ values mine s is possible told.

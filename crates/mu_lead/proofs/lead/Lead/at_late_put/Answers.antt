@@ -12,8 +12,6 @@ use Rattle.mu_model.proofs.Basics.{event_by}
 use Rattle.mu_lead.specs.Standing.{StandsFor}
 use Rattle.mu_lead.proofs.Replies.{puts_min_or}
 use Rattle.std.proofs.Common.{inr}
-use Rattle.mu_pace.specs.Weights.{Stage}
-use Rattle.mu_lead.specs.Rooms.{HasRooms}
 use Rattle.mu_lead.proofs.lead.Lead.at_late_put.Goals as goal
 
 pub returns-in_default-clause-stands : goal.returns-in_default-clause-stands
@@ -31,20 +29,6 @@ returns-in-Missed-clause-stands c = λ mine s is possible told.
     let missed = c.in-Missed.is in
     let now = subst (λ a. IsPossible l.config l.id (event_by l.id (Verb.PutMin c.args.p l.number) a ∷ mine)) missed possible in
     subst (λ a. StandsFor (event_by l.id (Verb.PutMin c.args.p l.number) a ∷ mine) c.missed_min.new.self) (sym missed) (c.missed_min.ensures.stands mine here.entering.told.late.region here.entering.told.late.level.leads.begun here.under s now)
-
-pub returns-in_default-clause-rooms : goal.returns-in_default-clause-rooms
-returns-in_default-clause-rooms c = λ mine s is possible told turn rooms.
-    let l = c.args.self.now in
-    elim (puts_min_or l.config l.id c.args.p l.number c.args.answer mine possible) [
-      | inl done ↦ subst (λ a. HasRooms (event_by l.id (Verb.PutMin c.args.p l.number) a ∷ mine) c.took_late_put.new.self) (sym done) (c.took_late_put.ensures.rooms mine s is (subst (λ a. IsPossible l.config l.id (event_by l.id (Verb.PutMin c.args.p l.number) a ∷ mine)) done possible) told turn rooms)
-      | inr missed ↦ absurd (c.in_default.not-Missed missed)
-    ]
-
-pub returns-in-Missed-clause-rooms : goal.returns-in-Missed-clause-rooms
-returns-in-Missed-clause-rooms c = λ mine s is possible told turn rooms.
-    let l = c.args.self.now in
-    let led = rw is at rooms in
-    subst (λ a. HasRooms (event_by l.id (Verb.PutMin c.args.p l.number) a ∷ mine) c.missed_min.new.self) (sym c.in-Missed.is) (c.missed_min.ensures.rooms mine (Stage.LatePut c.args.p) s.config turn led.placed)
 
 pub returns-in_default-clause-listed : goal.returns-in_default-clause-listed
 returns-in_default-clause-listed c = λ mine s is possible told.

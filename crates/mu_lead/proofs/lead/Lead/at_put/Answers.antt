@@ -20,9 +20,6 @@ use Rattle.std.proofs.Common.{inr}
 use Rattle.mu_model.specs.Knowledge.{grown}
 use Rattle.mu_lead.specs.Notes.{value_committed}
 use Rattle.mu_lead.proofs.Telling.{put_tells}
-use Rattle.mu_lead.specs.Rooms.{HasRooms}
-use Rattle.mu_pace.specs.Weights.{Stage}
-use Rattle.mu_pace.specs.Members.{members_from}
 use Rattle.mu_lead.proofs.lead.Lead.at_put.Goals as goal
 
 pub returns-in_default-clause-stands : goal.returns-in_default-clause-stands
@@ -60,27 +57,6 @@ returns-in-Missed-clause-tells c = λ mine s is possible told.
     let l = c.args.self.now in
     let v = Verb.PutSlot c.args.p (length c.args.known.now) l.number c.args.offer.value in
     subst (λ a. known l.config l.id (event_by l.id v a ∷ mine) ≡ grown c.args.known.now (value_committed c.missed_slot.result)) (sym c.in-Missed.is) (sym told ∙ ap (grown c.args.known.now) (sym c.missed_slot.ensures.quiet))
-
-pub returns-in_default-clause-rooms : goal.returns-in_default-clause-rooms
-returns-in_default-clause-rooms c = λ mine s is possible told turn rooms.
-    let l = c.args.self.now in
-    let v = Verb.PutSlot c.args.p (length c.args.known.now) l.number c.args.offer.value in
-    elim (puts_slot_or l.config l.id c.args.p (length c.args.known.now) l.number c.args.offer.value c.args.answer mine possible) [
-      | inl done ↦ subst (λ a. HasRooms (event_by l.id v a ∷ mine) c.took_put.new.self) (sym done) (c.took_put.ensures.rooms mine s is (subst (λ a. IsPossible l.config l.id (event_by l.id v a ∷ mine)) done possible) told turn rooms)
-      | inr missed ↦ absurd (c.in_default.not-Missed missed)
-    ]
-
-pub returns-in-Missed-clause-rooms : goal.returns-in-Missed-clause-rooms
-returns-in-Missed-clause-rooms c = λ mine s is possible told turn rooms.
-    let l = c.args.self.now in
-    let led = rw is at rooms in
-    let v = Verb.PutSlot c.args.p (length c.args.known.now) l.number c.args.offer.value in
-    let now = subst (λ a. IsPossible l.config l.id (event_by l.id v a ∷ mine)) c.in-Missed.is possible in
-    let before = (parts_shorten_law l.config l.id mine (event_by l.id v Answer.Missed) now).before in
-    let position = c.end_of.ensures (subst (λ values. length values < 65536) (sym told) (known_few l.config l.id mine s.config before)) in
-    subst (λ a. HasRooms (event_by l.id v a ∷ mine) c.missed_slot.new.self) (sym c.in-Missed.is)
-    (subst (λ i. HasRooms (event_by l.id (Verb.PutSlot c.args.p i l.number c.args.offer.value) Answer.Missed ∷ mine) c.missed_slot.new.self) position
-    (c.missed_slot.ensures.rooms mine (Stage.PutAt (members_from l.config l.id c.args.p mine)) s.config turn led.placed))
 
 pub returns-in_default-clause-listed : goal.returns-in_default-clause-listed
 returns-in_default-clause-listed c = λ mine s is possible told.

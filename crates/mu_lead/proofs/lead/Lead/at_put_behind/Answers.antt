@@ -17,8 +17,6 @@ use Rattle.mu_agree.proofs.Readings.{known_within}
 use Rattle.mu_lead.proofs.Bringing.{config_small}
 use Rattle.mu_lead.proofs.Replies.{puts_slot_or}
 use Rattle.std.proofs.Common.{inr}
-use Rattle.mu_pace.specs.Weights.{Bringing, Stage}
-use Rattle.mu_lead.specs.Rooms.{HasRooms, lag_of}
 use Rattle.mu_lead.proofs.lead.Lead.at_put_behind.Goals as goal
 
 pub returns-in_default-clause-stands : goal.returns-in_default-clause-stands
@@ -46,34 +44,6 @@ returns-in-Missed-clause-stands c = λ mine s is possible told.
     subst (λ i. StandsFor (event_by l.id (Verb.PutSlot c.args.p i l.number (get_or c.args.known.now (get_or l.up c.args.p 0) 0)) Answer.Missed ∷ mine) c.missed_slot.new.self) position
     (subst (λ v. StandsFor (event_by l.id (Verb.PutSlot c.args.p c.narrow.result l.number v) Answer.Missed ∷ mine) c.missed_slot.new.self) value
     (c.missed_slot.ensures.stands mine here.near.behind.region here.near.behind.leads.begun here.under s (subst (λ v. IsPossible l.config l.id (event_by l.id (Verb.PutSlot c.args.p c.narrow.result l.number v) Answer.Missed ∷ mine)) (sym value) (subst (λ i. IsPossible l.config l.id (event_by l.id (Verb.PutSlot c.args.p i l.number (get_or c.args.known.now (get_or l.up c.args.p 0) 0)) Answer.Missed ∷ mine)) (sym position) now))))))
-
-pub returns-in_default-clause-rooms : goal.returns-in_default-clause-rooms
-returns-in_default-clause-rooms c = λ mine s is possible told turn rooms.
-    let l = c.args.self.now in
-    let v = Verb.PutSlot c.args.p (get_or l.up c.args.p 0) l.number (get_or c.args.known.now (get_or l.up c.args.p 0) 0) in
-    elim (puts_slot_or l.config l.id c.args.p (get_or l.up c.args.p 0) l.number (get_or c.args.known.now (get_or l.up c.args.p 0) 0) c.args.answer mine possible) [
-      | inl done ↦ subst (λ a. HasRooms (event_by l.id v a ∷ mine) c.took_put_behind.new.self) (sym done) (c.took_put_behind.ensures.rooms mine s is (subst (λ a. IsPossible l.config l.id (event_by l.id v a ∷ mine)) done possible) told turn rooms)
-      | inr missed ↦ absurd (c.in_default.not-Missed missed)
-    ]
-
-pub returns-in-Missed-clause-rooms : goal.returns-in-Missed-clause-rooms
-returns-in-Missed-clause-rooms c = λ mine s is possible told turn rooms.
-    let l = c.args.self.now in
-    let here = rw is at s.at in
-    let led = rw is at rooms in
-    let u = get_or l.up c.args.p 0 in
-    let v = Verb.PutSlot c.args.p u l.number (get_or c.args.known.now u 0) in
-    let now = subst (λ a. IsPossible l.config l.id (event_by l.id v a ∷ mine)) c.in-Missed.is possible in
-    let most = known_within l.config l.id mine (parts_shorten_law l.config l.id mine (event_by l.id v Answer.Missed) now).before in
-    let small = config_small l.config s.config in
-    let lacks = here.near.lacks in
-    let up_is = c.up_of.ensures s.tables.ups in
-    let fits : u < 65536 = omega (arith, lacks, most, small) in
-    let position = c.narrow.ensures.fits (omega (arith, fits, up_is)) ∙ up_is in
-    subst (λ a. HasRooms (event_by l.id v a ∷ mine) c.missed_slot.new.self) (sym c.in-Missed.is)
-    (subst (λ i. HasRooms (event_by l.id (Verb.PutSlot c.args.p i l.number (get_or c.args.known.now u 0)) Answer.Missed ∷ mine) c.missed_slot.new.self) position
-    (subst (λ w. HasRooms (event_by l.id (Verb.PutSlot c.args.p c.narrow.result l.number w) Answer.Missed ∷ mine) c.missed_slot.new.self) (c.lacked.ensures s.tables.ups fits)
-    (c.missed_slot.ensures.rooms mine (Stage.Bring (lag_of l.config l.id mine c.args.p c.args.then) Bringing.Put) s.config turn led.placed)))
 
 pub returns-in_default-clause-listed : goal.returns-in_default-clause-listed
 returns-in_default-clause-listed c = λ mine s is possible told.

@@ -1,14 +1,6 @@
 use Rattle.std.proofs.Common.{arith, sym, ◌∙◌}
 use Rattle.mu_lead.proofs.Firsts.{near_place, far_place}
-use Rattle.std.proofs.Common.{refl}
-use Rattle.mu_pace.specs.Weights.{Bringing}
 use Rattle.mu_lead.proofs.lead.Lead.bring_up.Goals as goal
-
-pub returns-then-is_near-clause-rooms : goal.returns-then-is_near-clause-rooms
-returns-then-is_near-clause-rooms c = λ mine may. may Bringing.Look refl
-
-pub returns-else-is_near-clause-rooms : goal.returns-else-is_near-clause-rooms
-returns-else-is_near-clause-rooms c = λ mine may. may Bringing.Widen refl
 
 pub returns-then-is_near-clause-listed : goal.returns-then-is_near-clause-listed
 returns-then-is_near-clause-listed c = λ mine s region. let l = c.args.self.now in let few = s.config.replicas.1 in near_place l.config l.up l.reach c.args.p c.args.then (sym (c.is_near.ensures.is s.tables.ups s.tables.reaches (omega (arith, region, few))) ∙ c.if-is_near.true)

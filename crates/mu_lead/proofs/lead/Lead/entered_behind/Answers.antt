@@ -7,7 +7,6 @@ use Rattle.mu_model.specs.declared.event.Answer.{Answer}
 use Rattle.mu_model.proofs.Basics.{event_by}
 use Rattle.mu_lead.proofs.Bringing.{enter_event, puts_behind}
 use Rattle.mu_lead.proofs.Tables.{tables_kept}
-use Rattle.mu_lead.proofs.RoomsBringing.{rooms_entered_behind}
 use Rattle.mu_lead.proofs.lead.Lead.entered_behind.Goals as goal
 
 pub returns-clause-stands : goal.returns-clause-stands
@@ -25,9 +24,3 @@ returns-clause-stands c = λ values mine s is possible told.
       tables = tables_kept l.config l.id e mine l.up l.reach l.heads l.written.items possible refl refl s.tables;
       at = puts_behind l.config l.id l.number c.args.p mine l.up l.reach c.args.then here;
     }
-
-pub returns-clause-rooms : goal.returns-clause-rooms
-returns-clause-rooms c = λ values mine s is possible told turn rooms.
-    let l = c.args.self.now in
-    let here = rw is at s.at in
-    rooms_entered_behind l.config l.id c.args.p (Target.Place (get_or l.up c.args.p 0 % l.config.ring)) mine l.written.items c.args.then s.config turn here.near.behind.region here.near.behind.member (rw is at rooms)

@@ -1,7 +1,6 @@
 use Rattle.std.proofs.Common.{refl}
 use Rattle.mu_lead.proofs.Tables.{tables_kept}
 use Rattle.mu_lead.proofs.Lates.{enter_min_event, late_entered}
-use Rattle.mu_lead.proofs.RoomsLate.{rooms_entered_late}
 use Rattle.mu_lead.proofs.lead.Lead.entered_late.Goals as goal
 
 pub returns-clause-stands : goal.returns-clause-stands
@@ -20,9 +19,3 @@ returns-clause-stands c = λ values mine s is possible told.
       tables = tables;
       at = late_entered l.config l.id l.number p mine l.up l.reach here;
     }
-
-pub returns-clause-rooms : goal.returns-clause-rooms
-returns-clause-rooms c = λ values mine s is possible told turn rooms.
-    let l = c.args.self.now in
-    let here = rw is at s.at in
-    rooms_entered_late l.config l.id c.args.p mine l.written.items s.config turn here.told.late.region (rw is at rooms)

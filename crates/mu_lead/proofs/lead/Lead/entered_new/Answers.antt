@@ -11,7 +11,6 @@ use Rattle.mu_lead.specs.Leading.{end_of}
 use Rattle.mu_lead.proofs.Sights.{shows_kept}
 use Rattle.mu_lead.proofs.Puts.{puts_new}
 use Rattle.mu_lead.specs.Offering.{AtPut}
-use Rattle.mu_lead.proofs.RoomsPutting.{rooms_entered_new}
 use Rattle.mu_model.specs.declared.event.Target.{Target}
 use Rattle.mu_lead.proofs.lead.Lead.entered_new.Goals as goal
 
@@ -32,9 +31,3 @@ returns-clause-stands c = λ mine s is possible told.
       tables = tables;
       at = (subst (λ values. AtPut l.config l.id l.number c.args.offer.value (enter_event l.id p (length values % l.config.ring) ∷ mine) l.up l.reach p) (sym told) (puts_new l.config l.id l.number c.args.offer.value p mine l.up l.reach here.0), shows_kept l.config l.id (end_of l.config l.id mine) l.id (Verb.Enter p (Target.Place (length c.args.known.now % l.config.ring))) Answer.Entered mine c.args.offer.adopted refl here.1);
     }
-
-pub returns-clause-rooms : goal.returns-clause-rooms
-returns-clause-rooms c = λ mine s is possible told turn rooms.
-    let l = c.args.self.now in
-    let here = rw is at s.at in
-    rooms_entered_new l.config l.id c.args.p (Target.Place (length c.args.known.now % l.config.ring)) c.args.offer mine l.written.items s.config turn here.0.region here.0.member (rw is at rooms)

@@ -13,8 +13,6 @@ use Rattle.mu_model.specs.Leaderships.{is_member, majority_of}
 use Rattle.mu_model.specs.Room.{reserve}
 use Rattle.mu_known.specs.Offers.{IsFirst}
 use Rattle.mu_lead.proofs.Rooms.{looks_first, reads_head}
-use Rattle.mu_pace.specs.Members.{members_from}
-use Rattle.mu_lead.proofs.RoomsPutting.{in_turn}
 use Rattle.mu_lead.proofs.lead.Lead.heads_from.Goals as goal
 
 pub returns-in-Some-clause-stands : goal.returns-in-Some-clause-stands
@@ -31,17 +29,6 @@ returns-in-None-clause-stands c = λ mine s same level roomy.
     let low = subst (λ values. IsFirst (λ k. not (marked l.config k values || nat_lt (length values + reserve l.config) (get_or l.heads k 0 + l.config.ring))) c.args.q l.config.replicas c.next_low.result) same (c.next_low.ensures (subst (λ values. length values < 65536) (sym same) few) s.tables.all_heads) in
     let own = (and_parts (is_member l.id l.id mine) (nat_le (majority_of l.config.replicas) (count_below l.config.replicas (λ p. is_member l.id p mine))) level.leads.carried).0 in
     looks_first l.config l.id l.number c.args.q c.first_member.result c.end_of.result mine l.up l.reach l.heads c.args.candidate s.tables.read level roomy (subst (λ o. IsFirst (λ k. not (marked l.config k (known l.config l.id mine) || nat_lt (length (known l.config l.id mine) + reserve l.config) (get_or l.heads k 0 + l.config.ring))) c.args.q l.config.replicas o) c.in-None.is low) (c.first_member.ensures.first mine l.id s.config.replicas.1 s.leading s.inside own) (c.end_of.ensures (subst (λ values. length values < 65536) (sym same) few) ∙ ap length same)
-
-pub returns-in-Some-clause-rooms : goal.returns-in-Some-clause-rooms
-returns-in-Some-clause-rooms c = λ mine s same reads looks.
-    let l = c.args.self.now in
-    let few = known_few l.config l.id mine s.config s.possible in
-    let low = c.next_low.ensures (subst (λ values. length values < 65536) (sym same) few) s.tables.all_heads in
-    let first = subst (λ o. IsFirst (λ k. not (marked l.config k c.args.known.now || nat_lt (length c.args.known.now + reserve l.config) (get_or l.heads k 0 + l.config.ring))) c.args.q l.config.replicas o) c.in-Some.is low in
-    reads c.in-Some.p first.0 first.1
-
-pub returns-in-None-clause-rooms : goal.returns-in-None-clause-rooms
-returns-in-None-clause-rooms c = λ mine s same reads looks. looks (members_from c.args.self.now.config c.args.self.now.id c.first_member.result mine) (in_turn c.args.self.now.config c.args.self.now.id c.first_member.result mine)
 
 pub returns-in-Some-clause-listed : goal.returns-in-Some-clause-listed
 returns-in-Some-clause-listed c = λ mine s same.

@@ -13,12 +13,6 @@ returns-in-Some-clause-stands c = λ mine s same level. let first = c.in-Some.en
 pub returns-in-None-clause-stands : goal.returns-in-None-clause-stands
 returns-in-None-clause-stands c = λ mine s same level. c.next_position.ensures.stands mine s same level
 
-pub returns-in-Some-clause-rooms : goal.returns-in-Some-clause-rooms
-returns-in-Some-clause-rooms c = λ mine s same may. may.asks c.in-Some.q (c.in-Some.ensures c.args.self.now.id mine s.config.replicas.1 s.leading)
-
-pub returns-in-None-clause-rooms : goal.returns-in-None-clause-rooms
-returns-in-None-clause-rooms c = λ mine s same may. c.next_position.ensures.rooms mine c.args.p s same (c.in-None.ensures c.args.self.now.id mine s.config.replicas.1 s.leading) may
-
 pub returns-in-Some-clause-listed : goal.returns-in-Some-clause-listed
 returns-in-Some-clause-listed c = λ mine s same. let l = c.args.self.now in found_place (λ k. not (is_member l.id k mine)) c.args.p c.args.p l.config.replicas (Some c.in-Some.q) Place.LateFence (next_position l.config l.id mine l.heads) refl (c.in-Some.ensures l.id mine s.config.replicas.1 s.leading)
 

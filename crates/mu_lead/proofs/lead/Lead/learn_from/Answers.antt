@@ -19,12 +19,6 @@ returns-else-known-up_of-clause-stands c = λ mine s same leads raised unput sou
     let less = c.if-known-up_of.false in
     c.bring_up_from.ensures.stands mine s same leads raised (clear_all c.args.self.now.id mine c.args.self.now.up unput) (λ k region member done. absurd (omega (arith, done))) (λ k region member. (let low = few k region member in (omega (arith, up_is, long, less, low), λ left. absurd left)))
 
-pub returns-then-known-up_of-clause-rooms : goal.returns-then-known-up_of-clause-rooms
-returns-then-known-up_of-clause-rooms c = λ mine s same learn ups alls. learn
-
-pub returns-else-known-up_of-clause-rooms : goal.returns-else-known-up_of-clause-rooms
-returns-else-known-up_of-clause-rooms c = λ mine s same learn ups alls. c.bring_up_from.ensures.rooms mine s same (λ q first. ups q) alls
-
 pub returns-then-known-up_of-clause-listed : goal.returns-then-known-up_of-clause-listed
 returns-then-known-up_of-clause-listed c = λ mine s same.
     let l = c.args.self.now in

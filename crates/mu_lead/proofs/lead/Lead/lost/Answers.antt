@@ -1,6 +1,5 @@
 use Rattle.std.proofs.Common.{arith, inl, refl}
 use Rattle.mu_lead.proofs.Tables.{tables_kept}
-use Rattle.mu_lead.proofs.RoomsMin.{rooms_lost}
 use Rattle.mu_lead.proofs.lead.Lead.lost.Goals as goal
 
 pub returns-clause-stands : goal.returns-clause-stands
@@ -14,8 +13,3 @@ returns-clause-stands c = λ mine s possible.
       tables = tables_kept l.config l.id _ mine l.up l.reach l.heads l.written.items possible refl refl s.tables;
       at = record { region = (let inside = s.inside in omega (arith, inside)); asked = inl refl };
     }
-
-pub returns-clause-rooms : goal.returns-clause-rooms
-returns-clause-rooms c = λ mine stage is turn placed.
-    let l = c.args.self.now in
-    ((λ same. rooms_lost l.config l.id c.args.p c.args.target c.args.fence stage mine is turn placed), λ other. absurd (other refl))

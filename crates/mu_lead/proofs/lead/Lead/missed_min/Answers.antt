@@ -1,7 +1,6 @@
 use Rattle.std.proofs.Common.{[], refl}
 use Rattle.mu_model.proofs.Basics.{same_number}
 use Rattle.mu_lead.proofs.Tables.{tables_kept}
-use Rattle.mu_lead.proofs.RoomsMin.{rooms_missed_min}
 use Rattle.mu_lead.proofs.lead.Lead.missed_min.Goals as goal
 
 pub returns-clause-stands : goal.returns-clause-stands
@@ -15,6 +14,3 @@ returns-clause-stands c = λ mine region begun under s possible.
       tables = tables_kept l.config l.id _ mine l.up l.reach l.heads l.written.items possible refl refl s.tables;
       at = record { region = region; begun = begun; missed = record { since = []; put = _; before = mine; is = refl; missed = same_number c.args.p; under = under } };
     }
-
-pub returns-clause-rooms : goal.returns-clause-rooms
-returns-clause-rooms c = λ mine stage is turn placed. let l = c.args.self.now in rooms_missed_min l.config l.id c.args.p l.number stage mine is turn placed

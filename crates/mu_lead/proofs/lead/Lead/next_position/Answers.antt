@@ -10,15 +10,13 @@ use Rattle.mu_model.specs.Room.{reserve}
 use Rattle.mu_lead.specs.Leading.{end_of}
 use Rattle.mu_lead.proofs.Rests.{knows_is, no_end, rests}
 use Rattle.mu_lead.proofs.Rooms.{roomy_first}
-use Rattle.mu_pace.specs.Weights.{Stage, heads, looks}
-use Rattle.mu_pace.specs.Weights.{rests as rest_room}
 use Rattle.mu_lead.proofs.lead.Lead.next_position.Goals as goal
 
 pub returns-in-None-clause-stands : goal.returns-in-None-clause-stands
 returns-in-None-clause-stands c = λ mine s same level.
     let l = c.args.self.now in
     let all = knows_is l.config l.id mine c.args.known.now c.knows_all.result s.config s.possible same c.knows_all.ensures in
-    rests l.config l.id mine (sym all ∙ c.if-knows_all.true) (c.in-None.ensures l.id mine s.config.replicas.1 s.leading)
+    (rests l.config l.id mine (sym all ∙ c.if-knows_all.true) (c.in-None.ensures l.id mine s.config.replicas.1 s.leading), level)
 
 pub returns-then-known-count_of_places-clause-stands : goal.returns-then-known-count_of_places-clause-stands
 returns-then-known-count_of_places-clause-stands c = λ mine s same level.
@@ -41,21 +39,6 @@ returns-else-known-count_of_places-clause-stands c = λ mine s same level.
     let long = ap length same in
     let full : row_count l.config + reserve l.config ≤ end_of l.config l.id mine = omega (arith, high, places, long) in
     absurd (no_end l.config l.id mine s.config s.possible (sym all ∙ c.if-knows_all.false) full)
-
-pub returns-in-Some-clause-rooms : goal.returns-in-Some-clause-rooms
-returns-in-Some-clause-rooms c = λ mine p s same none may.
-    let l = c.args.self.now in
-    let all = knows_is l.config l.id mine c.args.known.now c.knows_all.result s.config s.possible same c.knows_all.ensures in
-    may.again c.in-Some.q none (c.in-Some.ensures l.id mine s.config.replicas.1 s.leading) (sym all ∙ c.if-knows_all.true)
-
-pub returns-in-None-clause-rooms : goal.returns-in-None-clause-rooms
-returns-in-None-clause-rooms c = λ mine p s same none may. may.beyond Stage.Rest none rest_room
-
-pub returns-then-known-count_of_places-clause-rooms : goal.returns-then-known-count_of_places-clause-rooms
-returns-then-known-count_of_places-clause-rooms c = λ mine p s same none may. c.heads_from.ensures.rooms mine s same (λ h from low. may.beyond (Stage.ReadHead h) none (heads h low)) (λ k few. may.beyond (Stage.LookAt k) none (looks k few))
-
-pub returns-else-known-count_of_places-clause-rooms : goal.returns-else-known-count_of_places-clause-rooms
-returns-else-known-count_of_places-clause-rooms c = λ mine p s same none may. may.beyond Stage.Rest none rest_room
 
 pub returns-in-Some-clause-listed : goal.returns-in-Some-clause-listed
 returns-in-Some-clause-listed c = λ mine s same.

@@ -5,9 +5,6 @@ use Rattle.std.specs.Prelude.{nat_le}
 use Rattle.std.proofs.lemmas.Bool.{and_parts}
 use Rattle.mu_model.specs.Histories.{count_below}
 use Rattle.mu_model.specs.Leaderships.{is_member, majority_of}
-use Rattle.mu_pace.specs.Members.{members_from}
-use Rattle.mu_pace.proofs.Members.{counts_of_members}
-use Rattle.mu_lead.proofs.RoomsPutting.{in_turn}
 use Rattle.mu_lead.proofs.lead.Lead.offer.Goals as goal
 
 pub returns-clause-stands : goal.returns-clause-stands
@@ -15,13 +12,6 @@ returns-clause-stands c = λ mine candidate best s looking may shows.
     let l = c.args.self.now in
     let own = (and_parts (is_member l.id l.id mine) (nat_le (majority_of l.config.replicas) (count_below l.config.replicas (λ p. is_member l.id p mine))) looking.level.leads.carried).0 in
     (enters_new l.config l.id l.number c.args.offer.value c.first_member.result mine l.up l.reach candidate best looking may (c.first_member.ensures.first mine l.id s.config.replicas.1 s.leading s.inside own), shows)
-
-pub returns-clause-rooms : goal.returns-clause-rooms
-returns-clause-rooms c = λ mine s own led.
-    let l = c.args.self.now in
-    let q = c.first_member.result in
-    let first = c.first_member.ensures.first mine l.id s.config.replicas.1 s.leading s.inside own in
-    led (members_from l.config l.id q mine) (counts_of_members.some l.config l.id q mine first.1 first.2) (in_turn l.config l.id q mine)
 
 pub returns-clause-listed : goal.returns-clause-listed
 returns-clause-listed c = λ mine s. ap (λ q. Place.Enter q c.args.offer) (c.first_member.ensures.listed mine s.config.replicas.1 s.inside s.leading)

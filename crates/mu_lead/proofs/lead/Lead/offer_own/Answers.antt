@@ -7,11 +7,9 @@ use Rattle.mu_leading.proofs.Within.{known_few}
 use Rattle.mu_lead.proofs.Offers.{own_batch}
 use Rattle.mu_lead.proofs.Rests.{some_next}
 use Rattle.mu_known.specs.Offers.{IsNextRow, NamesRow}
-use Rattle.std.proofs.Common.{◌*◌, ◌-◌}
+use Rattle.std.proofs.Common.{◌*◌}
 use Rattle.mu_lead.proofs.Due.{last_there}
 use Rattle.mu_model.specs.Contents.{rest_of}
-use Rattle.mu_lead.proofs.RoomsWriting.{words_few}
-use Rattle.mu_lead.specs.Rooms.{words_left}
 use Rattle.mu_lead.proofs.lead.Lead.offer_own.Goals as goal
 
 pub returns-in-Some-clause-stands : goal.returns-in-Some-clause-stands
@@ -33,33 +31,6 @@ returns-in-Some-clause-stands c = λ counts mine s same looking.
 
 pub returns-in-None-clause-stands : goal.returns-in-None-clause-stands
 returns-in-None-clause-stands c = λ counts mine s same looking.
-    let l = c.args.self.now in
-    absurd (some_next l.config l.id mine s.config s.possible looking.roomy.lacks
-    (λ j row. c.next_offer.ensures.none c.in-None.is s.config counts j (subst (λ values. IsNextRow l.config values j) (sym same) row)))
-
-pub returns-in-Some-clause-rooms : goal.returns-in-Some-clause-rooms
-returns-in-Some-clause-rooms c = λ counts mine s same looking writes puts.
-    let l = c.args.self.now in
-    let few = s.config.replicas.1 in
-    let rows = s.config.few in
-    let inside = s.inside in
-    let row = subst (λ o. NamesRow o (λ j. IsNextRow l.config (known l.config l.id mine) j)) c.in-Some.is (subst (λ values. NamesRow c.next_offer.result (λ j. IsNextRow l.config values j)) same (c.next_offer.ensures.named s.config counts)) in
-    let j = c.in-Some.j in
-    let there = row.row in
-    let value : c.own_value.result ≡ l.id * 4096 + j = c.own_value.ensures (omega (arith, inside, few)) (omega (arith, there, rows)) in
-    let rest = c.row_rest.ensures in
-    let end = last_there l.config j (rest_of l.config j) s.config there refl in
-    let from = c.from.ensures in
-    let last = c.saturating_add.ensures in
-    let last_is : c.saturating_add.result ≡ j + rest_of l.config j = omega (arith, rest, from, last, end, rows) in
-    let last = j + rest_of l.config j in
-    let few_words = words_few l.written.items j (c.saturating_add.result + 1 - j) in
-    let few_rows = s.config.rests j there in
-    c.write_from.ensures.rooms mine s (record { looking = looking; first = j; value = value; own = refl; batch = own_batch l.config l.id j (l.id * 4096 + j) mine s.config s.inside refl row; last_row = last_is; from = omega arith; to = omega (arith, last_is); below = λ k more less. absurd (omega (arith, more, less)) })
-    (λ some. writes (words_left l.written.items j (c.saturating_add.result + 1 - j)) some (omega (arith, few_words, few_rows, last_is))) puts
-
-pub returns-in-None-clause-rooms : goal.returns-in-None-clause-rooms
-returns-in-None-clause-rooms c = λ counts mine s same looking writes puts.
     let l = c.args.self.now in
     absurd (some_next l.config l.id mine s.config s.possible looking.roomy.lacks
     (λ j row. c.next_offer.ensures.none c.in-None.is s.config counts j (subst (λ values. IsNextRow l.config values j) (sym same) row)))

@@ -6,10 +6,6 @@ use Rattle.mu_lead.proofs.Looks.{may_adopt, may_mark_it}
 use Rattle.mu_lead.proofs.Sights.{looks_empty, looks_shown}
 use Rattle.mu_lead.specs.Offering.{Looking}
 use Rattle.std.proofs.Common.{◌*◌}
-use Rattle.std.specs.Prelude.{nat_le}
-use Rattle.std.proofs.lemmas.Bool.{and_parts}
-use Rattle.mu_model.specs.Histories.{count_below}
-use Rattle.mu_model.specs.Leaderships.{is_member, majority_of}
 use Rattle.mu_lead.proofs.lead.Lead.pick.Goals as goal
 
 pub returns-in-Some-clause-stands : goal.returns-in-Some-clause-stands
@@ -27,12 +23,6 @@ returns-in-Some-candidate-clause-stands c = λ counts mine s same looking.
     let value = c.own_value.ensures (omega (arith, inside, few)) (omega (arith, from, region, few)) in
     let v : c.own_value.result ≡ l.id * 4096 + (4080 + q) = omega (arith, value, from, region, few) in
     c.offer-in-Some-candidate.ensures.stands mine (Some q) None s here (may_mark_it l.config l.id l.number q c.own_value.result mine l.up l.reach s.config s.inside here v) (looks_empty l.config l.id l.number mine l.up l.reach (Some q) here)
-
-pub returns-in-Some-clause-rooms : goal.returns-in-Some-clause-rooms
-returns-in-Some-clause-rooms c = λ counts mine s same looking writes puts. let l = c.args.self.now in c.offer.ensures.rooms mine s (and_parts (is_member l.id l.id mine) (nat_le (majority_of l.config.replicas) (count_below l.config.replicas (λ p. is_member l.id p mine))) looking.level.leads.carried).0 puts
-
-pub returns-in-Some-candidate-clause-rooms : goal.returns-in-Some-candidate-clause-rooms
-returns-in-Some-candidate-clause-rooms c = λ counts mine s same looking writes puts. let l = c.args.self.now in c.offer-in-Some-candidate.ensures.rooms mine s (and_parts (is_member l.id l.id mine) (nat_le (majority_of l.config.replicas) (count_below l.config.replicas (λ p. is_member l.id p mine))) looking.level.leads.carried).0 puts
 
 pub returns-in-Some-clause-listed : goal.returns-in-Some-clause-listed
 returns-in-Some-clause-listed c = λ counts mine s same looking. let l = c.args.self.now in c.offer.ensures.listed mine s ∙ ap (listed_pick l.config l.id mine l.written.items c.args.candidate) (sym c.in-Some.is)

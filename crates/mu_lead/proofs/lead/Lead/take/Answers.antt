@@ -1,3 +1,4 @@
+use Rattle.mu_lead.proofs.RoomsLasting.{rooms_next}
 use Rattle.std.proofs.Common.{ap, false, subst, sym, true, true≢false, ◌||◌, ◌∙◌, ◌≡◌}
 use Rattle.mu_model.specs.Contents.{IsConfig, IsInSession, holds_all}
 use Rattle.mu_lead.specs.Going.{begins_at}
@@ -87,3 +88,9 @@ returns-else-is_working-clause-elects g c = λ counts. let took = c.take_answer-
 
 pub returns-else-is_working-clause-listed : goal.returns-else-is_working-clause-listed
 returns-else-is_working-clause-listed g c = λ counts verb due possible told. c.take_answer-note.ensures.listed counts g.mine verb c.requires.1 c.requires.0 due possible told
+
+pub returns-then-knows_all-clause-rooms : goal.returns-then-knows_all-clause-rooms
+returns-then-knows_all-clause-rooms g c = λ counts. let took = c.take_answer-note in rooms_next g.mine c.args.self.now took.new.self c.args.known.now c.args.answer c.requires.0 c.requires.1 took.ensures.config took.ensures.id (took.ensures.kept g.mine c.requires.0) (took.ensures.stands counts) (took.ensures.listed counts)
+
+pub returns-else-is_working-clause-rooms : goal.returns-else-is_working-clause-rooms
+returns-else-is_working-clause-rooms g c = λ counts. let took = c.take_answer-note in rooms_next g.mine c.args.self.now took.new.self c.args.known.now c.args.answer c.requires.0 c.requires.1 took.ensures.config took.ensures.id (took.ensures.kept g.mine c.requires.0) (took.ensures.stands counts) (took.ensures.listed counts)

@@ -3,9 +3,6 @@ use Rattle.mu_lead.proofs.Tables.{tables_kept}
 use Rattle.mu_lead.proofs.Lates.{fence_ends, fence_event}
 use Rattle.mu_lead.specs.Saying.{note_of_fence}
 use Rattle.std.proofs.Common.{true≢false}
-use Rattle.mu_pace.specs.Weights.{Bringing, Stage}
-use Rattle.mu_lead.specs.Rooms.{lag_of}
-use Rattle.mu_lead.proofs.RoomsMin.{rooms_fenced}
 use Rattle.mu_lead.proofs.lead.Lead.took_fence_behind.Goals as goal
 
 pub returns-then-is_over-clause-stands : goal.returns-then-is_over-clause-stands
@@ -44,22 +41,6 @@ returns-else-is_over-clause-over c = λ mine s possible.
     let l = c.args.self.now in
     let leading = c.take.ensures l.config mine s.config.replicas.1 possible s.leading in
     ap (note_of_fence c.args.p c.args.fence) (sym c.if-is_over.false ∙ c.is_over.ensures l.id (fence_event l.id c.args.p c.args.fence ∷ mine) leading)
-
-pub returns-then-is_over-clause-rooms : goal.returns-then-is_over-clause-rooms
-returns-then-is_over-clause-rooms c = λ values mine s is possible told turn rooms.
-    let l = c.args.self.now in
-    let led = rw is at rooms in
-    let leading = c.take.ensures l.config mine s.config.replicas.1 possible s.leading in
-    let over = sym (c.is_over.ensures l.id (fence_event l.id c.args.p c.args.fence ∷ mine) leading) ∙ c.if-is_over.true in
-    ((λ same. rooms_fenced l.config l.id c.args.p c.args.fence (Stage.Bring (lag_of l.config l.id mine c.args.p c.args.then) Bringing.Fence) mine s.config turn over led.placed), λ other. absurd (other refl))
-
-pub returns-else-is_over-clause-rooms : goal.returns-else-is_over-clause-rooms
-returns-else-is_over-clause-rooms c = λ values mine s is possible told turn rooms.
-    let l = c.args.self.now in
-    let here = rw is at s.at in
-    let e = fence_event l.id c.args.p c.args.fence in
-    let leading = c.take.ensures l.config mine s.config.replicas.1 possible s.leading in
-    absurd (true≢false (sym (fence_ends l.config l.id c.args.p (get_or l.up c.args.p 0) c.args.fence mine possible here.near.behind.region here.past) ∙ (sym (c.is_over.ensures l.id (e ∷ mine) leading) ∙ c.if-is_over.false)))
 
 pub returns-then-is_over-clause-listed : goal.returns-then-is_over-clause-listed
 returns-then-is_over-clause-listed c = λ values mine s is possible told.

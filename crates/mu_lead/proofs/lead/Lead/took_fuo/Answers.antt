@@ -6,10 +6,6 @@ use Rattle.mu_lead.proofs.Keeping.{brought_read, fuo_event, leading_calm, leads_
 use Rattle.mu_lead.proofs.Bringing.{raised_before, raised_read}
 use Rattle.mu_lead.proofs.Copying.{fuo_read_now}
 use Rattle.mu_lead.proofs.Tables.{tables_kept}
-use Rattle.mu_lead.proofs.Bringing.{none_lacks}
-use Rattle.mu_lead.proofs.RoomsBrought.{none_brought}
-use Rattle.mu_lead.proofs.RoomsReading.{rooms_brings, rooms_learns, rooms_level, rooms_next_fuo}
-use Rattle.mu_lead.specs.declared.place.Then.{Then}
 use Rattle.mu_lead.proofs.lead.Lead.took_fuo.Goals as goal
 
 pub returns-clause-stands : goal.returns-clause-stands
@@ -41,40 +37,6 @@ returns-clause-stands c = λ mine s is possible told.
       tables = tables;
       at = c.after_fuo-self.ensures.stands (e ∷ mine) (record { possible = possible; config = s.config; inside = s.inside; leading = leading; tables = tables }) told here.region here.member leads raised here.unput from (most_up l.id c.args.p (e ∷ mine) l.up c.with_number-self.result c.args.source c.with_number-self.ensures.others (most_on l.id c.args.p mine (e ∷ mine) l.up c.args.source (λ q. refl) here.few));
     }
-
-pub returns-clause-rooms : goal.returns-clause-rooms
-returns-clause-rooms c = λ mine s is possible told turn rooms.
-    let l = c.args.self.now in
-    let here = rw is at s.at in
-    let few = s.config.replicas.1 in
-    let region = here.region in
-    let ups = s.tables.ups in
-    let reaches = s.tables.reaches in
-    let low : c.args.p < length l.up = omega (arith, region, few, ups) in
-    let wide : c.args.p < length l.reach = omega (arith, region, few, reaches) in
-    let e = fuo_event l.id c.args.p c.args.u in
-    let kept = tables_kept l.config l.id e mine l.up l.reach l.heads l.written.items possible refl refl s.tables in
-    let reached = tables_reach l.config l.id c.args.p (e ∷ mine) l.up l.reach c.with_fuo-self.result l.heads l.written.items kept (c.with_fuo-self.ensures.long ∙ s.tables.reaches) c.with_fuo-self.ensures.others
-    (reached_read l.id c.args.p c.args.u mine (get_or l.reach c.args.p None) (get_or c.with_fuo-self.result c.args.p None) (c.with_fuo-self.ensures.ring wide) (s.tables.reached c.args.p)) in
-    let tables = tables_up l.config l.id c.args.p c.args.u (e ∷ mine) l.up c.with_number-self.result c.with_fuo-self.result l.heads l.written.items reached (c.with_number-self.ensures.long ∙ s.tables.ups) (c.with_number-self.ensures.here low) c.with_number-self.ensures.others
-    (brought_read l.config l.id c.args.p c.args.u mine) (parts_reach_law l.config l.id c.args.p c.args.u mine e possible refl refl) in
-    let leading = leading_calm l.id l.id (Verb.Fuo c.args.p) (Answer.Number c.args.u) mine l.leading refl s.leading in
-    let leads = leads_kept l.config l.id l.number l.id (Verb.Fuo c.args.p) (Answer.Number c.args.u) mine refl here.leads in
-    let now = raised_now c.args.p c.args.u c.with_number-self.result (get_or l.reach c.args.p None) c.with_fuo-self.result (let at_p = c.with_number-self.ensures.here low in omega (arith, at_p)) (c.with_fuo-self.ensures.head wide) in
-    let raised = raised_read l.config l.id l.number c.args.p c.args.u (e ∷ mine) l.up c.with_number-self.result l.reach c.with_fuo-self.result (get_or l.reach c.args.p None) (raised_before l.id c.args.p c.args.u mine l.up l.reach here.raised) (c.with_number-self.ensures.here low) c.with_number-self.ensures.others c.with_fuo-self.ensures.others now
-    (fuo_read_now l.id c.args.p c.args.u (get_or c.with_number-self.result c.args.p 0) mine (let at_p = c.with_number-self.ensures.here low in omega (arith, at_p))) in
-    let from = source_calm l.config l.id l.id (Verb.Fuo c.args.p) (Answer.Number c.args.u) mine c.args.source refl here.from in
-    let p = c.args.p in
-    let u = c.args.u in
-    let member = here.member in
-    let led = rw is at rooms in
-    c.after_fuo-self.ensures.rooms (e ∷ mine) (record { possible = possible; config = s.config; inside = s.inside; leading = leading; tables = tables }) told region member raised
-    (λ q next. rooms_next_fuo l.config l.id p q u c.args.source None mine l.written.items s.config turn (record { there = next.there; member = next.member; above = next.above; between = next.between }) led)
-    (rooms_learns l.config l.id p u c.args.source mine l.written.items s.config turn region member led)
-    (λ q. rooms_brings l.config l.id p q u c.args.source mine l.written.items s.config turn region member led)
-    (λ all none. rooms_level l.config l.id p u c.args.source mine l.written.items s.config turn region member
-    (none_brought l.config l.id (e ∷ mine) c.with_number-self.result c.with_fuo-self.result l.heads l.written.items possible tables
-    (none_lacks l.config l.id 0 (e ∷ mine) c.with_number-self.result Then.Late (λ k few member low. absurd (omega (arith, low))) none) all) led)
 
 pub returns-clause-listed : goal.returns-clause-listed
 returns-clause-listed c = λ mine s is possible told.

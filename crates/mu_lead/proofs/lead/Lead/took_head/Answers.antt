@@ -13,7 +13,6 @@ use Rattle.mu_lead.proofs.Tables.{tables_kept}
 use Rattle.std.proofs.Common.{true}
 use Rattle.mu_lead.proofs.Looks.{head_event, head_now, level_head, marks_now, marks_head, roomy_marked, roomy_read, tables_head}
 use Rattle.std.specs.Prelude.{nat_lt}
-use Rattle.mu_lead.proofs.RoomsHeads.{rooms_last_head, rooms_next_head, rooms_no_room}
 use Rattle.mu_lead.proofs.lead.Lead.took_head.Goals as goal
 
 pub returns-then-leaves_room-clause-stands : goal.returns-then-leaves_room-clause-stands
@@ -101,77 +100,6 @@ returns-else-may_mark-clause-stands c = λ mine heeded s is possible told.
       tables = tables;
       at = c.late_from-self.ensures.stands (e ∷ mine) (record { possible = possible; config = s.config; inside = s.inside; leading = leading; tables = tables }) told level;
     }
-
-pub returns-then-leaves_room-clause-rooms : goal.returns-then-leaves_room-clause-rooms
-returns-then-leaves_room-clause-rooms c = λ mine s is possible told turn rooms.
-    let l = c.args.self.now in
-    let here = rw is at s.at in
-    let few = s.config.replicas.1 in
-    let q = c.args.q in
-    let h = c.args.head in
-    let e = head_event l.id q h in
-    let region = here.region in
-    let few_known = known_few l.config l.id (e ∷ mine) s.config possible in
-    let short = subst (λ values. length values < 65536) (sym told) few_known in
-    let all = s.tables.all_heads in
-    let low : q < length l.heads = omega (arith, region, few, all) in
-    let kept = tables_kept l.config l.id e mine l.up l.reach l.heads l.written.items possible refl refl s.tables in
-    let tables = tables_head l.config l.id q h (e ∷ mine) l.up l.reach l.heads c.with_number-self.result l.written.items kept (c.with_number-self.ensures.long ∙ all) (c.with_number-self.ensures.here low) c.with_number-self.ensures.others (let now = head_now l.id q h mine in omega (arith, now)) in
-    let leading = leading_calm l.id l.id (Verb.Head q) (Answer.Number h) mine l.leading refl s.leading in
-    let level = level_head l.config l.id l.number q h mine l.up l.reach here.level in
-    let high = subst (λ values. c.leaves_room.result ≡ nat_lt (length values + c.reserve_of.result) (h + l.config.ring)) told (c.leaves_room.ensures short) ∙ ap (λ free. nat_lt (end_of l.config l.id mine + free) (h + l.config.ring)) c.reserve_of.ensures in
-    let more = c.saturating_add.ensures in
-    let next : c.saturating_add.result ≡ q + 1 = omega (arith, more, region, few) in
-    let led = rw is at rooms in
-    c.heads_from-self.ensures.rooms (e ∷ mine) (record { possible = possible; config = s.config; inside = s.inside; leading = leading; tables = tables }) told
-    (λ k from few_heads. rooms_next_head l.config l.id q k h c.args.candidate mine l.written.items s.config turn (omega (arith, from, next)) few_heads led)
-    (λ k few_looks. rooms_last_head l.config l.id q k h c.args.candidate mine l.written.items s.config turn region few_looks led)
-
-pub returns-then-may_mark-clause-rooms : goal.returns-then-may_mark-clause-rooms
-returns-then-may_mark-clause-rooms c = λ mine s is possible told turn rooms.
-    let l = c.args.self.now in
-    let here = rw is at s.at in
-    let few = s.config.replicas.1 in
-    let q = c.args.q in
-    let h = c.args.head in
-    let e = head_event l.id q h in
-    let region = here.region in
-    let few_known = known_few l.config l.id (e ∷ mine) s.config possible in
-    let short = subst (λ values. length values < 65536) (sym told) few_known in
-    let all = s.tables.all_heads in
-    let low : q < length l.heads = omega (arith, region, few, all) in
-    let kept = tables_kept l.config l.id e mine l.up l.reach l.heads l.written.items possible refl refl s.tables in
-    let tables = tables_head l.config l.id q h (e ∷ mine) l.up l.reach l.heads c.with_number-self.result l.written.items kept (c.with_number-self.ensures.long ∙ all) (c.with_number-self.ensures.here low) c.with_number-self.ensures.others (let now = head_now l.id q h mine in omega (arith, now)) in
-    let leading = leading_calm l.id l.id (Verb.Head q) (Answer.Number h) mine l.leading refl s.leading in
-    let level = level_head l.config l.id l.number q h mine l.up l.reach here.level in
-    let high = subst (λ values. c.leaves_room.result ≡ nat_lt (length values + c.reserve_of.result) (h + l.config.ring)) told (c.leaves_room.ensures short) ∙ ap (λ free. nat_lt (end_of l.config l.id mine + free) (h + l.config.ring)) c.reserve_of.ensures in
-    let more = c.saturating_add-then-may_mark.ensures in
-    let next : c.saturating_add-then-may_mark.result ≡ q + 1 = omega (arith, more, region, few) in
-    let led = rw is at rooms in
-    c.heads_from-self-then-may_mark.ensures.rooms (e ∷ mine) (record { possible = possible; config = s.config; inside = s.inside; leading = leading; tables = tables }) told
-    (λ k from few_heads. rooms_next_head l.config l.id q k h c.args.candidate mine l.written.items s.config turn (omega (arith, from, next)) few_heads led)
-    (λ k few_looks. rooms_last_head l.config l.id q k h c.args.candidate mine l.written.items s.config turn region few_looks led)
-
-pub returns-else-may_mark-clause-rooms : goal.returns-else-may_mark-clause-rooms
-returns-else-may_mark-clause-rooms c = λ mine s is possible told turn rooms.
-    let l = c.args.self.now in
-    let here = rw is at s.at in
-    let few = s.config.replicas.1 in
-    let q = c.args.q in
-    let h = c.args.head in
-    let e = head_event l.id q h in
-    let region = here.region in
-    let few_known = known_few l.config l.id (e ∷ mine) s.config possible in
-    let short = subst (λ values. length values < 65536) (sym told) few_known in
-    let all = s.tables.all_heads in
-    let low : q < length l.heads = omega (arith, region, few, all) in
-    let kept = tables_kept l.config l.id e mine l.up l.reach l.heads l.written.items possible refl refl s.tables in
-    let tables = tables_head l.config l.id q h (e ∷ mine) l.up l.reach l.heads c.with_number-self.result l.written.items kept (c.with_number-self.ensures.long ∙ all) (c.with_number-self.ensures.here low) c.with_number-self.ensures.others (let now = head_now l.id q h mine in omega (arith, now)) in
-    let leading = leading_calm l.id l.id (Verb.Head q) (Answer.Number h) mine l.leading refl s.leading in
-    let level = level_head l.config l.id l.number q h mine l.up l.reach here.level in
-    let high = subst (λ values. c.leaves_room.result ≡ nat_lt (length values + c.reserve_of.result) (h + l.config.ring)) told (c.leaves_room.ensures short) ∙ ap (λ free. nat_lt (end_of l.config l.id mine + free) (h + l.config.ring)) c.reserve_of.ensures in
-    c.late_from-self.ensures.rooms (e ∷ mine) (record { possible = possible; config = s.config; inside = s.inside; leading = leading; tables = tables }) told
-    (rooms_no_room l.config l.id q h c.args.candidate mine l.written.items s.config turn region here.unmarked (sym high ∙ c.if-leaves_room.false) (rw is at rooms))
 
 pub returns-then-leaves_room-clause-listed : goal.returns-then-leaves_room-clause-listed
 returns-then-leaves_room-clause-listed c = λ mine heeded s is possible told.

@@ -3,7 +3,6 @@ use Rattle.mu_lead.specs.Listing.{late_from}
 use Rattle.std.proofs.Common.{ap, arith, is_some, refl, sym, ◌∙◌, ◌∷◌}
 use Rattle.mu_lead.proofs.Tables.{tables_kept}
 use Rattle.mu_lead.proofs.Lates.{fence_event, late_noted, level_fenced}
-use Rattle.mu_lead.proofs.RoomsFollowers.{rooms_passed, rooms_welcomed}
 use Rattle.mu_lead.proofs.lead.Lead.took_late_fence.Goals as goal
 
 pub returns-then-is_some-clause-stands : goal.returns-then-is_some-clause-stands
@@ -39,26 +38,6 @@ returns-else-is_some-clause-stands c = λ mine s is possible told.
       tables = tables;
       at = c.late_from-self.ensures.stands (e ∷ mine) (record { possible = possible; config = s.config; inside = s.inside; leading = leading; tables = tables }) told (level_fenced l.config l.id l.number p c.args.fence mine l.up l.reach here.stranger here.level);
     }
-
-pub returns-then-is_some-clause-rooms : goal.returns-then-is_some-clause-rooms
-returns-then-is_some-clause-rooms c = λ mine s is possible told turn rooms.
-    let l = c.args.self.now in
-    let here = rw is at s.at in
-    rooms_welcomed l.config l.id c.args.p c.args.fence mine l.written.items s.config turn here.region (rw is at rooms)
-
-pub returns-else-is_some-clause-rooms : goal.returns-else-is_some-clause-rooms
-returns-else-is_some-clause-rooms c = λ mine s is possible told turn rooms.
-    let l = c.args.self.now in
-    let here = rw is at s.at in
-    let few = s.config.replicas.1 in
-    let p = c.args.p in
-    let e = fence_event l.id p c.args.fence in
-    let leading = c.take.ensures l.config mine few possible s.leading in
-    let tables = tables_kept l.config l.id e mine l.up l.reach l.heads l.written.items possible refl refl s.tables in
-    let region = here.region in
-    let next = c.saturating_add.ensures in
-    c.late_from-self.ensures.rooms (e ∷ mine) (record { possible = possible; config = s.config; inside = s.inside; leading = leading; tables = tables }) told
-    (rooms_passed l.config l.id p c.saturating_add.result c.args.fence mine l.written.items s.config turn region (omega (arith, next, region, few)) (rw is at rooms))
 
 pub returns-then-is_some-clause-listed : goal.returns-then-is_some-clause-listed
 returns-then-is_some-clause-listed c = λ mine s is possible told.

@@ -10,7 +10,6 @@ use Rattle.mu_leading.proofs.Within.{known_few}
 use Rattle.mu_lead.proofs.Keeping.{brought_read, fuo_event, leading_calm, raised_now, reached_read, tables_reach, tables_up}
 use Rattle.mu_lead.proofs.Tables.{tables_kept}
 use Rattle.mu_lead.proofs.Lates.{late_left, late_read}
-use Rattle.mu_lead.proofs.RoomsFollowers.{rooms_ahead, rooms_late_fuo}
 use Rattle.mu_lead.proofs.lead.Lead.took_late_fuo.Goals as goal
 
 pub returns-then-known-u-clause-stands : goal.returns-then-known-u-clause-stands
@@ -67,33 +66,6 @@ returns-else-known-u-clause-stands c = λ mine s is possible told.
       at = late_read l.config l.id l.number p c.args.u mine l.up c.with_number-self.result l.reach c.with_fuo-self.result c.with_number-self.ensures.others c.with_fuo-self.ensures.others here_up short
           (raised_now p c.args.u c.with_number-self.result (get_or l.reach p None) c.with_fuo-self.result (omega (arith, here_up)) (c.with_fuo-self.ensures.head wide)) here;
     }
-
-pub returns-then-known-u-clause-rooms : goal.returns-then-known-u-clause-rooms
-returns-then-known-u-clause-rooms c = λ mine s is possible told turn rooms.
-    let l = c.args.self.now in
-    let here = rw is at s.at in
-    let few = s.config.replicas.1 in
-    let p = c.args.p in
-    let region = here.late.region in
-    let ups = s.tables.ups in
-    let reaches = s.tables.reaches in
-    let low : p < length l.up = omega (arith, region, few, ups) in
-    let wide : p < length l.reach = omega (arith, region, few, reaches) in
-    let e = fuo_event l.id p c.args.u in
-    let kept = tables_kept l.config l.id e mine l.up l.reach l.heads l.written.items possible refl refl s.tables in
-    let reached = tables_reach l.config l.id p (e ∷ mine) l.up l.reach c.with_fuo-self.result l.heads l.written.items kept (c.with_fuo-self.ensures.long ∙ reaches) c.with_fuo-self.ensures.others
-    (reached_read l.id p c.args.u mine (get_or l.reach p None) (get_or c.with_fuo-self.result p None) (c.with_fuo-self.ensures.ring wide) (s.tables.reached p)) in
-    let leading = leading_calm l.id l.id (Verb.Fuo p) (Answer.Number c.args.u) mine l.leading refl s.leading in
-    let tables = reached in
-    let next = c.saturating_add.ensures in
-    c.late_from-self.ensures.rooms (e ∷ mine) (record { possible = possible; config = s.config; inside = s.inside; leading = leading; tables = tables }) told
-    (rooms_ahead l.config l.id p c.saturating_add.result c.args.u mine l.written.items s.config turn region (omega (arith, next, region, few)) (rw is at rooms))
-
-pub returns-else-known-u-clause-rooms : goal.returns-else-known-u-clause-rooms
-returns-else-known-u-clause-rooms c = λ mine s is possible told turn rooms.
-    let l = c.args.self.now in
-    let here = rw is at s.at in
-    rooms_late_fuo l.config l.id c.args.p c.args.u mine l.written.items s.config turn here.late.region (rw is at rooms)
 
 pub returns-then-known-u-clause-listed : goal.returns-then-known-u-clause-listed
 returns-then-known-u-clause-listed c = λ mine s is possible told.

@@ -2,8 +2,6 @@ use Rattle.std.proofs.lemmas.Bool.{le-ltb, lt-ltb}
 use Rattle.std.proofs.Common.{arith, inl, refl}
 use Rattle.mu_lead.proofs.Tables.{tables_kept}
 use Rattle.mu_lead.proofs.Lates.{late_told, min_event}
-use Rattle.mu_lead.proofs.RoomsLate.{rooms_higher, rooms_late_min}
-use Rattle.mu_model.specs.declared.event.Answer.{Answer}
 use Rattle.mu_lead.proofs.lead.Lead.took_late_min.Goals as goal
 
 pub returns-then-from-min-clause-stands : goal.returns-then-from-min-clause-stands
@@ -39,19 +37,6 @@ returns-else-from-min-clause-stands c = λ values mine s is possible told.
       tables = tables;
       at = late_told l.config l.id l.number p c.args.min mine l.up l.reach (let not_above = c.if-from-min.false in omega (arith, not_above)) here;
     }
-
-pub returns-then-from-min-clause-rooms : goal.returns-then-from-min-clause-rooms
-returns-then-from-min-clause-rooms c = λ values mine s is possible told turn rooms.
-    let l = c.args.self.now in
-    let here = rw is at s.at in
-    let led = rw is at rooms in
-    ((λ same. rooms_higher l.config l.id c.args.p l.number c.args.min mine l.written.items s.config turn here.late.level.leads.numbered (let more = c.if-from-min.true in omega (arith, more)) led), λ other. absurd (other refl))
-
-pub returns-else-from-min-clause-rooms : goal.returns-else-from-min-clause-rooms
-returns-else-from-min-clause-rooms c = λ values mine s is possible told turn rooms.
-    let l = c.args.self.now in
-    let here = rw is at s.at in
-    rooms_late_min l.config l.id c.args.p (Answer.Number c.args.min) mine l.written.items s.config turn here.late.region here.late.level.leads.begun (rw is at rooms)
 
 pub returns-then-from-min-clause-listed : goal.returns-then-from-min-clause-listed
 returns-then-from-min-clause-listed c = λ values mine s is possible told.

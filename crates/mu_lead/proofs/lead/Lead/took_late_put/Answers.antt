@@ -6,8 +6,6 @@ use Rattle.std.proofs.Common.{ap, arith, get_or, length, refl, ◌<◌, ◌≤�
 use Rattle.mu_lead.proofs.Tables.{tables_kept}
 use Rattle.mu_lead.proofs.Lates.{late_behind, late_level}
 use Rattle.mu_lead.proofs.Numbering.{landed_min}
-use Rattle.mu_lead.proofs.RoomsBrought.{level_brought}
-use Rattle.mu_lead.proofs.RoomsFollowers.{rooms_joined_behind, rooms_joined_level}
 use Rattle.mu_agree.proofs.Possible.{parts_shorten_law}
 use Rattle.mu_lead.proofs.lead.Lead.took_late_put.Goals as goal
 
@@ -46,30 +44,6 @@ returns-else-up_of-known-clause-stands c = λ mine s is possible told.
       tables = tables;
       at = c.late_from-self.ensures.stands (e ∷ mine) (record { possible = possible; config = s.config; inside = s.inside; leading = leading; tables = tables }) told (late_level l.config l.id l.number p mine l.up l.reach here has);
     }
-
-pub returns-then-up_of-known-clause-rooms : goal.returns-then-up_of-known-clause-rooms
-returns-then-up_of-known-clause-rooms c = λ mine s is possible told turn rooms.
-    let l = c.args.self.now in
-    let here = rw is at s.at in
-    let late = here.entering.told.late in
-    c.bring_up-self.ensures.rooms (landed_min l.id c.args.p l.number ∷ mine) (rooms_joined_behind l.config l.id c.args.p l.number mine l.written.items s.config turn late.region late.stranger (rw is at rooms))
-
-pub returns-else-up_of-known-clause-rooms : goal.returns-else-up_of-known-clause-rooms
-returns-else-up_of-known-clause-rooms c = λ mine s is possible told turn rooms.
-    let l = c.args.self.now in
-    let here = rw is at s.at in
-    let few = s.config.replicas.1 in
-    let p = c.args.p in
-    let e = landed_min l.id p l.number in
-    let leading = c.take.ensures l.config mine few possible s.leading in
-    let tables = tables_kept l.config l.id e mine l.up l.reach l.heads l.written.items possible refl refl s.tables in
-    let has : end_of l.config l.id mine ≤ get_or l.up p 0 = (let less = c.if-up_of-known.false in let same = ap length told in let up_is = c.up_of.ensures s.tables.ups in omega (arith, less, same, up_is)) in
-    let late = here.entering.told.late in
-    let region = late.region in
-    let next = c.saturating_add.ensures in
-    c.late_from-self.ensures.rooms (e ∷ mine) (record { possible = possible; config = s.config; inside = s.inside; leading = leading; tables = tables }) told
-    (rooms_joined_level l.config l.id p c.saturating_add.result l.number mine l.written.items s.config turn region late.stranger (omega (arith, next, region, few))
-    (level_brought l.config l.id l.number (e ∷ mine) l.up l.reach l.heads l.written.items possible tables (late_level l.config l.id l.number p mine l.up l.reach here has)) (rw is at rooms))
 
 pub returns-then-up_of-known-clause-listed : goal.returns-then-up_of-known-clause-listed
 returns-then-up_of-known-clause-listed c = λ mine s is possible told.

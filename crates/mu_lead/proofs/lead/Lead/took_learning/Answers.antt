@@ -5,17 +5,6 @@ use Rattle.mu_lead.proofs.Keeping.{leading_calm, leads_kept}
 use Rattle.mu_lead.proofs.Bringing.{look_event}
 use Rattle.mu_lead.proofs.Sights.{outrun_by}
 use Rattle.mu_lead.proofs.Tables.{tables_kept}
-use Rattle.std.proofs.Common.{arith}
-use Rattle.mu_lead.specs.declared.place.Then.{Then}
-use Rattle.mu_lead.proofs.Bringing.{none_lacks}
-use Rattle.mu_lead.proofs.RoomsBrought.{none_brought}
-use Rattle.std.proofs.Common.{subst, true, ◌≡◌}
-use Rattle.mu_model.specs.Parts.{IsPossible}
-use Rattle.mu_lead.specs.Leading.{end_of}
-use Rattle.mu_lead.proofs.Rows.{learning_taught}
-use Rattle.mu_model.specs.Steps.{knows_more}
-use Rattle.mu_lead.proofs.RoomsOutrun.{rooms_outrun_learning}
-use Rattle.mu_lead.proofs.RoomsLearning.{rooms_learnt, rooms_learnt_all, rooms_learnt_level}
 use Rattle.mu_lead.proofs.lead.Lead.took_learning.Goals as goal
 
 pub returns-then-is_past-clause-stands : goal.returns-then-is_past-clause-stands
@@ -58,33 +47,6 @@ returns-else-is_past-clause-stands c = λ i mine s is position possible told.
 
 pub returns-else-is_past-clause-going : goal.returns-else-is_past-clause-going
 returns-else-is_past-clause-going c = sym (c.learnt.ensures.going c.args.self.now.under_way)
-
-pub returns-then-is_past-clause-rooms : goal.returns-then-is_past-clause-rooms
-returns-then-is_past-clause-rooms c = λ i mine s is position possible told turn rooms.
-    let l = c.args.self.now in
-    rooms_outrun_learning l.config l.id c.args.source i c.args.answer mine s.config turn (sym c.is_past.ensures ∙ c.if-is_past.true) position (rw is at rooms)
-
-pub returns-else-is_past-clause-rooms : goal.returns-else-is_past-clause-rooms
-returns-else-is_past-clause-rooms c = λ i mine s is position possible told turn rooms.
-    let l = c.args.self.now in
-    let here = rw is at s.at in
-    let few = s.config.replicas.1 in
-    let p = c.args.source in
-    let i = i in
-    let e = look_event l.id p i c.args.answer in
-    let leading = leading_calm l.id l.id (Verb.Look p i) c.args.answer mine l.leading refl s.leading in
-    let tables = tables_kept l.config l.id e mine l.up l.reach l.heads l.written.items possible refl refl s.tables in
-    let leads = leads_kept l.config l.id l.number l.id (Verb.Look p i) c.args.answer mine refl here.leads in
-    let a = c.args.answer in
-    let led = rw is at rooms in
-    let caught = (s.tables.brought p).caught_up (end_of l.config l.id mine) here.lacks in
-    let more = subst (λ x. knows_more l.config l.id mine (look_event l.id p x a) ≡ true) (sym position) (learning_taught l.config l.id p a mine (subst (λ x. IsPossible l.config l.id (look_event l.id p x a ∷ mine)) position possible) caught (sym c.is_past.ensures ∙ c.if-is_past.false)) in
-    c.learn_from-self.ensures.rooms (e ∷ mine) (record { possible = possible; config = s.config; inside = s.inside; leading = leading; tables = tables }) told
-    (rooms_learnt l.config l.id p i a mine s.config turn more led)
-    (λ q. rooms_learnt_all l.config l.id p i q a mine s.config turn more led)
-    (λ none. rooms_learnt_level l.config l.id p i a mine s.config turn more led
-    (none_brought l.config l.id (e ∷ mine) l.up l.reach l.heads l.written.items possible tables
-    (none_lacks l.config l.id 0 (e ∷ mine) l.up Then.Late (λ k few_members member low. absurd (omega (arith, low))) none) here.raised))
 
 pub returns-then-is_past-clause-listed : goal.returns-then-is_past-clause-listed
 returns-then-is_past-clause-listed c = λ i mine s is position possible told.

@@ -4,9 +4,6 @@ use Rattle.mu_model.specs.declared.event.Verb.{Verb}
 use Rattle.mu_lead.proofs.Keeping.{leading_calm}
 use Rattle.mu_lead.proofs.Bringing.{enters_behind, fences_behind, look_event}
 use Rattle.mu_lead.proofs.Tables.{tables_kept}
-use Rattle.mu_lead.proofs.RoomsBringing.{rooms_looked}
-use Rattle.mu_lead.proofs.Bringing.{look_known}
-use Rattle.std.proofs.Common.{arith}
 use Rattle.mu_lead.proofs.lead.Lead.took_look_behind.Goals as goal
 
 pub returns-then-is_past-clause-stands : goal.returns-then-is_past-clause-stands
@@ -36,22 +33,6 @@ returns-else-is_past-clause-stands c = λ values mine s is possible told.
       tables = tables_kept l.config l.id e mine l.up l.reach l.heads l.written.items possible refl refl s.tables;
       at = enters_behind l.config l.id l.number c.args.p c.args.answer mine l.up l.reach c.args.then here (sym c.is_past.ensures ∙ c.if-is_past.false);
     }
-
-pub returns-then-is_past-clause-rooms : goal.returns-then-is_past-clause-rooms
-returns-then-is_past-clause-rooms c = λ values mine s is possible told turn rooms.
-    let l = c.args.self.now in
-    let here = rw is at s.at in
-    let lacks = here.lacks in
-    let same = look_known l.config l.id c.args.p (get_or l.up c.args.p 0) c.args.answer mine (λ e. omega (arith, lacks, e)) in
-    (rooms_looked l.config l.id c.args.p (get_or l.up c.args.p 0) c.args.answer mine l.written.items c.args.then s.config turn same here.behind.region here.behind.member (rw is at rooms)).1
-
-pub returns-else-is_past-clause-rooms : goal.returns-else-is_past-clause-rooms
-returns-else-is_past-clause-rooms c = λ values mine s is possible told turn rooms.
-    let l = c.args.self.now in
-    let here = rw is at s.at in
-    let lacks = here.lacks in
-    let same = look_known l.config l.id c.args.p (get_or l.up c.args.p 0) c.args.answer mine (λ e. omega (arith, lacks, e)) in
-    (rooms_looked l.config l.id c.args.p (get_or l.up c.args.p 0) c.args.answer mine l.written.items c.args.then s.config turn same here.behind.region here.behind.member (rw is at rooms)).0
 
 pub returns-then-is_past-clause-listed : goal.returns-then-is_past-clause-listed
 returns-then-is_past-clause-listed c = λ values mine s is possible told.

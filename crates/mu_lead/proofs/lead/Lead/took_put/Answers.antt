@@ -20,10 +20,9 @@ use Rattle.mu_lead.proofs.Puts.{known_same, brought_committed, brought_less, ent
 use Rattle.mu_model.specs.declared.event.Answer.{Answer}
 use Rattle.mu_model.specs.declared.event.Verb.{Verb}
 use Rattle.mu_lead.proofs.Sights.{shows_kept}
-use Rattle.mu_lead.specs.Offering.{AtEnter, LooksShow, took}
-use Rattle.std.proofs.Common.{[], false, length-append, true, ◌++◌}
+use Rattle.mu_lead.specs.Offering.{AtEnter, LooksShow}
+use Rattle.std.proofs.Common.{[], length-append, true, ◌++◌}
 use Rattle.mu_model.specs.Leaderships.{is_member}
-use Rattle.mu_lead.proofs.RoomsPutting.{rooms_committed, rooms_next_put}
 use Rattle.mu_lead.proofs.lead.Lead.took_put.Goals as goal
 
 pub returns-in-Some-clause-stands : goal.returns-in-Some-clause-stands
@@ -148,48 +147,6 @@ returns-in-Some-clause-note c = λ small. inl refl
 
 pub returns-in-None-clause-note : goal.returns-in-None-clause-note
 returns-in-None-clause-note c = λ small. inr (c.committed.ensures.is ∙ ap (λ i. note_of_commit i c.args.offer) (c.end_of-position.ensures small))
-
-pub returns-in-Some-clause-rooms : goal.returns-in-Some-clause-rooms
-returns-in-Some-clause-rooms c = λ mine s is possible told turn rooms.
-    let l = c.args.self.now in
-    let here = rw is at s.at in
-    let few = s.config.replicas.1 in
-    let p = c.args.p in
-    let q = c.in-Some.q in
-    let v = c.args.offer.value in
-    let b = l.number in
-    let region = here.0.entering.region in
-    let i = length c.args.known.now in
-    let few_known = known_few l.config l.id mine s.config (parts_shorten_law l.config l.id mine (put_event l.id p i b v) possible).before in
-    let position = c.end_of-position.ensures (subst (λ values. length values < 65536) (sym told) few_known) in
-    let leading = subst (λ j. IsPossible l.config l.id (put_event l.id p j b v ∷ mine) → StandsForLeadership l.id (put_event l.id p j b v ∷ mine) c.take.new.self) position (λ may. c.take.ensures l.config mine few may s.leading) possible in
-    let more = c.saturating_add.ensures in
-    let next : c.saturating_add.result ≡ p + 1 = omega (arith, more, region, few) in
-    let first = c.in-Some.ensures l.id (put_event l.id p i b v ∷ mine) few leading in
-    let low = first.0 in
-    let above : p < q = omega (arith, low, next) in
-    rooms_next_put l.config l.id p q i b v c.args.offer mine l.written.items s.config turn (record { there = region; member = here.0.entering.member; above = above; between = λ k after before. first.3 k (omega (arith, after, next)) before }) first.1 first.2
-    (subst (λ values. took l.id q (length values) b v mine ≡ false) (sym told) (here.0.entering.offering.above q (omega (arith, above)))) (rw is at rooms)
-
-pub returns-in-None-clause-rooms : goal.returns-in-None-clause-rooms
-returns-in-None-clause-rooms c = λ mine s is possible told turn rooms.
-    let l = c.args.self.now in
-    let here = rw is at s.at in
-    let few = s.config.replicas.1 in
-    let p = c.args.p in
-    let v = c.args.offer.value in
-    let b = l.number in
-    let region = here.0.entering.region in
-    let now_possible = subst (λ values. IsPossible l.config l.id (put_event l.id p (length values) b v ∷ mine)) told possible in
-    let few_known = known_few l.config l.id mine s.config (parts_shorten_law l.config l.id mine (put_event l.id p (end_of l.config l.id mine) b v) now_possible).before in
-    let position = c.end_of-position.ensures (subst (λ values. length values < 65536) (sym told) few_known) ∙ ap length told in
-    let leading = subst (λ j. IsPossible l.config l.id (put_event l.id p j b v ∷ mine) → StandsForLeadership l.id (put_event l.id p j b v ∷ mine) c.take.new.self) position (λ may. c.take.ensures l.config mine few may s.leading) now_possible in
-    let more = c.saturating_add.ensures in
-    let next : c.saturating_add.result ≡ p + 1 = omega (arith, more, region, few) in
-    let all = took_all l.config l.id b v p c.saturating_add.result mine l.up l.reach here.0 next (c.in-None.ensures l.id (put_event l.id p (end_of l.config l.id mine) b v ∷ mine) few leading) in
-    let grows = known_more l.config l.id b v p mine l.up l.reach here.0.entering.offering all in
-    rooms_committed l.config l.id p c.first_member.result (length c.args.known.now) b v c.args.offer mine l.written.items s.config turn region here.0.entering.member
-    (subst (λ values. known l.config l.id (put_event l.id p (length values) b v ∷ mine) ≡ known l.config l.id mine ++ v ∷ []) (sym told) grows) (rw is at rooms)
 
 pub returns-in-Some-clause-listed : goal.returns-in-Some-clause-listed
 returns-in-Some-clause-listed c = λ mine s is possible told.

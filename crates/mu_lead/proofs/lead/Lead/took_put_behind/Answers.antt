@@ -12,8 +12,6 @@ use Rattle.mu_model.specs.Knowledge.{known}
 use Rattle.mu_lead.proofs.Keeping.{tables_up}
 use Rattle.mu_lead.proofs.Bringing.{behind_put, brought_put, config_small, put_event, put_known}
 use Rattle.mu_lead.proofs.Tables.{tables_kept}
-use Rattle.mu_lead.proofs.Copying.{first_read, uncopied}
-use Rattle.mu_lead.proofs.RoomsCopying.{copies_put, rooms_copied}
 use Rattle.mu_lead.proofs.lead.Lead.took_put_behind.Goals as goal
 
 pub returns-clause-stands : goal.returns-clause-stands
@@ -53,25 +51,6 @@ returns-clause-stands c = λ mine s is possible told.
           (behind_put l.config l.id l.number v p u mine l.up c.with_number-self.result l.reach c.args.then lacks c.with_number-self.ensures.others refl next behind)
           (subst (λ values. get_or c.with_number-self.result p 0 ≤ length values) (sym same) all);
     }
-
-pub returns-clause-rooms : goal.returns-clause-rooms
-returns-clause-rooms c = λ mine s is possible told turn rooms.
-    let l = c.args.self.now in
-    let here = rw is at s.at in
-    let led = rw is at rooms in
-    let behind = here.near.behind in
-    let lacks = here.near.lacks in
-    let p = c.args.p in
-    let u = get_or l.up p 0 in
-    let v = get_or c.args.known.now u 0 in
-    let e = put_event l.id p u l.number v in
-    let before = (parts_shorten_law l.config l.id mine e possible).before in
-    let value : slice_get (known l.config l.id mine) u ≡ Some v = subst (λ values. slice_get (known l.config l.id mine) u ≡ Some (get_or values u 0)) (sym told) (slice_get-get_or (known l.config l.id mine) u 0 lacks) in
-    let held = behind.leads.held p behind.region behind.member in
-    let copies = copies_put l.config l.id p u l.number v mine value (uncopied l.config l.id p u mine before (behind.clear p u behind.member (omega arith)))
-    (first_read l.config l.id p held.grant u mine before held.noted (behind.read p behind.region behind.member)) in
-    let on = rooms_copied l.config l.id p u l.number v mine l.written.items c.args.then s.config turn behind.region behind.member lacks copies led in
-    c.after_put_behind-self.ensures.rooms (e ∷ mine) on.0 on.1
 
 pub returns-clause-listed : goal.returns-clause-listed
 returns-clause-listed c = λ mine s is possible told.

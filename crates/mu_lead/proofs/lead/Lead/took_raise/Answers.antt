@@ -13,10 +13,6 @@ use Rattle.mu_lead.specs.Standing.{At}
 use Rattle.mu_lead.proofs.Keeping.{leading_calm, raise_event, raised_now, reached_raised, tables_reach}
 use Rattle.mu_lead.proofs.Tables.{tables_kept}
 use Rattle.mu_lead.proofs.Puts.{raised_all, raises_next}
-use Rattle.mu_lead.specs.Rooms.{RoomsAt}
-use Rattle.mu_lead.proofs.RoomsRaising.{rooms_next_raise, rooms_raised}
-use Rattle.std.proofs.Common.{true}
-use Rattle.mu_model.specs.Stretches.{is_replication}
 use Rattle.mu_lead.proofs.lead.Lead.took_raise.Goals as goal
 
 pub returns-in-Some-clause-stands : goal.returns-in-Some-clause-stands
@@ -77,44 +73,6 @@ returns-in-None-clause-stands c = λ mine s is possible told.
       at = subst (λ values. At l.config l.id l.number (raise_event l.id p (length values) ∷ mine) l.up c.with_fuo-self.result l.written.items c.late_from-self.result) (sym told) (c.late_from-self.ensures.stands now (record { possible = now_possible; config = s.config; inside = s.inside; leading = leading; tables = tables }) told
           (raised_all l.config l.id l.number p c.saturating_add.result mine l.up l.reach c.with_fuo-self.result here c.with_fuo-self.ensures.others raised next (c.in-None.ensures l.id mine few s.leading)));
     }
-
-pub returns-in-Some-clause-rooms : goal.returns-in-Some-clause-rooms
-returns-in-Some-clause-rooms c = λ mine s is possible told turn rooms.
-    let l = c.args.self.now in
-    let here = rw is at s.at in
-    let few = s.config.replicas.1 in
-    let region = here.region in
-    let more = c.saturating_add.ensures in
-    let first = c.in-Some.ensures l.id mine few s.leading in
-    let from = first.0 in
-    rooms_next_raise l.config l.id c.args.p c.in-Some.q (length c.args.known.now) mine l.written.items s.config turn
-    (record { there = region; member = here.member; above = omega (arith, more, region, few, from); between = λ k after before. first.3 k (omega (arith, more, region, few, after)) before }) (rw is at rooms)
-
-pub returns-in-None-clause-rooms : goal.returns-in-None-clause-rooms
-returns-in-None-clause-rooms c = λ mine s is possible told turn rooms.
-    let l = c.args.self.now in
-    let here = rw is at s.at in
-    let few = s.config.replicas.1 in
-    let p = c.args.p in
-    let end = end_of l.config l.id mine in
-    let region = here.region in
-    let reaches = s.tables.reaches in
-    let wide : p < length l.reach = omega (arith, region, few, reaches) in
-    let now = raise_event l.id p end ∷ mine in
-    let now_possible = subst (λ values. IsPossible l.config l.id (raise_event l.id p (length values) ∷ mine)) told possible in
-    let kept = tables_kept l.config l.id (raise_event l.id p end) mine l.up l.reach l.heads l.written.items now_possible refl refl s.tables in
-    let farther = subst (λ values. (i ring : ℕ) → is_within_ring i ring (get_or c.with_fuo-self.result p None) ≡ (is_within_ring i ring (Some (length values)) || is_within_ring i ring (get_or l.reach p None))) told (c.with_fuo-self.ensures.ring wide) in
-    let higher = subst (λ values. (h : ℕ) → reaches_head h (get_or c.with_fuo-self.result p None) ≡ (reaches_head h (Some (length values)) || reaches_head h (get_or l.reach p None))) told (c.with_fuo-self.ensures.head wide) in
-    let tables = tables_reach l.config l.id p now l.up l.reach c.with_fuo-self.result l.heads l.written.items kept (c.with_fuo-self.ensures.long ∙ reaches) c.with_fuo-self.ensures.others
-    (reached_raised l.id p end mine (get_or l.reach p None) (get_or c.with_fuo-self.result p None) farther (s.tables.reached p)) in
-    let leading = leading_calm l.id l.id (Verb.RaiseFuo p end) Answer.Done mine l.leading refl s.leading in
-    let raised = raised_now p end l.up (get_or l.reach p None) c.with_fuo-self.result (let same = here.have p region here.member in omega (arith, same)) higher in
-    let more = c.saturating_add.ensures in
-    let next : c.saturating_add.result ≡ p + 1 = omega (arith, more, region, few) in
-    let turn_now = subst (λ values. is_replication mine (raise_event l.id p (length values)) ≡ true) told turn in
-    subst (λ values. RoomsAt l.config l.id (raise_event l.id p (length values) ∷ mine) l.written.items c.late_from-self.result) (sym told)
-    (c.late_from-self.ensures.rooms now (record { possible = now_possible; config = s.config; inside = s.inside; leading = leading; tables = tables }) told
-    (rooms_raised l.config l.id p end mine l.written.items s.config turn_now region here.member (rw is at rooms)))
 
 pub returns-in-Some-clause-listed : goal.returns-in-Some-clause-listed
 returns-in-Some-clause-listed c = λ mine s is possible told.

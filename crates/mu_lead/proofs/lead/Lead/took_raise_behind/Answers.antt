@@ -8,20 +8,8 @@ use Rattle.mu_model.specs.declared.event.Answer.{Answer}
 use Rattle.mu_lead.proofs.Keeping.{leading_calm, leads_kept, raise_event, raised_now, reached_raised, tables_reach}
 use Rattle.mu_lead.proofs.Bringing.{all_done, done_behind, raised_behind}
 use Rattle.mu_lead.proofs.Tables.{tables_kept}
-use Rattle.mu_lead.specs.declared.place.Place.{Place}
-use Rattle.mu_lead.specs.Rooms.{IsPlaced}
-use Rattle.mu_lead.proofs.Bringing.{none_lacks}
-use Rattle.mu_lead.proofs.RoomsBrought.{level_brought, none_brought}
-use Rattle.mu_lead.proofs.RoomsRaising.{rooms_all_brought, rooms_brought_joined, rooms_next_behind}
 use Rattle.std.proofs.Common.{sym}
-use Rattle.mu_lead.specs.Onward.{MayBringUp, MayGoOn, passed_over}
-use Rattle.mu_lead.specs.Leading.{HaveFew, Level}
-use Rattle.std.proofs.Common.{inl, inr}
-use Rattle.std.specs.Prelude.{nat_lt}
-use Rattle.std.proofs.lemmas.Bool.{lt-ltb}
-use Rattle.mu_model.specs.Leaderships.{is_member}
-use Rattle.mu_lead.specs.Leading.{end_of}
-use Rattle.mu_lead.proofs.RoomsPosition.{late_or_position, none_passes, passes_left, rooms_last_position, rooms_next_position}
+use Rattle.mu_lead.specs.Leading.{HaveFew}
 use Rattle.mu_lead.proofs.lead.Lead.took_raise_behind.Goals as goal
 
 pub returns-in-Joined-clause-stands : goal.returns-in-Joined-clause-stands
@@ -87,94 +75,6 @@ returns-in_default-clause-stands c = λ mine s is possible told.
       tables = tables;
       at = c.bring_up_from-self.ensures.stands (e ∷ mine) (record { possible = possible; config = s.config; inside = s.inside; leading = leading; tables = tables }) told leads raised here.behind.clear done (subst (HaveFew l.config l.id (e ∷ mine) l.up c.args.then) (sym next) here.behind.few);
     }
-
-pub returns-in-Joined-clause-rooms : goal.returns-in-Joined-clause-rooms
-returns-in-Joined-clause-rooms c = λ mine s is possible told turn rooms.
-    let l = c.args.self.now in
-    let here = rw is at s.at in
-    let few = s.config.replicas.1 in
-    let region = here.behind.region in
-    let p = c.args.p in
-    let u = get_or l.up p 0 in
-    let reaches = s.tables.reaches in
-    let wide : p < length l.reach = omega (arith, region, few, reaches) in
-    let up_is = c.up_of.ensures s.tables.ups in
-    let e = raise_event l.id p u in
-    let kept = tables_kept l.config l.id e mine l.up l.reach l.heads l.written.items possible refl refl s.tables in
-    let farther = subst (λ x. (i ring : ℕ) → is_within_ring i ring (get_or c.with_fuo-self.result p None) ≡ (is_within_ring i ring (Some x) || is_within_ring i ring (get_or l.reach p None))) up_is (c.with_fuo-self.ensures.ring wide) in
-    let higher = subst (λ x. (h : ℕ) → reaches_head h (get_or c.with_fuo-self.result p None) ≡ (reaches_head h (Some x) || reaches_head h (get_or l.reach p None))) up_is (c.with_fuo-self.ensures.head wide) in
-    let tables = tables_reach l.config l.id p (e ∷ mine) l.up l.reach c.with_fuo-self.result l.heads l.written.items kept (c.with_fuo-self.ensures.long ∙ reaches) c.with_fuo-self.ensures.others
-    (reached_raised l.id p u mine (get_or l.reach p None) (get_or c.with_fuo-self.result p None) farther (s.tables.reached p)) in
-    let leading = leading_calm l.id l.id (Verb.RaiseFuo p u) Answer.Done mine l.leading refl s.leading in
-    let leads = leads_kept l.config l.id l.number l.id (Verb.RaiseFuo p u) Answer.Done mine refl here.behind.leads in
-    let now = raised_now p u l.up (get_or l.reach p None) c.with_fuo-self.result (omega arith) higher in
-    let raised = raised_behind l.config l.id l.number p mine l.up l.reach c.with_fuo-self.result c.args.then here c.with_fuo-self.ensures.others now in
-    let more = c.saturating_add.ensures in
-    let next : c.saturating_add.result ≡ p + 1 = omega (arith, more, region, few) in
-    let done = done_behind l.config l.id l.number p c.saturating_add.result mine l.up l.reach c.args.then next here in
-    let level : Level l.config l.id l.number (e ∷ mine) l.up c.with_fuo-self.result = record { leads = leads; have = λ k region member. done k region member (all_done c.args.then c.in-Joined.is k c.saturating_add.result); raised = raised; few = λ k region member. (here.behind.few k region member).0 } in
-    c.late_from-self.ensures.rooms (e ∷ mine) (record { possible = possible; config = s.config; inside = s.inside; leading = leading; tables = tables }) told
-    (rooms_brought_joined l.config l.id p c.saturating_add.result u mine l.written.items s.config turn region next
-    (level_brought l.config l.id l.number (e ∷ mine) l.up c.with_fuo-self.result l.heads l.written.items possible tables level)
-    (subst (λ t. IsPlaced l.config l.id mine l.written.items (Place.RaiseBehind p t)) c.in-Joined.is (rw is at rooms)))
-
-pub returns-in_default-clause-rooms : goal.returns-in_default-clause-rooms
-returns-in_default-clause-rooms c = λ mine s is possible told turn rooms.
-    let l = c.args.self.now in
-    let here = rw is at s.at in
-    let few = s.config.replicas.1 in
-    let region = here.behind.region in
-    let p = c.args.p in
-    let u = get_or l.up p 0 in
-    let reaches = s.tables.reaches in
-    let wide : p < length l.reach = omega (arith, region, few, reaches) in
-    let up_is = c.up_of.ensures s.tables.ups in
-    let e = raise_event l.id p u in
-    let kept = tables_kept l.config l.id e mine l.up l.reach l.heads l.written.items possible refl refl s.tables in
-    let farther = subst (λ x. (i ring : ℕ) → is_within_ring i ring (get_or c.with_fuo-self.result p None) ≡ (is_within_ring i ring (Some x) || is_within_ring i ring (get_or l.reach p None))) up_is (c.with_fuo-self.ensures.ring wide) in
-    let higher = subst (λ x. (h : ℕ) → reaches_head h (get_or c.with_fuo-self.result p None) ≡ (reaches_head h (Some x) || reaches_head h (get_or l.reach p None))) up_is (c.with_fuo-self.ensures.head wide) in
-    let tables = tables_reach l.config l.id p (e ∷ mine) l.up l.reach c.with_fuo-self.result l.heads l.written.items kept (c.with_fuo-self.ensures.long ∙ reaches) c.with_fuo-self.ensures.others
-    (reached_raised l.id p u mine (get_or l.reach p None) (get_or c.with_fuo-self.result p None) farther (s.tables.reached p)) in
-    let leading = leading_calm l.id l.id (Verb.RaiseFuo p u) Answer.Done mine l.leading refl s.leading in
-    let leads = leads_kept l.config l.id l.number l.id (Verb.RaiseFuo p u) Answer.Done mine refl here.behind.leads in
-    let now = raised_now p u l.up (get_or l.reach p None) c.with_fuo-self.result (omega arith) higher in
-    let raised = raised_behind l.config l.id l.number p mine l.up l.reach c.with_fuo-self.result c.args.then here c.with_fuo-self.ensures.others now in
-    let more = c.saturating_add-in_default.ensures in
-    let next : c.saturating_add-in_default.result ≡ p + 1 = omega (arith, more, region, few) in
-    let done = done_behind l.config l.id l.number p c.saturating_add-in_default.result mine l.up l.reach c.args.then next here in
-    elim (late_or_position c.args.then c.in_default.not-Joined) [
-      | inl then_is ↦ (let placed = subst (λ t. IsPlaced l.config l.id mine l.written.items (Place.RaiseBehind p t)) then_is (rw is at rooms) in
-          c.bring_up_from-self.ensures.rooms (e ∷ mine) (record { possible = possible; config = s.config; inside = s.inside; leading = leading; tables = tables }) told
-          (λ q first. subst (MayBringUp l.config l.id (e ∷ mine) q) (sym then_is) (rooms_next_behind l.config l.id p q u mine l.written.items s.config turn placed))
-          (λ none. subst (λ t. MayGoOn l.config l.id (e ∷ mine) (passed_over l.config t)) (sym then_is)
-          (rooms_all_brought l.config l.id p u mine l.written.items s.config turn
-          (none_brought l.config l.id (e ∷ mine) l.up c.with_fuo-self.result l.heads l.written.items possible tables
-          (none_lacks l.config l.id c.saturating_add-in_default.result (e ∷ mine) l.up c.args.then done none) raised) placed)))
-      | inr then_is ↦ (let placed = subst (λ t. IsPlaced l.config l.id mine l.written.items (Place.RaiseBehind p t)) then_is (rw is at rooms) in
-          let left = subst (λ t. HaveFew l.config l.id mine l.up t (p + 1)) then_is here.behind.few in
-          c.bring_up_from-self.ensures.rooms (e ∷ mine) (record { possible = possible; config = s.config; inside = s.inside; leading = leading; tables = tables }) told
-          (λ q first. subst (MayBringUp l.config l.id (e ∷ mine) q) (sym then_is)
-          (rooms_next_position l.config l.id p q u mine l.written.items s.config turn
-          (record {
-            there = region;
-            member = here.behind.member;
-            above = (let from = first.0 in omega (arith, from, next));
-            between = λ k after before. none_passes (is_member l.id k mine) (nat_lt (get_or l.up k 0) (end_of l.config l.id mine))
-                (λ member. lt-ltb (get_or l.up k 0) (end_of l.config l.id mine) ((left k (let to = first.1 in omega (arith, to, before)) member).1 (omega (arith, after)))) (first.3 k (omega (arith, after, next)) before);
-          })
-          first.1 (passes_left (is_member l.id q mine) (nat_lt (get_or l.up q 0) (end_of l.config l.id mine)) first.2) placed))
-          (λ none. subst (λ t. MayGoOn l.config l.id (e ∷ mine) (passed_over l.config t)) (sym then_is)
-          (rooms_last_position l.config l.id p u mine l.written.items s.config turn
-          (record {
-            there = region;
-            member = here.behind.member;
-            above = region;
-            between = λ k after before. none_passes (is_member l.id k mine) (nat_lt (get_or l.up k 0) (end_of l.config l.id mine))
-                (λ member. lt-ltb (get_or l.up k 0) (end_of l.config l.id mine) ((left k before member).1 (omega (arith, after)))) (none k (omega (arith, after, next)) before);
-          })
-          (none_brought l.config l.id (e ∷ mine) l.up c.with_fuo-self.result l.heads l.written.items possible tables
-          (none_lacks l.config l.id c.saturating_add-in_default.result (e ∷ mine) l.up c.args.then done none) raised) placed)))
-    ]
 
 pub returns-in-Joined-clause-listed : goal.returns-in-Joined-clause-listed
 returns-in-Joined-clause-listed c = λ mine s is possible told.

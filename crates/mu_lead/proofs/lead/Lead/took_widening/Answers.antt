@@ -7,7 +7,6 @@ use Rattle.mu_model.specs.declared.event.Answer.{Answer}
 use Rattle.mu_lead.proofs.Keeping.{leading_calm, raise_event, reached_raised, tables_reach}
 use Rattle.mu_lead.proofs.Bringing.{near_widened}
 use Rattle.mu_lead.proofs.Tables.{tables_kept}
-use Rattle.mu_lead.proofs.RoomsBringing.{rooms_widened}
 use Rattle.mu_lead.proofs.lead.Lead.took_widening.Goals as goal
 
 pub returns-clause-stands : goal.returns-clause-stands
@@ -33,9 +32,3 @@ returns-clause-stands c = λ values mine s is possible told.
       at = near_widened l.config l.id l.number c.args.p mine l.up l.reach c.with_fuo-self.result c.args.then here c.with_fuo-self.ensures.others
           (farther u l.config.ring ∙ true_or (is_within_ring u l.config.ring (Some u)) (is_within_ring u l.config.ring (get_or l.reach c.args.p None)) (lt-ltb u (u + l.config.ring) (let ring = s.config.ring.0 in omega (arith, ring))));
     }
-
-pub returns-clause-rooms : goal.returns-clause-rooms
-returns-clause-rooms c = λ values mine s is possible told turn rooms.
-    let l = c.args.self.now in
-    let here = rw is at s.at in
-    rooms_widened l.config l.id c.args.p (get_or l.up c.args.p 0) mine l.written.items c.args.then s.config turn here.behind.region here.behind.member (rw is at rooms)

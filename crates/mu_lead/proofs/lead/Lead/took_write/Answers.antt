@@ -6,8 +6,7 @@ use Rattle.mu_lead.proofs.Offers.{row_event, tables_row, writing_row}
 use Rattle.mu_lead.proofs.Due.{default_is, last_there}
 use Rattle.mu_model.specs.Contents.{rest_of}
 use Rattle.mu_model.specs.Contents.{config_word}
-use Rattle.mu_lead.proofs.RoomsWriting.{one_word, rooms_last_word, rooms_next_word}
-use Rattle.mu_lead.specs.Rooms.{words_left}
+use Rattle.mu_lead.proofs.RoomsWriting.{one_word}
 use Rattle.std.proofs.Common.{◌-◌}
 use Rattle.mu_lead.proofs.lead.Lead.took_write.Goals as goal
 
@@ -41,40 +40,6 @@ returns-clause-stands c = λ values mine s is possible told.
       at = c.write_from-self.ensures.stands (e ∷ mine) (record { possible = possible; config = s.config; inside = s.inside; leading = leading; tables = tables }) (writing_row l.config l.id l.number j k x j c.args.last c.args.offer mine l.up l.reach w);
     }
 
-pub returns-clause-rooms : goal.returns-clause-rooms
-returns-clause-rooms c = λ values mine s is possible told turn rooms.
-    let l = c.args.self.now in
-    let here = rw is at s.at in
-    let led = rw is at rooms in
-    let few = s.config.replicas.1 in
-    let j = c.args.j in
-    let last = c.args.last in
-    let k = get_or l.written.items j 12 in
-    let x = config_word l.config j k in
-    let e = row_event l.id j k x in
-    let w = here.0.writing in
-    let end = last_there l.config w.first (rest_of l.config w.first) s.config w.batch.row refl in
-    let inside = here.0.inside in
-    let last_is = w.last_row in
-    let rows = s.tables.rows in
-    let there : j < length l.written.items = omega (arith, end, inside, last_is, rows) in
-    let same = default_is l.written.items j there in
-    let small = here.1 in
-    let word = c.next_word.ensures in
-    let more = c.saturating_add-count.ensures in
-    let count : c.saturating_add-count.result ≡ k + 1 = omega (arith, word, more, small) in
-    let leading = leading_calm l.id l.id (Verb.WriteRow j k x) Answer.Done mine l.leading refl s.leading in
-    let tables = tables_row l.config l.id j k x mine l.up l.reach l.heads l.written.items c.note_words.new.written.items possible s.tables (sym same) c.note_words.ensures.long (c.note_words.ensures.here there ∙ count) c.note_words.ensures.others in
-    let new = c.note_words.new.written.items in
-    let long = c.note_words.ensures.long in
-    let there_new : j < length new = omega (arith, there, long) in
-    let now = sym (default_is new j there_new) ∙ c.note_words.ensures.here there ∙ count in
-    let one = one_word l.written.items new j (last + 1 - j) (omega (arith, inside)) small now
-    (λ i above below. (let inner : i < length l.written.items = omega (arith, above, below, inside, end, last_is, rows) in sym (default_is new i (omega (arith, inner, long))) ∙ c.note_words.ensures.others i (λ e. omega (arith, above, e)) ∙ default_is l.written.items i inner)) in
-    c.write_from-self.ensures.rooms (e ∷ mine) (record { possible = possible; config = s.config; inside = s.inside; leading = leading; tables = tables }) (writing_row l.config l.id l.number j k x j last c.args.offer mine l.up l.reach w)
-    (λ some. rooms_next_word l.config l.id j k x (words_left l.written.items j (last + 1 - j)) (words_left new j (last + 1 - j)) mine s.config turn one some led)
-    (λ m some most. rooms_last_word l.config l.id j k x (words_left l.written.items j (last + 1 - j)) m mine s.config turn (omega (arith, one)) some most led)
-
 pub returns-clause-listed : goal.returns-clause-listed
 returns-clause-listed c = λ values mine s is possible told.
     let l = c.args.self.now in
@@ -85,3 +50,25 @@ returns-clause-listed c = λ values mine s is possible told.
     let last_is = w.last_row in
     let rows = s.config.few in
     c.write_from-self.ensures.listed (row_event l.id c.args.j (get_or l.written.items c.args.j 12) (config_word l.config c.args.j (get_or l.written.items c.args.j 12)) ∷ mine) (record { possible = possible; config = now.config; inside = now.inside; leading = now.leading; tables = now.tables }) (omega (arith, end, last_is, rows))
+
+pub returns-clause-words : goal.returns-clause-words
+returns-clause-words c = λ mine s is.
+    let l = c.args.self.now in
+    let here = rw is at s.at in
+    let j = c.args.j in
+    let last = c.args.last in
+    let w = here.0.writing in
+    let end = last_there l.config w.first (rest_of l.config w.first) s.config w.batch.row refl in
+    let inside = here.0.inside in
+    let last_is = w.last_row in
+    let rows = s.tables.rows in
+    let there : j < length l.written.items = omega (arith, end, inside, last_is, rows) in
+    let small = here.1 in
+    let word = c.next_word.ensures in
+    let more = c.saturating_add-count.ensures in
+    let count : c.saturating_add-count.result ≡ get_or l.written.items j 12 + 1 = omega (arith, word, more, small) in
+    let new = c.note_words.new.written.items in
+    let long = c.note_words.ensures.long in
+    let there_new : j < length new = omega (arith, there, long) in
+    one_word l.written.items new j (last + 1 - j) (omega (arith, inside)) small (sym (default_is new j there_new) ∙ c.note_words.ensures.here there ∙ count)
+    (λ i above below. (let inner : i < length l.written.items = omega (arith, above, below, inside, end, last_is, rows) in sym (default_is new i (omega (arith, inner, long))) ∙ c.note_words.ensures.others i (λ e. omega (arith, above, e)) ∙ default_is l.written.items i inner))

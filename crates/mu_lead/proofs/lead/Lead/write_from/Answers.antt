@@ -13,14 +13,6 @@ use Rattle.mu_lead.proofs.Due.{last_there}
 use Rattle.mu_model.specs.Contents.{is_batch, rest_of}
 use Rattle.mu_lead.specs.Leading.{end_of}
 use Rattle.mu_lead.specs.Offering.{LooksShow}
-use Rattle.mu_lead.proofs.RoomsWriting.{skip_full, some_words}
-use Rattle.mu_lead.specs.Rooms.{IsLed}
-use Rattle.mu_pace.specs.Weights.{Stage}
-use Rattle.std.proofs.Common.{◌-◌}
-use Rattle.std.proofs.lemmas.Bool.{and_parts}
-use Rattle.std.specs.Prelude.{nat_le}
-use Rattle.mu_model.specs.Histories.{count_below}
-use Rattle.mu_model.specs.Leaderships.{is_member, majority_of}
 use Rattle.mu_lead.proofs.lead.Lead.write_from.Goals as goal
 
 pub returns-in-Some-clause-stands : goal.returns-in-Some-clause-stands
@@ -48,26 +40,6 @@ returns-in-None-clause-stands c = λ mine s w.
     let none = c.in-None.ensures (omega (arith, end, is, rows)) in
     let done = written_to l.config l.id l.number c.args.first (c.args.last + 1) c.args.last c.args.offer mine l.up l.reach l.written.items s.config s.tables.rows s.tables.words w to (omega arith) none in
     c.offer.ensures.stands mine None None s done.looking (may_offer_own l.config l.id l.number done.first c.args.offer.value mine l.up l.reach s.config s.inside done.looking done.value (subst (λ v. is_batch l.config v ≡ true) (sym done.value) done.batch.batch) done.batch.row (wrote_all l.config l.id l.number (c.args.last + 1) c.args.last c.args.offer mine l.up l.reach done refl) done.batch.next) (subst (LooksShow l.config l.id mine (end_of l.config l.id mine)) (sym done.own) (looks_empty l.config l.id l.number mine l.up l.reach None done.looking))
-
-pub returns-in-Some-clause-rooms : goal.returns-in-Some-clause-rooms
-returns-in-Some-clause-rooms c = λ mine s w writes puts.
-    let l = c.args.self.now in
-    let end = last_there l.config w.first (rest_of l.config w.first) s.config w.batch.row refl in
-    let is = w.last_row in
-    let rows = s.config.few in
-    let first = c.in-Some.ensures (omega (arith, end, is, rows)) in
-    let from = first.0 in
-    let high = first.1 in
-    let j = c.in-Some.j in
-    let same = skip_full l.written.items (j - c.args.first) c.args.first j (c.args.last + 1 - j) (c.args.last + 1 - c.args.first) (omega (arith, from)) (omega (arith, from, high)) first.3 in
-    let some = some_words l.written.items j (c.args.last + 1 - j) (omega (arith, high)) (ltb-true (get_or l.written.items j 12) 12 first.2) in
-    subst (λ x. IsLed l.config l.id mine (Stage.Write x)) same (writes (omega (arith, same, some)))
-
-pub returns-in-None-clause-rooms : goal.returns-in-None-clause-rooms
-returns-in-None-clause-rooms c = λ mine s w writes puts.
-    let l = c.args.self.now in
-    let own = (and_parts (is_member l.id l.id mine) (nat_le (majority_of l.config.replicas) (count_below l.config.replicas (λ p. is_member l.id p mine))) w.looking.level.leads.carried).0 in
-    c.offer.ensures.rooms mine s own puts
 
 pub returns-in-Some-clause-listed : goal.returns-in-Some-clause-listed
 returns-in-Some-clause-listed c = λ mine s low.
