@@ -56,9 +56,9 @@ def stands(path, known):
 
 
 def names_in(line):
-    """What a line of a page names: each path, then each name of code, without what a command writes."""
+    """What a line of a page names: paths and names of code, without what a command writes or a user brings."""
     for piece in re.findall(r"`([^`]+)`", line):
-        for word in re.sub(r">\s*\S+", "", piece).split():
+        for word in re.sub(r">\s*\S+|<\s*[^\s/]+(?=\s|$)", "", piece).split():
             word = word.strip(",;:()<>|[]\"'")
             if word.startswith(("out/", "/", "./out", "-")):
                 continue

@@ -15,4 +15,4 @@ pub mod TurnFences
 mod TurnGrants
 mod TurnNumbers
 pub mod Turns
-pub mod Unhindered
+mod Unhindered

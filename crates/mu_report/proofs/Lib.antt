@@ -4,7 +4,7 @@ mod LiveLines
 mod Lists
 mod Pages
 mod Prints
-pub mod Sentences
+mod Sentences
 mod Sizes
 mod Summaries
 mod Traces
