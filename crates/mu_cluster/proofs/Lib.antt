@@ -10,6 +10,7 @@ pub mod Living
 pub mod LogCommands
 pub mod Naming
 pub mod Onward
+pub mod Outliving
 pub mod Outrunning
 pub mod Ports
 pub mod Rounding
