@@ -25,7 +25,7 @@ use Rattle.mu_cluster.proofs.Naming.{AreUnpaused, none_here}
 use Rattle.mu_cluster.proofs.Turning.{asks_late}
 
 -- the first ask of a leadership
-begins_ask : (r by : ℕ) (verb : Verb) (answer : Answer) → begins_leadership r (record { by = by; verb = verb; answer = answer }) ≡ true → (by ≡ r) × (is_asking_verb 0 verb ≡ true)
+pub begins_ask : (r by : ℕ) (verb : Verb) (answer : Answer) → begins_leadership r (record { by = by; verb = verb; answer = answer }) ≡ true → (by ≡ r) × (is_asking_verb 0 verb ≡ true)
 begins_ask r by (Verb.Ask q) answer is = let parts = and_parts (by == r) (q == 0) is in (eqb-true by r parts.0, parts.1)
 begins_ask r by verb answer is = absurd (true≢false (sym is))
 

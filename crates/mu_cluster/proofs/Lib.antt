@@ -10,6 +10,7 @@ mod Living
 pub mod LogCommands
 mod Naming
 mod Onward
+pub mod Outliving
 mod Outrunning
 mod Ports
 mod Rounding

@@ -15,12 +15,12 @@ use Rattle.mu_outcome.specs.Completion.{Completes, HasAllCommands, IsCutShort}
 use Rattle.mu_outcome.specs.Entries.{commands_in, longest}
 use Rattle.mu_outcome.specs.Outcomes.{IsRun, journal_of}
 use Rattle.mu_outcome.proofs.Completing.{all_from_log, completes_over}
-use Rattle.mu_cluster.specs.Living.{AppliesAllUnpaused, HasAllInTime, is_left, is_stopped}
+use Rattle.mu_cluster.specs.Living.{AppliesAllWithFirst, HasAllWithFirst, is_left, is_stopped}
 use Rattle.mu_cluster.specs.Naming.{NoneOutrunUnpaused}
 use Rattle.mu_cluster.proofs.Agreeing.{agrees_of, over_order}
 
 -- the status is one of two
-done_or_not : (a b : ℕ) → (cond (a == b) Status.Done Status.Unfinished ≡ Status.Done) ⊎ (cond (a == b) Status.Done Status.Unfinished ≡ Status.Unfinished)
+pub done_or_not : (a b : ℕ) → (cond (a == b) Status.Done Status.Unfinished ≡ Status.Done) ⊎ (cond (a == b) Status.Done Status.Unfinished ≡ Status.Unfinished)
 done_or_not a b = go (a == b)
   where
     go : (t : Bool) → (cond t Status.Done Status.Unfinished ≡ Status.Done) ⊎ (cond t Status.Done Status.Unfinished ≡ Status.Unfinished)
@@ -36,7 +36,7 @@ never (s ∷ ss) r steps none stops = go (s.replica == r) (s.steps == steps) (st
     go true u w none stops ih = true≢false none
     go false u w none stops ih = ih none stops
 
-pub lives_of : (o : Outcome) → IsConfig o.job.config → HaveHeads o.job.config.width o.job.commands o.job.config.rows → IsRun o → NoneOutrunUnpaused o → AppliesAllUnpaused o → HasAllInTime o
+pub lives_of : (o : Outcome) → IsConfig o.job.config → HaveHeads o.job.config.width o.job.commands o.job.config.rows → IsRun o → NoneOutrunUnpaused o → AppliesAllWithFirst o → HasAllWithFirst o
 lives_of o good have run none applies unpaused left large enough =
     elim (done_or_not (length (commands_in o.job (longest o.logs))) (length o.job.commands)) [
       | inl done ↦ completes.done.0 done

@@ -37,7 +37,7 @@ use Rattle.mu_alive.proofs.Applying.{applies_all}
 use Rattle.mu_alive.proofs.Beginning.{grants_before, reads_before}
 use Rattle.mu_alive.proofs.Cutting.{located}
 use Rattle.mu_cluster.specs.declared.rounds.Seat.{Seat}
-use Rattle.mu_cluster.specs.Living.{AppliesAllUnpaused, is_left}
+use Rattle.mu_cluster.specs.Living.{AppliesAllWithFirst, is_left}
 use Rattle.mu_cluster.specs.Naming.{IsReached, NamesFirst}
 use Rattle.mu_cluster.specs.Rounds.{Played, part_of}
 use Rattle.mu_cluster.proofs.InStep.{StaysAhead, in_step}
@@ -80,13 +80,13 @@ near_both : (P Q R : List Event → Type 0) → ((now : List Event) → P now �
 near_both P Q R more [] p q = more [] p q
 near_both P Q R more (e ∷ past) p q = (near_both P Q R more past p.0 q.0, more (e ∷ past) p.1 q.1)
 
-near_self : (past : List Event) → AtEachMoment (λ now. (length (part 0 now) ≤ length (part 0 now) + 1) × (length (part 0 now) ≤ length (part 0 now) + 1)) past
-near_self [] = (omega arith, omega arith)
-near_self (e ∷ past) = (near_self past, (omega arith, omega arith))
+near_self : (a : ℕ) (past : List Event) → AtEachMoment (λ now. (length (part a now) ≤ length (part a now) + 1) × (length (part a now) ≤ length (part a now) + 1)) past
+near_self a [] = (omega arith, omega arith)
+near_self a (e ∷ past) = (near_self a past, (omega arith, omega arith))
 
--- where all take as many steps, all are near replica 0
-all_near : (c : Config) (live : ℕ → Bool) (events : List Event) (lengths : List ℕ) (rounds most : ℕ) → AreUnpaused c events lengths rounds → 0 < c.replicas → live 0 ≡ true → ((r : ℕ) → r < c.replicas → live r ≡ true → slice_index lengths r ≡ most) → AtEachMoment (IsNear c live 0) (history events)
-all_near c live events lengths rounds most run some lives all = each_near c.replicas live (λ r now. (length (part r now) ≤ length (part 0 now) + 1) × (length (part 0 now) ≤ length (part r now) + 1)) (history events) (λ r low there. one r low there (cases_eq r 0))
+-- where all take as many steps, all are near each
+pub all_near : (c : Config) (live : ℕ → Bool) (a : ℕ) (events : List Event) (lengths : List ℕ) (rounds most : ℕ) → AreUnpaused c events lengths rounds → a < c.replicas → live a ≡ true → ((r : ℕ) → r < c.replicas → live r ≡ true → slice_index lengths r ≡ most) → AtEachMoment (IsNear c live a) (history events)
+all_near c live a events lengths rounds most run some lives all = each_near c.replicas live (λ r now. (length (part r now) ≤ length (part a now) + 1) × (length (part a now) ≤ length (part r now) + 1)) (history events) (λ r low there. one r low there (cases_eq r a))
   where
     few : (r : ℕ) → r < c.replicas → live r ≡ true → length (part r (history events)) ≤ most
     few r low there = let taken = run.taken r low in let is = all r low there in omega (arith, taken, is)
@@ -99,11 +99,11 @@ all_near c live events lengths rounds most run some lives all = each_near c.repl
         let limit = few r inside here in
         near_one step.lead q (slice_index lengths q) r (history events) step.each (omega (arith, limit, is))
 
-    one : (r : ℕ) → r < c.replicas → live r ≡ true → (r ≡ 0) ⊎ (r ≢ 0) → AtEachMoment (λ now. (length (part r now) ≤ length (part 0 now) + 1) × (length (part 0 now) ≤ length (part r now) + 1)) (history events)
-    one r low there (inl same) = subst (λ i. AtEachMoment (λ now. (length (part i now) ≤ length (part 0 now) + 1) × (length (part 0 now) ≤ length (part i now) + 1)) (history events)) (sym same) (near_self (history events))
+    one : (r : ℕ) → r < c.replicas → live r ≡ true → (r ≡ a) ⊎ (r ≢ a) → AtEachMoment (λ now. (length (part r now) ≤ length (part a now) + 1) × (length (part a now) ≤ length (part r now) + 1)) (history events)
+    one r low there (inl same) = subst (λ i. AtEachMoment (λ now. (length (part i now) ≤ length (part a now) + 1) × (length (part a now) ≤ length (part i now) + 1)) (history events)) (sym same) (near_self a (history events))
     one r low there (inr other) =
-        near_both (λ now. length (part r now) ≤ length (part 0 now) + 1) (λ now. length (part 0 now) ≤ length (part r now) + 1) (λ now. (length (part r now) ≤ length (part 0 now) + 1) × (length (part 0 now) ≤ length (part r now) + 1)) (λ now x y. (x, y)) (history events)
-        (behind 0 r (λ same. other (sym same)) some lives low there) (behind r 0 other low there some lives)
+        near_both (λ now. length (part r now) ≤ length (part a now) + 1) (λ now. length (part a now) ≤ length (part r now) + 1) (λ now. (length (part r now) ≤ length (part a now) + 1) × (length (part a now) ≤ length (part r now) + 1)) (λ now x y. (x, y)) (history events)
+        (behind a r (λ same. other (sym same)) some lives low there) (behind r a other low there some lives)
 
 -- some event passes in two lists, or in one turned round
 has_both : (test : Event → Bool) (xs ys : List Event) → has test xs ≡ true → has test (xs ++ ys) ≡ true
@@ -173,7 +173,7 @@ names_itself : (c : Config) (mine : List Event) → 0 < c.replicas → AtEachMom
 names_itself c [] some = eq-eqb (leader c 0 []) 0 (first_named c 0 [] some (λ other. absurd (other refl)))
 names_itself c (e ∷ mine) some = (names_itself c mine some, eq-eqb (leader c 0 (e ∷ mine)) 0 (first_named c 0 (e ∷ mine) some (λ other. absurd (other refl))))
 
-none_of : (c : Config) (r : ℕ) (mine : List Event) (o : Option (ℕ × ℕ)) → outrun c r mine ≡ o → ((p i : ℕ) → outrun c r mine ≡ Some (p, i) → ⊥) → outrun c r mine ≡ None
+pub none_of : (c : Config) (r : ℕ) (mine : List Event) (o : Option (ℕ × ℕ)) → outrun c r mine ≡ o → ((p i : ℕ) → outrun c r mine ≡ Some (p, i) → ⊥) → outrun c r mine ≡ None
 none_of c r mine None is none = is
 none_of c r mine (Some (p, i)) is none = absurd (none p i is)
 
@@ -186,7 +186,7 @@ leads_alone c live events front older last lengths rounds good run names lives m
   majority = majority;
   legal = legal_older c front (last ∷ older) (subst (IsLegalHistory c) is run.legal);
   alone = (asks_alone c events (front ++ last ∷ []) older names (more_front events front older last is) (has_later (λ f. f.by == 0) front (last ∷ []) (ap (λ t. cond t true false) (eq-eqb last.by 0 own))), λ p asked. own);
-  near = moments_before (IsNear c live 0) front (last ∷ older) (subst (AtEachMoment (IsNear c live 0)) is (all_near c live events lengths rounds c.budget run some lives all));
+  near = moments_before (IsNear c live 0) front (last ∷ older) (subst (AtEachMoment (IsNear c live 0)) is (all_near c live 0 events lengths rounds c.budget run some lives all));
   reads = λ r low _. reads_before c r (part r front) (part r (last ∷ older)) (subst (ReadsInTime c r) (split r) (diligent r low).heartbeat_pace);
   grants = λ r low _. grants_before c r (part r front) (part r (last ∷ older)) (subst (GrantsInTime c r) (split r) (diligent r low).grant_pace);
   asks = subst (AsksInTime c 0) (sym same) (diligent 0 some).election_pace;
@@ -224,7 +224,7 @@ holds_in c live events lengths rounds good run names lives majority all diligent
         ∙ applies_all c live 0 (last ∷ at.older) good large lone (others, λ j k x wrote. at.own) (subst (λ l. steps_enough c ≤ length l) (sym same) long)
 
 -- in what a replay leaves
-pub applies_of : (o : Outcome) (order : Record) (seats : List Seat) (rounds : ℕ) → IsConfig o.job.config → (run : IsRun o) → o.order ≡ Some order → Played o.job.config o.job.script order.events seats rounds 0 → AreDiligent o → AppliesAllUnpaused o
+pub applies_of : (o : Outcome) (order : Record) (seats : List Seat) (rounds : ℕ) → IsConfig o.job.config → (run : IsRun o) → o.order ≡ Some order → Played o.job.config o.job.script order.events seats rounds 0 → AreDiligent o → AppliesAllWithFirst o
 applies_of o order seats rounds good run given played diligent unpaused left large enough spent =
     let c = o.job.config in
     let all = unpaused_of o order seats rounds run given played unpaused in

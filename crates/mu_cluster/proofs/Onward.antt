@@ -40,6 +40,7 @@ use Rattle.mu_pace.proofs.Counting.{last_moment, moments_before, steps_before}
 use Rattle.mu_alive.specs.Turns.{AreInTurn, is_own_min}
 use Rattle.mu_alive.proofs.Beginning.{begins_now, cause_is}
 use Rattle.mu_alive.proofs.Cutting.{Located, cut, located, met}
+use Rattle.mu_alive.proofs.Failing.{beat_verb, quiet_beats, quiet_last}
 use Rattle.mu_alive.proofs.TurnFences.{lead_on_moments, turns_lead_on}
 use Rattle.mu_alive.proofs.Turns.{begun-part, min_begun, min_leads}
 use Rattle.mu_cluster.specs.declared.rounds.Seat.{Seat}
@@ -59,7 +60,7 @@ beat_read-own r q = record { own = λ e h. go e.by e.verb e.answer h }
     go by (Verb.ReadBeat p) (Answer.Number x) h = rw h refl
     go by v a h = refl
 
-score-part : (r q : ℕ) (past : List Event) → score r q (part r past) ≡ score r q past
+pub score-part : (r q : ℕ) (past : List Event) → score r q (part r past) ≡ score r q past
 score-part r q [] = refl
 score-part r q (e ∷ past) = go (e.by == r) refl (score-part r q past)
   where
@@ -91,19 +92,7 @@ failed_points r q (e ∷ past) failed = go (beat_read r q e.by e.verb e.answer) 
     go None failed ih = ih failed
     go (Some x) failed ih = few_points (points_after (score r q past).0 (not (x == or_zero (newest (λ f. beat_read r q f.by f.verb f.answer) past)))) (score r q past).1 failed
 
--- where q makes no event its count stays, and so does a failed score
-quiet_beats : (q : ℕ) (newer older : List Event) → length (part q newer) ≡ 0 → beats q (newer ++ older) ≡ beats q older
-quiet_beats q [] older none = refl
-quiet_beats q (e ∷ newer) older none = go (e.by == q) refl none (quiet_beats q newer older)
-  where
-    other : (by : ℕ) (verb : Verb) → (by == q) ≡ false → is_beat_by q by verb ≡ false
-    other by Verb.Beat h = h
-    other by verb h = refl
-
-    go : (t : Bool) → (e.by == q) ≡ t → length (cond t (e ∷ part q newer) (part q newer)) ≡ 0 → (length (part q newer) ≡ 0 → beats q (newer ++ older) ≡ beats q older) → cond (is_beat_by q e.by e.verb) (beats q (newer ++ older) + 1) (beats q (newer ++ older)) ≡ beats q older
-    go true is none ih = absurd (omega (arith, none))
-    go false is none ih = ap (λ t. cond t (beats q (newer ++ older) + 1) (beats q (newer ++ older))) (other e.by e.verb is) ∙ ih none
-
+-- where q makes no event a failed score stays
 record StaysFailed (r q : ℕ) (count : ℕ) (past : List Event) : Type 0 where
   failed : (score r q past).1 ≡ false
   last : last_count r q past ≡ count
@@ -143,32 +132,6 @@ quiet_failed c r q (e ∷ newer) older legal none was =
 
     fewer : length (part q newer) ≡ 0
     fewer = less (e.by == q) none
-
--- what was read of the count stays
-quiet_last : (c : Config) (r q : ℕ) (newer older : List Event) → IsLegalHistory c (newer ++ older) → length (part q newer) ≡ 0 → last_count r q older ≡ beats q older → last_count r q (newer ++ older) ≡ beats q older
-quiet_last c r q [] older legal none seen = seen
-quiet_last c r q (e ∷ newer) older legal none seen =
-    ap (λ o. or_zero (newer_or o (newest (λ f. beat_read r q f.by f.verb f.answer) (newer ++ older)))) (ap (beat_read r q e.by e.verb) legal.1.answer) ∙ read e.by e.verb (quiet_last c r q newer older legal.0 fewer seen)
-  where
-    less : (t : Bool) → length (cond t (e ∷ part q newer) (part q newer)) ≡ 0 → length (part q newer) ≡ 0
-    less true none = absurd (omega (arith, none))
-    less false none = none
-
-    fewer : length (part q newer) ≡ 0
-    fewer = less (e.by == q) none
-
-    read : (by : ℕ) (verb : Verb) → last_count r q (newer ++ older) ≡ beats q older → or_zero (newer_or (beat_read r q by verb (answer_of c by (newer ++ older) verb)) (newest (λ f. beat_read r q f.by f.verb f.answer) (newer ++ older))) ≡ beats q older
-    read by (Verb.ReadBeat p) ih = go (by == r) (p == q) refl
-      where
-        go : (t u : Bool) → (p == q) ≡ u → or_zero (newer_or (cond (t && u) (Some (beats p (newer ++ older))) None) (newest (λ f. beat_read r q f.by f.verb f.answer) (newer ++ older))) ≡ beats q older
-        go true true hu = ap (λ x. beats x (newer ++ older)) (eqb-true p q hu) ∙ quiet_beats q newer older fewer
-        go true false hu = ih
-        go false u hu = ih
-    read by verb ih = ih
-
-beat_verb : (q : ℕ) (verb : Verb) → is_beat_read_verb q verb ≡ true → verb ≡ Verb.ReadBeat q
-beat_verb q (Verb.ReadBeat p) h = ap (λ x. Verb.ReadBeat x) (eqb-true p q h)
-beat_verb q verb h = absurd (true≢false (sym h))
 
 -- who asks has read the last count of each lower one
 count_settled : (c : Config) (events : List Event) (lengths : List ℕ) (rounds : ℕ) (front older : List Event) (a : Event) (q : ℕ) → AreUnpaused c events lengths rounds → ((p : ℕ) → p < c.replicas → ReadsInTime c p (part_of p events)) → history events ≡ front ++ a ∷ older → is_asking 0 a ≡ true → q < a.by
@@ -219,11 +182,11 @@ none_least : (n : ℕ) (test : ℕ → Bool) → ((q : ℕ) → q < n → test q
 none_least zero test fails = refl
 none_least (suc n) test fails = let one : n + 1 ≡ suc n = omega arith in subst (λ m. least_below m test ≡ m) one (least_next test n (none_least n test (λ q low. fails q (omega (arith, low)))) (fails n (omega arith)))
 
-names_own : (c : Config) (r : ℕ) (mine : List Event) → r < c.replicas → ((q : ℕ) → q < r → (score r q mine).1 ≡ false) → leader c r mine ≡ r
+pub names_own : (c : Config) (r : ℕ) (mine : List Event) → r < c.replicas → ((q : ℕ) → q < r → (score r q mine).1 ≡ false) → leader c r mine ≡ r
 names_own c r mine inside failed = least_found (may_lead r mine) c.replicas r (none_least r (may_lead r mine) (λ q below. failed_follows r q mine below (failed q below))) (own_leads r mine) inside
 
 -- who asked names itself from then on
-stays_named : (c : Config) (events : List Event) (lengths : List ℕ) (rounds : ℕ) (front newer older : List Event) (a : Event) → AreUnpaused c events lengths rounds → ((p : ℕ) → p < c.replicas → ReadsInTime c p (part_of p events)) → history events ≡ front ++ (newer ++ a ∷ older) → is_asking 0 a ≡ true
+pub stays_named : (c : Config) (events : List Event) (lengths : List ℕ) (rounds : ℕ) (front newer older : List Event) (a : Event) → AreUnpaused c events lengths rounds → ((p : ℕ) → p < c.replicas → ReadsInTime c p (part_of p events)) → history events ≡ front ++ (newer ++ a ∷ older) → is_asking 0 a ≡ true
     → leader c a.by (part a.by older) ≡ a.by → leader c a.by (part a.by (newer ++ a ∷ older)) ≡ a.by
 stays_named c events lengths rounds front newer older a run reads is asks named = names_own c a.by (part a.by (newer ++ a ∷ older)) inside failed
   where
@@ -274,10 +237,10 @@ none_unnamed c r (e ∷ newer) older a begins own named all = go (e.by == r) (no
     go false ih = ih
 
 -- what the nodes of a replay keep
-record AreNodes (c : Config) (events : List Event) : Type 0 where
-  reads : (p : ℕ) → p < c.replicas → ReadsInTime c p (part_of p events)
-  order : (p : ℕ) → p < c.replicas → InCycleOrder c p (part_of p events)
-  led : (p : ℕ) → p < c.replicas → AtEachStep (LeaderKeeps c p) (part_of p events)
+pub record AreNodes (c : Config) (events : List Event) : Type 0 where
+  pub reads : (p : ℕ) → p < c.replicas → ReadsInTime c p (part_of p events)
+  pub order : (p : ℕ) → p < c.replicas → InCycleOrder c p (part_of p events)
+  pub led : (p : ℕ) → p < c.replicas → AtEachStep (LeaderKeeps c p) (part_of p events)
 
 -- who has read a minimum asks no more
 asks_once : (c : Config) (events : List Event) (lengths : List ℕ) (rounds : ℕ) (front past : List Event) (e : Event) → c.replicas < 8 → AreUnpaused c events lengths rounds → AreNodes c events → history events ≡ front ++ e ∷ past → AreInTurn past → e.verb ≡ Verb.Ask 0 → has (is_own_min e.by) past ≡ true → ⊥
@@ -311,7 +274,7 @@ asks_once c events lengths rounds front past e few run nodes is turns verb some 
             asker_named c a.event.by 0 (part a.event.by a.older) a.event made a.asks
 
 -- so each event is in turn
-in_turn : (c : Config) (events : List Event) (lengths : List ℕ) (rounds : ℕ) (front past : List Event) → c.replicas < 8 → AreUnpaused c events lengths rounds → AreNodes c events → history events ≡ front ++ past → AreInTurn past
+pub in_turn : (c : Config) (events : List Event) (lengths : List ℕ) (rounds : ℕ) (front past : List Event) → c.replicas < 8 → AreUnpaused c events lengths rounds → AreNodes c events → history events ≡ front ++ past → AreInTurn past
 in_turn c events lengths rounds front [] few run nodes is = tt
 in_turn c events lengths rounds front (e ∷ past) few run nodes is =
     let ih = in_turn c events lengths rounds (front ++ e ∷ []) past few run nodes (is ∙ sym (append_assoc front (e ∷ []) past)) in
@@ -329,25 +292,27 @@ in_turn c events lengths rounds front (e ∷ past) few run nodes is =
     none true some turns verb = absurd (asks_once c events lengths rounds front past e few run nodes is turns verb some)
     none false some turns verb = refl
 
+-- the journals that a replay leaves
+pub journal_part : (o : Outcome) (run : IsRun o) (r : ℕ) → r < o.job.config.replicas → history (journal_of o r) ≡ part_of r run.order.events
+journal_part o run r low = ap (λ l. history (or_empty l)) (run.parts.each r low) ∙ history-part r run.order.events
+
+pub nodes_of : (o : Outcome) (order : Record) (seats : List Seat) (rounds : ℕ) (run : IsRun o) → o.order ≡ Some order → Played o.job.config o.job.script order.events seats rounds 0 → AreDiligent o → AreNodes o.job.config run.order.events
+nodes_of o order seats rounds run given played diligent = record {
+  reads = λ p low. subst (ReadsInTime o.job.config p) (journal_part o run p low) (diligent p low).heartbeat_pace;
+  order = λ p low. let found = item_below seats p (omega (arith, low, count)) in subst (λ (x : Record). InCycleOrder o.job.config p (part_of p x.events)) (same_some order run.order (sym given ∙ run.given)) (played.waits p found.0 found.1 (omega arith)).stands.cycle;
+  led = λ p low. let found = item_below seats p (omega (arith, low, count)) in subst (λ (x : Record). AtEachStep (LeaderKeeps o.job.config p) (part_of p x.events)) (same_some order run.order (sym given ∙ run.given)) (played.waits p found.0 found.1 (omega arith)).stands.led;
+}
+  where
+    count : length seats ≡ o.job.config.replicas
+    count = played.count
+
 -- in what a replay leaves
 pub leads_of : (o : Outcome) (order : Record) (seats : List Seat) (rounds : ℕ) → IsConfig o.job.config → (run : IsRun o) → o.order ≡ Some order → Played o.job.config o.job.script order.events seats rounds 0 → AreDiligent o → LeadOnUnpaused o
 leads_of o order seats rounds good run given played diligent unpaused r newer older low is =
     let c = o.job.config in
     let all = unpaused_of o order seats rounds run given played unpaused in
     let few : c.replicas < 8 = (let most = good.replicas.1 in omega (arith, most)) in
+    let nodes = nodes_of o order seats rounds run given played diligent in
     let turns = in_turn c run.order.events (map (λ journal. length (events_of journal)) o.journals) run.turns.rounds [] (history run.order.events) few all nodes refl in
     let moments = lead_on_moments c r (history run.order.events) all.legal turns few in
-    last_moment (λ now. is_over r now ≡ false) older (moments_before (λ now. is_over r now ≡ false) newer older (subst (AtEachMoment (λ now. is_over r now ≡ false)) (sym (journal r low) ∙ is) moments))
-  where
-    journal : (r : ℕ) → r < o.job.config.replicas → history (journal_of o r) ≡ part_of r run.order.events
-    journal r low = ap (λ l. history (or_empty l)) (run.parts.each r low) ∙ history-part r run.order.events
-
-    count : length seats ≡ o.job.config.replicas
-    count = played.count
-
-    nodes : AreNodes o.job.config run.order.events
-    nodes = record {
-      reads = λ p low. subst (ReadsInTime o.job.config p) (journal p low) (diligent p low).heartbeat_pace;
-      order = λ p low. let found = item_below seats p (omega (arith, low, count)) in subst (λ (x : Record). InCycleOrder o.job.config p (part_of p x.events)) (same_some order run.order (sym given ∙ run.given)) (played.waits p found.0 found.1 (omega arith)).stands.cycle;
-      led = λ p low. let found = item_below seats p (omega (arith, low, count)) in subst (λ (x : Record). AtEachStep (LeaderKeeps o.job.config p) (part_of p x.events)) (same_some order run.order (sym given ∙ run.given)) (played.waits p found.0 found.1 (omega arith)).stands.led;
-    }
+    last_moment (λ now. is_over r now ≡ false) older (moments_before (λ now. is_over r now ≡ false) newer older (subst (AtEachMoment (λ now. is_over r now ≡ false)) (sym (journal_part o run r low) ∙ is) moments))

@@ -11,6 +11,7 @@ use Rattle.mu_model.specs.Leaderships.{majority_of}
 use Rattle.mu_outcome.specs.declared.outcome.Outcome.{Outcome}
 use Rattle.mu_outcome.specs.Completion.{HasAllCommands}
 use Rattle.mu_outcome.specs.Outcomes.{log_of}
+use Rattle.mu_cluster.specs.Outliving.{CommitsAllAfterStops, KnowsAllUnpaused}
 
 -- a line of the script stops r
 abbrev pub is_stopped : List Stop → ℕ → Bool
@@ -28,8 +29,8 @@ pub record LeavesMajority (c : Config) (stops : List Stop) : Type 0 where
 
 -- where its script has no pause and leaves a majority with replica 0, its ring is large and its
 -- budget enough, replica 0 has every row in its log, should these replicas have spent their budgets
-abbrev pub AppliesAllUnpaused : Outcome → Type 0
-AppliesAllUnpaused o =
+abbrev pub AppliesAllWithFirst : Outcome → Type 0
+AppliesAllWithFirst o =
     o.job.script.pauses ≡ [] → LeavesMajority o.job.config o.job.script.stops
     → HasLargeRing o.job.config → steps_enough o.job.config ≤ o.job.config.budget
     → ((r : ℕ) → r < o.job.config.replicas → is_left o.job.script.stops r ≡ true
@@ -37,8 +38,19 @@ AppliesAllUnpaused o =
     → holds_all o.job.config (log_of o 0) ≡ true
 
 -- so there it has every command, whenever the others stop
-abbrev pub HasAllInTime : Outcome → Type 0
-HasAllInTime o =
+abbrev pub HasAllWithFirst : Outcome → Type 0
+HasAllWithFirst o =
     o.job.script.pauses ≡ [] → LeavesMajority o.job.config o.job.script.stops
     → HasLargeRing o.job.config → steps_enough o.job.config ≤ o.job.config.budget
     → HasAllCommands o
+
+-- what holds of the replicas where their budgets are spent: where replica 0 isn't stopped, and where
+-- any are
+pub record AppliesAllUnpaused (o : Outcome) : Type 0 where
+  pub first : AppliesAllWithFirst o
+  pub last : KnowsAllUnpaused o
+
+-- a replay stays alive: with replica 0 it has every command, and without it each is committed
+pub record HasAllInTime (o : Outcome) : Type 0 where
+  pub first : HasAllWithFirst o
+  pub last : CommitsAllAfterStops o

@@ -1,0 +1,228 @@
+-- In a replay without a pause the least replica that isn't stopped leads on where the leaders below it were.
+use Rattle.std.proofs.Common.{◌≡◌, ◌∙◌, ◌≢◌, ◌⊎◌, ℕ, ◌+◌, ◌<◌, ◌≤◌, ◌==◌, inl, inr, Bool, true, false, cond, None, Some, List, [], ◌∷◌, ◌++◌, ap, append_assoc, arith, eqb-true, length, map, refl, subst, sym}
+use Rattle.std.specs.declared.option.Option.{Option}
+use Rattle.std.specs.Prelude.{not, slice_index}
+use Rattle.std.specs.List.{slice_get}
+use Rattle.std.proofs.lemmas.Bool.{eq-eqb, true≢false}
+use Rattle.std.proofs.lemmas.List.{length-append, length-reverse}
+use Rattle.mu_agree.proofs.Legal.{legal_older}
+use Rattle.mu_input.specs.Heads.{HaveHeads}
+use Rattle.mu_model.specs.declared.config.Config.{Config}
+use Rattle.mu_model.specs.declared.event.Event.{Event}
+use Rattle.mu_model.specs.declared.script.End.{End}
+use Rattle.mu_model.specs.Contents.{IsConfig}
+use Rattle.mu_model.specs.Diligence.{AsksInTime, GrantsInTime, IsDiligent, ReadsInTime}
+use Rattle.mu_model.specs.Ends.{EndsBy, outrun}
+use Rattle.mu_model.specs.Histories.{count_below, history, part}
+use Rattle.mu_model.specs.Journals.{Record}
+use Rattle.mu_model.specs.Leaderships.{begins_leadership, has_begun, majority_of}
+use Rattle.mu_model.specs.Legal.{IsLegalHistory}
+use Rattle.mu_model.specs.Scores.{is_failed, leader, score}
+use Rattle.mu_model.specs.Steps.{knows_all}
+use Rattle.mu_model.proofs.Basics.{same_some}
+use Rattle.mu_model.proofs.Parts.{filter-append}
+use Rattle.mu_node.specs.Journal.{WasMade}
+use Rattle.mu_node.proofs.Naming.{asker_named}
+use Rattle.mu_outcome.specs.declared.outcome.Outcome.{Outcome}
+use Rattle.mu_outcome.specs.declared.status.Status.{Status}
+use Rattle.mu_outcome.specs.Completion.{Completes, HasAllCommands, IsCutShort}
+use Rattle.mu_outcome.specs.Entries.{commands_in, longest}
+use Rattle.mu_outcome.specs.Outcomes.{IsRun, events_of, journal_of}
+use Rattle.mu_outcome.proofs.Completing.{completes_over}
+use Rattle.mu_pace.specs.Collecting.{LeaderKeeps}
+use Rattle.mu_pace.specs.Counters.{AtEachMoment, AtEachStep}
+use Rattle.mu_pace.proofs.Counting.{moments_before}
+use Rattle.mu_alive.specs.Enough.{HasLargeRing}
+use Rattle.mu_alive.specs.Failing.{failing_steps}
+use Rattle.mu_alive.specs.Last.{LeadsLast, NamesItself, last_steps}
+use Rattle.mu_alive.specs.Lone.{IsNear}
+use Rattle.mu_alive.specs.Turns.{AreInTurn}
+use Rattle.mu_alive.proofs.Beginning.{grants_before, reads_before}
+use Rattle.mu_alive.proofs.Cutting.{Located, cut, located}
+use Rattle.mu_alive.proofs.Failing.{held_failed}
+use Rattle.mu_alive.proofs.Lasting.{last_knows_all}
+use Rattle.mu_alive.proofs.TurnGrants.{turns_before}
+use Rattle.mu_alive.proofs.Turns.{begun-part, not_begun}
+use Rattle.mu_cluster.specs.declared.rounds.Seat.{Seat}
+use Rattle.mu_cluster.specs.Naming.{NoneOutrunUnpaused}
+use Rattle.mu_cluster.specs.Outliving.{CommitsAllAfterStops, GoesOnWith, HasTimeAfter, KnowsAllUnpaused, is_stop, steps_after, was_stopped}
+use Rattle.mu_cluster.specs.Paces.{AreDiligent}
+use Rattle.mu_cluster.specs.Rounds.{Played, part_of}
+use Rattle.mu_cluster.proofs.Agreeing.{agrees_of, over_order}
+use Rattle.mu_cluster.proofs.InTurn.{asked, begins_ask, insider, none_left}
+use Rattle.mu_cluster.proofs.Living.{all_near, none_of}
+use Rattle.mu_cluster.proofs.Lives.{done_or_not}
+use Rattle.mu_cluster.proofs.Naming.{AreUnpaused, part_before, part_step, unpaused_of}
+use Rattle.mu_cluster.proofs.Onward.{AreNodes, in_turn, journal_part, names_own, nodes_of, score-part, stays_named}
+use Rattle.mu_cluster.proofs.Outrunning.{none_outrun}
+use Rattle.mu_cluster.proofs.Turning.{outlasted}
+
+-- who makes no events has none
+none_there : (events : List Event) → length events ≡ 0 → events ≡ []
+none_there [] none = refl
+none_there (e ∷ events) none = absurd (omega (arith, none))
+
+-- r's event after so many of its own
+record After (n : ℕ) (mine : List Event) : Type 0 where
+  top : List Event
+  event : Event
+  bottom : List Event
+  is : mine ≡ top ++ event ∷ bottom
+  count : length bottom ≡ n
+
+after : (n : ℕ) (mine : List Event) → n < length mine → After n mine
+after n mine more =
+    let one = cut (n + 1) mine (omega (arith, more)) in
+    go one.newer one.rest one.is one.count
+  where
+    go : (newer rest : List Event) → mine ≡ newer ++ rest → length rest ≡ n + 1 → After n mine
+    go newer [] is count = absurd (omega (arith, count))
+    go newer (e ∷ rest) is count = record { top = newer; event = e; bottom = rest; is = is; count = omega (arith, count) }
+
+-- a replica that has ended is held failed so many steps of the reader after
+fails_then : (c : Config) (events : List Event) (lengths : List ℕ) (rounds q r : ℕ) (newer older : List Event) → AreUnpaused c events lengths rounds → ReadsInTime c r (part_of r events) → history events ≡ newer ++ older → q < c.replicas → r < c.replicas → q ≢ r
+    → length (part_of q events) + failing_steps c ≤ length (part r older) → is_failed r q older ≡ true
+fails_then c events lengths rounds q r newer older run reads is low inside other late = found (after (length (part_of q events)) (part r older) (omega (arith, late)))
+  where
+    there : (a : After (length (part_of q events)) (part r older)) → Located r older a.event a.bottom → is_failed r q older ≡ true
+    there a l =
+        let whole : history events ≡ (newer ++ l.newer) ++ a.event ∷ l.older = is ∙ ap (λ y. newer ++ y) l.is ∙ sym (append_assoc newer l.newer (a.event ∷ l.older)) in
+        let split : older ≡ (l.newer ++ a.event ∷ []) ++ l.older = l.is ∙ sym (append_assoc l.newer (a.event ∷ []) l.older) in
+        let same = ap length l.before in
+        let count = a.count in
+        let gone = outlasted c events lengths rounds q r (newer ++ l.newer) l.older a.event run whole l.own low other (omega (arith, same, count)) in
+        let quiet = none_left c events newer (l.newer ++ a.event ∷ []) l.older q (is ∙ ap (λ y. newer ++ y) split) gone in
+        let parts = ap (λ y. length (part r y)) split ∙ ap length (filter-append (λ e. e.by == r) (l.newer ++ a.event ∷ []) l.older) ∙ length-append (part r (l.newer ++ a.event ∷ [])) (part r l.older) in
+        let legal = legal_older c newer older (subst (IsLegalHistory c) is run.legal) in
+        let mine : part_of r events ≡ part r newer ++ part r older = ap (part r) is ∙ filter-append (λ e. e.by == r) newer older in
+        let paced = reads_before c r (part r newer) (part r older) (subst (ReadsInTime c r) mine reads) in
+        ap (is_failed r q) split
+        ∙ held_failed c q r (l.newer ++ a.event ∷ []) l.older low other (subst (IsLegalHistory c) split legal) (none_there (part q (l.newer ++ a.event ∷ [])) quiet) (subst (λ y. ReadsInTime c r (part r y)) split paced) (omega (arith, parts, same, count, late))
+
+    found : After (length (part_of q events)) (part r older) → is_failed r q older ≡ true
+    found a = there a (located r older a.top a.bottom a.event a.is)
+
+-- so the least that goes on names itself then
+named_then : (c : Config) (events : List Event) (lengths : List ℕ) (rounds a : ℕ) (newer older : List Event) → AreUnpaused c events lengths rounds → ReadsInTime c a (part_of a events) → history events ≡ newer ++ older → a < c.replicas
+    → ((q : ℕ) → q < a → length (part_of q events) + failing_steps c ≤ length (part a older)) → leader c a (part a older) ≡ a
+named_then c events lengths rounds a newer older run reads is inside late = names_own c a (part a older) inside (λ q below. ap (λ s. s.1) (score-part a q older) ∙ dead (score a q older).1 (fails_then c events lengths rounds q a newer older run reads is (omega (arith, below, inside)) inside (λ same. omega (arith, same, below)) (late q below)))
+  where
+    dead : (t : Bool) → not t ≡ true → t ≡ false
+    dead true is = absurd (true≢false (sym is))
+    dead false is = refl
+
+-- and once it has asked
+begun_named : (c : Config) (events : List Event) (lengths : List ℕ) (rounds a : ℕ) (newer older : List Event) → AreUnpaused c events lengths rounds → AreNodes c events → history events ≡ newer ++ older → has_begun a (part a older) ≡ true → leader c a (part a older) ≡ a
+begun_named c events lengths rounds a newer older run nodes is begun =
+    let k = asked a older (sym (begun-part a older) ∙ begun) in
+    let whole : history events ≡ newer ++ (k.newer ++ k.event ∷ k.older) = is ∙ ap (λ l. newer ++ l) k.is in
+    let at : history events ≡ (newer ++ k.newer) ++ k.event ∷ k.older = whole ∙ sym (append_assoc newer k.newer (k.event ∷ k.older)) in
+    let inside = insider c events lengths rounds (newer ++ k.newer) k.older k.event run at in
+    let there = subst (λ l. AtEachStep (WasMade c k.event.by) (part k.event.by l)) at (run.made k.event.by inside) in
+    let made = part_step (WasMade c k.event.by) k.older k.event (part_before (WasMade c k.event.by) k.event.by (newer ++ k.newer) (k.event ∷ k.older) there) in
+    let named = asker_named c k.event.by 0 (part k.event.by k.older) k.event made k.asks in
+    ap (λ l. leader c a (part a l)) k.is ∙ subst (λ i. leader c i (part i (k.newer ++ k.event ∷ k.older)) ≡ i) k.own (stays_named c events lengths rounds newer k.newer k.older k.event run nodes.reads whole k.asks named)
+
+-- what holds of each beginning of the list holds at each moment of a part
+moments_of : (a : ℕ) (P : List Event → Type 0) (past : List Event) → ((newer older : List Event) → past ≡ newer ++ older → P (part a older)) → AtEachMoment P (part a past)
+moments_of a P [] all = all [] [] refl
+moments_of a P (e ∷ past) all = go (e.by == a) refl (moments_of a P past (λ newer older is. all (e ∷ newer) older (ap (λ l. e ∷ l) is)))
+  where
+    go : (t : Bool) → (e.by == a) ≡ t → AtEachMoment P (part a past) → AtEachMoment P (cond t (e ∷ part a past) (part a past))
+    go true own rest = (rest, subst P (ap (λ t. cond t (e ∷ part a past) (part a past)) own) (all [] (e ∷ past) refl))
+    go false other rest = rest
+
+-- so it leads last up to its last event
+leads_last : (c : Config) (live : ℕ → Bool) (events front older : List Event) (last : Event) (lengths : List ℕ) (rounds a k : ℕ) → IsConfig c → AreUnpaused c events lengths rounds → AreNodes c events → a < c.replicas → live a ≡ true → majority_of c.replicas ≤ count_below c.replicas live
+    → ((r : ℕ) → r < c.replicas → live r ≡ true → slice_index lengths r ≡ c.budget) → ((q : ℕ) → q < a → length (part_of q events) ≤ k) → ((r : ℕ) → r < c.replicas → IsDiligent c r (part_of r events)) → history events ≡ front ++ last ∷ older → last.by ≡ a → part a (last ∷ older) ≡ part_of a events
+    → LeadsLast c live a (k + failing_steps c) (last ∷ older)
+leads_last c live events front older last lengths rounds a k good run nodes inside lives majority all short diligent is own same = record {
+  inside = inside;
+  lives = lives;
+  majority = majority;
+  legal = legal_older c front (last ∷ older) (subst (IsLegalHistory c) is run.legal);
+  turns = turns;
+  highest = λ w above. none_higher w above (begins_leadership w last) refl;
+  near = moments_before (IsNear c live a) front (last ∷ older) (subst (AtEachMoment (IsNear c live a)) is (all_near c live a events lengths rounds c.budget run inside lives all));
+  reads = λ r low _. reads_before c r (part r front) (part r (last ∷ older)) (subst (ReadsInTime c r) (split r) (diligent r low).heartbeat_pace);
+  grants = λ r low _. grants_before c r (part r front) (part r (last ∷ older)) (subst (GrantsInTime c r) (split r) (diligent r low).grant_pace);
+  asks = subst (AsksInTime c a) (sym same) (diligent a inside).election_pace;
+  led = subst (AtEachStep (LeaderKeeps c a)) (sym same) (nodes.led a inside);
+  named = moments_of a (NamesItself c a (k + failing_steps c)) (last ∷ older) (λ newer before split. itself newer before split);
+  going = ap (outrun c a) same ∙ none_of c a (part_of a events) (outrun c a (part_of a events)) refl (λ p i. none_outrun c events lengths rounds a p i good run inside);
+}
+  where
+    turns : AreInTurn (last ∷ older)
+    turns = turns_before front (last ∷ older) (subst AreInTurn is (in_turn c events lengths rounds [] (history events) (let most = good.replicas.1 in omega (arith, most)) run nodes refl))
+
+    none_higher : (w : ℕ) → a < w → (t : Bool) → begins_leadership w last ≡ t → has_begun w (last ∷ older) ≡ false
+    none_higher w above false not_it = ap (λ t. cond t true (has_begun w older)) not_it ∙ turns.1.last w (omega (arith, own, above))
+    none_higher w above true it = let by_w = (begins_ask w last.by last.verb last.answer it).0 in absurd (omega (arith, by_w, own, above))
+
+    split : (r : ℕ) → part_of r events ≡ part r front ++ part r (last ∷ older)
+    split r = ap (part r) is ∙ filter-append (λ e. e.by == r) front (last ∷ older)
+
+    itself : (newer before : List Event) → last ∷ older ≡ newer ++ before → NamesItself c a (k + failing_steps c) (part a before)
+    itself newer before cuts (inl late) =
+        eq-eqb (leader c a (part a before)) a
+        (named_then c events lengths rounds a (front ++ newer) before run (nodes.reads a inside) (is ∙ ap (λ l. front ++ l) cuts ∙ sym (append_assoc front newer before)) inside
+        (λ q below. let few = short q below in omega (arith, few, late)))
+    itself newer before cuts (inr begun) =
+        eq-eqb (leader c a (part a before)) a (begun_named c events lengths rounds a (front ++ newer) before run nodes (is ∙ ap (λ l. front ++ l) cuts ∙ sym (append_assoc front newer before)) begun)
+
+-- and knows every command
+knows_in : (c : Config) (live : ℕ → Bool) (events : List Event) (lengths : List ℕ) (rounds a k : ℕ) → IsConfig c → AreUnpaused c events lengths rounds → AreNodes c events → a < c.replicas → live a ≡ true → majority_of c.replicas ≤ count_below c.replicas live → ((r : ℕ) → r < c.replicas → live r ≡ true → slice_index lengths r ≡ c.budget)
+    → ((q : ℕ) → q < a → length (part_of q events) ≤ k) → ((r : ℕ) → r < c.replicas → IsDiligent c r (part_of r events)) → HasLargeRing c → k + steps_after c a ≤ c.budget → knows_all c a (part_of a events) ≡ true
+knows_in c live events lengths rounds a k good run nodes inside lives majority all short diligent large enough = go (part_of a events) refl
+  where
+    long : k + failing_steps c + last_steps c a ≤ length (part_of a events)
+    long = let taken = run.taken a inside in let is = all a inside lives in omega (arith, taken, is, enough)
+
+    go : (mine : List Event) → part_of a events ≡ mine → knows_all c a (part_of a events) ≡ true
+    go [] is = absurd (let none = ap length is in omega (arith, long, none))
+    go (last ∷ mine) is =
+        let at = located a (history events) [] mine last is in
+        let same : part a (last ∷ at.older) ≡ part_of a events = ap (λ t. cond t (last ∷ part a at.older) (part a at.older)) (eq-eqb last.by a at.own) ∙ ap (λ l. last ∷ l) at.before ∙ sym is in
+        let leads = leads_last c live events at.newer at.older last lengths rounds a k good run nodes inside lives majority all short diligent at.is at.own same in
+        ap (knows_all c a) (sym same) ∙ last_knows_all c live a (k + failing_steps c) (last ∷ at.older) good large leads (subst (λ l. k + failing_steps c + last_steps c a ≤ length l) (sym same) long)
+
+-- in what a replay leaves
+not_stopped : (t : Bool) → not t ≡ true → t ≡ false
+not_stopped true is = absurd (true≢false (sym is))
+not_stopped false is = refl
+
+pub knows_of : (o : Outcome) (order : Record) (seats : List Seat) (rounds : ℕ) → IsConfig o.job.config → (run : IsRun o) → o.order ≡ Some order → Played o.job.config o.job.script order.events seats rounds 0 → AreDiligent o → KnowsAllUnpaused o
+knows_of o order seats rounds good run given played diligent unpaused s k on time spent =
+    let c = o.job.config in
+    let all = unpaused_of o order seats rounds run given played unpaused in
+    let nodes = nodes_of o order seats rounds run given played diligent in
+    let knows = knows_in c (λ r. not (was_stopped o r)) run.order.events (map (λ journal. length (events_of journal)) o.journals) run.turns.rounds s k good all nodes on.inside (ap not on.left) on.majority
+    (λ r low there. all.taken r low ∙ ap length (sym (journal_part o run r low)) ∙ budget r low (not_stopped (was_stopped o r) there))
+    (λ q below. let inside = on.inside in let few = time.ended q below in let same = ap length (journal_part o run q (omega (arith, below, inside))) in let long = length-reverse (journal_of o q) in omega (arith, few, same, long))
+    (λ r low. subst (IsDiligent c r) (journal_part o run r low) (diligent r low)) time.large time.enough in
+    ap (knows_all c s) (journal_part o run s on.inside) ∙ knows
+  where
+    budget : (r : ℕ) → r < o.job.config.replicas → was_stopped o r ≡ false → length (history (journal_of o r)) ≡ o.job.config.budget
+    budget r low there = go (run.ended r low).0 (run.ended r low).1 (run.ended r low).2.ends
+      where
+        go : (end : End) → slice_get o.ends r ≡ Some end → EndsBy o.job.config o.job.script r (history (journal_of o r)) end → length (history (journal_of o r)) ≡ o.job.config.budget
+        go end is ends = (subst (EndsBy o.job.config o.job.script r (history (journal_of o r))) (same_some end End.Budget (sym is ∙ spent r low there)) ends).1
+
+pub commits_of : (o : Outcome) → IsConfig o.job.config → HaveHeads o.job.config.width o.job.commands o.job.config.rows → IsRun o → NoneOutrunUnpaused o → KnowsAllUnpaused o → CommitsAllAfterStops o
+commits_of o good have run none knows unpaused s k on time =
+    elim (done_or_not (length (commands_in o.job (longest o.logs))) (length o.job.commands)) [
+      | inl done ↦ inl (completes.done.0 done)
+      | inr open_yet ↦ (let lacks = completes.unfinished.0 open_yet in inr (knows unpaused s k on time (λ r low there. spent lacks r low there)))
+    ]
+  where
+    completes : Completes o
+    completes = completes_over o run.order.events good have (over_order o run) (agrees_of o good have run)
+
+    spent : (HasAllCommands o → ⊥) → (r : ℕ) → r < o.job.config.replicas → was_stopped o r ≡ false → slice_get o.ends r ≡ Some End.Budget
+    spent lacks r low there = go (run.ended r low).0 (run.ended r low).1 (completes.cut_short lacks r low)
+      where
+        go : (end : End) → slice_get o.ends r ≡ Some end → ((e : End) × (slice_get o.ends r ≡ Some e) × IsCutShort e) → slice_get o.ends r ≡ Some End.Budget
+        go End.Stopped is short = absurd (true≢false (sym (ap is_stop is) ∙ there))
+        go End.Budget is short = is
+        go (End.Outrun p i) is short = absurd (none unpaused r p i low is)
+        go (End.Finished heads) is short = absurd (subst IsCutShort (same_some short.0 (End.Finished heads) (sym short.1 ∙ is)) short.2)

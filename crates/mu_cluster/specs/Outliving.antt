@@ -1,0 +1,59 @@
+-- What a replay comes to where leaders are stopped, one after another.
+use Rattle.std.specs.Prelude.{Bool, List, Some, [], false, length, not, true, ℕ, ◌+◌, ◌<◌, ◌≡◌, ◌≤◌, ◌⊎◌}
+use Rattle.std.specs.declared.option.Option.{Option}
+use Rattle.std.specs.List.{slice_get}
+use Rattle.mu_alive.specs.Enough.{HasLargeRing}
+use Rattle.mu_alive.specs.Failing.{failing_steps}
+use Rattle.mu_alive.specs.Last.{last_steps}
+use Rattle.mu_model.specs.declared.config.Config.{Config}
+use Rattle.mu_model.specs.declared.script.End.{End}
+use Rattle.mu_model.specs.Histories.{count_below, history}
+use Rattle.mu_model.specs.Leaderships.{majority_of}
+use Rattle.mu_model.specs.Steps.{knows_all}
+use Rattle.mu_outcome.specs.declared.outcome.Outcome.{Outcome}
+use Rattle.mu_outcome.specs.Completion.{HasAllCommands}
+use Rattle.mu_outcome.specs.Outcomes.{journal_of}
+
+abbrev pub is_stop : Option End → Bool
+is_stop (Some End.Stopped) = true
+is_stop _ = false
+
+-- replica r was stopped: a line of the script whose step it reached
+abbrev pub was_stopped : Outcome → ℕ → Bool
+was_stopped o r = is_stop (slice_get o.ends r)
+
+-- a majority wasn't stopped, and s is the least of those
+pub record GoesOnWith (o : Outcome) (s : ℕ) : Type 0 where
+  pub inside : s < o.job.config.replicas
+  pub left : was_stopped o s ≡ false
+  pub lower : (r : ℕ) → r < s → was_stopped o r ≡ true
+  pub majority :
+      majority_of o.job.config.replicas
+      ≤ count_below o.job.config.replicas (λ r. not (was_stopped o r))
+
+-- so many steps after the last one of each lower replica s knows every command
+abbrev pub steps_after : Config → ℕ → ℕ
+steps_after c s = failing_steps c + last_steps c s
+
+-- each replica below s took at most k steps, and so many more are within the budget, with a ring
+-- that has a place for each entry
+pub record HasTimeAfter (o : Outcome) (s k : ℕ) : Type 0 where
+  pub ended : (r : ℕ) → r < s → length (journal_of o r) ≤ k
+  pub large : HasLargeRing o.job.config
+  pub enough : k + steps_after o.job.config s ≤ o.job.config.budget
+
+-- where the script has no pause the least replica that goes on with a majority knows every command,
+-- should those that weren't stopped have spent their budgets
+abbrev pub KnowsAllUnpaused : Outcome → Type 0
+KnowsAllUnpaused o =
+    o.job.script.pauses ≡ [] → (s k : ℕ) → GoesOnWith o s → HasTimeAfter o s k
+    → ((r : ℕ) → r < o.job.config.replicas → was_stopped o r ≡ false
+    → slice_get o.ends r ≡ Some End.Budget)
+    → knows_all o.job.config s (history (journal_of o s)) ≡ true
+
+-- so every command is committed there, whoever was stopped and when: it is in the longest log, or
+-- the least replica that goes on knows its place
+abbrev pub CommitsAllAfterStops : Outcome → Type 0
+CommitsAllAfterStops o =
+    o.job.script.pauses ≡ [] → (s k : ℕ) → GoesOnWith o s → HasTimeAfter o s k
+    → HasAllCommands o ⊎ (knows_all o.job.config s (history (journal_of o s)) ≡ true)
