@@ -11,6 +11,7 @@ pub mod LogCommands
 pub mod Naming
 pub mod Onward
 pub mod Outrunning
+pub mod Passes
 pub mod Ports
 pub mod Rounding
 pub mod RowsMade
