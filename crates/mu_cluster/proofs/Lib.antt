@@ -10,8 +10,8 @@ mod Living
 pub mod LogCommands
 mod Naming
 mod Onward
-pub mod Outliving
 mod Outrunning
+pub mod Passes
 mod Ports
 mod Rounding
 pub mod RowsMade
@@ -20,3 +20,4 @@ mod Trusting
 mod Turned
 mod Turning
 mod Wording
+pub mod Outliving

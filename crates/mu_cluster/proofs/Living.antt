@@ -42,7 +42,8 @@ use Rattle.mu_cluster.specs.Naming.{IsReached, NamesFirst}
 use Rattle.mu_cluster.specs.Rounds.{Played, part_of}
 use Rattle.mu_cluster.proofs.InStep.{StaysAhead, in_step}
 use Rattle.mu_cluster.specs.Paces.{AreDiligent}
-use Rattle.mu_cluster.proofs.Naming.{AreUnpaused, named_of, none_here, part_before, part_step, unpaused_of}
+use Rattle.mu_cluster.proofs.Passes.{has_both, has_history, has_later}
+use Rattle.mu_cluster.proofs.Naming.{AreUnpaused, before_end, named_of, none_here, part_before, part_step, unpaused_of}
 use Rattle.mu_cluster.proofs.Outrunning.{none_outrun}
 
 -- r is at most a step ahead of q at each moment
@@ -105,34 +106,6 @@ all_near c live a events lengths rounds most run some lives all = each_near c.re
         near_both (λ now. length (part r now) ≤ length (part a now) + 1) (λ now. length (part a now) ≤ length (part r now) + 1) (λ now. (length (part r now) ≤ length (part a now) + 1) × (length (part a now) ≤ length (part r now) + 1)) (λ now x y. (x, y)) (history events)
         (behind a r (λ same. other (sym same)) some lives low there) (behind r a other low there some lives)
 
--- some event passes in two lists, or in one turned round
-has_both : (test : Event → Bool) (xs ys : List Event) → has test xs ≡ true → has test (xs ++ ys) ≡ true
-has_both test [] ys some = absurd (true≢false (sym some))
-has_both test (x ∷ xs) ys some = go (test x) some (has_both test xs ys)
-  where
-    go : (t : Bool) → cond t true (has test xs) ≡ true → (has test xs ≡ true → has test (xs ++ ys) ≡ true) → cond t true (has test (xs ++ ys)) ≡ true
-    go true some ih = refl
-    go false some ih = ih some
-
-has_later : (test : Event → Bool) (xs ys : List Event) → has test ys ≡ true → has test (xs ++ ys) ≡ true
-has_later test [] ys some = some
-has_later test (x ∷ xs) ys some = go (test x) (has_later test xs ys some)
-  where
-    go : (t : Bool) → has test (xs ++ ys) ≡ true → cond t true (has test (xs ++ ys)) ≡ true
-    go true ih = refl
-    go false ih = ih
-
-has_history : (test : Event → Bool) (xs : List Event) → has test xs ≡ true → has test (history xs) ≡ true
-has_history test [] some = some
-has_history test (x ∷ xs) some = go (test x) refl some (has_history test xs)
-  where
-    split : history (x ∷ xs) ≡ history xs ++ x ∷ []
-    split = reverse-append (x ∷ []) xs
-
-    go : (t : Bool) → test x ≡ t → cond t true (has test xs) ≡ true → (has test xs ≡ true → has test (history xs) ≡ true) → has test (history (x ∷ xs)) ≡ true
-    go true is some ih = subst (λ l. has test l ≡ true) (sym split) (has_later test (history xs) (x ∷ []) (ap (λ t. cond t true false) is))
-    go false is some ih = subst (λ l. has test l ≡ true) (sym split) (has_both test (history xs) (x ∷ []) (ih some))
-
 -- an event before a later one of replica 0 is reached
 reached : (events front older : List Event) (e : Event) → history events ≡ front ++ e ∷ older → has (λ f. f.by == 0) front ≡ true → IsReached events (history older) e
 reached events front older e is some = record {
@@ -165,7 +138,7 @@ writes_alone c events front (e ∷ past) lengths rounds names run is some =
         let at = reached events front past e is some in
         let there = subst (λ l. AtEachStep (WasMade c e.by) (part e.by l)) is (run.made e.by (inside (nat_lt e.by c.replicas) refl)) in
         let made = part_step (WasMade c e.by) past e (part_before (WasMade c e.by) e.by front (e ∷ past) there) in
-        let named = ap (λ l. leader c e.by (part e.by l)) (sym (reverse-reverse past)) ∙ names.named (history past) e at in
+        let named = ap (λ l. leader c e.by (part e.by l)) (sym (reverse-reverse past)) ∙ names.named (history past) e.by (before_end events (history past) e at) (inside (nat_lt e.by c.replicas) refl) in
         sym (writer_named c e.by (part e.by past) e made (ap is_row_write wrote)) ∙ named
 
 -- replica 0 names itself

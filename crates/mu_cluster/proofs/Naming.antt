@@ -1,8 +1,8 @@
 -- In a replay whose script has no pause replica 0 is named leader until it has ended.
-use Rattle.std.proofs.Common.{◌≡◌, ◌∙◌, ◌≢◌, ℕ, suc, zero, ◌+◌, ◌<◌, ◌≤◌, ◌==◌, inl, inr, Bool, true, false, cond, Some, List, [], ◌∷◌, ◌++◌, ap, append_assoc, arith, length, map, refl, subst, sym}
+use Rattle.std.proofs.Common.{◌≡◌, ◌∙◌, ◌≢◌, ℕ, suc, zero, ◌+◌, ◌<◌, ◌≤◌, ◌==◌, inl, inr, Bool, true, false, cond, Some, List, [], ◌∷◌, ◌++◌, ap, append_assoc, arith, eqb-true, length, map, refl, subst, sym}
 use Rattle.std.specs.Prelude.{nat_lt, not, slice_index}
 use Rattle.std.specs.List.{slice_get}
-use Rattle.std.proofs.lemmas.Bool.{cases_lt, ltb-true, true≢false}
+use Rattle.std.proofs.lemmas.Bool.{cases_lt, ltb-true, ne_eqb, true≢false}
 use Rattle.std.proofs.lemmas.List.{length-append, length-map, length-reverse, reverse-append}
 use Rattle.mu_agree.proofs.Legal.{legal_older}
 use Rattle.mu_model.specs.declared.config.Config.{Config}
@@ -23,10 +23,11 @@ use Rattle.mu_outcome.specs.Turns.{ids_after}
 use Rattle.mu_pace.specs.Counters.{AtEachStep}
 use Rattle.mu_pace.proofs.Counting.{steps_before}
 use Rattle.mu_cluster.specs.declared.rounds.Seat.{Seat}
-use Rattle.mu_cluster.specs.Naming.{NamesFirst, NamesFirstUnpaused, IsReached}
+use Rattle.mu_cluster.specs.Naming.{IsBeforeEnd, IsReached, NamesFirst, NamesFirstUnpaused}
 use Rattle.mu_cluster.specs.Rounds.{Played, id_of, part_of}
 use Rattle.mu_model.proofs.Lists.{item_below}
 use Rattle.mu_cluster.proofs.InStep.{StaysAhead, in_step}
+use Rattle.mu_cluster.proofs.Passes.{has_both, has_history}
 use Rattle.mu_cluster.proofs.Trusting.{trusts}
 
 -- the history before an event, and with it
@@ -67,15 +68,6 @@ some_part q (e ∷ events) some = go (e.by == q) some (some_part q events)
     go : (t : Bool) → cond t true (has (λ f. f.by == q) events) ≡ true → (has (λ f. f.by == q) events ≡ true → 1 ≤ length (part q events)) → 1 ≤ length (cond t (e ∷ part q events) (part q events))
     go true some ih = omega arith
     go false some ih = ih some
-
--- a replica that still makes an event has made fewer than all
-fewer_yet : (q : ℕ) (events earlier later : List Event) (e : Event) → events ≡ earlier ++ e ∷ later → has (λ f. f.by == q) (e ∷ later) ≡ true → length (part_of q earlier) < length (part_of q events)
-fewer_yet q events earlier later e is left =
-    let whole : length (part_of q events) ≡ length (part q (history (e ∷ later))) + length (part_of q earlier) =
-    ap (λ l. length (part q l)) (before_event events earlier later e is) ∙ (ap length (filter-append (λ f. f.by == q) (history (e ∷ later)) (history earlier)) ∙ length-append (part q (history (e ∷ later))) (part q (history earlier))) in
-    let same : length (part q (history (e ∷ later))) ≡ length (part q (e ∷ later)) = ap length (sym (history-part q (e ∷ later))) ∙ length-reverse (part q (e ∷ later)) in
-    let some = some_part q (e ∷ later) left in
-    omega (arith, whole, same, some)
 
 -- the events of a replay are those of nodes, in the order of rounds without a pause
 pub record AreUnpaused (c : Config) (events : List Event) (lengths : List ℕ) (rounds : ℕ) : Type 0 where
@@ -123,38 +115,60 @@ few_steps c events lengths rounds q r newer older e run is own low other =
       | inr under ↦ (let taken = here.0 under in omega (arith, taken, short))
     ]
 
--- whoever makes an event holds replica 0 to be alive
-holds_first : (c : Config) (events : List Event) (lengths : List ℕ) (rounds : ℕ) (earlier : List Event) (e : Event) → AreUnpaused c events lengths rounds → IsReached events earlier e → e.by ≢ 0 → (score e.by 0 (part_of e.by earlier)).1 ≡ true
-holds_first c events lengths rounds earlier e run at other =
-    let inside = maker_inside c events lengths rounds earlier e run at in
-    let fewer = fewer_yet 0 events earlier at.later e at.is at.left in
-    let some : 0 < c.replicas = omega (arith, inside) in
+-- and no more than replica 0 takes in all, with this event too, until that has ended
+few_with : (c : Config) (events : List Event) (lengths : List ℕ) (rounds r : ℕ) (newer older : List Event) (e : Event) → AreUnpaused c events lengths rounds → history events ≡ newer ++ e ∷ older → has (λ f. f.by == 0) newer ≡ true → e.by ≡ r → r ≢ 0 → 0 < c.replicas
+    → length (part r older) + 1 ≤ length (part_of 0 events)
+few_with c events lengths rounds r newer older e run is left own other some =
     let count = run.count in
-    let all = run.taken 0 some in
-    let step = in_step lengths rounds 0 e.by events (λ same. other (sym same)) (omega (arith, some, count)) run.order in
     let most = slice_index lengths 0 in
-    let each : AtEachStep (StaysAhead step.lead 0 most e.by) (e ∷ history earlier) = steps_before (StaysAhead step.lead 0 most e.by) (history at.later) (e ∷ history earlier) (subst (AtEachStep (StaysAhead step.lead 0 most e.by)) (with_event events earlier at.later e at.is) step.each) in
-    let here = each.1 refl in
-    let few : length (part_of e.by earlier) ≤ length (part_of 0 events) = elim (cases_lt most (length (part_of e.by earlier) + step.lead)) [
-      | inl over ↦ (let ended = here.1 (omega (arith, over)) in absurd (omega (arith, ended, fewer, all)))
-      | inr under ↦ omega (arith, under, all)
-    ] in
-    trusts_then c events lengths rounds 0 e.by (history (e ∷ at.later)) (history earlier) run (before_event events earlier at.later e at.is) some inside (λ same. other (sym same)) few
+    let all = run.taken 0 some in
+    let step = in_step lengths rounds 0 r events (λ same. other (sym same)) (omega (arith, some, count)) run.order in
+    let each : AtEachStep (StaysAhead step.lead 0 most r) (e ∷ older) = steps_before (StaysAhead step.lead 0 most r) newer (e ∷ older) (subst (AtEachStep (StaysAhead step.lead 0 most r)) is step.each) in
+    let here = each.1 own in
+    let whole : length (part_of 0 events) ≡ length (part 0 newer) + length (part 0 (e ∷ older)) = ap (λ l. length (part 0 l)) is ∙ (ap length (filter-append (λ f. f.by == 0) newer (e ∷ older)) ∙ length-append (part 0 newer) (part 0 (e ∷ older))) in
+    let same : length (part 0 (e ∷ older)) ≡ length (part 0 older) = ap (λ t. length (cond t (e ∷ part 0 older) (part 0 older))) (ne_eqb e.by 0 (λ first. other (sym own ∙ first))) in
+    let more = some_part 0 newer left in
+    elim (cases_lt most (length (part r older) + step.lead)) [
+      | inl over ↦ (let ended = here.1 (omega (arith, over)) in absurd (omega (arith, ended, all, whole, same, more)))
+      | inr under ↦ (let taken = here.0 under in omega (arith, taken, all, whole, same, more))
+    ]
+
+-- so at each moment until then
+few_then : (c : Config) (events : List Event) (lengths : List ℕ) (rounds r : ℕ) (newer older : List Event) → AreUnpaused c events lengths rounds → history events ≡ newer ++ older → has (λ f. f.by == 0) newer ≡ true → r ≢ 0 → 0 < c.replicas
+    → length (part r older) ≤ length (part_of 0 events)
+few_then c events lengths rounds r newer [] run is left other some = omega arith
+few_then c events lengths rounds r newer (e ∷ older) run is left other some =
+    go (e.by == r) refl (few_then c events lengths rounds r (newer ++ e ∷ []) older run (is ∙ sym (append_assoc newer (e ∷ []) older)) (has_both (λ f. f.by == 0) newer (e ∷ []) left) other some)
+  where
+    go : (t : Bool) → (e.by == r) ≡ t → length (part r older) ≤ length (part_of 0 events) → length (cond t (e ∷ part r older) (part r older)) ≤ length (part_of 0 events)
+    go true own _ = (let few = few_with c events lengths rounds r newer older e run is left (eqb-true e.by r own) other some in omega (arith, few))
+    go false _ few = few
+
+-- until replica 0 has ended each other holds it to be alive
+holds_first : (c : Config) (events : List Event) (lengths : List ℕ) (rounds : ℕ) (earlier : List Event) (r : ℕ) → AreUnpaused c events lengths rounds → IsBeforeEnd events earlier → r < c.replicas → r ≢ 0 → (score r 0 (part_of r earlier)).1 ≡ true
+holds_first c events lengths rounds earlier r run at inside other =
+    let some : 0 < c.replicas = omega (arith, inside) in
+    let split : history events ≡ history at.later ++ history earlier = ap history at.is ∙ reverse-append earlier at.later in
+    let left = has_history (λ f. f.by == 0) at.later at.left in
+    trusts_then c events lengths rounds 0 r (history at.later) (history earlier) run split some inside (λ same. other (sym same))
+    (few_then c events lengths rounds r (history at.later) (history earlier) run split left other some)
+
+-- who makes an event until then does so before it has ended
+pub before_end : (events earlier : List Event) (e : Event) → IsReached events earlier e → IsBeforeEnd events earlier
+before_end events earlier e at = record { later = e ∷ at.later; is = at.is; left = at.left }
 
 names_in : (c : Config) (events : List Event) (lengths : List ℕ) (rounds : ℕ) → AreUnpaused c events lengths rounds → NamesFirst c events
 names_in c events lengths rounds run = record { named = named; asks = asks }
   where
-    named : (earlier : List Event) (e : Event) → IsReached events earlier e → leader c e.by (part_of e.by earlier) ≡ 0
-    named earlier e at =
-        let inside = maker_inside c events lengths rounds earlier e run at in
-        first_named c e.by (part_of e.by earlier) (omega (arith, inside)) (holds_first c events lengths rounds earlier e run at)
+    named : (earlier : List Event) (r : ℕ) → IsBeforeEnd events earlier → r < c.replicas → leader c r (part_of r earlier) ≡ 0
+    named earlier r at inside = first_named c r (part_of r earlier) (omega (arith, inside)) (holds_first c events lengths rounds earlier r run at inside)
 
     asks : (earlier : List Event) (e : Event) (p : ℕ) → IsReached events earlier e → e.verb ≡ Verb.Ask p → e.by ≡ 0
     asks earlier e p at asked =
         let inside = maker_inside c events lengths rounds earlier e run at in
         let there = subst (λ l. AtEachStep (WasMade c e.by) (part e.by l)) (with_event events earlier at.later e at.is) (run.made e.by inside) in
         let made = part_step (WasMade c e.by) (history earlier) e (part_before (WasMade c e.by) e.by (history at.later) (e ∷ history earlier) there) in
-        sym (asker_named c e.by p (part_of e.by earlier) e made (ap (is_asking_verb p) asked ∙ same_number p)) ∙ named earlier e at
+        sym (asker_named c e.by p (part_of e.by earlier) e made (ap (is_asking_verb p) asked ∙ same_number p)) ∙ named earlier e.by (before_end events earlier e at) inside
 
 -- the length of a journal
 length_at : (journals : List Record) (r : ℕ) (events : List Event) → slice_get (map events_of journals) r ≡ Some events → slice_index (map (λ journal. length (events_of journal)) journals) r ≡ length events

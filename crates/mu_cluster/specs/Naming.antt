@@ -18,11 +18,18 @@ pub record IsReached (events earlier : List Event) (e : Event) : Type 0 where
   pub is : events ≡ earlier ++ e ∷ later
   pub left : has (λ f. f.by == 0) (e ∷ later) ≡ true
 
--- until replica 0 has ended, whoever makes an event names it leader, and no other asks
+-- the list has come so far, and replica 0 hasn't ended: it makes a later event
+pub record IsBeforeEnd (events earlier : List Event) : Type 0 where
+  pub later : List Event
+  pub is : events ≡ earlier ++ later
+  pub left : has (λ f. f.by == 0) later ≡ true
+
+-- until replica 0 has ended, each replica names it leader, also after its own last event, and no
+-- other asks
 pub record NamesFirst (c : Config) (events : List Event) : Type 0 where
   pub named :
-      (earlier : List Event) (e : Event) → IsReached events earlier e
-      → leader c e.by (part_of e.by earlier) ≡ 0
+      (earlier : List Event) (r : ℕ) → IsBeforeEnd events earlier → r < c.replicas
+      → leader c r (part_of r earlier) ≡ 0
   pub asks :
       (earlier : List Event) (e : Event) (p : ℕ) → IsReached events earlier e
       → e.verb ≡ Verb.Ask p → e.by ≡ 0

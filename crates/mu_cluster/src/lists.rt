@@ -1,6 +1,6 @@
 //! The lists of an outcome, in memory that is taken before the first step and filled after the last
 //! one.
-ghost use Rattle.std.specs.Prelude.{IfOk, List, Some, [], length, slice_get, true, vec_capacity, ℕ, ◌++◌, ◌+◌, ◌<◌, ◌∷◌, ◌≡◌, ◌≤◌};
+ghost use Rattle.std.specs.Prelude.{IfOk, List, None, Some, [], length, slice_get, true, vec_capacity, ℕ, ◌++◌, ◌+◌, ◌<◌, ◌∷◌, ◌≡◌, ◌≤◌};
 ghost use Rattle.kv_store.specs.declared.store.Reply.{Reply as SomeReply};
 ghost use Rattle.mu_model.specs.declared.script.End.{End as SomeEnd};
 ghost use Rattle.mu_model.specs.Contents.{IsConfig};
@@ -166,6 +166,7 @@ impl OutcomeRoom {
         ensures none_outrun { NoneOutrunUnpaused result }
         ensures applies { AppliesAllUnpaused result }
         ensures leads { LeadOnUnpaused result }
+        ensures gathered { result.gathered ≡ None }
     {
         let OutcomeRoom {
             lists,

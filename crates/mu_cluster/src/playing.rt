@@ -1,5 +1,5 @@
 //! The replay: the replicas take turns on one thread.
-ghost use Rattle.std.specs.Prelude.{IfOk, [], ◌≡◌};
+ghost use Rattle.std.specs.Prelude.{IfOk, None, [], ◌≡◌};
 ghost use Rattle.mu_input.specs.Heads.{HaveHeads};
 ghost use Rattle.mu_follow.specs.Groups.{AreSpelled};
 ghost use Rattle.mu_model.specs.Contents.{IsConfig};
@@ -37,6 +37,7 @@ pub fn replay(alloc: Global, job: Job) -> Result<Outcome, NoMemory>
     ensures spends { IfOk result SpendsBudgets }
     ensures lives { IfOk result HasAllInTime }
     ensures leads { IfOk result LeadOnUnpaused }
+    ensures gathered { IfOk result (λ outcome. outcome.gathered ≡ None) }
 {
     let memory = WordFabric::start(alloc, &job.config)?;
     replay_over(alloc, job, memory)
@@ -62,6 +63,7 @@ pub fn replay_over<M: Memory>(alloc: Global, job: Job, memory: M) -> Result<Outc
     ensures spends { IfOk result SpendsBudgets }
     ensures lives { IfOk result HasAllInTime }
     ensures leads { IfOk result LeadOnUnpaused }
+    ensures gathered { IfOk result (λ outcome. outcome.gathered ≡ None) }
 {
     let room = OutcomeRoom::new(alloc, &job.config)?;
     let mut seats = seats(alloc, &job)?;
