@@ -1,0 +1,5 @@
+use Rattle.std.proofs.Common.{append_assoc, refl}
+use Rattle.mu_mistakes.proofs.flaw.push_other.Goals as goal
+
+pub returns-clause-bytes : goal.returns-clause-bytes
+returns-clause-bytes c = rw c.push-2.ensures.bytes (rw c.push_number.ensures.bytes (rw c.from.ensures (rw c.push.ensures.bytes (simp append_assoc refl))))
