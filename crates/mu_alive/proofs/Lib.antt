@@ -4,11 +4,11 @@ pub mod Beginning
 mod Calm
 pub mod Cutting
 mod Enough
-pub mod Failing
-pub mod Fetching
+mod Failing
+mod Fetching
 mod Granting
-pub mod LastNoting
-pub mod Lasting
+mod LastNoting
+mod Lasting
 mod Moments
 mod Noting
 pub mod TurnFences

@@ -11,7 +11,7 @@ pub mod LogCommands
 mod Naming
 mod Onward
 mod Outrunning
-pub mod Passes
+mod Passes
 mod Ports
 mod Rounding
 pub mod RowsMade
@@ -20,4 +20,4 @@ mod Trusting
 mod Turned
 mod Turning
 mod Wording
-pub mod Outliving
+mod Outliving
