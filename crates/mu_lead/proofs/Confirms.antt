@@ -19,7 +19,7 @@ use Rattle.mu_pace.proofs.Countdowns.{countdowns_run}
 use Rattle.mu_pace.proofs.Rooms.{kinds_of_step}
 use Rattle.mu_lead.specs.declared.place.Place.{Place}
 use Rattle.mu_lead.specs.Beside.{is_beside, leads_at}
-use Rattle.mu_lead.specs.Confirmations.{ConfirmsAt, HasRead, MinimaComeInTime, NoneIsAwaited, is_gathering}
+use Rattle.mu_lead.specs.Confirmations.{ConfirmsAt, HasRead, MinimaComeInTime, NoneIsAwaited}
 use Rattle.mu_lead.specs.Confirming.{Confirmed}
 use Rattle.mu_lead.specs.Going.{begins_at}
 use Rattle.mu_lead.proofs.RoomsMin.{min_now}
@@ -30,25 +30,6 @@ anywhere c r mine (Place.Ask p) at = at.none
 anywhere c r mine (Place.Confirm round p) at = kinds_of_step.closed (confirming c r) (c.replicas - p + 1) mine at.none
 anywhere c r mine (Place.ReadMin p) at = kinds_of_step.closed (confirming c r) 1 mine at.none
 anywhere c r mine place at = at
-
--- while regions are asked and fences read none need have been
-pub gathers : (c : Config) (r : ℕ) (mine : List Event) (place : Place) → is_gathering place ≡ true → NoneIsAwaited c r mine → ConfirmsAt c r mine place
-gathers c r mine (Place.Ask p) is none = none
-gathers c r mine (Place.Confirm round p) is none = kinds_of_step.closed (confirming c r) (c.replicas - p + 1) mine none
-gathers c r mine place is none = absurd (true≢false (sym is))
-
--- a minimum was read before the place
-abbrev pub is_led : Place → Bool
-is_led (Place.Ask p) = false
-is_led (Place.Confirm round p) = false
-is_led (Place.ReadMin p) = false
-is_led place = true
-
-read_at : (c : Config) (r : ℕ) (mine : List Event) (place : Place) → is_led place ≡ true → ConfirmsAt c r mine place → HasRead c r mine
-read_at c r mine (Place.Ask p) led at = absurd (true≢false (sym led))
-read_at c r mine (Place.Confirm round p) led at = absurd (true≢false (sym led))
-read_at c r mine (Place.ReadMin p) led at = absurd (true≢false (sym led))
-read_at c r mine place led at = at
 
 -- once a minimum was read no fence confirms anew
 already : (a b m k : Bool) → m ≡ true → (a && (b && (not m && k))) ≡ false

@@ -5,8 +5,6 @@ use Rattle.std.proofs.lemmas.Bool.{and_left, and_right, cases_eq, cases_lt, fals
 use Rattle.mu_model.specs.declared.config.Config.{Config}
 use Rattle.mu_model.specs.declared.event.Answer.{Answer}
 use Rattle.mu_model.specs.declared.event.Event.{Event}
-use Rattle.mu_model.specs.declared.event.Fence.{Fence}
-use Rattle.mu_model.specs.declared.event.Target.{Target}
 use Rattle.mu_model.specs.declared.event.Verb.{Verb}
 use Rattle.mu_model.specs.Diligence.{is_fuo_above}
 use Rattle.mu_model.specs.Knowledge.{known}
@@ -167,10 +165,6 @@ read_fuo c r p u mine place turn goes at =
       | inl more ↦ joins_anywhere c r (e ∷ mine) place (answered c r p 3 (Verb.Fuo p) (Answer.Number u) mine turn (λ q. refl) (ahead_answers c r p u mine more) at)
       | inr low ↦ subst (JoinsAt c r (e ∷ mine)) (sym (goes low)) (waits_on c r p 2 (Verb.Fuo p) (Answer.Number u) mine (λ q. refl) at)
     ]
-
--- it is entered
-lost_over : (r p : ℕ) (t : Target) (f : Fence) (mine : List Event) → is_over r (event_by r (Verb.Enter p t) (Answer.Lost f) ∷ mine) ≡ true
-lost_over r p t f mine = rw (same_number r) refl
 
 -- what another machine does in the background
 beside_unfenced : (leading : Bool) (verb : Verb) (q : ℕ) → is_beside leading verb ≡ true → is_fencing_verb q verb ≡ false

@@ -17,11 +17,6 @@ use Rattle.mu_lead.specs.declared.place.Place.{Place}
 use Rattle.mu_lead.specs.Beside.{is_beside, leads_at}
 use Rattle.mu_lead.specs.Evidence.{ExplainsAt, IsExplained, EvidenceComesInTime, WaitsForFence}
 
--- no fence is waited for at the place
-abbrev pub is_evidence : Place → Bool
-is_evidence (Place.Evidence p) = true
-is_evidence place = false
-
 pub explained_anywhere : (c : Config) (r : ℕ) (mine : List Event) (place : Place) → IsExplained c r mine → ExplainsAt c r mine place
 explained_anywhere c r mine (Place.Evidence p) at = record { here = kinds_of_step.closed (explaining c r p) 1 mine (at p); others = λ q other. at q }
 explained_anywhere c r mine place at = at

@@ -1,19 +1,18 @@
 -- What a replica offers of its own.
-use Rattle.std.proofs.Common.{Bool, List, None, ap, arith, cond, eq-eqb, eqb-true, false, get_or, inl, inr, length, refl, subst, sym, take, true, true≢false, ℕ, ◌%◌, ◌&&◌, ◌*◌, ◌+◌, ◌/◌, ◌<◌, ◌==◌, ◌∙◌, ◌∷◌, ◌≡◌, ◌≢◌, ◌≤◌}
+use Rattle.std.proofs.Common.{Bool, List, None, ap, arith, cond, eq-eqb, eqb-true, false, get_or, inl, inr, length, refl, subst, sym, true, true≢false, ℕ, ◌%◌, ◌&&◌, ◌*◌, ◌+◌, ◌/◌, ◌<◌, ◌==◌, ◌∙◌, ◌∷◌, ◌≡◌, ◌≢◌, ◌≤◌}
 use Rattle.std.specs.Prelude.{nat_lt}
 use Rattle.std.specs.declared.option.Option.{Option}
 use Rattle.std.proofs.lemmas.Bool.{and_from, cases_eq, cases_lt, le-ltb, lt-ltb, ltb-false, ne_eqb}
-use Rattle.std.proofs.lemmas.List.{take_more}
 use Rattle.mu_model.specs.declared.config.Config.{Config}
 use Rattle.mu_model.specs.declared.event.Answer.{Answer}
 use Rattle.mu_model.specs.declared.event.Event.{Event}
 use Rattle.mu_model.specs.declared.event.Verb.{Verb}
-use Rattle.mu_model.specs.Contents.{IsConfig, begins_batch, command_count, numbers_in, rest_of, row_count, rows_of}
+use Rattle.mu_model.specs.Contents.{IsConfig, begins_batch, rest_of, row_count}
 use Rattle.mu_model.specs.Histories.{all_below}
 use Rattle.mu_model.specs.Knowledge.{known, wrote, wrote_batch}
 use Rattle.mu_model.specs.Parts.{IsPossible}
 use Rattle.mu_model.proofs.Basics.{event_by, same_number}
-use Rattle.mu_model.proofs.Scans.{all_at, each_all, taken_after}
+use Rattle.mu_model.proofs.Scans.{all_at, each_all}
 use Rattle.mu_lead.specs.declared.place.Offer.{Offer}
 use Rattle.mu_lead.specs.Leading.{HoldsTables}
 use Rattle.mu_lead.specs.Offering.{IsNextBatch, Looking, Writing}
@@ -21,11 +20,6 @@ use Rattle.mu_known.specs.Offers.{IsNextRow}
 use Rattle.mu_lead.proofs.Due.{default_is, last_there}
 use Rattle.mu_lead.proofs.Keeping.{leads_kept}
 use Rattle.mu_lead.proofs.Tables.{brought_kept, head_kept, reached_kept}
-
--- how many commands one value more holds
-pub one_entry_more : (c : Config) (client i : ℕ) (values : List ℕ) → i < length values
-    → command_count c client (take (i + 1) values) ≡ command_count c client (take i values) + length (numbers_in c client (rows_of c (get_or values i 0)))
-one_entry_more c client i values low = ap (command_count c client) (take_more values i 0 low) ∙ taken_after c client (get_or values i 0) (take i values)
 
 -- the next batch of a client is one of the replica's own
 pub own_batch : (c : Config) (r j v : ℕ) (mine : List Event) → IsConfig c → r < c.replicas → v ≡ r * 4096 + j → IsNextRow c (known c r mine) j → IsNextBatch c r mine j

@@ -80,12 +80,15 @@ pub record Steps (c : Config) (r b n : ℕ) (mine : List Event) (old new : Table
 abbrev pub Goes : Config → ℕ → ℕ → List Event → Tables → Tables → Place → Answer → Type 0
 Goes c r b mine old new place a = RoomsAt c r (step_of c r b mine old.up old.written place a ∷ mine) new.written (next_place c r b (step_of c r b mine old.up old.written place a ∷ mine) new a place)
 
+-- an answer that is the one of the verb
 by_answer : (c : Config) (r b n : ℕ) (mine : List Event) (old new : Tables) (place : Place) (a x : Answer) → Steps c r b n mine old new place a → a ≡ x → (Steps c r b n mine old new place x → Goes c r b mine old new place x) → Goes c r b mine old new place a
 by_answer c r b n mine old new place a x s is goes = subst (λ y. Goes c r b mine old new place y) (sym is) (goes (subst (λ y. Steps c r b n mine old new place y) is s))
 
+-- the regions are asked anew
 begins_anew : (c : Config) (r : ℕ) (now : List Event) (written : List ℕ) → IsOut c r now → RoomsAt c r now written (Place.Ask 0)
 begins_anew c r now written out = ((λ same. out), λ other. absurd (other refl))
 
+-- the FUO of a member was read
 fuo_goes : (c : Config) (r b n : ℕ) (mine : List Event) (old new : Tables) (p : ℕ) (source : Option ℕ) (u : ℕ) → Steps c r b n mine old new (Place.ReadFuo p source) (Answer.Number u) → Goes c r b mine old new (Place.ReadFuo p source) (Answer.Number u)
 fuo_goes c r b n mine old new p source u s = go (member_from c r (fuo_event r p u ∷ mine) (p + 1)) (first_in_is (λ k. is_member r k mine) (p + 1) c.replicas) s.next
   where
@@ -100,6 +103,7 @@ fuo_goes c r b n mine old new p source u s = go (member_from c r (fuo_event r p 
     go (Some q) first here = rooms_next_fuo c r p q u source (Some (farther new.up source p)) mine new.written s.is s.turn (record { there = s.at.region; member = s.at.member; above = (let low = first.0 in omega (arith, low)); between = λ k after before. first.3 k (omega (arith, after)) before }) s.rooms
     go None none here = learn (nat_lt (end_of c r (fuo_event r p u ∷ mine)) (get_or new.up (farther new.up source p) 0)) here
 
+-- a look at what is known elsewhere
 learning_goes : (c : Config) (r b n : ℕ) (mine : List Event) (old new : Tables) (p : ℕ) (a : Answer) → Steps c r b n mine old new (Place.Learn p) a → Goes c r b mine old new (Place.Learn p) a
 learning_goes c r b n mine old new p a s = go (is_past a) refl s.next
   where
@@ -113,6 +117,7 @@ learning_goes c r b n mine old new p a s = go (is_past a) refl s.next
     go true past here = rooms_outrun_learning c r p (end_of c r mine) a mine s.is s.turn past refl s.rooms
     go false not_past here = learn (nat_lt (end_of c r (look_event r p (end_of c r mine) a ∷ mine)) (get_or new.up p 0)) (learning_taught c r p a mine s.possible ((s.tables.brought p).caught_up (end_of c r mine) s.at.lacks) not_past) here
 
+-- a look at what a region lacks
 look_behind_goes : (c : Config) (r b n : ℕ) (mine : List Event) (old new : Tables) (p : ℕ) (on : Then) (a : Answer) → Steps c r b n mine old new (Place.LookBehind p on) a → Goes c r b mine old new (Place.LookBehind p on) a
 look_behind_goes c r b n mine old new p on a s = go (is_past a)
   where
@@ -123,6 +128,7 @@ look_behind_goes c r b n mine old new p on a s = go (is_past a)
     go true = both.1
     go false = both.0
 
+-- an entry was brought to it
 copy_goes : (c : Config) (r b n : ℕ) (mine : List Event) (old new : Tables) (p : ℕ) (on : Then) → Steps c r b n mine old new (Place.PutBehind p on) Answer.Done → Goes c r b mine old new (Place.PutBehind p on) Answer.Done
 copy_goes c r b n mine old new p on s =
     let u = get_or old.up p 0 in
@@ -170,12 +176,14 @@ raise_behind_goes c r b n mine old new p Then.Position s =
     lacks : (k : ℕ) → k < c.replicas → p < k → is_member r k mine ≡ true → nat_lt (get_or new.up k 0) (end_of c r mine) ≡ true
     lacks k low after member = subst (λ xs. nat_lt (get_or xs k 0) (end_of c r mine) ≡ true) (sym s.kept) (lt-ltb (get_or old.up k 0) (end_of c r mine) ((s.at.behind.few k low member).1 (omega (arith, after))))
 
+-- the fence of a region whose log had moved on
 fence_behind_goes : (c : Config) (r b n : ℕ) (mine : List Event) (old new : Tables) (p : ℕ) (on : Then) (f : Fence) → Steps c r b n mine old new (Place.FenceBehind p on) (Answer.Seen f) → Goes c r b mine old new (Place.FenceBehind p on) (Answer.Seen f)
 fence_behind_goes c r b n mine old new p on f s =
     let now = fence_event r p f ∷ mine in
     let over = fence_ends c r p (get_or old.up p 0) f mine s.possible s.at.near.behind.region s.at.past in
     subst (λ x. RoomsAt c r now new.written (if x then Place.Ask 0 else Place.LookBehind p on)) (sym over) (begins_anew c r now new.written (rooms_fenced c r p f (Stage.Bring (lag_of c r mine p on) Bringing.Fence) mine s.is s.turn over s.rooms.placed))
 
+-- the fence of a late follower
 late_fence_goes : (c : Config) (r b n : ℕ) (mine : List Event) (old new : Tables) (p : ℕ) (f : Fence) → Steps c r b n mine old new (Place.LateFence p) (Answer.Seen f) → Goes c r b mine old new (Place.LateFence p) (Answer.Seen f)
 late_fence_goes c r b n mine old new p f s = go (is_some (noted_grant r p (fence_event r p f ∷ mine)))
   where
@@ -183,6 +191,7 @@ late_fence_goes c r b n mine old new p f s = go (is_some (noted_grant r p (fence
     go true = rooms_welcomed c r p f mine new.written s.is s.turn s.at.region s.rooms
     go false = late_rooms c r (p + 1) (fence_event r p f ∷ mine) new.heads new.written (rooms_passed c r p (p + 1) f mine new.written s.is s.turn s.at.region refl s.rooms)
 
+-- its minimum
 late_min_goes : (c : Config) (r b n : ℕ) (mine : List Event) (old new : Tables) (p x : ℕ) → Steps c r b n mine old new (Place.LateMin p) (Answer.Number x) → Goes c r b mine old new (Place.LateMin p) (Answer.Number x)
 late_min_goes c r b n mine old new p x s = go (nat_lt b x) refl
   where
@@ -190,6 +199,7 @@ late_min_goes c r b n mine old new p x s = go (nat_lt b x) refl
     go true more = begins_anew c r (event_by r (Verb.Min p) (Answer.Number x) ∷ mine) new.written (rooms_higher c r p b x mine new.written s.is s.turn s.at.late.level.leads.numbered (ltb-true b x more) s.rooms)
     go false less = rooms_late_min c r p (Answer.Number x) mine new.written s.is s.turn s.at.late.region s.at.late.level.leads.begun s.rooms
 
+-- its FUO
 late_fuo_goes : (c : Config) (r b n : ℕ) (mine : List Event) (old new : Tables) (p u : ℕ) → Steps c r b n mine old new (Place.LateFuo p) (Answer.Number u) → Goes c r b mine old new (Place.LateFuo p) (Answer.Number u)
 late_fuo_goes c r b n mine old new p u s = go (nat_lt (end_of c r (fuo_event r p u ∷ mine)) u)
   where
@@ -197,6 +207,7 @@ late_fuo_goes c r b n mine old new p u s = go (nat_lt (end_of c r (fuo_event r p
     go true = late_rooms c r (p + 1) (fuo_event r p u ∷ mine) new.heads new.written (rooms_ahead c r p (p + 1) u mine new.written s.is s.turn s.at.late.region refl s.rooms)
     go false = rooms_late_fuo c r p u mine new.written s.is s.turn s.at.late.region s.rooms
 
+-- it became a member
 late_put_goes : (c : Config) (r b n : ℕ) (mine : List Event) (old new : Tables) (p : ℕ) → Steps c r b n mine old new (Place.LatePut p) Answer.Done → Goes c r b mine old new (Place.LatePut p) Answer.Done
 late_put_goes c r b n mine old new p s = go (nat_lt (get_or new.up p 0) (end_of c r (landed_min r p b ∷ mine))) s.next
   where
@@ -205,6 +216,7 @@ late_put_goes c r b n mine old new p s = go (nat_lt (get_or new.up p 0) (end_of 
     go true here = bring_rooms c r (landed_min r p b ∷ mine) new.up new.reach new.written p Then.Joined (rooms_joined_behind c r p b mine new.written s.is s.turn s.at.entering.told.late.region s.at.entering.told.late.stranger s.rooms)
     go false here = late_rooms c r (p + 1) (landed_min r p b ∷ mine) new.heads new.written (rooms_joined_level c r p (p + 1) b mine new.written s.is s.turn s.at.entering.told.late.region s.at.entering.told.late.stranger refl (late_brought c r n (p + 1) (landed_min r p b ∷ mine) new s.possible s.held here) s.rooms)
 
+-- a head
 head_goes : (c : Config) (r b n : ℕ) (mine : List Event) (old new : Tables) (q : ℕ) (candidate : Option ℕ) (h : ℕ) → Steps c r b n mine old new (Place.ReadHead q candidate) (Answer.Number h) → Goes c r b mine old new (Place.ReadHead q candidate) (Answer.Number h)
 head_goes c r b n mine old new q candidate h s = go (nat_lt (end_of c r mine + reserve c) (h + c.ring)) (may_mark c r (head_event r q h ∷ mine) q h) refl
   where
@@ -217,6 +229,7 @@ head_goes c r b n mine old new q candidate h s = go (nat_lt (end_of c r mine + r
     go false true low = on (least_candidate candidate q)
     go false false low = late_rooms c r 0 (head_event r q h ∷ mine) new.heads new.written (rooms_no_room c r q h candidate mine new.written s.is s.turn s.at.region s.at.unmarked low s.rooms)
 
+-- a look at a new position
 look_goes : (c : Config) (r b n : ℕ) (mine : List Event) (old new : Tables) (p i : ℕ) (candidate : Option ℕ) (best : Option Sight) (a : Answer) → Steps c r b n mine old new (Place.Look p i candidate best) a → Goes c r b mine old new (Place.Look p i candidate best) a
 look_goes c r b n mine old new p i candidate best a s = go (is_past a) refl s.next
   where
@@ -248,6 +261,7 @@ look_goes c r b n mine old new p i candidate best a s = go (is_past a) refl s.ne
     go true past here = rooms_outrun_looking c r p i a mine s.is s.turn past s.at.position (rooms_outrun c r p i a mine s.is s.turn (past_untaught c r p i a mine past) s.at.region s.at.member s.rooms)
     go false not_past here = taught (nat_lt i (end_of c r (look_event r p i a ∷ mine))) refl here
 
+-- a word of a row
 write_goes : (c : Config) (r b n : ℕ) (mine : List Event) (old new : Tables) (j last : ℕ) (offer : Offer) → Steps c r b n mine old new (Place.Write j last offer) Answer.Done → Goes c r b mine old new (Place.Write j last offer) Answer.Done
 write_goes c r b n mine old new j last offer s = go (first_in (λ i. nat_lt (get_or new.written i 12) 12) j (last + 1)) (first_in_is (λ i. nat_lt (get_or new.written i 12) 12) j (last + 1)) s.next
   where
@@ -267,6 +281,7 @@ write_goes c r b n mine old new j last offer s = go (first_in (λ i. nat_lt (get
         entering_rooms c r n (first_member c r (row_event r j k (config_word c j k) ∷ mine)) (row_event r j k (config_word c j k) ∷ mine) new.up new.reach new.written offer
         (λ m some most. rooms_last_word c r j k (config_word c j k) (words_left old.written j (last + 1 - j)) m mine s.is s.turn (let one = s.kept in omega (arith, one)) some most s.rooms) here
 
+-- the offer was put
 put_goes : (c : Config) (r b n : ℕ) (mine : List Event) (old new : Tables) (p : ℕ) (offer : Offer) → Steps c r b n mine old new (Place.Put p offer) Answer.Done → Goes c r b mine old new (Place.Put p offer) Answer.Done
 put_goes c r b n mine old new p offer s = go (member_from c r (put_event r p (end_of c r mine) b offer.value ∷ mine) (p + 1)) (first_in_is (λ k. is_member r k mine) (p + 1) c.replicas)
   where
@@ -280,6 +295,7 @@ put_goes c r b n mine old new p offer s = go (member_from c r (put_event r p (en
         let all = took_all c r b offer.value p (p + 1) mine old.up old.reach s.at.0 refl none in
         rooms_committed c r p (first_member c r (put_event r p (end_of c r mine) b offer.value ∷ mine)) (end_of c r mine) b offer.value offer mine new.written s.is s.turn s.at.0.entering.region s.at.0.entering.member (known_more c r b offer.value p mine old.up old.reach s.at.0.entering.offering all) s.rooms
 
+-- the FUO of a member was raised over what was committed
 raise_goes : (c : Config) (r b n : ℕ) (mine : List Event) (old new : Tables) (p : ℕ) → Steps c r b n mine old new (Place.Raise p) Answer.Done → Goes c r b mine old new (Place.Raise p) Answer.Done
 raise_goes c r b n mine old new p s = go (member_from c r (raise_event r p (end_of c r mine) ∷ mine) (p + 1)) (first_in_is (λ k. is_member r k mine) (p + 1) c.replicas)
   where

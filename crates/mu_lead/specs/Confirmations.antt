@@ -1,6 +1,6 @@
 -- The count of steps of a confirmed leadership, at each place of a leader: it reads its first
 -- minimum in time.
-use Rattle.std.specs.Prelude.{Bool, List, None, [], false, true, ℕ, ◌+◌, ◌-◌, ◌∷◌, ◌≡◌}
+use Rattle.std.specs.Prelude.{List, None, [], false, true, ℕ, ◌+◌, ◌-◌, ◌∷◌, ◌≡◌}
 use Rattle.mu_model.specs.declared.config.Config.{Config}
 use Rattle.mu_model.specs.declared.event.Answer.{Answer}
 use Rattle.mu_model.specs.declared.event.Event.{Event}
@@ -21,12 +21,6 @@ NoneIsAwaited c r mine = steps_left (confirming c r) mine ≡ None
 pub record HasRead (c : Config) (r : ℕ) (mine : List Event) : Type 0 where
   pub read : has_min r mine ≡ true
   pub none : NoneIsAwaited c r mine
-
--- regions are asked, or their fences read
-abbrev pub is_gathering : Place → Bool
-is_gathering (Place.Ask p) = true
-is_gathering (Place.Confirm round p) = true
-is_gathering place = false
 
 -- what holds of the first minimum at a place: in a round of fences the steps from region p on are
 -- left
