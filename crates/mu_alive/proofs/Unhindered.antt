@@ -311,7 +311,7 @@ min_commits c r k past window rest older first in_time stone follows free enough
       where
         go : (t : Bool) → replicates (is_hindrance c r) at.rest (first ∷ rest ++ older) ≡ t → t ≡ false
         go true met = absurd (true≢false (sym (some_newer (λ before e. is_replication before e && is_hindrance c r before e) window (first ∷ rest) older
-          (subst (λ w. replicates (is_hindrance c r) w (first ∷ rest ++ older) ≡ true) (sym at.is) (some_older (λ before e. is_replication before e && is_hindrance c r before e) at.newer at.rest (first ∷ rest ++ older) met))) ∙ free))
+            (subst (λ w. replicates (is_hindrance c r) w (first ∷ rest ++ older) ≡ true) (sym at.is) (some_older (λ before e. is_replication before e && is_hindrance c r before e) at.newer at.rest (first ∷ rest ++ older) met))) ∙ free))
         go false none = refl
 
 -- a fence is no minimum and begins no leadership

@@ -1,5 +1,5 @@
 -- What the laws of agreement say of one list.
-use Rattle.std.proofs.Common.{◌≡◌, ℕ, ◌<◌, ◌≤◌, inl, inr, List, ◌++◌, sym, ◌∙◌, ap, arith, Some, subst}
+use Rattle.std.proofs.Common.{◌≡◌, ℕ, ◌≤◌, inl, inr, List, ◌++◌, sym, ◌∙◌, ap, arith, Some, subst}
 use Rattle.std.specs.List.{slice_get}
 use Rattle.std.specs.Prelude.{◌↔◌}
 use Rattle.std.proofs.lemmas.List.{reverse-append}
@@ -91,8 +91,8 @@ pub rows_right : (c : Config) (events : List Event) → IsConfig c → IsLegal c
 rows_right c events is h earlier later e r i v t k at known_at batch few word verb =
     rows_read_right_law c earlier later e r i v t k is (subst (IsLegal c) at h) known_at batch few word verb
 
-pub keeps_places : (c : Config) (events : List Event) (r : ℕ) → IsLegal c events → r < c.replicas → KeepsPlaces c events r
-keeps_places c events r h l p i need past =
+pub keeps_places : (c : Config) (events : List Event) → IsLegal c events → KeepsPlaces c events
+keeps_places c events h r p i l need past =
     let low : region_head r (history events) ≤ i = elim need [ inl x ↦ x | inr x ↦ (let y = head_known c r (history events) h in omega arith) ] in
     places_are_kept_law c events r p i h l low past
 

@@ -124,11 +124,11 @@ RowsAreRight c events =
 abbrev pub HasToRead : Config → ℕ → List Event → ℕ → Type 0
 HasToRead c r past i = (region_head r past ≤ i) ⊎ (length (known c r (part r past)) ≤ i)
 
--- a look made now by r at any region, at a position that it still has to read, is `Past` only where
--- a mark of r is chosen
-abbrev pub KeepsPlaces : Config → List Event → ℕ → Type 0
-KeepsPlaces c events r =
-    (p i : ℕ) → HasToRead c r (history events) i
+-- a look made now by a replica at any region, at a position that it still has to read, is `Past` only
+-- where a mark of the replica is chosen
+abbrev pub KeepsPlaces : Config → List Event → Type 0
+KeepsPlaces c events =
+    (r p i : ℕ) → r < c.replicas → HasToRead c r (history events) i
     → answer_of c r (history events) (Verb.Look p i) ≡ Answer.Past → IsMarked c r (history events)
 
 -- the same of each look of the list, by its replica and at its moment

@@ -1,5 +1,5 @@
 //! What a replica can still read.
-ghost use Rattle.std.specs.Prelude.{IfOk, IsTrue, ◌<◌, ◌↔◌, ◌≢◌, ◌≤◌, ◌⊎◌};
+ghost use Rattle.std.specs.Prelude.{IfOk, IsTrue, ◌↔◌, ◌≢◌, ◌≤◌, ◌⊎◌};
 ghost use Rattle.mu_agree.specs.Agreement.{IsMarked};
 ghost use Rattle.mu_law.specs.Laws.{KeepsPlaces, KeptPlaces};
 ghost use Rattle.mu_model.specs.declared.event.Answer.{Answer as AnswerTo};
@@ -15,10 +15,10 @@ use mu_model::{Answer, Config, Event, NoMemory, Verb};
 use std::alloc::Global;
 
 /// Whether a look at position `i` of the region of `r`, made now by `r`, would find a place that
-/// isn't used again. On condition that the list is legal. No place of any region is used again
-/// while a replica whose mark isn't chosen still has to read it: where its head, or all that it
-/// knows, is at or below the position, a look is not past, neither one that was made nor one made
-/// now.
+/// isn't used again: where `r` is no replica its region is empty. On condition that the list is
+/// legal. No place of any region is used again while a replica whose mark isn't chosen still has to
+/// read it: where its head, or all that it knows, is at or below the position, a look is not past,
+/// neither one that was made nor one made now.
 ///
 /// # Errors
 ///
@@ -32,7 +32,6 @@ pub fn kept(
 ) -> Result<bool, NoMemory>
     requires config { IsConfig config.now }
     requires legal { IsLegal config.now events.now }
-    requires replica { r < config.now.replicas }
     ensures is { IfOk result
         (λ stands. IsTrue stands
         ↔ (answer_of config.now r (history events.now) (Step.Look r i) ≢ AnswerTo.Past)) }
@@ -40,9 +39,12 @@ pub fn kept(
         (λ stands. region_head r (history events.now) ≤ i
         → IsTrue stands ⊎ IsMarked config.now r (history events.now)) }
     ensures fuo { region_head r (history events.now) ≤ region_fuo r (history events.now) }
-    ensures now { KeepsPlaces config.now events.now r }
+    ensures now { KeepsPlaces config.now events.now }
     ensures made { KeptPlaces config.now events.now }
 {
+    if config.replicas <= r {
+        return Ok(true);
+    }
     let regions = regions_after(alloc, config, events)?;
     Ok(regions.answer(r, &Verb::Look(r, i)) != Answer::Past)
 }
