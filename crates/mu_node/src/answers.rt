@@ -22,8 +22,8 @@ use std::marker::Model;
 /// The replies of a store, in order.
 pub type Replies = Sequence<Reply>;
 
-/// A store, and its replies so far. Contracts see the table, the replies, and how many more commands
-/// are sure to be answered.
+/// A store, and its replies so far. Contracts see the table, the replies, and how many more
+/// commands are sure to be answered.
 #[derive(Drop)]
 pub struct Answers {
     store: Store,
@@ -39,7 +39,11 @@ impl Model for Answers {
 
     ghost coded = { answering_code };
 
-    ghost view = { λ a. record { table = a.store.table; replies = a.replies.items; left = a.left } };
+    ghost view = { λ a. record {
+      table = a.store.table;
+      replies = a.replies.items;
+      left = a.left;
+    } };
 
     ghost invariant = { λ a. (a.left ≤ a.store.room)
         × (vec_len a.replies + a.left ≤ vec_capacity a.replies) };
