@@ -1,6 +1,7 @@
 pub mod Answering
 pub mod Bits
 pub mod Diligent
+pub mod Fetching
 pub mod FewRows
 pub mod Heads
 pub mod Lasts
