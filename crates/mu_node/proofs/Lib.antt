@@ -1,6 +1,7 @@
 mod Answering
 mod Bits
 mod Diligent
+pub mod Fetching
 pub mod FewRows
 mod Heads
 mod Lasts
