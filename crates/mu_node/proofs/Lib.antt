@@ -1,7 +1,7 @@
 mod Answering
 mod Bits
 mod Diligent
-pub mod Fetching
+mod Fetching
 pub mod FewRows
 mod Heads
 mod Lasts
