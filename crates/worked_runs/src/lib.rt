@@ -18,3 +18,5 @@ mod replays;
 mod reports;
 #[cfg(test)]
 mod runs;
+#[cfg(test)]
+mod seven;
