@@ -5,6 +5,8 @@
 #[cfg(test)]
 mod desks;
 #[cfg(test)]
+mod laws;
+#[cfg(test)]
 mod list_runs;
 #[cfg(test)]
 mod printing;
@@ -16,3 +18,5 @@ mod replays;
 mod reports;
 #[cfg(test)]
 mod runs;
+#[cfg(test)]
+mod seven;
