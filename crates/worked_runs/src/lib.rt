@@ -18,5 +18,3 @@ mod replays;
 mod reports;
 #[cfg(test)]
 mod runs;
-#[cfg(test)]
-mod seven;
