@@ -5,8 +5,6 @@
 #[cfg(test)]
 mod desks;
 #[cfg(test)]
-mod laws;
-#[cfg(test)]
 mod list_runs;
 #[cfg(test)]
 mod printing;
