@@ -39,7 +39,7 @@ pub fn hosts_grant_in_turn()
     ensures { HostsGrantInTurn }
 {}
 
-/// Who makes no more events is held failed in time, by each other that reads its counts.
+/// A replica that makes no more events is held failed in time by each other that reads its count.
 pub fn held_failed_in_time()
     ensures { HeldFailedInTime }
 {}
@@ -50,7 +50,7 @@ pub fn last_leaders_know_all()
     ensures { LastLeadersKnowAll }
 {}
 
-/// And it has applied them where it fetches the rows that others wrote in time.
+/// And it has applied them if it fetches in time the rows that others wrote.
 pub fn last_leaders_apply_all()
     ensures { LastLeadersApplyAll }
 {}

@@ -10,42 +10,44 @@ use Rattle.mu_input.specs.Heads.{HaveHeads}
 use Rattle.mu_model.specs.declared.config.Config.{Config}
 use Rattle.mu_model.specs.declared.event.Event.{Event}
 use Rattle.mu_model.specs.declared.script.End.{End}
-use Rattle.mu_model.specs.Contents.{IsConfig}
+use Rattle.mu_model.specs.Contents.{IsConfig, holds_all}
 use Rattle.mu_model.specs.Diligence.{AsksInTime, GrantsInTime, IsDiligent, ReadsInTime}
 use Rattle.mu_model.specs.Ends.{EndsBy, outrun}
 use Rattle.mu_model.specs.Histories.{count_below, history, part}
 use Rattle.mu_model.specs.Journals.{Record}
+use Rattle.mu_model.specs.Knowledge.{applied}
 use Rattle.mu_model.specs.Leaderships.{begins_leadership, has_begun, majority_of}
 use Rattle.mu_model.specs.Legal.{IsLegalHistory}
 use Rattle.mu_model.specs.Scores.{is_failed, leader, score}
-use Rattle.mu_model.specs.Steps.{knows_all}
 use Rattle.mu_model.proofs.Basics.{same_some}
-use Rattle.mu_model.proofs.Parts.{filter-append}
+use Rattle.mu_model.specs.Parts.{IsPossible}
+use Rattle.mu_model.proofs.Parts.{filter-append, part_is_possible}
 use Rattle.mu_node.specs.Journal.{WasMade}
+use Rattle.mu_node.proofs.Fetching.{rows_fetched}
 use Rattle.mu_node.proofs.Naming.{asker_named}
 use Rattle.mu_outcome.specs.declared.outcome.Outcome.{Outcome}
 use Rattle.mu_outcome.specs.declared.status.Status.{Status}
 use Rattle.mu_outcome.specs.Completion.{Completes, HasAllCommands, IsCutShort}
 use Rattle.mu_outcome.specs.Entries.{commands_in, longest}
 use Rattle.mu_outcome.specs.Outcomes.{IsRun, events_of, journal_of}
-use Rattle.mu_outcome.proofs.Completing.{completes_over}
+use Rattle.mu_outcome.proofs.Completing.{all_from_log, completes_over}
 use Rattle.mu_pace.specs.Collecting.{LeaderKeeps}
 use Rattle.mu_pace.specs.Counters.{AtEachMoment, AtEachStep}
 use Rattle.mu_pace.proofs.Counting.{moments_before}
 use Rattle.mu_alive.specs.Enough.{HasLargeRing}
 use Rattle.mu_alive.specs.Failing.{failing_steps}
-use Rattle.mu_alive.specs.Last.{LeadsLast, NamesItself, last_steps}
+use Rattle.mu_alive.specs.Last.{FetchesInTime, LeadsLast, NamesItself, fetching_steps, last_steps}
 use Rattle.mu_alive.specs.Lone.{IsNear}
 use Rattle.mu_alive.specs.Turns.{AreInTurn}
 use Rattle.mu_alive.proofs.Beginning.{grants_before, reads_before}
 use Rattle.mu_alive.proofs.Cutting.{Located, cut, located}
 use Rattle.mu_alive.proofs.Failing.{held_failed}
-use Rattle.mu_alive.proofs.Lasting.{last_knows_all}
+use Rattle.mu_alive.proofs.Fetching.{last_applies_all}
 use Rattle.mu_alive.proofs.TurnGrants.{turns_before}
 use Rattle.mu_alive.proofs.Turns.{begun-part, not_begun}
 use Rattle.mu_cluster.specs.declared.rounds.Seat.{Seat}
 use Rattle.mu_cluster.specs.Naming.{NoneOutrunUnpaused}
-use Rattle.mu_cluster.specs.Outliving.{CommitsAllAfterStops, GoesOnWith, HasTimeAfter, KnowsAllUnpaused, is_stop, steps_after, was_stopped}
+use Rattle.mu_cluster.specs.Outliving.{AppliesAllAfterStops, GoesOnWith, HasAllAfterStops, HasTimeAfter, is_stop, steps_after, was_stopped}
 use Rattle.mu_cluster.specs.Paces.{AreDiligent}
 use Rattle.mu_cluster.specs.Rounds.{Played, part_of}
 use Rattle.mu_cluster.proofs.Agreeing.{agrees_of, over_order}
@@ -170,37 +172,44 @@ leads_last c live events front older last lengths rounds a k good run nodes insi
     itself newer before cuts (inr begun) =
         eq-eqb (leader c a (part a before)) a (begun_named c events lengths rounds a (front ++ newer) before run nodes (is ∙ ap (λ l. front ++ l) cuts ∙ sym (append_assoc front newer before)) begun)
 
--- and knows every command
-knows_in : (c : Config) (live : ℕ → Bool) (events : List Event) (lengths : List ℕ) (rounds a k : ℕ) → IsConfig c → AreUnpaused c events lengths rounds → AreNodes c events → a < c.replicas → live a ≡ true → majority_of c.replicas ≤ count_below c.replicas live → ((r : ℕ) → r < c.replicas → live r ≡ true → slice_index lengths r ≡ c.budget)
-    → ((q : ℕ) → q < a → length (part_of q events) ≤ k) → ((r : ℕ) → r < c.replicas → IsDiligent c r (part_of r events)) → HasLargeRing c → k + steps_after c a ≤ c.budget → knows_all c a (part_of a events) ≡ true
-knows_in c live events lengths rounds a k good run nodes inside lives majority all short diligent large enough = go (part_of a events) refl
+-- and has every row in its log
+holds_after : (c : Config) (live : ℕ → Bool) (events : List Event) (lengths : List ℕ) (rounds a k : ℕ) → IsConfig c → AreUnpaused c events lengths rounds → AreNodes c events → a < c.replicas → live a ≡ true → majority_of c.replicas ≤ count_below c.replicas live → ((r : ℕ) → r < c.replicas → live r ≡ true → slice_index lengths r ≡ c.budget)
+    → ((q : ℕ) → q < a → length (part_of q events) ≤ k) → ((r : ℕ) → r < c.replicas → IsDiligent c r (part_of r events)) → HasLargeRing c → k + steps_after c a ≤ c.budget → holds_all c (applied c a (part_of a events)) ≡ true
+holds_after c live events lengths rounds a k good run nodes inside lives majority all short diligent large enough = go (part_of a events) refl
   where
-    long : k + failing_steps c + last_steps c a ≤ length (part_of a events)
+    long : k + failing_steps c + last_steps c a + fetching_steps c ≤ length (part_of a events)
     long = let taken = run.taken a inside in let is = all a inside lives in omega (arith, taken, is, enough)
 
-    go : (mine : List Event) → part_of a events ≡ mine → knows_all c a (part_of a events) ≡ true
+    possible : IsPossible c a (part_of a events)
+    possible = part_is_possible c a (history events) run.legal
+
+    fetches : FetchesInTime c a (part_of a events)
+    fetches = λ window older stretch many low. rows_fetched c a (part_of a events) window older good possible (run.made a inside) stretch many low
+
+    go : (mine : List Event) → part_of a events ≡ mine → holds_all c (applied c a (part_of a events)) ≡ true
     go [] is = absurd (let none = ap length is in omega (arith, long, none))
     go (last ∷ mine) is =
         let at = located a (history events) [] mine last is in
         let same : part a (last ∷ at.older) ≡ part_of a events = ap (λ t. cond t (last ∷ part a at.older) (part a at.older)) (eq-eqb last.by a at.own) ∙ ap (λ l. last ∷ l) at.before ∙ sym is in
         let leads = leads_last c live events at.newer at.older last lengths rounds a k good run nodes inside lives majority all short diligent at.is at.own same in
-        ap (knows_all c a) (sym same) ∙ last_knows_all c live a (k + failing_steps c) (last ∷ at.older) good large leads (subst (λ l. k + failing_steps c + last_steps c a ≤ length l) (sym same) long)
+        ap (λ l. holds_all c (applied c a l)) (sym same)
+        ∙ last_applies_all c live a (k + failing_steps c) (last ∷ at.older) good large leads (subst (FetchesInTime c a) (sym same) fetches) (subst (λ l. k + failing_steps c + last_steps c a + fetching_steps c ≤ length l) (sym same) long)
 
 -- in what a replay leaves
 not_stopped : (t : Bool) → not t ≡ true → t ≡ false
 not_stopped true is = absurd (true≢false (sym is))
 not_stopped false is = refl
 
-pub knows_of : (o : Outcome) (order : Record) (seats : List Seat) (rounds : ℕ) → IsConfig o.job.config → (run : IsRun o) → o.order ≡ Some order → Played o.job.config o.job.script order.events seats rounds 0 → AreDiligent o → KnowsAllUnpaused o
-knows_of o order seats rounds good run given played diligent unpaused s k on time spent =
+pub applies_after : (o : Outcome) (order : Record) (seats : List Seat) (rounds : ℕ) → IsConfig o.job.config → (run : IsRun o) → o.order ≡ Some order → Played o.job.config o.job.script order.events seats rounds 0 → AreDiligent o → AppliesAllAfterStops o
+applies_after o order seats rounds good run given played diligent unpaused s k on time spent =
     let c = o.job.config in
     let all = unpaused_of o order seats rounds run given played unpaused in
     let nodes = nodes_of o order seats rounds run given played diligent in
-    let knows = knows_in c (λ r. not (was_stopped o r)) run.order.events (map (λ journal. length (events_of journal)) o.journals) run.turns.rounds s k good all nodes on.inside (ap not on.left) on.majority
+    let holds = holds_after c (λ r. not (was_stopped o r)) run.order.events (map (λ journal. length (events_of journal)) o.journals) run.turns.rounds s k good all nodes on.inside (ap not on.left) on.majority
     (λ r low there. all.taken r low ∙ ap length (sym (journal_part o run r low)) ∙ budget r low (not_stopped (was_stopped o r) there))
     (λ q below. let inside = on.inside in let few = time.ended q below in let same = ap length (journal_part o run q (omega (arith, below, inside))) in let long = length-reverse (journal_of o q) in omega (arith, few, same, long))
     (λ r low. subst (IsDiligent c r) (journal_part o run r low) (diligent r low)) time.large time.enough in
-    ap (knows_all c s) (journal_part o run s on.inside) ∙ knows
+    ap (holds_all c) (run.logs s on.inside ∙ ap (applied c s) (journal_part o run s on.inside)) ∙ holds
   where
     budget : (r : ℕ) → r < o.job.config.replicas → was_stopped o r ≡ false → length (history (journal_of o r)) ≡ o.job.config.budget
     budget r low there = go (run.ended r low).0 (run.ended r low).1 (run.ended r low).2.ends
@@ -208,11 +217,13 @@ knows_of o order seats rounds good run given played diligent unpaused s k on tim
         go : (end : End) → slice_get o.ends r ≡ Some end → EndsBy o.job.config o.job.script r (history (journal_of o r)) end → length (history (journal_of o r)) ≡ o.job.config.budget
         go end is ends = (subst (EndsBy o.job.config o.job.script r (history (journal_of o r))) (same_some end End.Budget (sym is ∙ spent r low there)) ends).1
 
-pub commits_of : (o : Outcome) → IsConfig o.job.config → HaveHeads o.job.config.width o.job.commands o.job.config.rows → IsRun o → NoneOutrunUnpaused o → KnowsAllUnpaused o → CommitsAllAfterStops o
-commits_of o good have run none knows unpaused s k on time =
+pub outlives_of : (o : Outcome) → IsConfig o.job.config → HaveHeads o.job.config.width o.job.commands o.job.config.rows → IsRun o → NoneOutrunUnpaused o → AppliesAllAfterStops o → HasAllAfterStops o
+outlives_of o good have run none applies unpaused s k on time =
     elim (done_or_not (length (commands_in o.job (longest o.logs))) (length o.job.commands)) [
-      | inl done ↦ inl (completes.done.0 done)
-      | inr open_yet ↦ (let lacks = completes.unfinished.0 open_yet in inr (knows unpaused s k on time (λ r low there. spent lacks r low there)))
+      | inl done ↦ completes.done.0 done
+      | inr open_yet ↦
+          let lacks = completes.unfinished.0 open_yet in
+          all_from_log o run.order.events good have (over_order o run) (agrees_of o good have run) s on.inside (applies unpaused s k on time (λ r low there. spent lacks r low there))
     ]
   where
     completes : Completes o

@@ -11,7 +11,7 @@ use Rattle.mu_model.specs.Leaderships.{majority_of}
 use Rattle.mu_outcome.specs.declared.outcome.Outcome.{Outcome}
 use Rattle.mu_outcome.specs.Completion.{HasAllCommands}
 use Rattle.mu_outcome.specs.Outcomes.{log_of}
-use Rattle.mu_cluster.specs.Outliving.{CommitsAllAfterStops, KnowsAllUnpaused}
+use Rattle.mu_cluster.specs.Outliving.{AppliesAllAfterStops, HasAllAfterStops}
 
 -- a line of the script stops r
 abbrev pub is_stopped : List Stop → ℕ → Bool
@@ -48,9 +48,9 @@ HasAllWithFirst o =
 -- any are
 pub record AppliesAllUnpaused (o : Outcome) : Type 0 where
   pub first : AppliesAllWithFirst o
-  pub last : KnowsAllUnpaused o
+  pub last : AppliesAllAfterStops o
 
--- a replay stays alive: with replica 0 it has every command, and without it each is committed
+-- a replay stays alive: it has every command where replica 0 isn't stopped, and where leaders are
 pub record HasAllInTime (o : Outcome) : Type 0 where
   pub first : HasAllWithFirst o
-  pub last : CommitsAllAfterStops o
+  pub last : HasAllAfterStops o

@@ -1,18 +1,18 @@
 -- What a replay comes to where leaders are stopped, one after another.
-use Rattle.std.specs.Prelude.{Bool, List, Some, [], false, length, not, true, ℕ, ◌+◌, ◌<◌, ◌≡◌, ◌≤◌, ◌⊎◌}
+use Rattle.std.specs.Prelude.{Bool, List, Some, [], false, length, not, true, ℕ, ◌+◌, ◌<◌, ◌≡◌, ◌≤◌}
 use Rattle.std.specs.declared.option.Option.{Option}
 use Rattle.std.specs.List.{slice_get}
 use Rattle.mu_alive.specs.Enough.{HasLargeRing}
 use Rattle.mu_alive.specs.Failing.{failing_steps}
-use Rattle.mu_alive.specs.Last.{last_steps}
+use Rattle.mu_alive.specs.Last.{fetching_steps, last_steps}
 use Rattle.mu_model.specs.declared.config.Config.{Config}
 use Rattle.mu_model.specs.declared.script.End.{End}
-use Rattle.mu_model.specs.Histories.{count_below, history}
+use Rattle.mu_model.specs.Contents.{holds_all}
+use Rattle.mu_model.specs.Histories.{count_below}
 use Rattle.mu_model.specs.Leaderships.{majority_of}
-use Rattle.mu_model.specs.Steps.{knows_all}
 use Rattle.mu_outcome.specs.declared.outcome.Outcome.{Outcome}
 use Rattle.mu_outcome.specs.Completion.{HasAllCommands}
-use Rattle.mu_outcome.specs.Outcomes.{journal_of}
+use Rattle.mu_outcome.specs.Outcomes.{journal_of, log_of}
 
 abbrev pub is_stop : Option End → Bool
 is_stop (Some End.Stopped) = true
@@ -31,9 +31,9 @@ pub record GoesOnWith (o : Outcome) (s : ℕ) : Type 0 where
       majority_of o.job.config.replicas
       ≤ count_below o.job.config.replicas (λ r. not (was_stopped o r))
 
--- so many steps after the last one of each lower replica s knows every command
+-- so many steps after the last one of each lower replica s has every command
 abbrev pub steps_after : Config → ℕ → ℕ
-steps_after c s = failing_steps c + last_steps c s
+steps_after c s = failing_steps c + last_steps c s + fetching_steps c
 
 -- each replica below s took at most k steps, and so many more are within the budget, with a ring
 -- that has a place for each entry
@@ -42,18 +42,17 @@ pub record HasTimeAfter (o : Outcome) (s k : ℕ) : Type 0 where
   pub large : HasLargeRing o.job.config
   pub enough : k + steps_after o.job.config s ≤ o.job.config.budget
 
--- where the script has no pause the least replica that goes on with a majority knows every command,
--- should those that weren't stopped have spent their budgets
-abbrev pub KnowsAllUnpaused : Outcome → Type 0
-KnowsAllUnpaused o =
+-- where the script has no pause the least replica that goes on with a majority has every row in its
+-- log, should those that weren't stopped have spent their budgets
+abbrev pub AppliesAllAfterStops : Outcome → Type 0
+AppliesAllAfterStops o =
     o.job.script.pauses ≡ [] → (s k : ℕ) → GoesOnWith o s → HasTimeAfter o s k
     → ((r : ℕ) → r < o.job.config.replicas → was_stopped o r ≡ false
     → slice_get o.ends r ≡ Some End.Budget)
-    → knows_all o.job.config s (history (journal_of o s)) ≡ true
+    → holds_all o.job.config (log_of o s) ≡ true
 
--- so every command is committed there, whoever was stopped and when: it is in the longest log, or
--- the least replica that goes on knows its place
-abbrev pub CommitsAllAfterStops : Outcome → Type 0
-CommitsAllAfterStops o =
+-- so there it has every command, whoever was stopped and when, leaders one after another too
+abbrev pub HasAllAfterStops : Outcome → Type 0
+HasAllAfterStops o =
     o.job.script.pauses ≡ [] → (s k : ℕ) → GoesOnWith o s → HasTimeAfter o s k
-    → HasAllCommands o ⊎ (knows_all o.job.config s (history (journal_of o s)) ≡ true)
+    → HasAllCommands o

@@ -1,5 +1,5 @@
 -- The counts of a replayer: what closes them, and what an event leaves that closes none.
-use Rattle.std.proofs.Common.{◌≡◌, ◌∙◌, ℕ, ◌+◌, ◌-◌, ◌*◌, ◌%◌, ◌≤◌, ◌==◌, ◌&&◌, ◌||◌, ◌⊎◌, inl, inr, Bool, true, false, None, Some, List, [], ◌∷◌, ap, arith, length, refl, sym}
+use Rattle.std.proofs.Common.{◌≡◌, ◌∙◌, ℕ, ◌+◌, ◌-◌, ◌*◌, ◌/◌, ◌%◌, ◌≤◌, ◌==◌, ◌&&◌, ◌||◌, ◌⊎◌, inl, inr, Bool, true, false, None, Some, List, [], ◌∷◌, ap, arith, length, refl, sym}
 use Rattle.std.specs.Prelude.{if◌then◌else◌, nat_lt}
 use Rattle.std.specs.declared.option.Option.{Option}
 use Rattle.std.proofs.lemmas.Bool.{cases_lt, lt-ltb, ltb-true, true≢false, or_parts}
@@ -8,13 +8,14 @@ use Rattle.mu_model.specs.declared.event.Event.{Event}
 use Rattle.mu_model.specs.declared.event.Verb.{Verb}
 use Rattle.mu_model.specs.Bounds.{cycle}
 use Rattle.mu_model.specs.Diligence.{completes_row, is_row_of}
-use Rattle.mu_model.specs.Knowledge.{applied, greatest_fuo_read, has_row, known}
+use Rattle.mu_model.specs.Histories.{has}
+use Rattle.mu_model.specs.Knowledge.{applied, greatest_fuo_read, has_row, has_word, is_read, is_written, known, wrote}
 use Rattle.mu_model.specs.Steps.{is_fuo_of, is_fuo_of_verb, is_named, knows_more}
 use Rattle.mu_model.specs.Stretches.{is_odd}
 use Rattle.mu_model.proofs.Basics.{none_some, or_true, same_number, true_or}
 use Rattle.mu_grant.specs.Pace.{host_place}
 use Rattle.mu_grant.specs.Stands.{is_of_place}
-use Rattle.mu_follow.specs.Due.{replay_due}
+use Rattle.mu_follow.specs.Due.{replay_due, row_read, row_under_way}
 use Rattle.mu_follow.proofs.Waiting.{fuo_rises, is_write, known_same, own_applied_same, own_row_same}
 use Rattle.mu_lead.specs.Beside.{leads_at}
 use Rattle.mu_lead.specs.Standing.{verb_of}
@@ -126,6 +127,42 @@ still_applied c r past e held still = own_applied_same c r past e held.own (made
 
 pub still_row : (c : Config) (r u : ℕ) (past : List Event) (e : Event) → WasMade c r past e → IsOpenStep c r past e → is_row_of c u (known c r past) ≡ true → has_row r u (e ∷ past) ≡ has_row r u past
 still_row c r u past e held still of_known = own_row_same c r u past e held.own (made_no_write c r past e held still.unnamed) of_known still.completes
+
+-- an event that leaves what of the rows of known entries r has, and which row is under way unless it
+-- is the cycle's own
+pub record IsStill (c : Config) (r : ℕ) (past : List Event) (e : Event) : Type 0 where
+  pub of_known : (u : ℕ) → is_row_of c u (known c r past) ≡ true → is_row_of c u (known c r (e ∷ past)) ≡ true
+  pub rows : (u : ℕ) → is_row_of c u (known c r past) ≡ true → has_row r u (e ∷ past) ≡ has_row r u past
+  pub words : (u k : ℕ) → has_word r u k past ≡ true → has_word r u k (e ∷ past) ≡ true
+  pub same : length (applied c r (e ∷ past)) ≡ length (applied c r past)
+  pub under : is_odd (length past) ≡ true → row_under_way (e ∷ past) ≡ row_under_way past
+
+-- a word that r has it goes on having
+has_on : (test : Event → Bool) (e : Event) (past : List Event) → has test past ≡ true → has test (e ∷ past) ≡ true
+has_on test e past some = go (test e)
+  where
+    go : (t : Bool) → (if t then true else has test past) ≡ true
+    go true = refl
+    go false = some
+
+pub word_on : (r u k : ℕ) (e : Event) (past : List Event) → has_word r u k past ≡ true → has_word r u k (e ∷ past) ≡ true
+word_on r u k e past is = go (u / 4096 == r) (wrote r (u % 4096) k past) refl (has (λ f. is_read r u k f.by f.verb) past) refl is
+  where
+    go : (t w : Bool) → wrote r (u % 4096) k past ≡ w → (x : Bool) → has (λ f. is_read r u k f.by f.verb) past ≡ x → ((t && w) || x) ≡ true → ((t && wrote r (u % 4096) k (e ∷ past)) || has (λ f. is_read r u k f.by f.verb) (e ∷ past)) ≡ true
+    go t w hw true hx is = or_true (t && wrote r (u % 4096) k (e ∷ past)) (has (λ f. is_read r u k f.by f.verb) (e ∷ past)) (has_on (λ f. is_read r u k f.by f.verb) e past hx)
+    go true true hw false hx is = true_or (wrote r (u % 4096) k (e ∷ past)) (has (λ f. is_read r u k f.by f.verb) (e ∷ past)) (has_on (λ f. is_written r (u % 4096) k f.by f.verb) e past hw)
+    go true false hw false hx is = absurd (true≢false (sym is))
+    go false w hw false hx is = absurd (true≢false (sym is))
+
+-- one that doesn't close the count is
+pub still_open : (c : Config) (r : ℕ) (past : List Event) (e : Event) → WasMade c r past e → IsOpenStep c r past e → IsStill c r past e
+still_open c r past e held still = record {
+  of_known = λ u is. ap (is_row_of c u) (still_known c r past e still) ∙ is;
+  rows = λ u is. still_row c r u past e held still is;
+  words = λ u k had. word_on r u k e past had;
+  same = still_applied c r past e held still;
+  under = λ odd. ap (λ v. row_read v (row_under_way past)) (beats_unnamed c r past e held still.unnamed odd);
+}
 
 -- what is due to be replayed stays due
 due_stays : (c : Config) (r : ℕ) (past : List Event) (e : Event) → WasMade c r past e → IsOpenStep c r past e → is_replay_due c r past ≡ true → is_replay_due c r (e ∷ past) ≡ true

@@ -32,7 +32,7 @@ use Rattle.mu_node.specs.Cycle.{handed, handed_before, hands_on, place_now}
 use Rattle.mu_node.specs.Due.{verb_or_beat}
 use Rattle.mu_node.specs.Journal.{WasMade}
 use Rattle.mu_node.proofs.Rounding.{at_place, place_index, replayed_at}
-use Rattle.mu_node.proofs.Open.{IsOpenStep, beats_unnamed, closes_anew, open_step, rows_allow, rows_anew, still_applied, still_known, still_row, undue_room}
+use Rattle.mu_node.proofs.Open.{IsOpenStep, IsStill, closes_anew, open_step, rows_allow, rows_anew, still_applied, still_known, still_open, undue_room}
 
 -- how many events come before the next last word
 abbrev ahead : ℕ → ℕ → ℕ
@@ -43,30 +43,30 @@ abbrev IsEased : Config → ℕ → List Event → Type 0
 IsEased c r past = HasRoom (replaying c r) (cycle c + 1 + ahead c.replicas (length past % cycle c)) past
 
 -- a row of a known entry is under way that r doesn't have, and so many of its words are read
-record IsReading (c : Config) (r count : ℕ) (past : List Event) : Type 0 where
-  row : ℕ
-  under_way : row_under_way past ≡ Some row
-  of_known : is_row_of c row (known c r past) ≡ true
-  missing : has_row r row past ≡ false
-  words : (k : ℕ) → k < count → has_word r row k past ≡ true
+pub record IsReading (c : Config) (r count : ℕ) (past : List Event) : Type 0 where
+  pub row : ℕ
+  pub under_way : row_under_way past ≡ Some row
+  pub of_known : is_row_of c row (known c r past) ≡ true
+  pub missing : has_row r row past ≡ false
+  pub words : (k : ℕ) → k < count → has_word r row k past ≡ true
 
 -- what is done at the place x of the round: from the place of heads up to the first word all that is
 -- applied was handed on; before the first word some entry isn't applied, and after it one of its
 -- rows is read word by word
-record IsAt (c : Config) (r x : ℕ) (past : List Event) : Type 0 where
-  handed : (x ≤ 4 * c.replicas + 14) ⊎ (4 * c.replicas + 41 ≤ x) → handed_before c r past ≡ length (applied c r past)
-  waits : 4 * c.replicas + 13 ≤ x → x ≤ 4 * c.replicas + 14 → length (applied c r past) < length (known c r past)
-  reads : 4 * c.replicas + 15 ≤ x → x ≤ 4 * c.replicas + 36 → IsReading c r ((x - (4 * c.replicas + 13)) / 2) past
+pub record IsAt (c : Config) (r x : ℕ) (past : List Event) : Type 0 where
+  pub handed : (x ≤ 4 * c.replicas + 14) ⊎ (4 * c.replicas + 41 ≤ x) → handed_before c r past ≡ length (applied c r past)
+  pub waits : 4 * c.replicas + 13 ≤ x → x ≤ 4 * c.replicas + 14 → length (applied c r past) < length (known c r past)
+  pub reads : 4 * c.replicas + 15 ≤ x → x ≤ 4 * c.replicas + 36 → IsReading c r ((x - (4 * c.replicas + 13)) / 2) past
 
 -- there is room, or it is done, or r was outrun
 abbrev Goes : Config → ℕ → List Event → Type 0
 Goes c r past = IsEased c r past ⊎ (IsAt c r (length past % cycle c) past ⊎ (outrun c r past ≡ None → ⊥))
 
 -- the next place
-abbrev IsAfter : Config → ℕ → ℕ → Type 0
+abbrev pub IsAfter : Config → ℕ → ℕ → Type 0
 IsAfter c x y = (y ≡ x + 1) ⊎ ((x + 1 ≡ 4 * c.replicas + 44) × (y ≡ 0))
 
-next_place : (c : Config) (past : List Event) (e : Event) → IsAfter c (length past % cycle c) (length (e ∷ past) % cycle c)
+pub next_place : (c : Config) (past : List Event) (e : Event) → IsAfter c (length past % cycle c) (length (e ∷ past) % cycle c)
 next_place c past e =
     let low = mod-lt (length past) {m = cycle c} (omega arith) in
     let more = suc-mod (length past) (cycle c) in
@@ -171,7 +171,7 @@ last_completes c r past e held at reading =
     ap (completes_row_verb c r past (e ∷ past)) reads ∙ rw (reading.of_known, reading.missing, had) refl
 
 -- at the place of the first word a row of the first entry that isn't applied is begun
-first_read : (c : Config) (r : ℕ) (past : List Event) (e : Event) → WasMade c r past e → IsOpenStep c r past e → length past % cycle c ≡ 4 * c.replicas + 14 → handed_before c r past ≡ length (applied c r past)
+first_read : (c : Config) (r : ℕ) (past : List Event) (e : Event) → WasMade c r past e → IsStill c r past e → length past % cycle c ≡ 4 * c.replicas + 14 → handed_before c r past ≡ length (applied c r past)
     → length (applied c r past) < length (known c r past) → IsReading c r 1 (e ∷ past)
 first_read c r past e held still at count low =
     let next : IsNextRow c r past = next_row c r past low in
@@ -190,8 +190,8 @@ first_read c r past e held still at count low =
     record {
       row = u;
       under_way = ap (λ v. row_read v (row_under_way past)) reads;
-      of_known = ap (is_row_of c u) (still_known c r past e still) ∙ of_known;
-      missing = still_row c r u past e held still of_known ∙ row.missing;
+      of_known = still.of_known u of_known;
+      missing = still.rows u of_known ∙ row.missing;
       words = λ j few. word_had c r u j 0 past e held.own reads (inl (omega (arith, few)));
     }
 
@@ -199,7 +199,7 @@ two_parts : (x : ℕ) → (x % 2 ≡ 1 → ⊥) → x % 2 ≡ 0
 two_parts x other = elim (cases_eq (x % 2) 0) [ inl none ↦ none | inr some ↦ (let low = mod-lt x {m = 2} (omega arith) in absurd (other (omega (arith, low, some)))) ]
 
 -- at the next places it is read on
-reads_on : (c : Config) (r x y : ℕ) (past : List Event) (e : Event) → WasMade c r past e → IsOpenStep c r past e → length past % cycle c ≡ x → y ≡ x + 1 → 4 * c.replicas + 15 ≤ x → x ≤ 4 * c.replicas + 35
+reads_on : (c : Config) (r x y : ℕ) (past : List Event) (e : Event) → WasMade c r past e → IsStill c r past e → length past % cycle c ≡ x → y ≡ x + 1 → 4 * c.replicas + 15 ≤ x → x ≤ 4 * c.replicas + 35
     → IsReading c r ((x - (4 * c.replicas + 13)) / 2) past → IsReading c r ((y - (4 * c.replicas + 13)) / 2) (e ∷ past)
 reads_on c r x y past e held still at next low high old = go (cases_eq (x % 2) 1)
   where
@@ -208,14 +208,13 @@ reads_on c r x y past e held still at next low high old = go (cases_eq (x % 2) 1
 
     go : (x % 2 ≡ 1) ⊎ (x % 2 ≡ 1 → ⊥) → IsReading c r ((y - (4 * c.replicas + 13)) / 2) (e ∷ past)
     go (inl odd) =
-        let beat = beats_unnamed c r past e held still.unnamed (eq-eqb (length past % 2) 1 (sym index ∙ odd)) in
         let same : (y - (4 * c.replicas + 13)) / 2 ≡ (x - (4 * c.replicas + 13)) / 2 = omega (arith, odd, next, low) in
         subst (λ n. IsReading c r n (e ∷ past)) (sym same) (record {
           row = old.row;
-          under_way = ap (λ v. row_read v (row_under_way past)) beat ∙ old.under_way;
-          of_known = ap (is_row_of c old.row) (still_known c r past e still) ∙ old.of_known;
-          missing = still_row c r old.row past e held still old.of_known ∙ old.missing;
-          words = λ j few. subst (λ v. has_word r old.row j (event_by e.by v e.answer ∷ past) ≡ has_word r old.row j past) (sym beat) refl ∙ old.words j few;
+          under_way = still.under (eq-eqb (length past % 2) 1 (sym index ∙ odd)) ∙ old.under_way;
+          of_known = still.of_known old.row old.of_known;
+          missing = still.rows old.row old.of_known ∙ old.missing;
+          words = λ j few. still.words old.row j (old.words j few);
         })
     go (inr other) =
         let none = two_parts x other in
@@ -227,8 +226,8 @@ reads_on c r x y past e held still at next low high old = go (cases_eq (x % 2) 1
         subst (λ n. IsReading c r n (e ∷ past)) (sym more) (record {
           row = old.row;
           under_way = ap (λ v. row_read v (row_under_way past)) reads ∙ ap (λ t. if t then Some old.row else None) (lt-ltb k 11 (omega (arith, whole, high)));
-          of_known = ap (is_row_of c old.row) (still_known c r past e still) ∙ old.of_known;
-          missing = still_row c r old.row past e held still old.of_known ∙ old.missing;
+          of_known = still.of_known old.row old.of_known;
+          missing = still.rows old.row old.of_known ∙ old.missing;
           words = λ j few_j. word_had c r old.row j k past e held.own reads (elim (cases_lt j k) [ inl before ↦ inr (old.words j (omega (arith, before, few))) | inr last ↦ inl (omega (arith, few_j, last)) ]);
         })
 
@@ -262,12 +261,12 @@ looks_next c r past e made held still possible at = elim (cases_lt (length (appl
     by_due false none high = inl (eased (λ n few. undue_room c r n past made none))
 
 -- what is done at the next place
-at_next : (c : Config) (r x y : ℕ) (past : List Event) (e : Event) → WasMade c r past e → IsOpenStep c r past e → length past % cycle c ≡ x → IsAfter c x y → x ≢ 4 * c.replicas + 36 → IsAt c r x past
+pub at_next : (c : Config) (r x y : ℕ) (past : List Event) (e : Event) → WasMade c r past e → IsStill c r past e → length past % cycle c ≡ x → IsAfter c x y → x ≢ 4 * c.replicas + 36 → IsAt c r x past
     → (4 * c.replicas + 13 ≤ y → y ≤ 4 * c.replicas + 14 → length (applied c r (e ∷ past)) < length (known c r (e ∷ past))) → IsAt c r y (e ∷ past)
 at_next c r x y past e held still at after other old waits = record { handed = handed_on; waits = waits; reads = reading }
   where
     same : length (applied c r (e ∷ past)) ≡ length (applied c r past)
-    same = still_applied c r past e held still
+    same = still.same
 
     handed_on : (y ≤ 4 * c.replicas + 14) ⊎ (4 * c.replicas + 41 ≤ y) → handed_before c r (e ∷ past) ≡ length (applied c r (e ∷ past))
     handed_on side = elim (cases_eq x (4 * c.replicas + 40)) [
@@ -299,7 +298,7 @@ at_next c r x y past e held still at after other old waits = record { handed = h
         later_than x m low away = elim (cases_lt m x) [ inl more ↦ omega (arith, more) | inr less ↦ absurd (away (omega (arith, low, less))) ]
 
 -- right after a last word nothing has to be done
-at_rest : (c : Config) (r x y : ℕ) (now : List Event) → x ≡ 4 * c.replicas + 36 → IsAfter c x y → IsAt c r y now
+pub at_rest : (c : Config) (r x y : ℕ) (now : List Event) → x ≡ 4 * c.replicas + 36 → IsAfter c x y → IsAt c r y now
 at_rest c r x y now last after =
     let next : y ≡ 4 * c.replicas + 37 = elim after [ inl more ↦ omega (arith, more, last) | inr round ↦ (let whole = round.0 in absurd (omega (arith, whole, last))) ] in
     record {
@@ -309,7 +308,7 @@ at_rest c r x y now last after =
     }
 
 -- at the last word the row is whole
-last_whole : (c : Config) (r : ℕ) (past : List Event) (e : Event) → WasMade c r past e → length past % cycle c ≡ 4 * c.replicas + 36 → IsAt c r (length past % cycle c) past → completes_row c r past e ≡ true
+pub last_whole : (c : Config) (r : ℕ) (past : List Event) (e : Event) → WasMade c r past e → length past % cycle c ≡ 4 * c.replicas + 36 → IsAt c r (length past % cycle c) past → completes_row c r past e ≡ true
 last_whole c r past e held last old =
     let eleven : (length past % cycle c - (4 * c.replicas + 13)) / 2 ≡ 11 = omega (arith, last) in
     last_completes c r past e held last (subst (λ n. IsReading c r n past) eleven (old.reads (omega (arith, last)) (omega (arith, last))))
@@ -324,10 +323,10 @@ goes_on c r past e possible made held old = go ((replaying c r).closes past e) r
     placed : IsOpenStep c r past e → IsAt c r (length past % cycle c) past → length past % cycle c ≢ 4 * c.replicas + 36 → Goes c r (e ∷ past)
     placed still at other = elim (cases_eq (length past % cycle c) (4 * c.replicas + 12)) [
       | inl here ↦ elim (looks_next c r past e made held still possible here) [
-        | inl low ↦ inr (inl (at_next c r (length past % cycle c) (length (e ∷ past) % cycle c) past e held still refl after other at (λ from to. low)))
+        | inl low ↦ inr (inl (at_next c r (length past % cycle c) (length (e ∷ past) % cycle c) past e held (still_open c r past e held still) refl after other at (λ from to. low)))
         | inr rest ↦ elim rest [ inl eased ↦ inl eased | inr over ↦ inr (inr over) ]
       ]
-      | inr away ↦ inr (inl (at_next c r (length past % cycle c) (length (e ∷ past) % cycle c) past e held still refl after other at (λ from to. waits_on (length past % cycle c) (length (e ∷ past) % cycle c) after away from to at)))
+      | inr away ↦ inr (inl (at_next c r (length past % cycle c) (length (e ∷ past) % cycle c) past e held (still_open c r past e held still) refl after other at (λ from to. waits_on (length past % cycle c) (length (e ∷ past) % cycle c) after away from to at)))
     ]
       where
         waits_on : (x y : ℕ) → IsAfter c x y → x ≢ 4 * c.replicas + 12 → 4 * c.replicas + 13 ≤ y → y ≤ 4 * c.replicas + 14 → IsAt c r x past → length (applied c r (e ∷ past)) < length (known c r (e ∷ past))

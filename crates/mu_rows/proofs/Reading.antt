@@ -1,7 +1,8 @@
 -- What a row says of the command that it spells.
-use Rattle.std.proofs.Common.{◌≡◌, ◌↔◌, Option, None, Some, subst, add-zero, ℕ, zero, suc, ◌+◌, ◌*◌, ◌<◌, ◌≤◌, ◌/◌, ◌%◌, List, [], ◌∷◌, length, map, take, drop, get_or, refl, sym, ap, ◌∙◌, arith, length-take, get_or-take, inl, inr}
+use Rattle.std.proofs.Common.{◌≡◌, ◌↔◌, Bool, true, false, Option, None, Some, subst, add-zero, ℕ, zero, suc, ◌+◌, ◌*◌, ◌<◌, ◌≤◌, ◌/◌, ◌%◌, List, [], ◌∷◌, length, map, take, drop, get_or, refl, sym, ap, ◌∙◌, arith, length-take, get_or-take, get_or-drop, inl, inr}
 use Rattle.std.specs.Prelude.{nat_lt}
 use Rattle.std.specs.Option.{IsSome, IfSome}
+use Rattle.std.specs.Bool.{then_some}
 use Rattle.std.proofs.lemmas.Bool.{cases_Bool, false≢true, ltb-false, ltb-true}
 use Rattle.std.specs.Int.{w64, to_le_bytes}
 use Rattle.std.specs.List.{range_with_len, slice_range}
@@ -10,14 +11,16 @@ use Rattle.std.proofs.lemmas.List.{length-take-le}
 use Rattle.std.proofs.lemmas.List.FromFn.{length-map-range_with_len, get_or-map-range_with_len}
 use Rattle.std.proofs.lemmas.Nat.{le_bytes_8}
 use Rattle.kv_store.specs.Commands.{Request, HasShortTexts, IsAllowed, key_of}
-use Rattle.kv_store.specs.Words.{IsWord, IsText}
+use Rattle.kv_store.specs.Words.{IsKey, IsWord, IsText}
 use Rattle.kv_store.specs.declared.command.Op.{Op}
 use Rattle.kv_store.specs.declared.command.Op.TheVariants.{Put, Get, Del, Swap, Cas}
 use Rattle.mu_rows.specs.Rows.{word_of, code_of, first_text, second_text, head_word, text_word, spelled, HasWords, IsCommand}
+use Rattle.mu_rows.specs.Saying.{SaysOp}
+use Rattle.std.proofs.Math.Nat.{div-div-eq-div-mul}
 use Rattle.mu_rows.proofs.Bytes.{word_of-bytes}
 
 -- visible bytes are bytes
-below : (most : ℕ) (bytes : List ℕ) → IsWord most bytes → (i : ℕ) → get_or bytes i 0 < 256
+pub below : (most : ℕ) (bytes : List ℕ) → IsWord most bytes → (i : ℕ) → get_or bytes i 0 < 256
 below most bytes word i = grind (arith, common_steps, word.visible i 0)
 
 below-map : (f : ℕ → ℕ) → ((i : ℕ) → f i < 256) → (xs : List ℕ) (i : ℕ) → get_or (map f xs) i 0 < 256
@@ -134,51 +137,139 @@ one-request {a} {b} {x} {y} {o} {p} e f g = ap (λ a. the-request a b o) e ∙ a
 abbrev texts : Op → List ℕ
 texts op = map (text_word op) (range_with_len 0 8)
 
--- a text stands at the front of words
-pub record Stands (words text : List ℕ) : Type 0 where
-  pub count : ℕ
-  pub enough : length text ≤ 8 * count
-  pub same : take count words ≡ map (word_of text) (range_with_len 0 count)
+-- what the words of the texts are, by the kind of the operation
+pub record OneText (op : Op) : Type 0 where
+  pub text : IsText (first_text op)
+  pub alone : length (second_text op) ≡ 0
+  pub same : texts op ≡ map (word_of (first_text op)) (range_with_len 0 8)
 
-first-stands : (op : Op) → HasWords op → HasShortTexts op → IsText (first_text op) → Stands (texts op) (first_text op)
-first-stands (Put key text) words short is = record { count = 8; enough = omega (arith, is.fits); same = refl }
-first-stands (Get key) words short is = absurd (omega (arith, is.some))
-first-stands (Del key) words short is = absurd (omega (arith, is.some))
-first-stands (Swap key text) words short is = record { count = 8; enough = omega (arith, is.fits); same = refl }
-first-stands (Cas key old new) words short is = record { count = 4; enough = omega (arith, short.0); same = refl }
+pub one-put : (op : Op) → code_of op ≡ 1 → HasWords op → OneText op
+one-put (Put key text) code words = record { text = words.1; alone = refl; same = refl }
+one-put op code words = absurd (omega arith)
 
-second-stands : (op : Op) → HasWords op → HasShortTexts op → IsText (second_text op) → Stands (drop 4 (texts op)) (second_text op)
-second-stands (Put key text) words short is = absurd (omega (arith, is.some))
-second-stands (Get key) words short is = absurd (omega (arith, is.some))
-second-stands (Del key) words short is = absurd (omega (arith, is.some))
-second-stands (Swap key text) words short is = absurd (omega (arith, is.some))
-second-stands (Cas key old new) words short is = record { count = 4; enough = omega (arith, short.1); same = refl }
+pub one-swap : (op : Op) → code_of op ≡ 4 → HasWords op → OneText op
+one-swap (Swap key text) code words = record { text = words.1; alone = refl; same = refl }
+one-swap op code words = absurd (omega arith)
 
--- the key and the texts of a command stand in its row
-pub key-in-row : (words : List ℕ) (r : Request) (k : ℕ) → IsCommand r → words ≡ spelled r k → Stands (take 3 (drop 1 words)) (key_of r.op)
-key-in-row words r k is same = record {
-  count = 3;
-  enough = omega (arith, (small r.op is.words).key.fits);
-  same = ap (λ l. take 3 (take 3 (drop 1 l))) same;
-}
+pub record NoText (op : Op) : Type 0 where
+  pub first : length (first_text op) ≡ 0
+  pub second : length (second_text op) ≡ 0
+  pub same : (j : ℕ) → text_word op j ≡ 0
 
-pub first-in-row : (words : List ℕ) (r : Request) (k : ℕ) → IsCommand r → words ≡ spelled r k → IsText (first_text r.op)
-    → Stands (take 8 (drop 4 words)) (first_text r.op)
-first-in-row words r k is same text =
-    subst (λ l. Stands l (first_text r.op)) (sym (ap (λ l. take 8 (drop 4 l)) same)) (first-stands r.op is.words is.allowed.short_texts text)
+pub none-get : (op : Op) → code_of op ≡ 2 → NoText op
+none-get (Get key) code = record { first = refl; second = refl; same = λ j. refl }
+none-get op code = absurd (omega arith)
 
-pub second-in-row : (words : List ℕ) (r : Request) (k : ℕ) → IsCommand r → words ≡ spelled r k → IsText (second_text r.op)
-    → Stands (take 4 (drop 8 words)) (second_text r.op)
-second-in-row words r k is same text =
-    subst (λ l. Stands l (second_text r.op)) (sym (ap (λ l. take 4 (drop 8 l)) same)) (second-stands r.op is.words is.allowed.short_texts text)
+pub none-del : (op : Op) → code_of op ≡ 3 → NoText op
+none-del (Del key) code = record { first = refl; second = refl; same = λ j. refl }
+none-del op code = absurd (omega arith)
+
+pub record TwoTexts (op : Op) : Type 0 where
+  pub first : IsText (first_text op)
+  pub first_short : length (first_text op) ≤ 32
+  pub first_same : take 4 (texts op) ≡ map (word_of (first_text op)) (range_with_len 0 4)
+  pub second : IsText (second_text op)
+  pub second_short : length (second_text op) ≤ 32
+  pub second_same : drop 4 (texts op) ≡ map (word_of (second_text op)) (range_with_len 0 4)
+
+pub two-cas : (op : Op) → code_of op ≡ 5 → HasWords op → HasShortTexts op → TwoTexts op
+two-cas (Cas key old new) code words short =
+    record { first = words.1; first_short = short.0; first_same = refl; second = words.2; second_short = short.1; second_same = refl }
+two-cas op code words short = absurd (omega arith)
+
+-- the words of a row of an operation without a text
+pub no-text-words : (words : List ℕ) (r : Request) (k : ℕ) → words ≡ spelled r k → NoText r.op → (j : ℕ) → j < 8 → get_or words (4 + j) 0 ≡ 0
+no-text-words words r k same none j lt =
+    sym (get_or-drop 4 words j 0) ∙ ap (λ l. get_or (drop 4 l) j 0) same ∙ get_or-map-range_with_len (text_word r.op) 0 8 j j 0 lt (omega arith) ∙ none.same j
+
+-- what words say of an operation, by its parts
+abbrev pub SaysKey : List ℕ → List ℕ → Type 0
+SaysKey words key = IsKey key × (get_or words 0 0 / 4294967296 % 256 ≡ length key) × ((j : ℕ) → j < 3 → get_or words (1 + j) 0 ≡ word_of key j)
+
+abbrev pub SaysText : List ℕ → List ℕ → ℕ → Type 0
+SaysText words text count = IsText text × (get_or words 0 0 / 1099511627776 % 256 ≡ length text) × ((j : ℕ) → j < count → get_or words (4 + j) 0 ≡ word_of text j)
+
+pub says-put : (words key text : List ℕ) → get_or words 0 0 % 256 ≡ 1 → SaysKey words key → SaysText words text 8 → get_or words 0 0 / 281474976710656 % 256 ≡ 0 → SaysOp words (Put key text)
+says-put words key text code k t alone =
+    record { has = (k.0, t.0); code = code; key_length = k.1; first_length = t.1; second_length = alone; key = k.2; texts = t.2 }
+
+pub says-swap : (words key text : List ℕ) → get_or words 0 0 % 256 ≡ 4 → SaysKey words key → SaysText words text 8 → get_or words 0 0 / 281474976710656 % 256 ≡ 0 → SaysOp words (Swap key text)
+says-swap words key text code k t alone =
+    record { has = (k.0, t.0); code = code; key_length = k.1; first_length = t.1; second_length = alone; key = k.2; texts = t.2 }
+
+-- what words without a text say of their lengths
+abbrev pub SaysNoText : List ℕ → Type 0
+SaysNoText words = (get_or words 0 0 / 1099511627776 % 256 ≡ 0) × (get_or words 0 0 / 281474976710656 % 256 ≡ 0) × ((j : ℕ) → j < 8 → get_or words (4 + j) 0 ≡ 0)
+
+pub says-get : (words key : List ℕ) → get_or words 0 0 % 256 ≡ 2 → SaysKey words key → SaysNoText words → SaysOp words (Get key)
+says-get words key code k none =
+    record { has = k.0; code = code; key_length = k.1; first_length = none.0; second_length = none.1; key = k.2; texts = none.2 }
+
+pub says-del : (words key : List ℕ) → get_or words 0 0 % 256 ≡ 3 → SaysKey words key → SaysNoText words → SaysOp words (Del key)
+says-del words key code k none =
+    record { has = k.0; code = code; key_length = k.1; first_length = none.0; second_length = none.1; key = k.2; texts = none.2 }
+
+pub says-cas : (words key old new : List ℕ) → get_or words 0 0 % 256 ≡ 5 → SaysKey words key → SaysText words old 4
+    → IsText new → get_or words 0 0 / 281474976710656 % 256 ≡ length new → ((j : ℕ) → j < 4 → get_or words (8 + j) 0 ≡ word_of new j) → SaysOp words (Cas key old new)
+says-cas words key old new code k t is long same =
+    record { has = (k.0, t.0, is); code = code; key_length = k.1; first_length = t.1; second_length = long; key = k.2; texts = each }
+  where
+    each : (j : ℕ) → j < 8 → get_or words (4 + j) 0 ≡ text_word (Cas key old new) j
+    each zero lt = t.2 0 (omega arith)
+    each (suc zero) lt = t.2 1 (omega arith)
+    each (suc (suc zero)) lt = t.2 2 (omega arith)
+    each (suc (suc (suc zero))) lt = t.2 3 (omega arith)
+    each (suc (suc (suc (suc zero)))) lt = same 0 (omega arith)
+    each (suc (suc (suc (suc (suc zero))))) lt = same 1 (omega arith)
+    each (suc (suc (suc (suc (suc (suc zero)))))) lt = same 2 (omega arith)
+    each (suc (suc (suc (suc (suc (suc (suc zero))))))) lt = same 3 (omega arith)
+    each (suc (suc (suc (suc (suc (suc (suc (suc j)))))))) lt = absurd (omega (arith, lt))
+
+byte-and-rest : (n p : ℕ) → n / p ≡ n / p % 256 + n / (p * 256) * 256
+byte-and-rest n p = omega (arith, div-div-eq-div-mul n p 256)
+
+joined-head : (n a b c d e f p q r s t u v : ℕ) → n ≡ a + p * 256 → p ≡ b + q * 256 → q ≡ c + r * 65536 → r ≡ d + s * 256 → s ≡ e + t * 256 → t ≡ f + u * 256
+    → {A B C D E F : ℕ} → a ≡ A → b ≡ B → c ≡ C → d ≡ D → e ≡ E → f ≡ F → u ≡ v
+    → n ≡ A + 256 * B + 65536 * C + 4294967296 * D + 1099511627776 * E + 281474976710656 * F + 72057594037927936 * v
+joined-head n a b c d e f p q r s t u v at_0 at_1 at_2 at_3 at_4 at_5 is_a is_b is_c is_d is_e is_f is_u = omega arith
+
+-- words that say of each part what it is are the row
+pub row-said : (words : List ℕ) (r : Request) (k : ℕ) → length words ≡ 12 → SaysOp words r.op → get_or words 0 0 / 256 % 256 ≡ r.client
+    → get_or words 0 0 / 65536 % 65536 ≡ r.number → get_or words 0 0 / 72057594037927936 ≡ k → words ≡ spelled r k
+row-said words r k long says client number rest = same_number_lists words (spelled r k) long (λ i lt. each i (omega (arith, lt, long)))
+  where
+    head : get_or words 0 0 ≡ head_word r k
+    head =
+        let code = says.code in
+        let key = says.key_length in
+        let first = says.first_length in
+        let second = says.second_length in
+        let n = get_or words 0 0 in
+        let low : n ≡ n % 256 + n / 256 * 256 = omega arith in
+        let wide : n / 65536 ≡ n / 65536 % 65536 + n / 4294967296 * 65536 = omega (arith, div-div-eq-div-mul n 65536 65536) in
+        joined-head n _ _ _ _ _ _ _ _ _ _ _ _ _ low (byte-and-rest n 256) wide (byte-and-rest n 4294967296) (byte-and-rest n 1099511627776) (byte-and-rest n 281474976710656)
+        code client number key first second rest
+
+    each : (i : ℕ) → i < 12 → get_or words i 0 ≡ get_or (spelled r k) i 0
+    each zero lt = head
+    each (suc zero) lt = says.key 0 (omega arith)
+    each (suc (suc zero)) lt = says.key 1 (omega arith)
+    each (suc (suc (suc zero))) lt = says.key 2 (omega arith)
+    each (suc (suc (suc (suc zero)))) lt = says.texts 0 (omega arith)
+    each (suc (suc (suc (suc (suc zero))))) lt = says.texts 1 (omega arith)
+    each (suc (suc (suc (suc (suc (suc zero)))))) lt = says.texts 2 (omega arith)
+    each (suc (suc (suc (suc (suc (suc (suc zero))))))) lt = says.texts 3 (omega arith)
+    each (suc (suc (suc (suc (suc (suc (suc (suc zero)))))))) lt = says.texts 4 (omega arith)
+    each (suc (suc (suc (suc (suc (suc (suc (suc (suc zero))))))))) lt = says.texts 5 (omega arith)
+    each (suc (suc (suc (suc (suc (suc (suc (suc (suc (suc zero)))))))))) lt = says.texts 6 (omega arith)
+    each (suc (suc (suc (suc (suc (suc (suc (suc (suc (suc (suc zero))))))))))) lt = says.texts 7 (omega arith)
+    each (suc (suc (suc (suc (suc (suc (suc (suc (suc (suc (suc (suc i)))))))))))) lt = absurd (omega (arith, lt))
 
 pub key-is-key : (op : Op) → HasWords op → IsWord 24 (key_of op)
 key-is-key op words = (small op words).key
 
-pub key-is-text : (op : Op) → HasWords op → IsText (key_of op)
-key-is-text op words =
-    let key = (small op words).key in
-    record { some = key.some; fits = omega (arith, key.fits); visible = key.visible }
+pub key-text : (key : List ℕ) → IsKey key → IsText key
+key-text key is = record { some = is.some; fits = omega (arith, is.fits); visible = is.visible }
 
 -- a range at the front is the front
 pub front_is_word : (bytes part word : List ℕ) (len : ℕ) → part ≡ slice_range bytes 0 len → len ≡ length word → take (length word) bytes ≡ word → part ≡ word
@@ -244,3 +335,30 @@ same-row c d j k is_c is_d few_j few_k same =
     (sym f.code ∙ g.code) (sym f.key ∙ g.key) (sym f.first ∙ g.first) (sym f.second ∙ g.second)
     (ap (λ l. take 3 (drop 1 l)) same) (ap (drop 4) same) in
     (one-request (sym f.client ∙ g.client) (sym f.number ∙ g.number) op, sym f.rest ∙ g.rest)
+
+-- an operation that is told where words have no text
+pub says-if : (result : Option Op) (told : Bool) (op : Op) (words : List ℕ) → result ≡ then_some told op → (told ≡ true → SaysOp words op) → IfSome result (SaysOp words)
+says-if result true op words is says = subst (λ r. IfSome r (SaysOp words)) (sym is) (says refl)
+says-if result false op words is says = subst (λ r. IfSome r (SaysOp words)) (sym is) tt
+
+pub found-if : (result : Option Op) (told : Bool) (op wanted : Op) → result ≡ then_some told op → told ≡ true → op ≡ wanted → result ≡ Some wanted
+found-if result true op wanted is told same = is ∙ ap Some same
+found-if result false op wanted is told same = absurd (false≢true told)
+
+pub get-from : (op : Op) (key : List ℕ) → code_of op ≡ 2 → key ≡ key_of op → Get key ≡ op
+get-from (Get k) key code e = ap Get e
+get-from op key code e = absurd (omega arith)
+
+pub del-from : (op : Op) (key : List ℕ) → code_of op ≡ 3 → key ≡ key_of op → Del key ≡ op
+del-from (Del k) key code e = ap Del e
+del-from op key code e = absurd (omega arith)
+
+-- what the maker of commands makes of an operation that words say
+pub maker_says : (result : Option Request) (words : List ℕ) (client number : ℕ) (op : Op) → (IsSome result ↔ IsAllowed client number op)
+    → IfSome result (λ x. x ≡ record { client = client; number = number; op = op }) → length words ≡ 12 → SaysOp words op
+    → get_or words 0 0 / 256 % 256 ≡ client → get_or words 0 0 / 65536 % 65536 ≡ number
+    → IfSome result (λ x. IsCommand x × ((k : ℕ) → get_or words 0 0 / 72057594037927936 ≡ k → words ≡ spelled x k))
+maker_says (Some x) words client number op allowed same long says c n =
+    subst (λ y. IsCommand y × ((k : ℕ) → get_or words 0 0 / 72057594037927936 ≡ k → words ≡ spelled y k)) (sym same)
+    (record { allowed = allowed.0 refl; words = says.has }, λ k rest. row-said words (the-request client number op) k long says c n rest)
+maker_says None words client number op allowed same long says c n = tt

@@ -1,12 +1,13 @@
 //! Rows read back as commands.
-ghost use Rattle.std.specs.Prelude.{◌≡◌, ◌≢◌, ℕ, ◌+◌, ◌*◌, ◌<◌, ◌≤◌, ◌/◌, ◌%◌, List, length, map, take, slice_index, None, Some, IfSome};
+ghost use Rattle.std.specs.Prelude.{◌≡◌, ◌≢◌, ◌↔◌, ℕ, ◌+◌, ◌*◌, ◌<◌, ◌≤◌, ◌/◌, ◌%◌, ◌^◌, List, length, map, take, drop, slice_index, None, Some, IfSome, IsTrue};
 ghost use Rattle.std.specs.Int.{w64, to_le_bytes};
 ghost use Rattle.std.specs.List.{range_with_len};
 ghost use Rattle.kv_store.specs.Commands.{Request, key_of};
-ghost use Rattle.kv_store.specs.Words.{IsText};
-ghost use Rattle.mu_rows.specs.Rows.{first_text, second_text, word_of, spelled, IsCommand};
+ghost use Rattle.kv_store.specs.Words.{IsKey, IsText};
+ghost use Rattle.mu_rows.specs.Rows.{word_of, spelled, IsCommand};
+ghost use Rattle.mu_rows.specs.Saying.{AreClear, SaysOp};
 
-use crate::{CLIENT, FIRST_LENGTH, KEY_LENGTH, NUMBER, REST, SECOND_LENGTH, encode};
+use crate::{CLIENT, FIRST_LENGTH, KEY_LENGTH, NUMBER, REST, SECOND_LENGTH};
 use kv_store::{Command, Key, Op, TEXT_BYTES, Text};
 use mu_model::Row;
 
@@ -31,11 +32,7 @@ pub fn decode(row: &Row) -> Option<(Command, u8)>
         return None;
     }
     let command = command_in(&row.words)?;
-    if encode(&command, rest) == *row {
-        Some((command, rest))
-    } else {
-        None
-    }
+    Some((command, rest))
 }
 
 /// Two commands with one row are the same, and as many rows follow.
@@ -45,10 +42,11 @@ pub fn rows_differ()
         → (c ≡ d) × (j ≡ k) }
 {}
 
-/// The command of these words. Where they are no row of a command, it is some other one or `None`,
-/// and so it is with the parts that follow.
+/// The command that these words spell, if they do, whatever rows follow.
 fn command_in(words: &[u64; 12]) -> Option<Command>
-    ensures { (c : Request) (k : ℕ) → IsCommand c → k ≤ 3 → words.now ≡ spelled c k
+    ensures some { IfSome result (λ c. IsCommand c
+        × ((k : ℕ) → slice_index words.now 0 / 2 ^ 56 ≡ k → words.now ≡ spelled c k)) }
+    ensures found { (c : Request) (k : ℕ) → IsCommand c → k ≤ 3 → words.now ≡ spelled c k
         → result ≡ Some c }
 {
     let head = words[0];
@@ -57,17 +55,18 @@ fn command_in(words: &[u64; 12]) -> Option<Command>
     Command::new(client, number, op_in(words)?)
 }
 
-/// The operation of these words.
+/// The operation that these words spell, if they do.
 fn op_in(words: &[u64; 12]) -> Option<Op>
-    ensures { (c : Request) (k : ℕ) → IsCommand c → k ≤ 3 → words.now ≡ spelled c k
+    ensures some { IfSome result (λ op. SaysOp words.now op) }
+    ensures found { (c : Request) (k : ℕ) → IsCommand c → k ≤ 3 → words.now ≡ spelled c k
         → result ≡ Some c.op }
 {
     let key = key_in(words)?;
     match words[0] % BYTES {
-        1 => Some(Op::Put(key, first_text_in(words)?)),
-        2 => Some(Op::Get(key)),
-        3 => Some(Op::Del(key)),
-        4 => Some(Op::Swap(key, first_text_in(words)?)),
+        1 => Some(Op::Put(key, only_text_in(words)?)),
+        2 => has_no_text(words).then_some(Op::Get(key)),
+        3 => has_no_text(words).then_some(Op::Del(key)),
+        4 => Some(Op::Swap(key, only_text_in(words)?)),
         5 => Some(Op::Cas(key, first_text_in(words)?, second_text_in(words)?)),
         _ => None,
     }
@@ -75,37 +74,123 @@ fn op_in(words: &[u64; 12]) -> Option<Op>
 
 /// The key of these words.
 fn key_in(words: &[u64; 12]) -> Option<Key>
-    ensures { (c : Request) (k : ℕ) → IsCommand c → k ≤ 3 → words.now ≡ spelled c k
-        → result ≡ Some (key_of c.op) }
+    ensures some { IfSome result (λ key. IsKey key
+        × (slice_index words.now 0 / 2 ^ 32 % 256 ≡ length key)
+        × ((j : ℕ) → j < 3 → slice_index words.now (1 + j) ≡ word_of key j)) }
+    ensures found { (key : List ℕ) → IsKey key
+        → slice_index words.now 0 / 2 ^ 32 % 256 ≡ length key
+        → take 3 (drop 1 words.now) ≡ map (word_of key) (range_with_len 0 3)
+        → result ≡ Some key }
 {
-    let len = words[0] / KEY_LENGTH % BYTES;
-    Key::new(bytes_of(&words[1..4]).get(..len as usize)?)
+    let len = (words[0] / KEY_LENGTH % BYTES) as usize;
+    let part = &words[1..4];
+    if !are_clear(part, len) {
+        return None;
+    }
+    Key::new(bytes_of(part).get(..len)?)
 }
 
-/// The text of these words, the old one of a cas.
-fn first_text_in(words: &[u64; 12]) -> Option<Text>
-    ensures { (c : Request) (k : ℕ) → IsCommand c → k ≤ 3 → words.now ≡ spelled c k
-        → IsText (first_text c.op) → result ≡ Some (first_text c.op) }
+/// Whether these words have no text.
+fn has_no_text(words: &[u64; 12]) -> bool
+    ensures { IsTrue result ↔ (slice_index words.now 0 / 2 ^ 40 % 256 ≡ 0)
+        × (slice_index words.now 0 / 2 ^ 48 % 256 ≡ 0)
+        × ((j : ℕ) → j < 8 → slice_index words.now (4 + j) ≡ 0) }
 {
-    let len = words[0] / FIRST_LENGTH % BYTES;
-    Text::new(bytes_of(&words[4..]).get(..len as usize)?)
+    if words[0] / FIRST_LENGTH % BYTES != 0 {
+        return false;
+    }
+    if words[0] / SECOND_LENGTH % BYTES != 0 {
+        return false;
+    }
+    are_clear(&words[4..], 0)
+}
+
+/// The text of these words, where there is one alone.
+fn only_text_in(words: &[u64; 12]) -> Option<Text>
+    ensures some { IfSome result (λ text. IsText text
+        × (slice_index words.now 0 / 2 ^ 40 % 256 ≡ length text)
+        × ((j : ℕ) → j < 8 → slice_index words.now (4 + j) ≡ word_of text j)) }
+    ensures alone { IfSome result (λ _. slice_index words.now 0 / 2 ^ 48 % 256 ≡ 0) }
+    ensures found { (text : List ℕ) → IsText text
+        → slice_index words.now 0 / 2 ^ 40 % 256 ≡ length text
+        → slice_index words.now 0 / 2 ^ 48 % 256 ≡ 0
+        → drop 4 words.now ≡ map (word_of text) (range_with_len 0 8)
+        → result ≡ Some text }
+{
+    if words[0] / SECOND_LENGTH % BYTES != 0 {
+        return None;
+    }
+    text_in(&words[4..], (words[0] / FIRST_LENGTH % BYTES) as usize)
+}
+
+/// The old text of a cas.
+fn first_text_in(words: &[u64; 12]) -> Option<Text>
+    ensures some { IfSome result (λ text. IsText text
+        × (slice_index words.now 0 / 2 ^ 40 % 256 ≡ length text)
+        × ((j : ℕ) → j < 4 → slice_index words.now (4 + j) ≡ word_of text j)) }
+    ensures found { (text : List ℕ) → IsText text → length text ≤ 32
+        → slice_index words.now 0 / 2 ^ 40 % 256 ≡ length text
+        → take 4 (drop 4 words.now) ≡ map (word_of text) (range_with_len 0 4)
+        → result ≡ Some text }
+{
+    text_in(&words[4..8], (words[0] / FIRST_LENGTH % BYTES) as usize)
 }
 
 /// The new text of a cas.
 fn second_text_in(words: &[u64; 12]) -> Option<Text>
-    ensures { (c : Request) (k : ℕ) → IsCommand c → k ≤ 3 → words.now ≡ spelled c k
-        → IsText (second_text c.op) → result ≡ Some (second_text c.op) }
+    ensures some { IfSome result (λ text. IsText text
+        × (slice_index words.now 0 / 2 ^ 48 % 256 ≡ length text)
+        × ((j : ℕ) → j < 4 → slice_index words.now (8 + j) ≡ word_of text j)) }
+    ensures found { (text : List ℕ) → IsText text → length text ≤ 32
+        → slice_index words.now 0 / 2 ^ 48 % 256 ≡ length text
+        → drop 8 words.now ≡ map (word_of text) (range_with_len 0 4)
+        → result ≡ Some text }
 {
-    let len = words[0] / SECOND_LENGTH % BYTES;
-    Text::new(bytes_of(&words[8..]).get(..len as usize)?)
+    text_in(&words[8..], (words[0] / SECOND_LENGTH % BYTES) as usize)
+}
+
+/// The text of so many bytes that these words are, if they are one.
+fn text_in(words: &[u64], len: usize) -> Option<Text>
+    requires { length words.now ≤ 8 }
+    ensures some { IfSome result (λ text. IsText text × (len ≡ length text)
+        × ((j : ℕ) → j < length words.now → slice_index words.now j ≡ word_of text j)) }
+    ensures found { (text : List ℕ) → IsText text → len ≡ length text
+        → length text ≤ 8 * length words.now
+        → words.now ≡ map (word_of text) (range_with_len 0 (length words.now))
+        → result ≡ Some text }
+{
+    if !are_clear(words, len) {
+        return None;
+    }
+    Text::new(bytes_of(words).get(..len)?)
+}
+
+/// Whether these words have zeros alone past their first so many bytes.
+fn are_clear(words: &[u64], len: usize) -> bool
+    requires { length words.now ≤ 8 }
+    ensures { IsTrue result ↔ AreClear words.now len }
+{
+    for (index, word) in words.iter().enumerate() {
+        if !has_at_most(*word, len.saturating_sub(8 * index)) {
+            return false;
+        }
+    }
+    true
+}
+
+/// Whether a word has zeros alone past its first so many bytes, the first in the lowest place.
+fn has_at_most(word: u64, bytes: usize) -> bool
+    ensures { IsTrue result ↔ (bytes < 8 → word / 2 ^ (8 * bytes) ≡ 0) }
+{
+    bytes >= 8 || word >> (8 * bytes) == 0
 }
 
 /// The bytes of words, which stand eight to a word. Zeros follow.
 fn bytes_of(words: &[u64]) -> [u8; TEXT_BYTES]
     requires { length words.now ≤ 8 }
-    ensures { (bytes : List ℕ) (count : ℕ) → IsText bytes → length bytes ≤ 8 * count
-        → take count words.now ≡ map (word_of bytes) (range_with_len 0 count)
-        → take (length bytes) result ≡ bytes }
+    ensures long { length result ≡ 64 }
+    ensures bytes { (i : ℕ) → slice_index result i
+        ≡ slice_index (to_le_bytes w64 (slice_index words.now (i / 8))) (i % 8) }
 {
     let mut bytes = [0; TEXT_BYTES];
     for (index, word) in words.iter().enumerate() {
@@ -120,6 +205,8 @@ fn put_word(bytes: &mut [u8; TEXT_BYTES], index: usize, word: u64)
     ensures own { (m : ℕ) → m < 8
         → slice_index bytes.new (8 * index + m) ≡ slice_index (to_le_bytes w64 word) m }
     ensures before { (k : ℕ) → k < 8 * index
+        → slice_index bytes.new k ≡ slice_index bytes.old k }
+    ensures after { (k : ℕ) → 8 * index + 8 ≤ k
         → slice_index bytes.new k ≡ slice_index bytes.old k }
 {
     let start = 8 * index;

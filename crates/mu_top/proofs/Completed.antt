@@ -1,5 +1,5 @@
 -- What a run of the job that was read, or that is stated, comes to.
-use Rattle.std.proofs.Common.{◌≡◌, ◌≤◌, length, subst, sym}
+use Rattle.std.proofs.Common.{◌≡◌, ◌≤◌, None, length, subst, sym}
 use Rattle.match_book.specs.Ledgers.{HaveDifferentIds}
 use Rattle.match_book.proofs.Session.{session_differs}
 use Rattle.mu_input.specs.Heads.{HaveHeads}
@@ -17,12 +17,13 @@ use Rattle.mu_cluster.specs.Paces.{AreDiligent}
 use Rattle.mu_cluster.proofs.Agreeing.{over_order}
 use Rattle.mu_top.specs.Commands.{IsReplay, IsThreaded}
 
-pub replay_of : (o : Outcome) (job : Job) → o.job ≡ job → IsConfig job.config → HaveHeads job.config.width job.commands job.config.rows → IsRun o → AreDiligent o → NamesFirstUnpaused o → SpendsBudgets o → HasAllInTime o → LeadOnUnpaused o → Agrees o → IsReplay o
-replay_of o job same good have run diligent names spends lives leads agrees = record {
+pub replay_of : (o : Outcome) (job : Job) → o.job ≡ job → IsConfig job.config → HaveHeads job.config.width job.commands job.config.rows → IsRun o → AreDiligent o → NamesFirstUnpaused o → SpendsBudgets o → HasAllInTime o → LeadOnUnpaused o → Agrees o → o.gathered ≡ None → IsReplay o
+replay_of o job same good have run diligent names spends lives leads agrees gathered = record {
   names = names;
   spends = spends;
   lives = lives;
   leads = leads;
+  gathered = gathered;
   run = run;
   diligent = diligent;
   agrees = agrees;

@@ -1,5 +1,5 @@
 -- What there is to say, command by command. Nothing else is said than what a relation lists.
-use Rattle.std.specs.Prelude.{ℕ, ◌≡◌, List, ⊤}
+use Rattle.std.specs.Prelude.{ℕ, ◌≡◌, List, None, ⊤}
 use Rattle.match_book.specs.Stands.{StandsFor}
 use Rattle.mu_input.specs.Grammar.{job}
 use Rattle.mu_input.specs.Readings.{Fits, Leaves}
@@ -20,8 +20,8 @@ use Rattle.snap_reads.specs.Lives.{AreAllSights}
 -- the outcome is a run of its job in turns: its journals are diligent, where the script has no pause
 -- each replica names replica 0 until that has ended, its replicas agree, and where a command is
 -- missing each was cut short, by its budget alone where the script has no line; none is missing
--- where the script leaves a majority with replica 0, the ring is large and the budget enough; and
--- where it has no pause no leadership is ever over
+-- where the script leaves a majority with replica 0, the ring is large and the budget enough; where
+-- it has no pause no leadership is ever over; and nothing was gathered of threads
 pub record IsReplay (o : Outcome) : Type 0 where
   pub run : IsRun o
   pub diligent : AreDiligent o
@@ -31,6 +31,7 @@ pub record IsReplay (o : Outcome) : Type 0 where
   pub spends : SpendsBudgets o
   pub lives : HasAllInTime o
   pub leads : LeadOnUnpaused o
+  pub gathered : o.gathered ≡ None
 
 -- the outcome is a run of its job by threads: its journals are diligent, its replicas agree, and
 -- where a command is missing each was cut short

@@ -5,6 +5,8 @@
 #[cfg(test)]
 mod books;
 #[cfg(test)]
+mod bulks;
+#[cfg(test)]
 mod calling;
 #[cfg(test)]
 mod calls;
@@ -13,4 +15,10 @@ mod desks;
 #[cfg(test)]
 mod lives;
 #[cfg(test)]
+mod refusals;
+#[cfg(test)]
 mod runs;
+#[cfg(test)]
+mod threads;
+#[cfg(test)]
+mod traces;

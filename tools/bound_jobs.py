@@ -1,0 +1,132 @@
+#!/usr/bin/env python3
+"""Runs `replay` over jobs whose budget is exactly a bound of docs/ALIVE.md: each has to have status 0.
+
+    tools/bound_jobs.py               the proved program, or one unproved build for all jobs
+    tools/bound_jobs.py PROGRAM       a program that is named
+    tools/bound_jobs.py --write DIR   writes the jobs there instead
+
+Each number of replicas and both versions, with a ring of the least size, and with as many replicas
+stopped as leave a majority: followers at their first step, while they grant, and later, or the leaders
+one after the other. Nothing of the program is used for this but its output: the bounds are reckoned
+here, and each report is judged as tools/run_trials.py does.
+"""
+import os
+import sys
+
+import trying
+from run_trials import Job, Wrong, check_report
+
+LEAST_RING = 8
+MOST_BUDGET = 131071
+# How many commands, and how many a batch has at most in version 2.
+COMMANDS = (2, 8, 40)
+BATCHES = (1, 4)
+CLIENTS = 2
+
+
+def cycle(replicas):
+    """A round of the cycle, in steps."""
+    return 4 * replicas + 44
+
+
+def calm(replicas, batch, positions):
+    """`calm_steps`: what a leader takes at most until it knows so many positions."""
+    return (13 * replicas + 8 + 12 * batch) * (positions + 1) + 6 * replicas + 8 * replicas * positions
+
+
+def steps_enough(replicas, batch, positions):
+    """Where replica 0 goes on."""
+    return 110 * replicas + 96 + 2 * calm(replicas, batch, positions)
+
+
+def steps_after(replicas, batch, positions, least):
+    """From the last stop of a replica below `least`, which goes on."""
+    asking = 34 * replicas + 2
+    last = 3 * asking + (least + 1) * 2 * cycle(replicas) + 2 + 2 * calm(replicas, batch, positions)
+    return 15 * cycle(replicas) + last + (batch * positions + 1) * 2 * cycle(replicas)
+
+
+def followers_stopped(replicas):
+    """The last replicas, as many as leave a majority: at which steps they stop."""
+    last = range(replicas - (replicas - 1) // 2, replicas)
+    granting = 4 * replicas + 6
+    ways = [{}, {q: 0 for q in last}, {q: granting + q for q in last}, {q: 400 * (q - last[0] + 1) for q in last}]
+    return ways if last else ways[:1]
+
+
+def leaders_stopped(replicas):
+    """The first replicas: at once, as each asks or commits, and so late that the one before has led."""
+    first = range((replicas - 1) // 2)
+    turn = 16 * cycle(replicas) + 8 * replicas
+    ways = [{q: 0 for q in first}, {q: turn * q + 9 for q in first}, {q: turn * q + 8 * replicas + 40 for q in first},
+            {q: (turn + 90) * (q + 1) for q in first}]
+    return ways if first else []
+
+
+def job(version, replicas, batch, commands, stops):
+    """The text of a job at its bound; None where no budget is as large."""
+    reserve = replicas if version == 2 else 0
+    least = next(q for q in range(replicas) if q not in stops)
+    if least == 0:
+        budget = steps_enough(replicas, batch, commands + reserve)
+    else:
+        budget = max(stops[q] for q in range(least)) + steps_after(replicas, batch, commands + reserve, least)
+    if budget > MOST_BUDGET:
+        return None
+    lines = [f"mu {version}", f"replicas {replicas}", f"ring {max(LEAST_RING, commands + 2 * reserve)}",
+             f"budget {budget}"]
+    if version == 2:
+        lines.append(f"batch {batch}")
+    for client in range(CLIENTS):
+        lines.append(f"client {client}")
+        lines += [f"put k{k % 5} {k}" for k in range(client, commands, CLIENTS)]
+    if stops:
+        lines += ["script", *(f"stop {q} {k}" for q, k in sorted(stops.items()))]
+    return "\n".join([*lines, "end", ""])
+
+
+class BoundCase(trying.Case):
+    """A run whose report has to be right, with every command and status 0."""
+
+    def trouble(self, answer):
+        other = super().trouble(answer)
+        if other is None:
+            try:
+                check_report(Job(self.given.decode()), answer.output.decode(), answer.status)
+            except (Wrong, ValueError, IndexError) as wrong:
+                return str(wrong)
+        return other
+
+
+def bound_cases():
+    """A case for each job."""
+    for version in (1, 2):
+        for replicas in range(1, 8):
+            for batch in BATCHES if version == 2 else BATCHES[:1]:
+                for commands in COMMANDS:
+                    for number, stops in enumerate(followers_stopped(replicas) + leaders_stopped(replicas)):
+                        text = job(version, replicas, batch, commands, stops)
+                        if text:
+                            name = f"at the bound: mu {version}, replicas {replicas}, batch {batch}, {commands} commands"
+                            yield BoundCase(f"{name}, stops {number}", ["replay"], text.encode(), None, 0)
+
+
+def write(folder):
+    for number, case in enumerate(bound_cases()):
+        with open(os.path.join(folder, f"bound{number:03d}"), "wb") as out:
+            out.write(case.given)
+
+
+def main():
+    words = sys.argv[1:]
+    if len(words) == 2 and words[0] == "--write":
+        return write(words[1])
+    cases = list(bound_cases())
+    answers = trying.run_cases(words[0], cases) if words else trying.answers_of("mu", cases)
+    wrong = [f"{case.name}: {trouble}" for case, answer in zip(cases, answers) if (trouble := case.trouble(answer))]
+    print(*wrong, f"{len(cases) - len(wrong)} passed, {len(wrong)} failed", sep="\n")
+    return 1 if wrong else 0
+
+
+if __name__ == "__main__":
+    sys.exit(main())
