@@ -5,6 +5,8 @@ use Rattle.std.specs.List.{slice_get}
 use Rattle.mu_events.specs.Events.{event_of}
 use Rattle.mu_input.specs.Readings.{Fits, Leaves}
 use Rattle.mu_input.specs.Traces.{Trace, trace}
+use Rattle.mu_mistakes.specs.Misreads.{IsMisread}
+use Rattle.mu_mistakes.specs.declared.misread.Misread.{Misread}
 use Rattle.mu_model.specs.declared.event.Event.{Event}
 use Rattle.mu_reasons.specs.Breaks.{Explains}
 use Rattle.mu_reasons.specs.declared.fault.Broken.{Broken}
@@ -36,10 +38,15 @@ pub record IsExplained (bytes : List ℕ) (events line : ℕ) (broken : Option B
   pub explains : Explains spelled.job.config spelled.events broken
   pub tells_line : TellsLine bytes spelled line broken
 
--- a refusal where the bytes leave the grammar, and else where the trace breaks and why; want of
+-- the bytes leave the grammar of traces first at the line that is told of, for its cause
+pub record LeavesAt (bytes : List ℕ) (misread : Misread) : Type 0 where
+  pub leaves : trace bytes ≡ Leaves misread.line misread.cause
+  pub tells : IsMisread bytes misread
+
+-- a refusal in words where the bytes leave the grammar, and else where the trace breaks and why; want of
 -- memory can come at any bytes, and nothing else is said
 abbrev pub ExplainsOf : List ℕ → Said → Type 0
-ExplainsOf bytes (Said.Refused line cause) = trace bytes ≡ Leaves line cause
+ExplainsOf bytes (Said.Misread misread) = LeavesAt bytes misread
 ExplainsOf bytes (Said.Explained events line broken) = IsExplained bytes events line broken
 ExplainsOf bytes Said.NoMemory = ⊤
 ExplainsOf bytes _ = ⊥

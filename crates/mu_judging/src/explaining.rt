@@ -10,13 +10,15 @@ ghost use Rattle.mu_text.specs.Lines.{lines};
 
 use mu_check::{Broken, explain};
 use mu_input::{InputEnd, read_trace};
+use mu_mistakes::refused_at;
 use mu_model::{Config, Event, NoMemory};
 use mu_report::Said;
 use mu_text::LineReader;
 use std::alloc::Global;
 
-/// What there is to say of where a trace breaks and why: `Refused` exactly where the bytes leave
-/// the grammar, and else `Explained`. `NoMemory` for want of memory.
+/// What there is to say of where a trace breaks and why: `Misread` exactly where the bytes leave
+/// the grammar, with the first line that leaves it, and else `Explained`. `NoMemory` for want of
+/// memory.
 pub fn explain_trace(alloc: Global, bytes: &[u8]) -> Said
     requires { length bytes.now ≤ TRACE_LIMIT }
     ensures says { ExplainsOf bytes.now result }
@@ -24,7 +26,9 @@ pub fn explain_trace(alloc: Global, bytes: &[u8]) -> Said
 {
     let (job, journal) = match read_trace(alloc, bytes) {
         Ok(read) => read,
-        Err(InputEnd::Refused { line, cause }) => return Said::Refused { line, cause },
+        Err(InputEnd::Refused { line, cause }) => {
+            return Said::Misread(refused_at(bytes, line, cause));
+        }
         Err(InputEnd::NoMemory) => return Said::NoMemory,
     };
     let events = journal.as_slice();

@@ -1,6 +1,7 @@
 pub mod Pushes
 pub mod BookLines
 pub mod LiveLines
+pub mod MisreadLines
 pub mod Lists
 pub mod Pages
 pub mod Prints
