@@ -32,7 +32,7 @@ fn is_number(own: Option<u32>, b: u32) -> bool
 }
 
 impl Replica {
-    /// Whether the region is no member, or was looked at in the position since a region joined last.
+    /// Whether the region is no member, or its position was looked at since a region joined last.
     fn is_looked_at(&self, p: u8, i: u16) -> bool
         ensures { (c : Config) → (r : ℕ) → (mine : List Event) → p < 7
             → i ≤ row_count c + reserve c → StandsForReplica c r mine self.now

@@ -5,6 +5,7 @@ pub mod MisreadLines
 pub mod Lists
 pub mod Pages
 pub mod Prints
+pub mod Sentences
 pub mod Sizes
 pub mod Summaries
 pub mod Traces

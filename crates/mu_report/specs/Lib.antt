@@ -5,6 +5,7 @@ pub mod Printing
 pub mod Reasons
 pub mod Report
 pub mod Said
+pub mod Sentences
 pub mod Summary
 pub mod Trace
 pub mod Words

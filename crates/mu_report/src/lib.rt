@@ -11,6 +11,7 @@ mod page;
 mod reasons;
 mod report;
 mod said;
+mod sentence;
 mod summary;
 mod trace;
 mod words;
