@@ -56,7 +56,7 @@ def table_cases(path):
         if wanted.startswith(b" sha256 "):
             cases.append(trying.SummedCase(f"{name}/{title}", words, given, wanted.split()[1].decode()))
         else:
-            cases.append(trying.Case(f"{name}/{title}", words, given, wanted[1:], wanted_status(wanted)))
+            cases.append(trying.Case(f"{name}/{title}", words, given, wanted[1:], wanted_status(wanted[1:])))
     return cases
 
 

@@ -1,17 +1,16 @@
 -- Where the bytes of a trace break and why.
-use Rattle.std.specs.Prelude.{ℕ, ◌+◌, ◌-◌, ◌≡◌, ◌≤◌, List, Err, None, Ok, Some, length, ⊤}
+use Rattle.std.specs.Prelude.{ℕ, ◌+◌, ◌-◌, ◌≡◌, ◌≤◌, List, None, Some, length, ⊤}
 use Rattle.std.specs.declared.option.Option.{Option}
-use Rattle.std.specs.declared.result.Result.{Result}
 use Rattle.std.specs.List.{slice_get}
 use Rattle.mu_events.specs.Events.{event_of}
-use Rattle.mu_input.specs.declared.job.InputEnd.{InputEnd}
 use Rattle.mu_input.specs.Readings.{Fits, Leaves}
 use Rattle.mu_input.specs.Traces.{Trace, trace}
+use Rattle.mu_mistakes.specs.Misreads.{IsMisread}
+use Rattle.mu_mistakes.specs.declared.misread.Misread.{Misread}
 use Rattle.mu_model.specs.declared.event.Event.{Event}
 use Rattle.mu_reasons.specs.Breaks.{Explains}
 use Rattle.mu_reasons.specs.declared.fault.Broken.{Broken}
 use Rattle.mu_report.specs.declared.said.Said.{Said}
-use Rattle.mu_report.specs.Said.{said_of_end}
 use Rattle.mu_text.specs.Lines.{lines, words}
 
 -- this line of the bytes, counted from 1, spells the event at this place among the events of the
@@ -39,15 +38,15 @@ pub record IsExplained (bytes : List ℕ) (events line : ℕ) (broken : Option B
   pub explains : Explains spelled.job.config spelled.events broken
   pub tells_line : TellsLine bytes spelled line broken
 
--- a refusal where the bytes leave the grammar, and else where the trace breaks and why; want of
+-- the bytes leave the grammar of traces first at the line that is told of, for its cause
+pub record LeavesAt (bytes : List ℕ) (misread : Misread) : Type 0 where
+  pub leaves : trace bytes ≡ Leaves misread.line misread.cause
+  pub tells : IsMisread bytes misread
+
+-- a refusal in words where the bytes leave the grammar, and else where the trace breaks and why; want of
 -- memory can come at any bytes, and nothing else is said
 abbrev pub ExplainsOf : List ℕ → Said → Type 0
-ExplainsOf bytes (Said.Refused line cause) = trace bytes ≡ Leaves line cause
+ExplainsOf bytes (Said.Misread misread) = LeavesAt bytes misread
 ExplainsOf bytes (Said.Explained events line broken) = IsExplained bytes events line broken
 ExplainsOf bytes Said.NoMemory = ⊤
 ExplainsOf bytes _ = ⊥
-
--- what is said of so many events that break in this line, or of why none were explained
-abbrev pub said_of_explained : Result (ℕ × ℕ × Option Broken) InputEnd → Said
-said_of_explained (Ok told) = Said.Explained told.0 told.1 told.2
-said_of_explained (Err end) = said_of_end end

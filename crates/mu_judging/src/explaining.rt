@@ -1,59 +1,44 @@
 //! From the bytes of a trace to where it breaks and why.
-ghost use Rattle.std.specs.Prelude.{◌+◌, ◌<◌, ◌≡◌, ◌≤◌, ◌^◌, IfErr, IfOk, IfSome, length};
+ghost use Rattle.std.specs.Prelude.{◌+◌, ◌<◌, ◌≡◌, ◌≤◌, ◌^◌, IfOk, IfSome, length};
 ghost use Rattle.mu_input.specs.Readings.{Fits};
 ghost use Rattle.mu_input.specs.Traces.{Trace, trace};
 ghost use Rattle.mu_input.specs.declared.TheConstants.{TRACE_LIMIT};
-ghost use Rattle.mu_judging.specs.Explained.{ExplainsOf, IsExplained, said_of_explained};
-ghost use Rattle.mu_judging.specs.Judged.{IsEndOfTrace};
+ghost use Rattle.mu_judging.specs.Explained.{ExplainsOf, IsExplained};
 ghost use Rattle.mu_model.specs.Contents.{IsConfig};
 ghost use Rattle.mu_report.specs.Said.{IsShort};
 ghost use Rattle.mu_text.specs.Lines.{lines};
 
 use mu_check::{Broken, explain};
 use mu_input::{InputEnd, read_trace};
+use mu_mistakes::refused_at;
 use mu_model::{Config, Event, NoMemory};
 use mu_report::Said;
 use mu_text::LineReader;
 use std::alloc::Global;
 
-/// What there is to say of where a trace breaks and why: `Refused` exactly where the bytes leave
-/// the grammar, and else `Explained`. `NoMemory` for want of memory.
+/// What there is to say of where a trace breaks and why: `Misread` exactly where the bytes leave
+/// the grammar, with the first line that leaves it, and else `Explained`. `NoMemory` for want of
+/// memory.
 pub fn explain_trace(alloc: Global, bytes: &[u8]) -> Said
     requires { length bytes.now ≤ TRACE_LIMIT }
     ensures says { ExplainsOf bytes.now result }
     ensures short { IsShort result }
 {
-    told(explained(alloc, bytes))
-}
-
-/// How many events the trace that the bytes spell has, the line where it breaks, or 0 where it
-/// doesn't, and why.
-///
-/// # Errors
-///
-/// `Refused` exactly where the bytes leave the grammar of traces; `NoMemory` for want of memory.
-fn explained(alloc: Global, bytes: &[u8]) -> Result<(u32, u32, Option<Broken>), InputEnd>
-    requires { length bytes.now ≤ TRACE_LIMIT }
-    ensures explained { IfOk result (λ told. IsExplained bytes.now told.0 told.1 told.2) }
-    ensures end { IfErr result (IsEndOfTrace bytes.now) }
-{
-    let (job, journal) = read_trace(alloc, bytes)?;
+    let (job, journal) = match read_trace(alloc, bytes) {
+        Ok(read) => read,
+        Err(InputEnd::Refused { line, cause }) => {
+            return Said::Misread(refused_at(bytes, line, cause));
+        }
+        Err(InputEnd::NoMemory) => return Said::NoMemory,
+    };
     let events = journal.as_slice();
-    let (line, broken) = located(alloc, bytes, &job.config, events)?;
-    Ok((events.len() as u32, line, broken))
-}
-
-/// What is said of so many events that break in this line, or of why none were explained.
-fn told(explained: Result<(u32, u32, Option<Broken>), InputEnd>) -> Said
-    ensures { result ≡ said_of_explained explained }
-{
-    match explained {
-        Ok((events, line, broken)) => Said::Explained {
-            events,
+    match located(alloc, bytes, &job.config, events) {
+        Ok((line, broken)) => Said::Explained {
+            events: events.len() as u32,
             line,
             broken,
         },
-        Err(end) => Said::from(end),
+        Err(_) => Said::NoMemory,
     }
 }
 

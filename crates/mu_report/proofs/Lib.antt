@@ -1,6 +1,7 @@
 mod Pushes
 mod BookLines
 mod LiveLines
+mod MisreadLines
 mod Lists
 mod Pages
 mod Prints

@@ -1,9 +1,9 @@
 -- What the program says, as text.
-use Rattle.std.specs.Prelude.{ℕ, List, [], ◌∷◌, ◌++◌, ⊤, codes}
-use Rattle.std.specs.Fmt.{decimal}
+use Rattle.std.specs.Prelude.{ℕ, List, [], ◌∷◌, ⊤, codes}
 use Rattle.mu_input.specs.declared.job.InputEnd.{InputEnd}
+use Rattle.mu_mistakes.specs.Misreads.{HasShortLines, misread_lines, refusal_words}
 use Rattle.mu_report.specs.declared.said.Said.{Said}
-use Rattle.mu_report.specs.declared.said.Said.TheVariants.{Usage, Refused, Ran, Traced, Summed, Booked, Lived, Judged, Explained, ReadFault, NoMemory, TooLong}
+use Rattle.mu_report.specs.declared.said.Said.TheVariants.{Usage, Refused, Ran, Traced, Summed, Booked, Lived, Judged, Explained, Misread, ReadFault, NoMemory, TooLong}
 use Rattle.mu_report.specs.Answers.{verdict_line}
 use Rattle.mu_report.specs.Books.{book_lines}
 use Rattle.mu_report.specs.Lives.{lived_lines, HasShortSights}
@@ -18,8 +18,7 @@ abbrev pub lines_of : Said → List (List ℕ)
 lines_of Usage =
     codes "usage: mu replay, mu run, mu check, mu why, mu trace, mu bulk N, mu live K, mu desk, mu book"
     ∷ []
-lines_of (Refused line cause) =
-    (codes "refused line " ++ decimal line ++ codes " cause " ++ decimal cause) ∷ []
+lines_of (Refused line cause) = refusal_words line cause ∷ []
 lines_of (Ran o) = report_lines o
 lines_of (Traced o) = trace_lines o
 lines_of (Summed o) = summary_lines o
@@ -27,6 +26,7 @@ lines_of (Booked o book) = book_lines o book
 lines_of (Lived o lived) = lived_lines o lived.sights
 lines_of (Judged events verdict) = verdict_line events verdict ∷ []
 lines_of (Explained events line broken) = explained_lines events line broken
+lines_of (Misread misread) = misread_lines misread
 lines_of ReadFault = codes "read fault" ∷ []
 lines_of NoMemory = codes "no memory" ∷ []
 lines_of TooLong = codes "too long" ∷ []
@@ -40,8 +40,8 @@ abbrev pub said_of_end : InputEnd → Said
 said_of_end (InputEnd.Refused line cause) = Refused line cause
 said_of_end InputEnd.NoMemory = NoMemory
 
--- a run that is reported has short lists, as have its readers, and the bytes of a trace can be
--- counted
+-- a run that is reported has short lists, as have its readers, the bytes of a trace can be counted,
+-- and lines of words are short
 abbrev pub IsShort : Said → Type 0
 IsShort Usage = ⊤
 IsShort (Refused line cause) = ⊤
@@ -52,6 +52,7 @@ IsShort (Booked o book) = ⊤
 IsShort (Lived o lived) = HasShortLists o × HasShortSights lived.sights
 IsShort (Judged events verdict) = ⊤
 IsShort (Explained events line broken) = ⊤
+IsShort (Misread misread) = HasShortLines misread
 IsShort ReadFault = ⊤
 IsShort NoMemory = ⊤
 IsShort TooLong = ⊤

@@ -6,6 +6,7 @@ mod answers;
 mod book;
 mod line;
 mod lives;
+mod misreads;
 mod page;
 mod reasons;
 mod report;

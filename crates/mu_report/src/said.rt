@@ -1,16 +1,15 @@
 //! What the program says.
-ghost use Rattle.std.specs.Prelude.{◌≡◌, ◌<◌, ◌≤◌, [], ◌∷◌, ◌++◌, length, take, codes, IfErr, IfOk, OnErr, OnOk};
+ghost use Rattle.std.specs.Prelude.{◌≡◌, ◌<◌, ◌≤◌, length, take, IfErr, IfOk, OnErr, OnOk};
 ghost use Rattle.std.specs.Io.KnownBytes.{Appends};
-ghost use Rattle.std.specs.Fmt.{decimal};
 ghost use Rattle.mu_io.specs.Faults.{Rose};
-ghost use Rattle.mu_report.specs.declared.line.TheConstants.{LINE_BYTES};
 ghost use Rattle.mu_report.specs.Printing.{PrintsAll, PrintsPart};
 ghost use Rattle.mu_report.specs.Said.{text, lines_of, said_of_end, IsShort};
 
 use crate::answers::verdict_line;
 use crate::book::print_book;
-use crate::line::{Line, print_line, print_words};
+use crate::line::{print_line, print_words};
 use crate::lives::print_lived;
+use crate::misreads::{print_misread, refusal};
 use crate::reasons::print_explained;
 use crate::report::print_report;
 use crate::summary::print_summary;
@@ -18,6 +17,7 @@ use crate::trace::print_trace;
 use match_book::Book;
 use mu_input::InputEnd;
 use mu_io::{Sink, WriteFault};
+use mu_mistakes::Misread;
 use mu_outcome::{Outcome, Verdict};
 use mu_reasons::Broken;
 use snap_reads::Lived;
@@ -59,6 +59,8 @@ pub enum Said {
         /// The first event that breaks the list, if there is one.
         broken: Option<Broken>,
     },
+    /// Where the input leaves the grammar and why, in words.
+    Misread(Misread),
     /// The input couldn't be read.
     ReadFault,
     /// Want of memory.
@@ -88,6 +90,7 @@ impl Drop for Said {
                 line: _,
                 broken: _,
             } => {}
+            Said::Misread(_) => {}
             Said::ReadFault => {}
             Said::NoMemory => {}
             Said::TooLong => {}
@@ -179,22 +182,9 @@ fn print_said<K: Sink>(sink: &mut K, said: &Said) -> Result<usize, WriteFault>
             line,
             broken,
         } => print_explained(sink, *events, *line, broken),
+        Said::Misread(misread) => print_misread(sink, misread),
         Said::ReadFault => print_words(sink, 0, b"read fault"),
         Said::NoMemory => print_words(sink, 0, b"no memory"),
         Said::TooLong => print_words(sink, 0, b"too long"),
     }
-}
-
-/// The line for an input that isn't in the grammar.
-fn refusal(number: u32, cause: u8) -> Line
-    ensures bytes { result ≡ codes "refused line " ++ decimal number ++ codes " cause "
-        ++ decimal cause }
-    ensures room { length result < LINE_BYTES }
-{
-    let mut line = Line::new();
-    line.push(b"refused line ");
-    line.push_number(u64::from(number));
-    line.push(b" cause ");
-    line.push_number(u64::from(cause));
-    line
 }

@@ -46,3 +46,4 @@ telling task left now before after bytes (Said.Booked outcome book) same within 
 telling task left now before after bytes (Said.Lived outcome lived) same within whole says = (same, record { bytes = bytes; within = within; whole = whole; says = says })
 telling task left now before after bytes (Said.Judged events verdict) same within whole says = (same, record { bytes = bytes; within = within; whole = whole; says = says })
 telling task left now before after bytes (Said.Explained events line broken) same within whole says = (same, record { bytes = bytes; within = within; whole = whole; says = says })
+telling task left now before after bytes (Said.Misread misread) same within whole says = (same, record { bytes = bytes; within = within; whole = whole; says = says })

@@ -81,6 +81,7 @@ status_for (Said.Booked outcome book) = status_after outcome
 status_for (Said.Lived outcome lived) = status_after outcome
 status_for (Said.Judged events verdict) = verdict_status verdict
 status_for (Said.Explained events line broken) = broken_status broken
+status_for (Said.Misread misread) = Status.Refused
 status_for Said.ReadFault = Status.ReadFault
 status_for Said.NoMemory = Status.NoMemory
 status_for Said.TooLong = Status.TooLong

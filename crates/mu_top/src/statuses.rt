@@ -12,7 +12,7 @@ pub(crate) fn status_for(said: &Said) -> Status
 {
     match said {
         Said::Usage => Status::Usage,
-        Said::Refused { .. } => Status::Refused,
+        Said::Refused { .. } | Said::Misread(_) => Status::Refused,
         Said::Ran(outcome) => status(outcome),
         Said::Traced(outcome) => status(outcome),
         Said::Summed(outcome) => status(outcome),
