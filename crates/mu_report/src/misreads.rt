@@ -36,11 +36,7 @@ pub fn print_misread<K: Sink>(sink: &mut K, misread: &Misread) -> Result<usize, 
 }
 
 /// Writes what the bytes of the line show, if they show anything.
-fn print_flaw<K: Sink>(
-    sink: &mut K,
-    taken: usize,
-    flaw: &Option<Line>,
-) -> Result<usize, WriteFault>
+fn print_flaw<K: Sink>(sink: &mut K, taken: usize, flaw: &Option<Line>) -> Result<usize, WriteFault>
     requires room { IfSome flaw.now (λ flaw. length flaw < LINE_BYTES) }
     requires fits { taken + LINE_BYTES < 2 ^ 64 }
     ensures all { IfOk result (PrintsAll (K.written sink.old) (K.written sink.new)
