@@ -4,15 +4,15 @@ pub mod Beginning
 mod Calm
 pub mod Cutting
 mod Enough
-mod Failing
-mod Fetching
+pub mod Failing
+pub mod Fetching
 mod Granting
 mod LastNoting
 mod Lasting
 mod Moments
 mod Noting
 pub mod TurnFences
-mod TurnGrants
+pub mod TurnGrants
 mod TurnNumbers
 pub mod Turns
 mod Unhindered

@@ -1,7 +1,7 @@
 mod Answering
 mod Bits
 mod Diligent
-mod Fetching
+pub mod Fetching
 pub mod FewRows
 mod Heads
 mod Lasts
