@@ -1,11 +1,12 @@
 #!/usr/bin/env python3
 """Prints what a crate shows to other crates and no other crate uses.
 
-    tools/surface.py        a line for each; the last line is `surface: N shown, N unused`
+    tools/surface.py        a line for each; the last line is `surface: N shown, N unused, N hidden`
 
 Looked at are lemma files (`pub mod` in proofs/Lib.antt, used by an import of the file), and what
-src/lib.rt shows of other crates (`pub use other::..`, used by an import of the name from this crate). The
-status is 1 if something is unused: a lemma file that no other crate imports is `mod`.
+src/lib.rt shows of other crates (`pub use other::..`, used by an import of the name from this crate). A
+lemma file that is `mod` but that another crate imports is hidden, and that crate won't be proved. The
+status is 1 if something is unused or hidden.
 """
 import os
 import re
@@ -58,20 +59,32 @@ def shown(crate):
                 yield name, f"crates/{crate}/src/lib.rt: {owner}::{name}"
 
 
+def hidden(crate):
+    """Its lemma files that are for the crate itself."""
+    for name in re.findall(r"^mod (\w+)", contents(crate, "proofs", "Lib.antt"), re.MULTILINE):
+        yield name, f"crates/{crate}/proofs/{name}.antt: hidden, but imported"
+
+
 def judged():
-    """How much is shown, and what of it is unused."""
+    """How much is shown, what of it is unused, and what is hidden but imported."""
     crates = sorted(os.listdir(CRATES))
     used = used_by(crates)
+
+    def others(crate, name):
+        return used.get((crate, name), set()) - {crate}
+
     all_shown = [(crate, name, where) for crate in crates for name, where in shown(crate)]
-    return len(all_shown), [where for crate, name, where in all_shown if not used.get((crate, name), set()) - {crate}]
+    unused = [where for crate, name, where in all_shown if not others(crate, name)]
+    missing = [where for crate in crates for name, where in hidden(crate) if others(crate, name)]
+    return len(all_shown), unused, missing
 
 
 def main():
-    count, unused = judged()
-    for where in unused:
+    count, unused, missing = judged()
+    for where in unused + missing:
         print(where)
-    print(f"surface: {count} shown, {len(unused)} unused")
-    return 1 if unused else 0
+    print(f"surface: {count} shown, {len(unused)} unused, {len(missing)} hidden")
+    return 1 if unused or missing else 0
 
 
 if __name__ == "__main__":
