@@ -31,7 +31,7 @@ def toolchain_trouble():
     """What keeps the toolchain from being used, in a line; else None."""
     needed = toolchain_named()
     if shutil.which("rt") is None:
-        return f"rt isn't found in PATH: it comes with {needed}, as \"What it needs\" in README.md says"
+        return f"rt isn't found in PATH: it comes with {needed}; README.md, Two commands, says what is needed"
     run = subprocess.run(["rt", "version"], stdout=subprocess.PIPE, check=False)
     found = run.stdout.decode(errors="replace").strip() or "one that tells no version"
     if found != needed:
