@@ -8,7 +8,7 @@ use mu_text::{Line, Words};
 
 /// What the bytes of a line show that no line of an input has.
 #[derive(Clone, Copy, Debug, PartialEq, Eq)]
-pub enum Flaw {
+pub(crate) enum Flaw {
     /// It has no byte.
     Empty,
     /// A byte that is no letter, digit, sign or space.
@@ -66,6 +66,7 @@ fn empty_word(words: &[&[u8]]) -> Option<usize>
     empty_place(words)
 }
 
+/// The same, of the words as slices.
 fn empty_place(words: &[&[u8]]) -> Option<usize>
     ensures { result ≡ position (λ word. length word.now == 0) words.now }
 {

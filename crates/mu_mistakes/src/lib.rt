@@ -10,7 +10,6 @@ mod flaw;
 mod misread;
 mod shown;
 
-pub use flaw::Flaw;
 pub use misread::{Misread, refused_at};
 
 /// How many bytes of a line are shown.

@@ -1,5 +1,5 @@
 -- The lines of a refused input, piece by piece.
-use Rattle.std.proofs.Common.{List, [], ◌∷◌, None, Some, ℕ, ◌++◌, ◌≡◌, ap, refl, sym}
+use Rattle.std.proofs.Common.{List, [], ◌∷◌, None, Some, ℕ, ◌++◌, ◌≡◌, ap, sym}
 use Rattle.std.specs.declared.option.Option.{Option}
 use Rattle.mu_mistakes.specs.Misreads.{flaw_lines, misread_lines, refusal_words}
 use Rattle.mu_mistakes.specs.declared.misread.Misread.{Misread}

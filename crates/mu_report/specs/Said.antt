@@ -16,7 +16,8 @@ use Rattle.mu_report.specs.Trace.{trace_lines, IsCountable}
 -- what is said, as lines without their ends
 abbrev pub lines_of : Said → List (List ℕ)
 lines_of Usage =
-    codes "usage: mu replay, mu run, mu check, mu why, mu trace, mu bulk N, mu live K, mu desk, mu book"
+    codes
+    "usage: mu replay, mu run, mu check, mu why, mu trace, mu bulk N, mu live K, mu desk, mu book"
     ∷ []
 lines_of (Refused line cause) = refusal_words line cause ∷ []
 lines_of (Ran o) = report_lines o

@@ -22,6 +22,10 @@ use mu_outcome::{Outcome, Verdict};
 use mu_reasons::Broken;
 use snap_reads::Lived;
 
+/// How the program is called.
+const USAGE: &[u8] =
+    b"usage: mu replay, mu run, mu check, mu why, mu trace, mu bulk N, mu live K, mu desk, mu book";
+
 /// What the program says at its end.
 pub enum Said {
     /// How it is called.
@@ -163,13 +167,7 @@ fn print_said<K: Sink>(sink: &mut K, said: &Said) -> Result<usize, WriteFault>
         (K.faults sink.old) (K.faults sink.new) 0 (lines_of said.now) fault.taken) }
 {
     match said {
-        Said::Usage => {
-            print_words(
-                sink,
-                0,
-                b"usage: mu replay, mu run, mu check, mu why, mu trace, mu bulk N, mu live K, mu desk, mu book",
-            )
-        }
+        Said::Usage => print_words(sink, 0, USAGE),
         Said::Refused { line, cause } => print_line(sink, 0, refusal(*line, *cause)),
         Said::Ran(outcome) => print_report(sink, outcome),
         Said::Traced(outcome) => print_trace(sink, outcome),

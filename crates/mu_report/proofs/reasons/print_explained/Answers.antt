@@ -1,4 +1,4 @@
-use Rattle.std.proofs.Common.{◌∷◌, [], refl, ◌∙◌, arith}
+use Rattle.std.proofs.Common.{refl}
 use Rattle.std.proofs.lemmas.Result.{err_from_is_err_and}
 use Rattle.mu_report.proofs.Pushes.{first_part, middle_part}
 use Rattle.mu_report.proofs.Prints.{print_fault, print_last, print_last_fault, print_start, print_step}
