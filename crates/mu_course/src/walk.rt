@@ -9,7 +9,7 @@ ghost use Rattle.mu_model.specs.declared.config.Config.{Config as Settings};
 ghost use Rattle.mu_course.specs.Walks.{StandsForWalk, TellsStep, fence_shown, grants_shown};
 ghost use Rattle.mu_course.specs.Resigning.{is_leading};
 
-use mu_course::{Course, Turn};
+use crate::course::{Course, Turn};
 use mu_model::{Answer, Config, Event, Fence, NoMemory, Verb};
 use mu_regions::Regions;
 use std::alloc::Global;
