@@ -7,11 +7,12 @@ ghost use Rattle.mu_io.specs.Faults.{Rose};
 ghost use Rattle.mu_draw.specs.Answers.{IsSayable, Tells, TellsOfSource, Wrote, status_for, text_of};
 ghost use Rattle.mu_draw.specs.Words.{asked_of as asked_of_words};
 
-use crate::asking::{Asked, asked_of};
+use crate::asking::asked_of;
 use crate::drawing::{Told, told_of};
 use mu_input::TRACE_LIMIT;
 use mu_io::{ReadEnd, Sink, Source, WriteFault, read_all, write_all};
 use mu_outcome::Status;
+use mu_picture::Extent;
 use mu_report::{Said, print};
 use std::alloc::Global;
 use std::process::ExitCode;
@@ -54,7 +55,7 @@ pub fn draw<S: Source, K: Sink>(
 }
 
 /// What there is to tell where this is asked of the source.
-fn told<S: Source>(alloc: Global, asked: Option<Asked>, source: &mut S) -> Told
+fn told<S: Source>(alloc: Global, asked: Option<Extent>, source: &mut S) -> Told
     ensures told { Tells asked (S.left source.old) (S.left source.new)
         (S.faults source.old) (S.faults source.new) result }
     ensures sayable { IsSayable result }
@@ -66,7 +67,7 @@ fn told<S: Source>(alloc: Global, asked: Option<Asked>, source: &mut S) -> Told
 }
 
 /// What there is to tell of all that the source has left.
-fn told_of_source<S: Source>(alloc: Global, asked: Asked, source: &mut S) -> Told
+fn told_of_source<S: Source>(alloc: Global, asked: Extent, source: &mut S) -> Told
     ensures told { TellsOfSource (S.left source.old) (S.left source.new)
         (S.faults source.old) (S.faults source.new) asked result }
     ensures sayable { IsSayable result }
@@ -116,9 +117,13 @@ fn tell<K: Sink>(sink: &mut K, told: &Told) -> Result<(), WriteFault>
     ensures fault { OnErr result (Rose (K.faults sink.old) (K.faults sink.new)) }
 {
     match told {
-        Told::Usage => write_all(sink, b"usage: mu_draw, mu_draw FIRST LAST\n"),
+        Told::Usage => write_all(
+            sink,
+            b"usage: mu_draw, mu_draw FIRST LAST, mu_draw brief, mu_draw brief FIRST LAST\n",
+        ),
         Told::Said(said) => print(sink, said),
         Told::Drawn(sheet) => write_all(sink, sheet.as_slice()),
+        Told::Broken(sheet) => write_all(sink, sheet.as_slice()),
     }
 }
 
@@ -129,10 +134,10 @@ fn status_of(told: &Told) -> Status
     match told {
         Told::Usage => Status::Usage,
         Told::Said(Said::Refused { .. }) => Status::Refused,
-        Told::Said(Said::Judged { .. }) => Status::Illegal,
         Told::Said(Said::ReadFault) => Status::ReadFault,
         Told::Said(Said::TooLong) => Status::TooLong,
         Told::Said(_) => Status::NoMemory,
         Told::Drawn(_) => Status::Done,
+        Told::Broken(_) => Status::Illegal,
     }
 }

@@ -1,19 +1,21 @@
 //! From the bytes of a trace to its picture.
-ghost use Rattle.std.specs.Prelude.{◌≡◌, ◌≤◌, ◌<◌, ◌^◌, length, IfOk};
+ghost use Rattle.std.specs.Prelude.{◌≡◌, ◌+◌, ◌-◌, ◌≤◌, ◌<◌, ◌^◌, Some, None, length, take, IfOk};
+ghost use Rattle.std.specs.List.{slice_get};
 ghost use Rattle.mu_input.specs.declared.TheConstants.{TRACE_LIMIT};
 ghost use Rattle.mu_model.specs.Contents.{IsConfig};
 ghost use Rattle.mu_model.specs.Legal.{IsLegal};
-ghost use Rattle.mu_input.specs.declared.job.InputEnd.TheVariants.{NoMemory as NoMemoryEnd};
-ghost use Rattle.mu_draw.specs.declared.drawing.Undrawn.TheVariants.{Unread};
-ghost use Rattle.mu_draw.specs.Answers.{Draws, IsDrawingOf, TellsOfEvents, told_with};
+ghost use Rattle.mu_outcome.specs.Verdicts.{BreaksAt};
+ghost use Rattle.mu_text.specs.Lines.{lines};
+ghost use Rattle.mu_draw.specs.Answers.{Draws, IsBrokenDrawingOf, IsDrawingOf, TellsOfEvents, told_with, wrong_words};
 
-use crate::asking::Asked;
 use mu_check::check;
-use mu_input::{InputEnd, Job, read_trace};
+use mu_events::push_answer;
+use mu_input::{InputEnd, Job, TRACE_LIMIT, read_trace};
 use mu_model::{Event, NoMemory};
-use mu_outcome::Verdict;
-use mu_picture::{Sheet, drawn, picture_of};
+use mu_outcome::{Verdict, Wrong};
+use mu_picture::{Breach, Extent, Sheet, drawn, picture_of};
 use mu_report::Said;
+use mu_text::{Line, LineReader};
 use std::alloc::Global;
 
 /// What the program has to tell.
@@ -23,97 +25,81 @@ pub enum Told {
     Usage,
     /// Why there is no picture.
     Said(Said),
-    /// The picture.
+    /// The picture of a legal trace.
     Drawn(Sheet),
-}
-
-/// Why there is no picture of a trace.
-#[derive(Clone, Copy, Debug, PartialEq, Eq)]
-pub enum Undrawn {
-    /// None was read, or there was no memory for the picture.
-    Unread(InputEnd),
-    /// Its events aren't legal.
-    Illegal {
-        /// How many they are.
-        events: u32,
-        /// Which is the first that breaks the list, and why.
-        verdict: Verdict,
-    },
-}
-
-impl From<InputEnd> for Undrawn {
-    ghost from_gives = { λ end undrawn. undrawn ≡ Unread end };
-
-    fn from(end: InputEnd) -> Undrawn {
-        Undrawn::Unread(end)
-    }
-}
-
-impl From<NoMemory> for Undrawn {
-    ghost from_gives = { λ _ undrawn. undrawn ≡ Unread NoMemoryEnd };
-
-    fn from(_failed: NoMemory) -> Undrawn {
-        Undrawn::Unread(InputEnd::NoMemory)
-    }
+    /// The picture up to the event that breaks the trace.
+    Broken(Sheet),
 }
 
 /// What there is to tell of the bytes of a trace: `Refused` exactly where they leave the grammar,
-/// with the first line that leaves it and the cause; `Judged` exactly where its events aren't
+/// with the first line that leaves it and the cause; `Broken` exactly where its events aren't
 /// legal, with the first that breaks them and why; else its picture, of the steps that are asked
-/// for.
-/// `NoMemory` for want of memory.
-pub fn told_of(alloc: Global, bytes: &[u8], asked: Asked) -> Told
+/// for. `NoMemory` for want of memory.
+pub fn told_of(alloc: Global, bytes: &[u8], asked: Extent) -> Told
     requires { length bytes.now ≤ TRACE_LIMIT }
     ensures { Draws bytes.now asked result }
 {
     told_of_drawing(drawing(alloc, bytes, asked))
 }
 
-/// What there is to tell of a picture, or of why there is none.
-fn told_of_drawing(drawing: Result<Sheet, Undrawn>) -> Told
+/// What there is to tell of a picture of a trace that is legal or not, or of why there is none.
+fn told_of_drawing(drawing: Result<(Sheet, bool), InputEnd>) -> Told
     ensures { result ≡ told_with drawing }
 {
     match drawing {
-        Ok(sheet) => Told::Drawn(sheet),
-        Err(Undrawn::Unread(end)) => Told::Said(Said::from(end)),
-        Err(Undrawn::Illegal { events, verdict }) => Told::Said(Said::Judged { events, verdict }),
+        Ok((sheet, true)) => Told::Drawn(sheet),
+        Ok((sheet, false)) => Told::Broken(sheet),
+        Err(end) => Told::Said(Said::from(end)),
     }
 }
 
-/// The picture of the trace that the bytes spell.
+/// The picture of the trace that the bytes spell, and whether that is legal.
 ///
 /// # Errors
 ///
 /// Why there is none.
-fn drawing(alloc: Global, bytes: &[u8], asked: Asked) -> Result<Sheet, Undrawn>
+fn drawing(alloc: Global, bytes: &[u8], asked: Extent) -> Result<(Sheet, bool), InputEnd>
     requires { length bytes.now ≤ TRACE_LIMIT }
     ensures { Draws bytes.now asked (told_with result) }
 {
     let (job, journal) = read_trace(alloc, bytes)?;
-    drawing_of_events(alloc, &job, journal.as_slice(), asked)
+    let events = journal.as_slice();
+    let line = count_of_lines(bytes).saturating_sub(events.len() as u32);
+    drawing_of_events(alloc, &job, line, events, asked)
 }
 
-/// The picture of the events of a trace.
+/// How many lines the bytes have.
+fn count_of_lines(bytes: &[u8]) -> u32
+    requires { length bytes.now ≤ TRACE_LIMIT }
+    ensures { result ≡ length (lines bytes.now) }
+{
+    let mut rest = LineReader::new(bytes);
+    while let Some(_) = rest.next() {}
+    rest.number() - 1
+}
+
+/// The picture of the events of a trace, in which step 0 stands in this line, and whether they are
+/// legal.
 ///
 /// # Errors
 ///
-/// Why there is none.
+/// Want of memory alone.
 fn drawing_of_events(
     alloc: Global,
     job: &Job,
+    line: u32,
     events: &[Event],
-    asked: Asked,
-) -> Result<Sheet, Undrawn>
+    asked: Extent,
+) -> Result<(Sheet, bool), InputEnd>
     requires config { IsConfig job.now.config }
     requires countable { length events.now < 2 ^ 32 }
-    ensures { TellsOfEvents job.now events.now asked (told_with result) }
+    ensures { TellsOfEvents job.now line events.now asked (told_with result) }
 {
     match check(alloc, &job.config, events)? {
-        Verdict::Legal => Ok(picture(alloc, job, events, asked)?),
-        verdict => Err(Undrawn::Illegal {
-            events: events.len() as u32,
-            verdict,
-        }),
+        Verdict::Legal => Ok((picture(alloc, job, line, events, asked)?, true)),
+        Verdict::Illegal { index, cause } => {
+            Ok((broken(alloc, job, line, events, index, cause, asked)?, false))
+        }
     }
 }
 
@@ -122,19 +108,64 @@ fn drawing_of_events(
 /// # Errors
 ///
 /// Want of memory alone.
-fn picture(alloc: Global, job: &Job, events: &[Event], asked: Asked) -> Result<Sheet, NoMemory>
+fn picture(
+    alloc: Global,
+    job: &Job,
+    line: u32,
+    events: &[Event],
+    asked: Extent,
+) -> Result<Sheet, NoMemory>
     requires config { IsConfig job.now.config }
     requires legal { IsLegal job.now.config events.now }
     requires countable { length events.now < 2 ^ 32 }
-    ensures { IfOk result (λ sheet. IsDrawingOf job.now events.now asked sheet) }
+    ensures { IfOk result (λ sheet. IsDrawingOf job.now line events.now asked sheet) }
 {
-    let picture = picture_of(
-        alloc,
-        &job.config,
-        &job.script,
-        events,
-        asked.first,
-        asked.last,
-    )?;
-    drawn(alloc, job, &picture)
+    let picture = picture_of(alloc, &job.config, &job.script, events, asked)?;
+    drawn(alloc, job, line, &picture, &None)
+}
+
+/// Why an event breaks a list.
+fn fault_of(wrong: &Wrong) -> Line
+    ensures { result ≡ wrong_words wrong.now }
+{
+    let mut line = Line::new();
+    match wrong {
+        Wrong::NotAllowed => line.push(b"not allowed"),
+        Wrong::WrongAnswer { expected } => {
+            line.push(b"expected ");
+            push_answer(&mut line, expected);
+        }
+    }
+    line
+}
+
+/// The picture of the steps that are asked for, of those before the event that breaks the list, and
+/// that event.
+///
+/// # Errors
+///
+/// Want of memory alone.
+fn broken(
+    alloc: Global,
+    job: &Job,
+    line: u32,
+    events: &[Event],
+    index: u32,
+    cause: Wrong,
+    asked: Extent,
+) -> Result<Sheet, NoMemory>
+    requires config { IsConfig job.now.config }
+    requires breaks { BreaksAt job.now.config events.now index cause }
+    requires countable { length events.now < 2 ^ 32 }
+    ensures { IfOk result (λ sheet.
+        IsBrokenDrawingOf job.now line events.now index cause asked sheet) }
+{
+    let step = index as usize;
+    let picture = picture_of(alloc, &job.config, &job.script, &events[..step], asked)?;
+    let breach = Some(Breach {
+        step: index,
+        event: events[step],
+        fault: fault_of(&cause),
+    });
+    drawn(alloc, job, line, &picture, &breach)
 }

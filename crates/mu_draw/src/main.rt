@@ -2,10 +2,12 @@
 //!
 //! A trace comes on standard input, as `mu trace` prints it and `mu check` reads it. Its picture
 //! goes to standard output, as one document of SVG. Two words, `mu_draw FIRST LAST`, say which
-//! steps are drawn, by their indices from 0; without, all are.
+//! steps are drawn, by their indices from 0; without, all are. With the word `brief` before them only
+//! asks, grants, commits and ends are. A trace that isn't legal is drawn up to the event that breaks
+//! it, and that event in red.
 //!
 //! Where there is no picture, one line says why, as `mu check` prints it: `refused line L cause C`,
-//! `illegal I ..`, `read fault`, `no memory` or `too long`; or how the program is called.
+//! `read fault`, `no memory` or `too long`; or how the program is called.
 #![tactic(auto)]
 
 mod answering;
@@ -15,7 +17,7 @@ mod drawing;
 mod tests;
 
 pub use answering::{Answered, answer, draw};
-pub use asking::{Asked, LAST_STEP, asked_of, limits_are_stated};
+pub use asking::{LAST_STEP, asked_of, limits_are_stated};
 pub use drawing::Told;
 use mu_io::{StdSink, StdSource};
 use std::env;

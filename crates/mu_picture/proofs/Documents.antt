@@ -7,14 +7,22 @@ use Rattle.std.specs.declared.option.Option.{Option}
 use Rattle.std.proofs.lemmas.Bool.{and_from, and_parts, le-leb, lt-ltb, ne_eqb}
 use Rattle.mu_model.proofs.Basics.{true_or}
 use Rattle.mu_input.specs.declared.job.Job.{Job}
-use Rattle.mu_picture.specs.Drawing.{across_piece, closing_piece, content_of, deed_pieces, document_of, ended_piece, fold_piece, halt_pieces, lane_of, lane_pieces, lanes_from, leading_piece, legend, mark_pieces, missed_piece, opening_pieces, owned_piece, owner_bar, owner_class, put_class, resting_piece, rows_from, said_piece, stretch_of, style, svg_of}
-use Rattle.mu_picture.specs.Pieces.{bar_piece, escape, escaped, label_piece, line_piece, note_piece, path_of}
-use Rattle.mu_picture.specs.Words.{deed_words, halt_words}
+use Rattle.mu_events.specs.Lines.{event_line}
+use Rattle.mu_model.specs.declared.config.Config.{Config}
+use Rattle.mu_picture.specs.Drawing.{axis_piece, breach_inside, breach_pieces, breach_shape, content_of, document_of, facts_words, fault_piece, figure_pieces, fold_pieces, foot_pieces, front_of, hatching, head_pieces, last_cursor, lane_pieces, lanes_from, legend, mark_pieces, more_pieces, note_piece, row_pieces, rows_from, sample_block, sample_cross, sample_dot, sample_level, sample_line, sample_piece, standing_pieces, strip_shape, style, svg_of, title_pieces, titles_again, titles_pieces}
+use Rattle.mu_picture.specs.Lanes.{deed_shapes, halt_shapes, lane_shapes, paused_shape, region_shapes, resumed_shapes}
+use Rattle.mu_picture.specs.Layout.{after, bottom_of, has_titles, lane_of, row_of, stretch_top_of, top}
+use Rattle.mu_picture.specs.Shapes.{escape, escaped, group_piece, head_bytes, look_class, said_piece, shape_piece, shape_pieces, square_bytes, text_piece, way_then}
+use Rattle.mu_picture.specs.Words.{label_words, note_words, step_words}
+use Rattle.mu_picture.specs.declared.drawing.Breach.{Breach}
+use Rattle.mu_picture.specs.declared.layout.Cursor.{Cursor}
+use Rattle.mu_picture.specs.declared.shapes.Look.{Look}
+use Rattle.mu_picture.specs.declared.shapes.Shape.{Shape}
+use Rattle.mu_picture.specs.declared.shapes.Way.{Way}
+use Rattle.mu_picture.specs.declared.standings.Standing.{Standing}
 use Rattle.mu_picture.specs.Xml.{IsContent, IsDocument, IsTag, is_plain, nothing, character, entity, element, attribute, empty, whole}
-use Rattle.mu_picture.specs.declared.deeds.Deed.{Deed}
-use Rattle.mu_course.specs.declared.halts.Halt.{Halt}
 use Rattle.mu_picture.specs.declared.marks.Mark.{Mark}
-use Rattle.mu_picture.specs.declared.marks.Picture.{Picture}
+use Rattle.mu_picture.specs.declared.pictures.Picture.{Picture}
 use Rattle.mu_picture.specs.declared.openings.Opening.{Opening}
 
 mutual
@@ -103,153 +111,282 @@ escaped_is : (words : List ℕ) → IsContent (escaped words)
 escaped_is [] = nothing
 escaped_is (b ∷ bs) = both (escape_is b) (escaped_is bs)
 
-bar_is : (class : List ℕ) (x y width : ℕ) → list_all is_plain class ≡ true → IsContent (bar_piece class x y width)
-bar_is class x y width plain =
+class_plain : (look : Look) → list_all is_plain (look_class look) ≡ true
+class_plain Look.Ground = refl
+class_plain Look.Lane = refl
+class_plain Look.Closing = refl
+class_plain Look.Hatched = refl
+class_plain Look.Folded = refl
+class_plain Look.Asks = refl
+class_plain Look.Landed = refl
+class_plain Look.Missed = refl
+class_plain Look.Commits = refl
+class_plain Look.Sign = refl
+class_plain Look.Wrong = refl
+class_plain Look.Label = refl
+class_plain Look.Axis = refl
+class_plain Look.Note = refl
+class_plain Look.Fault = refl
+class_plain (Look.Of r) = all_both (codes "o") (decimal r) refl (number_plain r)
+
+head_plain : (missed left : Bool) → list_all is_plain (head_bytes missed left) ≡ true
+head_plain true left = refl
+head_plain false true = refl
+head_plain false false = refl
+
+square_plain : (left : Bool) → list_all is_plain (square_bytes left) ≡ true
+square_plain true = refl
+square_plain false = refl
+
+-- the way of a line, as the value of an attribute
+abbrev way_value : Way → List ℕ
+way_value way = way_then way []
+
+-- a place and what follows it
+place_plain : (x y : ℕ) (rest : List ℕ) → list_all is_plain rest ≡ true → list_all is_plain (codes "M" ++ (decimal x ++ (codes " " ++ (decimal y ++ rest)))) ≡ true
+place_plain x y rest is =
+    let third = decimal y ++ rest in
+    let second = codes " " ++ third in
+    all_both (codes "M") (decimal x ++ second) refl
+    (all_both (decimal x) second (number_plain x) (all_both (codes " ") third refl (all_both (decimal y) rest (number_plain y) is)))
+
+way_plain : (way : Way) → list_all is_plain (way_value way) ≡ true
+way_plain (Way.Across x y to missed left) =
+    let square = square_bytes left ++ [] in
+    let side = decimal x ++ square in
+    place_plain to y (head_bytes missed left ++ side)
+    (all_both (head_bytes missed left) side (head_plain missed left)
+    (all_both (decimal x) square (number_plain x) (all_both (square_bytes left) [] (square_plain left) refl)))
+way_plain (Way.Cross x y) = place_plain x y (codes "l8 8m0-8l-8 8") refl
+way_plain (Way.Level x y) = place_plain x y (codes "h16") refl
+
+-- what follows a way stands behind it
+way_before : (way : Way) (rest : List ℕ) → way_then way rest ≡ way_value way ++ rest
+way_before (Way.Across x y to missed left) rest =
+    ap (λ l. codes "M" ++ l)
+    (sym (append_assoc (decimal to) _ rest
+    ∙ ap (λ l. decimal to ++ (codes " " ++ l))
+    (append_assoc (decimal y) _ rest
+    ∙ ap (λ l. decimal y ++ l)
+    (append_assoc (head_bytes missed left) _ rest
+    ∙ ap (λ l. head_bytes missed left ++ l)
+    (append_assoc (decimal x) _ rest ∙ ap (λ l. decimal x ++ l) (append_assoc (square_bytes left) [] rest))))))
+way_before (Way.Cross x y) rest =
+    ap (λ l. codes "M" ++ l)
+    (sym (append_assoc (decimal x) _ rest ∙ ap (λ l. decimal x ++ (codes " " ++ l)) (append_assoc (decimal y) _ rest)))
+way_before (Way.Level x y) rest =
+    ap (λ l. codes "M" ++ l)
+    (sym (append_assoc (decimal x) _ rest ∙ ap (λ l. decimal x ++ (codes " " ++ l)) (append_assoc (decimal y) _ rest)))
+
+line_feed : IsContent (10 ∷ [])
+line_feed = character {byte = 10} refl nothing
+
+-- a shape is content
+shape_is : (shape : Shape) → IsContent (shape_piece shape)
+shape_is (Shape.Bar look x y width) =
     element {name = codes "rect"} refl
-    (attribute {name = codes "class"} class refl refl plain
+    (attribute {name = codes "class"} (look_class look) refl refl (class_plain look)
     (attribute {name = codes "x"} (decimal x) refl refl (number_plain x)
     (attribute {name = codes "y"} (decimal y) refl refl (number_plain y)
     (attribute {name = codes "width"} (decimal width) refl refl (number_plain width)
-    (attribute {name = codes "height"} (codes "100%") refl refl refl (empty (character {byte = 10} refl nothing)))))))
-
-path_plain : (x y to : ℕ) → list_all is_plain (path_of x y to) ≡ true
-path_plain x y to =
-    let last = codes "v3h-6v-6h6v3" in
-    let third = codes "v3v-6v3H" ++ (decimal x ++ last) in
-    let second = codes " " ++ (decimal y ++ third) in
-    all_both (codes "M") (decimal to ++ second) refl
-    (all_both (decimal to) second (number_plain to)
-    (all_both (codes " ") (decimal y ++ third) refl
-    (all_both (decimal y) third (number_plain y)
-    (all_both (codes "v3v-6v3H") (decimal x ++ last) refl (all_both (decimal x) last (number_plain x) refl)))))
-
-line_is : (class : List ℕ) (x y to : ℕ) → list_all is_plain class ≡ true → IsContent (line_piece class x y to)
-line_is class x y to plain =
+    (attribute {name = codes "height"} (codes "100%") refl refl refl (empty line_feed))))))
+shape_is (Shape.Block look x y width height) =
+    element {name = codes "rect"} refl
+    (attribute {name = codes "class"} (look_class look) refl refl (class_plain look)
+    (attribute {name = codes "x"} (decimal x) refl refl (number_plain x)
+    (attribute {name = codes "y"} (decimal y) refl refl (number_plain y)
+    (attribute {name = codes "width"} (decimal width) refl refl (number_plain width)
+    (attribute {name = codes "height"} (decimal height) refl refl (number_plain height) (empty line_feed))))))
+shape_is (Shape.Line look way) =
     element {name = codes "path"} refl
-    (attribute {name = codes "class"} class refl refl plain
-    (attribute {name = codes "d"} (path_of x y to) refl refl (path_plain x y to) (empty (character {byte = 10} refl nothing))))
+    (attribute {name = codes "class"} (look_class look) refl refl (class_plain look)
+    (subst (λ l. IsTag (codes "path") (codes "class" ∷ []) (codes " d='" ++ l)) (sym (way_before way (codes "'/>\n")))
+    (attribute {name = codes "d"} (way_value way) refl refl (way_plain way) (empty line_feed))))
+shape_is (Shape.Dot look x y) =
+    element {name = codes "circle"} refl
+    (attribute {name = codes "class"} (look_class look) refl refl (class_plain look)
+    (attribute {name = codes "cx"} (decimal x) refl refl (number_plain x)
+    (attribute {name = codes "cy"} (decimal y) refl refl (number_plain y)
+    (attribute {name = codes "r"} (codes "3") refl refl refl (empty line_feed)))))
 
-label_is : (x y : ℕ) (words : List ℕ) → IsContent (label_piece x y words)
-label_is x y words =
+-- and so are shapes
+shapes_are : (shapes : List Shape) → IsContent (shape_pieces shapes)
+shapes_are [] = nothing
+shapes_are (shape ∷ shapes) = both (shape_is shape) (shapes_are shapes)
+
+-- words are content, whatever they hold
+text_is : (look : Look) (x y : ℕ) (words : List ℕ) → IsContent (text_piece look x y words)
+text_is look x y words =
     element {name = codes "text"} refl
+    (attribute {name = codes "class"} (look_class look) refl refl (class_plain look)
     (attribute {name = codes "x"} (decimal x) refl refl (number_plain x)
-    (attribute {name = codes "y"} (decimal y) refl refl (number_plain y) (whole {content = escaped words} (escaped_is words) (character {byte = 10} refl nothing))))
+    (attribute {name = codes "y"} (decimal y) refl refl (number_plain y) (whole {content = escaped words} (escaped_is words) line_feed))))
 
-note_is : (x y : ℕ) (words : List ℕ) → IsContent (note_piece x y words)
-note_is x y words =
-    element {name = codes "text"} refl
-    (attribute {name = codes "class"} (codes "t") refl refl refl
-    (attribute {name = codes "x"} (decimal x) refl refl (number_plain x)
-    (attribute {name = codes "y"} (decimal y) refl refl (number_plain y) (whole {content = escaped words} (escaped_is words) (character {byte = 10} refl nothing)))))
+said_is : (look : Look) (x y : ℕ) (words : List ℕ) → IsContent (said_piece look x y words)
+said_is look x y [] = nothing
+said_is look x y (byte ∷ bytes) = text_is look x y (byte ∷ bytes)
 
-owner_plain : (r : ℕ) → list_all is_plain (owner_class r) ≡ true
-owner_plain r = all_both (codes "o") (decimal r) refl (number_plain r)
+-- content with a tooltip is content
+group_is : (words pieces : List ℕ) → IsContent pieces → IsContent (group_piece words pieces)
+group_is words pieces is =
+    let title = codes "</title>\n" in
+    let end = codes "</g>\n" in
+    subst IsContent (ap (λ l. codes "<g><title>" ++ l) (append_assoc (escaped words) (title ++ pieces) end ∙ sym (append_assoc (escaped words) title (pieces ++ end))))
+    (element {name = codes "g"} refl
+    (whole {content = codes "<title>" ++ (escaped words ++ (codes "</title>\n" ++ pieces))}
+    (element {name = codes "title"} refl (whole {content = escaped words} (escaped_is words) (character {byte = 10} refl is))) line_feed))
 
-owned_is : (r y w : ℕ) → IsContent (owned_piece r y w)
-owned_is r y w = bar_is (owner_class w) (lane_of r + 84) y 8 (owner_plain w)
+axis_is : (y : ℕ) (words : List ℕ) → IsContent (axis_piece y words)
+axis_is y words = text_is Look.Axis 56 y words
 
-closing_is : (r y : ℕ) → IsContent (closing_piece r y)
-closing_is r y = bar_is (codes "c") (lane_of r + 84) y 8 refl
+note_is : (n r y : ℕ) (words : List ℕ) → IsContent (note_piece n r y words)
+note_is n r y [] = nothing
+note_is n r y (byte ∷ bytes) = both (shape_is (Shape.Dot (Look.Of r) (lane_of n + 4) y)) (text_is Look.Note (lane_of n + 12) (y + 3) (byte ∷ bytes))
 
-leading_is : (r y : ℕ) → IsContent (leading_piece r y)
-leading_is r y = bar_is (owner_class r) (lane_of r + 2) y 12 (owner_plain r)
+figure_is : (y : ℕ) (mark : Mark) → IsContent (figure_pieces y mark)
+figure_is y mark =
+    both (shapes_are (resumed_shapes mark.event.by y mark.resumed))
+    (both (shapes_are (deed_shapes mark.event.by y mark.deed))
+    (both (shapes_are (halt_shapes mark.event.by y mark.halt)) (said_is Look.Label (lane_of mark.event.by + 58) (y + 3) (label_words mark.deed))))
 
-resting_is : (r y : ℕ) → IsContent (resting_piece r y)
-resting_is r y = bar_is (codes "w") (lane_of r + 1) y 14 refl
+mark_is : (job : Job) (line n y : ℕ) (mark : Mark) → IsContent (mark_pieces job line n y mark)
+mark_is job line n y mark =
+    group_is (step_words line mark.step mark.event) _
+    (both (figure_is y mark) (both (axis_is (y + 3) (decimal mark.step)) (note_is n mark.event.by y (note_words job mark))))
 
-ended_is : (r y : ℕ) → IsContent (ended_piece r y)
-ended_is r y = bar_is (codes "w") (lane_of r - 2) (y + 6) 18 refl
+title_is : (r y : ℕ) → IsContent (title_pieces r y)
+title_is r y = both (text_is Look.Label (lane_of r - 2) y (codes "replica " ++ decimal r)) (text_is Look.Label (lane_of r + 42) y (codes "region " ++ decimal r))
 
-across_is : (class : List ℕ) (r y p : ℕ) → list_all is_plain class ≡ true → IsContent (across_piece class r y p)
-across_is class r y p plain = line_is class (lane_of r + 8) y (lane_of p + 88) plain
+titles_are : (n y : ℕ) → IsContent (titles_pieces n y)
+titles_are zero y = nothing
+titles_are (suc n) y = both (titles_are n y) (title_is n y)
 
-put_is : (landed : Bool) (r y p : ℕ) → IsContent (missed_piece landed r y ++ across_piece (put_class landed) r y p)
-put_is true r y p = across_is (codes "p") r y p refl
-put_is false r y p = both (resting_is r y) (across_is (codes "q") r y p refl)
+again_is : (n : ℕ) (cursor : Cursor) → IsContent (titles_again n cursor)
+again_is n cursor = either IsContent (has_titles cursor) _ _ (λ h. titles_are n (cursor.y + 11)) (λ h. nothing)
 
-deed_is : (r y : ℕ) (deed : Option Deed) → IsContent (deed_pieces r y deed)
-deed_is r y None = nothing
-deed_is r y (Some (Deed.Ask p)) =
-    both (either IsContent (p == 0) _ _ (λ h. leading_is r y) (λ h. nothing)) (across_is (codes "a") r y p refl)
-deed_is r y (Some Deed.Close) = both (closing_is r y) (label_is (lane_of r + 95) (y + 3) (codes "close"))
-deed_is r y (Some Deed.Drain) = label_is (lane_of r + 95) (y + 3) (codes "drain")
-deed_is r y (Some (Deed.Grant w granted)) = both (owned_is r y w) (label_is (lane_of r + 95) (y + 3) (codes "to " ++ decimal w ++ codes ", grant " ++ decimal (granted + 1)))
-deed_is r y (Some (Deed.PutMin p b landed)) = both (put_is landed r y p) (label_is (lane_of r + 18) (y - 2) (codes "number " ++ decimal b))
-deed_is r y (Some (Deed.Put p i landed)) = put_is landed r y p
-deed_is r y (Some (Deed.Commit p i v)) = both (across_is (codes "k") r y p refl) (label_is (lane_of r + 18) (y - 2) (decimal i))
-deed_is r y (Some (Deed.Learn p i v)) = label_is (lane_of r + 18) (y + 3) (codes "learns " ++ decimal i)
-deed_is r y (Some (Deed.Head h)) = label_is (lane_of r + 18) (y + 3) (codes "head " ++ decimal h)
-deed_is r y (Some (Deed.Barred p)) = resting_is r y
-deed_is r y (Some (Deed.Deposed p)) = resting_is r y
-deed_is r y (Some (Deed.Outbid p)) = resting_is r y
-deed_is r y (Some (Deed.Resign q)) = resting_is r y
-deed_is r y (Some (Deed.Outrun p i)) = ended_is r y
+fold_is : (n y steps : ℕ) → IsContent (fold_pieces n y steps)
+fold_is n y steps =
+    either IsContent (nat_lt 31 steps) _ _ (λ h. both (shape_is (strip_shape Look.Folded n (y + 3) 10)) (axis_is (y + 11) (decimal steps ++ codes " steps"))) (λ h. nothing)
 
-halt_is : (r y : ℕ) (halt : Option Halt) → IsContent (halt_pieces r y halt)
-halt_is r y None = nothing
-halt_is r y (Some Halt.Stop) = ended_is r y
-halt_is r y (Some Halt.Spent) = ended_is r y
-halt_is r y (Some Halt.Finish) = ended_is r y
-halt_is r y (Some (Halt.Pause rounds)) = nothing
+row_is : (job : Job) (line n : ℕ) (cursor : Cursor) (mark : Mark) → IsContent (row_pieces job line n cursor mark)
+row_is job line n cursor mark =
+    both (again_is n cursor) (both (fold_is n (stretch_top_of cursor) (mark.step - cursor.at)) (mark_is job line n (row_of cursor mark.step + 6) mark))
 
-said_is : (n step r y : ℕ) (words : List ℕ) → IsContent (said_piece n step r y words)
-said_is n step r y [] = nothing
-said_is n step r y (byte ∷ bytes) = note_is (lane_of n) (y + 3) (decimal step ++ codes ": replica " ++ decimal r ++ (byte ∷ bytes))
+rows_are : (job : Job) (line n : ℕ) (cursor : Cursor) (marks : List Mark) → IsContent (rows_from job line n cursor marks)
+rows_are job line n cursor [] = nothing
+rows_are job line n cursor (mark ∷ marks) = both (row_is job line n cursor mark) (rows_are job line n (after cursor mark.step) marks)
 
-fold_is : (y steps : ℕ) → IsContent (fold_piece y steps)
-fold_is y steps = either IsContent (nat_lt 31 steps) _ _ (λ h. note_is 4 (y + 11) (decimal steps ++ codes " steps")) (λ h. nothing)
+more_is : (picture : Picture) (y : ℕ) → IsContent (more_pieces picture y)
+more_is picture y =
+    either IsContent (nat_lt picture.end picture.asked) _ _
+    (λ h. both (axis_is (y + 12) (codes "goes on")) (text_is Look.Label (lane_of 0 - 10) (y + 12) (codes "with step " ++ decimal picture.end))) (λ h. nothing)
 
-mark_is : (job : Job) (n y : ℕ) (mark : Mark) → IsContent (mark_pieces job n y mark)
-mark_is job n y mark =
-    both (halt_is mark.replica y mark.halt)
-    (both (deed_is mark.replica y mark.deed) (said_is n mark.step mark.replica y (deed_words job mark.deed ++ halt_words mark.halt)))
+fault_is : (n y : ℕ) (words : List ℕ) → IsContent (fault_piece n y words)
+fault_is n y words = text_is Look.Fault (lane_of n + 12) y words
 
-rows_is : (job : Job) (n end at y : ℕ) (marks : List Mark) → IsContent (rows_from job n end at y marks)
-rows_is job n end at y [] = fold_is y (end - at)
-rows_is job n end at y (mark ∷ marks) =
-    both (both (fold_is y (mark.step - at)) (mark_is job n (y + stretch_of (mark.step - at) + 6) mark))
-    (rows_is job n end (mark.step + 1) (y + stretch_of (mark.step - at) + 12) marks)
+breach_is : (line n y : ℕ) (breach : Option Breach) → IsContent (breach_pieces line n y breach)
+breach_is line n y None = nothing
+breach_is line n y (Some breach) =
+    group_is (step_words line breach.step breach.event) (breach_inside n y breach)
+    (both (both (shape_is (strip_shape Look.Wrong n (y + 17) 1)) (shape_is (breach_shape breach.event.by (y + 22))))
+    (both (axis_is (y + 29) (decimal breach.step)) (both (fault_is n (y + 29) (event_line breach.event)) (fault_is n (y + 41) breach.fault))))
 
-owner_is : (r : ℕ) (owner : Option ℕ) → IsContent (owner_bar r owner)
-owner_is r None = nothing
-owner_is r (Some w) = owned_is r 56 w
+foot_is : (line n : ℕ) (picture : Picture) (breach : Option Breach) (cursor : Cursor) → IsContent (foot_pieces line n picture breach cursor)
+foot_is line n picture breach cursor =
+    both (fold_is n cursor.y (picture.end - cursor.at)) (both (more_is picture (bottom_of picture.end cursor)) (breach_is line n (bottom_of picture.end cursor) breach))
 
-opening_is : (r : ℕ) (opening : Opening) → IsContent (opening_pieces r opening)
-opening_is r opening =
-    both (either IsContent opening.closing _ _ (λ h. closing_is r 56) (λ h. owner_is r opening.owner))
-    (either IsContent opening.leads _ _ (λ h. leading_is r 56) (λ h. nothing))
+standing_is : (r : ℕ) (opening : Opening) (standing : Standing) → IsContent (standing_pieces r opening standing)
+standing_is r opening Standing.Going = shapes_are (lane_shapes r 92 opening.leads opening.named)
+standing_is r opening Standing.Paused = both (shapes_are (lane_shapes r 92 opening.leads opening.named)) (shape_is (paused_shape r 92))
+standing_is r opening Standing.Ended = nothing
 
 lane_is : (r : ℕ) (opening : Opening) → IsContent (lane_pieces r opening)
-lane_is r opening =
-    both (both (note_is (lane_of r) 40 (codes "replica " ++ decimal r)) (note_is (lane_of r + 70) 40 (codes "region " ++ decimal r))) (both (bar_is (codes "l") (lane_of r) 46 1 refl) (opening_is r opening))
+lane_is r opening = both (title_is r 84) (both (shapes_are (region_shapes r opening)) (standing_is r opening opening.standing))
 
 lanes_are : (r : ℕ) (openings : List Opening) → IsContent (lanes_from r openings)
 lanes_are r [] = nothing
 lanes_are r (opening ∷ openings) = both (lane_is r opening) (lanes_are (r + 1) openings)
 
 style_is : IsContent style
-style_is = element {name = codes "style"} refl (whole {content = codes "text{font:9px sans-serif}path{stroke:#000}rect{stroke:#000;stroke-width:.6}.w{fill:#fff;stroke:none}.l{fill:#888;stroke:none}.c{fill:#fff}.q{fill:#fff;stroke-dasharray:4 2}.k{stroke-width:2}.a{fill:none;stroke:#666;stroke-dasharray:1 2}.o0{fill:#e69f00}.o1{fill:#56b4e9}.o2{fill:#009e73}.o3{fill:#f0e442}.o4{fill:#0072b2}.o5{fill:#d55e00}.o6{fill:#cc79a7}"} (plain_content (codes "text{font:9px sans-serif}path{stroke:#000}rect{stroke:#000;stroke-width:.6}.w{fill:#fff;stroke:none}.l{fill:#888;stroke:none}.c{fill:#fff}.q{fill:#fff;stroke-dasharray:4 2}.k{stroke-width:2}.a{fill:none;stroke:#666;stroke-dasharray:1 2}.o0{fill:#e69f00}.o1{fill:#56b4e9}.o2{fill:#009e73}.o3{fill:#f0e442}.o4{fill:#0072b2}.o5{fill:#d55e00}.o6{fill:#cc79a7}") refl) (character {byte = 10} refl nothing))
+style_is = element {name = codes "style"} refl (whole {content = codes "text{font:9px sans-serif;paint-order:stroke;stroke:#fff;stroke-width:3px}.t{font-family:monospace}.s{text-anchor:end;fill:#555}path{stroke:#000;fill:none}rect,circle{stroke:#000;stroke-width:.6}.w,.l,.z{stroke:none}.w,.c{fill:#fff}.l{fill:#888}.z{fill:url(#z)}.f{fill:#fff;stroke:#888;stroke-dasharray:2 2}.p,.k{fill:#000}.q{stroke-dasharray:4 2}.k,.x,.r{stroke-width:2}.a{stroke:#666;stroke-dasharray:1 2}.e{fill:#c00}.r{stroke:#c00}.o0{fill:#e69f00}.o1{fill:#56b4e9}.o2{fill:#009e73}.o3{fill:#f0e442}.o4{fill:#0072b2}.o5{fill:#d55e00}.o6{fill:#cc79a7}"} (plain_content (codes "text{font:9px sans-serif;paint-order:stroke;stroke:#fff;stroke-width:3px}.t{font-family:monospace}.s{text-anchor:end;fill:#555}path{stroke:#000;fill:none}rect,circle{stroke:#000;stroke-width:.6}.w,.l,.z{stroke:none}.w,.c{fill:#fff}.l{fill:#888}.z{fill:url(#z)}.f{fill:#fff;stroke:#888;stroke-dasharray:2 2}.p,.k{fill:#000}.q{stroke-dasharray:4 2}.k,.x,.r{stroke-width:2}.a{stroke:#666;stroke-dasharray:1 2}.e{fill:#c00}.r{stroke:#c00}.o0{fill:#e69f00}.o1{fill:#56b4e9}.o2{fill:#009e73}.o3{fill:#f0e442}.o4{fill:#0072b2}.o5{fill:#d55e00}.o6{fill:#cc79a7}") refl) line_feed)
 
-content_is : (job : Job) (picture : Picture) (width : ℕ) → IsContent (content_of job picture width)
-content_is job picture width =
+hatching_is : IsContent hatching
+hatching_is =
+    element {name = codes "pattern"} refl
+    (attribute {name = codes "id"} (codes "z") refl refl refl
+    (attribute {name = codes "patternUnits"} (codes "userSpaceOnUse") refl refl refl
+    (attribute {name = codes "width"} (codes "4") refl refl refl
+    (attribute {name = codes "height"} (codes "4") refl refl refl
+    (whole {content = codes "<path d='M0 4l4-4'/>"} (element {name = codes "path"} refl (attribute {name = codes "d"} (codes "M0 4l4-4") refl refl refl (empty nothing))) line_feed)))))
+
+sample_is : (x y : ℕ) (shape : Shape) (words : List ℕ) → IsContent (sample_piece x y shape words)
+sample_is x y shape words = both (shape_is shape) (text_is Look.Label x y words)
+
+legend_is : IsContent legend
+legend_is =
+    both
+    (both (sample_is 36 33 (sample_line Look.Asks false 14 30) (codes "asks"))
+    (both (sample_is 146 33 (sample_line Look.Landed false 124 30) (codes "put landed"))
+    (both (sample_is 256 33 (sample_line Look.Missed true 234 30) (codes "put missed"))
+    (both (sample_is 366 33 (sample_line Look.Commits false 344 30) (codes "put commits"))
+    (both (sample_is 476 33 (sample_dot Look.Landed 460 30) (codes "learns")) (sample_is 36 47 (sample_dot Look.Closing 20 44) (codes "applied to")))))))
+    (both
+    (both (sample_is 146 47 (sample_block (Look.Of 0) 124 40 12) (codes "leads"))
+    (both (sample_is 256 47 (sample_block Look.Hatched 234 40 12) (codes "pauses"))
+    (both (sample_is 366 47 (sample_cross 346 40) (codes "stops, outrun")) (sample_is 476 47 (sample_level 452 44) (codes "has finished")))))
+    (both (sample_is 36 61 (sample_block (Look.Of 0) 16 54 8) (codes "owns the region"))
+    (both (sample_is 146 61 (sample_block Look.Closing 126 54 8) (codes "closing"))
+    (both (sample_is 256 61 (sample_block (Look.Of 0) 239 54 3) (codes "whom it names")) (sample_is 366 61 (sample_block Look.Folded 340 54 22) (codes "folded steps"))))))
+
+head_is : (c : Config) (picture : Picture) (width : ℕ) → IsContent (head_pieces c picture width)
+head_is c picture width =
     both style_is
-    (both (bar_is (codes "w") 0 0 width refl)
-    (both (note_is 4 16 legend)
+    (both hatching_is (both (shape_is (Shape.Bar Look.Ground 0 0 width)) (both (text_is Look.Label 4 14 (facts_words c picture)) legend_is)))
+
+content_is : (job : Job) (line : ℕ) (picture : Picture) (breach : Option Breach) (width : ℕ) → IsContent (content_of job line picture breach width)
+content_is job line picture breach width =
+    both (head_is job.config picture width)
     (both (lanes_are 0 picture.openings.items)
-    (rows_is job (length picture.openings.items) picture.end picture.first 56 picture.marks.items))))
+    (both (rows_are job line (length picture.openings.items) (top picture.first) picture.marks.items)
+    (foot_is line (length picture.openings.items) picture breach (last_cursor picture))))
+
+-- the places of a view, as the value of an attribute
+view_plain : (width height : ℕ) → list_all is_plain (codes "0 0 " ++ (decimal width ++ (codes " " ++ decimal height))) ≡ true
+view_plain width height =
+    all_both (codes "0 0 ") (decimal width ++ (codes " " ++ decimal height)) refl
+    (all_both (decimal width) (codes " " ++ decimal height) (number_plain width) (all_both (codes " ") (decimal height) refl (number_plain height)))
+
+-- the front of a document with what follows, as the name of an element and its attributes
+front_before : (width height : ℕ) (rest : List ℕ) → front_of width height ++ rest
+    ≡ codes "<svg xmlns='http://www.w3.org/2000/svg' viewBox='"
+    ++ ((codes "0 0 " ++ (decimal width ++ (codes " " ++ decimal height)))
+    ++ (codes "' width='" ++ (decimal width ++ (codes "' height='" ++ (decimal height ++ (codes "'>\n" ++ rest))))))
+front_before width height rest =
+    let end = codes "'>\n" in
+    let third = codes "' height='" ++ (decimal height ++ end) in
+    let second = codes "' width='" ++ (decimal width ++ third) in
+    let more = codes "' width='" ++ (decimal width ++ (codes "' height='" ++ (decimal height ++ (end ++ rest)))) in
+    ap (λ l. codes "<svg xmlns='http://www.w3.org/2000/svg' viewBox='0 0 " ++ l)
+    (append_assoc (decimal width) (codes " " ++ (decimal height ++ second)) rest
+    ∙ (ap (λ l. decimal width ++ (codes " " ++ l))
+    (append_assoc (decimal height) second rest
+    ∙ ap (λ l. decimal height ++ (codes "' width='" ++ l))
+    (append_assoc (decimal width) third rest ∙ ap (λ l. decimal width ++ (codes "' height='" ++ l)) (append_assoc (decimal height) end rest)))
+    ∙ (ap (λ l. decimal width ++ (32 ∷ l)) refl ∙ sym (append_assoc (decimal width) (codes " " ++ decimal height) more))))
 
 document_is : (width height : ℕ) (content : List ℕ) → IsContent content → IsDocument (document_of width height content)
-document_is width height content is = record {
+document_is width height content is = subst IsDocument (sym (front_before width height (content ++ codes "</svg>\n"))) (record {
   name = codes "svg";
   rest = _;
   named = refl;
   tag =
       attribute {name = codes "xmlns"} (codes "http://www.w3.org/2000/svg") refl refl refl
+      (attribute {name = codes "viewBox"} (codes "0 0 " ++ (decimal width ++ (codes " " ++ decimal height))) refl refl (view_plain width height)
       (attribute {name = codes "width"} (decimal width) refl refl (number_plain width)
-      (attribute {name = codes "height"} (decimal height) refl refl (number_plain height) (whole {content = 10 ∷ content} (character {byte = 10} refl is) (character {byte = 10} refl nothing))));
+      (attribute {name = codes "height"} (decimal height) refl refl (number_plain height) (whole {content = 10 ∷ content} (character {byte = 10} refl is) line_feed))));
   is = refl;
-}
+})
 
 -- the drawing of every picture is a document
-pub drawing_is : (job : Job) (picture : Picture) → IsDocument (svg_of job picture)
-drawing_is job picture = document_is _ _ _ (content_is job picture _)
+pub drawing_is : (job : Job) (line : ℕ) (picture : Picture) (breach : Option Breach) → IsDocument (svg_of job line picture breach)
+drawing_is job line picture breach = document_is _ _ _ (content_is job line picture breach _)

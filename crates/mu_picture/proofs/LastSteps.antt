@@ -1,6 +1,6 @@
 -- The marks of the last steps of journals.
 use Rattle.std.proofs.Common.{◌≡◌, ◌≢◌, ◌<◌, ◌+◌, ◌==◌, ℕ, zero, suc, Bool, true, false, List, [], ◌∷◌, None, Some, length, refl, sym, ◌∙◌, ap, arith, subst, cond}
-use Rattle.std.specs.Prelude.{◌&&◌, nat_le, slice_index}
+use Rattle.std.specs.Prelude.{◌&&◌, ◌||◌, nat_le, slice_index}
 use Rattle.std.specs.declared.option.Option.{Option}
 use Rattle.std.proofs.lemmas.Bool.{eq-eqb, ne_eqb}
 use Rattle.mu_model.specs.declared.config.Config.{Config}
@@ -18,20 +18,33 @@ use Rattle.mu_course.specs.Courses.{finishes}
 use Rattle.mu_picture.specs.Deeds.{deed_of, drawn_if}
 use Rattle.mu_picture.specs.Endings.{Shows, deed_in, halt_in}
 use Rattle.mu_course.specs.Halts.{halt_after}
-use Rattle.mu_picture.specs.Marks.{made_of, mark_of}
+use Rattle.mu_picture.specs.Marks.{is_chief, kept, made_of, mark_of, resumed_by}
+use Rattle.mu_picture.specs.Standings.{deed_after, halt_by}
 use Rattle.mu_picture.specs.declared.deeds.Deed.{Deed}
+use Rattle.mu_picture.specs.declared.standings.Resumed.{Resumed}
 use Rattle.mu_course.specs.declared.halts.Halt.{Halt}
 use Rattle.mu_model.proofs.Parts.{part_of_maker}
 
-halt_made : (step r : ℕ) (deed : Option Deed) (halt : Option Halt) → halt_in (made_of step r deed halt) ≡ halt
-halt_made step r None None = refl
-halt_made step r None (Some halt) = refl
-halt_made step r (Some deed) halt = refl
+one_of : (x y : Bool) → (x || (y || true)) ≡ true
+one_of true y = refl
+one_of false true = refl
+one_of false false = refl
 
-deed_made : (step r : ℕ) (deed : Option Deed) (halt : Option Halt) → deed_in (made_of step r deed halt) ≡ deed
-deed_made step r None None = refl
-deed_made step r None (Some halt) = refl
-deed_made step r (Some deed) halt = refl
+-- a mark with what befalls its replica is kept, and tells that
+halt_made : (brief : Bool) (step : ℕ) (e : Event) (resumed : Option Resumed) (deed : Option Deed) (halt : Halt) → halt_in (kept brief (made_of step e resumed deed (Some halt))) ≡ Some halt
+halt_made false step e None None halt = refl
+halt_made false step e None (Some deed) halt = refl
+halt_made false step e (Some resumed) deed halt = refl
+halt_made true step e None None halt = refl
+halt_made true step e None (Some deed) halt = rw (one_of false (is_chief (Some deed))) refl
+halt_made true step e (Some resumed) deed halt = refl
+
+-- a mark with a place that is found used again is kept, and tells that
+deed_made : (brief : Bool) (step : ℕ) (e : Event) (resumed : Option Resumed) (p i : ℕ) (halt : Option Halt) → deed_in (kept brief (made_of step e resumed (Some (Deed.Outrun p i)) halt)) ≡ Some (Deed.Outrun p i)
+deed_made false step e None p i halt = refl
+deed_made false step e (Some resumed) p i halt = refl
+deed_made true step e None p i halt = refl
+deed_made true step e (Some resumed) p i halt = refl
 
 none_older : {A : Type 0} (x y : Option A) → earlier_or x y ≡ None → y ≡ None
 none_older None y is = is
@@ -112,8 +125,8 @@ outrun_by_verb c r mine granted by (Verb.Look a b) Answer.Past p i same is =
 outrun_by_verb c r mine granted by verb answer p i same is = absurd (none_some (p, i) is)
 
 -- of a journal that obeys the script
-shown : (c : Config) (script : Script) (past : List Event) (e : Event) (end : End) → Obeys c script e.by (e ∷ part e.by past) end → Shows (mark_of c script past e) end
-shown c script past e end obeys = go end obeys.ends
+shown : (c : Config) (script : Script) (brief : Bool) (past : List Event) (e : Event) (end : End) → Obeys c script e.by (e ∷ part e.by past) end → Shows (kept brief (mark_of c script past e)) end
+shown c script brief past e end obeys = go end obeys.ends
   where
     mine : List Event
     mine = part e.by past
@@ -121,27 +134,27 @@ shown c script past e end obeys = go end obeys.ends
     none : NoEnd c script e.by mine
     none = none_before c script e.by e mine end obeys
 
-    deed : Option Deed
-    deed = deed_of c mine (fence_grant e.by past) e
-
-    halted : (h : Halt) → halt_after c script e.by (length mine + 1) (finishes c e.by mine e) ≡ Some h → halt_in (mark_of c script past e) ≡ Some h
-    halted h is = halt_made (length past) e.by deed (halt_after c script e.by (length mine + 1) (finishes c e.by mine e)) ∙ is
+    halted : (h : Halt) → halt_after c script e.by (length mine + 1) (finishes c e.by mine e) ≡ Some h → halt_in (kept brief (mark_of c script past e)) ≡ Some h
+    halted h is =
+        ap (λ o. halt_in (kept brief (made_of (length past) e (resumed_by c script past e) (deed_after c past e) o))) is
+        ∙ halt_made brief (length past) e (resumed_by c script past e) (deed_after c past e) h
 
     one : suc (length mine) ≡ length mine + 1
     one = omega arith
 
-    go : (other : End) → EndsBy c script e.by (e ∷ mine) other → Shows (mark_of c script past e) other
+    go : (other : End) → EndsBy c script e.by (e ∷ mine) other → Shows (kept brief (mark_of c script past e)) other
     go End.Stopped is = halted Halt.Stop (stop_shown c script e.by (length mine + 1) (finishes c e.by mine e) (subst (λ k. stops_at e.by k script.stops ≡ true) one is))
     go End.Budget is = halted Halt.Spent (spent_shown c script e.by (length mine + 1) (finishes c e.by mine e) (subst (λ k. stops_at e.by k script.stops ≡ false) one is.0) (sym one ∙ is.1))
     go (End.Outrun p i) is =
         let older = not_outrun c script e.by mine none in
         let here : outrun_by e.by (length (known c e.by mine)) e.by e.verb e.answer ≡ Some (p, i) =
         sym (none_behind (outrun_by e.by (length (known c e.by mine)) e.by e.verb e.answer)) ∙ (ap (λ o. earlier_or (outrun_by e.by (length (known c e.by mine)) e.by e.verb e.answer) o) (sym older) ∙ is.1) in
-        deed_made (length past) e.by deed (halt_after c script e.by (length mine + 1) (finishes c e.by mine e))
-        ∙ outrun_by_verb c e.by mine (fence_grant e.by past) e.by e.verb e.answer p i refl here
+        ap (λ d. deed_in (kept brief (made_of (length past) e (resumed_by c script past e) d (halt_by c script past e))))
+        (outrun_by_verb c e.by mine (fence_grant e.by past) e.by e.verb e.answer p i refl here)
+        ∙ deed_made brief (length past) e (resumed_by c script past e) p i (halt_by c script past e)
     go (End.Finished heads) is =
         let done : finishes c e.by mine e ≡ true = rw (not_finished c script e.by mine none) is.2 in
         halted Halt.Finish (finish_shown c script e.by (length mine + 1) (finishes c e.by mine e) (subst (λ k. stops_at e.by k script.stops ≡ false) one is.0.0) (λ same. is.0.1 (one ∙ same)) done)
 
-pub ends_drawn : (c : Config) (script : Script) (past : List Event) (e : Event) (end : End) → Obeys c script e.by (part e.by (e ∷ past)) end → Shows (mark_of c script past e) end
-ends_drawn c script past e end obeys = shown c script past e end (subst (λ l. Obeys c script e.by l end) (part_of_maker e past) obeys)
+pub ends_drawn : (c : Config) (script : Script) (brief : Bool) (past : List Event) (e : Event) (end : End) → Obeys c script e.by (part e.by (e ∷ past)) end → Shows (kept brief (mark_of c script past e)) end
+ends_drawn c script brief past e end obeys = shown c script brief past e end (subst (λ l. Obeys c script e.by l end) (part_of_maker e past) obeys)

@@ -1,5 +1,7 @@
 mod Appends
+mod Cursors
 mod Documents
 mod LastSteps
+mod StandingsTaken
 mod Steps
 mod Unmarked

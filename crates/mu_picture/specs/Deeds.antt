@@ -1,6 +1,6 @@
 -- What a step does that is drawn. Loads are not, but for those that teach a value, find a place
--- used again or end a leadership; nor are beats, but where a leadership is given up, the words of
--- rows, raised FUOs and what a fence is entered with.
+-- used again, end a leadership, or find another replica failed or alive; nor are beats, but where a
+-- leadership is given up, the words of rows, raised FUOs and what a fence is entered with.
 use Rattle.std.specs.Prelude.{ℕ, Bool, true, false, nat_le, None, Some, List, ◌∷◌, length}
 use Rattle.std.specs.declared.option.Option.{Option}
 use Rattle.mu_model.specs.declared.config.Config.{Config}
@@ -8,7 +8,7 @@ use Rattle.mu_model.specs.declared.event.Answer.{Answer}
 use Rattle.mu_model.specs.declared.event.Event.{Event}
 use Rattle.mu_model.specs.declared.event.Verb.{Verb}
 use Rattle.mu_model.specs.Knowledge.{committed, known}
-use Rattle.mu_model.specs.Scores.{leader}
+use Rattle.mu_model.specs.Scores.{is_failed, leader}
 use Rattle.mu_course.specs.Resigning.{resigns}
 use Rattle.mu_course.specs.Telling.{ends, taught}
 use Rattle.mu_picture.specs.declared.deeds.Deed.{Deed}
@@ -38,6 +38,13 @@ abbrev pub look_deed : ℕ → ℕ → ℕ → Answer → Option ℕ → Option 
 look_deed p i known_length answer (Some v) = Some (Deed.Learn p i v)
 look_deed p i known_length answer None = past_deed p i known_length answer
 
+-- a read of the beats of q, which was failed for the reader before it or not, and is after it or
+-- not; then the reader names a replica
+abbrev pub heard_deed : ℕ → Bool → Bool → ℕ → Option Deed
+heard_deed q false true named = Some (Deed.Fails q named)
+heard_deed q true false named = Some (Deed.Trusts q named)
+heard_deed q was now named = None
+
 -- what the verb does that is drawn; `mine` are the events of its replica before, and so often its
 -- region was granted
 abbrev pub deed_by : Config → List Event → ℕ → Event → Verb → Option Deed
@@ -57,6 +64,8 @@ deed_by c mine granted e (Verb.Fence p) = drawn_if (ends e.by mine e) (Deed.Depo
 deed_by c mine granted e (Verb.Min p) = drawn_if (ends e.by mine e) (Deed.Outbid p)
 deed_by c mine granted e Verb.Beat =
     drawn_if (resigns c e.by mine e) (Deed.Resign (leader c e.by mine))
+deed_by c mine granted e (Verb.ReadBeat q) =
+    heard_deed q (is_failed e.by q mine) (is_failed e.by q (e ∷ mine)) (leader c e.by (e ∷ mine))
 deed_by c mine granted e _ = None
 
 -- what the event does that is drawn

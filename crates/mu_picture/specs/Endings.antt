@@ -1,5 +1,5 @@
 -- That the ends of journals are drawn.
-use Rattle.std.specs.Prelude.{◌≡◌, None, Some, List, ◌∷◌}
+use Rattle.std.specs.Prelude.{◌≡◌, Bool, None, Some, List, ◌∷◌}
 use Rattle.std.specs.declared.option.Option.{Option}
 use Rattle.mu_model.specs.declared.config.Config.{Config}
 use Rattle.mu_model.specs.declared.event.Event.{Event}
@@ -7,7 +7,7 @@ use Rattle.mu_model.specs.declared.script.End.{End}
 use Rattle.mu_model.specs.declared.script.Script.{Script}
 use Rattle.mu_model.specs.Ends.{Obeys}
 use Rattle.mu_model.specs.Histories.{part}
-use Rattle.mu_picture.specs.Marks.{mark_of}
+use Rattle.mu_picture.specs.Marks.{kept, mark_of}
 use Rattle.mu_picture.specs.declared.deeds.Deed.{Deed}
 use Rattle.mu_course.specs.declared.halts.Halt.{Halt}
 use Rattle.mu_picture.specs.declared.marks.Mark.{Mark}
@@ -29,8 +29,10 @@ Shows mark End.Budget = halt_in mark ≡ Some Halt.Spent
 Shows mark (End.Outrun p i) = deed_in mark ≡ Some (Deed.Outrun p i)
 Shows mark (End.Finished heads) = halt_in mark ≡ Some Halt.Finish
 
--- of each journal that obeys its script the last step has a mark, which tells the journal's end
+-- of each journal that obeys its script the last step has a mark, which tells the journal's end, in
+-- brief or not
 abbrev pub EndsAreDrawn : Type 0
 EndsAreDrawn =
-    (c : Config) (script : Script) (past : List Event) (e : Event) (end : End)
-    → Obeys c script e.by (part e.by (e ∷ past)) end → Shows (mark_of c script past e) end
+    (c : Config) (script : Script) (brief : Bool) (past : List Event) (e : Event) (end : End)
+    → Obeys c script e.by (part e.by (e ∷ past)) end
+    → Shows (kept brief (mark_of c script past e)) end

@@ -1,8 +1,15 @@
 pub mod Deeds
 pub mod Drawing
 pub mod Endings
+pub mod Hearing
+pub mod Lanes
+pub mod Layout
 pub mod Marks
 pub mod Openings
-pub mod Pieces
+pub mod Rows
+pub mod Shapes
+pub mod Standings
+pub mod StandingsHeld
+pub mod Trails
 pub mod Words
 pub mod Xml

@@ -3,9 +3,11 @@ use Rattle.std.specs.Prelude.{ℕ, ◌≡◌, ◌==◌, ◌&&◌, ◌||◌, Bool
 use Rattle.std.specs.List.{list_all}
 use Rattle.std.specs.Str.{bytes_eq}
 
--- a small letter or a digit
+-- a letter or a digit
 abbrev pub is_name_byte : ℕ → Bool
-is_name_byte byte = (nat_le 97 byte && nat_le byte 122) || (nat_le 48 byte && nat_le byte 57)
+is_name_byte byte =
+    (nat_le 97 byte && nat_le byte 122)
+    || ((nat_le 65 byte && nat_le byte 90) || (nat_le 48 byte && nat_le byte 57))
 
 -- a name: a small letter, and then letters and digits
 abbrev pub is_name : List ℕ → Bool

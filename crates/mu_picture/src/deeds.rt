@@ -2,10 +2,13 @@
 ghost use Rattle.std.specs.Prelude.{◌≡◌, ◌∷◌, List};
 ghost use Rattle.mu_model.specs.declared.config.Config.{Config};
 ghost use Rattle.mu_model.specs.declared.event.Event.{Event as Made};
-ghost use Rattle.mu_picture.specs.Deeds.{deed_of as deed_of_step, is_done as is_done_answer, look_deed as look_deed_of};
-ghost use Rattle.mu_model.specs.Scores.{leader};
+ghost use Rattle.std.specs.Prelude.{ℕ};
+ghost use Rattle.mu_model.specs.declared.event.Verb.TheVariants.{ReadBeat};
 ghost use Rattle.mu_course.specs.Resigning.{resigns as resigns_by};
 ghost use Rattle.mu_course.specs.Telling.{Tells};
+ghost use Rattle.mu_model.specs.Scores.{leader};
+ghost use Rattle.mu_picture.specs.Deeds.{deed_of as deed_of_step, heard_deed as heard_deed_of, is_done as is_done_answer, look_deed as look_deed_of};
+ghost use Rattle.mu_picture.specs.Hearing.{Hears};
 
 use mu_course::Told;
 use mu_model::{Answer, Event, Verb};
@@ -39,6 +42,10 @@ pub enum Deed {
     Outbid(u8),
     /// Gives up its leadership for a replica that its scores name.
     Resign(u8),
+    /// Holds a replica to be failed from now on, and names one.
+    Fails(u8, u8),
+    /// Holds a replica to be alive again, and names one.
+    Trusts(u8, u8),
     /// Finds at a region the place of a position that it doesn't know used again.
     Outrun(u8, u16),
 }
@@ -67,11 +74,39 @@ fn look_deed(p: u8, i: u16, known: usize, answer: &Answer, taught: Option<u16>) 
     }
 }
 
-/// What the event does that is drawn. So often the region of its replica was granted before; its
-/// scores named a replica, and it gives up its leadership for that or doesn't.
-pub fn deed_of(event: &Event, told: &Told, resigns: bool, named: u8, granted: u32) -> Option<Deed>
+/// What a read of beats changes for the reader: whether it held the other to be failed before, and
+/// after; and whom it names after.
+#[derive(Clone, Copy)]
+pub struct Heard {
+    pub was: bool,
+    pub now: bool,
+    pub named: u8,
+}
+
+/// What a read of the beats of `q` does that is drawn.
+fn heard_deed(q: u8, heard: Heard) -> Option<Deed>
+    ensures { result ≡ heard_deed_of q heard.was heard.now heard.named }
+{
+    match (heard.was, heard.now) {
+        (false, true) => Some(Deed::Fails(q, heard.named)),
+        (true, false) => Some(Deed::Trusts(q, heard.named)),
+        _ => None,
+    }
+}
+
+/// What the event does that is drawn. Its replica gives up its leadership by it or doesn't, and
+/// named a replica before; so often its region was granted before.
+pub fn deed_of(
+    event: &Event,
+    told: &Told,
+    resigns: bool,
+    named: u8,
+    heard: Heard,
+    granted: u32,
+) -> Option<Deed>
     ensures { (c : Config) → (mine : List Made) → Tells c mine event.now told.now
         → resigns ≡ resigns_by c event.now.by mine event.now → named ≡ leader c event.now.by mine
+        → ((q : ℕ) → event.now.verb ≡ ReadBeat q → Hears c mine q event.now heard)
         → result ≡ deed_of_step c mine granted event.now }
 {
     match event.verb {
@@ -90,6 +125,7 @@ pub fn deed_of(event: &Event, told: &Told, resigns: bool, named: u8, granted: u3
         Verb::Fence(p) if told.ends => Some(Deed::Deposed(p)),
         Verb::Min(p) if told.ends => Some(Deed::Outbid(p)),
         Verb::Beat if resigns => Some(Deed::Resign(named)),
+        Verb::ReadBeat(q) => heard_deed(q, heard),
         _ => None,
     }
 }

@@ -1,228 +1,62 @@
 //! A picture as a document of SVG.
-ghost use Rattle.std.specs.Prelude.{◌≡◌, ◌++◌, ◌+◌, ◌-◌, ◌<◌, ◌≤◌, ◌^◌, codes, length, IfOk, OnOk};
+ghost use Rattle.std.specs.Prelude.{◌≡◌, ◌++◌, ◌+◌, ◌*◌, ◌-◌, ◌<◌, ◌≤◌, ◌^◌, [], codes, length, max, min, Some, IfOk, OnOk};
 ghost use Rattle.std.specs.Fmt.{decimal};
-ghost use Rattle.mu_picture.specs.Drawing.{bottom_from, content_of, document_of, fold_piece, headings_pieces, height_of, lane_of, lane_pieces, lanes_from, legend, mark_pieces, opening_band, opening_bar, opening_pieces, row_pieces, rows_from, said_piece, stretch_of, style, svg_of, width_of};
-ghost use Rattle.mu_picture.specs.Pieces.{note_piece};
+ghost use Rattle.mu_picture.specs.Drawing.{breach_figure, breach_inside, breach_length, breach_pieces, breach_shape, content_of, document_of, fault_piece, foot_pieces, front_of, goes_on_pieces, height_of, lane_pieces, lanes_from, last_cursor, longest_of, more_pieces, rows_from, standing_pieces, svg_of, width_of};
+ghost use Rattle.mu_picture.specs.Layout.{lane_of, top};
+ghost use Rattle.mu_picture.specs.Marks.{lowest};
+ghost use Rattle.mu_picture.specs.Words.{note_words};
 ghost use Rattle.mu_picture.specs.Xml.{IsDocument};
 
-use crate::marks::{Mark, Picture};
+use crate::heading::push_head;
+use crate::lanes::{paused, push_lane as push_lane_line, push_region};
+use crate::layout::{Cursor, TOP, lane, top_of};
+use crate::marks::Mark;
 use crate::openings::Opening;
-use crate::pieces::{push_bar, push_note};
-use crate::shapes::{lane, push_closing, push_deed, push_halt, push_leading, push_owned};
+use crate::pictures::Picture;
+use crate::rows::{push_axis, push_event, push_fold, push_rows, push_step, push_title, strip};
+use crate::shapes::{Look, Part, Shape, Way, push_parts, push_shape, push_text};
 use crate::sheet::Sheet;
-use crate::words::{push_deed_words, push_halt_words};
+use crate::standings::Standing;
+use crate::words::{note, numbered};
+use mu_events::event_line;
 use mu_input::Job;
-use mu_model::NoMemory;
+use mu_model::{Event, NoMemory};
 use mu_text::Line;
 use std::alloc::Global;
 
-/// Where the first step stands.
-const TOP: u64 = 56;
-
-/// The most steps of a stretch that isn't folded.
-const MOST_SHOWN: u64 = 31;
-
-/// The height of a folded stretch.
-const FOLD: u64 = 16;
-
-/// The height of a row.
-const ROW: u64 = 12;
-
-/// The height of a stretch of so many steps without a mark.
-fn stretch(steps: u64) -> u64
-    ensures is { result ≡ stretch_of steps }
-    ensures low { result ≤ 31 }
-{
-    if steps > MOST_SHOWN { FOLD } else { steps }
+/// The event that breaks a list of events, and what is wrong with it.
+#[derive(Drop)]
+pub struct Breach {
+    /// Its index in the list, counted from 0.
+    pub step: u32,
+    /// The event.
+    pub event: Event,
+    /// What is wrong, in words.
+    pub fault: Line,
 }
 
-/// How many steps there are from `at` on before a step.
-fn hidden_before(step: u32, at: u64) -> u64
-    ensures { result ≡ step - at }
-{
-    u64::from(step).saturating_sub(at)
-}
-
-/// Adds how many steps a folded stretch hides, where it is folded.
-fn push_fold(sheet: &mut Sheet, y: u64, steps: u64) -> Result<(), NoMemory>
-    requires { y < 2 ^ 60 }
-    ensures { OnOk result (sheet.new ≡ sheet.old ++ fold_piece y steps) }
-{
-    if steps <= MOST_SHOWN {
-        return Ok(());
-    }
-    let mut line = Line::new();
-    line.push_number(steps);
-    line.push(b" steps");
-    push_note(sheet, 4, y + 11, line.as_slice())
-}
-
-/// Adds the note of a step, where there is something to say.
-fn push_said(
-    sheet: &mut Sheet,
-    alloc: Global,
-    n: u64,
-    mark: &Mark,
-    y: u64,
-    words: &[u8],
-) -> Result<(), NoMemory>
-    requires lanes { n < 2 ^ 16 }
-    requires low { y < 2 ^ 60 }
+/// Adds a lane that stands so before the first step.
+fn push_standing(sheet: &mut Sheet, r: u8, opening: &Opening) -> Result<(), NoMemory>
     ensures { OnOk result (sheet.new
-        ≡ sheet.old ++ said_piece n mark.now.step mark.now.replica y words.now) }
+        ≡ sheet.old ++ standing_pieces r opening.now opening.now.standing) }
 {
-    if words.is_empty() {
-        return Ok(());
+    match opening.standing {
+        Standing::Going => push_lane_line(sheet, r, TOP, opening.leads, opening.named),
+        Standing::Paused => {
+            push_lane_line(sheet, r, TOP, opening.leads, opening.named)?;
+            push_shape(sheet, paused(r, TOP))
+        }
+        Standing::Ended => Ok(()),
     }
-    let mut said = Sheet::new(alloc);
-    said.push_number(u64::from(mark.step))?;
-    said.push(b": replica ")?;
-    said.push_number(u64::from(mark.replica))?;
-    said.push(words)?;
-    push_note(sheet, lane(n), y + 3, said.as_slice())
-}
-
-/// Adds a mark, in the row at `y`, of one of `n` lanes.
-fn push_mark(
-    sheet: &mut Sheet,
-    alloc: Global,
-    job: &Job,
-    n: u64,
-    y: u64,
-    mark: &Mark,
-) -> Result<(), NoMemory>
-    requires lanes { n < 2 ^ 16 }
-    requires low { y < 2 ^ 60 }
-    requires within { 2 ≤ y }
-    ensures { OnOk result (sheet.new ≡ sheet.old ++ mark_pieces job.now n y mark.now) }
-{
-    let mut words = Sheet::new(alloc);
-    push_deed_words(&mut words, job, mark.deed)?;
-    push_halt_words(&mut words, mark.halt)?;
-    push_halt(sheet, mark.replica, y, mark.halt)?;
-    push_deed(sheet, mark.replica, y, mark.deed)?;
-    push_said(sheet, alloc, n, mark, y, words.as_slice())
-}
-
-/// Adds the row of a mark after the step before `at`, with the stretch between them from `y` on.
-fn push_row(
-    sheet: &mut Sheet,
-    alloc: Global,
-    job: &Job,
-    n: u64,
-    at: u64,
-    y: u64,
-    mark: &Mark,
-) -> Result<u64, NoMemory>
-    requires lanes { n < 2 ^ 16 }
-    requires low { y < 2 ^ 50 }
-    ensures row { OnOk result (sheet.new ≡ sheet.old ++ row_pieces job.now n at y mark.now) }
-    ensures next { IfOk result (λ next. next ≡ y + stretch_of (mark.now.step - at) + 12) }
-{
-    let hidden = hidden_before(mark.step, at);
-    push_fold(sheet, y, hidden)?;
-    let row = y + stretch(hidden);
-    push_mark(sheet, alloc, job, n, row + 6, mark)?;
-    Ok(row + ROW)
-}
-
-/// Adds the rows of all marks, and how many steps are hidden after the last.
-fn push_rows(
-    sheet: &mut Sheet,
-    alloc: Global,
-    job: &Job,
-    n: u64,
-    picture: &Picture,
-) -> Result<(), NoMemory>
-    requires lanes { n < 2 ^ 16 }
-    requires marks { length picture.now.marks.items < 2 ^ 32 }
-    ensures { OnOk result (sheet.new ≡ sheet.old
-        ++ rows_from job.now n picture.now.end picture.now.first 56 picture.now.marks.items) }
-{
-    let mut at = u64::from(picture.first);
-    let mut y = TOP;
-    for mark in picture.marks.as_slice() {
-        y = push_row(sheet, alloc, job, n, at, y, mark)?;
-        at = u64::from(mark.step) + 1;
-    }
-    push_fold(sheet, y, u64::from(picture.end).saturating_sub(at))
-}
-
-/// Where the rows end.
-fn bottom(picture: &Picture) -> u64
-    requires { length picture.now.marks.items < 2 ^ 32 }
-    ensures is { result ≡ bottom_from picture.now.end picture.now.first 56 picture.now.marks.items }
-    ensures low { result < 2 ^ 50 }
-{
-    let mut at = u64::from(picture.first);
-    let mut y = TOP;
-    for mark in picture.marks.as_slice() {
-        y += stretch(u64::from(mark.step).saturating_sub(at)) + ROW;
-        at = u64::from(mark.step) + 1;
-    }
-    y + stretch(u64::from(picture.end).saturating_sub(at))
-}
-
-/// Adds the bar of a region before the first step.
-fn push_opening_bar(sheet: &mut Sheet, r: u8, opening: &Opening) -> Result<(), NoMemory>
-    ensures { OnOk result (sheet.new ≡ sheet.old ++ opening_bar r opening.now) }
-{
-    if opening.closing {
-        return push_closing(sheet, r, TOP);
-    }
-    match opening.owner {
-        None => Ok(()),
-        Some(owner) => push_owned(sheet, r, TOP, owner),
-    }
-}
-
-/// Adds the band of a leadership that began before the first step.
-fn push_opening_band(sheet: &mut Sheet, r: u8, leads: bool) -> Result<(), NoMemory>
-    ensures { OnOk result (sheet.new ≡ sheet.old ++ opening_band r leads) }
-{
-    if leads {
-        push_leading(sheet, r, TOP)
-    } else {
-        Ok(())
-    }
-}
-
-/// Adds a word and a number above the lanes.
-fn push_heading(sheet: &mut Sheet, x: u64, words: &[u8], r: u8) -> Result<(), NoMemory>
-    requires { length words.now < 100 }
-    ensures { OnOk result (sheet.new ≡ sheet.old
-        ++ note_piece x 40 (words.now ++ decimal r)) }
-{
-    let mut line = Line::new();
-    line.push(words);
-    line.push_number(u64::from(r));
-    push_note(sheet, x, 40, line.as_slice())
-}
-
-/// Adds what stands above a lane and its region.
-fn push_headings(sheet: &mut Sheet, r: u8) -> Result<(), NoMemory>
-    ensures { OnOk result (sheet.new ≡ sheet.old ++ headings_pieces r) }
-{
-    let x = lane(u64::from(r));
-    push_heading(sheet, x, b"replica ", r)?;
-    push_heading(sheet, x + 70, b"region ", r)
-}
-
-/// Adds the bar of a region and the band of a leadership before the first step.
-fn push_opening(sheet: &mut Sheet, r: u8, opening: &Opening) -> Result<(), NoMemory>
-    ensures { OnOk result (sheet.new ≡ sheet.old ++ opening_pieces r opening.now) }
-{
-    push_opening_bar(sheet, r, opening)?;
-    push_opening_band(sheet, r, opening.leads)
 }
 
 /// Adds a lane with its region before the first step.
 fn push_lane(sheet: &mut Sheet, r: u8, opening: &Opening) -> Result<(), NoMemory>
     ensures { OnOk result (sheet.new ≡ sheet.old ++ lane_pieces r opening.now) }
 {
-    push_headings(sheet, r)?;
-    push_bar(sheet, b"l", lane(u64::from(r)), 46, 1)?;
-    push_opening(sheet, r, opening)
+    push_title(sheet, u64::from(r), TOP - 8)?;
+    push_region(sheet, r, opening)?;
+    push_standing(sheet, r, opening)
 }
 
 /// Adds all lanes.
@@ -238,52 +72,115 @@ fn push_lanes(sheet: &mut Sheet, openings: &[Opening]) -> Result<(), NoMemory>
     Ok(())
 }
 
-/// Adds how text and shapes look.
-fn push_style(sheet: &mut Sheet) -> Result<(), NoMemory>
-    ensures { OnOk result (sheet.new ≡ sheet.old ++ style) }
+/// Adds with which step a picture goes on.
+fn push_goes_on(sheet: &mut Sheet, end: u32, y: u64) -> Result<(), NoMemory>
+    requires { y < 2 ^ 60 }
+    ensures { OnOk result (sheet.new ≡ sheet.old ++ goes_on_pieces end y) }
 {
-    sheet.push(
-        b"<style>text{font:9px sans-serif}path{stroke:#000}rect{stroke:#000;stroke-width:.6}\
-          .w{fill:#fff;stroke:none}.l{fill:#888;stroke:none}.c{fill:#fff}\
-          .q{fill:#fff;stroke-dasharray:4 2}.k{stroke-width:2}\
-          .a{fill:none;stroke:#666;stroke-dasharray:1 2}.o0{fill:#e69f00}.o1{fill:#56b4e9}\
-          .o2{fill:#009e73}.o3{fill:#f0e442}.o4{fill:#0072b2}.o5{fill:#d55e00}.o6{fill:#cc79a7}\
-          </style>\n",
-    )
+    let line = numbered(b"with step ", u64::from(end));
+    push_axis(sheet, y + 12, b"goes on")?;
+    push_text(sheet, Look::Label, 62, y + 12, line.as_slice())
 }
 
-/// Adds what the picture says of itself.
-fn push_legend(sheet: &mut Sheet) -> Result<(), NoMemory>
-    ensures { OnOk result (sheet.new ≡ sheet.old ++ note_piece 4 16 legend) }
+/// Adds that, if not all steps that are asked for have room.
+fn push_more(sheet: &mut Sheet, picture: &Picture, y: u64) -> Result<(), NoMemory>
+    requires { y < 2 ^ 60 }
+    ensures { OnOk result (sheet.new ≡ sheet.old ++ more_pieces picture.now y) }
 {
-    push_note(
-        sheet,
-        4,
-        16,
-        b"Time goes down, in steps. Squares are puts, filled where they landed and hollow \
-          where they missed; thick ones commit, dotted ones ask. \
-          Left bar: its replica leads. Right bar: who owns the region.",
-    )
+    if picture.end < picture.asked {
+        push_goes_on(sheet, picture.end, y)
+    } else {
+        Ok(())
+    }
 }
 
-/// Adds what stands in a document of this width.
-fn push_content(
+/// A cross in the lane of `r`.
+fn breach_cross(r: u8, y: u64) -> Shape
+    ensures { result ≡ breach_shape r y }
+{
+    Shape::Line {
+        look: Look::Wrong,
+        way: Way::Cross {
+            x: lane(u64::from(r)) + 4,
+            y,
+        },
+    }
+}
+
+/// Adds a line across `n` lanes, and a cross below it in that of `r`.
+fn push_breach_figure(sheet: &mut Sheet, n: u64, r: u8, y: u64) -> Result<(), NoMemory>
+    requires lanes { n < 2 ^ 16 }
+    requires low { y < 2 ^ 50 }
+    ensures { OnOk result (sheet.new ≡ sheet.old ++ breach_figure n r y) }
+{
+    push_shape(sheet, strip(Look::Wrong, n, y + 17, 1))?;
+    push_shape(sheet, breach_cross(r, y + 22))
+}
+
+/// Adds words on an event that breaks the list, beside `n` lanes.
+fn push_fault(sheet: &mut Sheet, n: u64, y: u64, words: &[u8]) -> Result<(), NoMemory>
+    requires { n < 2 ^ 16 }
+    ensures { OnOk result (sheet.new ≡ sheet.old ++ fault_piece n y words.now) }
+{
+    push_text(sheet, Look::Fault, lane(n) + 12, y, words)
+}
+
+/// Adds what is drawn of the event that breaks the list, below `y`.
+fn push_breach_inside(sheet: &mut Sheet, n: u64, y: u64, breach: &Breach) -> Result<(), NoMemory>
+    requires lanes { n < 2 ^ 16 }
+    requires low { y < 2 ^ 50 }
+    ensures { OnOk result (sheet.new ≡ sheet.old ++ breach_inside n y breach.now) }
+{
+    let words = event_line(&breach.event);
+    push_breach_figure(sheet, n, breach.event.by, y)?;
+    push_step(sheet, y + 29, breach.step)?;
+    push_fault(sheet, n, y + 29, words.as_slice())?;
+    push_fault(sheet, n, y + 41, breach.fault.as_slice())
+}
+
+/// Adds that, with its step and line as a tooltip.
+fn push_breach(
     sheet: &mut Sheet,
     alloc: Global,
-    job: &Job,
-    picture: &Picture,
-    width: u64,
+    line: u32,
+    n: u64,
+    y: u64,
+    breach: &Option<Breach>,
 ) -> Result<(), NoMemory>
-    requires lanes { length picture.now.openings.items < 256 }
-    requires marks { length picture.now.marks.items < 2 ^ 32 }
-    ensures { OnOk result (sheet.new ≡ sheet.old ++ content_of job.now picture.now width) }
+    requires lanes { n < 2 ^ 16 }
+    requires low { y < 2 ^ 50 }
+    ensures { OnOk result (sheet.new ≡ sheet.old ++ breach_pieces line n y breach.now) }
 {
-    let n = lanes_in(picture);
-    push_style(sheet)?;
-    push_bar(sheet, b"w", 0, 0, width)?;
-    push_legend(sheet)?;
-    push_all_lanes(sheet, picture)?;
-    push_rows(sheet, alloc, job, n, picture)
+    match breach {
+        None => Ok(()),
+        Some(breach) => {
+            push_event(sheet, alloc, line, breach.step, &breach.event)?;
+            push_breach_inside(sheet, n, y, breach)?;
+            sheet.push(b"</g>\n")
+        }
+    }
+}
+
+/// Adds what stands below the rows, where the next row would go at the cursor.
+fn push_foot(
+    sheet: &mut Sheet,
+    alloc: Global,
+    line: u32,
+    n: u64,
+    picture: &Picture,
+    breach: &Option<Breach>,
+    cursor: Cursor,
+) -> Result<(), NoMemory>
+    requires lanes { n < 2 ^ 16 }
+    requires low { cursor.y ≤ 32559 }
+    ensures { OnOk result (sheet.new
+        ≡ sheet.old ++ foot_pieces line n picture.now breach.now cursor) }
+{
+    let end = u64::from(picture.end);
+    let foot = cursor.bottom(end);
+    push_fold(sheet, n, cursor.y, cursor.hidden_before(end))?;
+    push_more(sheet, picture, foot)?;
+    push_breach(sheet, alloc, line, n, foot, breach)
 }
 
 /// How many lanes there are.
@@ -301,20 +198,144 @@ fn push_all_lanes(sheet: &mut Sheet, picture: &Picture) -> Result<(), NoMemory>
     push_lanes(sheet, picture.openings.as_slice())
 }
 
-/// How wide a picture is.
-fn width(picture: &Picture) -> u64
-    requires { length picture.now.openings.items < 256 }
-    ensures { result ≡ width_of picture.now }
+/// Adds the rows of a picture of `n` lanes, and tells where the next row would go.
+fn push_all_rows(
+    sheet: &mut Sheet,
+    alloc: Global,
+    job: &Job,
+    line: u32,
+    n: u64,
+    picture: &Picture,
+) -> Result<Cursor, NoMemory>
+    requires lanes { n < 2 ^ 16 }
+    requires few { length picture.now.marks.items < 2 ^ 32 }
+    ensures rows { OnOk result (sheet.new
+        ≡ sheet.old ++ rows_from job.now line n (top picture.now.first) picture.now.marks.items) }
+    ensures next { IfOk result (λ cursor. cursor ≡ last_cursor picture.now) }
 {
-    lane(lanes_in(picture)) + 420
+    push_rows(
+        sheet,
+        alloc,
+        job,
+        line,
+        n,
+        picture.first,
+        picture.marks.as_slice(),
+    )
+}
+
+/// Adds what stands in a document of this width.
+fn push_content(
+    sheet: &mut Sheet,
+    alloc: Global,
+    job: &Job,
+    line: u32,
+    picture: &Picture,
+    breach: &Option<Breach>,
+    width: u64,
+) -> Result<(), NoMemory>
+    requires lanes { length picture.now.openings.items < 256 }
+    requires marks { length picture.now.marks.items < 2 ^ 32 }
+    requires low { lowest picture.now ≤ 32559 }
+    requires order { picture.now.first ≤ picture.now.end }
+    ensures { OnOk result (sheet.new
+        ≡ sheet.old ++ content_of job.now line picture.now breach.now width) }
+{
+    let n = lanes_in(picture);
+    push_head(sheet, alloc, &job.config, picture, width)?;
+    push_all_lanes(sheet, picture)?;
+    let cursor = push_all_rows(sheet, alloc, job, line, n, picture)?;
+    push_foot(sheet, alloc, line, n, picture, breach, cursor)
+}
+
+/// How many bytes the longest note has.
+fn longest(alloc: Global, job: &Job, marks: &[Mark]) -> Result<u64, NoMemory>
+    ensures { IfOk result (λ most. most ≡ longest_of job.now marks.now) }
+{
+    let mut most = 0;
+    for mark in marks {
+        let note = note(alloc, job, mark)?;
+        most = (note.as_slice().len() as u64).max(most);
+    }
+    Ok(most)
+}
+
+/// How many bytes what is said of the event that breaks the list has.
+fn breach_bytes(breach: &Option<Breach>) -> u64
+    ensures { result ≡ breach_length breach.now }
+{
+    match breach {
+        None => 0,
+        Some(breach) => {
+            let words = event_line(&breach.event);
+            (words.as_slice().len() as u64).max(breach.fault.as_slice().len() as u64)
+        }
+    }
+}
+
+/// How wide a picture of `n` lanes is, where the longest words beside them have so many bytes.
+fn width(n: u64, longest: u64) -> u64
+    requires { n < 256 }
+    ensures { result ≡ max 580 (lane_of n + 24 + 6 * min 5000 longest) }
+{
+    (lane(n) + 24 + 6 * longest.min(5000)).max(580)
+}
+
+/// Where the row after the last mark would go.
+fn cursor_below(picture: &Picture) -> Cursor
+    requires { length picture.now.marks.items < 2 ^ 32 }
+    ensures { result ≡ last_cursor picture.now }
+{
+    let mut cursor = top_of(u64::from(picture.first));
+    for mark in picture.marks.as_slice() {
+        cursor = cursor.after(mark.step);
+    }
+    cursor
 }
 
 /// How high a picture is.
 fn height(picture: &Picture) -> u64
-    requires { length picture.now.marks.items < 2 ^ 32 }
-    ensures { result ≡ height_of picture.now }
+    requires marks { length picture.now.marks.items < 2 ^ 32 }
+    requires low { lowest picture.now ≤ 32559 }
+    ensures is { result ≡ height_of picture.now }
+    ensures fits { result ≤ 32767 }
 {
-    bottom(picture) + 20
+    cursor_below(picture).bottom(u64::from(picture.end)) + 56
+}
+
+/// Adds the front of a document of this width and height.
+fn push_front(sheet: &mut Sheet, width: u64, height: u64) -> Result<(), NoMemory>
+    ensures { OnOk result (sheet.new ≡ sheet.old ++ front_of width height) }
+{
+    push_parts(
+        sheet,
+        &[
+            Part::Words(b"<svg xmlns='http://www.w3.org/2000/svg' viewBox='0 0 "),
+            Part::Number(width),
+            Part::Words(b" "),
+            Part::Number(height),
+            Part::Words(b"' width='"),
+            Part::Number(width),
+            Part::Words(b"' height='"),
+            Part::Number(height),
+            Part::Words(b"'>\n"),
+        ],
+    )
+}
+
+/// How wide a picture is, with the event that breaks the list.
+fn width_with(
+    alloc: Global,
+    job: &Job,
+    picture: &Picture,
+    breach: &Option<Breach>,
+) -> Result<u64, NoMemory>
+    requires { length picture.now.openings.items < 256 }
+    ensures { IfOk result (λ width. width ≡ width_of job.now picture.now breach.now) }
+{
+    let notes = longest(alloc, job, picture.marks.as_slice())?;
+    let most = notes.max(breach_bytes(breach));
+    Ok(width(lanes_in(picture), most))
 }
 
 /// Adds the document of a picture, of this width and height.
@@ -322,39 +343,49 @@ fn push_document(
     sheet: &mut Sheet,
     alloc: Global,
     job: &Job,
+    line: u32,
     picture: &Picture,
+    breach: &Option<Breach>,
     width: u64,
     height: u64,
 ) -> Result<(), NoMemory>
     requires lanes { length picture.now.openings.items < 256 }
     requires marks { length picture.now.marks.items < 2 ^ 32 }
-    ensures { OnOk result (sheet.new
-        ≡ sheet.old ++ document_of width height (content_of job.now picture.now width)) }
+    requires low { lowest picture.now ≤ 32559 }
+    requires order { picture.now.first ≤ picture.now.end }
+    ensures { OnOk result (sheet.new ≡ sheet.old
+        ++ document_of width height (content_of job.now line picture.now breach.now width)) }
 {
-    sheet.push(b"<svg xmlns='http://www.w3.org/2000/svg' width='")?;
-    sheet.push_number(width)?;
-    sheet.push(b"' height='")?;
-    sheet.push_number(height)?;
-    sheet.push(b"'>\n")?;
-    push_content(sheet, alloc, job, picture, width)?;
+    push_front(sheet, width, height)?;
+    push_content(sheet, alloc, job, line, picture, breach, width)?;
     sheet.push(b"</svg>\n")
 }
 
-/// The document of a picture of a run of the job. Takes memory for the document, which has at most
-/// some hundred bytes for each mark and the texts of the committed commands.
+/// The document of a picture of a trace of the job, in which step 0 stands in this line, with the
+/// event that breaks its list, if one does. Takes memory for the document, which has at most some
+/// hundred bytes for each mark and the texts of the committed commands.
 ///
 /// # Errors
 ///
 /// Want of memory alone.
-pub fn drawn(alloc: Global, job: &Job, picture: &Picture) -> Result<Sheet, NoMemory>
+pub fn drawn(
+    alloc: Global,
+    job: &Job,
+    line: u32,
+    picture: &Picture,
+    breach: &Option<Breach>,
+) -> Result<Sheet, NoMemory>
     requires lanes { length picture.now.openings.items < 256 }
     requires marks { length picture.now.marks.items < 2 ^ 32 }
-    ensures drawing { IfOk result (λ sheet. sheet ≡ svg_of job.now picture.now) }
+    requires low { lowest picture.now ≤ 32559 }
+    requires order { picture.now.first ≤ picture.now.end }
+    ensures drawing { IfOk result (λ sheet. sheet ≡ svg_of job.now line picture.now breach.now) }
+    ensures fits { IfOk result (λ sheet. height_of picture.now ≤ 32767) }
     ensures document { IfOk result IsDocument }
 {
-    let mut sheet = Sheet::new(alloc);
-    let width = width(picture);
+    let width = width_with(alloc, job, picture, breach)?;
     let height = height(picture);
-    push_document(&mut sheet, alloc, job, picture, width, height)?;
+    let mut sheet = Sheet::new(alloc);
+    push_document(&mut sheet, alloc, job, line, picture, breach, width, height)?;
     Ok(sheet)
 }

@@ -7,16 +7,20 @@
 mod deeds;
 mod drawing;
 mod endings;
+mod heading;
+mod lanes;
+mod layout;
 mod marks;
 mod openings;
-mod pieces;
+mod pictures;
+mod rows;
 mod shapes;
 mod sheet;
+mod standings;
+mod trail;
 mod words;
 
-pub use deeds::Deed;
-pub use drawing::drawn;
+pub use drawing::{Breach, drawn};
 pub use endings::ends_are_drawn;
-pub use marks::{Mark, Picture, picture_of};
-pub use openings::Opening;
+pub use pictures::{Extent, Picture, picture_of};
 pub use sheet::Sheet;

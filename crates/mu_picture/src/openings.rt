@@ -1,15 +1,17 @@
 //! What holds before the first step of a picture.
-ghost use Rattle.std.specs.Prelude.{◌≡◌, ◌<◌, ◌≤◌, IfOk, List, length, take};
+ghost use Rattle.std.specs.Prelude.{◌≡◌, ◌≤◌, IfOk, List, length, take};
 ghost use Rattle.mu_model.specs.Contents.{IsConfig};
 ghost use Rattle.mu_model.specs.Histories.{history};
 ghost use Rattle.mu_model.specs.Legal.{IsLegal};
-ghost use Rattle.mu_picture.specs.Openings.{opening_of as opening_after, opening_with as opening_with_fence, openings_of};
-ghost use Rattle.mu_course.specs.Walks.{StandsForWalk};
+ghost use Rattle.mu_picture.specs.Openings.{opening_with as opening_with_fence, openings_of};
+ghost use Rattle.mu_picture.specs.Trails.{StandsForTrail};
 ghost use Rattle.mu_model.specs.declared.config.Config.{Config as Settings};
 ghost use Rattle.mu_model.specs.declared.event.Event.{Event as Made};
+ghost use Rattle.mu_model.specs.declared.script.Script.{Script as Settled};
 
-use mu_course::Walk;
-use mu_model::{Config, Event, Fence, NoMemory};
+use crate::standings::Standing;
+use crate::trail::Trail;
+use mu_model::{Config, Event, Fence, NoMemory, Script};
 use std::alloc::Global;
 
 /// What holds in the lane of a replica before the first step of a picture.
@@ -19,34 +21,32 @@ pub struct Opening {
     pub owner: Option<u8>,
     /// Whether its region is closing.
     pub closing: bool,
+    /// How the last step of the replica left the lane.
+    pub standing: Standing,
     /// Whether a leadership of it is under way.
     pub leads: bool,
+    /// Whom its scores name.
+    pub named: u8,
 }
 
-/// What holds in the lane of `r` where the walk is.
-fn opening_at(walk: &Walk, r: u8) -> Opening
-    ensures { (past : List Made) → (c : Settings) → r < c.replicas → StandsForWalk c past walk.now
-        → result ≡ opening_after c r past }
-{
-    let fence = walk.fence(r);
-    let leads = walk.leads(r);
-    opening_with(fence, leads)
-}
-
-/// What a fence and a leadership open with.
-fn opening_with(fence: Option<Fence>, leads: bool) -> Opening
-    ensures { result ≡ opening_with_fence fence leads }
+/// What a fence, a lane that stands so, a leadership and scores open with.
+pub fn opening_with(fence: Option<Fence>, standing: Standing, leads: bool, named: u8) -> Opening
+    ensures { result ≡ opening_with_fence fence standing leads named }
 {
     match fence {
         None => Opening {
             owner: None,
             closing: false,
+            standing,
             leads,
+            named,
         },
         Some(fence) => Opening {
             owner: fence.owner,
             closing: fence.closing,
+            standing,
             leads,
+            named,
         },
     }
 }
@@ -55,31 +55,34 @@ fn opening_with(fence: Option<Fence>, leads: bool) -> Opening
 pub fn openings_after(
     alloc: Global,
     config: &Config,
+    script: &Script,
     events: &[Event],
-    count: usize,
+    count: u32,
 ) -> Result<Vec<Opening>, NoMemory>
     requires config { IsConfig config.now }
     requires legal { IsLegal config.now events.now }
     requires within { count ≤ length events.now }
     ensures { IfOk result (λ openings. openings.items
-        ≡ openings_of config.now config.now.replicas (history (take count events.now))) }
+        ≡ openings_of config.now script.now config.now.replicas
+        (history (take count events.now))) }
 {
-    let mut walk = Walk::new(alloc, config)?;
+    let mut trail = Trail::new(alloc, config)?;
     for index in 0..count {
-        let event = events[index];
-        let _ = walk.take(config, &event);
+        let event = events[index as usize];
+        let _ = trail.take(config, script, index, &event);
     }
-    openings_at(alloc, &walk, config.replicas)
+    openings_at(alloc, &trail, config.replicas)
 }
 
-/// What holds in each of the first `n` lanes where the walk is.
-fn openings_at(alloc: Global, walk: &Walk, n: u8) -> Result<Vec<Opening>, NoMemory>
-    ensures { (past : List Made) → (c : Settings) → n ≡ c.replicas → StandsForWalk c past walk.now
-        → IfOk result (λ openings. openings.items ≡ openings_of c n past) }
+/// What holds in each of the first `n` lanes.
+fn openings_at(alloc: Global, trail: &Trail, n: u8) -> Result<Vec<Opening>, NoMemory>
+    ensures { (past : List Made) → (c : Settings) → (script : Settled) → n ≡ c.replicas
+        → StandsForTrail c script past trail.now
+        → IfOk result (λ openings. openings.items ≡ openings_of c script n past) }
 {
     let mut openings = Vec::new(alloc);
     for r in 0..n {
-        openings.push(opening_at(walk, r))?;
+        openings.push(trail.opening(r))?;
     }
     Ok(openings)
 }

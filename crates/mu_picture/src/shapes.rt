@@ -1,203 +1,349 @@
-//! What marks are drawn as.
-ghost use Rattle.std.specs.Prelude.{◌≡◌, ◌++◌, ◌+◌, ◌<◌, ◌≤◌, ◌^◌, Some, codes, length, OnOk};
-ghost use Rattle.std.specs.Fmt.{decimal};
-ghost use Rattle.mu_picture.specs.Pieces.{label_piece};
-ghost use Rattle.mu_picture.specs.declared.deeds.Deed.TheVariants.{Grant};
-ghost use Rattle.mu_picture.specs.Drawing.{across_piece, asked_piece, closing_piece, deed_pieces, ended_piece, halt_pieces, lane_of, leading_piece, missed_piece, owned_piece, owner_class as owner_class_of, put_class, resting_piece};
+//! The shapes and texts that a drawing is made of.
+ghost use Rattle.std.specs.Prelude.{◌≡◌, ◌++◌, OnOk};
+ghost use Rattle.mu_picture.specs.declared.shapes.Shape.TheVariants.{Line};
+ghost use Rattle.mu_picture.specs.Shapes.{head_bytes, look_class, part_bytes, parts_bytes, shape_piece, square_bytes, text_piece};
 
-use crate::deeds::Deed;
-use crate::pieces::{push_bar, push_label, push_line};
 use crate::sheet::Sheet;
-use mu_course::Halt;
 use mu_model::NoMemory;
-use mu_text::Line;
 
-/// Where the lane of replica 0 stands.
-const LEFT: u64 = 64;
-
-/// From one lane to the next.
-const LANE: u64 = 150;
-
-/// Where the lane of a replica stands.
-pub fn lane(r: u64) -> u64
-    requires { r < 2 ^ 16 }
-    ensures is { result ≡ lane_of r }
-    ensures left { 64 ≤ result }
-    ensures low { result < 2 ^ 32 }
-{
-    LEFT + LANE * r
+/// How a shape or a text looks.
+#[derive(Clone, Copy)]
+pub enum Look {
+    /// The ground.
+    Ground,
+    /// The line of a lane.
+    Lane,
+    /// A region that is closing, and a ring.
+    Closing,
+    /// A pause.
+    Hatched,
+    /// A folded stretch.
+    Folded,
+    /// An ask.
+    Asks,
+    /// A put that landed, and a dot.
+    Landed,
+    /// A put that missed.
+    Missed,
+    /// A put that commits.
+    Commits,
+    /// The end of a lane.
+    Sign,
+    /// The event that breaks the list.
+    Wrong,
+    /// Words of a lane.
+    Label,
+    /// Words of the axis.
+    Axis,
+    /// Words beside the lanes.
+    Note,
+    /// Words on the event that breaks the list.
+    Fault,
+    /// What is a replica's.
+    Of(u8),
 }
 
-/// The class of what a replica owns.
-fn owner_class(r: u8) -> Line
-    ensures { result ≡ owner_class_of r }
-{
-    let mut class = Line::new();
-    class.push(b"o");
-    class.push_number(u64::from(r));
-    class
+/// The way of a line.
+#[derive(Clone, Copy)]
+pub enum Way {
+    /// From a small square, with this edge, across to a region.
+    Across {
+        /// The edge of the square.
+        x: u64,
+        /// The middle.
+        y: u64,
+        /// The head of the arrow, or the middle of the cross.
+        to: u64,
+        /// Whether a cross is at its end, and no arrow.
+        missed: bool,
+        /// Whether it goes to the left.
+        left: bool,
+    },
+    /// A cross of 8 units, with this left upper corner.
+    Cross {
+        /// The left edge.
+        x: u64,
+        /// The upper edge.
+        y: u64,
+    },
+    /// A level line of 16 units from here.
+    Level {
+        /// The left end.
+        x: u64,
+        /// The height.
+        y: u64,
+    },
 }
 
-/// Adds the bar of the region of `r`, owned from `y` on.
-pub fn push_owned(sheet: &mut Sheet, r: u8, y: u64, owner: u8) -> Result<(), NoMemory>
-    ensures { OnOk result (sheet.new ≡ sheet.old ++ owned_piece r y owner) }
-{
-    let class = owner_class(owner);
-    push_bar(sheet, class.as_slice(), lane(u64::from(r)) + 84, y, 8)
+/// A shape. Places and sizes are in units of the drawing.
+#[derive(Clone, Copy)]
+pub enum Shape {
+    /// A bar down to the bottom.
+    Bar {
+        /// How it looks.
+        look: Look,
+        /// The left edge.
+        x: u64,
+        /// The upper edge.
+        y: u64,
+        /// How wide it is.
+        width: u64,
+    },
+    /// A block.
+    Block {
+        /// How it looks.
+        look: Look,
+        /// The left edge.
+        x: u64,
+        /// The upper edge.
+        y: u64,
+        /// How wide it is.
+        width: u64,
+        /// How high it is.
+        height: u64,
+    },
+    /// A line.
+    Line {
+        /// How it looks.
+        look: Look,
+        /// Where it goes.
+        way: Way,
+    },
+    /// A dot.
+    Dot {
+        /// How it looks.
+        look: Look,
+        /// The middle.
+        x: u64,
+        /// The middle.
+        y: u64,
+    },
 }
 
-/// Adds the bar of the region of `r`, closing from `y` on.
-pub fn push_closing(sheet: &mut Sheet, r: u8, y: u64) -> Result<(), NoMemory>
-    ensures { OnOk result (sheet.new ≡ sheet.old ++ closing_piece r y) }
-{
-    push_bar(sheet, b"c", lane(u64::from(r)) + 84, y, 8)
+/// A part of an element.
+#[derive(Clone, Copy)]
+pub enum Part<'a> {
+    /// Words as they stand.
+    Words(&'a [u8]),
+    /// Words of a text.
+    Text(&'a [u8]),
+    /// A number in decimal digits.
+    Number(u64),
+    /// The class of a look.
+    Class(Look),
+    /// The far end of a line: a cross where it missed, else an arrow head to the left or to the right.
+    Head(bool, bool),
+    /// The square at its near end, on the way to the left or to the right.
+    Square(bool),
 }
 
-/// Adds the band of a leadership of `r` from `y` on.
-pub fn push_leading(sheet: &mut Sheet, r: u8, y: u64) -> Result<(), NoMemory>
-    ensures { OnOk result (sheet.new ≡ sheet.old ++ leading_piece r y) }
+/// Adds the class of a look.
+fn push_class(sheet: &mut Sheet, look: Look) -> Result<(), NoMemory>
+    ensures { OnOk result (sheet.new ≡ sheet.old ++ look_class look) }
 {
-    let class = owner_class(r);
-    push_bar(sheet, class.as_slice(), lane(u64::from(r)) + 2, y, 12)
+    match look {
+        Look::Ground => sheet.push(b"w"),
+        Look::Lane => sheet.push(b"l"),
+        Look::Closing => sheet.push(b"c"),
+        Look::Hatched => sheet.push(b"z"),
+        Look::Folded => sheet.push(b"f"),
+        Look::Asks => sheet.push(b"a"),
+        Look::Landed => sheet.push(b"p"),
+        Look::Missed => sheet.push(b"q"),
+        Look::Commits => sheet.push(b"k"),
+        Look::Sign => sheet.push(b"x"),
+        Look::Wrong => sheet.push(b"r"),
+        Look::Label => sheet.push(b"n"),
+        Look::Axis => sheet.push(b"s"),
+        Look::Note => sheet.push(b"t"),
+        Look::Fault => sheet.push(b"t e"),
+        Look::Of(r) => {
+            sheet.push(b"o")?;
+            sheet.push_number(u64::from(r))
+        }
+    }
 }
 
-/// Ends that band at `y`.
-fn push_resting(sheet: &mut Sheet, r: u8, y: u64) -> Result<(), NoMemory>
-    ensures { OnOk result (sheet.new ≡ sheet.old ++ resting_piece r y) }
+/// Adds what is at the far end of a line, and the way on to the square.
+fn push_end(sheet: &mut Sheet, missed: bool, left: bool) -> Result<(), NoMemory>
+    ensures { OnOk result (sheet.new ≡ sheet.old ++ head_bytes missed left) }
 {
-    push_bar(sheet, b"w", lane(u64::from(r)) + 1, y, 14)
-}
-
-/// Ends the lane of `r` below `y`.
-fn push_ended(sheet: &mut Sheet, r: u8, y: u64) -> Result<(), NoMemory>
-    requires { y < 2 ^ 60 }
-    ensures { OnOk result (sheet.new ≡ sheet.old ++ ended_piece r y) }
-{
-    push_bar(sheet, b"w", lane(u64::from(r)) - 2, y + 6, 18)
-}
-
-/// Adds a line from the lane of `r` to the region of `p`.
-fn push_across(sheet: &mut Sheet, class: &[u8], r: u8, y: u64, p: u8) -> Result<(), NoMemory>
-    ensures { OnOk result (sheet.new ≡ sheet.old ++ across_piece class.now r y p) }
-{
-    push_line(
-        sheet,
-        class,
-        lane(u64::from(r)) + 8,
-        y,
-        lane(u64::from(p)) + 88,
-    )
-}
-
-/// Adds the line of a put, and ends the band where it missed.
-fn push_put(sheet: &mut Sheet, landed: bool, r: u8, y: u64, p: u8) -> Result<(), NoMemory>
-    ensures { OnOk result (sheet.new
-        ≡ sheet.old ++ (missed_piece landed r y ++ across_piece (put_class landed) r y p)) }
-{
-    if landed {
-        push_across(sheet, b"p", r, y, p)
+    if missed {
+        sheet.push(b"m-4-4l8 8m0-8l-8 8m4-4H")
+    } else if left {
+        sheet.push(b"l6-3v6zH")
     } else {
-        push_resting(sheet, r, y)?;
-        push_across(sheet, b"q", r, y, p)
+        sheet.push(b"l-6-3v6zH")
     }
 }
 
-/// Adds the line of an ask, and begins a band with the first.
-fn push_ask(sheet: &mut Sheet, r: u8, y: u64, p: u8) -> Result<(), NoMemory>
-    ensures { OnOk result (sheet.new
-        ≡ sheet.old ++ (asked_piece p r y ++ across_piece (codes "a") r y p)) }
+/// Adds the square at its near end.
+fn push_square(sheet: &mut Sheet, left: bool) -> Result<(), NoMemory>
+    ensures { OnOk result (sheet.new ≡ sheet.old ++ square_bytes left) }
 {
-    if p == 0 {
-        push_leading(sheet, r, y)?;
+    if left {
+        sheet.push(b"v3h6v-6h-6v3")
+    } else {
+        sheet.push(b"v3h-6v-6h6v3")
     }
-    push_across(sheet, b"a", r, y, p)
 }
 
-/// Adds words and a number in the lane of `r`, beside its band.
-fn push_numbered(
+/// Adds a part.
+fn push_part(sheet: &mut Sheet, part: Part<'_>) -> Result<(), NoMemory>
+    ensures { OnOk result (sheet.new ≡ sheet.old ++ part_bytes part.entry) }
+{
+    match part {
+        Part::Words(words) => sheet.push(words),
+        Part::Text(words) => sheet.push_escaped(words),
+        Part::Number(number) => sheet.push_number(number),
+        Part::Class(look) => push_class(sheet, look),
+        Part::Head(missed, left) => push_end(sheet, missed, left),
+        Part::Square(left) => push_square(sheet, left),
+    }
+}
+
+/// Adds parts, one after another.
+pub fn push_parts(sheet: &mut Sheet, parts: &[Part<'_>]) -> Result<(), NoMemory>
+    ensures { OnOk result (sheet.new ≡ sheet.old ++ parts_bytes parts.now) }
+{
+    for part in parts {
+        push_part(sheet, *part)?;
+    }
+    Ok(())
+}
+
+/// Adds a line.
+fn push_line(sheet: &mut Sheet, look: Look, way: Way) -> Result<(), NoMemory>
+    ensures { OnOk result (sheet.new ≡ sheet.old ++ shape_piece (Line look way)) }
+{
+    match way {
+        Way::Across {
+            x,
+            y,
+            to,
+            missed,
+            left,
+        } => push_parts(
+            sheet,
+            &[
+                Part::Words(b"<path class='"),
+                Part::Class(look),
+                Part::Words(b"' d='M"),
+                Part::Number(to),
+                Part::Words(b" "),
+                Part::Number(y),
+                Part::Head(missed, left),
+                Part::Number(x),
+                Part::Square(left),
+                Part::Words(b"'/>\n"),
+            ],
+        ),
+        Way::Cross { x, y } => push_parts(
+            sheet,
+            &[
+                Part::Words(b"<path class='"),
+                Part::Class(look),
+                Part::Words(b"' d='M"),
+                Part::Number(x),
+                Part::Words(b" "),
+                Part::Number(y),
+                Part::Words(b"l8 8m0-8l-8 8'/>\n"),
+            ],
+        ),
+        Way::Level { x, y } => push_parts(
+            sheet,
+            &[
+                Part::Words(b"<path class='"),
+                Part::Class(look),
+                Part::Words(b"' d='M"),
+                Part::Number(x),
+                Part::Words(b" "),
+                Part::Number(y),
+                Part::Words(b"h16'/>\n"),
+            ],
+        ),
+    }
+}
+
+/// Adds a shape.
+pub fn push_shape(sheet: &mut Sheet, shape: Shape) -> Result<(), NoMemory>
+    ensures { OnOk result (sheet.new ≡ sheet.old ++ shape_piece shape) }
+{
+    match shape {
+        Shape::Bar { look, x, y, width } => push_parts(
+            sheet,
+            &[
+                Part::Words(b"<rect class='"),
+                Part::Class(look),
+                Part::Words(b"' x='"),
+                Part::Number(x),
+                Part::Words(b"' y='"),
+                Part::Number(y),
+                Part::Words(b"' width='"),
+                Part::Number(width),
+                Part::Words(b"' height='100%'/>\n"),
+            ],
+        ),
+        Shape::Block {
+            look,
+            x,
+            y,
+            width,
+            height,
+        } => push_parts(
+            sheet,
+            &[
+                Part::Words(b"<rect class='"),
+                Part::Class(look),
+                Part::Words(b"' x='"),
+                Part::Number(x),
+                Part::Words(b"' y='"),
+                Part::Number(y),
+                Part::Words(b"' width='"),
+                Part::Number(width),
+                Part::Words(b"' height='"),
+                Part::Number(height),
+                Part::Words(b"'/>\n"),
+            ],
+        ),
+        Shape::Line { look, way } => push_line(sheet, look, way),
+        Shape::Dot { look, x, y } => push_parts(
+            sheet,
+            &[
+                Part::Words(b"<circle class='"),
+                Part::Class(look),
+                Part::Words(b"' cx='"),
+                Part::Number(x),
+                Part::Words(b"' cy='"),
+                Part::Number(y),
+                Part::Words(b"' r='3'/>\n"),
+            ],
+        ),
+    }
+}
+
+/// Adds words.
+pub fn push_text(
     sheet: &mut Sheet,
-    words: &[u8],
-    number: u64,
-    r: u8,
+    look: Look,
+    x: u64,
     y: u64,
+    words: &[u8],
 ) -> Result<(), NoMemory>
-    requires { length words.now < 100 }
-    ensures { OnOk result (sheet.new
-        ≡ sheet.old ++ label_piece (lane_of r + 18) y (words.now ++ decimal number)) }
+    ensures { OnOk result (sheet.new ≡ sheet.old ++ text_piece look x y words.now) }
 {
-    let mut line = Line::new();
-    line.push(words);
-    line.push_number(number);
-    push_label(sheet, lane(u64::from(r)) + 18, y, line.as_slice())
-}
-
-/// Adds words beside the region of `r`.
-fn push_hosted(sheet: &mut Sheet, words: &[u8], r: u8, y: u64) -> Result<(), NoMemory>
-    requires { y < 2 ^ 60 }
-    ensures { OnOk result (sheet.new
-        ≡ sheet.old ++ label_piece (lane_of r + 95) (y + 3) words.now) }
-{
-    push_label(sheet, lane(u64::from(r)) + 95, y + 3, words)
-}
-
-/// Adds a grant of the region of `r`, which was granted so often before.
-fn push_grant(sheet: &mut Sheet, r: u8, y: u64, to: u8, granted: u32) -> Result<(), NoMemory>
-    requires { y < 2 ^ 60 }
-    ensures { OnOk result (sheet.new ≡ sheet.old ++ deed_pieces r y (Some (Grant to granted))) }
-{
-    let mut line = Line::new();
-    line.push(b"to ");
-    line.push_number(u64::from(to));
-    line.push(b", grant ");
-    line.push_number(u64::from(granted) + 1);
-    push_owned(sheet, r, y, to)?;
-    push_hosted(sheet, line.as_slice(), r, y)
-}
-
-/// Adds what a deed of `r` is drawn as, in the row at `y`.
-pub fn push_deed(sheet: &mut Sheet, r: u8, y: u64, deed: Option<Deed>) -> Result<(), NoMemory>
-    requires low { y < 2 ^ 60 }
-    requires within { 2 ≤ y }
-    ensures { OnOk result (sheet.new ≡ sheet.old ++ deed_pieces r y deed) }
-{
-    match deed {
-        None => Ok(()),
-        Some(Deed::Ask(p)) => push_ask(sheet, r, y, p),
-        Some(Deed::Close) => {
-            push_closing(sheet, r, y)?;
-            push_hosted(sheet, b"close", r, y)
-        }
-        Some(Deed::Drain) => push_hosted(sheet, b"drain", r, y),
-        Some(Deed::Grant(to, granted)) => push_grant(sheet, r, y, to, granted),
-        Some(Deed::PutMin(p, b, landed)) => {
-            push_put(sheet, landed, r, y, p)?;
-            push_numbered(sheet, b"number ", u64::from(b), r, y - 2)
-        }
-        Some(Deed::Put(p, _, landed)) => push_put(sheet, landed, r, y, p),
-        Some(Deed::Commit(p, i, _)) => {
-            push_across(sheet, b"k", r, y, p)?;
-            push_numbered(sheet, b"", u64::from(i), r, y - 2)
-        }
-        Some(Deed::Learn(_, i, _)) => push_numbered(sheet, b"learns ", u64::from(i), r, y + 3),
-        Some(Deed::Head(h)) => push_numbered(sheet, b"head ", u64::from(h), r, y + 3),
-        Some(Deed::Barred(_)) => push_resting(sheet, r, y),
-        Some(Deed::Deposed(_)) => push_resting(sheet, r, y),
-        Some(Deed::Outbid(_)) => push_resting(sheet, r, y),
-        Some(Deed::Resign(_)) => push_resting(sheet, r, y),
-        Some(Deed::Outrun(_, _)) => push_ended(sheet, r, y),
-    }
-}
-
-/// Adds what befalls `r` as it is drawn, in the row at `y`.
-pub fn push_halt(sheet: &mut Sheet, r: u8, y: u64, halt: Option<Halt>) -> Result<(), NoMemory>
-    requires { y < 2 ^ 60 }
-    ensures { OnOk result (sheet.new ≡ sheet.old ++ halt_pieces r y halt) }
-{
-    match halt {
-        None => Ok(()),
-        Some(Halt::Stop) => push_ended(sheet, r, y),
-        Some(Halt::Spent) => push_ended(sheet, r, y),
-        Some(Halt::Finish) => push_ended(sheet, r, y),
-        Some(Halt::Pause(_)) => Ok(()),
-    }
+    push_parts(
+        sheet,
+        &[
+            Part::Words(b"<text class='"),
+            Part::Class(look),
+            Part::Words(b"' x='"),
+            Part::Number(x),
+            Part::Words(b"' y='"),
+            Part::Number(y),
+            Part::Words(b"'>"),
+            Part::Text(words),
+            Part::Words(b"</text>\n"),
+        ],
+    )
 }

@@ -1,7 +1,7 @@
 //! Bytes of a drawing under construction.
 ghost use Rattle.std.specs.Prelude.{◌≡◌, [], ◌++◌, OnOk};
 ghost use Rattle.std.specs.Fmt.{decimal};
-ghost use Rattle.mu_picture.specs.Pieces.{escape, escaped};
+ghost use Rattle.mu_picture.specs.Shapes.{escape, escaped};
 
 use mu_model::NoMemory;
 use mu_text::Line;

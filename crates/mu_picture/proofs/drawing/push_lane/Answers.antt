@@ -1,15 +1,20 @@
 use Rattle.std.proofs.Common.{◌++◌, ◌∙◌, ap}
-use Rattle.std.specs.Prelude.{codes}
-use Rattle.mu_picture.specs.Drawing.{headings_pieces, lane_of, opening_pieces}
-use Rattle.mu_picture.specs.Pieces.{bar_piece}
+use Rattle.mu_picture.specs.Drawing.{standing_pieces, title_pieces}
+use Rattle.mu_picture.specs.Lanes.{region_shapes}
+use Rattle.mu_picture.specs.Shapes.{shape_pieces}
 use Rattle.mu_picture.proofs.Appends.{joined, on_ok}
 use Rattle.mu_picture.proofs.drawing.push_lane.Goals as goal
 
 pub returns : goal.returns
 returns c =
-    let bar = bar_piece (codes "l") (lane_of c.args.r) 46 1 in
-    let rest = opening_pieces c.args.r c.args.opening.now in
-    on_ok c.push_opening.result c.push_opening.ensures
-    (λ last. joined c.args.sheet.now c.push_headings.new.sheet c.push_opening.new.sheet (headings_pieces c.args.r) (bar ++ rest) c.in_ok-push_headings.ensures
-    (joined c.push_headings.new.sheet c.push_bar.new.sheet c.push_opening.new.sheet bar rest
-    (c.in_ok-push_bar.ensures ∙ ap (λ x. c.push_headings.new.sheet ++ bar_piece (codes "l") x 46 1) (c.lane.ensures.is ∙ ap lane_of c.from.ensures)) last))
+    let r = c.args.r in
+    let opening = c.args.opening.now in
+    let p1 = title_pieces r 84 in
+    let p2 = shape_pieces (region_shapes r opening) in
+    let p3 = standing_pieces r opening opening.standing in
+    let s1 = c.push_title.new.sheet in
+    let s2 = c.push_region.new.sheet in
+    let s3 = c.push_standing.new.sheet in
+    on_ok c.push_standing.result c.push_standing.ensures
+    (λ done. joined c.args.sheet.now s1 s3 p1 (p2 ++ p3) (c.in_ok-push_title.ensures ∙ ap (λ q. c.args.sheet.now ++ title_pieces q 84) c.from.ensures)
+    (joined s1 s2 s3 p2 p3 c.in_ok-push_region.ensures done))

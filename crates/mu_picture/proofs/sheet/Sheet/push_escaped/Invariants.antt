@@ -1,6 +1,6 @@
 -- The bytes before this one are written.
 use Rattle.std.proofs.Common.{◌≡◌, ◌++◌, drop}
-use Rattle.mu_picture.specs.Pieces.{escaped}
+use Rattle.mu_picture.specs.Shapes.{escaped}
 use Rattle.mu_picture.proofs.sheet.Sheet.push_escaped.Given as goal
 
 abbrev pub invariant-loop-byte : goal.invariant-loop-byte
