@@ -1,25 +1,26 @@
 #!/usr/bin/env python3
 """Draws traces by itself, and compares with what `mu_draw` draws.
 
-    tools/picture_cases.py MU_DRAW [TRACE ..]     compares for each trace (legal ones alone): all steps, and parts
+    tools/picture_cases.py MU_DRAW [TRACE ..]     compares for each trace (legal ones alone): all steps, parts and in brief
     tools/picture_cases.py --draw TRACE           prints the drawing
 
 It follows what docs/FORMATS.md and docs/PROTOCOL.md say, and shares nothing with the program: what a
-replica knows, its leaderships and the owners of regions are computed anew from the events.
+replica knows, its leaderships, whom it names and the owners of regions are computed anew from the events.
 """
 
 import subprocess
 import sys
 
-STYLE = ("text{font:9px sans-serif}path{stroke:#000}rect{stroke:#000;stroke-width:.6}"
-         ".w{fill:#fff;stroke:none}.l{fill:#888;stroke:none}.c{fill:#fff}"
-         ".q{fill:#fff;stroke-dasharray:4 2}.k{stroke-width:2}"
-         ".a{fill:none;stroke:#666;stroke-dasharray:1 2}" + "".join(
-             f".o{r}{{fill:{colour}}}" for r, colour in enumerate(
-                 ("#e69f00", "#56b4e9", "#009e73", "#f0e442", "#0072b2", "#d55e00", "#cc79a7"))))
-LEGEND = ("Time goes down, in steps. Squares are puts, filled where they landed and hollow where they "
-          "missed; thick ones commit, dotted ones ask. Left bar: its replica leads. Right bar: who owns "
-          "the region.")
+COLOURS = ("#e69f00", "#56b4e9", "#009e73", "#f0e442", "#0072b2", "#d55e00", "#cc79a7")
+STYLE = ("text{font:9px sans-serif;paint-order:stroke;stroke:#fff;stroke-width:3px}"
+         ".t{font-family:monospace}.s{text-anchor:end;fill:#555}path{stroke:#000;fill:none}"
+         "rect,circle{stroke:#000;stroke-width:.6}.w,.l,.z{stroke:none}.w,.c{fill:#fff}"
+         ".l{fill:#888}.z{fill:url(#z)}.f{fill:#fff;stroke:#888;stroke-dasharray:2 2}"
+         ".p,.k{fill:#000}.q{stroke-dasharray:4 2}.k,.x,.r{stroke-width:2}"
+         ".a{stroke:#666;stroke-dasharray:1 2}.e{fill:#c00}.r{stroke:#c00}" + "".join(
+             f".o{r}{{fill:{colour}}}" for r, colour in enumerate(COLOURS)))
+HATCHING = ("<pattern id='z' patternUnits='userSpaceOnUse' width='4' height='4'><path d='M0 4l4-4'/></pattern>\n")
+TOP, LOWEST_ROW, TITLES = 92, 32500, 48
 PARTS = {"<": "&lt;", ">": "&gt;", "&": "&amp;", "'": "&apos;", '"': "&quot;"}
 
 
@@ -34,7 +35,7 @@ class Job:
     def __init__(self, lines):
         self.version = int(lines[0].split()[1])
         self.replicas = int(lines[1].split()[1])
-        self.budget = int(lines[3].split()[1])
+        self.ring, self.budget = int(lines[2].split()[1]), int(lines[3].split()[1])
         self.width, self.commands, self.stops, self.pauses = 1, [], {}, {}
         client, counts = None, {}
         for line in lines[4:]:
@@ -177,94 +178,286 @@ def step(job, replica, r, verb, answer):
     return taught, replica.over and not was_over
 
 
+def lane(r):
+    """Where a lane stands."""
+    return 72 + 160 * r
+
+
 class Drawing:
     """The elements of a drawing."""
 
     def __init__(self):
         self.parts = []
 
+    def add(self, text):
+        self.parts.append(text)
+
     def bar(self, kind, x, y, width):
         """A bar from y to the bottom."""
-        self.parts.append(f"<rect class='{kind}' x='{x}' y='{y}' width='{width}' height='100%'/>\n")
+        self.add(f"<rect class='{kind}' x='{x}' y='{y}' width='{width}' height='100%'/>\n")
 
-    def line(self, kind, x, y, to):
-        """A line across."""
-        self.parts.append(f"<path class='{kind}' d='M{to} {y}v3v-6v3H{x}v3h-6v-6h6v3'/>\n")
+    def box(self, kind, x, y, width, height):
+        """A bar of this height."""
+        self.add(f"<rect class='{kind}' x='{x}' y='{y}' width='{width}' height='{height}'/>\n")
+
+    def path(self, kind, way):
+        """A line."""
+        self.add(f"<path class='{kind}' d='{way}'/>\n")
+
+    def across(self, kind, r, y, p):
+        """A line from the lane of r to the region of p: from a square to an arrow head, or to a cross where it missed."""
+        right = p >= r
+        square = "v3h-6v-6h6v3" if right else "v3h6v-6h-6v3"
+        x = lane(r) + (11 if right else 5)
+        if kind == "q":
+            self.path(kind, f"M{lane(p) + 48} {y}m-4-4l8 8m0-8l-8 8m4-4H{x}{square}")
+        elif right:
+            self.path(kind, f"M{lane(p) + 44} {y}l-6-3v6zH{x}{square}")
+        else:
+            self.path(kind, f"M{lane(p) + 52} {y}l6-3v6zH{x}{square}")
+
+    def dot(self, kind, x, y):
+        """A dot."""
+        self.add(f"<circle class='{kind}' cx='{x}' cy='{y}' r='3'/>\n")
 
     def label(self, x, y, words):
         """Words in a lane."""
-        self.parts.append(f"<text x='{x}' y='{y}'>{escaped(words)}</text>\n")
+        self.text("n", x, y, words)
 
-    def note(self, x, y, words):
-        """Words beside the lanes."""
-        self.parts.append(f"<text class='t' x='{x}' y='{y}'>{escaped(words)}</text>\n")
-
-
-def lane(r):
-    """Where a lane stands."""
-    return 64 + 150 * r
+    def text(self, kind, x, y, words):
+        """Words of a kind."""
+        self.add(f"<text class='{kind}' x='{x}' y='{y}'>{escaped(words)}</text>\n")
 
 
-def deed(job, out, replica, r, verb, answer, taught, ended, resigned_to, granted, y):
-    """Draws a step: the words of its note, or None where it isn't drawn. With out None, draws nothing."""
-    out = out or Drawing()
-    kind, x, lost = verb[0], lane(r), ", it leads no more"
-    p = int(verb[1]) if kind in ("ask", "putmin", "putslot", "look", "enter", "fence", "min") else 0
-    across = (x + 8, y, lane(p) + 88)
+CHIEF = ("ask", "grant", "commit", "enter", "fence", "min", "resign", "outrun")
+
+
+class Mark:
+    """A drawn step: what it does, and what befalls its replica after it."""
+
+    def __init__(self, index, by, line):
+        self.index, self.by, self.line = index, by, line
+        self.resumed = self.deed = self.halt = None
+
+    def is_drawn(self, brief):
+        """Whether there is anything to draw; in brief only asks, grants, commits and ends."""
+        if self.resumed or self.halt or not brief:
+            return bool(self.resumed or self.halt or self.deed)
+        return self.deed is not None and (self.deed[0] in CHIEF or self.deed[0] in ("putmin", "put") and not self.deed[3])
+
+
+def deed_of(replica, verb, answer, taught, ended, resigned_to, granted, judged):
+    """What a step does that is drawn, or None."""
+    kind = verb[0]
+    numbers = [int(word) for word in verb[1:] if word.isdigit()]
     if kind == "ask":
-        if p == 0:
-            out.bar(f"o{r}", x + 2, y, 12)
-        out.line("a", *across)
-    elif kind == "close":
-        out.bar("c", x + 84, y, 8)
-        out.label(x + 95, y + 3, "close")
-    elif kind == "drain":
-        out.label(x + 95, y + 3, "drain")
-    elif kind == "grant":
-        out.bar(f"o{verb[1]}", x + 84, y, 8)
-        out.label(x + 95, y + 3, f"to {verb[1]}, grant {granted + 1}")
-    elif kind in ("putmin", "putslot"):
-        if kind == "putslot" and taught is not None:
-            out.line("k", *across)
-            out.label(x + 18, y - 2, verb[2])
-            return f" commits {verb[2]}{job.entry(taught)}"
-        if answer[0] != "done":
-            out.bar("w", x + 1, y, 14)
-        out.line("p" if answer[0] == "done" else "q", *across)
-        if kind == "putmin":
-            out.label(x + 18, y - 2, f"number {verb[2]}")
-        if answer[0] != "done":
-            return f": {'number' if kind == 'putmin' else 'position'} {verb[2]} missed at {p}{lost}"
-    elif kind == "look" and taught is not None:
-        out.label(x + 18, y + 3, f"learns {verb[2]}")
-    elif kind == "look" and answer[0] == "past" and int(verb[2]) >= len(replica.known):
-        out.bar("w", x - 2, y + 6, 18)
-        return f" is outrun at {p}, position {verb[2]}"
-    elif kind == "raisehead":
-        out.label(x + 18, y + 3, f"head {verb[1]}")
-    elif kind in ("enter", "fence", "min") and ended:
-        out.bar("w", x + 1, y, 14)
-        return {"enter": f" is not let into {p}", "fence": f" sees another grant at {p}",
-                "min": f" reads a greater number at {p}"}[kind] + lost
-    elif resigned_to is not None:
-        out.bar("w", x + 1, y, 14)
-        return f" resigns to {resigned_to}{lost}"
-    else:
-        return None
-    return ""
+        return ("ask", numbers[0])
+    if kind in ("close", "drain"):
+        return (kind,)
+    if kind == "grant":
+        return ("grant", numbers[0], granted + 1)
+    if kind == "putmin":
+        return ("putmin", numbers[0], numbers[1], answer[0] == "done")
+    if kind == "putslot":
+        if taught is not None:
+            return ("commit", numbers[0], numbers[1], taught)
+        return ("put", numbers[0], numbers[1], answer[0] == "done")
+    if kind == "look" and taught is not None:
+        return ("learn", numbers[1])
+    if kind == "look" and answer[0] == "past" and numbers[1] >= len(replica.known):
+        return ("outrun", numbers[0], numbers[1])
+    if kind == "raisehead":
+        return ("head", numbers[0])
+    if kind in ("enter", "fence", "min") and ended:
+        return (kind, numbers[0])
+    if resigned_to is not None:
+        return ("resign", resigned_to)
+    if judged is not None:
+        return ("judge", *judged)
+    return None
 
 
-def halt(job, r, steps, finishes):
-    """What befalls a replica after so many steps, in words."""
+LOST = ", it leads no more"
+
+
+def deed_words(job, deed):
+    """What is said of a deed."""
+    if deed is None:
+        return ""
+    kind = deed[0]
+    if kind in ("putmin", "put") and not deed[3]:
+        return f" misses region {deed[1]} with {'number' if kind == 'putmin' else 'position'} {deed[2]}{LOST}"
+    return {"commit": lambda: f" commits {deed[2]}{job.entry(deed[3])}",
+            "enter": lambda: f" is not let into {deed[1]}{LOST}",
+            "fence": lambda: f" sees another grant at {deed[1]}{LOST}",
+            "min": lambda: f" reads a greater number at {deed[1]}{LOST}",
+            "resign": lambda: f" resigns to {deed[1]}{LOST}",
+            "judge": lambda: f" holds {deed[1]} {'failed' if deed[2] else 'alive'}, names {deed[3]}",
+            "outrun": lambda: f" is outrun at {deed[1]}, position {deed[2]}"}.get(kind, lambda: "")()
+
+
+def halt_of(job, r, steps, finishes):
+    """What befalls a replica after so many steps."""
     if job.stops.get(r) == steps:
-        return " stops"
+        return ("stop",)
     if steps == job.budget:
-        return " has spent its budget"
+        return ("spent",)
     if finishes:
-        return " has finished"
+        return ("finish",)
     if (r, steps) in job.pauses:
-        return f" pauses for {job.pauses[r, steps]} rounds"
-    return ""
+        return ("pause", job.pauses[r, steps])
+    return None
+
+
+def halt_words(halt):
+    """What is said of what befalls a replica."""
+    if halt is None:
+        return ""
+    return {"stop": " stops", "spent": " has spent its budget", "finish": " has finished",
+            "pause": f" pauses for {halt[-1]} rounds"}[halt[0]]
+
+
+def said(job, mark):
+    """What is said of a mark beside the lanes."""
+    words = deed_words(job, mark.deed) + halt_words(mark.halt)
+    if mark.resumed:
+        words = " goes on" + (":" + words if words else "")
+    return f"{mark.index}: replica {mark.by}{words}" if words else ""
+
+
+def label_of(deed):
+    """What is said in the lane of a deed."""
+    kind = deed[0]
+    if kind in ("close", "drain"):
+        return kind
+    if kind == "grant":
+        return f"to {deed[1]}, grant {deed[2]}"
+    if kind == "judge":
+        return f"{deed[1]} {'failed' if deed[2] else 'alive'}"
+    front = {"putmin": "number", "put": "put", "commit": "commit", "learn": "learns", "head": "applied to"}.get(kind)
+    return front and f"{front} {deed[1 if kind in ('learn', 'head') else 2]}"
+
+
+def draw_deed(out, r, y, deed):
+    """Draws a deed."""
+    x, kind = lane(r), deed[0]
+    if kind == "ask":
+        if deed[1] == 0:
+            out.bar(f"o{r}", x + 2, y, 12)
+        out.across("a", r, y, deed[1])
+    elif kind == "close":
+        out.bar("c", x + 44, y, 8)
+    elif kind == "grant":
+        out.bar(f"o{deed[1]}", x + 44, y, 8)
+    elif kind in ("putmin", "put"):
+        if not deed[3]:
+            out.bar("w", x + 1, y, 14)
+        out.across("p" if deed[3] else "q", r, y, deed[1])
+    elif kind == "commit":
+        out.across("k", r, y, deed[1])
+    elif kind in ("learn", "head"):
+        out.dot("p" if kind == "learn" else "c", x + 8, y)
+    elif kind in ("enter", "fence", "min", "resign"):
+        out.bar("w", x + 1, y, 14)
+    elif kind == "judge":
+        out.bar(f"o{deed[3]}", x - 7, y, 3)
+    elif kind == "outrun":
+        end(out, r, y)
+
+
+def end(out, r, y, way=None):
+    """The end of a lane below y, with a cross at it or another sign."""
+    out.bar("w", lane(r) - 8, y + 6, 24)
+    out.path("x", way or f"M{lane(r) + 4} {y - 4}l8 8m0-8l-8 8")
+
+
+def draw_halt(out, r, y, halt):
+    """Draws what befalls a replica."""
+    if halt[0] == "pause":
+        out.bar("z", lane(r) + 2, y + 6, 12)
+    elif halt[0] == "finish":
+        end(out, r, y, f"M{lane(r)} {y + 5}h16")
+    else:
+        end(out, r, y)
+
+
+def draw_lane(out, r, y, named, leads):
+    """A lane that goes on from y, with whom its replica names, and its band."""
+    out.bar(f"o{named}", lane(r) - 7, y, 3)
+    out.bar("l", lane(r), y, 1)
+    if leads:
+        out.bar(f"o{r}", lane(r) + 2, y, 12)
+
+
+def begin(out, line, index, event):
+    """Begins what is drawn of a step, with a tooltip."""
+    out.add(f"<g><title>{escaped(f'step {index}, line {line + index}: {event}')}</title>\n")
+
+
+def draw_mark(out, job, y, mark, line):
+    """Draws a mark."""
+    begin(out, line, mark.index, mark.line)
+    if mark.resumed:
+        out.bar("w", lane(mark.by) - 8, y, 24)
+        draw_lane(out, mark.by, y, *mark.resumed)
+    if mark.deed:
+        draw_deed(out, mark.by, y, mark.deed)
+    if mark.halt:
+        draw_halt(out, mark.by, y, mark.halt)
+    label = mark.deed and label_of(mark.deed)
+    if label:
+        out.label(lane(mark.by) + 58, y + 3, label)
+    out.text("s", 56, y + 3, str(mark.index))
+    words = said(job, mark)
+    if words:
+        out.dot(f"o{mark.by}", lane(job.replicas) + 4, y)
+        out.text("t", lane(job.replicas) + 12, y + 3, words)
+    out.add("</g>\n")
+
+
+def draw_breach(out, n, y, line, broken, event):
+    """Draws the event that breaks the list."""
+    index, fault = broken
+    begin(out, line, index, event)
+    out.box("r", lane(0) - 10, y + 17, lane(n) - lane(0), 1)
+    x = lane(int(event.split()[0]))
+    out.path("r", f"M{x + 4} {y + 22}l8 8m0-8l-8 8")
+    out.text("s", 56, y + 29, str(index))
+    out.text("t e", lane(n) + 12, y + 29, event)
+    out.text("t e", lane(n) + 12, y + 41, fault)
+    out.add("</g>\n")
+
+
+def title(out, r, y):
+    """The names of a lane and its region."""
+    out.label(lane(r) - 2, y, f"replica {r}")
+    out.label(lane(r) + 42, y, f"region {r}")
+
+
+SAMPLES = (
+    ("asks", lambda out, x, y: out.path("a", f"M{x + 24} {y}l-6-3v6zH{x + 6}v3h-6v-6h6v3")),
+    ("put landed", lambda out, x, y: out.path("p", f"M{x + 24} {y}l-6-3v6zH{x + 6}v3h-6v-6h6v3")),
+    ("put missed", lambda out, x, y: out.path("q", f"M{x + 20} {y}m-4-4l8 8m0-8l-8 8m4-4H{x + 6}v3h-6v-6h6v3")),
+    ("put commits", lambda out, x, y: out.path("k", f"M{x + 24} {y}l-6-3v6zH{x + 6}v3h-6v-6h6v3")),
+    ("learns", lambda out, x, y: out.dot("p", x + 12, y)),
+    ("applied to", lambda out, x, y: out.dot("c", x + 12, y)),
+    ("leads", lambda out, x, y: out.box("o0", x + 6, y - 4, 12, 8)),
+    ("pauses", lambda out, x, y: out.box("z", x + 6, y - 4, 12, 8)),
+    ("stops, outrun", lambda out, x, y: out.path("x", f"M{x + 8} {y - 4}l8 8m0-8l-8 8")),
+    ("has finished", lambda out, x, y: out.path("x", f"M{x + 4} {y}h16")),
+    ("owns the region", lambda out, x, y: out.box("o0", x + 8, y - 4, 8, 8)),
+    ("closing", lambda out, x, y: out.box("c", x + 8, y - 4, 8, 8)),
+    ("whom it names", lambda out, x, y: out.box("o0", x + 11, y - 4, 3, 8)),
+    ("folded steps", lambda out, x, y: out.box("f", x + 2, y - 4, 22, 8)),
+)
+
+
+def legend(out):
+    """Samples of all marks."""
+    for k, (words, draw) in enumerate(SAMPLES):
+        x, y = 8 + 110 * (k % 5), 30 + 14 * (k // 5)
+        draw(out, x, y)
+        out.label(x + 28, y + 3, words)
 
 
 class Region:
@@ -281,78 +474,132 @@ class Region:
             self.owner, self.closing, self.grants = verb[1], False, self.grants + 1
 
 
-def lanes(job, replicas, regions):
+def stretch(count):
+    """The height of so many steps without a mark."""
+    return 16 if count > 31 else count
+
+
+def fold(out, n, y, count):
+    """Draws a folded stretch."""
+    if count > 31:
+        out.box("f", lane(0) - 10, y + 3, lane(n) - lane(0), 10)
+        out.text("s", 56, y + 11, f"{count} steps")
+
+
+def lanes(replicas, regions, halted):
     """The lanes of all replicas, with what holds in each before the first drawn step."""
     out = Drawing()
-    for r in range(job.replicas):
-        replica, region = replicas[r], regions[r]
-        out.note(lane(r), 40, f"replica {r}")
-        out.note(lane(r) + 70, 40, f"region {r}")
-        out.bar("l", lane(r), 46, 1)
+    for r, (replica, region) in enumerate(zip(replicas, regions)):
+        title(out, r, TOP - 8)
         if region.closing or region.owner is not None:
-            out.bar("c" if region.closing else f"o{region.owner}", lane(r) + 84, 56, 8)
-        if replica.leads():
-            out.bar(f"o{r}", lane(r) + 2, 56, 12)
+            out.bar("c" if region.closing else f"o{region.owner}", lane(r) + 44, TOP, 8)
+        if halted[r] != "end":
+            draw_lane(out, r, TOP, replica.named(r), replica.leads())
+        if halted[r] == "pause":
+            out.bar("z", lane(r) + 2, TOP, 12)
     return out.parts
 
 
-def drawn(text, first=0, last=None):
-    """The drawing of a trace, of all steps or of those from one to another."""
-    lines = text.split("\n")
-    end = lines.index("end")
-    job = Job(lines[:end])
-    events = lines[end + 1:lines.index("end", end + 1)]
-    events = events if last is None else events[:last + 1]
-    out, replicas = Drawing(), [Replica() for _ in range(job.replicas)]
-    regions, head, y = [Region() for _ in range(job.replicas)], None, 56
-    first = at = min(first, len(events))
+class Run:
+    """The states of all replicas, regions and lanes along a trace."""
 
-    def fold(count):
-        if count > 31:
-            out.note(4, y + 11, f"{count} steps")
-        return 16 if count > 31 else count
+    def __init__(self, job):
+        self.job, self.replicas = job, [Replica() for _ in range(job.replicas)]
+        self.regions, self.halted = [Region() for _ in range(job.replicas)], [None] * job.replicas
 
-    for index, line in enumerate(events):
-        if index == first:
-            head = lanes(job, replicas, regions)
+    def lanes(self):
+        return lanes(self.replicas, self.regions, self.halted)
+
+    def take(self, index, line):
+        """Takes an event: its mark."""
         made, found = line.split(" = ")
         by, *verb = made.split()
         r, answer = int(by), found.split()
-        replica = replicas[r]
+        replica, mark = self.replicas[r], Mark(index, r, line)
         led, named, had_finished = replica.leads(), replica.named(r), replica.finished
-        taught, ended = step(job, replica, r, verb, answer)
+        heard = int(verb[1]) if verb[0] == "readbeat" else None
+        was = heard in replica.failed
+        mark.resumed = (named, led) if self.halted[r] else None
+        taught, ended = step(self.job, replica, r, verb, answer)
         replica.steps += 1
-        replica.finished = replica.has_finished(job, r)
+        replica.finished = replica.has_finished(self.job, r)
         resigned_to = named if led and verb[0] == "beat" and replica.given_up else None
-        befalls = halt(job, r, replica.steps, replica.finished and not had_finished)
-        told = (replica, r, verb, answer, taught, ended, resigned_to, regions[r].grants)
-        words = deed(job, None, *told, 100)
-        if index >= first and (words is not None or befalls):
-            y += fold(index - at)
-            if befalls and "pauses" not in befalls:
-                out.bar("w", lane(r) - 2, y + 12, 18)
-            deed(job, out, *told, y + 6)
-            said = (words or "") + befalls
-            if said:
-                out.note(lane(job.replicas), y + 9, f"{index}: replica {r}{said}")
-            y, at = y + 12, index + 1
-        regions[r].take(verb)
-    y += fold(len(events) - at)
-    head = lanes(job, replicas, regions) if head is None else head
-    width, height, over = lane(job.replicas) + 420, y + 20, Drawing()
+        changed = heard is not None and was != (heard in replica.failed)
+        judged = (heard, heard in replica.failed, replica.named(r)) if changed else None
+        mark.halt = halt_of(self.job, r, replica.steps, replica.finished and not had_finished)
+        mark.deed = deed_of(replica, verb, answer, taught, ended, resigned_to, self.regions[r].grants, judged)
+        self.halted[r] = mark.halt and ("pause" if mark.halt[0] == "pause" else "end")
+        if mark.deed and mark.deed[0] == "outrun":
+            self.halted[r] = "end"
+        self.regions[r].take(verb)
+        return mark
+
+
+def drawn(text, first=0, last=9999999, brief=False, broken=None):
+    """The drawing of a trace: of all steps or of those from one to another, in brief or not, and of the event at
+    an index that breaks the list, with what is wrong."""
+    lines = text.split("\n")
+    end_line = lines.index("end")
+    job, events = Job(lines[:end_line]), lines[end_line + 1:lines.index("end", end_line + 1)]
+    asked = min(last + 1, len(events) if broken is None else broken[0])
+    run, out, n, line = Run(job), Drawing(), job.replicas, end_line + 2
+    start = at = min(first, asked)
+    y, stop, longest, rows, head = TOP, asked, 0, 0, None
+    for index, event in enumerate(events[:asked]):
+        if index == start:
+            head = run.lanes()
+        mark = run.take(index, event)
+        if index < start or not mark.is_drawn(brief):
+            continue
+        if y > LOWEST_ROW:
+            stop = index
+            break
+        if rows and rows % TITLES == 0:
+            for r in range(n):
+                title(out, r, y + 11)
+            y += 16
+        fold(out, n, y, index - at)
+        y += stretch(index - at)
+        draw_mark(out, job, y + 6, mark, line)
+        longest = max(longest, len(said(job, mark)))
+        y, at, rows = y + 12, index + 1, rows + 1
+    head = run.lanes() if head is None else head
+    fold(out, n, y, stop - at)
+    y += stretch(stop - at)
+    if stop < asked:
+        out.text("s", 56, y + 12, "goes on")
+        out.label(lane(0) - 10, y + 12, f"with step {stop}")
+    if broken is not None:
+        draw_breach(out, n, y, line, broken, events[broken[0]])
+        longest = max(longest, len(events[broken[0]]), len(broken[1]))
+    width, height, over = max(lane(n) + 24 + 6 * min(longest, 5000), 580), y + 56, Drawing()
     over.bar("w", 0, 0, width)
-    over.note(4, 16, LEGEND)
-    return (f"<svg xmlns='http://www.w3.org/2000/svg' width='{width}' height='{height}'>\n"
-            f"<style>{STYLE}</style>\n" + "".join(over.parts + head + out.parts) + "</svg>\n")
+    over.label(4, 14, f"version {job.version}, {n} replicas, ring {job.ring}: {rows} of {stop - start} steps drawn"
+                      f"{', in brief' if brief else ''}, from step {start} on")
+    legend(over)
+    return (f"<svg xmlns='http://www.w3.org/2000/svg' viewBox='0 0 {width} {height}' width='{width}' "
+            f"height='{height}'>\n<style>{STYLE}</style>\n{HATCHING}" + "".join(over.parts + head + out.parts) + "</svg>\n")
+
+
+def parts_of(text):
+    """The words of some calls, with what they ask for: all steps, some from the middle on, none, and in brief."""
+    count = text.count("\n")
+    for part in ((), (count // 3, count // 2), (count // 2, 9999999), (9999999, 9999999)):
+        yield [str(n) for n in part], part, False
+        yield ["brief", *map(str, part)], part, True
+
+
+def breach_of(answer):
+    """The index of the event that breaks a trace, and what is wrong, from what `mu check` says of it."""
+    _, index, fault = answer.rstrip("\n").split(" ", 2)
+    return int(index), fault
 
 
 def differs(program, text):
-    """Whether the program draws a trace otherwise: all steps, some from the middle on, or none."""
-    count = text.count("\n")
-    for part in ([], [count // 3, count // 2], [count // 2, 9999999], [9999999, 9999999]):
-        given = subprocess.run([program] + [str(n) for n in part], input=text, capture_output=True,
-                               text=True, check=False)
-        if given.returncode == 0 and given.stdout != drawn(text, *part):
+    """Whether the program draws a trace otherwise: all steps, some from the middle on, or none; in brief or not."""
+    for words, part, brief in parts_of(text):
+        given = subprocess.run([program] + words, input=text, capture_output=True, text=True, check=False)
+        if given.returncode == 0 and given.stdout != drawn(text, *part, brief=brief):
             return True
     return False
 
