@@ -3,6 +3,8 @@
 
 mod explaining;
 mod judging;
+mod telling;
 
 pub use explaining::explain_trace;
 pub use judging::judge;
+pub use telling::tell_trace;
