@@ -33,7 +33,7 @@ no_end : (c : Config) (script : Script) (r : ℕ) (mine : List Event) → stops_
 no_end c script r mine on left none unfinished End.Stopped is = true≢false (sym is ∙ on)
 no_end c script r mine on left none unfinished End.Budget is = left is.1
 no_end c script r mine on left none unfinished (End.Outrun p i) is = none_some (p, i) (sym none ∙ is.1)
-no_end c script r mine on left none unfinished (End.Finished heads) is = true≢false (sym is.2.0 ∙ unfinished)
+no_end c script r mine on left none unfinished (End.Finished heads) is = true≢false (sym is.2 ∙ unfinished)
 
 pub so_far_is : (c : Config) (script : Script) (r : ℕ) (mine : List Event) (stopped spent : Bool) (look : Option (ℕ × ℕ)) (finished : Bool)
     → stops_at r (length mine) script.stops ≡ stopped → (length mine == c.budget) ≡ spent → outrun c r mine ≡ look → is_finished c r mine ≡ finished

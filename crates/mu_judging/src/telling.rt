@@ -11,7 +11,7 @@ use crate::explaining::located;
 use mu_input::{InputEnd, read_trace};
 use mu_mistakes::refused_at;
 use mu_report::Said;
-use mu_telling::account;
+use mu_telling::account_of;
 use std::alloc::Global;
 
 /// What there is to say of what the events of a trace come to: `Told` exactly where they are legal;
@@ -40,7 +40,7 @@ pub fn tell_trace(alloc: Global, bytes: &[u8]) -> Said
             broken,
         };
     }
-    match account(alloc, job, events) {
+    match account_of(alloc, job, events) {
         Ok(account) => Said::Told(account),
         Err(_) => Said::NoMemory,
     }

@@ -1,5 +1,5 @@
 -- What the program says, as text.
-use Rattle.std.specs.Prelude.{ℕ, List, [], ◌∷◌, ⊤, codes}
+use Rattle.std.specs.Prelude.{ℕ, List, [], ◌∷◌, ◌++◌, ⊤, codes}
 use Rattle.mu_input.specs.declared.job.InputEnd.{InputEnd}
 use Rattle.mu_mistakes.specs.Misreads.{HasShortLines, misread_lines, refusal_words}
 use Rattle.mu_report.specs.declared.said.Said.{Said}
@@ -17,8 +17,9 @@ use Rattle.mu_report.specs.Trace.{trace_lines, IsCountable}
 -- what is said, as lines without their ends
 abbrev pub lines_of : Said → List (List ℕ)
 lines_of Usage =
-    codes
-    "usage: mu replay, mu run, mu check, mu why, mu tell, mu trace, mu bulk N, mu live K, mu desk, mu book"
+    (codes
+    "usage: mu replay, mu run, mu check, mu why, mu tell, mu trace, mu bulk N, mu live K, "
+    ++ codes "mu desk, mu book")
     ∷ []
 lines_of (Refused line cause) = refusal_words line cause ∷ []
 lines_of (Ran o) = report_lines o

@@ -31,7 +31,7 @@ pub struct Account {
 /// # Errors
 ///
 /// Want of memory alone.
-pub fn account(alloc: Global, job: Job, events: &[Event]) -> Result<Account, NoMemory>
+pub fn account_of(alloc: Global, job: Job, events: &[Event]) -> Result<Account, NoMemory>
     requires config { IsConfig job.config }
     requires heads { HaveHeads job.config.width job.commands job.config.rows }
     requires legal { IsLegal job.config events.now }

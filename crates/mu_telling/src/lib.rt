@@ -6,4 +6,4 @@ mod account;
 mod lists;
 mod replies;
 
-pub use account::{Account, account};
+pub use account::{Account, account_of};

@@ -3,4 +3,4 @@ use Rattle.mu_known.specs.Commits.{pair_of}
 use Rattle.mu_course.proofs.course.Course.commits.Goals as goal
 
 pub returns : goal.returns
-returns c = λ k r mine stands. ap (map pair_of) c.as_slice.ensures ∙ stands.commits.are
+returns c = λ k r mine stands. ap (map pair_of) c.as_slice.ensures.value ∙ stands.commits.are
