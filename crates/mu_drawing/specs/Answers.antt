@@ -1,5 +1,5 @@
 -- What the call tells, and when each answer comes.
-use Rattle.std.specs.Prelude.{ℕ, ◌≡◌, ◌<◌, ◌≤◌, ◌==◌, ◌⊎◌, Bool, true, false, List, codes, length, take, None, Some, Err, Ok, IfSome, MatchBool}
+use Rattle.std.specs.Prelude.{ℕ, ◌≡◌, ◌<◌, ◌≤◌, ◌==◌, ◌⊎◌, List, codes, length, take, None, Some, Err, Ok, IfSome, MatchBool}
 use Rattle.std.specs.declared.option.Option.{Option}
 use Rattle.std.specs.declared.result.Result.{Result}
 use Rattle.std.specs.Io.KnownBytes.{Appends}
@@ -15,16 +15,15 @@ use Rattle.mu_outcome.specs.Statuses.{code_of}
 use Rattle.mu_outcome.specs.Verdicts.{Judges}
 use Rattle.mu_outcome.specs.declared.status.Status.{Status}
 use Rattle.mu_outcome.specs.declared.verdict.Verdict.{Verdict}
-use Rattle.mu_outcome.specs.declared.verdict.Wrong.{Wrong}
 use Rattle.mu_picture.specs.Drawing.{svg_of}
 use Rattle.mu_picture.specs.Marks.{IsPictureOf}
 use Rattle.mu_picture.specs.Xml.{IsDocument}
 use Rattle.mu_picture.specs.declared.marks.Picture.{Picture}
 use Rattle.mu_report.specs.Said.{text, said_of_end, IsShort}
 use Rattle.mu_report.specs.declared.said.Said.{Said}
-use Rattle.mu_draw.specs.declared.asking.Asked.{Asked}
-use Rattle.mu_draw.specs.declared.drawing.Told.{Told}
-use Rattle.mu_draw.specs.declared.drawing.Undrawn.{Undrawn}
+use Rattle.mu_drawing.specs.declared.asking.Asked.{Asked}
+use Rattle.mu_drawing.specs.declared.drawing.Told.{Told}
+use Rattle.mu_drawing.specs.declared.drawing.Undrawn.{Undrawn}
 
 -- the events are legal, and this is the drawing of the picture of the steps that are asked for, a
 -- document of XML

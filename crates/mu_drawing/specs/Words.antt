@@ -1,11 +1,11 @@
 -- What the words of the command line ask for.
-use Rattle.std.specs.Prelude.{ℕ, List, [], ◌∷◌, string_bytes, None, Some}
+use Rattle.std.specs.Prelude.{ℕ, ◌&&◌, List, [], ◌∷◌, string_bytes, None, Some, if◌then◌else◌, nat_le}
 use Rattle.std.specs.declared.option.Option.{Option}
 use Rattle.std.specs.declared.string.String.{String}
 use Rattle.std.specs.declared.alloc.Global.{Global}
 use Rattle.mu_text.specs.Numbers.{number_of, within}
-use Rattle.mu_draw.specs.declared.asking.Asked.{Asked}
-use Rattle.mu_draw.specs.declared.asking.TheConstants.{LAST_STEP}
+use Rattle.mu_drawing.specs.declared.asking.Asked.{Asked}
+use Rattle.mu_drawing.specs.declared.asking.TheConstants.{LAST_STEP}
 
 -- the steps from the first to the last, where there is one
 abbrev pub asked_to : ℕ → Option ℕ → Option Asked
@@ -27,3 +27,9 @@ asked_of [] = Some (record { first = 0; last = LAST_STEP })
 asked_of (first ∷ []) = None
 asked_of (first ∷ last ∷ []) = asked_of_two (string_bytes first) (string_bytes last)
 asked_of (first ∷ last ∷ more ∷ words) = None
+
+-- the steps from one to another, where they are in order and the last is one that can be named
+abbrev pub asked_steps : ℕ → ℕ → Option Asked
+asked_steps first last =
+    if nat_le first last && nat_le last LAST_STEP
+    then Some (record { first = first; last = last }) else None

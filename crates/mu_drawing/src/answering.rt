@@ -4,8 +4,8 @@ ghost use Rattle.std.specs.Prelude.{◌≡◌, ◌<◌, ◌≤◌, [], ◌∷◌
 ghost use Rattle.std.specs.Io.KnownBytes.{Appends};
 ghost use Rattle.std.specs.Process.{exit_status};
 ghost use Rattle.mu_io.specs.Faults.{Rose};
-ghost use Rattle.mu_draw.specs.Answers.{IsSayable, Tells, TellsOfSource, Wrote, status_for, text_of};
-ghost use Rattle.mu_draw.specs.Words.{asked_of as asked_of_words};
+ghost use Rattle.mu_drawing.specs.Answers.{IsSayable, Tells, TellsOfSource, Wrote, status_for, text_of};
+ghost use Rattle.mu_drawing.specs.Words.{asked_of as asked_of_words};
 
 use crate::asking::{Asked, asked_of};
 use crate::drawing::{Told, told_of};
@@ -123,7 +123,7 @@ fn tell<K: Sink>(sink: &mut K, told: &Told) -> Result<(), WriteFault>
 }
 
 /// The status of what is told, once it is written.
-fn status_of(told: &Told) -> Status
+pub fn status_of(told: &Told) -> Status
     ensures { result ≡ status_for told.now }
 {
     match told {

@@ -1,9 +1,9 @@
 //! What the words of the command line ask for.
 ghost use Rattle.std.specs.Prelude.{◌≡◌, ◌≢◌, IfSome};
 ghost use Rattle.std.specs.declared.io.ErrorKind.TheVariants.{InvalidData};
-ghost use Rattle.mu_draw.specs.Words.{asked_of as asked_of_words, asked_of_two};
-ghost use Rattle.mu_draw.specs.declared.asking.TheConstants.{LAST_STEP};
-ghost use Rattle.mu_draw.specs.declared.drawing.Told.TheVariants.{Usage, Said as SaidOf};
+ghost use Rattle.mu_drawing.specs.Words.{asked_of as asked_of_words, asked_of_two};
+ghost use Rattle.mu_drawing.specs.declared.asking.TheConstants.{LAST_STEP};
+ghost use Rattle.mu_drawing.specs.declared.drawing.Told.TheVariants.{Usage, Said as SaidOf};
 ghost use Rattle.mu_report.specs.declared.said.Said.TheVariants.{NoMemory};
 
 use crate::drawing::Told;

@@ -4,8 +4,8 @@ ghost use Rattle.mu_input.specs.declared.TheConstants.{TRACE_LIMIT};
 ghost use Rattle.mu_model.specs.Contents.{IsConfig};
 ghost use Rattle.mu_model.specs.Legal.{IsLegal};
 ghost use Rattle.mu_input.specs.declared.job.InputEnd.TheVariants.{NoMemory as NoMemoryEnd};
-ghost use Rattle.mu_draw.specs.declared.drawing.Undrawn.TheVariants.{Unread};
-ghost use Rattle.mu_draw.specs.Answers.{Draws, IsDrawingOf, TellsOfEvents, told_with};
+ghost use Rattle.mu_drawing.specs.declared.drawing.Undrawn.TheVariants.{Unread};
+ghost use Rattle.mu_drawing.specs.Answers.{Draws, IsDrawingOf, TellsOfEvents, told_with};
 
 use crate::asking::Asked;
 use mu_check::check;

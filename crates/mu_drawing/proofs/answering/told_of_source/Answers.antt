@@ -1,6 +1,6 @@
 use Rattle.std.proofs.Common.{ℕ, inl, inr, refl}
-use Rattle.mu_draw.proofs.Results.{at_too_long}
-use Rattle.mu_draw.proofs.answering.told_of_source.Goals as goal
+use Rattle.mu_drawing.proofs.Results.{at_too_long}
+use Rattle.mu_drawing.proofs.answering.told_of_source.Goals as goal
 
 pub returns-in-Err-TooLong-clause-told : goal.returns-in-Err-TooLong-clause-told
 returns-in-Err-TooLong-clause-told g c =

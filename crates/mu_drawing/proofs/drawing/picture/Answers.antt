@@ -1,9 +1,9 @@
 use Rattle.std.proofs.Common.{◌≡◌, ℕ, List}
 use Rattle.mu_picture.specs.Drawing.{svg_of}
 use Rattle.mu_picture.specs.Xml.{IsDocument}
-use Rattle.mu_draw.specs.Answers.{IsDrawingOf}
-use Rattle.mu_draw.proofs.Results.{if_ok}
-use Rattle.mu_draw.proofs.drawing.picture.Goals as goal
+use Rattle.mu_drawing.specs.Answers.{IsDrawingOf}
+use Rattle.mu_drawing.proofs.Results.{if_ok}
+use Rattle.mu_drawing.proofs.drawing.picture.Goals as goal
 
 pub returns : goal.returns
 returns c =
