@@ -70,3 +70,4 @@ mod StandsFirsts
 mod Tables
 mod Taking
 mod Telling
+mod Writes
