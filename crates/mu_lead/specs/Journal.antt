@@ -1,16 +1,18 @@
 -- Where the listing of a replica stands, by its journal alone.
-use Rattle.std.specs.Prelude.{Bool, List, None, Some, [], get_or, if◌then◌else◌, max, nat_le, nat_lt, replicate, set, ℕ, ◌+◌, ◌==◌, ◌||◌, ◌∷◌, ◌≡◌}
+use Rattle.std.specs.Prelude.{Bool, List, None, Some, [], false, get_or, if◌then◌else◌, max, nat_le, nat_lt, replicate, set, true, ℕ, ◌*◌, ◌+◌, ◌/◌, ◌==◌, ◌||◌, ◌∷◌, ◌≡◌}
 use Rattle.std.specs.declared.option.Option.{Option}
 use Rattle.mu_model.specs.declared.config.Config.{Config}
 use Rattle.mu_model.specs.declared.event.Answer.{Answer}
 use Rattle.mu_model.specs.declared.event.Event.{Event}
 use Rattle.mu_model.specs.declared.event.Verb.{Verb}
 use Rattle.mu_model.specs.Contents.{row_count}
-use Rattle.mu_model.specs.Histories.{or_zero}
+use Rattle.mu_model.specs.Entering.{any_min_read}
+use Rattle.mu_model.specs.Histories.{greatest, or_zero}
 use Rattle.mu_model.specs.Knowledge.{known}
-use Rattle.mu_model.specs.Leaderships.{is_member, proposal_number}
+use Rattle.mu_model.specs.Leaderships.{is_member, leadership, number_put, proposal_number}
 use Rattle.mu_model.specs.Parts.{IsPossible}
 use Rattle.mu_model.specs.Scores.{leader}
+use Rattle.mu_model.specs.Steps.{is_named}
 use Rattle.mu_model.specs.Stretches.{is_replication}
 use Rattle.mu_lead.specs.declared.lead.Lead.{Lead}
 use Rattle.mu_lead.specs.declared.place.Place.{Place}
@@ -130,15 +132,50 @@ place_after c r (e ∷ past) =
     else Place.Ask 0)
     else place_after c r past
 
--- the verb that is due, by the journal, under the number b
-abbrev pub due_after : Config → ℕ → ℕ → List Event → Option Verb
-due_after c r b mine =
+-- the least number of r, from 8 on, that is above m
+abbrev pub least_above : ℕ → ℕ → ℕ
+least_above r m =
+    if nat_lt m 8 then 8 + r
+    else (if nat_lt m (m / 8 * 8 + r) then m / 8 * 8 + r else m / 8 * 8 + 8 + r)
+
+-- the number, where there is one, else the least of r above all that it read and put
+abbrev pub number_or : ℕ → List Event → Option ℕ → ℕ
+number_or r mine (Some b) = b
+number_or r mine None =
+    least_above r
+    (max (greatest (λ e. any_min_read r e.by e.verb e.answer) (leadership r mine))
+    (greatest (λ e. number_put r e.by e.verb) mine))
+
+-- the number that r puts: that of its leadership, or the next one where it has none
+abbrev pub number_due : ℕ → List Event → ℕ
+number_due r mine = number_or r mine (proposal_number r mine)
+
+-- the verb that is due, by the journal alone
+abbrev pub due_after : Config → ℕ → List Event → Option Verb
+due_after c r mine =
     if leader c r mine == r
-    then verb_at c b (known c r mine) (tables_at c r mine).up (tables_at c r mine).written
-    (place_after c r mine)
+    then verb_at c (number_due r mine) (known c r mine) (tables_at c r mine).up
+    (tables_at c r mine).written (place_after c r mine)
     else None
 
--- the leader is where its journal has it
-pub record IsWhere (mine : List Event) (l : Lead) : Type 0 where
-  pub place : l.place ≡ place_after l.config l.id mine
-  pub tables : tables_of l ≡ tables_at l.config l.id mine
+-- the leader is where the journal of r has it, and at the first ask where no leadership is under way
+pub record IsWhere (c : Config) (r : ℕ) (mine : List Event) (l : Lead) : Type 0 where
+  pub place : l.place ≡ place_after c r mine
+  pub tables : tables_of l ≡ tables_at c r mine
+  pub idle : l.under_way ≡ false → l.place ≡ Place.Ask 0
+
+-- by the answer to the verb that was due, in a turn in which r is named, it is there again
+abbrev pub PlacesNext : List Event → Lead → List ℕ → Answer → Lead → Type 0
+PlacesNext mine old values answer new =
+    (verb : Verb) → verb_of old (known old.config old.id mine) ≡ Some verb
+    → IsPossible old.config old.id (record { by = old.id; verb = verb; answer = answer } ∷ mine)
+    → values ≡ known_told old.config old.id mine old.id verb answer
+    → is_replication mine (record { by = old.id; verb = verb; answer = answer }) ≡ true
+    → is_named old.config old.id mine ≡ true → IsWhere old.config old.id mine old
+    → IsWhere old.config old.id (record { by = old.id; verb = verb; answer = answer } ∷ mine) new
+
+-- the leader was told that a lower replica is named: its tables are those of the journal, and it
+-- asks anew next
+pub record HasLeft (c : Config) (r : ℕ) (mine : List Event) (l : Lead) : Type 0 where
+  pub place : l.place ≡ Place.Ask 0
+  pub tables : tables_of l ≡ tables_at c r mine

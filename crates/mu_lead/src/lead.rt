@@ -14,7 +14,7 @@ ghost use Rattle.mu_lead.specs.Causes.{CausesAt};
 ghost use Rattle.mu_lead.specs.Confirmations.{ConfirmsAt};
 ghost use Rattle.mu_lead.specs.Elections.{ElectsAt};
 ghost use Rattle.mu_lead.specs.Evidence.{ExplainsAt};
-ghost use Rattle.mu_lead.specs.Journal.{WritesDue, WritesNext};
+ghost use Rattle.mu_lead.specs.Journal.{IsWhere, PlacesNext, WritesDue, WritesNext};
 ghost use Rattle.mu_lead.specs.Lasting.{Follows, FollowsDue, KeepsNext};
 ghost use Rattle.mu_lead.specs.Raising.{RaisesAt};
 ghost use Rattle.mu_lead.specs.Resigning.{IsTold};
@@ -78,6 +78,7 @@ impl Lead {
         ensures joins { IfOk result (λ lead. JoinsAt lead.config lead.id [] lead.place) }
         ensures causes { IfOk result (λ lead. CausesAt lead.config lead.id [] lead.place) }
         ensures elects { IfOk result (λ lead. ElectsAt lead.config lead.id [] lead.place) }
+        ensures placed { IfOk result (λ lead. IsWhere lead.config lead.id [] lead) }
         ensures unnamed { IfOk result (λ lead. lead.named ≡ false) }
         ensures idle { IfOk result (λ lead. lead.under_way ≡ false) }
     {
@@ -307,6 +308,8 @@ impl Lead {
         ensures listed { HoldsValues self.old.config known.now log.now
             → Follows mine self.old known.now answer self.new }
         ensures writes { WritesNext mine self.old known.now answer self.new }
+        ensures placed { HoldsValues self.old.config known.now log.now
+            → PlacesNext mine self.old known.now answer self.new }
         ensures tells { TellsNext mine self.old known.now answer result }
         ensures config { self.new.config ≡ self.old.config }
         ensures id { self.new.id ≡ self.old.id }
