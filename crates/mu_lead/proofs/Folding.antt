@@ -1,8 +1,8 @@
 -- The leader's place, tables and number are those of its journal.
-use Rattle.std.proofs.Common.{◌≡◌, ◌≢◌, ℕ, ◌+◌, ◌*◌, ◌/◌, ◌%◌, ◌<◌, ◌≤◌, List, [], ◌∷◌, Bool, true, false, None, Some, get_or, inl, inr, ap, arith, max, refl, subst, sym, ◌∙◌, true≢false, ◌&&◌, ◌||◌}
+use Rattle.std.proofs.Common.{◌≡◌, ℕ, ◌+◌, ◌*◌, ◌/◌, ◌%◌, ◌<◌, ◌≤◌, List, ◌∷◌, Bool, true, false, None, Some, get_or, inl, inr, ap, arith, max, refl, subst, sym, ◌∙◌, true≢false, ◌&&◌, ◌||◌}
 use Rattle.std.specs.Prelude.{if◌then◌else◌, nat_lt, not, ◌==◌, ◌⊎◌}
 use Rattle.std.specs.declared.option.Option.{Option}
-use Rattle.std.proofs.lemmas.Bool.{lt-ltb, ltb-false, ltb-true}
+use Rattle.std.proofs.lemmas.Bool.{ltb-false, ltb-true}
 use Rattle.mu_model.specs.declared.config.Config.{Config}
 use Rattle.mu_model.specs.declared.event.Answer.{Answer}
 use Rattle.mu_model.specs.declared.event.Event.{Event}
@@ -17,7 +17,7 @@ use Rattle.mu_model.specs.Parts.{IsPossible}
 use Rattle.mu_model.specs.Scores.{leader}
 use Rattle.mu_model.specs.Steps.{is_named}
 use Rattle.mu_model.specs.Stretches.{is_replication}
-use Rattle.mu_model.proofs.Basics.{event_by, none_some, same_some}
+use Rattle.mu_model.proofs.Basics.{event_by, same_some}
 use Rattle.mu_lead.specs.declared.lead.Lead.{Lead}
 use Rattle.mu_lead.specs.declared.note.AbortCause.{AbortCause}
 use Rattle.mu_lead.specs.declared.note.Note.{Note}
@@ -29,7 +29,6 @@ use Rattle.mu_lead.specs.Lasting.{FollowsDue, tables_of}
 use Rattle.mu_lead.specs.Listing.{Tables, next_place}
 use Rattle.mu_lead.specs.Losses.{LosesEntering, LosesReading}
 use Rattle.mu_lead.specs.Resigning.{IsTold, beat_of}
-use Rattle.mu_lead.specs.Rooms.{gives_up}
 use Rattle.mu_lead.specs.Saying.{NotesDue, ShowsHigher}
 use Rattle.mu_lead.specs.Standing.{At, HasHeeded, StandsFor, known_told, verb_at, verb_of}
 use Rattle.mu_lead.proofs.Lates.{fence_ends}

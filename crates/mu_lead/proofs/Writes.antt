@@ -1,5 +1,5 @@
 -- The leader's tables after each step: what a place writes is what the step's verb does.
-use Rattle.std.proofs.Common.{Bool, List, None, Some, [], ap, arith, cond, false, get_or, length, refl, suc, subst, sym, true, true≢false, zero, ℕ, ◌+◌, ◌<◌, ◌==◌, ◌||◌, ◌∙◌, ◌∷◌, ◌≡◌, ◌≢◌}
+use Rattle.std.proofs.Common.{Bool, List, Some, [], ap, arith, cond, false, get_or, length, refl, suc, subst, sym, true, true≢false, zero, ℕ, ◌+◌, ◌<◌, ◌||◌, ◌∙◌, ◌∷◌, ◌≡◌}
 use Rattle.std.specs.Prelude.{if◌then◌else◌, nat_le, nat_lt, set}
 use Rattle.std.specs.declared.option.Option.{Option}
 use Rattle.std.proofs.lemmas.Bool.{le-ltb, lt-ltb}
@@ -17,7 +17,7 @@ use Rattle.mu_lead.specs.Journal.{WritesDue, WritesFrom, WritesTo, fuo_in, set_w
 use Rattle.mu_lead.specs.Lasting.{tables_of}
 use Rattle.mu_lead.specs.Leading.{end_of}
 use Rattle.mu_lead.specs.Listing.{Tables}
-use Rattle.mu_lead.specs.Standing.{StandsFor, known_told, verb_at, verb_of}
+use Rattle.mu_lead.specs.Standing.{known_told, verb_at}
 use Rattle.mu_lead.proofs.Taking.{HasVerb, verb_is}
 
 -- tables of these lists

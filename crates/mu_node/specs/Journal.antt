@@ -27,6 +27,10 @@ may_lead_before c r mine = is_odd (length mine) || was_named c r mine
 abbrev pub may_lead : Config → ℕ → List Event → Bool
 may_lead c r mine = if is_odd (length mine) then is_named c r mine else was_named c r mine
 
+-- in a turn of the leader the step is what its listing has due by the journal alone, else a beat
+abbrev pub IsListed : Config → ℕ → List Event → Event → Type 0
+IsListed c r mine e = is_odd (length mine) ≡ true → e.verb ≡ verb_or_beat (due_after c r mine)
+
 -- r made the event as it was due, in a turn of the leader by the journal alone; its leader leads in
 -- the background only where it was named, and no look had found a place used again that r still had
 -- to read
@@ -35,7 +39,7 @@ pub record WasMade (c : Config) (r : ℕ) (mine : List Event) (e : Event) : Type
   pub going : outrun c r mine ≡ None
   pub lead : Lead
   pub made : IsMade c r mine lead e.verb
-  pub listed : is_odd (length mine) ≡ true → e.verb ≡ verb_or_beat (due_after c r mine)
+  pub listed : IsListed c r mine e
   pub leads :
       is_odd (length mine) ≡ false → leads_at lead.place ≡ true → was_named c r mine ≡ true
 

@@ -1,4 +1,4 @@
-use Rattle.std.proofs.Common.{arith, get_or, length, ◌<◌}
+use Rattle.std.proofs.Common.{arith}
 use Rattle.mu_model.specs.Leaderships.{is_member}
 use Rattle.mu_lead.proofs.Writes.{where_is}
 use Rattle.mu_lead.proofs.lead.Lead.brought_to.Goals as goal
