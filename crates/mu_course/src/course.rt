@@ -6,6 +6,7 @@ ghost use Rattle.mu_model.specs.Contents.{IsConfig};
 ghost use Rattle.mu_model.specs.Ends.{is_finished as is_finished_of};
 ghost use Rattle.mu_model.specs.Leaderships.{begins_leadership};
 ghost use Rattle.mu_model.specs.Parts.{IsPossible};
+ghost use Rattle.mu_model.specs.Scores.{is_failed as is_failed_by, leader as leader_of};
 ghost use Rattle.mu_model.specs.Steps.{is_beat as is_beat_event};
 ghost use Rattle.mu_model.specs.Stretches.{is_odd};
 ghost use Rattle.mu_course.specs.Courses.{StandsForCourse, TellsTurn};
@@ -131,6 +132,22 @@ impl Course {
         let begun = self.replica.leadership.has_begun();
         let over = self.replica.leadership.is_over();
         is_under_way(begun, over, self.resigned)
+    }
+
+    /// Whom its scores name.
+    pub fn named(&self) -> u8
+        ensures { (c : Settings) → (r : ℕ) → (mine : List Made) → StandsForCourse c r mine self.now
+            → result ≡ leader_of c r mine }
+    {
+        self.scores.leader()
+    }
+
+    /// Whether it holds `q` to be failed. Of a replica that isn't there the answer says nothing.
+    pub fn fails(&self, q: u8) -> bool
+        ensures { (c : Settings) → (r : ℕ) → (mine : List Made) → q < c.replicas
+            → StandsForCourse c r mine self.now → result ≡ is_failed_by r q mine }
+    {
+        !self.scores.alive(q)
     }
 
     /// Whether the next event gives way to another leader.
