@@ -154,6 +154,22 @@ impl Course {
         is_under_way(begun, over, self.resigned)
     }
 
+    /// Whom its scores name.
+    pub fn named(&self) -> u8
+        ensures { (c : Settings) → (r : ℕ) → (mine : List Made) → StandsForCourse c r mine self.now
+            → result ≡ leader_of c r mine }
+    {
+        self.scores.leader()
+    }
+
+    /// Whether it holds `q` to be failed. Of a replica that isn't there the answer says nothing.
+    pub fn fails(&self, q: u8) -> bool
+        ensures { (c : Settings) → (r : ℕ) → (mine : List Made) → q < c.replicas
+            → StandsForCourse c r mine self.now → result ≡ is_failed_by r q mine }
+    {
+        !self.scores.alive(q)
+    }
+
     /// Whether the next event gives way to another leader.
     fn yields(&self, event: &Event) -> bool
         ensures { (c : Settings) → (r : ℕ) → (mine : List Made) → StandsForCourse c r mine self.now
@@ -227,22 +243,6 @@ impl Course {
             → map pair_of result.now ≡ commits_of c r mine }
     {
         self.commits.as_slice()
-    }
-
-    /// Whom its scores name.
-    pub fn named(&self) -> u8
-        ensures { (c : Settings) → (r : ℕ) → (mine : List Made) → StandsForCourse c r mine self.now
-            → result ≡ leader_of c r mine }
-    {
-        self.scores.leader()
-    }
-
-    /// Whether it holds `q` to be failed.
-    pub fn is_failed(&self, q: u8) -> bool
-        ensures { (c : Settings) → (r : ℕ) → (mine : List Made) → q < c.replicas
-            → StandsForCourse c r mine self.now → result ≡ is_failed_by r q mine }
-    {
-        !self.scores.alive(q)
     }
 
     /// How it has ended so far, by its script and its budget.

@@ -6,6 +6,7 @@ ghost use Rattle.mu_model.specs.Histories.{history, part};
 ghost use Rattle.mu_model.specs.Knowledge.{applied as applied_of, commits as commits_of, known as known_of};
 ghost use Rattle.mu_model.specs.Legal.{IsLegal, IsLegalHistory};
 ghost use Rattle.mu_model.specs.Regions.{fence as fence_of, fence_grant};
+ghost use Rattle.mu_model.specs.Scores.{is_failed, leader};
 ghost use Rattle.mu_model.specs.declared.config.Config.{Config as Settings};
 ghost use Rattle.mu_course.specs.Walks.{StandsForWalk, TellsStep, fence_shown, grants_shown};
 ghost use Rattle.mu_course.specs.Resigning.{is_leading};
@@ -120,6 +121,28 @@ impl Walk {
         match self.courses.get(usize::from(r)) {
             None => EndSoFar::Running,
             Some(course) => course.end(config, script),
+        }
+    }
+
+    /// Whom the scores of the replica name.
+    pub fn named(&self, r: u8) -> u8
+        ensures { (past : List Made) → (c : Settings) → r < c.replicas
+            → StandsForWalk c past self.now → result ≡ leader c r (part r past) }
+    {
+        match self.courses.get(usize::from(r)) {
+            None => 0,
+            Some(course) => course.named(),
+        }
+    }
+
+    /// Whether the replica `r` holds `q` to be failed.
+    pub fn fails(&self, r: u8, q: u8) -> bool
+        ensures { (past : List Made) → (c : Settings) → r < c.replicas → q < c.replicas
+            → StandsForWalk c past self.now → result ≡ is_failed r q (part r past) }
+    {
+        match self.courses.get(usize::from(r)) {
+            None => false,
+            Some(course) => course.fails(q),
         }
     }
 

@@ -1,6 +1,7 @@
 mod Allowing
 mod Asking
 mod Bringing
+mod Calm
 pub mod Causes
 mod Commits
 pub mod Confirms
@@ -8,7 +9,8 @@ mod Copying
 mod Due
 mod ElectionSteps
 pub mod Elections
-mod Folding
+pub mod Folding
+mod FuosBeside
 mod Gathering
 mod Firsts
 mod Going
@@ -19,6 +21,7 @@ mod Lates
 mod Laws
 mod Listed
 mod Looks
+mod LooksBeside
 mod Losses
 mod Marks
 mod Misses
@@ -67,3 +70,4 @@ mod StandsFirsts
 mod Tables
 mod Taking
 mod Telling
+mod Writes

@@ -1,5 +1,5 @@
 //! Catching up, and bringing up members that are behind.
-ghost use Rattle.std.specs.Prelude.{Bool, IsTrue, List, None, Some, false, get_or, length, nat_lt, not, true, ℕ, ◌==◌, ◌%◌, ◌&&◌, ◌+◌, ◌<◌, ◌∷◌, ◌≡◌, ◌≤◌};
+ghost use Rattle.std.specs.Prelude.{Bool, IsTrue, List, None, Some, false, get_or, length, nat_lt, not, true, ℕ, ◌==◌, ◌%◌, ◌&&◌, ◌+◌, ◌<◌, ◌∷◌, ◌≡◌, ◌≢◌, ◌≤◌};
 ghost use Rattle.std.specs.declared.option.Option.{Option};
 ghost use Rattle.mu_model.specs.declared.event.Answer.{Answer as SomeAnswer};
 ghost use Rattle.mu_model.specs.declared.event.Event.{Event as SomeEvent};
@@ -11,8 +11,10 @@ ghost use Rattle.mu_model.specs.Parts.{IsPossible};
 ghost use Rattle.mu_model.specs.Picks.{is_past as is_past_answer};
 ghost use Rattle.mu_model.specs.Placing.{is_within_ring};
 ghost use Rattle.mu_lead.specs.declared.place.Place.{Place as SomePlace};
+ghost use Rattle.mu_lead.specs.declared.place.Then.{Then as SomeThen};
 ghost use Rattle.mu_lead.specs.Leading.{AtWiden, Behind, HasMost, HasPutNone, HaveAtMost, HaveFew, IsClear, IsDone, IsMember, Leads, Level, RaisedBelow, end_of as end_of_known};
 ghost use Rattle.mu_known.specs.Offers.{IsFirst};
+ghost use Rattle.mu_lead.specs.Journal.{WritesFrom};
 ghost use Rattle.mu_lead.specs.Lasting.{FollowsFrom, FollowsLook, tables_of};
 ghost use Rattle.mu_lead.specs.Listing.{after_copy, after_fuo, after_members, bring_up, bring_up_from, farther, learn_from};
 ghost use Rattle.mu_lead.specs.Notes.{value_committed};
@@ -54,6 +56,8 @@ impl Lead {
         ensures config { self.new.config ≡ self.old.config }
         ensures id { self.new.id ≡ self.old.id }
         ensures named { self.new.named ≡ self.old.named }
+        ensures writes { WritesFrom self.old (SomePlace.ReadFuo p source) known.now (SomeVerb.Fuo p)
+            (SomeAnswer.Number u) self.new }
         ensures note { result ≡ SomeNote.Working }
         ensures going { self.new.under_way ≡ going_after self.old.under_way result }
         ensures listed { FollowsFrom self.old (SomePlace.ReadFuo p source) known.now
@@ -118,6 +122,7 @@ impl Lead {
         ensures config { self.new.config ≡ self.old.config }
         ensures id { self.new.id ≡ self.old.id }
         ensures named { self.new.named ≡ self.old.named }
+        ensures tables { tables_of self.new ≡ tables_of self.old }
         ensures note { length known.now < 65536
             → result ≡ note_of_learning (length known.now) answer }
         ensures going { self.new.under_way ≡ going_after self.old.under_way result }
@@ -161,7 +166,7 @@ impl Lead {
             → IsDone then k p
             → end_of_known self.now.config self.now.id mine ≤ get_or self.now.up k 0)
             → HaveFew self.now.config self.now.id mine self.now.up then p
-            → HoldsAt mine self.now result }
+            → then ≢ SomeThen.Joined → HoldsAt mine self.now result }
         ensures listed { (mine : List SomeEvent) → Stands mine self.now
             → known.now ≡ known_of self.now.config self.now.id mine
             → result ≡ bring_up_from self.now.config self.now.id mine (tables_of self.now) p then }
@@ -236,6 +241,9 @@ impl Lead {
         ensures config { self.new.config ≡ self.old.config }
         ensures id { self.new.id ≡ self.old.id }
         ensures named { self.new.named ≡ self.old.named }
+        ensures writes { (values : List ℕ)
+            → WritesFrom self.old (SomePlace.WidenBehind p then) values
+            (SomeVerb.RaiseFuo p (get_or self.old.up p 0)) SomeAnswer.Done self.new }
         ensures note { result ≡ SomeNote.Working }
         ensures going { self.new.under_way ≡ going_after self.old.under_way result }
         ensures listed { (values : List ℕ)
@@ -257,6 +265,7 @@ impl Lead {
         ensures config { self.new.config ≡ self.old.config }
         ensures id { self.new.id ≡ self.old.id }
         ensures named { self.new.named ≡ self.old.named }
+        ensures tables { tables_of self.new ≡ tables_of self.old }
         ensures note { result ≡ SomeNote.Working }
         ensures going { self.new.under_way ≡ going_after self.old.under_way result }
         ensures listed { (values : List ℕ)
@@ -284,6 +293,7 @@ impl Lead {
         ensures config { self.new.config ≡ self.old.config }
         ensures id { self.new.id ≡ self.old.id }
         ensures named { self.new.named ≡ self.old.named }
+        ensures tables { tables_of self.new ≡ tables_of self.old }
         ensures note { result ≡ SomeNote.Working }
         ensures going { self.new.under_way ≡ going_after self.old.under_way result }
         ensures listed { (values : List ℕ)
@@ -311,6 +321,10 @@ impl Lead {
         ensures config { self.new.config ≡ self.old.config }
         ensures id { self.new.id ≡ self.old.id }
         ensures named { self.new.named ≡ self.old.named }
+        ensures writes { WritesFrom self.old (SomePlace.PutBehind p then) known.now
+            (SomeVerb.PutSlot p (get_or self.old.up p 0) self.old.number
+            (get_or known.now (get_or self.old.up p 0) 0))
+            SomeAnswer.Done self.new }
         ensures note { result ≡ SomeNote.Working }
         ensures going { self.new.under_way ≡ going_after self.old.under_way result }
         ensures listed { FollowsFrom self.old (SomePlace.PutBehind p then) known.now
@@ -355,11 +369,12 @@ impl Lead {
     pub(crate) fn took_raise_behind(&mut self, p: u8, then: Then, known: &[u16]) -> Note
         ensures stands { Takes self.old (SomePlace.RaiseBehind p then) known.now
             (SomeVerb.RaiseFuo p (get_or self.old.up p 0)) SomeAnswer.Done self.new }
-        ensures up { self.new.up ≡ self.old.up }
         ensures quiet { value_committed result ≡ None }
         ensures config { self.new.config ≡ self.old.config }
         ensures id { self.new.id ≡ self.old.id }
         ensures named { self.new.named ≡ self.old.named }
+        ensures writes { WritesFrom self.old (SomePlace.RaiseBehind p then) known.now
+            (SomeVerb.RaiseFuo p (get_or self.old.up p 0)) SomeAnswer.Done self.new }
         ensures note { result ≡ note_of_raise p then }
         ensures going { self.new.under_way ≡ going_after self.old.under_way result }
         ensures listed { FollowsFrom self.old (SomePlace.RaiseBehind p then) known.now
@@ -388,6 +403,7 @@ impl Lead {
         ensures config { self.new.config ≡ self.old.config }
         ensures id { self.new.id ≡ self.old.id }
         ensures named { self.new.named ≡ self.old.named }
+        ensures tables { tables_of self.new ≡ tables_of self.old }
         ensures note { is_working_or_lost result ≡ true }
         ensures going { self.new.under_way ≡ going_after self.old.under_way result }
         ensures over { (mine : List SomeEvent) → StandsFor mine self.old
