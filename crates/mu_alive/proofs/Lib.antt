@@ -6,13 +6,16 @@ pub mod Cutting
 mod Enough
 pub mod Failing
 pub mod Fetching
+mod Following
 mod Granting
 mod LastNoting
 mod Lasting
 mod Moments
 mod Noting
+mod OwnNumbers
 pub mod TurnFences
 pub mod TurnGrants
 mod TurnNumbers
+pub mod TurnOwners
 pub mod Turns
 mod Unhindered

@@ -2,6 +2,7 @@ pub mod Alone
 pub mod Calm
 pub mod Enough
 pub mod Failing
+pub mod Following
 pub mod Last
 pub mod Lone
 pub mod Turns

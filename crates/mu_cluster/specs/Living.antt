@@ -1,4 +1,4 @@
--- What a replay comes to where its budget is enough.
+-- What a replay comes to if its budget is enough.
 use Rattle.std.specs.Prelude.{Bool, List, Some, [], false, not, true, ℕ, ◌<◌, ◌==◌, ◌||◌, ◌∷◌, ◌≡◌, ◌≤◌}
 use Rattle.std.specs.List.{slice_get}
 use Rattle.mu_alive.specs.Enough.{HasLargeRing, steps_enough}
@@ -27,8 +27,8 @@ pub record LeavesMajority (c : Config) (stops : List Stop) : Type 0 where
   pub first : is_left stops 0 ≡ true
   pub majority : majority_of c.replicas ≤ count_below c.replicas (is_left stops)
 
--- where its script has no pause and leaves a majority with replica 0, its ring is large and its
--- budget enough, replica 0 has every row in its log, should these replicas have spent their budgets
+-- if its script has no pause and leaves a majority with replica 0, its ring is large and its budget
+-- enough, replica 0 has every row in its log, should these replicas have spent their budgets
 abbrev pub AppliesAllWithFirst : Outcome → Type 0
 AppliesAllWithFirst o =
     o.job.script.pauses ≡ [] → LeavesMajority o.job.config o.job.script.stops
@@ -44,13 +44,12 @@ HasAllWithFirst o =
     → HasLargeRing o.job.config → steps_enough o.job.config ≤ o.job.config.budget
     → HasAllCommands o
 
--- what holds of the replicas where their budgets are spent: where replica 0 isn't stopped, and where
--- any are
+-- what holds of the replicas if their budgets are spent: if replica 0 isn't stopped, and if any are
 pub record AppliesAllUnpaused (o : Outcome) : Type 0 where
   pub first : AppliesAllWithFirst o
   pub last : AppliesAllAfterStops o
 
--- a replay stays alive: it has every command where replica 0 isn't stopped, and where leaders are
+-- a replay stays alive: it has every command if replica 0 isn't stopped, and if leaders are
 pub record HasAllInTime (o : Outcome) : Type 0 where
   pub first : HasAllWithFirst o
   pub last : HasAllAfterStops o
