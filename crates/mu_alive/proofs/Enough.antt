@@ -228,7 +228,7 @@ min_on a e past same is =
     any false h = h
 
 -- so what comes after the first minimum is calm
-puts_inside : (c : Config) (a : ℕ) (past : List Event) (e : Event) → IsPossible c a (e ∷ past) → (p i b v : ℕ) → e.verb ≡ Verb.PutSlot p i b v → p < c.replicas
+pub puts_inside : (c : Config) (a : ℕ) (past : List Event) (e : Event) → IsPossible c a (e ∷ past) → (p i b v : ℕ) → e.verb ≡ Verb.PutSlot p i b v → p < c.replicas
 puts_inside c a past e possible p i b v is = go e.verb (parts_shorten_law c a past e possible).allowed.may is
   where
     go : (verb : Verb) → Needs c a past verb → verb ≡ Verb.PutSlot p i b v → p < c.replicas

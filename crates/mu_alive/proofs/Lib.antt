@@ -1,6 +1,7 @@
 mod Alone
 pub mod Applying
 pub mod Beginning
+mod Bringing
 mod Calm
 pub mod Cutting
 mod Enough

@@ -1,4 +1,5 @@
 pub mod Alone
+pub mod Bringing
 pub mod Calm
 pub mod Enough
 pub mod Failing

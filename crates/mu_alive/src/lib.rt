@@ -2,6 +2,7 @@
 #![tactic(auto)]
 
 ghost use Rattle.mu_alive.specs.Alone.{LoneAskersLead};
+ghost use Rattle.mu_alive.specs.Bringing.{FollowersAreBroughtUp};
 ghost use Rattle.mu_alive.specs.Calm.{CalmLeadersCommit};
 ghost use Rattle.mu_alive.specs.Enough.{LoneLeadersApplyAll, LoneLeadersKnowAll};
 ghost use Rattle.mu_alive.specs.Failing.{HeldFailedInTime};
@@ -64,4 +65,9 @@ pub fn unhindered_leaders_commit()
 /// A replica that doesn't lead applies what is decided in time, and raises its head to it.
 pub fn followers_catch_up()
     ensures { FollowersCatchUp }
+{}
+
+/// A region that grants to a leader becomes a member, and is brought to what the leader knows.
+pub fn followers_are_brought_up()
+    ensures { FollowersAreBroughtUp }
 {}
