@@ -85,11 +85,14 @@ def write_cases(folder, cases):
                 words.writelines(word + "\n" for word in case.words)
 
 
-def try_cases(crate, cases):
-    """Builds a program without proofs, once, and runs it for each case: the answers, in order."""
+def try_cases(crate, cases, *flags):
+    """Builds a program without proofs, once, and runs it for each case: the answers, in order.
+
+    Flags of `rt try` hold for each run, as `--fail-alloc 20`: the twentieth allocation fails.
+    """
     with tempfile.TemporaryDirectory(prefix="cases-") as folder:
         write_cases(folder, cases)
-        done = rt_try(crate, "--cases", folder)
+        done = rt_try(crate, *flags, "--cases", folder)
     text = done.stderr.decode(errors="replace")
     if not re.search(r"^cases=\d", text, re.MULTILINE):
         raise NotBuilt(text.strip() or f"rt ended with status {done.returncode} and said nothing")

@@ -98,8 +98,8 @@ fn arrive<R: Threads + Wait + Sync, G: Gate + Sync>(
     arrived
 }
 
-/// All clients send, and one more branch takes as many commands as there are: where no thread can be
-/// made for it, it comes last, and finds all of them in the line.
+/// All clients send, and one more branch takes as many commands as there are: where no thread can
+/// be made for it, it comes last, and finds all of them in the line.
 fn pass_through<R: Threads + Wait + Sync, G: Gate + Sync>(
     rt: &R,
     line: &Line,

@@ -101,8 +101,8 @@ Stops left before after End.TooLong =
 Stops left before after End.ReadFault = after ≡ before
 Stops left before after End.NoMemory = after ≡ before
 
--- a fault comes where the count of the source's or the sink's faults rose; at each other end neither
--- did
+-- a fault comes where the count of the source's or the sink's faults rose; at each other end
+-- neither did
 abbrev pub HasFault : ℕ → ℕ → ℕ → ℕ → End → Type 0
 HasFault read now_read wrote now_wrote End.ReadFault = Rose read now_read
 HasFault read now_read wrote now_wrote End.WriteFault = Rose wrote now_wrote

@@ -76,10 +76,10 @@ fn is_legal(said: &Said) -> bool
 ///
 /// # Errors
 ///
-/// A fault of the source, where at most the limit was taken of the input; more bytes than the limit;
-/// want of memory for the input, where nothing was taken: each before anything is written. Or a fault
-/// of the sink, where the lines of the first traces are written, and of the next line so many bytes
-/// as the sink had taken.
+/// A fault of the source, where at most the limit was taken of the input; more bytes than the
+/// limit; want of memory for the input, where nothing was taken: each before anything is written.
+/// Or a fault of the sink, where the lines of the first traces are written, and of the next line so
+/// many bytes as the sink had taken.
 pub fn judge_input<S: Source, K: Sink>(
     alloc: Global,
     source: &mut S,

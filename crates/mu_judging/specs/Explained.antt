@@ -43,8 +43,8 @@ pub record LeavesAt (bytes : List ℕ) (misread : Misread) : Type 0 where
   pub leaves : trace bytes ≡ Leaves misread.line misread.cause
   pub tells : IsMisread bytes misread
 
--- a refusal in words where the bytes leave the grammar, and else where the trace breaks and why; want of
--- memory can come at any bytes, and nothing else is said
+-- a refusal in words if the bytes leave the grammar, and else where the trace breaks and why; want
+-- of memory can come at any bytes, and nothing else is said
 abbrev pub ExplainsOf : List ℕ → Said → Type 0
 ExplainsOf bytes (Said.Misread misread) = LeavesAt bytes misread
 ExplainsOf bytes (Said.Explained events line broken) = IsExplained bytes events line broken

@@ -38,7 +38,7 @@ pub fn explain_trace(alloc: Global, bytes: &[u8]) -> Said
             line,
             broken,
         },
-        Err(_) => Said::NoMemory,
+        Err(NoMemory) => Said::NoMemory,
     }
 }
 

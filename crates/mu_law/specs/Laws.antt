@@ -124,8 +124,8 @@ RowsAreRight c events =
 abbrev pub HasToRead : Config → ℕ → List Event → ℕ → Type 0
 HasToRead c r past i = (region_head r past ≤ i) ⊎ (length (known c r (part r past)) ≤ i)
 
--- a look made now by a replica at any region, at a position that it still has to read, is `Past` only
--- where a mark of the replica is chosen
+-- a look made now by a replica at any region, at a position that it still has to read, is `Past`
+-- only if a mark of the replica is chosen
 abbrev pub KeepsPlaces : Config → List Event → Type 0
 KeepsPlaces c events =
     (r p i : ℕ) → r < c.replicas → HasToRead c r (history events) i

@@ -1,4 +1,4 @@
--- What there is to say, command by command. Nothing else is said than what a relation lists.
+-- What is said of each command. Nothing else is said than what a relation lists.
 use Rattle.std.specs.Prelude.{ℕ, ◌≡◌, List, None, ⊤}
 use Rattle.match_book.specs.Stands.{StandsFor}
 use Rattle.mu_input.specs.Grammar.{job}
@@ -17,11 +17,11 @@ use Rattle.mu_outcome.specs.Runs.{IsThreadRun}
 use Rattle.mu_report.specs.declared.said.Said.{Said}
 use Rattle.snap_reads.specs.Lives.{AreAllSights}
 
--- the outcome is a run of its job in turns: its journals are diligent, where the script has no pause
--- each replica names replica 0 until that has ended, its replicas agree, and where a command is
--- missing each was cut short, by its budget alone where the script has no line; none is missing
--- where the script leaves a majority with replica 0, the ring is large and the budget enough; where
--- it has no pause no leadership is ever over; and nothing was gathered of threads
+-- the outcome is a run of its job in turns: its journals are diligent and its replicas agree. If a
+-- command is missing, each replica was cut short, and if the script has no line, by its budget. If
+-- the script has no pause, each replica names replica 0 until that has ended, and no leadership is
+-- ever over; and no command is missing if fewer than half of the replicas stop, the ring is large
+-- and the budget enough. Nothing was gathered of threads
 pub record IsReplay (o : Outcome) : Type 0 where
   pub run : IsRun o
   pub diligent : AreDiligent o
@@ -33,8 +33,8 @@ pub record IsReplay (o : Outcome) : Type 0 where
   pub leads : LeadOnUnpaused o
   pub gathered : o.gathered ≡ None
 
--- the outcome is a run of its job by threads: its journals are diligent, its replicas agree, and
--- where a command is missing each was cut short
+-- the outcome is a run of its job by threads: its journals are diligent, its replicas agree, and if
+-- a command is missing each was cut short
 pub record IsThreaded (o : Outcome) : Type 0 where
   pub run : IsThreadRun o
   pub diligent : AreDiligent o
@@ -84,8 +84,8 @@ Books bytes (Said.Booked outcome book) =
 Books bytes Said.NoMemory = ⊤
 Books bytes _ = ⊥
 
--- `live K`: the same as for `replay`, and these are the sights of so many readers of the commands of
--- the longest log
+-- `live K`: the same as for `replay`, and these are the sights of that many readers of the commands
+-- of the longest log
 abbrev pub Lives : ℕ → List ℕ → Said → Type 0
 Lives readers bytes (Said.Refused line cause) = job bytes ≡ Leaves line cause
 Lives readers bytes (Said.Lived outcome lived) =

@@ -22,7 +22,8 @@ at_desk (Some line) (Fits given) = Leaves line SENDERS
 abbrev pub job_at_desk : List ℕ → Reading Job
 job_at_desk bytes = at_desk (desk_line bytes) (job bytes)
 
--- the job is the one that the bytes spell at a desk, but for the order in which its commands arrived
+-- the job is the one that the bytes spell at a desk, but for the order in which its commands
+-- arrived
 pub record IsServed (bytes : List ℕ) (collected : Job) : Type 0 where
   pub given : Job
   pub fits : job_at_desk bytes ≡ Fits given
@@ -35,8 +36,8 @@ abbrev pub IsEndOfDesk : List ℕ → InputEnd → Type 0
 IsEndOfDesk bytes (InputEnd.Refused line cause) = job_at_desk bytes ≡ Leaves line cause
 IsEndOfDesk bytes InputEnd.NoMemory = ⊤
 
--- `desk`: the bytes leave what a desk serves first at this line for this cause, or this is the replay
--- of their job with its commands as they arrived; want of memory can come at any bytes
+-- `desk`: the bytes leave what a desk serves first at this line for this cause, or this is the
+-- replay of their job with its commands as they arrived; want of memory can come at any bytes
 abbrev pub Desks : List ℕ → Said → Type 0
 Desks bytes (Said.Refused line cause) = job_at_desk bytes ≡ Leaves line cause
 Desks bytes (Said.Ran outcome) = IsServed bytes outcome.job × IsReplay outcome

@@ -1,5 +1,5 @@
-//! The top call of `mu`: what the words of the command line ask for, done over the bytes of the input,
-//! and told to the bytes of the output.
+//! The top call of `mu`: what the words of the command line ask for, done over the bytes of the
+//! input, and told to the bytes of the output.
 #![tactic(auto)]
 
 mod asking;

@@ -20,7 +20,7 @@ pub(crate) fn told_of_bulk(alloc: Global, count: u16) -> Said
 {
     match stated(alloc, count) {
         Ok(outcome) => Said::Summed(outcome),
-        Err(_) => Said::NoMemory,
+        Err(NoMemory) => Said::NoMemory,
     }
 }
 

@@ -52,8 +52,8 @@ impl Answered {
 /// before the first command is published. Before each turn of `run`, before each command that comes
 /// to a `desk`, and before each publishing and get of `live` the gate is called.
 ///
-/// The words are `replay`, `run`, `trace`, `check`, `why`, `desk` or `book`, each alone, or `bulk` or
-/// `live` with a number.
+/// The words are `replay`, `run`, `trace`, `check`, `why`, `desk` or `book`, each alone, or `bulk`
+/// or `live` with a number.
 pub fn mu<R: Threads + Wait + Sync, S: Source, K: Sink, G: Gate + Sync>(
     rt: &R,
     alloc: Global,

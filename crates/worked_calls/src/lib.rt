@@ -1,5 +1,5 @@
-//! The worked rows of the top call: words and bytes in memory, and what the call answers and writes,
-//! compared with texts and figures from outside.
+//! The worked rows of the top call: words and bytes in memory, and what the call answers and
+//! writes, compared with texts and figures from outside.
 #![tactic(auto)]
 
 #[cfg(test)]

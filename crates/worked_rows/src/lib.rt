@@ -1,5 +1,5 @@
-//! The worked rows of all crates: figures, lists of events and texts from outside, compared with what
-//! the public calls make of them.
+//! The worked rows of all crates: figures, lists of events and texts from outside, compared with
+//! what the public calls make of them.
 #![tactic(auto)]
 
 #[cfg(test)]

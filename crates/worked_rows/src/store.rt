@@ -51,6 +51,20 @@ fn first_wrong(alloc: Global, run: &[(&str, &str)]) -> Result<Option<usize>, All
     Ok(None)
 }
 
+/// Commands for which a store takes about 600 MB. Of many times that no machine of today's size has
+/// room, so the test fails if a store takes more than it was asked for.
+const MANY_COMMANDS: usize = 8_000_000;
+
+#[test]
+fn takes_no_more_room_than_asked(rt: HostRuntime) -> Result<(), Fail> {
+    let store = Store::with_room(rt.alloc(), MANY_COMMANDS)?;
+    let Some(name) = key("a") else {
+        return Err(Fail::from("no key"));
+    };
+    assert_eq!(rt; store.look(&name), None);
+    Ok(())
+}
+
 #[test]
 fn replies_in_turn(rt: HostRuntime) -> Result<(), Fail> {
     for (index, &run) in RUNS.iter().enumerate() {
