@@ -1,4 +1,5 @@
 mod Answering
+pub mod Asked
 mod Bits
 mod Diligent
 pub mod Fetching
