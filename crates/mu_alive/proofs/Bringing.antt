@@ -62,7 +62,7 @@ more_steps test (e ∷ xs) ys base = go (test (xs ++ (ys ++ base)) e) (test ((xs
     go true false is ih = absurd (true≢false (sym is))
     go false true is ih = absurd (true≢false is)
 
-stays_both : (r : ℕ) (xs ys : List Event) → stays r xs ≡ true → stays r ys ≡ true → stays r (xs ++ ys) ≡ true
+pub stays_both : (r : ℕ) (xs ys : List Event) → stays r xs ≡ true → stays r ys ≡ true → stays r (xs ++ ys) ≡ true
 stays_both r [] ys x y = y
 stays_both r (e ∷ xs) ys x y = let less = stays_less r e xs x in ap (λ t. not (if t then true else has (begins_leadership r) (xs ++ ys))) less.0 ∙ stays_both r xs ys less.1 y
 
@@ -134,7 +134,7 @@ unpaid [] older = refl
 unpaid (e ∷ window) older = let ih = unpaid window older in omega (arith, ih)
 
 -- a member has its number
-numbered_on : (a : ℕ) (e : Event) (past : List Event) → begins_leadership a e ≡ false → is_some (proposal_number a past) ≡ true → is_some (proposal_number a (e ∷ past)) ≡ true
+pub numbered_on : (a : ℕ) (e : Event) (past : List Event) → begins_leadership a e ≡ false → is_some (proposal_number a past) ≡ true → is_some (proposal_number a (e ∷ past)) ≡ true
 numbered_on a e past same some = ap (λ t. is_some (oldest (λ f. number_put a f.by f.verb) (cond t [] (e ∷ leadership a past)))) same ∙ go (number_put a e.by e.verb) (proposal_number a past) some
   where
     go : (o n : Option ℕ) → is_some n ≡ true → is_some (earlier_or o n) ≡ true
@@ -143,7 +143,7 @@ numbered_on a e past same some = ap (λ t. is_some (oldest (λ f. number_put a f
     go None None s = absurd (true≢false (sym s))
     go (Some y) None s = absurd (true≢false (sym s))
 
-numbered_stays : (a : ℕ) (window base : List Event) → stays a window ≡ true → is_some (proposal_number a base) ≡ true → is_some (proposal_number a (window ++ base)) ≡ true
+pub numbered_stays : (a : ℕ) (window base : List Event) → stays a window ≡ true → is_some (proposal_number a base) ≡ true → is_some (proposal_number a (window ++ base)) ≡ true
 numbered_stays a [] base same some = some
 numbered_stays a (e ∷ window) base same some = let less = stays_less a e window same in numbered_on a e (window ++ base) less.0 (numbered_stays a window base less.1 some)
 
@@ -160,7 +160,7 @@ lands_number a p by (Verb.PutMin q b) Answer.Done n lands = go (by == a) (and_pa
     go false is n = absurd (true≢false (sym is))
 lands_number a p by verb answer n lands = absurd (true≢false (sym lands))
 
-member_numbered : (a p : ℕ) (past : List Event) → is_member a p past ≡ true → is_some (proposal_number a past) ≡ true
+pub member_numbered : (a p : ℕ) (past : List Event) → is_member a p past ≡ true → is_some (proposal_number a past) ≡ true
 member_numbered a p [] member = absurd (true≢false (sym member))
 member_numbered a p (e ∷ past) member = go (begins_leadership a e) refl (lands_min a p e.by e.verb e.answer) refl member (member_numbered a p past)
   where

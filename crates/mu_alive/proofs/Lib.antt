@@ -7,6 +7,7 @@ pub mod Cutting
 mod Enough
 pub mod Failing
 pub mod Fetching
+mod Finishing
 mod Following
 mod Granting
 mod LastNoting

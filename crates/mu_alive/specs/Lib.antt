@@ -3,6 +3,7 @@ pub mod Bringing
 pub mod Calm
 pub mod Enough
 pub mod Failing
+pub mod Finishing
 pub mod Following
 pub mod Last
 pub mod Lone

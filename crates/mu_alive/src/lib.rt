@@ -6,6 +6,7 @@ ghost use Rattle.mu_alive.specs.Bringing.{FollowersAreBroughtUp};
 ghost use Rattle.mu_alive.specs.Calm.{CalmLeadersCommit};
 ghost use Rattle.mu_alive.specs.Enough.{LoneLeadersApplyAll, LoneLeadersKnowAll};
 ghost use Rattle.mu_alive.specs.Failing.{HeldFailedInTime};
+ghost use Rattle.mu_alive.specs.Finishing.{LoneLeadersRaiseAll};
 ghost use Rattle.mu_alive.specs.Following.{FollowersCatchUp};
 ghost use Rattle.mu_alive.specs.Last.{LastLeadersApplyAll, LastLeadersKnowAll};
 ghost use Rattle.mu_alive.specs.Turns.{HostsGrantInTurn, TurnsLeadOn};
@@ -70,4 +71,9 @@ pub fn followers_catch_up()
 /// A region that grants to a leader becomes a member, and is brought to what the leader knows.
 pub fn followers_are_brought_up()
     ensures { FollowersAreBroughtUp }
+{}
+
+/// All that keep up with a replica that asks alone have applied all, and raised their heads to it.
+pub fn lone_leaders_raise_all()
+    ensures { LoneLeadersRaiseAll }
 {}

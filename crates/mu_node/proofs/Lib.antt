@@ -4,6 +4,7 @@ mod Bits
 mod Diligent
 pub mod Fetching
 pub mod FewRows
+pub mod HeadRaises
 mod Heads
 mod Lasts
 mod Leading
