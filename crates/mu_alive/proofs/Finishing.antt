@@ -322,19 +322,19 @@ fence_notes c a p e past legal alone own fences owns = go e.by e.verb e.answer o
     go by verb answer own fences is = absurd (true≢false (sym fences))
 
 -- two lists of one length that agree are one
-same_lists : (xs ys : List ℕ) → length xs ≡ length ys → ((i v w : ℕ) → slice_get xs i ≡ Some v → slice_get ys i ≡ Some w → v ≡ w) → xs ≡ ys
+pub same_lists : (xs ys : List ℕ) → length xs ≡ length ys → ((i v w : ℕ) → slice_get xs i ≡ Some v → slice_get ys i ≡ Some w → v ≡ w) → xs ≡ ys
 same_lists [] [] long agree = refl
 same_lists [] (y ∷ ys) long agree = absurd (omega (arith, long))
 same_lists (x ∷ xs) [] long agree = absurd (omega (arith, long))
 same_lists (x ∷ xs) (y ∷ ys) long agree = ap (λ z. z ∷ xs) (agree 0 x y refl refl) ∙ ap (λ zs. y ∷ zs) (same_lists xs ys (omega (arith, long)) (λ i v w at there. agree (suc i) v w at there))
 
-get_take : (l : ℕ) (xs : List ℕ) (i v : ℕ) → slice_get (take l xs) i ≡ Some v → slice_get xs i ≡ Some v
+pub get_take : (l : ℕ) (xs : List ℕ) (i v : ℕ) → slice_get (take l xs) i ≡ Some v → slice_get xs i ≡ Some v
 get_take zero xs i v at = cc
 get_take (suc l) [] i v at = at
 get_take (suc l) (x ∷ xs) zero v at = at
 get_take (suc l) (x ∷ xs) (suc i) v at = get_take l xs i v at
 
-get_of_front : (test : ℕ → Bool) (xs : List ℕ) (i v : ℕ) → slice_get (front test xs) i ≡ Some v → slice_get xs i ≡ Some v
+pub get_of_front : (test : ℕ → Bool) (xs : List ℕ) (i v : ℕ) → slice_get (front test xs) i ≡ Some v → slice_get xs i ≡ Some v
 get_of_front test [] i v at = at
 get_of_front test (x ∷ xs) i v at = go (test x) i at (get_of_front test xs)
   where
@@ -368,14 +368,14 @@ writes_before : (a : ℕ) (newer older : List Event) → WritesAlone a (newer ++
 writes_before a [] older writes = writes
 writes_before a (e ∷ newer) older writes = writes_before a newer older writes.0
 
-heads-own : (r : ℕ) → IsOwn r (λ e. head_raised r e.by e.verb)
+pub heads-own : (r : ℕ) → IsOwn r (λ e. head_raised r e.by e.verb)
 heads-own r = record { own = λ e other. go e.by e.verb other }
   where
     go : (by : ℕ) (verb : Verb) → (by == r) ≡ false → head_raised r by verb ≡ None
     go by (Verb.RaiseHead h) other = ap (λ t. cond t (Some h) None) other
     go by verb other = refl
 
-moments_more : (P Q : List Event → Type 0) → ((now : List Event) → P now → Q now) → (mine : List Event) → AtEachMoment P mine → AtEachMoment Q mine
+pub moments_more : (P Q : List Event → Type 0) → ((now : List Event) → P now → Q now) → (mine : List Event) → AtEachMoment P mine → AtEachMoment Q mine
 moments_more P Q more [] held = more [] held
 moments_more P Q more (e ∷ mine) held = (moments_more P Q more mine held.0, more (e ∷ mine) held.1)
 
@@ -558,5 +558,5 @@ raise_all c live a past good large lone writes keep many = go (holds_all c []) r
             (ap (λ l. slice_get l i) more.1 ∙ get_front all more.0 i w held)
 
     go : (t : Bool) → holds_all c [] ≡ t → HaveAllRaised c live past
-    go true none = record { upto = 0; raised = λ r low lives. omega arith; held = λ r low lives. none }
-    go false lacks = record { upto = length all; raised = λ r low lives. (there lacks r low lives (cases_eq r a)).1; held = λ r low lives. holds lacks r low lives }
+    go true none = record { upto = 0; raised = λ r low lives. omega arith; reached = λ r low lives. omega arith; held = λ r low lives. none }
+    go false lacks = record { upto = length all; raised = λ r low lives. (there lacks r low lives (cases_eq r a)).1; reached = λ r low lives. (there lacks r low lives (cases_eq r a)).0; held = λ r low lives. holds lacks r low lives }

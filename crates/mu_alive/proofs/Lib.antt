@@ -4,10 +4,10 @@ pub mod Beginning
 mod Bringing
 mod Calm
 pub mod Cutting
-mod Enough
+pub mod Enough
 pub mod Failing
 pub mod Fetching
-mod Finishing
+pub mod Finishing
 mod Following
 mod Granting
 mod LastNoting

@@ -41,6 +41,7 @@ pub record KeepUp (c : Config) (live : ℕ → Bool) (a : ℕ) (past : List Even
 pub record HaveAllRaised (c : Config) (live : ℕ → Bool) (past : List Event) : Type 0 where
   pub upto : ℕ
   pub raised : (r : ℕ) → r < c.replicas → live r ≡ true → upto ≤ region_head r past
+  pub reached : (r : ℕ) → r < c.replicas → live r ≡ true → upto ≤ length (applied c r (part r past))
   pub held :
       (r : ℕ) → r < c.replicas → live r ≡ true
       → holds_all c (take upto (applied c r (part r past))) ≡ true

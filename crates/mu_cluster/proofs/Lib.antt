@@ -13,6 +13,7 @@ mod Onward
 mod Outrunning
 mod Passes
 mod Ports
+mod Raised
 mod Rounding
 pub mod RowsMade
 mod Seats

@@ -82,7 +82,7 @@ after n mine more =
     go newer (e ∷ rest) is count = record { top = newer; event = e; bottom = rest; is = is; count = omega (arith, count) }
 
 -- a replica that has ended is held failed so many steps of the reader after
-fails_then : (c : Config) (events : List Event) (lengths : List ℕ) (rounds q r : ℕ) (newer older : List Event) → AreUnpaused c events lengths rounds → ReadsInTime c r (part_of r events) → history events ≡ newer ++ older → q < c.replicas → r < c.replicas → q ≢ r
+pub fails_then : (c : Config) (events : List Event) (lengths : List ℕ) (rounds q r : ℕ) (newer older : List Event) → AreUnpaused c events lengths rounds → ReadsInTime c r (part_of r events) → history events ≡ newer ++ older → q < c.replicas → r < c.replicas → q ≢ r
     → length (part_of q events) + failing_steps c ≤ length (part r older) → is_failed r q older ≡ true
 fails_then c events lengths rounds q r newer older run reads is low inside other late = found (after (length (part_of q events)) (part r older) (omega (arith, late)))
   where
@@ -126,7 +126,7 @@ begun_named c events lengths rounds a newer older run nodes is begun =
     ap (λ l. leader c a (part a l)) k.is ∙ subst (λ i. leader c i (part i (k.newer ++ k.event ∷ k.older)) ≡ i) k.own (stays_named c events lengths rounds newer k.newer k.older k.event run nodes.reads whole k.asks named)
 
 -- what holds of each beginning of the list holds at each moment of a part
-moments_of : (a : ℕ) (P : List Event → Type 0) (past : List Event) → ((newer older : List Event) → past ≡ newer ++ older → P (part a older)) → AtEachMoment P (part a past)
+pub moments_of : (a : ℕ) (P : List Event → Type 0) (past : List Event) → ((newer older : List Event) → past ≡ newer ++ older → P (part a older)) → AtEachMoment P (part a past)
 moments_of a P [] all = all [] [] refl
 moments_of a P (e ∷ past) all = go (e.by == a) refl (moments_of a P past (λ newer older is. all (e ∷ newer) older (ap (λ l. e ∷ l) is)))
   where
