@@ -3,6 +3,7 @@ mod Branching
 mod Driven
 pub mod FewCommands
 mod Filling
+mod Finishing
 mod InStep
 mod InTurn
 mod Lives

@@ -11,6 +11,7 @@ use Rattle.mu_model.specs.Leaderships.{majority_of}
 use Rattle.mu_outcome.specs.declared.outcome.Outcome.{Outcome}
 use Rattle.mu_outcome.specs.Completion.{HasAllCommands}
 use Rattle.mu_outcome.specs.Outcomes.{log_of}
+use Rattle.mu_cluster.specs.Finishing.{FinishesInTime}
 use Rattle.mu_cluster.specs.Outliving.{AppliesAllAfterStops, HasAllAfterStops}
 
 -- a line of the script stops r
@@ -44,12 +45,16 @@ HasAllWithFirst o =
     → HasLargeRing o.job.config → steps_enough o.job.config ≤ o.job.config.budget
     → HasAllCommands o
 
--- what holds of the replicas if their budgets are spent: if replica 0 isn't stopped, and if any are
+-- what holds of the replicas if their budgets are spent: if replica 0 isn't stopped, and if any are;
+-- and which finish
 pub record AppliesAllUnpaused (o : Outcome) : Type 0 where
   pub first : AppliesAllWithFirst o
   pub last : AppliesAllAfterStops o
+  pub each : FinishesInTime o
 
--- a replay stays alive: it has every command if replica 0 isn't stopped, and if leaders are
+-- a replay stays alive: it has every command if replica 0 isn't stopped, and if leaders are; and in
+-- the first case each replica that isn't stopped finishes
 pub record HasAllInTime (o : Outcome) : Type 0 where
   pub first : HasAllWithFirst o
   pub last : HasAllAfterStops o
+  pub each : FinishesInTime o

@@ -58,4 +58,4 @@ returns-clause-lives g c =
     let good = subst (λ (j : Job). IsConfig j.config) (sym c.outcome.ensures.job) c.requires.config in
     let have = subst (λ (j : Job). HaveHeads j.config.width j.commands j.config.rows) (sym c.outcome.ensures.job) c.requires.heads in
     let run = c.outcome.ensures.run in
-    record { first = lives_of o good have run c.outcome.ensures.none_outrun c.outcome.ensures.applies.first; last = outlives_of o good have run c.outcome.ensures.none_outrun c.outcome.ensures.applies.last }
+    record { first = lives_of o good have run c.outcome.ensures.none_outrun c.outcome.ensures.applies.first; last = outlives_of o good have run c.outcome.ensures.none_outrun c.outcome.ensures.applies.last; each = c.outcome.ensures.applies.each }
