@@ -1,8 +1,8 @@
 -- A region that grants to a leader becomes a member in time, and is brought to what the leader knows.
-use Rattle.std.proofs.Common.{◌≡◌, ◌⊎◌, ℕ, zero, suc, ◌+◌, ◌-◌, ◌*◌, ◌<◌, ◌≤◌, ◌==◌, ◌&&◌, ◌||◌, not, inl, inr, Bool, true, false, cond, Some, None, List, [], ◌∷◌, ◌++◌, length, refl, sym, ◌∙◌, ap, arith, subst, eqb-true, true≢false, append-nil, append_assoc, is_some}
+use Rattle.std.proofs.Common.{◌≡◌, ◌⊎◌, ℕ, ◌+◌, ◌*◌, ◌<◌, ◌≤◌, ◌==◌, ◌&&◌, ◌||◌, not, inl, inr, Bool, true, false, cond, Some, None, List, [], ◌∷◌, ◌++◌, length, refl, sym, ◌∙◌, ap, arith, subst, eqb-true, true≢false, append-nil, append_assoc, is_some}
 use Rattle.std.specs.declared.option.Option.{Option}
 use Rattle.std.specs.Prelude.{if◌then◌else◌, nat_le, nat_lt}
-use Rattle.std.proofs.lemmas.Bool.{and_from, and_parts, cases_lt, eq-eqb, le-leb, leb-false, leb-true, lt-ltb, ltb-false, ltb-true}
+use Rattle.std.proofs.lemmas.Bool.{and_from, and_parts, eq-eqb, le-leb, leb-false, leb-true, ltb-false}
 use Rattle.std.proofs.lemmas.List.{length-append}
 use Rattle.mu_model.specs.declared.config.Config.{Config}
 use Rattle.mu_model.specs.declared.event.Answer.{Answer}
@@ -13,29 +13,27 @@ use Rattle.mu_model.specs.Bounds.{is_at_most, is_learning, members, stays}
 use Rattle.mu_model.specs.Contents.{IsConfig, row_count}
 use Rattle.mu_model.specs.Diligence.{is_fuo_above, is_joining_step}
 use Rattle.mu_model.specs.Histories.{earlier_or, greatest, has, max_with, newer_or, oldest}
-use Rattle.mu_model.specs.Knowledge.{commits, fuo_read, grown, is_accepted_by_all, known}
+use Rattle.mu_model.specs.Knowledge.{commits, grown, is_accepted_by_all, known}
 use Rattle.mu_model.specs.Leaderships.{begins_leadership, grant_at_joining, is_member, is_over, lands_min, leadership, noted_grant, number_put, proposal_number}
 use Rattle.mu_model.specs.Legal.{IsLegalHistory}
 use Rattle.mu_model.specs.Parts.{IsPossible}
 use Rattle.mu_model.specs.Picks.{is_joining}
 use Rattle.mu_model.specs.Placing.{fuo_read_or_raised}
 use Rattle.mu_model.specs.Room.{reserve}
-use Rattle.mu_model.specs.Steps.{commits_more, has_min, is_fencing, is_min_put, is_min_put_verb, is_named, is_over_after, knows_more, leads}
-use Rattle.mu_model.specs.Stretches.{IsStretch, each_step, is_replication, replications, steps}
+use Rattle.mu_model.specs.Steps.{commits_more, has_min, is_fencing, is_min_put, is_min_put_verb, is_named, is_over_after, leads}
+use Rattle.mu_model.specs.Stretches.{each_step, is_replication, replications, steps}
 use Rattle.mu_model.proofs.Basics.{event_by}
-use Rattle.mu_model.proofs.Counts.{max_with_grows}
 use Rattle.mu_agree.proofs.Landings.{greatest_since}
 use Rattle.mu_agree.proofs.Legal.{legal_older}
 use Rattle.mu_agree.proofs.Possible.{parts_shorten_law}
 use Rattle.mu_agree.proofs.Prefixes.{greatest_along}
-use Rattle.mu_agree.proofs.Tame.{known_longer}
 use Rattle.mu_pace.specs.Collecting.{LeaderKeeps}
-use Rattle.mu_pace.specs.Counters.{AtEachMoment, AtEachStep, IsInTime, Watch, paid, steps_left}
+use Rattle.mu_pace.specs.Counters.{AtEachMoment, AtEachStep, IsInTime, Watch, paid}
 use Rattle.mu_pace.specs.Watches.{asking_after, bringing_up, earns, falls_behind, is_answer_to_welcome, is_brought_up, is_full_raise, is_raise_to_verb, is_welcoming, joining, leaves, limit, limit_now, nothing, raising}
 use Rattle.mu_pace.proofs.Counting.{allowed_here, allowed_now, last_moment, moments_before, shorter, steps_before}
 use Rattle.mu_pace.proofs.Growing.{greatest_on, known_grows, member_on, member_stays, stays_less, twice_paid}
 use Rattle.mu_pace.proofs.Positions.{known_fits}
-use Rattle.mu_alive.specs.Bringing.{FollowersAreBroughtUp, IsGranted, LeadsOn, bringing_steps, joining_steps}
+use Rattle.mu_alive.specs.Bringing.{FollowersAreBroughtUp, IsGranted, LeadsOn, bringing_steps}
 use Rattle.mu_alive.proofs.Calm.{PutsInside, count_few, paid_few}
 use Rattle.mu_alive.proofs.Cutting.{Cut, Located, cut, located}
 use Rattle.mu_alive.proofs.Enough.{min_on, puts_inside}

@@ -1,5 +1,5 @@
 -- All that keep up with a leader that asks alone have applied all in time, and raised their heads to it.
-use Rattle.std.proofs.Common.{◌≡◌, ◌≢◌, ◌⊎◌, ℕ, zero, suc, ◌+◌, ◌*◌, ◌<◌, ◌≤◌, ◌==◌, ◌&&◌, ◌||◌, not, inl, inr, Bool, true, false, cond, Some, None, List, [], ◌∷◌, ◌++◌, length, refl, sym, ◌∙◌, ap, arith, subst, eqb-true, true≢false, append_assoc, is_some, take}
+use Rattle.std.proofs.Common.{◌≡◌, ◌≢◌, ◌⊎◌, ℕ, zero, suc, ◌+◌, ◌*◌, ◌<◌, ◌≤◌, ◌==◌, ◌&&◌, not, inl, inr, Bool, true, false, cond, Some, None, List, [], ◌∷◌, ◌++◌, length, refl, sym, ◌∙◌, ap, arith, subst, eqb-true, true≢false, append_assoc, is_some, take}
 use Rattle.std.specs.declared.option.Option.{Option}
 use Rattle.std.specs.Prelude.{if◌then◌else◌, nat_le, nat_lt}
 use Rattle.std.specs.List.{slice_get}
@@ -13,10 +13,10 @@ use Rattle.mu_model.specs.Allowed.{Allowed, Needs}
 use Rattle.mu_model.specs.Answers.{answer_of, drained, put_answer, shown}
 use Rattle.mu_model.specs.Bounds.{cycle, stays}
 use Rattle.mu_model.specs.Contents.{IsConfig, holds_all}
-use Rattle.mu_model.specs.Diligence.{GrantsInTime, ReadsInTime, Replays, TellsHeads, has_to_ask}
+use Rattle.mu_model.specs.Diligence.{Replays, TellsHeads, has_to_ask}
 use Rattle.mu_model.specs.Histories.{IsPrefixOf, earlier_or, greatest, has, max_with, newer_or, newest, oldest, part}
-use Rattle.mu_model.specs.Knowledge.{applied, front, has_entry, known, learnt_by}
-use Rattle.mu_model.specs.Leaderships.{begins_leadership, fence_seen, grant_for, has_begun, has_quorum, is_member, is_over, leadership, majority_of, noted_grant, number_put, proposal_number}
+use Rattle.mu_model.specs.Knowledge.{applied, front, has_entry, known}
+use Rattle.mu_model.specs.Leaderships.{begins_leadership, fence_seen, grant_for, has_begun, is_member, is_over, leadership, noted_grant, number_put, proposal_number}
 use Rattle.mu_model.specs.Legal.{IsLegalHistory}
 use Rattle.mu_model.specs.Parts.{IsPossible}
 use Rattle.mu_model.specs.Placing.{fuo_read_or_raised, reaches_head}
@@ -31,22 +31,21 @@ use Rattle.mu_agree.proofs.Access.{landed}
 use Rattle.mu_agree.proofs.Knowing.{known_stays}
 use Rattle.mu_agree.proofs.Landings.{has_more, has_of_part, has_since}
 use Rattle.mu_agree.proofs.Legal.{event_after, legal_older}
-use Rattle.mu_agree.proofs.Prefixes.{greatest_along, known_agree}
+use Rattle.mu_agree.proofs.Prefixes.{known_agree}
 use Rattle.mu_agree.proofs.Room.{covers_below}
-use Rattle.mu_pace.specs.Collecting.{LeaderKeeps}
 use Rattle.mu_pace.specs.Counters.{AtEachMoment, AtEachStep}
-use Rattle.mu_pace.proofs.Counting.{last_moment, moments_before, steps_before}
+use Rattle.mu_pace.proofs.Counting.{last_moment, moments_before}
 use Rattle.mu_pace.proofs.Growing.{known_grows, stays_less}
 use Rattle.mu_alive.specs.Alone.{AsksAlone, WritesAlone}
-use Rattle.mu_alive.specs.Bringing.{IsGranted, LeadsOn, joining_steps}
+use Rattle.mu_alive.specs.Bringing.{LeadsOn, joining_steps}
 use Rattle.mu_alive.specs.Enough.{HasLargeRing, steps_enough}
-use Rattle.mu_alive.specs.Finishing.{AsksAllFirst, HaveAllRaised, KeepUp, LoneLeadersRaiseAll, raising_steps}
-use Rattle.mu_alive.specs.Following.{FollowsOn, RaisesToAll, following_steps}
+use Rattle.mu_alive.specs.Finishing.{AsksAllFirst, HaveAllRaised, LoneLeadersRaiseAll}
+use Rattle.mu_alive.specs.Following.{RaisesToAll, following_steps}
 use Rattle.mu_alive.specs.Lone.{IsNear, LeadsAlone}
 use Rattle.mu_alive.specs.Turns.{is_own_min}
 use Rattle.mu_alive.proofs.Alone.{Once, alone_induction, once, seen_again}
 use Rattle.mu_alive.proofs.Applying.{applied_is_known}
-use Rattle.mu_alive.proofs.Beginning.{CutAt, alone_before, asked_once, cut_at, grants_before, has_to_ask_all, reads_before}
+use Rattle.mu_alive.proofs.Beginning.{CutAt, asked_once, cut_at, has_to_ask_all}
 use Rattle.mu_alive.proofs.Bringing.{brought_up, member_numbered, numbered_stays}
 use Rattle.mu_alive.proofs.Cutting.{Located, Met, located, met}
 use Rattle.mu_alive.proofs.Enough.{FirstMin, Leads, first_has_min, first_verb, knows_all_in_time, lacks_moments, lone_before, lone_leads, lone_on, min_on, min_or_none}

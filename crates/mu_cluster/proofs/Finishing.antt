@@ -3,7 +3,7 @@ use Rattle.std.proofs.Common.{◌≡◌, ◌∙◌, ◌≢◌, ◌⊎◌, ℕ, z
 use Rattle.std.specs.declared.option.Option.{Option}
 use Rattle.std.specs.Prelude.{nat_le, not, slice_index}
 use Rattle.std.specs.List.{slice_get}
-use Rattle.std.proofs.lemmas.Bool.{and_from, and_parts, cases_eq, cases_lt, eq-eqb, eqb-true, le-leb, true≢false}
+use Rattle.std.proofs.lemmas.Bool.{and_from, and_parts, cases_eq, eq-eqb, eqb-true, le-leb, true≢false}
 use Rattle.std.proofs.lemmas.List.{length-append, length-reverse, length-take, take-append-drop}
 use Rattle.mu_agree.proofs.Knowing.{known_stays}
 use Rattle.mu_agree.proofs.Legal.{legal_older}
@@ -16,9 +16,9 @@ use Rattle.mu_model.specs.declared.script.End.{End}
 use Rattle.mu_model.specs.Answers.{answer_of}
 use Rattle.mu_model.specs.Bounds.{cycle}
 use Rattle.mu_model.specs.Contents.{IsConfig, holds_all}
-use Rattle.mu_model.specs.Diligence.{IsDiligent, ReadsInTime}
+use Rattle.mu_model.specs.Diligence.{IsDiligent}
 use Rattle.mu_model.specs.Ends.{EndsBy, full_length, head_known, is_at_least, is_finished, is_full, outrun, stops_at}
-use Rattle.mu_model.specs.Histories.{all_below, has, history, newer_or, newest, part}
+use Rattle.mu_model.specs.Histories.{has, history, newer_or, newest, part}
 use Rattle.mu_model.specs.Journals.{Record}
 use Rattle.mu_model.specs.Knowledge.{applied, has_entry, known}
 use Rattle.mu_model.specs.Legal.{IsLegalHistory}
@@ -33,16 +33,15 @@ use Rattle.mu_model.proofs.Parts.{filter-append}
 use Rattle.mu_model.proofs.Scans.{each_all}
 use Rattle.mu_outcome.specs.declared.outcome.Outcome.{Outcome}
 use Rattle.mu_outcome.specs.Outcomes.{IsRun, events_of, journal_of}
-use Rattle.mu_alive.specs.Enough.{HasLargeRing}
 use Rattle.mu_alive.specs.Failing.{failing_steps}
 use Rattle.mu_alive.specs.Finishing.{raising_steps}
-use Rattle.mu_alive.proofs.Cutting.{Cut, Located, cut, located}
+use Rattle.mu_alive.proofs.Cutting.{Located, cut, located}
 use Rattle.mu_alive.proofs.Enough.{holds_more, outrun_before}
 use Rattle.mu_alive.proofs.Fetching.{applied_grows}
 use Rattle.mu_alive.proofs.Finishing.{get_of_front, get_take, heads-own, same_lists}
 use Rattle.mu_cluster.specs.declared.rounds.Seat.{Seat}
-use Rattle.mu_cluster.specs.Finishing.{FinishesInTime, HasFinished, HasTimeToFinish, finishing_steps}
-use Rattle.mu_cluster.specs.Outliving.{GoesOnWith, is_stop, was_stopped}
+use Rattle.mu_cluster.specs.Finishing.{FinishesInTime, HasFinished, finishing_steps}
+use Rattle.mu_cluster.specs.Outliving.{is_stop, was_stopped}
 use Rattle.mu_cluster.specs.Paces.{AreDiligent}
 use Rattle.mu_cluster.specs.Rounds.{Played, part_of}
 use Rattle.mu_cluster.proofs.Living.{none_of}

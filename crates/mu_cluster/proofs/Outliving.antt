@@ -1,6 +1,5 @@
 -- In a replay without a pause the least replica that isn't stopped leads on where the leaders below it were.
-use Rattle.std.proofs.Common.{◌≡◌, ◌∙◌, ◌≢◌, ◌⊎◌, ℕ, ◌+◌, ◌<◌, ◌≤◌, ◌==◌, inl, inr, Bool, true, false, cond, None, Some, List, [], ◌∷◌, ◌++◌, ap, append_assoc, arith, eqb-true, length, map, refl, subst, sym}
-use Rattle.std.specs.declared.option.Option.{Option}
+use Rattle.std.proofs.Common.{◌≡◌, ◌∙◌, ◌≢◌, ℕ, ◌+◌, ◌<◌, ◌≤◌, ◌==◌, inl, inr, Bool, true, false, cond, Some, List, [], ◌∷◌, ◌++◌, ap, append_assoc, arith, length, map, refl, subst, sym}
 use Rattle.std.specs.Prelude.{not, slice_index}
 use Rattle.std.specs.List.{slice_get}
 use Rattle.std.proofs.lemmas.Bool.{eq-eqb, true≢false}
@@ -26,7 +25,6 @@ use Rattle.mu_node.specs.Journal.{WasMade}
 use Rattle.mu_node.proofs.Fetching.{rows_fetched}
 use Rattle.mu_node.proofs.Naming.{asker_named}
 use Rattle.mu_outcome.specs.declared.outcome.Outcome.{Outcome}
-use Rattle.mu_outcome.specs.declared.status.Status.{Status}
 use Rattle.mu_outcome.specs.Completion.{Completes, HasAllCommands, IsCutShort}
 use Rattle.mu_outcome.specs.Entries.{commands_in, longest}
 use Rattle.mu_outcome.specs.Outcomes.{IsRun, events_of, journal_of}
@@ -44,10 +42,10 @@ use Rattle.mu_alive.proofs.Cutting.{Located, cut, located}
 use Rattle.mu_alive.proofs.Failing.{held_failed}
 use Rattle.mu_alive.proofs.Fetching.{last_applies_all}
 use Rattle.mu_alive.proofs.TurnGrants.{turns_before}
-use Rattle.mu_alive.proofs.Turns.{begun-part, not_begun}
+use Rattle.mu_alive.proofs.Turns.{begun-part}
 use Rattle.mu_cluster.specs.declared.rounds.Seat.{Seat}
 use Rattle.mu_cluster.specs.Naming.{NoneOutrunUnpaused}
-use Rattle.mu_cluster.specs.Outliving.{AppliesAllAfterStops, GoesOnWith, HasAllAfterStops, HasTimeAfter, is_stop, steps_after, was_stopped}
+use Rattle.mu_cluster.specs.Outliving.{AppliesAllAfterStops, HasAllAfterStops, is_stop, steps_after, was_stopped}
 use Rattle.mu_cluster.specs.Paces.{AreDiligent}
 use Rattle.mu_cluster.specs.Rounds.{Played, part_of}
 use Rattle.mu_cluster.proofs.Agreeing.{agrees_of, over_order}

@@ -1,8 +1,7 @@
 -- In a replay without a pause in which replica 0 isn't stopped, all that weren't stopped have raised their heads to all commands in time.
-use Rattle.std.proofs.Common.{◌≡◌, ◌∙◌, ◌≢◌, ◌⊎◌, ℕ, zero, suc, ◌+◌, ◌*◌, ◌<◌, ◌≤◌, ◌==◌, ◌&&◌, ◌||◌, inl, inr, Bool, true, false, cond, None, Some, List, [], ◌∷◌, ◌++◌, ap, append-nil, append_assoc, arith, eqb-true, length, refl, subst, sym, take}
+use Rattle.std.proofs.Common.{◌≡◌, ◌∙◌, ◌≢◌, ◌⊎◌, ℕ, zero, suc, ◌+◌, ◌<◌, ◌≤◌, ◌==◌, ◌||◌, inl, inr, Bool, true, false, cond, None, Some, List, [], ◌∷◌, ◌++◌, ap, append_assoc, arith, eqb-true, length, refl, subst, sym, take}
 use Rattle.std.specs.declared.option.Option.{Option}
 use Rattle.std.specs.Prelude.{min, nat_le, not, slice_index}
-use Rattle.std.specs.List.{slice_get}
 use Rattle.std.proofs.lemmas.Bool.{and_parts, cases_eq, cases_lt, eq-eqb, leb-true, ne_eqb, true≢false}
 use Rattle.std.proofs.lemmas.List.{length-append, length-take}
 use Rattle.mu_agree.proofs.Legal.{event_after, legal_induction, legal_older}
@@ -23,7 +22,7 @@ use Rattle.mu_model.specs.Legal.{IsLegalHistory}
 use Rattle.mu_model.specs.Parts.{IsPossible}
 use Rattle.mu_model.specs.Regions.{head_raised, region_head}
 use Rattle.mu_model.specs.Room.{head_read}
-use Rattle.mu_model.specs.Scores.{is_failed, leader, least_below, score}
+use Rattle.mu_model.specs.Scores.{is_failed, least_below}
 use Rattle.mu_model.specs.Steps.{is_named}
 use Rattle.mu_model.specs.Stretches.{IsStretch}
 use Rattle.mu_model.proofs.Owned.{greatest-part}
@@ -40,7 +39,7 @@ use Rattle.mu_alive.specs.Alone.{WritesAlone}
 use Rattle.mu_alive.specs.Enough.{HasLargeRing}
 use Rattle.mu_alive.specs.Finishing.{AsksAllFirst, HaveAllRaised, KeepUp, raising_steps}
 use Rattle.mu_alive.specs.Following.{RaisesToAll}
-use Rattle.mu_alive.specs.Lone.{IsNear, LeadsAlone}
+use Rattle.mu_alive.specs.Lone.{LeadsAlone}
 use Rattle.mu_alive.proofs.Beginning.{grants_before, reads_before}
 use Rattle.mu_alive.proofs.Cutting.{Cut, Located, cut, located}
 use Rattle.mu_alive.proofs.Enough.{asks_before, outrun_before}
@@ -54,7 +53,6 @@ use Rattle.mu_cluster.proofs.Naming.{AreUnpaused, few_steps, names_in, part_befo
 use Rattle.mu_cluster.proofs.Outliving.{moments_of}
 use Rattle.mu_cluster.proofs.Outrunning.{none_outrun}
 use Rattle.mu_cluster.proofs.Passes.{has_later}
-use Rattle.mu_cluster.proofs.Turning.{least_most}
 
 -- the least of the numbers of those that pass
 record Least (n : ℕ) (live : ℕ → Bool) (f : ℕ → ℕ) : Type 0 where

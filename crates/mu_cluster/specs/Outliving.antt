@@ -1,5 +1,5 @@
 -- What a replay comes to if leaders are stopped, one after another.
-use Rattle.std.specs.Prelude.{Bool, List, Some, [], false, length, not, true, ℕ, ◌+◌, ◌<◌, ◌≡◌, ◌≤◌}
+use Rattle.std.specs.Prelude.{Bool, Some, [], false, length, not, true, ℕ, ◌+◌, ◌<◌, ◌≡◌, ◌≤◌}
 use Rattle.std.specs.declared.option.Option.{Option}
 use Rattle.std.specs.List.{slice_get}
 use Rattle.mu_alive.specs.Enough.{HasLargeRing}

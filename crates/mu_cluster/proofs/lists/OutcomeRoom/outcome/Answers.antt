@@ -1,4 +1,4 @@
-use Rattle.std.proofs.Common.{◌∙◌, ◌+◌, None, Some, ap, arith, length, refl, subst, sym}
+use Rattle.std.proofs.Common.{None, Some, refl, subst}
 use Rattle.mu_model.specs.Legal.{IsLegal}
 use Rattle.mu_outcome.specs.declared.outcome.Outcome.{Outcome}
 use Rattle.mu_cluster.specs.Lists.{HoldsLists}
