@@ -9,13 +9,13 @@ use Rattle.mu_model.specs.declared.config.Config.{Config}
 use Rattle.mu_model.specs.declared.event.Event.{Event}
 use Rattle.mu_model.specs.declared.event.Verb.{Verb}
 use Rattle.mu_model.specs.declared.event.Answer.{Answer}
-use Rattle.mu_agree.specs.Agreement.{end_put, fuo_under, kept_if, put_end}
+use Rattle.mu_agree.specs.Agreement.{end_put, fuo_under, kept_if, lesser_or, put_end}
 use Rattle.mu_agree.specs.Possible.{PartsFind, PartsInSession, PartsKeep, PartsMarkOnce, PartsMove, PartsReadRight, PartsShorten, PartsStand}
 use Rattle.mu_model.specs.Allowed.{Allowed}
 use Rattle.mu_model.specs.Answers.{answer_of, shown}
 use Rattle.mu_model.specs.Contents.{IsInSession}
 use Rattle.mu_model.specs.Entering.{grant_seen}
-use Rattle.mu_model.specs.Histories.{has, newer_or, part}
+use Rattle.mu_model.specs.Histories.{has, part}
 use Rattle.mu_model.specs.Knowledge.{fuo_read, greatest_fuo_read, known}
 use Rattle.mu_model.specs.Leaderships.{leadership, noted_grant}
 use Rattle.mu_model.specs.Legal.{IsLegalHistory, MayFollow}
@@ -153,7 +153,7 @@ end_put-own r p = record { own = λ e h. go e.by e.verb e.answer h }
     go by (Verb.PutSlot q j b v) Answer.Done h = rw h refl
     go by v a h = refl
 
-kept_none : (t : Bool) (o x : Option ℕ) → o ≡ None → newer_or (kept_if t o) x ≡ x
+kept_none : (t : Bool) (o x : Option ℕ) → o ≡ None → lesser_or (kept_if t o) x ≡ x
 kept_none t o x e = rw e refl
 
 fuo_under-part : (r p g : ℕ) (past : List Event) → fuo_under r p g (part r past) ≡ fuo_under r p g past
@@ -162,8 +162,8 @@ fuo_under-part r p g (e ∷ past) = go (e.by == r) refl (fuo_under-part r p g pa
   where
     go : (t : Bool) → (e.by == r) ≡ t → fuo_under r p g (part r past) ≡ fuo_under r p g past → fuo_under r p g (cond t (e ∷ part r past) (part r past)) ≡ fuo_under r p g (e ∷ past)
     go true h ih =
-        ap (λ x. newer_or (kept_if x (fuo_read r p e.by e.verb e.answer)) (fuo_under r p g (part r past))) (has-part (λ f. grant_seen r p g f.by f.verb f.answer) r (grant_seen-own r p g) past)
-        ∙ ap (λ x. newer_or (kept_if (has (λ f. grant_seen r p g f.by f.verb f.answer) past) (fuo_read r p e.by e.verb e.answer)) x) ih
+        ap (λ x. lesser_or (kept_if x (fuo_read r p e.by e.verb e.answer)) (fuo_under r p g (part r past))) (has-part (λ f. grant_seen r p g f.by f.verb f.answer) r (grant_seen-own r p g) past)
+        ∙ ap (λ x. lesser_or (kept_if (has (λ f. grant_seen r p g f.by f.verb f.answer) past) (fuo_read r p e.by e.verb e.answer)) x) ih
     go false h ih = ih ∙ sym (kept_none (has (λ f. grant_seen r p g f.by f.verb f.answer) past) (fuo_read r p e.by e.verb e.answer) (fuo_under r p g past) ((fuo_read-own r p).own e h))
 
 grant_rises : (p : ℕ) (newer older : List Event) → fence_grant p older ≤ fence_grant p (newer ++ older)

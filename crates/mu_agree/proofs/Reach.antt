@@ -1,5 +1,6 @@
 -- While r owns a region, its log grows by r's own puts alone.
-use Rattle.std.proofs.Common.{◌≡◌, ℕ, ◌+◌, ◌<◌, ◌≤◌, max, Bool, true, false, cond, ◌&&◌, ◌==◌, List, [], ◌∷◌, length, refl, ap, arith, Some, None, subst, eqb-true}
+use Rattle.std.proofs.Common.{◌≡◌, ◌∙◌, ℕ, ◌+◌, ◌<◌, ◌≤◌, max, Bool, true, false, cond, ◌&&◌, ◌==◌, List, [], ◌∷◌, length, refl, ap, arith, Some, None, subst, eqb-true}
+use Rattle.std.specs.Prelude.{min}
 use Rattle.std.specs.declared.option.Option.{Option}
 use Rattle.std.proofs.lemmas.Bool.{and_parts}
 use Rattle.mu_model.specs.declared.config.Config.{Config}
@@ -8,11 +9,11 @@ use Rattle.mu_model.specs.declared.event.Verb.{Verb}
 use Rattle.mu_model.specs.declared.event.Answer.{Answer}
 use Rattle.mu_model.specs.Leaderships.{begins_leadership}
 use Rattle.mu_agree.proofs.Landings.{has_since}
-use Rattle.mu_agree.specs.Agreement.{LogWithinReach, fuo_under, kept_if, put_end}
+use Rattle.mu_agree.specs.Agreement.{LogWithinReach, fuo_under, kept_if, lesser_or, put_end}
 use Rattle.mu_model.specs.Allowed.{Needs}
 use Rattle.mu_model.specs.Answers.{drained, put_answer}
 use Rattle.mu_model.specs.Entering.{grant_seen}
-use Rattle.mu_model.specs.Histories.{has, history, newer_or, part}
+use Rattle.mu_model.specs.Histories.{has, history, part}
 use Rattle.mu_model.specs.Knowledge.{fuo_read}
 use Rattle.mu_model.specs.Leaderships.{is_first_ask, leadership}
 use Rattle.mu_model.specs.Legal.{IsLegalHistory}
@@ -31,7 +32,7 @@ under_seen : (r p g u : ℕ) (past : List Event) → fuo_under r p g past ≡ So
 under_seen r p g u [] e = cc
 under_seen r p g u (e ∷ past) h = go (fuo_read r p e.by e.verb e.answer) (has (λ f. grant_seen r p g f.by f.verb f.answer) past) refl h (under_seen r p g u past)
   where
-    go : (o : Option ℕ) (t : Bool) → has (λ f. grant_seen r p g f.by f.verb f.answer) past ≡ t → newer_or (kept_if t o) (fuo_under r p g past) ≡ Some u → (fuo_under r p g past ≡ Some u → has (λ f. grant_seen r p g f.by f.verb f.answer) past ≡ true)
+    go : (o : Option ℕ) (t : Bool) → has (λ f. grant_seen r p g f.by f.verb f.answer) past ≡ t → lesser_or (kept_if t o) (fuo_under r p g past) ≡ Some u → (fuo_under r p g past ≡ Some u → has (λ f. grant_seen r p g f.by f.verb f.answer) past ≡ true)
         → cond (grant_seen r p g e.by e.verb e.answer) true (has (λ f. grant_seen r p g f.by f.verb f.answer) past) ≡ true
     go o true ht h ih = second_passes (grant_seen r p g e.by e.verb e.answer) (has (λ f. grant_seen r p g f.by f.verb f.answer) past) ht
     go None false ht h ih = second_passes (grant_seen r p g e.by e.verb e.answer) (has (λ f. grant_seen r p g f.by f.verb f.answer) past) (ih h)
@@ -42,14 +43,15 @@ reach_ask c r p by q past s true h = rw h (λ g u e o m. cc)
 reach_ask c r p by q past s false h = rw h s
 
 reach_fuo : (c : Config) (r p by q : ℕ) (past : List Event) → p < c.replicas → IsLegalHistory c past → LogUnder c r p past → (t : Bool) → ((by == r) && (q == p)) ≡ t → LogUnder c r p (event_after c past by (Verb.Fuo q) ∷ past)
-reach_fuo c r p by q past l h s true k = rw k (λ g u e o m. go (has (λ f. grant_seen r p g f.by f.verb f.answer) (leadership r past)) g u e o m)
+reach_fuo c r p by q past l h s true k = rw k (λ g u e o m. go (has (λ f. grant_seen r p g f.by f.verb f.answer) (leadership r past)) g u e o (fuo_under r p g (leadership r past)) refl m)
   where
-    go : (t : Bool) (g u : ℕ) → g ≡ fence_grant p past → fence_owner p past ≡ Some r → newer_or (kept_if t (Some (region_fuo q past))) (fuo_under r p g (leadership r past)) ≡ Some u → length (region_log p past) ≤ max (u + c.ring) (put_end r p (leadership r past))
-    go true g u e o m =
-        let same : region_fuo q past ≡ region_fuo p past = ap (λ z. region_fuo z past) (eqb-true q p (and_parts (by == r) (q == p) k).1) in
-        let is : region_fuo q past ≡ u = same_some (region_fuo q past) u m in
-        let n = log_near c p past l h in omega arith
-    go false g u e o m = s g u e o m
+    near : length (region_log p past) ≤ region_fuo q past + c.ring
+    near = let same : region_fuo q past ≡ region_fuo p past = ap (λ z. region_fuo z past) (eqb-true q p (and_parts (by == r) (q == p) k).1) in let n = log_near c p past l h in omega (arith, same, n)
+
+    go : (t : Bool) (g u : ℕ) → g ≡ fence_grant p past → fence_owner p past ≡ Some r → (rest : Option ℕ) → fuo_under r p g (leadership r past) ≡ rest → lesser_or (kept_if t (Some (region_fuo q past))) rest ≡ Some u → length (region_log p past) ≤ max (u + c.ring) (put_end r p (leadership r past))
+    go true g u e o None at m = let is = same_some (region_fuo q past) u m in let n = near in omega (arith, is, n)
+    go true g u e o (Some y) at m = let is = same_some (min (region_fuo q past) y) u m in let n = near in let k = s g y e o at in omega (arith, is, n, k)
+    go false g u e o rest at m = s g u e o (at ∙ m)
 reach_fuo c r p by q past l h s false k = rw k s
 
 reach_grant : (c : Config) (r p by w : ℕ) (past : List Event) → IsLegalHistory c past → LogUnder c r p past → (t : Bool) → (by == p) ≡ t → LogUnder c r p (event_after c past by (Verb.Grant w) ∷ past)

@@ -1,5 +1,5 @@
 -- The laws of agreement.
-use Rattle.std.specs.Prelude.{Bool, List, None, Some, [], if◌then◌else◌, length, max, true, ℕ, ◌&&◌, ◌++◌, ◌+◌, ◌<◌, ◌==◌, ◌∷◌, ◌≡◌, ◌≢◌, ◌≤◌, ◌⊎◌}
+use Rattle.std.specs.Prelude.{Bool, List, None, Some, [], if◌then◌else◌, length, max, min, true, ℕ, ◌&&◌, ◌++◌, ◌+◌, ◌<◌, ◌==◌, ◌∷◌, ◌≡◌, ◌≢◌, ◌≤◌, ◌⊎◌}
 use Rattle.std.specs.declared.option.Option.{Option}
 use Rattle.std.specs.List.{slice_get}
 use Rattle.mu_model.specs.declared.config.Config.{Config}
@@ -10,7 +10,7 @@ use Rattle.mu_model.specs.Answers.{answer_of}
 use Rattle.mu_model.specs.Chosen.{IsChosen}
 use Rattle.mu_model.specs.Contents.{IsConfig, is_mark}
 use Rattle.mu_model.specs.Entering.{grant_seen}
-use Rattle.mu_model.specs.Histories.{greatest, has, history, newer_or, part, IsPrefixOf}
+use Rattle.mu_model.specs.Histories.{greatest, has, history, part, IsPrefixOf}
 use Rattle.mu_model.specs.Knowledge.{fuo_read, known}
 use Rattle.mu_model.specs.Leaderships.{leadership}
 use Rattle.mu_model.specs.Legal.{IsLegal}
@@ -109,11 +109,17 @@ abbrev pub kept_if : Bool → Option ℕ → Option ℕ
 kept_if t None = None
 kept_if t (Some x) = if t then Some x else None
 
--- the last `Fuo(p)` answer of r after a `Fence(p)` answer with the grant g
+-- the lesser of two offsets, where there are any
+abbrev pub lesser_or : Option ℕ → Option ℕ → Option ℕ
+lesser_or None rest = rest
+lesser_or (Some x) None = Some x
+lesser_or (Some x) (Some y) = Some (min x y)
+
+-- the least `Fuo(p)` answer of r after a `Fence(p)` answer with the grant g
 abbrev pub fuo_under : ℕ → ℕ → ℕ → List Event → Option ℕ
 fuo_under r p g [] = None
 fuo_under r p g (e ∷ past) =
-    newer_or
+    lesser_or
     (kept_if (has (λ f. grant_seen r p g f.by f.verb f.answer) past)
     (fuo_read r p e.by e.verb e.answer))
     (fuo_under r p g past)
@@ -129,7 +135,7 @@ abbrev pub put_end : ℕ → ℕ → List Event → ℕ
 put_end r p past = greatest (λ e. end_put r p e.by e.verb e.answer) past
 
 -- while r owns p under the grant with which it read the FUO, the log reaches no further than the
--- ring beyond it, or r's own puts
+-- ring beyond the least FUO that it read so, or r's own puts
 abbrev pub LogWithinReach : Type 0
 LogWithinReach =
     (c : Config) (events : List Event) (r p g u : ℕ) → IsLegal c events → p < c.replicas

@@ -149,8 +149,8 @@ pub fn log_within_fuo()
     ensures { LogWithinFuo }
 {}
 
-/// While a replica owns a region, its log reaches no further than the ring beyond the FUO that it
-/// read, or its own puts.
+/// While a replica owns a region, its log reaches no further than the ring beyond the least FUO that
+/// it read, or its own puts.
 pub fn log_within_reach()
     ensures { LogWithinReach }
 {}

@@ -20,7 +20,7 @@ use Rattle.mu_model.proofs.Basics.{event_by, or_true, same_number, true_or}
 use Rattle.mu_lead.specs.declared.place.Then.{Then}
 use Rattle.mu_lead.specs.Leading.{AtEnterBehind, AtFenceBehind, AtPutBehind, AtRaiseBehind, AtReadFuo, AtWiden, Behind, Brought, HasMost, HasPutNone, HaveAtMost, HaveBelow, HaveFew, IsClear, IsDone, IsLeft, IsMember, IsRaised, IsRead, Leads, Level, Near, RaisedBelow, end_of, is_put_at}
 use Rattle.mu_known.specs.Offers.{IsFirst}
-use Rattle.mu_lead.proofs.Copying.{fuo_read_other, put_elsewhere, puts_low, read_less}
+use Rattle.mu_lead.proofs.Copying.{fuo_read_on, put_elsewhere, puts_low, read_less}
 use Rattle.mu_lead.proofs.Keeping.{fuo_event, leads_kept, raise_event, raised_other}
 use Rattle.mu_lead.proofs.Tables.{brought_kept, caught_up_with}
 
@@ -59,13 +59,13 @@ raised_read c r b p u mine up up' reach reach' held raised here ups reaches now 
 
 -- a FUO that is read leaves those of the regions below it as they were
 pub raised_before : (r p u : ℕ) (mine : List Event) (up : List ℕ) (reach : List (Option ℕ)) → RaisedBelow r mine up reach p → RaisedBelow r (fuo_event r p u ∷ mine) up reach p
-raised_before r p u mine up reach raised k low member = (let old = raised k low member in (old.0, fuo_read_other r p k u (get_or up k 0) mine (λ same. omega (arith, low, same)) old.1))
+raised_before r p u mine up reach raised k low member = (let old = raised k low member in (old.0, fuo_read_on r p k u (get_or up k 0) mine old.1))
 
 -- a member behind, the first one
 pub first_behind : (c : Config) (r b p q : ℕ) (mine : List Event) (up : List ℕ) (reach : List (Option ℕ)) (on : Then) → Leads c r b mine → RaisedBelow r mine up reach c.replicas → IsClear r mine up
     → ((k : ℕ) → k < c.replicas → is_member r k mine ≡ true → IsDone on k p → end_of c r mine ≤ get_or up k 0)
-    → HaveFew c r mine up on p → IsFirst (λ k. is_member r k mine && nat_lt (get_or up k 0) (end_of c r mine)) p c.replicas (Some q) → AtWiden c r b mine up reach q on
-first_behind c r b p q mine up reach on leads raised clear done few first =
+    → HaveFew c r mine up on p → on ≢ Then.Joined → IsFirst (λ k. is_member r k mine && nat_lt (get_or up k 0) (end_of c r mine)) p c.replicas (Some q) → AtWiden c r b mine up reach q on
+first_behind c r b p q mine up reach on leads raised clear done few not_late first =
     let both = and_split (is_member r q mine) (nat_lt (get_or up q 0) (end_of c r mine)) first.2 in
     record {
       behind = record {
@@ -77,6 +77,7 @@ first_behind c r b p q mine up reach on leads raised clear done few first =
         clear = clear;
         have = λ k region other member. done_to on done k region member;
         few = λ k region member. (let at = few k region member in (at.0, λ left. at.1 (left_from on k left)));
+        late = λ joined. absurd (not_late joined);
       };
       lacks = ltb-true (get_or up q 0) (end_of c r mine) both.1;
     }
@@ -136,6 +137,7 @@ near_widened c r b p mine up reach reach' on at reaches near =
         clear = h.clear;
         have = h.have;
         few = h.few;
+        late = h.late;
       };
       lacks = at.lacks;
       near = λ version. near;
@@ -162,17 +164,18 @@ look_known c r p i (Answer.Number x) mine other = refl
 look_known c r p i Answer.Empty mine other = refl
 look_known c r p i Answer.Past mine other = refl
 
-behind_looked : (c : Config) (r b p i : ℕ) (answer : Answer) (mine : List Event) (up : List ℕ) (reach : List (Option ℕ)) (on : Then) → known c r (look_event r p i answer ∷ mine) ≡ known c r mine
-    → Behind c r b mine up reach p on → Behind c r b (look_event r p i answer ∷ mine) up reach p on
-behind_looked c r b p i answer mine up reach on same h = record {
+pub behind_looked : (c : Config) (r b p q i : ℕ) (answer : Answer) (mine : List Event) (up : List ℕ) (reach : List (Option ℕ)) (on : Then) → known c r (look_event r q i answer ∷ mine) ≡ known c r mine
+    → Behind c r b mine up reach p on → Behind c r b (look_event r q i answer ∷ mine) up reach p on
+behind_looked c r b p q i answer mine up reach on same h = record {
   region = h.region;
   member = h.member;
-  leads = leads_kept c r b r (Verb.Look p i) answer mine refl h.leads;
+  leads = leads_kept c r b r (Verb.Look q i) answer mine refl h.leads;
   raised = h.raised;
   read = h.read;
   clear = h.clear;
   have = λ k region other member done. subst (λ values. length values ≤ get_or up k 0) (sym same) (h.have k region other member done);
   few = λ k region member. subst (λ values. (get_or up k 0 ≤ length values) × (IsLeft on (p + 1) k → get_or up k 0 < length values)) (sym same) (h.few k region member);
+  late = h.late;
 }
 
 -- a look at what p lacks
@@ -180,7 +183,7 @@ pub near_looked : (c : Config) (r b p : ℕ) (answer : Answer) (mine : List Even
 near_looked c r b p answer mine up reach on at =
     let same = look_known c r p (get_or up p 0) answer mine (λ is. (let low = at.lacks in omega (arith, low, is))) in
     record {
-      behind = behind_looked c r b p (get_or up p 0) answer mine up reach on same at.behind;
+      behind = behind_looked c r b p p (get_or up p 0) answer mine up reach on same at.behind;
       lacks = subst (λ values. get_or up p 0 < length values) (sym same) at.lacks;
       near = at.near;
     }
@@ -244,7 +247,7 @@ puts_behind c r b p mine up reach on at =
     let h = n.behind in
     record {
       near = record {
-        behind = record { region = h.region; member = h.member; leads = leads_entered c r b p (get_or up p 0 % c.ring) mine h.leads; raised = h.raised; read = h.read; clear = h.clear; have = h.have; few = h.few };
+        behind = record { region = h.region; member = h.member; leads = leads_entered c r b p (get_or up p 0 % c.ring) mine h.leads; raised = h.raised; read = h.read; clear = h.clear; have = h.have; few = h.few; late = h.late };
         lacks = n.lacks;
         near = n.near;
       };
@@ -314,6 +317,7 @@ behind_put c r b v p u mine up up' reach on low ups was here h =
         | inl same_p ↦ subst (λ x. (get_or up' x 0 ≤ end_of c r mine) × (IsLeft on (p + 1) x → get_or up' x 0 < end_of c r mine)) (sym same_p) (omega (arith, here, low), λ left. absurd (not_left on left))
         | inr other ↦ subst (λ x. (x ≤ end_of c r mine) × (IsLeft on (p + 1) k → x < end_of c r mine)) (sym (ups k other)) (h.few k region member)
       ]);
+      late = h.late;
     }
   where
     not_left : (t : Then) → IsLeft t (p + 1) p → ⊥

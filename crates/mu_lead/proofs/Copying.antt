@@ -1,10 +1,10 @@
 -- What a leader read of a region and put there: where its FUO was read, and nothing was put beyond
 -- what it has, an entry is brought to it for the first time.
 use Rattle.std.proofs.Common.{Bool, List, None, Some, [], ap, arith, cond, eq-eqb, eqb-true, false, get_or, inl, inr, refl, subst, sym, true, true≢false, ℕ, ◌&&◌, ◌+◌, ◌==◌, ◌∙◌, ◌∷◌, ◌≡◌, ◌≢◌, ◌≤◌}
-use Rattle.std.specs.Prelude.{nat_le, not}
+use Rattle.std.specs.Prelude.{min, nat_le, not}
 use Rattle.std.specs.List.{slice_get}
 use Rattle.std.specs.declared.option.Option.{Option}
-use Rattle.std.proofs.lemmas.Bool.{cases_lt, le-leb, leb-true, ne_eqb}
+use Rattle.std.proofs.lemmas.Bool.{cases_lt, le-leb, leb-true}
 use Rattle.mu_model.specs.declared.config.Config.{Config}
 use Rattle.mu_model.specs.declared.event.Answer.{Answer}
 use Rattle.mu_model.specs.declared.event.Event.{Event}
@@ -18,8 +18,8 @@ use Rattle.mu_model.specs.Leaderships.{begins_leadership, fence_seen, grant_for,
 use Rattle.mu_model.specs.Parts.{IsPossible}
 use Rattle.mu_model.specs.Picks.{first_value, value_put}
 use Rattle.mu_model.specs.Placing.{fuo_read_or_raised}
-use Rattle.mu_model.proofs.Basics.{none_some, same_number, same_some}
-use Rattle.mu_agree.specs.Agreement.{end_put, fuo_under, kept_if, put_end}
+use Rattle.mu_model.proofs.Basics.{event_by, none_some, same_number, same_some}
+use Rattle.mu_agree.specs.Agreement.{end_put, fuo_under, kept_if, lesser_or, put_end}
 use Rattle.mu_agree.proofs.Landings.{greatest_since}
 use Rattle.mu_agree.proofs.Possible.{parts_shorten_law}
 use Rattle.mu_pace.proofs.Growing.{member_on}
@@ -56,21 +56,29 @@ at_most_more u w (Some x) low is = le-leb x w (let less = leb-true x u is in ome
 pub read_less : (r p u w : ℕ) (mine : List Event) → u ≤ w → IsRead r mine p u → IsRead r mine p w
 read_less r p u w mine low read g noted = at_most_more u w (fuo_under r p g (leadership r mine)) low (read g noted)
 
+-- the lesser of two is at most what one of them is
+lesser_first : (w u : ℕ) (rest : Option ℕ) → u ≤ w → is_at_most w (lesser_or (Some u) rest) ≡ true
+lesser_first w u None low = le-leb u w low
+lesser_first w u (Some y) low = le-leb (min u y) w (omega (arith, low))
+
+lesser_rest : (w : ℕ) (o rest : Option ℕ) → is_at_most w rest ≡ true → is_at_most w (lesser_or o rest) ≡ true
+lesser_rest w None rest is = is
+lesser_rest w (Some x) None is = absurd (true≢false (sym is))
+lesser_rest w (Some x) (Some y) is = le-leb (min x y) w (let low = leb-true y w is in omega (arith, low))
+
 -- the FUO was just read
 pub fuo_read_now : (r p u w : ℕ) (mine : List Event) → u ≤ w → IsRead r (fuo_event r p u ∷ mine) p w
 fuo_read_now r p u w mine low g noted = go (r == r) (p == p) (has (λ e. grant_seen r p g e.by e.verb e.answer) (leadership r mine)) (fuo_under r p g (leadership r mine)) (same_number r) (same_number p) (seen_noted r p g (leadership r mine) noted)
   where
-    go : (s t k : Bool) (rest : Option ℕ) → s ≡ true → t ≡ true → k ≡ true → is_at_most w (newer_or (kept_if k (cond (s && t) (Some u) None)) rest) ≡ true
-    go s t k rest a b d = rw (a, b, d) (le-leb u w low)
+    go : (s t k : Bool) (rest : Option ℕ) → s ≡ true → t ≡ true → k ≡ true → is_at_most w (lesser_or (kept_if k (cond (s && t) (Some u) None)) rest) ≡ true
+    go s t k rest a b d = rw (a, b, d) (lesser_first w u rest low)
 
--- the FUO of another region
-pub fuo_read_other : (r p q u w : ℕ) (mine : List Event) → p ≢ q → IsRead r mine q w → IsRead r (fuo_event r p u ∷ mine) q w
-fuo_read_other r p q u w mine other read g noted = go (r == r) (p == q) (has (λ e. grant_seen r q g e.by e.verb e.answer) (leadership r mine)) (fuo_under r q g (leadership r mine)) (ne_eqb p q other) (read g noted)
-  where
-    go : (s t k : Bool) (rest : Option ℕ) → t ≡ false → is_at_most w rest ≡ true → is_at_most w (newer_or (kept_if k (cond (s && t) (Some u) None)) rest) ≡ true
-    go true true k rest none is = absurd (true≢false none)
-    go true false k rest none is = is
-    go false t k rest none is = is
+-- what was read of a region stays, whatever FUO is read then
+pub read_on : (r p q w : ℕ) (answer : Answer) (mine : List Event) → IsRead r mine q w → IsRead r (event_by r (Verb.Fuo p) answer ∷ mine) q w
+read_on r p q w answer mine read g noted = lesser_rest w (kept_if (has (λ e. grant_seen r q g e.by e.verb e.answer) (leadership r mine)) (fuo_read r q r (Verb.Fuo p) answer)) (fuo_under r q g (leadership r mine)) (read g noted)
+
+pub fuo_read_on : (r p q u w : ℕ) (mine : List Event) → IsRead r mine q w → IsRead r (fuo_event r p u ∷ mine) q w
+fuo_read_on r p q u w mine read = read_on r p q w (Answer.Number u) mine read
 
 -- which FUO was read
 fuo_is : (r p x by : ℕ) (v : Verb) (a : Answer) → fuo_read r p by v a ≡ Some x → (v ≡ Verb.Fuo p) × (a ≡ Answer.Number x)
@@ -120,10 +128,18 @@ first_at_most c r p g u (e ∷ mine) possible is = go (begins_leadership r e) is
         let below = first_low r p y (leadership r mine) first in
         let all = greatest_since (λ f. fuo_read_or_raised r p f.by f.verb f.answer) (begins_leadership r) mine in omega (arith, low, rise, below, all)
 
-    by_read : (o : Option ℕ) (k : Bool) → fuo_read r p e.by e.verb e.answer ≡ o → is_at_most u (newer_or (kept_if k o) (fuo_under r p g (leadership r mine))) ≡ true
+    either : (x : ℕ) (rest : Option ℕ) → fuo_read r p e.by e.verb e.answer ≡ Some x → is_at_most u (lesser_or (Some x) rest) ≡ true → (is_at_most u rest ≡ true → is_at_most u (first_fuo r p mine) ≡ true)
+        → is_at_most u (earlier_or (Some x) (first_fuo r p mine)) ≡ true
+    either x None at is before = earlier_low x (first_fuo r p mine) (rises x at (leb-true x u is)) is
+    either x (Some y) at is before = elim (cases_lt u x) [
+      | inl above ↦ earlier_on x (first_fuo r p mine) (before (le-leb y u (let low = leb-true (min x y) u is in omega (arith, low, above))))
+      | inr below ↦ earlier_low x (first_fuo r p mine) (rises x at below) (le-leb x u below)
+    ]
+
+    by_read : (o : Option ℕ) (k : Bool) → fuo_read r p e.by e.verb e.answer ≡ o → is_at_most u (lesser_or (kept_if k o) (fuo_under r p g (leadership r mine))) ≡ true
         → (is_at_most u (fuo_under r p g (leadership r mine)) ≡ true → is_at_most u (first_fuo r p mine) ≡ true) → is_at_most u (earlier_or o (first_fuo r p mine)) ≡ true
     by_read None k at is before = before is
-    by_read (Some x) true at is before = earlier_low x (first_fuo r p mine) (rises x at (leb-true x u is)) is
+    by_read (Some x) true at is before = either x (fuo_under r p g (leadership r mine)) at is before
     by_read (Some x) false at is before = earlier_on x (first_fuo r p mine) (before is)
 
     go : (t : Bool) → is_at_most u (fuo_under r p g (cond t [] (e ∷ leadership r mine))) ≡ true → (is_at_most u (fuo_under r p g (leadership r mine)) ≡ true → is_at_most u (first_fuo r p mine) ≡ true)

@@ -19,7 +19,7 @@ use Rattle.mu_model.proofs.Basics.{event_by, none_some, same_number, same_some}
 use Rattle.mu_agree.proofs.Counting.{count_more}
 use Rattle.mu_lead.specs.declared.place.Then.{Then}
 use Rattle.mu_lead.specs.Leading.{AtLateEnter, AtLateFuo, AtLateMin, AtLatePut, AtWiden, IsRaised, IsRead, Late, Leads, Level, SawPast, end_of, is_put_at}
-use Rattle.mu_lead.proofs.Copying.{fuo_read_now, fuo_read_other, none_put, stranger_clear}
+use Rattle.mu_lead.proofs.Copying.{fuo_read_now, fuo_read_on, none_put, stranger_clear}
 use Rattle.mu_lead.proofs.Keeping.{fuo_event, leads_kept, raised_other}
 use Rattle.mu_lead.proofs.Puts.{member_within}
 use Rattle.mu_lead.proofs.Numbering.{held_joined, joining_other, landed_min, member_now, member_still, read_now}
@@ -109,7 +109,7 @@ level_read c r b p u mine up up' reach reach' stranger ups reaches l = record {
   have = λ k region member. subst (λ x. end_of c r mine ≤ x) (sym (ups k (other k member))) (l.have k region member);
   raised = λ k region member. (let old = l.raised k region member in (
     raised_other p k up up' reach reach' (other k member) ups reaches old.0,
-    subst (λ x. IsRead r (fuo_event r p u ∷ mine) k x) (sym (ups k (other k member))) (fuo_read_other r p k u (get_or up k 0) mine (stranger_other r p k mine stranger member) old.1),
+    subst (λ x. IsRead r (fuo_event r p u ∷ mine) k x) (sym (ups k (other k member))) (fuo_read_on r p k u (get_or up k 0) mine old.1),
   ));
   few = λ k region member. subst (λ x. x ≤ end_of c r mine) (sym (ups k (other k member))) (l.few k region member);
 }
@@ -134,6 +134,7 @@ late_read c r b p u mine up up' reach reach' ups reaches here low raised at = re
   short = omega (arith, here, low);
   raised = raised;
   read = fuo_read_now r p u (get_or up' p 0) mine (omega (arith, here));
+  late = rw (same_number r, at.late.level.leads.numbered, at.late.stranger) refl;
 }
 
 -- the event of an `Enter` for the minimum
@@ -172,6 +173,7 @@ late_entered c r b p mine up reach at =
         short = at.short;
         raised = at.raised;
         read = at.read;
+        late = at.late;
       };
       entered = rw (same_number r, same_number p) refl;
       under = rw (same_number r, same_number p) refl;
@@ -223,6 +225,7 @@ late_behind c r b p mine up reach possible at lacks =
           ],
           λ left. absurd left,
         );
+        late = λ joined. at.entering.late;
       };
       lacks = lacks;
     }

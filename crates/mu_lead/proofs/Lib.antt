@@ -1,6 +1,7 @@
 mod Allowing
 mod Asking
 mod Bringing
+mod Calm
 pub mod Causes
 mod Commits
 pub mod Confirms
@@ -9,6 +10,7 @@ mod Due
 mod ElectionSteps
 pub mod Elections
 mod Folding
+mod FuosBeside
 mod Gathering
 mod Firsts
 mod Going
@@ -19,6 +21,7 @@ mod Lates
 mod Laws
 mod Listed
 mod Looks
+mod LooksBeside
 mod Losses
 mod Marks
 mod Misses

@@ -148,7 +148,7 @@ look_same c r e mine low = go (learnt_by c r mine (length (known c r mine)) e.by
     go None low = refl
     go (Some v) low = absurd (let more = length-append (known c r mine) (v ∷ []) in omega (arith, more, low))
 
-level_looked : (c : Config) (r b p i : ℕ) (a : Answer) (mine : List Event) (up : List ℕ) (reach : List (Option ℕ)) → known c r (look_event r p i a ∷ mine) ≡ known c r mine → Level c r b mine up reach → Level c r b (look_event r p i a ∷ mine) up reach
+pub level_looked : (c : Config) (r b p i : ℕ) (a : Answer) (mine : List Event) (up : List ℕ) (reach : List (Option ℕ)) → known c r (look_event r p i a ∷ mine) ≡ known c r mine → Level c r b mine up reach → Level c r b (look_event r p i a ∷ mine) up reach
 level_looked c r b p i a mine up reach same l = record {
   leads = leads_kept c r b r (Verb.Look p i) a mine refl l.leads;
   have = λ k region member. subst (λ values. length values ≤ get_or up k 0) (sym same) (l.have k region member);
@@ -166,7 +166,7 @@ marks_looked c r p i a mine (Some k) same m = record {
   stuck = subst (λ values. is_mark_candidate c r k (length values + reserve c) mine ≡ true) (sym same) m.stuck;
 }
 
-roomy_looked : (c : Config) (r p i n : ℕ) (a : Answer) (mine : List Event) (candidate : Option ℕ) → known c r (look_event r p i a ∷ mine) ≡ known c r mine → Roomy c r mine n candidate → Roomy c r (look_event r p i a ∷ mine) n candidate
+pub roomy_looked : (c : Config) (r p i n : ℕ) (a : Answer) (mine : List Event) (candidate : Option ℕ) → known c r (look_event r p i a ∷ mine) ≡ known c r mine → Roomy c r mine n candidate → Roomy c r (look_event r p i a ∷ mine) n candidate
 roomy_looked c r p i n a mine candidate same l = record {
   within = subst (λ values. length values < row_count c + reserve c) (sym same) l.within;
   lacks = subst (λ values. holds_all c values ≡ false) (sym same) l.lacks;

@@ -12,7 +12,7 @@ use Rattle.mu_lead.specs.declared.place.Offer.{Offer}
 use Rattle.mu_lead.specs.declared.place.Place.{Place}
 use Rattle.mu_lead.specs.declared.place.Then.{Then}
 use Rattle.mu_lead.specs.Notes.{note_of_commit, note_of_head}
-use Rattle.mu_lead.specs.Saying.{EndsJoining, NotesJoin, SaysReads, ShowsHigher, ShowsNoRoom, Teaches, TellsAfter, is_working_or_lost, note_of_learning}
+use Rattle.mu_lead.specs.Saying.{EndsJoining, IsLastStep, NotesJoin, SaysReads, ShowsHigher, ShowsNoRoom, Teaches, TellsAfter, is_working_or_lost, note_of_learning}
 
 -- what kind a note is of
 abbrev pub is_higher : Note → Bool
@@ -76,8 +76,11 @@ pub not_look : (c : Config) (r : ℕ) (mine : List Event) (verb : Verb) (answer 
 not_look c r mine verb answer out i v teaches = differs_by_test is_look verb (Verb.Look teaches.region i) out refl teaches.looked
 
 pub not_join : (c : Config) (r : ℕ) (mine : List Event) (up : List ℕ) (place : Place) (answer : Answer) → may_join place ≡ false → (p : ℕ) → EndsJoining c r mine up place answer p → ⊥
-not_join c r mine up place answer out p (inl raised) = differs_by_test may_join place (Place.RaiseBehind p Then.Joined) out refl raised
-not_join c r mine up place answer out p (inr put) = differs_by_test may_join place (Place.LatePut p) out refl put.0
+not_join c r mine up place answer out p ends = not_last ends.last
+  where
+    not_last : IsLastStep c r mine up place answer p → ⊥
+    not_last (inl raised) = differs_by_test may_join place (Place.RaiseBehind p Then.Joined) out refl raised
+    not_last (inr put) = differs_by_test may_join place (Place.LatePut p) out refl put.0
 
 -- a note of none of these kinds, where none of the rows holds
 pub says_none : (c : Config) (r : ℕ) (mine : List Event) (up : List ℕ) (place : Place) (verb : Verb) (answer : Answer) (note : Note) → is_higher note ≡ false → is_no_room note ≡ false → is_joined note ≡ false → is_learnt note ≡ false

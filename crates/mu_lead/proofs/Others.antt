@@ -1,6 +1,6 @@
 -- What other machines of the replica do keeps what its leader stands for.
-use Rattle.std.proofs.Common.{Bool, List, None, Some, ap, arith, false, inl, inr, is_some, length, refl, subst, sym, true, true≢false, ℕ, ◌&&◌, ◌+◌, ◌-◌, ◌/◌, ◌==◌, ◌||◌, ◌∙◌, ◌∷◌, ◌≡◌}
-use Rattle.std.specs.Prelude.{nat_lt, not}
+use Rattle.std.proofs.Common.{Bool, List, None, Some, ap, eq-eqb, false, inl, inr, is_some, refl, sym, true, true≢false, ℕ, ◌&&◌, ◌+◌, ◌-◌, ◌/◌, ◌==◌, ◌||◌, ◌∙◌, ◌∷◌, ◌≡◌, ◌≢◌}
+use Rattle.std.specs.Prelude.{not}
 use Rattle.std.specs.declared.option.Option.{Option}
 use Rattle.std.proofs.lemmas.Bool.{and_from, and_parts}
 use Rattle.mu_model.specs.declared.config.Config.{Config}
@@ -8,58 +8,31 @@ use Rattle.mu_model.specs.declared.event.Answer.{Answer}
 use Rattle.mu_model.specs.declared.event.Event.{Event}
 use Rattle.mu_model.specs.declared.event.Verb.{Verb}
 use Rattle.mu_model.specs.Allowed.{last_ask}
-use Rattle.mu_model.specs.Contents.{holds_all, is_mark, marked}
-use Rattle.mu_model.specs.Entering.{number_allowed}
+use Rattle.mu_model.specs.Contents.{is_mark, marked}
 use Rattle.mu_model.specs.Histories.{all_below, newest}
 use Rattle.mu_model.specs.Knowledge.{known}
 use Rattle.mu_model.specs.Leaderships.{begins_leadership, is_member, proposal_number}
 use Rattle.mu_model.specs.Parts.{IsPossible}
 use Rattle.mu_model.specs.Picks.{first_value, highest_accepted, is_mark_offer, is_offer, last_look, may_pick_at, may_propose, pick}
 use Rattle.mu_model.specs.Placing.{IsNew}
-use Rattle.mu_model.specs.Room.{head_read, is_mark_candidate, lacks_room, last_head, reserve}
+use Rattle.mu_model.specs.Room.{head_read, is_mark_candidate, lacks_room, reserve}
 use Rattle.mu_model.specs.Scores.{is_failed}
 use Rattle.mu_model.proofs.Basics.{event_by, or_true}
 use Rattle.mu_model.proofs.Scans.{all_at, each_all}
 use Rattle.mu_lead.specs.declared.place.Place.{Place}
-use Rattle.mu_lead.specs.Beside.{OthersKeep, is_beside, leads_at}
+use Rattle.mu_lead.specs.declared.lead.Lead.{Lead}
+use Rattle.mu_lead.specs.Beside.{OthersKeep, is_beside, leads_at, leaves_leader}
 use Rattle.mu_lead.specs.Confirming.{AtEvidence, Fresh}
 use Rattle.mu_lead.specs.Leading.{end_of}
-use Rattle.mu_lead.specs.Offering.{MayBeMarked, Roomy, leaves_room}
-use Rattle.mu_lead.specs.Standing.{At}
+use Rattle.mu_lead.specs.Offering.{leaves_room}
+use Rattle.mu_lead.specs.Standing.{At, StandsFor}
+use Rattle.mu_lead.proofs.Calm.{number_calm, room_more, roomy_more}
+use Rattle.mu_lead.proofs.FuosBeside.{at_fuo}
+use Rattle.mu_lead.proofs.LooksBeside.{at_looked}
 use Rattle.mu_lead.proofs.Keeping.{is_calm, leading_calm, leads_kept, source_calm, most_on}
 use Rattle.mu_lead.proofs.Looks.{head_event}
 use Rattle.mu_lead.proofs.Sights.{keeps_looks, shows_kept}
-use Rattle.mu_lead.proofs.Rooms.{higher}
-use Rattle.mu_lead.proofs.Tables.{head_kept, is_write, tables_kept}
-
--- who may be marked still may
-marks_more : (c : Config) (r : ℕ) (e : Event) (mine : List Event) (candidate : Option ℕ) → begins_leadership r e ≡ false → known c r (e ∷ mine) ≡ known c r mine → MayBeMarked c r mine candidate → MayBeMarked c r (e ∷ mine) candidate
-marks_more c r e mine None goes_on same m = tt
-marks_more c r e mine (Some k) goes_on same m = record {
-  region = m.region;
-  other = m.other;
-  version = m.version;
-  unmarked = subst (λ values. marked c k values ≡ false) (sym same) m.unmarked;
-  stuck = subst (λ values. is_mark_candidate c r k (length values + reserve c) (e ∷ mine) ≡ true) (sym same)
-      (rw goes_on (or_true (lacks_room c (end_of c r mine + reserve c) (head_read r k e.by e.verb e.answer) && is_failed r k (e ∷ mine)) (is_mark_candidate c r k (end_of c r mine + reserve c) mine) m.stuck));
-}
-
--- heads that leave room still do, since they never fall
-room_more : (c : Config) (r i free k : ℕ) (e : Event) (mine : List Event) → IsPossible c r (e ∷ mine) → known c r (e ∷ mine) ≡ known c r mine → leaves_room c r mine i free k ≡ true → leaves_room c r (e ∷ mine) i free k ≡ true
-room_more c r i free k e mine possible same is =
-    subst (λ values. (marked c k values || nat_lt (i + free) (last_head r k (e ∷ mine) + c.ring)) ≡ true) (sym same)
-    (higher (marked c k (known c r mine)) i free (last_head r k mine) (last_head r k (e ∷ mine)) c.ring (head_kept c r k e mine possible) is)
-
-roomy_more : (c : Config) (r n : ℕ) (e : Event) (mine : List Event) (candidate : Option ℕ) → IsPossible c r (e ∷ mine) → begins_leadership r e ≡ false → known c r (e ∷ mine) ≡ known c r mine → Roomy c r mine n candidate → Roomy c r (e ∷ mine) n candidate
-roomy_more c r n e mine candidate possible goes_on same l =
-    let long = ap length same in
-    record {
-      within = (let low = l.within in omega (arith, low, long));
-      lacks = subst (λ values. holds_all c values ≡ false) (sym same) l.lacks;
-      room = λ k low. subst (λ i. leaves_room c r (e ∷ mine) i 0 k ≡ true) (sym long) (room_more c r (end_of c r mine) 0 k e mine possible same (l.room k low));
-      free = λ none k low. subst (λ i. leaves_room c r (e ∷ mine) i (reserve c) k ≡ true) (sym long) (room_more c r (end_of c r mine) (reserve c) k e mine possible same (l.free none k low));
-      marks = marks_more c r e mine candidate goes_on same l.marks;
-    }
+use Rattle.mu_lead.proofs.Tables.{is_write, tables_kept}
 
 -- a mark that may be offered still may
 not_all : (n : ℕ) (f g : ℕ → Bool) → ((q : ℕ) → g q ≡ true → f q ≡ true) → not (all_below n f) ≡ true → not (all_below n g) ≡ true
@@ -145,19 +118,6 @@ asked_beside c r (Verb.PutSlot q i n v) answer mine p beside h = absurd (true≢
 asked_beside c r (Verb.WriteRow j k x) answer mine p beside h = absurd (true≢false (sym beside))
 asked_beside c r verb answer mine p beside h = h
 
-number_beside : (c : Config) (r : ℕ) (verb : Verb) (answer : Answer) (mine : List Event) (b : ℕ) (o : Option ℕ) → is_beside true verb ≡ true → number_allowed r mine b o → number_allowed r (event_by r verb answer ∷ mine) b o
-number_beside c r (Verb.Ask q) answer mine b o beside h = absurd (true≢false (sym beside))
-number_beside c r (Verb.Fence q) answer mine b o beside h = absurd (true≢false (sym beside))
-number_beside c r (Verb.Min q) answer mine b o beside h = absurd (true≢false (sym beside))
-number_beside c r (Verb.Enter q t) answer mine b o beside h = absurd (true≢false (sym beside))
-number_beside c r (Verb.PutMin q n) answer mine b o beside h = absurd (true≢false (sym beside))
-number_beside c r (Verb.PutSlot q i n v) answer mine b o beside h = absurd (true≢false (sym beside))
-number_beside c r (Verb.WriteRow j k x) answer mine b o beside h = absurd (true≢false (sym beside))
-number_beside c r (Verb.Fuo q) answer mine b o beside h = absurd (true≢false (sym beside))
-number_beside c r (Verb.Look q i) answer mine b o beside h = absurd (true≢false (sym beside))
-number_beside c r verb answer mine b None beside h = h
-number_beside c r verb answer mine b (Some x) beside h = h
-
 new_beside : (c : Config) (r : ℕ) (verb : Verb) (answer : Answer) (mine : List Event) (i v : ℕ) → is_beside true verb ≡ true → IsPossible c r (event_by r verb answer ∷ mine) → IsNew c r mine i v → IsNew c r (event_by r verb answer ∷ mine) i v
 new_beside c r (Verb.Ask q) answer mine i v beside possible n = absurd (true≢false (sym beside))
 new_beside c r (Verb.Fence q) answer mine i v beside possible n = absurd (true≢false (sym beside))
@@ -177,6 +137,16 @@ keeps_beside (Verb.PutMin q n) beside = absurd (true≢false (sym beside))
 keeps_beside (Verb.Look q i) beside = absurd (true≢false (sym beside))
 keeps_beside verb beside = refl
 
+calm_beside : (leading : Bool) (verb : Verb) → is_beside leading verb ≡ true → is_calm verb ≡ true
+calm_beside leading (Verb.Ask q) beside = absurd (true≢false (sym beside))
+calm_beside leading (Verb.Fence q) beside = absurd (true≢false (sym beside))
+calm_beside leading (Verb.Min q) beside = absurd (true≢false (sym beside))
+calm_beside leading (Verb.Enter q t) beside = absurd (true≢false (sym beside))
+calm_beside leading (Verb.PutMin q n) beside = absurd (true≢false (sym beside))
+calm_beside leading (Verb.PutSlot q i n v) beside = absurd (true≢false (sym beside))
+calm_beside leading (Verb.WriteRow j k x) beside = absurd (true≢false (sym beside))
+calm_beside leading verb beside = refl
+
 -- while the replica leads
 at_on : (c : Config) (r b : ℕ) (verb : Verb) (answer : Answer) (mine : List Event) (up : List ℕ) (reach : List (Option ℕ)) (written : List ℕ) (place : Place) → leads_at place ≡ true → is_beside true verb ≡ true → IsPossible c r (event_by r verb answer ∷ mine) → At c r b mine up reach written place → At c r b (event_by r verb answer ∷ mine) up reach written place
 at_on c r b (Verb.Ask q) answer mine up reach written place leading beside possible at = absurd (true≢false (sym beside))
@@ -189,21 +159,21 @@ at_on c r b (Verb.WriteRow j k x) answer mine up reach written place leading bes
 at_on c r b (Verb.Fuo q) answer mine up reach written place leading beside possible at = absurd (true≢false (sym beside))
 at_on c r b (Verb.Look q i) answer mine up reach written place leading beside possible at = absurd (true≢false (sym beside))
 at_on c r b verb answer mine up reach written (Place.ReadMin p) leading beside possible at = record { region = at.region; granted = at.granted; telling = record { fresh = record { begun = at.telling.fresh.begun; goes_on = at.telling.fresh.goes_on; unnumbered = at.telling.fresh.unnumbered; alone = at.telling.fresh.alone; unput = at.telling.fresh.unput }; confirmed = record { own = at.telling.confirmed.own; many = at.telling.confirmed.many }; told = at.telling.told; low = at.telling.low } }
-at_on c r b verb answer mine up reach written (Place.EnterMin p) leading beside possible at = record { region = at.region; granted = at.granted; numbered = record { begun = at.numbered.begun; goes_on = at.numbered.goes_on; allowed = number_beside c r verb answer mine b (proposal_number r mine) beside at.numbered.allowed; confirmed = record { own = at.numbered.confirmed.own; many = at.numbered.confirmed.many }; told = at.numbered.told; low = at.numbered.low; unput = at.numbered.unput }; below = record { joined = at.below.joined; held = λ q region member. (let h = at.below.held q region member in record { grant = h.grant; noted = h.noted; joined = h.joined }) } }
-at_on c r b verb answer mine up reach written (Place.PutMin p) leading beside possible at = record { entering = record { region = at.entering.region; granted = at.entering.granted; numbered = record { begun = at.entering.numbered.begun; goes_on = at.entering.numbered.goes_on; allowed = number_beside c r verb answer mine b (proposal_number r mine) beside at.entering.numbered.allowed; confirmed = record { own = at.entering.numbered.confirmed.own; many = at.entering.numbered.confirmed.many }; told = at.entering.numbered.told; low = at.entering.numbered.low; unput = at.entering.numbered.unput }; below = record { joined = at.entering.below.joined; held = λ q region member. (let h = at.entering.below.held q region member in record { grant = h.grant; noted = h.noted; joined = h.joined }) } }; entered = at.entered; under = at.under }
+at_on c r b verb answer mine up reach written (Place.EnterMin p) leading beside possible at = record { region = at.region; granted = at.granted; numbered = record { begun = at.numbered.begun; goes_on = at.numbered.goes_on; allowed = number_calm r verb answer mine b (proposal_number r mine) (calm_beside true verb beside) at.numbered.allowed; confirmed = record { own = at.numbered.confirmed.own; many = at.numbered.confirmed.many }; told = at.numbered.told; low = at.numbered.low; unput = at.numbered.unput }; below = record { joined = at.below.joined; held = λ q region member. (let h = at.below.held q region member in record { grant = h.grant; noted = h.noted; joined = h.joined }) } }
+at_on c r b verb answer mine up reach written (Place.PutMin p) leading beside possible at = record { entering = record { region = at.entering.region; granted = at.entering.granted; numbered = record { begun = at.entering.numbered.begun; goes_on = at.entering.numbered.goes_on; allowed = number_calm r verb answer mine b (proposal_number r mine) (calm_beside true verb beside) at.entering.numbered.allowed; confirmed = record { own = at.entering.numbered.confirmed.own; many = at.entering.numbered.confirmed.many }; told = at.entering.numbered.told; low = at.entering.numbered.low; unput = at.entering.numbered.unput }; below = record { joined = at.entering.below.joined; held = λ q region member. (let h = at.entering.below.held q region member in record { grant = h.grant; noted = h.noted; joined = h.joined }) } }; entered = at.entered; under = at.under }
 at_on c r b verb answer mine up reach written (Place.ReadFuo p source) leading beside possible at = record { region = at.region; member = at.member; leads = leads_kept c r b r verb answer mine refl at.leads; raised = at.raised; unput = at.unput; from = source_calm c r r verb answer mine source refl at.from; few = most_on r p mine (event_by r verb answer ∷ mine) up source (λ q. refl) at.few }
 at_on c r b verb answer mine up reach written (Place.Learn p) leading beside possible at = record { region = at.region; member = at.member; leads = leads_kept c r b r verb answer mine refl at.leads; raised = at.raised; unput = at.unput; lacks = at.lacks; few = at.few }
-at_on c r b verb answer mine up reach written (Place.WidenBehind p on) leading beside possible at = record { behind = record { region = at.behind.region; member = at.behind.member; leads = leads_kept c r b r verb answer mine refl at.behind.leads; raised = at.behind.raised; read = at.behind.read; clear = at.behind.clear; have = at.behind.have; few = at.behind.few }; lacks = at.lacks }
-at_on c r b verb answer mine up reach written (Place.LookBehind p on) leading beside possible at = record { behind = record { region = at.behind.region; member = at.behind.member; leads = leads_kept c r b r verb answer mine refl at.behind.leads; raised = at.behind.raised; read = at.behind.read; clear = at.behind.clear; have = at.behind.have; few = at.behind.few }; lacks = at.lacks; near = at.near }
-at_on c r b verb answer mine up reach written (Place.EnterBehind p on) leading beside possible at = record { near = record { behind = record { region = at.near.behind.region; member = at.near.behind.member; leads = leads_kept c r b r verb answer mine refl at.near.behind.leads; raised = at.near.behind.raised; read = at.near.behind.read; clear = at.near.behind.clear; have = at.near.behind.have; few = at.near.behind.few }; lacks = at.near.lacks; near = at.near.near }; looked = rw at.near.behind.member at.looked }
-at_on c r b verb answer mine up reach written (Place.PutBehind p on) leading beside possible at = record { near = record { behind = record { region = at.near.behind.region; member = at.near.behind.member; leads = leads_kept c r b r verb answer mine refl at.near.behind.leads; raised = at.near.behind.raised; read = at.near.behind.read; clear = at.near.behind.clear; have = at.near.behind.have; few = at.near.behind.few }; lacks = at.near.lacks; near = at.near.near }; entered = at.entered; under = at.under; looked = rw at.near.behind.member at.looked }
-at_on c r b verb answer mine up reach written (Place.RaiseBehind p on) leading beside possible at = record { behind = record { region = at.behind.region; member = at.behind.member; leads = leads_kept c r b r verb answer mine refl at.behind.leads; raised = at.behind.raised; read = at.behind.read; clear = at.behind.clear; have = at.behind.have; few = at.behind.few }; done = at.done }
-at_on c r b verb answer mine up reach written (Place.FenceBehind p on) leading beside possible at = record { near = record { behind = record { region = at.near.behind.region; member = at.near.behind.member; leads = leads_kept c r b r verb answer mine refl at.near.behind.leads; raised = at.near.behind.raised; read = at.near.behind.read; clear = at.near.behind.clear; have = at.near.behind.have; few = at.near.behind.few }; lacks = at.near.lacks; near = at.near.near }; past = record { since = event_by r verb answer ∷ at.past.since; before = at.past.before; is = ap (λ past. event_by r verb answer ∷ past) at.past.is; grant = at.past.grant; noted = at.past.noted; joined = at.past.joined; read = at.past.read; puts = at.past.puts } }
+at_on c r b verb answer mine up reach written (Place.WidenBehind p on) leading beside possible at = record { behind = record { region = at.behind.region; member = at.behind.member; leads = leads_kept c r b r verb answer mine refl at.behind.leads; raised = at.behind.raised; read = at.behind.read; clear = at.behind.clear; have = at.behind.have; few = at.behind.few; late = at.behind.late }; lacks = at.lacks }
+at_on c r b verb answer mine up reach written (Place.LookBehind p on) leading beside possible at = record { behind = record { region = at.behind.region; member = at.behind.member; leads = leads_kept c r b r verb answer mine refl at.behind.leads; raised = at.behind.raised; read = at.behind.read; clear = at.behind.clear; have = at.behind.have; few = at.behind.few; late = at.behind.late }; lacks = at.lacks; near = at.near }
+at_on c r b verb answer mine up reach written (Place.EnterBehind p on) leading beside possible at = record { near = record { behind = record { region = at.near.behind.region; member = at.near.behind.member; leads = leads_kept c r b r verb answer mine refl at.near.behind.leads; raised = at.near.behind.raised; read = at.near.behind.read; clear = at.near.behind.clear; have = at.near.behind.have; few = at.near.behind.few; late = at.near.behind.late }; lacks = at.near.lacks; near = at.near.near }; looked = rw at.near.behind.member at.looked }
+at_on c r b verb answer mine up reach written (Place.PutBehind p on) leading beside possible at = record { near = record { behind = record { region = at.near.behind.region; member = at.near.behind.member; leads = leads_kept c r b r verb answer mine refl at.near.behind.leads; raised = at.near.behind.raised; read = at.near.behind.read; clear = at.near.behind.clear; have = at.near.behind.have; few = at.near.behind.few; late = at.near.behind.late }; lacks = at.near.lacks; near = at.near.near }; entered = at.entered; under = at.under; looked = rw at.near.behind.member at.looked }
+at_on c r b verb answer mine up reach written (Place.RaiseBehind p on) leading beside possible at = record { behind = record { region = at.behind.region; member = at.behind.member; leads = leads_kept c r b r verb answer mine refl at.behind.leads; raised = at.behind.raised; read = at.behind.read; clear = at.behind.clear; have = at.behind.have; few = at.behind.few; late = at.behind.late }; done = at.done }
+at_on c r b verb answer mine up reach written (Place.FenceBehind p on) leading beside possible at = record { near = record { behind = record { region = at.near.behind.region; member = at.near.behind.member; leads = leads_kept c r b r verb answer mine refl at.near.behind.leads; raised = at.near.behind.raised; read = at.near.behind.read; clear = at.near.behind.clear; have = at.near.behind.have; few = at.near.behind.few; late = at.near.behind.late }; lacks = at.near.lacks; near = at.near.near }; past = record { since = event_by r verb answer ∷ at.past.since; before = at.past.before; is = ap (λ past. event_by r verb answer ∷ past) at.past.is; grant = at.past.grant; noted = at.past.noted; joined = at.past.joined; read = at.past.read; puts = at.past.puts } }
 at_on c r b verb answer mine up reach written (Place.LateFence p) leading beside possible at = record { region = at.region; stranger = at.stranger; level = record { leads = leads_kept c r b r verb answer mine refl at.level.leads; have = at.level.have; raised = at.level.raised; few = at.level.few } }
 at_on c r b verb answer mine up reach written (Place.LateMin p) leading beside possible at = record { late = record { region = at.late.region; stranger = at.late.stranger; level = record { leads = leads_kept c r b r verb answer mine refl at.late.level.leads; have = at.late.level.have; raised = at.late.level.raised; few = at.late.level.few } }; granted = at.granted }
 at_on c r b verb answer mine up reach written (Place.LateFuo p) leading beside possible at = record { late = record { region = at.late.region; stranger = at.late.stranger; level = record { leads = leads_kept c r b r verb answer mine refl at.late.level.leads; have = at.late.level.have; raised = at.late.level.raised; few = at.late.level.few } }; granted = at.granted; told = at.told; low = at.low }
-at_on c r b verb answer mine up reach written (Place.LateEnter p) leading beside possible at = record { told = record { late = record { region = at.told.late.region; stranger = at.told.late.stranger; level = record { leads = leads_kept c r b r verb answer mine refl at.told.late.level.leads; have = at.told.late.level.have; raised = at.told.late.level.raised; few = at.told.late.level.few } }; granted = at.told.granted; told = at.told.told; low = at.told.low }; short = at.short; raised = at.raised; read = at.read }
-at_on c r b verb answer mine up reach written (Place.LatePut p) leading beside possible at = record { entering = record { told = record { late = record { region = at.entering.told.late.region; stranger = at.entering.told.late.stranger; level = record { leads = leads_kept c r b r verb answer mine refl at.entering.told.late.level.leads; have = at.entering.told.late.level.have; raised = at.entering.told.late.level.raised; few = at.entering.told.late.level.few } }; granted = at.entering.told.granted; told = at.entering.told.told; low = at.entering.told.low }; short = at.entering.short; raised = at.entering.raised; read = at.entering.read }; entered = at.entered; under = at.under }
+at_on c r b verb answer mine up reach written (Place.LateEnter p) leading beside possible at = record { told = record { late = record { region = at.told.late.region; stranger = at.told.late.stranger; level = record { leads = leads_kept c r b r verb answer mine refl at.told.late.level.leads; have = at.told.late.level.have; raised = at.told.late.level.raised; few = at.told.late.level.few } }; granted = at.told.granted; told = at.told.told; low = at.told.low }; short = at.short; raised = at.raised; read = at.read; late = at.late }
+at_on c r b verb answer mine up reach written (Place.LatePut p) leading beside possible at = record { entering = record { told = record { late = record { region = at.entering.told.late.region; stranger = at.entering.told.late.stranger; level = record { leads = leads_kept c r b r verb answer mine refl at.entering.told.late.level.leads; have = at.entering.told.late.level.have; raised = at.entering.told.late.level.raised; few = at.entering.told.late.level.few } }; granted = at.entering.told.granted; told = at.entering.told.told; low = at.entering.told.low }; short = at.entering.short; raised = at.entering.raised; read = at.entering.read; late = at.entering.late }; entered = at.entered; under = at.under }
 at_on c r b verb answer mine up reach written (Place.ReadHead p candidate) leading beside possible at = record { region = at.region; unmarked = at.unmarked; level = record { leads = leads_kept c r b r verb answer mine refl at.level.leads; have = at.level.have; raised = at.level.raised; few = at.level.few }; roomy = roomy_more c r p (event_by r verb answer) mine candidate possible refl refl at.roomy }
 at_on c r b verb answer mine up reach written (Place.Look p u candidate best) leading beside possible at = record { region = at.region; member = at.member; position = at.position; looking = record { level = record { leads = leads_kept c r b r verb answer mine refl at.looking.level.leads; have = at.looking.level.have; raised = at.looking.level.raised; few = at.looking.level.few }; roomy = roomy_more c r c.replicas (event_by r verb answer) mine candidate possible refl refl at.looking.roomy; looked = λ q low member. (let d = at.looking.looked q low member in record { good = rw member d.good; last = d.last; clear = d.clear; empty = d.empty }); shows = at.looking.shows } }
 at_on c r b verb answer mine up reach written (Place.Write u last offer) leading beside possible at = (let w = at.0.writing in (record { writing = record { looking = record { level = record { leads = leads_kept c r b r verb answer mine refl w.looking.level.leads; have = w.looking.level.have; raised = w.looking.level.raised; few = w.looking.level.few }; roomy = roomy_more c r c.replicas (event_by r verb answer) mine None possible refl refl w.looking.roomy; looked = λ q low member. (let d = w.looking.looked q low member in record { good = rw member d.good; last = d.last; clear = d.clear; empty = d.empty }); shows = w.looking.shows }; first = w.first; value = w.value; own = w.own; batch = record { batch = w.batch.batch; row = w.batch.row; next = w.batch.next }; last_row = w.last_row; from = w.from; to = w.to; below = w.below }; inside = at.0.inside }, at.1))
@@ -226,16 +196,6 @@ at_off c r b verb answer mine up reach written (Place.Confirm round p) leading b
 at_off c r b verb answer mine up reach written (Place.Evidence p) leading beside at = begun_beside c r verb answer mine p beside at
 at_off c r b verb answer mine up reach written place leading beside at = absurd (true≢false leading)
 
-calm_beside : (leading : Bool) (verb : Verb) → is_beside leading verb ≡ true → is_calm verb ≡ true
-calm_beside leading (Verb.Ask q) beside = absurd (true≢false (sym beside))
-calm_beside leading (Verb.Fence q) beside = absurd (true≢false (sym beside))
-calm_beside leading (Verb.Min q) beside = absurd (true≢false (sym beside))
-calm_beside leading (Verb.Enter q t) beside = absurd (true≢false (sym beside))
-calm_beside leading (Verb.PutMin q n) beside = absurd (true≢false (sym beside))
-calm_beside leading (Verb.PutSlot q i n v) beside = absurd (true≢false (sym beside))
-calm_beside leading (Verb.WriteRow j k x) beside = absurd (true≢false (sym beside))
-calm_beside leading verb beside = refl
-
 begins_none : (leading : Bool) (r : ℕ) (verb : Verb) (answer : Answer) → is_beside leading verb ≡ true → begins_leadership r (event_by r verb answer) ≡ false
 begins_none leading r (Verb.Ask q) answer beside = absurd (true≢false (sym beside))
 begins_none leading r verb answer beside = refl
@@ -244,15 +204,49 @@ writes_none : (leading : Bool) (verb : Verb) → is_beside leading verb ≡ true
 writes_none leading (Verb.WriteRow j k x) beside = absurd (true≢false (sym beside))
 writes_none leading verb beside = refl
 
+-- such a verb leaves the leader
+pub beside_leaves : (leading : Bool) (known : ℕ) (verb : Verb) → is_beside leading verb ≡ true → leaves_leader leading known verb ≡ true
+beside_leaves leading known (Verb.Fuo p) beside = refl
+beside_leaves true known (Verb.Look p i) beside = absurd (true≢false (sym beside))
+beside_leaves false known (Verb.Look p i) beside = refl
+beside_leaves leading known verb beside = beside
+
+-- a look that leaves the leader is at another position than the first unknown one
+looks_apart : (i known : ℕ) → not (i == known) ≡ true → i ≢ known
+looks_apart i known apart same = true≢false (sym apart ∙ ap not (eq-eqb i known same))
+
+-- while the replica leads, and while it doesn't
+at_leading : (c : Config) (r b : ℕ) (verb : Verb) (answer : Answer) (mine : List Event) (up : List ℕ) (reach : List (Option ℕ)) (written : List ℕ) (place : Place) → leads_at place ≡ true → leaves_leader true (end_of c r mine) verb ≡ true → IsPossible c r (event_by r verb answer ∷ mine) → At c r b mine up reach written place → At c r b (event_by r verb answer ∷ mine) up reach written place
+at_leading c r b (Verb.Fuo q) answer mine up reach written place leading leaves possible at = at_fuo c r b q answer mine up reach written place leading possible at
+at_leading c r b (Verb.Look q i) answer mine up reach written place leading leaves possible at = at_looked c r b q i answer mine up reach written place leading (looks_apart i (end_of c r mine) leaves) at
+at_leading c r b verb answer mine up reach written place leading leaves possible at = at_on c r b verb answer mine up reach written place leading leaves possible at
+
+at_resting : (c : Config) (r b known : ℕ) (verb : Verb) (answer : Answer) (mine : List Event) (up : List ℕ) (reach : List (Option ℕ)) (written : List ℕ) (place : Place) → leads_at place ≡ false → leaves_leader false known verb ≡ true → At c r b mine up reach written place → At c r b (event_by r verb answer ∷ mine) up reach written place
+at_resting c r b known (Verb.Fuo q) answer mine up reach written place leading leaves at = at_off c r b (Verb.Fuo q) answer mine up reach written place leading refl at
+at_resting c r b known (Verb.Look q i) answer mine up reach written place leading leaves at = at_off c r b (Verb.Look q i) answer mine up reach written place leading refl at
+at_resting c r b known verb answer mine up reach written place leading leaves at = at_off c r b verb answer mine up reach written place leading leaves at
+
+-- it is a calm verb
+leaves_calm : (leading : Bool) (known : ℕ) (verb : Verb) → leaves_leader leading known verb ≡ true → is_beside false verb ≡ true
+leaves_calm leading known (Verb.Fuo p) leaves = refl
+leaves_calm leading known (Verb.Look p i) leaves = refl
+leaves_calm leading known verb leaves = leaves
+
 pub others_keep_law : OthersKeep
-others_keep_law mine lead verb answer beside possible s = record {
-  config = s.config;
-  inside = s.inside;
-  leading = leading_calm lead.id lead.id verb answer mine lead.leading (calm_beside (leads_at lead.place) verb beside) s.leading;
-  tables = tables_kept lead.config lead.id (event_by lead.id verb answer) mine lead.up lead.reach lead.heads lead.written.items possible (begins_none (leads_at lead.place) lead.id verb answer beside) (writes_none (leads_at lead.place) verb beside) s.tables;
-  at = go (leads_at lead.place) refl beside;
-}
+others_keep_law mine lead verb answer leaves possible s =
+    let beside = leaves_calm (leads_at lead.place) (end_of lead.config lead.id mine) verb leaves in
+    record {
+      config = s.config;
+      inside = s.inside;
+      leading = leading_calm lead.id lead.id verb answer mine lead.leading (calm_beside false verb beside) s.leading;
+      tables = tables_kept lead.config lead.id (event_by lead.id verb answer) mine lead.up lead.reach lead.heads lead.written.items possible (begins_none false lead.id verb answer beside) (writes_none false verb beside) s.tables;
+      at = go (leads_at lead.place) refl leaves;
+    }
   where
-    go : (t : Bool) → leads_at lead.place ≡ t → is_beside t verb ≡ true → At lead.config lead.id lead.number (event_by lead.id verb answer ∷ mine) lead.up lead.reach lead.written.items lead.place
-    go true leading beside = at_on lead.config lead.id lead.number verb answer mine lead.up lead.reach lead.written.items lead.place leading beside possible s.at
-    go false leading beside = at_off lead.config lead.id lead.number verb answer mine lead.up lead.reach lead.written.items lead.place leading beside s.at
+    go : (t : Bool) → leads_at lead.place ≡ t → leaves_leader t (end_of lead.config lead.id mine) verb ≡ true → At lead.config lead.id lead.number (event_by lead.id verb answer ∷ mine) lead.up lead.reach lead.written.items lead.place
+    go true leading leaves = at_leading lead.config lead.id lead.number verb answer mine lead.up lead.reach lead.written.items lead.place leading leaves possible s.at
+    go false leading leaves = at_resting lead.config lead.id lead.number (end_of lead.config lead.id mine) verb answer mine lead.up lead.reach lead.written.items lead.place leading leaves s.at
+
+-- so does what the program's other machines do
+pub others_kept : (mine : List Event) (lead : Lead) (verb : Verb) (answer : Answer) → is_beside (leads_at lead.place) verb ≡ true → IsPossible lead.config lead.id (event_by lead.id verb answer ∷ mine) → StandsFor mine lead → StandsFor (event_by lead.id verb answer ∷ mine) lead
+others_kept mine lead verb answer beside possible s = others_keep_law mine lead verb answer (beside_leaves (leads_at lead.place) (end_of lead.config lead.id mine) verb beside) possible s

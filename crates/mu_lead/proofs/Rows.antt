@@ -30,9 +30,9 @@ use Rattle.mu_lead.specs.declared.note.AbortCause.{AbortCause}
 use Rattle.mu_lead.specs.declared.note.Note.{Note}
 use Rattle.mu_lead.specs.declared.place.Place.{Place}
 use Rattle.mu_lead.specs.declared.place.Then.{Then}
-use Rattle.mu_lead.specs.Leading.{end_of}
+use Rattle.mu_lead.specs.Leading.{came_late, end_of}
 use Rattle.mu_lead.specs.Notes.{note_of_head}
-use Rattle.mu_lead.specs.Saying.{EndsJoining, MayMark, NotesAt, NotesDue, NotesHead, NotesJoin, SaysReads, Teaches, is_working, is_working_or_lost, note_of_learning, note_of_look, value_seen}
+use Rattle.mu_lead.specs.Saying.{IsLastStep, MayMark, NotesAt, NotesDue, NotesHead, NotesJoin, SaysReads, Teaches, is_working, is_working_or_lost, note_of_learning, note_of_look, value_seen}
 use Rattle.mu_lead.specs.Sets.{is_bit}
 use Rattle.mu_lead.specs.Standing.{HasHeeded, HoldsAt, StandsFor, known_told, verb_at, verb_of}
 use Rattle.mu_leading.proofs.Within.{known_few}
@@ -167,15 +167,15 @@ is_put (Place.LatePut p) = true
 is_put place = false
 
 -- the last step for a late follower
-says_raised : (c : Config) (r q u : ℕ) (mine : List Event) (up : List ℕ) (answer : Answer) (note : Note) → note ≡ Note.Joined q → SaysReads c r mine up (Place.RaiseBehind q Then.Joined) (Verb.RaiseFuo q u) answer note
-says_raised c r q u mine up answer note is = record {
+says_raised : (c : Config) (r q u : ℕ) (mine : List Event) (up : List ℕ) (answer : Answer) (note : Note) → came_late r q mine ≡ true → note ≡ Note.Joined q → SaysReads c r mine up (Place.RaiseBehind q Then.Joined) (Verb.RaiseFuo q u) answer note
+says_raised c r q u mine up answer note late is = record {
   higher = none_higher r mine (Verb.RaiseFuo q u) answer note (ap is_higher is) (not_min r mine (Verb.RaiseFuo q u) answer refl);
   no_room = none_room c r mine (Verb.RaiseFuo q u) answer note (ap is_no_room is) (not_head c r mine (Verb.RaiseFuo q u) answer refl);
   learnt = none_learnt c r mine (Verb.RaiseFuo q u) answer note (ap is_learnt is) (not_look c r mine (Verb.RaiseFuo q u) answer refl);
-  joined = λ p. ((λ same. inl (ap (λ k. Place.RaiseBehind k Then.Joined) (same_joined q p (sym is ∙ same)))), (λ ends. is ∙ ap Note.Joined (go p ends)));
+  joined = λ p. ((λ same. let here = same_joined q p (sym is ∙ same) in record { late = subst (λ k. came_late r k mine ≡ true) here late; last = inl (ap (λ k. Place.RaiseBehind k Then.Joined) here) }), (λ ends. is ∙ ap Note.Joined (go p ends.last)));
 }
   where
-    go : (p : ℕ) → EndsJoining c r mine up (Place.RaiseBehind q Then.Joined) answer p → q ≡ p
+    go : (p : ℕ) → IsLastStep c r mine up (Place.RaiseBehind q Then.Joined) answer p → q ≡ p
     go p (inl raised) = same_raise q p Then.Joined Then.Joined raised
     go p (inr put) = absurd (differs_by_test is_put (Place.RaiseBehind q Then.Joined) (Place.LatePut p) refl refl put.0)
 
@@ -184,41 +184,41 @@ is_done Answer.Done = true
 is_done answer = false
 
 -- the put that makes a late follower a member
-says_put : (c : Config) (r q b : ℕ) (mine : List Event) (up : List ℕ) (answer : Answer) (note : Note) → ((answer ≡ Answer.Done) ⊎ (answer ≡ Answer.Missed)) → (t : Bool) → nat_lt (get_or up q 0) (end_of c r mine) ≡ t → NotesJoin q t answer note → SaysReads c r mine up (Place.LatePut q) (Verb.PutMin q b) answer note
-says_put c r q b mine up answer note (inr missed) t lacks notes =
+says_put : (c : Config) (r q b : ℕ) (mine : List Event) (up : List ℕ) (answer : Answer) (note : Note) → came_late r q mine ≡ true → ((answer ≡ Answer.Done) ⊎ (answer ≡ Answer.Missed)) → (t : Bool) → nat_lt (get_or up q 0) (end_of c r mine) ≡ t → NotesJoin q t answer note → SaysReads c r mine up (Place.LatePut q) (Verb.PutMin q b) answer note
+says_put c r q b mine up answer note late (inr missed) t lacks notes =
     let is = notes.1 missed in
     record {
       higher = none_higher r mine (Verb.PutMin q b) answer note (ap is_higher is) (not_min r mine (Verb.PutMin q b) answer refl);
       no_room = none_room c r mine (Verb.PutMin q b) answer note (ap is_no_room is) (not_head c r mine (Verb.PutMin q b) answer refl);
       learnt = none_learnt c r mine (Verb.PutMin q b) answer note (ap is_learnt is) (not_look c r mine (Verb.PutMin q b) answer refl);
-      joined = none_joined c r mine up (Place.LatePut q) answer note (ap is_joined is) go;
+      joined = none_joined c r mine up (Place.LatePut q) answer note (ap is_joined is) (λ p ends. go p ends.last);
     }
   where
-    go : (p : ℕ) → EndsJoining c r mine up (Place.LatePut q) answer p → ⊥
+    go : (p : ℕ) → IsLastStep c r mine up (Place.LatePut q) answer p → ⊥
     go p (inl raised) = differs_by_test is_put (Place.RaiseBehind p Then.Joined) (Place.LatePut q) refl refl (sym raised)
     go p (inr put) = differs_by_test is_done answer Answer.Done (ap is_done missed) refl put.1
-says_put c r q b mine up answer note (inl done) true lacks notes =
+says_put c r q b mine up answer note late (inl done) true lacks notes =
     let is = notes.0 done in
     record {
       higher = none_higher r mine (Verb.PutMin q b) answer note (ap is_higher is) (not_min r mine (Verb.PutMin q b) answer refl);
       no_room = none_room c r mine (Verb.PutMin q b) answer note (ap is_no_room is) (not_head c r mine (Verb.PutMin q b) answer refl);
       learnt = none_learnt c r mine (Verb.PutMin q b) answer note (ap is_learnt is) (not_look c r mine (Verb.PutMin q b) answer refl);
-      joined = none_joined c r mine up (Place.LatePut q) answer note (ap is_joined is) go;
+      joined = none_joined c r mine up (Place.LatePut q) answer note (ap is_joined is) (λ p ends. go p ends.last);
     }
   where
-    go : (p : ℕ) → EndsJoining c r mine up (Place.LatePut q) answer p → ⊥
+    go : (p : ℕ) → IsLastStep c r mine up (Place.LatePut q) answer p → ⊥
     go p (inl raised) = differs_by_test is_put (Place.RaiseBehind p Then.Joined) (Place.LatePut q) refl refl (sym raised)
     go p (inr put) = let all = put.2 in let few = ltb-true (get_or up q 0) (end_of c r mine) lacks in let here = ap (λ k. get_or up k 0) (same_put q p put.0) in omega (arith, all, few, here)
-says_put c r q b mine up answer note (inl done) false lacks notes =
+says_put c r q b mine up answer note late (inl done) false lacks notes =
     let is = notes.0 done in
     record {
       higher = none_higher r mine (Verb.PutMin q b) answer note (ap is_higher is) (not_min r mine (Verb.PutMin q b) answer refl);
       no_room = none_room c r mine (Verb.PutMin q b) answer note (ap is_no_room is) (not_head c r mine (Verb.PutMin q b) answer refl);
       learnt = none_learnt c r mine (Verb.PutMin q b) answer note (ap is_learnt is) (not_look c r mine (Verb.PutMin q b) answer refl);
-      joined = λ p. ((λ same. let here = same_joined q p (sym is ∙ same) in inr (ap Place.LatePut here, done, subst (λ k. end_of c r mine ≤ get_or up k 0) here (ltb-false (get_or up q 0) (end_of c r mine) lacks))), (λ ends. is ∙ ap Note.Joined (go p ends)));
+      joined = λ p. ((λ same. let here = same_joined q p (sym is ∙ same) in record { late = subst (λ k. came_late r k mine ≡ true) here late; last = inr (ap Place.LatePut here, done, subst (λ k. end_of c r mine ≤ get_or up k 0) here (ltb-false (get_or up q 0) (end_of c r mine) lacks)) }), (λ ends. is ∙ ap Note.Joined (go p ends.last)));
     }
   where
-    go : (p : ℕ) → EndsJoining c r mine up (Place.LatePut q) answer p → q ≡ p
+    go : (p : ℕ) → IsLastStep c r mine up (Place.LatePut q) answer p → q ≡ p
     go p (inl raised) = absurd (differs_by_test is_put (Place.RaiseBehind p Then.Joined) (Place.LatePut q) refl refl (sym raised))
     go p (inr put) = same_put q p put.0
 
@@ -385,7 +385,7 @@ says_at mine old values answer note place verb heeded s at notes due = go place 
     go (Place.LookBehind p on) at is due = turn (Place.LookBehind p on) (Verb.Look p (get_or old.up p 0)) due (λ possible told. look_idle old.config old.id p (get_or old.up p 0) mine old.up (Place.LookBehind p on) answer note refl is (look_known old.config old.id p (get_or old.up p 0) answer mine (λ same. let low = at.lacks in omega (arith, low, same))))
     go (Place.EnterBehind p on) at is due = turn (Place.EnterBehind p on) (Verb.Enter p (Target.Place (get_or old.up p 0 % old.config.ring))) due (λ possible told. says_enter old.config old.id p (Target.Place (get_or old.up p 0 % old.config.ring)) mine old.up (Place.EnterBehind p on) answer note possible is refl)
     go (Place.PutBehind p on) at is due = turn (Place.PutBehind p on) (Verb.PutSlot p (get_or old.up p 0) old.number (get_or (known old.config old.id mine) (get_or old.up p 0) 0)) due (none (Place.PutBehind p on) (Verb.PutSlot p (get_or old.up p 0) old.number (get_or (known old.config old.id mine) (get_or old.up p 0) 0)) is refl refl refl refl)
-    go (Place.RaiseBehind p Then.Joined) at is due = turn (Place.RaiseBehind p Then.Joined) (Verb.RaiseFuo p (get_or old.up p 0)) due (λ possible told. says_raised old.config old.id p (get_or old.up p 0) mine old.up answer note is)
+    go (Place.RaiseBehind p Then.Joined) at is due = turn (Place.RaiseBehind p Then.Joined) (Verb.RaiseFuo p (get_or old.up p 0)) due (λ possible told. says_raised old.config old.id p (get_or old.up p 0) mine old.up answer note (at.behind.late refl) is)
     go (Place.RaiseBehind p Then.Late) at is due = turn (Place.RaiseBehind p Then.Late) (Verb.RaiseFuo p (get_or old.up p 0)) due (none (Place.RaiseBehind p Then.Late) (Verb.RaiseFuo p (get_or old.up p 0)) is refl refl refl refl)
     go (Place.RaiseBehind p Then.Position) at is due = turn (Place.RaiseBehind p Then.Position) (Verb.RaiseFuo p (get_or old.up p 0)) due (none (Place.RaiseBehind p Then.Position) (Verb.RaiseFuo p (get_or old.up p 0)) is refl refl refl refl)
     go (Place.FenceBehind p on) at is due = turn (Place.FenceBehind p on) (Verb.Fence p) due (λ possible told. let a = lost_apart note is.0 in says_none old.config old.id mine old.up (Place.FenceBehind p on) (Verb.Fence p) answer note a.0 a.1 a.2 a.3 refl refl refl refl)
@@ -395,7 +395,7 @@ says_at mine old values answer note place verb heeded s at notes due = go place 
         says_late_min old.config old.id old.number p x.0 mine old.up (Place.LateMin p) answer note x.1 at.late.level.leads.numbered refl (nat_lt old.number x.0) refl (is x.0 x.1 small))
     go (Place.LateFuo p) at is due = turn (Place.LateFuo p) (Verb.Fuo p) due (none (Place.LateFuo p) (Verb.Fuo p) is refl refl refl refl)
     go (Place.LateEnter p) at is due = turn (Place.LateEnter p) (Verb.Enter p Target.Min) due (λ possible told. says_enter old.config old.id p Target.Min mine old.up (Place.LateEnter p) answer note possible is refl)
-    go (Place.LatePut p) at is due = turn (Place.LatePut p) (Verb.PutMin p old.number) due (λ possible told. says_put old.config old.id p old.number mine old.up answer note (puts_min_or old.config old.id p old.number answer mine possible) (nat_lt (get_or old.up p 0) (end_of old.config old.id mine)) refl (subst (λ xs. NotesJoin p (nat_lt (get_or old.up p 0) (length xs)) answer note) told (is s.tables.ups)))
+    go (Place.LatePut p) at is due = turn (Place.LatePut p) (Verb.PutMin p old.number) due (λ possible told. says_put old.config old.id p old.number mine old.up answer note at.entering.late (puts_min_or old.config old.id p old.number answer mine possible) (nat_lt (get_or old.up p 0) (end_of old.config old.id mine)) refl (subst (λ xs. NotesJoin p (nat_lt (get_or old.up p 0) (length xs)) answer note) told (is s.tables.ups)))
     go (Place.ReadHead q candidate) at is due = turn (Place.ReadHead q candidate) (Verb.Head q) due (λ possible told. let x = tells_head old.config old.id q answer mine possible in
         let small = config_small old.config s.config in let within = at.roomy.within in
         let known_is : values ≡ known old.config old.id mine = told in

@@ -1,11 +1,12 @@
 -- What the other machines of a replica do beside its leader.
-use Rattle.std.specs.Prelude.{Bool, List, false, not, true, ◌∷◌, ◌≡◌}
+use Rattle.std.specs.Prelude.{Bool, List, false, not, true, ℕ, ◌&&◌, ◌==◌, ◌∷◌, ◌≡◌}
 use Rattle.mu_model.specs.declared.event.Answer.{Answer}
 use Rattle.mu_model.specs.declared.event.Event.{Event}
 use Rattle.mu_model.specs.declared.event.Verb.{Verb}
 use Rattle.mu_model.specs.Parts.{IsPossible}
 use Rattle.mu_lead.specs.declared.lead.Lead.{Lead}
 use Rattle.mu_lead.specs.declared.place.Place.{Place}
+use Rattle.mu_lead.specs.Leading.{end_of}
 use Rattle.mu_lead.specs.Standing.{StandsFor}
 
 -- a leadership was confirmed, and isn't over or given up
@@ -29,11 +30,18 @@ is_beside leading (Verb.Fuo p) = not leading
 is_beside leading (Verb.Look p i) = not leading
 is_beside leading _ = true
 
+-- a verb of another machine beside a leader that leads or not, and knows so many entries: while it
+-- leads, no log is looked at in the first unknown position
+abbrev pub leaves_leader : Bool → ℕ → Verb → Bool
+leaves_leader leading known (Verb.Fuo p) = true
+leaves_leader leading known (Verb.Look p i) = not (leading && (i == known))
+leaves_leader leading known verb = is_beside leading verb
+
 -- what the other machines do keeps what the leader stands for
 abbrev pub OthersKeep : Type 0
 OthersKeep =
     (mine : List Event) (lead : Lead) (verb : Verb) (answer : Answer)
-    → is_beside (leads_at lead.place) verb ≡ true
+    → leaves_leader (leads_at lead.place) (end_of lead.config lead.id mine) verb ≡ true
     → IsPossible lead.config lead.id (record { by = lead.id; verb = verb; answer = answer } ∷ mine)
     → StandsFor mine lead
     → StandsFor (record { by = lead.id; verb = verb; answer = answer } ∷ mine) lead

@@ -1,6 +1,6 @@
 -- What holds once the number is put at a majority: what each region has, and what is brought to
 -- those that are behind.
-use Rattle.std.specs.Prelude.{Bool, List, None, Some, false, get_or, is_some, length, nat_lt, true, ℕ, ◌%◌, ◌&&◌, ◌++◌, ◌+◌, ◌<◌, ◌==◌, ◌∷◌, ◌≡◌, ◌≢◌, ◌≤◌}
+use Rattle.std.specs.Prelude.{Bool, List, None, Some, [], false, get_or, is_some, length, nat_lt, not, true, ℕ, ◌%◌, ◌&&◌, ◌++◌, ◌+◌, ◌<◌, ◌==◌, ◌||◌, ◌∷◌, ◌≡◌, ◌≢◌, ◌≤◌}
 use Rattle.std.specs.declared.option.Option.{Option}
 use Rattle.mu_model.specs.declared.config.Config.{Config}
 use Rattle.mu_model.specs.declared.event.Answer.{Answer}
@@ -12,7 +12,7 @@ use Rattle.mu_model.specs.Contents.{row_count}
 use Rattle.mu_model.specs.Entering.{has_read_min, last_opened, open_target}
 use Rattle.mu_model.specs.Histories.{has}
 use Rattle.mu_model.specs.Knowledge.{is_filled, known, wrote}
-use Rattle.mu_model.specs.Leaderships.{grant_at_joining, has_begun, has_quorum, is_member, is_over, leadership, noted_grant, proposal_number}
+use Rattle.mu_model.specs.Leaderships.{begins_leadership, grant_at_joining, has_begun, has_quorum, is_member, is_over, leadership, noted_grant, proposal_number}
 use Rattle.mu_model.specs.Picks.{first_value}
 use Rattle.mu_model.specs.Placing.{fuo_read_or_raised, is_caught_up_at, is_within_ring, looked_before_entering, reaches_head, has_looked_since}
 use Rattle.mu_model.specs.Room.{last_head, reserve}
@@ -67,13 +67,13 @@ pub record Leads (c : Config) (r b : ℕ) (mine : List Event) : Type 0 where
 abbrev pub IsRaised : List ℕ → List (Option ℕ) → ℕ → Type 0
 IsRaised up reach p = reaches_head (get_or up p 0) (get_or reach p None) ≡ true
 
--- the FUO of p that was read last under the noted grant is at most u
+-- a FUO of p that was read under the noted grant is at most u
 abbrev pub IsRead : ℕ → List Event → ℕ → ℕ → Type 0
 IsRead r mine p u =
     (g : ℕ) → noted_grant r p mine ≡ Some g
     → is_at_most u (fuo_under r p g (leadership r mine)) ≡ true
 
--- the FUOs of the members below p were read, and none is above what the member has
+-- the FUOs of the members below p were read, none above what the member has
 abbrev pub ReadBelow : ℕ → List Event → List ℕ → ℕ → Type 0
 ReadBelow r mine up p =
     (q : ℕ) → q < p → is_member r q mine ≡ true → IsRead r mine q (get_or up q 0)
@@ -83,6 +83,19 @@ abbrev pub RaisedBelow : ℕ → List Event → List ℕ → List (Option ℕ) �
 RaisedBelow r mine up reach p =
     (q : ℕ) → q < p → is_member r q mine ≡ true
     → IsRaised up reach q × IsRead r mine q (get_or up q 0)
+
+-- the step of r reads a FUO
+abbrev pub is_fuo_of : ℕ → ℕ → Verb → Bool
+is_fuo_of r by (Verb.Fuo p) = by == r
+is_fuo_of r by _ = false
+
+-- p is a late follower: r read a FUO under the number of its leadership when p was no member
+abbrev pub came_late : ℕ → ℕ → List Event → Bool
+came_late r p [] = false
+came_late r p (e ∷ past) =
+    not (begins_leadership r e)
+    && ((is_fuo_of r e.by e.verb && (is_some (proposal_number r past) && not (is_member r p past)))
+    || came_late r p past)
 
 -- r put no entry in its leadership
 abbrev pub HasPutNone : ℕ → List Event → Type 0
@@ -177,6 +190,7 @@ pub record Behind (c : Config) (r b : ℕ) (mine : List Event) (up : List ℕ) (
       (q : ℕ) → q < c.replicas → q ≢ p → is_member r q mine ≡ true → IsDone then q p
       → end_of c r mine ≤ get_or up q 0
   pub few : HaveFew c r mine up then (p + 1)
+  pub late : then ≡ Then.Joined → came_late r p mine ≡ true
 
 -- it lacks an entry
 pub record AtWiden (c : Config) (r b : ℕ) (mine : List Event) (up : List ℕ)
@@ -253,6 +267,7 @@ pub record AtLateEnter (c : Config) (r b : ℕ) (mine : List Event) (up : List �
   pub short : get_or up p 0 ≤ end_of c r mine
   pub raised : IsRaised up reach p
   pub read : IsRead r mine p (get_or up p 0)
+  pub late : came_late r p mine ≡ true
 
 pub record AtLatePut (c : Config) (r b : ℕ) (mine : List Event) (up : List ℕ)
     (reach : List (Option ℕ)) (p : ℕ) : Type 0 where

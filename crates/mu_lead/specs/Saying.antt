@@ -18,7 +18,7 @@ use Rattle.mu_lead.specs.declared.note.Note.{Note}
 use Rattle.mu_lead.specs.declared.place.Offer.{Offer}
 use Rattle.mu_lead.specs.declared.place.Place.{Place}
 use Rattle.mu_lead.specs.declared.place.Then.{Then}
-use Rattle.mu_lead.specs.Leading.{end_of}
+use Rattle.mu_lead.specs.Leading.{came_late, end_of}
 use Rattle.mu_lead.specs.Confirming.{Confirmed}
 use Rattle.mu_lead.specs.Losses.{SaysLost}
 use Rattle.mu_lead.specs.Notes.{TellsRound, note_of_commit, note_of_head, note_of_min}
@@ -187,12 +187,18 @@ pub record ShowsNoRoom (c : Config) (r : ℕ) (mine : List Event) (verb : Verb) 
   pub low : h + c.ring ≤ end_of c r mine + reserve c
   pub unfit : MayMark c r mine q h → ⊥
 
--- the answer just taken is of the last step for the late follower p: the FUO raised over what it
--- lacked, or the put of its minimum where it lacked nothing
-abbrev pub EndsJoining : Config → ℕ → List Event → List ℕ → Place → Answer → ℕ → Type 0
-EndsJoining c r mine up place answer p =
+-- the answer just taken is of the last step for p: the FUO raised over what it lacked, or the put of
+-- its minimum where it lacked nothing
+abbrev pub IsLastStep : Config → ℕ → List Event → List ℕ → Place → Answer → ℕ → Type 0
+IsLastStep c r mine up place answer p =
     (place ≡ Place.RaiseBehind p Then.Joined)
     ⊎ ((place ≡ Place.LatePut p) × (answer ≡ Answer.Done) × (end_of c r mine ≤ get_or up p 0))
+
+-- it is of the last step for the late follower p
+pub record EndsJoining (c : Config) (r : ℕ) (mine : List Event) (up : List ℕ) (place : Place)
+    (answer : Answer) (p : ℕ) : Type 0 where
+  pub late : came_late r p mine ≡ true
+  pub last : IsLastStep c r mine up place answer p
 
 -- the look just taken taught the value v at position i
 pub record Teaches (c : Config) (r : ℕ) (mine : List Event) (verb : Verb) (answer : Answer)

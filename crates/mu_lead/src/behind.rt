@@ -1,5 +1,5 @@
 //! Catching up, and bringing up members that are behind.
-ghost use Rattle.std.specs.Prelude.{Bool, IsTrue, List, None, Some, false, get_or, length, nat_lt, not, true, ℕ, ◌==◌, ◌%◌, ◌&&◌, ◌+◌, ◌<◌, ◌∷◌, ◌≡◌, ◌≤◌};
+ghost use Rattle.std.specs.Prelude.{Bool, IsTrue, List, None, Some, false, get_or, length, nat_lt, not, true, ℕ, ◌==◌, ◌%◌, ◌&&◌, ◌+◌, ◌<◌, ◌∷◌, ◌≡◌, ◌≢◌, ◌≤◌};
 ghost use Rattle.std.specs.declared.option.Option.{Option};
 ghost use Rattle.mu_model.specs.declared.event.Answer.{Answer as SomeAnswer};
 ghost use Rattle.mu_model.specs.declared.event.Event.{Event as SomeEvent};
@@ -11,6 +11,7 @@ ghost use Rattle.mu_model.specs.Parts.{IsPossible};
 ghost use Rattle.mu_model.specs.Picks.{is_past as is_past_answer};
 ghost use Rattle.mu_model.specs.Placing.{is_within_ring};
 ghost use Rattle.mu_lead.specs.declared.place.Place.{Place as SomePlace};
+ghost use Rattle.mu_lead.specs.declared.place.Then.{Then as SomeThen};
 ghost use Rattle.mu_lead.specs.Leading.{AtWiden, Behind, HasMost, HasPutNone, HaveAtMost, HaveFew, IsClear, IsDone, IsMember, Leads, Level, RaisedBelow, end_of as end_of_known};
 ghost use Rattle.mu_known.specs.Offers.{IsFirst};
 ghost use Rattle.mu_lead.specs.Lasting.{FollowsFrom, FollowsLook, tables_of};
@@ -161,7 +162,7 @@ impl Lead {
             → IsDone then k p
             → end_of_known self.now.config self.now.id mine ≤ get_or self.now.up k 0)
             → HaveFew self.now.config self.now.id mine self.now.up then p
-            → HoldsAt mine self.now result }
+            → then ≢ SomeThen.Joined → HoldsAt mine self.now result }
         ensures listed { (mine : List SomeEvent) → Stands mine self.now
             → known.now ≡ known_of self.now.config self.now.id mine
             → result ≡ bring_up_from self.now.config self.now.id mine (tables_of self.now) p then }

@@ -29,7 +29,7 @@ use Rattle.mu_lead.specs.declared.note.Note.{Note}
 use Rattle.mu_lead.specs.Notes.{value_committed}
 use Rattle.mu_lead.specs.Saying.{Says, SaysNext}
 use Rattle.mu_lead.specs.Standing.{HasHeeded, StandsFor, TakesNext, TellsNext, known_told, verb_of}
-use Rattle.mu_lead.proofs.Others.{others_keep_law}
+use Rattle.mu_lead.proofs.Others.{others_kept}
 use Rattle.mu_node.specs.declared.node.Node.{Node}
 use Rattle.mu_node.specs.Cycle.{other_at, read_at}
 use Rattle.mu_node.specs.Due.{FitsLead, MayBeside, lead_due, verb_or_beat}
@@ -96,7 +96,7 @@ lead_stays c r mine lead verb answer beside possible held =
     record {
       config = held.config;
       id = held.id;
-      stands = subst (λ i. StandsFor (event_by i verb answer ∷ mine) lead) held.id (others_keep_law mine lead verb answer beside b held.stands);
+      stands = subst (λ i. StandsFor (event_by i verb answer ∷ mine) lead) held.id (others_kept mine lead verb answer beside b held.stands);
     }
 
 asks : (t : Bool) (due : Option Verb) (verb : Verb) → (if t then due else None) ≡ Some verb → due ≡ Some verb

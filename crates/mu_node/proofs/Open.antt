@@ -13,6 +13,7 @@ use Rattle.mu_model.specs.Knowledge.{applied, greatest_fuo_read, has_row, has_wo
 use Rattle.mu_model.specs.Steps.{is_fuo_of, is_fuo_of_verb, is_named, knows_more}
 use Rattle.mu_model.specs.Stretches.{is_odd}
 use Rattle.mu_model.proofs.Basics.{none_some, or_true, same_number, true_or}
+use Rattle.mu_agree.proofs.Landings.{has_more}
 use Rattle.mu_grant.specs.Pace.{host_place}
 use Rattle.mu_grant.specs.Stands.{is_of_place}
 use Rattle.mu_follow.specs.Due.{replay_due, row_read, row_under_way}
@@ -138,19 +139,12 @@ pub record IsStill (c : Config) (r : ℕ) (past : List Event) (e : Event) : Type
   pub under : is_odd (length past) ≡ true → row_under_way (e ∷ past) ≡ row_under_way past
 
 -- a word that r has it goes on having
-has_on : (test : Event → Bool) (e : Event) (past : List Event) → has test past ≡ true → has test (e ∷ past) ≡ true
-has_on test e past some = go (test e)
-  where
-    go : (t : Bool) → (if t then true else has test past) ≡ true
-    go true = refl
-    go false = some
-
 pub word_on : (r u k : ℕ) (e : Event) (past : List Event) → has_word r u k past ≡ true → has_word r u k (e ∷ past) ≡ true
 word_on r u k e past is = go (u / 4096 == r) (wrote r (u % 4096) k past) refl (has (λ f. is_read r u k f.by f.verb) past) refl is
   where
     go : (t w : Bool) → wrote r (u % 4096) k past ≡ w → (x : Bool) → has (λ f. is_read r u k f.by f.verb) past ≡ x → ((t && w) || x) ≡ true → ((t && wrote r (u % 4096) k (e ∷ past)) || has (λ f. is_read r u k f.by f.verb) (e ∷ past)) ≡ true
-    go t w hw true hx is = or_true (t && wrote r (u % 4096) k (e ∷ past)) (has (λ f. is_read r u k f.by f.verb) (e ∷ past)) (has_on (λ f. is_read r u k f.by f.verb) e past hx)
-    go true true hw false hx is = true_or (wrote r (u % 4096) k (e ∷ past)) (has (λ f. is_read r u k f.by f.verb) (e ∷ past)) (has_on (λ f. is_written r (u % 4096) k f.by f.verb) e past hw)
+    go t w hw true hx is = or_true (t && wrote r (u % 4096) k (e ∷ past)) (has (λ f. is_read r u k f.by f.verb) (e ∷ past)) (has_more (λ f. is_read r u k f.by f.verb) e past hx)
+    go true true hw false hx is = true_or (wrote r (u % 4096) k (e ∷ past)) (has (λ f. is_read r u k f.by f.verb) (e ∷ past)) (has_more (λ f. is_written r (u % 4096) k f.by f.verb) e past hw)
     go true false hw false hx is = absurd (true≢false (sym is))
     go false w hw false hx is = absurd (true≢false (sym is))
 

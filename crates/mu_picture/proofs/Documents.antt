@@ -12,7 +12,7 @@ use Rattle.mu_picture.specs.Pieces.{bar_piece, escape, escaped, label_piece, lin
 use Rattle.mu_picture.specs.Words.{deed_words, halt_words}
 use Rattle.mu_picture.specs.Xml.{IsContent, IsDocument, IsTag, is_plain, nothing, character, entity, element, attribute, empty, whole}
 use Rattle.mu_picture.specs.declared.deeds.Deed.{Deed}
-use Rattle.mu_picture.specs.declared.halts.Halt.{Halt}
+use Rattle.mu_course.specs.declared.halts.Halt.{Halt}
 use Rattle.mu_picture.specs.declared.marks.Mark.{Mark}
 use Rattle.mu_picture.specs.declared.marks.Picture.{Picture}
 use Rattle.mu_picture.specs.declared.openings.Opening.{Opening}

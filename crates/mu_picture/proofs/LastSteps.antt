@@ -14,13 +14,13 @@ use Rattle.mu_model.specs.Histories.{earlier_or, part}
 use Rattle.mu_model.specs.Knowledge.{known}
 use Rattle.mu_model.specs.Regions.{fence_grant}
 use Rattle.mu_model.proofs.Basics.{none_some, same_some}
-use Rattle.mu_picture.specs.Courses.{finishes}
+use Rattle.mu_course.specs.Courses.{finishes}
 use Rattle.mu_picture.specs.Deeds.{deed_of, drawn_if}
 use Rattle.mu_picture.specs.Endings.{Shows, deed_in, halt_in}
-use Rattle.mu_picture.specs.Halts.{halt_after}
+use Rattle.mu_course.specs.Halts.{halt_after}
 use Rattle.mu_picture.specs.Marks.{made_of, mark_of}
 use Rattle.mu_picture.specs.declared.deeds.Deed.{Deed}
-use Rattle.mu_picture.specs.declared.halts.Halt.{Halt}
+use Rattle.mu_course.specs.declared.halts.Halt.{Halt}
 use Rattle.mu_model.proofs.Parts.{part_of_maker}
 
 halt_made : (step r : ℕ) (deed : Option Deed) (halt : Option Halt) → halt_in (made_of step r deed halt) ≡ halt

@@ -10,7 +10,7 @@ use Rattle.mu_model.specs.declared.script.Script.{Script}
 use Rattle.mu_model.specs.Histories.{history}
 use Rattle.mu_picture.specs.Marks.{hidden_from, made_of, mark_of, marks_of, with_mark}
 use Rattle.mu_picture.specs.declared.deeds.Deed.{Deed}
-use Rattle.mu_picture.specs.declared.halts.Halt.{Halt}
+use Rattle.mu_course.specs.declared.halts.Halt.{Halt}
 use Rattle.mu_picture.specs.declared.marks.Mark.{Mark}
 
 -- the marks are of steps from `at` on and before `end`, each of a later step than the one before

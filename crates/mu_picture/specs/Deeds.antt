@@ -9,8 +9,8 @@ use Rattle.mu_model.specs.declared.event.Event.{Event}
 use Rattle.mu_model.specs.declared.event.Verb.{Verb}
 use Rattle.mu_model.specs.Knowledge.{committed, known}
 use Rattle.mu_model.specs.Scores.{leader}
-use Rattle.mu_picture.specs.Resigning.{resigns}
-use Rattle.mu_picture.specs.Telling.{ends, taught}
+use Rattle.mu_course.specs.Resigning.{resigns}
+use Rattle.mu_course.specs.Telling.{ends, taught}
 use Rattle.mu_picture.specs.declared.deeds.Deed.{Deed}
 
 -- the step was made

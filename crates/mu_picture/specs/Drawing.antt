@@ -7,7 +7,7 @@ use Rattle.mu_input.specs.declared.job.Job.{Job}
 use Rattle.mu_picture.specs.Pieces.{bar_piece, label_piece, line_piece, note_piece}
 use Rattle.mu_picture.specs.Words.{deed_words, halt_words}
 use Rattle.mu_picture.specs.declared.deeds.Deed.{Deed}
-use Rattle.mu_picture.specs.declared.halts.Halt.{Halt}
+use Rattle.mu_course.specs.declared.halts.Halt.{Halt}
 use Rattle.mu_picture.specs.declared.marks.Mark.{Mark}
 use Rattle.mu_picture.specs.declared.marks.Picture.{Picture}
 use Rattle.mu_picture.specs.declared.openings.Opening.{Opening}

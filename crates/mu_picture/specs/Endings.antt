@@ -9,7 +9,7 @@ use Rattle.mu_model.specs.Ends.{Obeys}
 use Rattle.mu_model.specs.Histories.{part}
 use Rattle.mu_picture.specs.Marks.{mark_of}
 use Rattle.mu_picture.specs.declared.deeds.Deed.{Deed}
-use Rattle.mu_picture.specs.declared.halts.Halt.{Halt}
+use Rattle.mu_course.specs.declared.halts.Halt.{Halt}
 use Rattle.mu_picture.specs.declared.marks.Mark.{Mark}
 
 -- what the replica does by a mark, where there is one

@@ -1,13 +1,8 @@
-pub mod Courses
 pub mod Deeds
 pub mod Drawing
 pub mod Endings
-pub mod Halts
 pub mod Marks
 pub mod Openings
 pub mod Pieces
-pub mod Resigning
-pub mod Telling
-pub mod Walks
 pub mod Words
 pub mod Xml

@@ -6,12 +6,12 @@ use Rattle.mu_model.specs.declared.event.Event.{Event}
 use Rattle.mu_model.specs.declared.script.Script.{Script}
 use Rattle.mu_model.specs.Histories.{history, part}
 use Rattle.mu_model.specs.Regions.{fence_grant}
-use Rattle.mu_picture.specs.Courses.{finishes}
+use Rattle.mu_course.specs.Courses.{finishes}
 use Rattle.mu_picture.specs.Deeds.{deed_of}
-use Rattle.mu_picture.specs.Halts.{halt_after}
+use Rattle.mu_course.specs.Halts.{halt_after}
 use Rattle.mu_picture.specs.Openings.{openings_of}
 use Rattle.mu_picture.specs.declared.deeds.Deed.{Deed}
-use Rattle.mu_picture.specs.declared.halts.Halt.{Halt}
+use Rattle.mu_course.specs.declared.halts.Halt.{Halt}
 use Rattle.mu_picture.specs.declared.marks.Mark.{Mark}
 use Rattle.mu_picture.specs.declared.marks.Picture.{Picture}
 

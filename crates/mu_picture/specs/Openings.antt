@@ -6,7 +6,7 @@ use Rattle.mu_model.specs.declared.config.Config.{Config}
 use Rattle.mu_model.specs.Regions.{fence}
 use Rattle.mu_model.specs.declared.event.Fence.{Fence}
 use Rattle.std.specs.declared.option.Option.{Option}
-use Rattle.mu_picture.specs.Resigning.{is_leading}
+use Rattle.mu_course.specs.Resigning.{is_leading}
 use Rattle.mu_picture.specs.declared.openings.Opening.{Opening}
 
 -- what a fence and a leadership open with

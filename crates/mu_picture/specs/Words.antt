@@ -8,7 +8,7 @@ use Rattle.mu_input.specs.declared.job.Job.{Job}
 use Rattle.mu_model.specs.Contents.{is_mark}
 use Rattle.mu_outcome.specs.Entries.{commands_of}
 use Rattle.mu_picture.specs.declared.deeds.Deed.{Deed}
-use Rattle.mu_picture.specs.declared.halts.Halt.{Halt}
+use Rattle.mu_course.specs.declared.halts.Halt.{Halt}
 
 -- commands, each with its client and number
 abbrev pub commands_words : List Request → List ℕ

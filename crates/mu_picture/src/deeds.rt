@@ -4,10 +4,10 @@ ghost use Rattle.mu_model.specs.declared.config.Config.{Config};
 ghost use Rattle.mu_model.specs.declared.event.Event.{Event as Made};
 ghost use Rattle.mu_picture.specs.Deeds.{deed_of as deed_of_step, is_done as is_done_answer, look_deed as look_deed_of};
 ghost use Rattle.mu_model.specs.Scores.{leader};
-ghost use Rattle.mu_picture.specs.Resigning.{resigns as resigns_by};
-ghost use Rattle.mu_picture.specs.Telling.{Tells};
+ghost use Rattle.mu_course.specs.Resigning.{resigns as resigns_by};
+ghost use Rattle.mu_course.specs.Telling.{Tells};
 
-use crate::told::Told;
+use mu_course::Told;
 use mu_model::{Answer, Event, Verb};
 
 /// What a step does that is drawn. Regions and replicas are ids from 0, positions count from 0.

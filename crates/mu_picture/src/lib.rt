@@ -4,25 +4,19 @@
 //! lane of the replica that made it. Long stretches without a mark are folded.
 #![tactic(auto)]
 
-mod course;
 mod deeds;
 mod drawing;
 mod endings;
-mod finishing;
-mod halts;
 mod marks;
 mod openings;
 mod pieces;
 mod shapes;
 mod sheet;
-mod told;
-mod walk;
 mod words;
 
 pub use deeds::Deed;
 pub use drawing::drawn;
 pub use endings::ends_are_drawn;
-pub use halts::Halt;
 pub use marks::{Mark, Picture, picture_of};
 pub use openings::Opening;
 pub use sheet::Sheet;

@@ -5,12 +5,11 @@ ghost use Rattle.mu_model.specs.Histories.{history, part};
 ghost use Rattle.mu_model.specs.Legal.{IsLegal, IsLegalHistory};
 ghost use Rattle.mu_model.specs.declared.event.Event.{Event as Made};
 ghost use Rattle.mu_picture.specs.Marks.{hidden_from, made_of as made_of_parts, mark_of as mark_of_event, marks_of, IsPictureOf, with_mark};
-ghost use Rattle.mu_picture.specs.Walks.{StandsForWalk};
+ghost use Rattle.mu_course.specs.Walks.{StandsForWalk};
 
 use crate::deeds::{Deed, deed_of};
-use crate::halts::{Halt, halt_after};
 use crate::openings::{Opening, openings_after};
-use crate::walk::Walk;
+use mu_course::{Halt, Walk, halt_after};
 use mu_model::{Config, Event, NoMemory, Script};
 use std::alloc::Global;
 

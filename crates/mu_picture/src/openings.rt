@@ -4,11 +4,11 @@ ghost use Rattle.mu_model.specs.Contents.{IsConfig};
 ghost use Rattle.mu_model.specs.Histories.{history};
 ghost use Rattle.mu_model.specs.Legal.{IsLegal};
 ghost use Rattle.mu_picture.specs.Openings.{opening_of as opening_after, opening_with as opening_with_fence, openings_of};
-ghost use Rattle.mu_picture.specs.Walks.{StandsForWalk};
+ghost use Rattle.mu_course.specs.Walks.{StandsForWalk};
 ghost use Rattle.mu_model.specs.declared.config.Config.{Config as Settings};
 ghost use Rattle.mu_model.specs.declared.event.Event.{Event as Made};
 
-use crate::walk::Walk;
+use mu_course::Walk;
 use mu_model::{Config, Event, Fence, NoMemory};
 use std::alloc::Global;
 

@@ -6,9 +6,9 @@ ghost use Rattle.mu_picture.specs.declared.deeds.Deed.TheVariants.{Grant};
 ghost use Rattle.mu_picture.specs.Drawing.{across_piece, asked_piece, closing_piece, deed_pieces, ended_piece, halt_pieces, lane_of, leading_piece, missed_piece, owned_piece, owner_class as owner_class_of, put_class, resting_piece};
 
 use crate::deeds::Deed;
-use crate::halts::Halt;
 use crate::pieces::{push_bar, push_label, push_line};
 use crate::sheet::Sheet;
+use mu_course::Halt;
 use mu_model::NoMemory;
 use mu_text::Line;
 

@@ -5,9 +5,9 @@ ghost use Rattle.mu_input.specs.JobLines.{op_words};
 ghost use Rattle.mu_picture.specs.Words.{commands_words, deed_words, entry_words, halt_words, missed_words};
 
 use crate::deeds::Deed;
-use crate::halts::Halt;
 use crate::sheet::Sheet;
 use kv_store::{Command, Op};
+use mu_course::Halt;
 use mu_input::Job;
 use mu_model::{NoMemory, stands_for_mark};
 use mu_outcome::commands_of;

@@ -16,7 +16,7 @@ use Rattle.mu_detect.specs.declared.scores.Scores.{Scores}
 use Rattle.mu_lead.specs.declared.lead.Lead.{Lead}
 use Rattle.mu_lead.specs.Beside.{is_beside, leads_at}
 use Rattle.mu_lead.specs.Standing.{StandsFor, known_told}
-use Rattle.mu_lead.proofs.Others.{others_keep_law}
+use Rattle.mu_lead.proofs.Others.{others_kept}
 use Rattle.mu_parts.specs.declared.replica.Replica.{Replica}
 use Rattle.mu_parts.specs.declared.replicas.Replicas.{Replicas}
 use Rattle.worked_leads.specs.Driven.{Beside}
@@ -63,4 +63,4 @@ pub stands_aside : (past : List Event) (e : Event) (l : Lead) → e.by ≡ l.id 
 stands_aside past e l is beside legal stands =
     let own : part l.id (e ∷ past) ≡ event_by l.id e.verb e.answer ∷ part l.id past =
     subst (λ r. part r (e ∷ past) ≡ event_by r e.verb e.answer ∷ part r past) is (part_of_maker e past) in
-    subst (λ m. StandsFor m l) (sym own) (others_keep_law (part l.id past) l e.verb e.answer beside (record { past = e ∷ past; legal = legal; is = own }) stands)
+    subst (λ m. StandsFor m l) (sym own) (others_kept (part l.id past) l e.verb e.answer beside (record { past = e ∷ past; legal = legal; is = own }) stands)

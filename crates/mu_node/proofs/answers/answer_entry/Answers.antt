@@ -1,4 +1,4 @@
-use Rattle.std.proofs.Common.{arith, [], ◌≡◌, ◌∙◌, ◌+◌, ◌%◌, ◌∷◌, ◌<◌, ap, length, subst, sym, take}
+use Rattle.std.proofs.Common.{arith, [], ◌≡◌, ◌∙◌, ◌+◌, ◌%◌, ◌∷◌, ap, subst, sym, take}
 use Rattle.std.proofs.lemmas.List.{length-take}
 use Rattle.mu_follow.specs.Groups.{group_of, group_size}
 use Rattle.mu_follow.proofs.Handing.{applied_words}

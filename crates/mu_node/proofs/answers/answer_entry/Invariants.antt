@@ -1,4 +1,4 @@
-use Rattle.std.proofs.Common.{◌≡◌, ◌≤◌, ◌%◌, List, Some, length, take, ℕ}
+use Rattle.std.proofs.Common.{◌≡◌, ◌≤◌, List, Some, length, take, ℕ}
 use Rattle.std.specs.List.{slice_get}
 use Rattle.kv_store.specs.Commands.{Request}
 use Rattle.mu_model.specs.declared.config.Config.{Config}

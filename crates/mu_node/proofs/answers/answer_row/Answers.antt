@@ -1,5 +1,4 @@
 use Rattle.std.proofs.Common.{◌≡◌, ◌∙◌, [], ◌∷◌, sym, subst}
-use Rattle.kv_store.specs.Commands.{Request}
 use Rattle.mu_model.proofs.Basics.{none_some, same_some}
 use Rattle.mu_node.specs.Answers.{HasAnswered}
 use Rattle.mu_node.proofs.Answering.{one_answered}

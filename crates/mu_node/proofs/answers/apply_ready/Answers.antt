@@ -1,8 +1,5 @@
-use Rattle.std.proofs.Common.{arith, [], ◌≡◌, ◌∙◌, ◌+◌, ◌∷◌, ◌++◌, ◌≤◌, ◌<◌, None, ap, length, subst, sym, take}
-use Rattle.std.specs.Prelude.{IfSome, MatchOption, Some}
-use Rattle.std.specs.List.{slice_get}
+use Rattle.std.proofs.Common.{arith, ◌∙◌, ap, subst, sym, take}
 use Rattle.mu_model.specs.Knowledge.{applied}
-use Rattle.mu_follow.specs.Groups.{group_size}
 use Rattle.mu_node.specs.Answers.{HoldsAnswers}
 use Rattle.mu_node.proofs.Answering.{hold_more, none_within, room_left, take_more, take_whole}
 use Rattle.mu_node.proofs.answers.apply_ready.Goals as goal

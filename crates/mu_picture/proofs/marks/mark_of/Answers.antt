@@ -2,7 +2,7 @@ use Rattle.std.proofs.Common.{◌∙◌, ◌+◌, ap, length}
 use Rattle.mu_model.specs.Histories.{part}
 use Rattle.mu_model.specs.Regions.{fence_grant}
 use Rattle.mu_picture.specs.Deeds.{deed_of}
-use Rattle.mu_picture.specs.Halts.{halt_after}
+use Rattle.mu_course.specs.Halts.{halt_after}
 use Rattle.mu_picture.specs.Marks.{made_of}
 use Rattle.mu_picture.proofs.marks.mark_of.Goals as goal
 

@@ -3,7 +3,7 @@ use Rattle.std.proofs.lemmas.List.{length-reverse, length-take-le}
 use Rattle.mu_model.specs.Histories.{history}
 use Rattle.mu_outcome.proofs.Places.{history_at_next, legal_there}
 use Rattle.mu_picture.specs.Marks.{marks_of}
-use Rattle.mu_picture.specs.Walks.{StandsForWalk}
+use Rattle.mu_course.specs.Walks.{StandsForWalk}
 use Rattle.mu_picture.proofs.Steps.{marks_next, short_list}
 use Rattle.mu_picture.proofs.marks.marks_from.Goals as goal
 

@@ -2,7 +2,7 @@
 use Rattle.std.proofs.Common.{◌≡◌, ◌≤◌, length, take}
 use Rattle.mu_model.specs.Histories.{history}
 use Rattle.mu_picture.specs.Marks.{marks_of}
-use Rattle.mu_picture.specs.Walks.{StandsForWalk}
+use Rattle.mu_course.specs.Walks.{StandsForWalk}
 use Rattle.mu_picture.proofs.marks.marks_from.Given as goal
 
 abbrev pub invariant-loop-index : goal.invariant-loop-index

@@ -1,7 +1,7 @@
 use Rattle.std.proofs.Common.{◌≡◌, ◌<◌, length, take, refl, sym, subst, arith}
 use Rattle.mu_model.specs.Histories.{history}
 use Rattle.mu_outcome.proofs.Places.{history_at_next, legal_there}
-use Rattle.mu_picture.specs.Walks.{StandsForWalk}
+use Rattle.mu_course.specs.Walks.{StandsForWalk}
 use Rattle.mu_picture.proofs.openings.openings_after.Goals as goal
 
 pub loop-index-preserved : goal.loop-index-preserved

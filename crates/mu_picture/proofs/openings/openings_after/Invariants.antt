@@ -1,7 +1,7 @@
 -- The walk has taken the events before this one.
 use Rattle.std.proofs.Common.{take}
 use Rattle.mu_model.specs.Histories.{history}
-use Rattle.mu_picture.specs.Walks.{StandsForWalk}
+use Rattle.mu_course.specs.Walks.{StandsForWalk}
 use Rattle.mu_picture.proofs.openings.openings_after.Given as goal
 
 abbrev pub invariant-loop-index : goal.invariant-loop-index

@@ -3,7 +3,7 @@ use Rattle.std.proofs.Common.{◌≡◌, List}
 use Rattle.mu_model.specs.declared.config.Config.{Config}
 use Rattle.mu_model.specs.declared.event.Event.{Event}
 use Rattle.mu_picture.specs.Openings.{openings_of}
-use Rattle.mu_picture.specs.Walks.{StandsForWalk}
+use Rattle.mu_course.specs.Walks.{StandsForWalk}
 use Rattle.mu_picture.proofs.openings.openings_at.Given as goal
 
 abbrev pub invariant-loop-r : goal.invariant-loop-r

@@ -17,7 +17,7 @@ returns-else-known-up_of-clause-stands c = λ mine s same leads raised unput sou
     let up_is = c.up_of.ensures s.tables.ups in
     let long = ap length same in
     let less = c.if-known-up_of.false in
-    c.bring_up_from.ensures.stands mine s same leads raised (clear_all c.args.self.now.id mine c.args.self.now.up unput) (λ k region member done. absurd (omega (arith, done))) (λ k region member. (let low = few k region member in (omega (arith, up_is, long, less, low), λ left. absurd left)))
+    c.bring_up_from.ensures.stands mine s same leads raised (clear_all c.args.self.now.id mine c.args.self.now.up unput) (λ k region member done. absurd (omega (arith, done))) (λ k region member. (let low = few k region member in (omega (arith, up_is, long, less, low), λ left. absurd left))) (λ is. cc)
 
 pub returns-then-known-up_of-clause-listed : goal.returns-then-known-up_of-clause-listed
 returns-then-known-up_of-clause-listed c = λ mine s same.

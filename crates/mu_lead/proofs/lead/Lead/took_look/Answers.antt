@@ -55,7 +55,7 @@ returns-then-from-known-clause-stands c = λ counts mine s is position possible 
       tables = tables;
       at = c.bring_up_from-self.ensures.stands (e ∷ mine) (record { possible = possible; config = s.config; inside = s.inside; leading = leading; tables = tables }) told leads here.looking.level.raised
           (clear_above l.id (end_of l.config l.id mine) mine l.up here.looking.level.leads.unput (λ q member. here.looking.level.have q (member_within l.config l.id q mine (parts_shorten_law l.config l.id mine e possible).before member) member)) (λ k region member done. absurd (omega (arith, done)))
-          (λ k region member. (let from = c.from.ensures in let long = ap length told in let more = c.if-from-known.true in let position = here.position in let few_ups = here.looking.level.few k region member in (omega (arith, from, long, more, position, few_ups), λ left. omega (arith, from, long, more, position, few_ups))));
+          (λ k region member. (let from = c.from.ensures in let long = ap length told in let more = c.if-from-known.true in let position = here.position in let few_ups = here.looking.level.few k region member in (omega (arith, from, long, more, position, few_ups), λ left. omega (arith, from, long, more, position, few_ups)))) (λ is. cc);
     }
 
 pub returns-else-from-known-clause-stands : goal.returns-else-from-known-clause-stands

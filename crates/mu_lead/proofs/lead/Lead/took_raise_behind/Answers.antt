@@ -73,7 +73,7 @@ returns-in_default-clause-stands c = λ mine s is possible told.
       inside = s.inside;
       leading = leading;
       tables = tables;
-      at = c.bring_up_from-self.ensures.stands (e ∷ mine) (record { possible = possible; config = s.config; inside = s.inside; leading = leading; tables = tables }) told leads raised here.behind.clear done (subst (HaveFew l.config l.id (e ∷ mine) l.up c.args.then) (sym next) here.behind.few);
+      at = c.bring_up_from-self.ensures.stands (e ∷ mine) (record { possible = possible; config = s.config; inside = s.inside; leading = leading; tables = tables }) told leads raised here.behind.clear done (subst (HaveFew l.config l.id (e ∷ mine) l.up c.args.then) (sym next) here.behind.few) c.in_default.not-Joined;
     }
 
 pub returns-in-Joined-clause-listed : goal.returns-in-Joined-clause-listed

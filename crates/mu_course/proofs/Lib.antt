@@ -1,0 +1,2 @@
+mod Teaching
+mod Walking

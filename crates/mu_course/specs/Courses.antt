@@ -1,0 +1,34 @@
+-- When a course stands for the events of a replica, and what it tells of one more.
+use Rattle.std.specs.Prelude.{ℕ, ◌≡◌, ◌&&◌, not, Bool, List, ◌∷◌}
+use Rattle.mu_model.specs.declared.config.Config.{Config}
+use Rattle.mu_model.specs.declared.event.Event.{Event}
+use Rattle.mu_model.specs.Ends.{is_finished}
+use Rattle.mu_model.specs.Knowledge.{applied}
+use Rattle.mu_model.specs.Scores.{leader}
+use Rattle.mu_detect.specs.Stands.{StandsFor}
+use Rattle.mu_follow.specs.Completion.{HoldsCompletion}
+use Rattle.mu_follow.specs.Published.{HoldsPublished}
+use Rattle.mu_parts.specs.Parts.{StandsForReplica}
+use Rattle.mu_course.specs.Resigning.{has_resigned, resigns}
+use Rattle.mu_course.specs.Telling.{Tells}
+use Rattle.mu_course.specs.declared.course.Course.{Course}
+use Rattle.mu_course.specs.declared.course.Turn.{Turn}
+
+-- each part of it stands for the events of r
+pub record StandsForCourse (c : Config) (r : ℕ) (mine : List Event) (course : Course) : Type 0 where
+  pub replica : StandsForReplica c r mine course.replica
+  pub scores : StandsFor c.replicas r mine course.scores
+  pub resigned : course.resigned ≡ has_resigned c r mine
+  pub heads : HoldsPublished r mine course.heads
+  pub completion : HoldsCompletion c (applied c r mine) course.completion
+
+-- the event finishes r, which had not finished before
+abbrev pub finishes : Config → ℕ → List Event → Event → Bool
+finishes c r mine e = not (is_finished c r mine) && is_finished c r (e ∷ mine)
+
+-- what is told of the event of a replica after these events of its own
+pub record TellsTurn (c : Config) (mine : List Event) (e : Event) (turn : Turn) : Type 0 where
+  pub told : Tells c mine e turn.told
+  pub named : turn.named ≡ leader c e.by mine
+  pub resigns : turn.resigns ≡ resigns c e.by mine e
+  pub finishes : turn.finishes ≡ finishes c e.by mine e

@@ -1,0 +1,38 @@
+-- When the states of a walk stand for a history.
+use Rattle.std.specs.Prelude.{ℕ, ◌≡◌, List, None, Some, length}
+use Rattle.std.specs.declared.option.Option.{Option}
+use Rattle.std.specs.List.{slice_get}
+use Rattle.mu_model.specs.declared.config.Config.{Config}
+use Rattle.mu_model.specs.declared.event.Event.{Event}
+use Rattle.mu_model.specs.Histories.{part}
+use Rattle.mu_regions.specs.Stands.{Stands}
+use Rattle.mu_model.specs.declared.event.Answer.{Answer}
+use Rattle.mu_model.specs.declared.event.Fence.{Fence}
+use Rattle.mu_course.specs.Courses.{StandsForCourse, TellsTurn}
+use Rattle.mu_course.specs.declared.course.Course.{Course}
+use Rattle.mu_course.specs.declared.course.Turn.{Turn}
+use Rattle.mu_course.specs.declared.walk.Walk.{Walk}
+
+-- there is a course of each replica, which stands for its part, and the states of the regions stand
+-- for the history
+pub record StandsForWalk (c : Config) (past : List Event) (walk : Walk) : Type 0 where
+  pub count : length walk.courses.items ≡ c.replicas
+  pub each :
+      (r : ℕ) (course : Course) → slice_get walk.courses.items r ≡ Some course
+      → StandsForCourse c r (part r past) course
+  pub regions : Stands c past walk.regions
+
+-- it is told what the step comes to
+abbrev pub TellsStep : Config → List Event → Event → Option Turn → Type 0
+TellsStep c mine e None = ⊥
+TellsStep c mine e (Some turn) = TellsTurn c mine e turn
+
+-- the fence that an answer shows
+abbrev pub fence_shown : Answer → Option Fence
+fence_shown (Answer.Seen fence) = Some fence
+fence_shown _ = None
+
+-- the grant of a fence, where there is one
+abbrev pub grants_shown : Option Fence → ℕ
+grants_shown None = 0
+grants_shown (Some fence) = fence.grant

@@ -1,0 +1,225 @@
+//! What the events of one replica come to.
+ghost use Rattle.std.specs.Prelude.{IfOk, List, [], false, if◌then◌else◌, not, ℕ, ◌&&◌, ◌<◌, ◌||◌, ◌∷◌, ◌≡◌};
+ghost use Rattle.mu_model.specs.declared.config.Config.{Config as Settings};
+ghost use Rattle.mu_model.specs.declared.event.Event.{Event as Made};
+ghost use Rattle.mu_model.specs.Contents.{IsConfig};
+ghost use Rattle.mu_model.specs.Ends.{is_finished as is_finished_of};
+ghost use Rattle.mu_model.specs.Leaderships.{begins_leadership};
+ghost use Rattle.mu_model.specs.Parts.{IsPossible};
+ghost use Rattle.mu_model.specs.Scores.{is_failed as is_failed_by, leader as leader_of};
+ghost use Rattle.mu_model.specs.Steps.{is_beat as is_beat_event};
+ghost use Rattle.mu_model.specs.Stretches.{is_odd};
+ghost use Rattle.mu_course.specs.Courses.{StandsForCourse, TellsTurn};
+ghost use Rattle.mu_course.specs.Resigning.{is_leading as is_leading_of, yields as yields_by};
+ghost use Rattle.mu_course.specs.Telling.{Tells};
+
+use crate::finishing::is_finished;
+use crate::told::{Told, is_end, told_by};
+use mu_detect::Scores;
+use mu_follow::{Completion, Published, count_applied};
+use mu_model::{Config, Event, NoMemory, Verb};
+use mu_parts::Replica;
+use std::alloc::Global;
+
+/// What the events of one replica come to, kept up to date event by event.
+#[derive(Drop)]
+pub struct Course {
+    /// What they let it do next.
+    replica: Replica,
+    /// Whom it holds to be failed.
+    scores: Scores,
+    /// Whether it gave up its last leadership.
+    resigned: bool,
+    /// The heads that it knows.
+    heads: Published,
+    /// How many of the entries that it applied hold all commands.
+    completion: Completion,
+}
+
+/// What an event comes to for the replica that makes it.
+#[derive(Clone, Copy, Debug, PartialEq, Eq)]
+pub struct Turn {
+    /// For its leadership as the verbs end it, and for what it knows.
+    pub told: Told,
+    /// Whom its scores named before.
+    pub named: u8,
+    /// Whether it gives up its leadership by it.
+    pub resigns: bool,
+    /// Whether it finishes by it.
+    pub finishes: bool,
+}
+
+/// Whether the event is a beat.
+fn is_beat(event: &Event) -> bool
+    ensures { result ≡ is_beat_event event.now }
+{
+    match event.verb {
+        Verb::Beat => true,
+        _ => false,
+    }
+}
+
+/// Whether the event begins a leadership of `r`.
+fn begins(event: &Event, r: u8) -> bool
+    ensures { result ≡ begins_leadership r event.now }
+{
+    match event.verb {
+        Verb::Ask(p) => event.by == r && p == 0,
+        _ => false,
+    }
+}
+
+/// Whether a step is odd, counted from 0, before which so many were made.
+fn is_odd_step(steps: u32) -> bool
+    ensures { result ≡ is_odd steps }
+{
+    steps % 2 == 1
+}
+
+/// Whether a beat, or no beat, in a turn of replication, or in no such turn, gives way to another.
+fn is_yield(beats: bool, replicates: bool, named: bool) -> bool
+    ensures { result ≡ (beats && (replicates && not named)) }
+{
+    beats && (replicates && !named)
+}
+
+/// Whether what has begun, is over or was given up, is under way.
+fn is_under_way(begun: bool, over: bool, resigned: bool) -> bool
+    ensures { result ≡ (begun && (not over && not resigned)) }
+{
+    begun && (!over && !resigned)
+}
+
+/// Whether the last leadership was given up, after an event that begins one, or gives way.
+fn resigned_after(resigned: bool, begins: bool, yields: bool) -> bool
+    ensures { result ≡ (if begins then false else (yields || resigned)) }
+{
+    if begins { false } else { yields || resigned }
+}
+
+/// Whether a leadership is given up, which is under way, where a step gives way.
+fn is_resigning(leading: bool, yields: bool) -> bool
+    ensures { result ≡ (leading && yields) }
+{
+    leading && yields
+}
+
+impl Course {
+    /// Before any event. Takes all memory that it ever needs.
+    pub fn new(alloc: Global, config: &Config, replica: u8) -> Result<Course, NoMemory>
+        requires config { IsConfig config.now }
+        requires inside { replica < config.now.replicas }
+        ensures { IfOk result (λ course. StandsForCourse config.now replica [] course) }
+    {
+        let state = Replica::new(alloc, config, replica)?;
+        let scores = Scores::new(config.replicas, replica);
+        let heads = Published::new();
+        let completion = Completion::new(alloc, config)?;
+        Ok(Course {
+            replica: state,
+            scores,
+            resigned: false,
+            heads,
+            completion,
+        })
+    }
+
+    /// Whether a leadership is under way.
+    pub fn is_leading(&self) -> bool
+        ensures { (c : Settings) → (r : ℕ) → (mine : List Made) → StandsForCourse c r mine self.now
+            → result ≡ is_leading_of c r mine }
+    {
+        let begun = self.replica.leadership.has_begun();
+        let over = self.replica.leadership.is_over();
+        is_under_way(begun, over, self.resigned)
+    }
+
+    /// Whom its scores name.
+    pub fn named(&self) -> u8
+        ensures { (c : Settings) → (r : ℕ) → (mine : List Made) → StandsForCourse c r mine self.now
+            → result ≡ leader_of c r mine }
+    {
+        self.scores.leader()
+    }
+
+    /// Whether it holds `q` to be failed. Of a replica that isn't there the answer says nothing.
+    pub fn fails(&self, q: u8) -> bool
+        ensures { (c : Settings) → (r : ℕ) → (mine : List Made) → q < c.replicas
+            → StandsForCourse c r mine self.now → result ≡ is_failed_by r q mine }
+    {
+        !self.scores.alive(q)
+    }
+
+    /// Whether the next event gives way to another leader.
+    fn yields(&self, event: &Event) -> bool
+        ensures { (c : Settings) → (r : ℕ) → (mine : List Made) → StandsForCourse c r mine self.now
+            → result ≡ yields_by c r mine event.now }
+    {
+        let named = self.scores.leader() == self.replica.replica;
+        is_yield(is_beat(event), is_odd_step(self.replica.steps), named)
+    }
+
+    /// Whether it has finished.
+    fn is_finished(&self, config: &Config) -> bool
+        requires { IsConfig config.now }
+        ensures { (r : ℕ) → (mine : List Made) → StandsForCourse config.now r mine self.now
+            → result ≡ is_finished_of config.now r mine }
+    {
+        is_finished(
+            &self.completion,
+            &self.heads,
+            &self.scores,
+            self.replica.replica,
+            config.replicas,
+        )
+    }
+
+    /// Takes the next event of the replica, which it was allowed, and which gives way or doesn't.
+    fn note(&mut self, config: &Config, event: &Event, yields: bool) -> Told
+        requires config { IsConfig config.now }
+        ensures stands { (mine : List Made) → IsPossible config.now event.now.by (event.now ∷ mine)
+            → StandsForCourse config.now event.now.by mine self.old
+            → yields ≡ yields_by config.now event.now.by mine event.now
+            → StandsForCourse config.now event.now.by (event.now ∷ mine) self.new }
+        ensures tells { (mine : List Made) → IsPossible config.now event.now.by (event.now ∷ mine)
+            → StandsForCourse config.now event.now.by mine self.old
+            → Tells config.now mine event.now result }
+    {
+        let told = told_by(&mut self.replica, config, event);
+        self.scores.note(event);
+        self.resigned = resigned_after(self.resigned, begins(event, event.by), yields);
+        self.heads.note(event.by, event);
+        count_applied(
+            &mut self.completion,
+            config,
+            &self.replica.known_log,
+            &self.replica.held_rows,
+        );
+        told
+    }
+
+    /// Takes the next event of the replica, which it was allowed, and tells what it comes to. Takes
+    /// no memory.
+    pub fn take(&mut self, config: &Config, event: &Event) -> Turn
+        requires config { IsConfig config.now }
+        ensures stands { (mine : List Made) → IsPossible config.now event.now.by (event.now ∷ mine)
+            → StandsForCourse config.now event.now.by mine self.old
+            → StandsForCourse config.now event.now.by (event.now ∷ mine) self.new }
+        ensures tells { (mine : List Made) → IsPossible config.now event.now.by (event.now ∷ mine)
+            → StandsForCourse config.now event.now.by mine self.old
+            → TellsTurn config.now mine event.now result }
+    {
+        let named = self.scores.leader();
+        let yields = self.yields(event);
+        let leading = self.is_leading();
+        let before = self.is_finished(config);
+        let told = self.note(config, event, yields);
+        let after = self.is_finished(config);
+        Turn {
+            told,
+            named,
+            resigns: is_resigning(leading, yields),
+            finishes: is_end(before, after),
+        }
+    }
+}

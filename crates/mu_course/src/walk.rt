@@ -1,0 +1,124 @@
+//! A walk over a legal list of events, with the states of all replicas and regions.
+ghost use Rattle.std.specs.Prelude.{IfOk, List, [], Some, ◌∷◌, ◌<◌, ◌≡◌};
+ghost use Rattle.mu_model.specs.declared.event.Event.{Event as Made};
+ghost use Rattle.mu_model.specs.Contents.{IsConfig};
+ghost use Rattle.mu_model.specs.Histories.{part};
+ghost use Rattle.mu_model.specs.Legal.{IsLegalHistory};
+ghost use Rattle.mu_model.specs.Regions.{fence as fence_of, fence_grant};
+ghost use Rattle.mu_model.specs.Scores.{is_failed, leader};
+ghost use Rattle.mu_model.specs.declared.config.Config.{Config as Settings};
+ghost use Rattle.mu_course.specs.Walks.{StandsForWalk, TellsStep, fence_shown, grants_shown};
+ghost use Rattle.mu_course.specs.Resigning.{is_leading};
+
+use crate::course::{Course, Turn};
+use mu_model::{Answer, Config, Event, Fence, NoMemory, Verb};
+use mu_regions::Regions;
+use std::alloc::Global;
+
+/// The states of all replicas and regions after the first events of a legal list.
+#[derive(Drop)]
+pub struct Walk {
+    courses: Vec<Course>,
+    regions: Regions,
+}
+
+/// The fence that is seen.
+fn fence_in(answer: Answer) -> Option<Fence>
+    ensures { result ≡ fence_shown answer }
+{
+    match answer {
+        Answer::Seen(fence) => Some(fence),
+        _ => None,
+    }
+}
+
+/// How often the region of a fence was granted.
+fn grants_in(fence: Option<Fence>) -> u32
+    ensures { result ≡ grants_shown fence }
+{
+    match fence {
+        Some(fence) => fence.grant,
+        None => 0,
+    }
+}
+
+impl Walk {
+    /// The states before any event. Takes all memory that it ever needs.
+    pub fn new(alloc: Global, config: &Config) -> Result<Walk, NoMemory>
+        requires { IsConfig config.now }
+        ensures { IfOk result (λ walk. StandsForWalk config.now [] walk) }
+    {
+        let mut courses = Vec::with_capacity(alloc, usize::from(config.replicas))?;
+        for replica in 0..config.replicas {
+            courses.push_reserved(Course::new(alloc, config, replica)?);
+        }
+        let regions = Regions::new(alloc, config)?;
+        Ok(Walk { courses, regions })
+    }
+
+    /// The fence of a region. `None` where there is no such region.
+    pub fn fence(&self, region: u8) -> Option<Fence>
+        ensures { (past : List Made) → (c : Settings) → region < c.replicas
+            → StandsForWalk c past self.now → result ≡ Some (fence_of region past) }
+    {
+        fence_in(self.regions.answer(region, &Verb::Fence(region)))
+    }
+
+    /// How often the region was granted.
+    pub fn granted(&self, region: u8) -> u32
+        ensures { (past : List Made) → (c : Settings) → region < c.replicas
+            → StandsForWalk c past self.now → result ≡ fence_grant region past }
+    {
+        grants_in(self.fence(region))
+    }
+
+    /// Whether a leadership of the replica is under way.
+    pub fn leads(&self, r: u8) -> bool
+        ensures { (past : List Made) → (c : Settings) → r < c.replicas
+            → StandsForWalk c past self.now → result ≡ is_leading c r (part r past) }
+    {
+        match self.courses.get(usize::from(r)) {
+            None => false,
+            Some(course) => course.is_leading(),
+        }
+    }
+
+    /// Whom the scores of the replica name.
+    pub fn named(&self, r: u8) -> u8
+        ensures { (past : List Made) → (c : Settings) → r < c.replicas
+            → StandsForWalk c past self.now → result ≡ leader c r (part r past) }
+    {
+        match self.courses.get(usize::from(r)) {
+            None => 0,
+            Some(course) => course.named(),
+        }
+    }
+
+    /// Whether the replica `r` holds `q` to be failed.
+    pub fn fails(&self, r: u8, q: u8) -> bool
+        ensures { (past : List Made) → (c : Settings) → r < c.replicas → q < c.replicas
+            → StandsForWalk c past self.now → result ≡ is_failed r q (part r past) }
+    {
+        match self.courses.get(usize::from(r)) {
+            None => false,
+            Some(course) => course.fails(q),
+        }
+    }
+
+    /// Takes the next event of the legal list, and tells what it comes to. Takes no memory.
+    pub fn take(&mut self, config: &Config, event: &Event) -> Option<Turn>
+        requires { IsConfig config.now }
+        ensures stands { (past : List Made) → IsLegalHistory config.now (event.now ∷ past)
+            → StandsForWalk config.now past self.old
+            → StandsForWalk config.now (event.now ∷ past) self.new }
+        ensures tells { (past : List Made) → IsLegalHistory config.now (event.now ∷ past)
+            → StandsForWalk config.now past self.old
+            → TellsStep config.now (part event.now.by past) event.now result }
+    {
+        self.regions.take(event);
+        match self.courses.get_mut(usize::from(event.by)) {
+            None => None,
+            Some(course) => Some(course.take(config, event)),
+        }
+    }
+}
