@@ -40,7 +40,7 @@ use Rattle.mu_alive.proofs.Enough.{holds_more, outrun_before}
 use Rattle.mu_alive.proofs.Fetching.{applied_grows}
 use Rattle.mu_alive.proofs.Finishing.{get_of_front, get_take, heads-own, same_lists}
 use Rattle.mu_cluster.specs.declared.rounds.Seat.{Seat}
-use Rattle.mu_cluster.specs.Finishing.{FinishesInTime, HasFinished, finishing_steps}
+use Rattle.mu_cluster.specs.Finishing.{AppliesEachInTime, HasApplied, finishing_steps}
 use Rattle.mu_cluster.specs.Outliving.{is_stop, was_stopped}
 use Rattle.mu_cluster.specs.Paces.{AreDiligent}
 use Rattle.mu_cluster.specs.Rounds.{Played, part_of}
@@ -219,7 +219,7 @@ not_stopped true is = absurd (true≢false (sym is))
 not_stopped false is = refl
 
 -- in what a replay leaves
-pub finishes_of : (o : Outcome) (order : Record) (seats : List Seat) (rounds : ℕ) → IsConfig o.job.config → (run : IsRun o) → o.order ≡ Some order → Played o.job.config o.job.script order.events seats rounds 0 → AreDiligent o → FinishesInTime o
+pub finishes_of : (o : Outcome) (order : Record) (seats : List Seat) (rounds : ℕ) → IsConfig o.job.config → (run : IsRun o) → o.order ≡ Some order → Played o.job.config o.job.script order.events seats rounds 0 → AreDiligent o → AppliesEachInTime o
 finishes_of o order seats rounds good run given played diligent unpaused k on time r low there = by_end (run.ended r low).0 (run.ended r low).1 (run.ended r low).2.ends
   where
     c : Config
@@ -296,7 +296,7 @@ finishes_of o order seats rounds good run given played diligent unpaused k on ti
             first_end true stops = no_end End.Stopped stops
             first_end false stops = no_end (End.Finished (heads_of (head_known r d.mine))) ((stops, short), none, d.done, heads_are (head_known r d.mine))
 
-    by_end : (end : End) → slice_get o.ends r ≡ Some end → EndsBy c o.job.script r (history (journal_of o r)) end → HasFinished o r
+    by_end : (end : End) → slice_get o.ends r ≡ Some end → EndsBy c o.job.script r (history (journal_of o r)) end → HasApplied o r
     by_end End.Stopped is ends = absurd (true≢false (sym (ap is_stop is) ∙ there))
     by_end End.Budget is ends = absurd (spent ends.1)
     by_end (End.Outrun p i) is ends = absurd (none_outrun c events lengths run.turns.rounds r p i good all low (ap (outrun c r) (sym (journal_part o run r low)) ∙ ends.1))

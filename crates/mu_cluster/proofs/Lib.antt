@@ -1,4 +1,5 @@
 pub mod Agreeing
+mod AllTold
 mod Branching
 mod Driven
 pub mod FewCommands

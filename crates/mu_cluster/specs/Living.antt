@@ -11,7 +11,7 @@ use Rattle.mu_model.specs.Leaderships.{majority_of}
 use Rattle.mu_outcome.specs.declared.outcome.Outcome.{Outcome}
 use Rattle.mu_outcome.specs.Completion.{HasAllCommands}
 use Rattle.mu_outcome.specs.Outcomes.{log_of}
-use Rattle.mu_cluster.specs.Finishing.{FinishesInTime}
+use Rattle.mu_cluster.specs.Finishing.{AppliesEachInTime, FinishesInTime}
 use Rattle.mu_cluster.specs.Outliving.{AppliesAllAfterStops, HasAllAfterStops}
 
 -- a line of the script stops r
@@ -50,7 +50,7 @@ HasAllWithFirst o =
 pub record AppliesAllUnpaused (o : Outcome) : Type 0 where
   pub first : AppliesAllWithFirst o
   pub last : AppliesAllAfterStops o
-  pub each : FinishesInTime o
+  pub each : AppliesEachInTime o
 
 -- a replay stays alive: it has every command if replica 0 isn't stopped, and if leaders are; and in
 -- the first case each replica that isn't stopped finishes
