@@ -18,6 +18,7 @@ use Rattle.mu_node.specs.Node.{HasPlanned, StandsForNode}
 use Rattle.mu_node.specs.Notes.{MovesGoing, SaysTook, TellsNote, TellsTook}
 use Rattle.mu_node.proofs.Leading.{even_may}
 use Rattle.mu_node.proofs.Moving.{event_by, moved, possible_own, to_own, to_port}
+use Rattle.mu_node.proofs.Pacing.{due_listed}
 use Rattle.mu_node.proofs.Turning.{going_moves, made_follows, note_told, replays}
 use Rattle.mu_node.proofs.node.Node.step.Goals as goal
 
@@ -85,6 +86,7 @@ follows_of c r mine old planned due answer good possible short going stands held
     lead = old.lead;
     made = record { replication = λ odd. ap verb_or_beat (led odd); background = λ even. (due, cycle even, refl) };
     paces = stands.paces;
+    listed = λ odd. ap verb_or_beat (led odd ∙ due_listed c r mine old.lead stands.lead stands.paces.listed);
     leads = λ even leads. even_may c r mine even (stands.leads leads);
   };
 }
