@@ -85,7 +85,7 @@ follows_of c r mine old planned due answer good possible short going stands held
     going = going;
     lead = old.lead;
     made = record { replication = λ odd. ap verb_or_beat (led odd); background = λ even. (due, cycle even, refl) };
-    paces = stands.paces;
+    paces = stands.paces.paces;
     listed = λ odd. ap verb_or_beat (led odd ∙ due_listed c r mine old.lead stands.lead stands.paces.listed);
     leads = λ even leads. even_may c r mine even (stands.leads leads);
   };
