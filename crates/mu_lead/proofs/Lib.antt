@@ -9,7 +9,7 @@ mod Copying
 mod Due
 mod ElectionSteps
 pub mod Elections
-mod Folding
+pub mod Folding
 mod FuosBeside
 mod Gathering
 mod Firsts
@@ -70,3 +70,4 @@ mod StandsFirsts
 mod Tables
 mod Taking
 mod Telling
+mod Writes

@@ -16,6 +16,7 @@ use Rattle.mu_lead.proofs.Causes.{asks_have_cause}
 use Rattle.mu_lead.proofs.Elections.{elects_next}
 use Rattle.mu_lead.proofs.Laws.{followers_join, fuos_are_raised, minima_are_read, misses_are_explained}
 use Rattle.mu_lead.proofs.Listed.{kept}
+use Rattle.mu_lead.proofs.Folding.{where_led}
 use Rattle.mu_lead.proofs.lead.Lead.take.Goals as goal
 
 pub returns-then-knows_all-clause-says : goal.returns-then-knows_all-clause-says
@@ -90,7 +91,19 @@ pub returns-else-is_working-clause-listed : goal.returns-else-is_working-clause-
 returns-else-is_working-clause-listed g c = λ counts verb due possible told. c.take_answer-note.ensures.listed counts g.mine verb c.requires.1 c.requires.0 due possible told
 
 pub returns-then-knows_all-clause-rooms : goal.returns-then-knows_all-clause-rooms
-returns-then-knows_all-clause-rooms g c = λ counts. let took = c.take_answer-note in rooms_next g.mine c.args.self.now took.new.self c.args.known.now c.args.answer c.requires.0 c.requires.1 took.ensures.config took.ensures.id (took.ensures.kept g.mine c.requires.0) (took.ensures.stands counts) (took.ensures.listed counts)
+returns-then-knows_all-clause-rooms g c = λ counts. let took = c.take_answer-note in rooms_next g.mine c.args.self.now took.new.self c.args.known.now c.args.answer c.requires.0 c.requires.1 took.ensures.config took.ensures.id took.ensures.writes (took.ensures.stands counts) (took.ensures.listed counts)
 
 pub returns-else-is_working-clause-rooms : goal.returns-else-is_working-clause-rooms
-returns-else-is_working-clause-rooms g c = λ counts. let took = c.take_answer-note in rooms_next g.mine c.args.self.now took.new.self c.args.known.now c.args.answer c.requires.0 c.requires.1 took.ensures.config took.ensures.id (took.ensures.kept g.mine c.requires.0) (took.ensures.stands counts) (took.ensures.listed counts)
+returns-else-is_working-clause-rooms g c = λ counts. let took = c.take_answer-note in rooms_next g.mine c.args.self.now took.new.self c.args.known.now c.args.answer c.requires.0 c.requires.1 took.ensures.config took.ensures.id took.ensures.writes (took.ensures.stands counts) (took.ensures.listed counts)
+
+pub returns-then-knows_all-clause-writes : goal.returns-then-knows_all-clause-writes
+returns-then-knows_all-clause-writes g c = λ verb due possible told. c.take_answer-note.ensures.writes g.mine verb c.requires.0 due possible told
+
+pub returns-else-is_working-clause-writes : goal.returns-else-is_working-clause-writes
+returns-else-is_working-clause-writes g c = λ verb due possible told. c.take_answer-note.ensures.writes g.mine verb c.requires.0 due possible told
+
+pub returns-then-knows_all-clause-placed : goal.returns-then-knows_all-clause-placed
+returns-then-knows_all-clause-placed g c = λ counts. let took = c.take_answer-note in where_led g.mine c.args.self.now took.new.self c.args.known.now c.args.answer took.result c.requires.0 c.requires.1 took.ensures.note took.ensures.writes (took.ensures.listed counts) took.ensures.going
+
+pub returns-else-is_working-clause-placed : goal.returns-else-is_working-clause-placed
+returns-else-is_working-clause-placed g c = λ counts. let took = c.take_answer-note in where_led g.mine c.args.self.now took.new.self c.args.known.now c.args.answer took.result c.requires.0 c.requires.1 took.ensures.note took.ensures.writes (took.ensures.listed counts) took.ensures.going

@@ -46,6 +46,7 @@ returns-clause-stands g c follows possible =
       joins = c.take-note.ensures.joins log;
       causes = c.take-note.ensures.causes log;
       elects = c.take-note.ensures.elects log;
+      placed = c.take-note.ensures.placed log;
     } in
     let odd = c.requires.1.1.1.1.0 in
     let before : HasPaces k r mine old = led_paces k r mine old verb odd due (subst (λ l. HasPlannedPaces k r mine l) (sym c.note.ensures.lead) held.paces) in
