@@ -6,8 +6,12 @@
 A judge that finds nothing wrong would pass all that is tested by it, and no other test would tell.
 `./test` calls this; it runs no program.
 """
+import contextlib
+import io
 import os
+import runpy
 import sys
+from types import SimpleNamespace
 
 import bound_jobs
 import own_traces
@@ -128,7 +132,15 @@ def tells_stored_inputs():
     yield len(list(judged())) == contents(os.path.join(TOP, "cases", "judged.names")).count(b"\n") >= LEAST_JUDGED
 
 
-JUDGES = [tells_answers, tells_sums, tells_missing_answers, tells_statuses, tells_reports, tells_bounds,
+def tells_failures():
+    """./test counts what failed, and ends with status 1 for it."""
+    test = SimpleNamespace(**runpy.run_path(os.path.join(TOP, "test")))
+    with contextlib.redirect_stdout(io.StringIO()):
+        yield test.told_all([([test.Part("one", 2, ["it failed"]), test.Part("other", 1, [])], 0)]) == (3, 1)
+        yield test.ended(3, 1) == 1 and test.ended(3, 0) == 0 and test.ended(0, 0) == 1
+
+
+JUDGES = [tells_failures, tells_answers, tells_sums, tells_missing_answers, tells_statuses, tells_reports, tells_bounds,
           tells_own_traces, tells_pages, tells_stored_inputs]
 
 
