@@ -27,6 +27,7 @@ mod Marks
 mod Misses
 mod NextRows
 mod NoteKinds
+mod Noted
 mod Numbering
 mod Offers
 mod Onwards
