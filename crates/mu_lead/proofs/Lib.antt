@@ -27,7 +27,7 @@ mod Marks
 mod Misses
 mod NextRows
 mod NoteKinds
-mod Noted
+pub mod Noted
 mod Numbering
 mod Offers
 mod Onwards

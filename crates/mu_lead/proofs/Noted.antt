@@ -1,18 +1,18 @@
 -- The note of each place is that of the listing.
-use Rattle.std.proofs.Common.{Bool, List, Some, [], ap, arith, false, get_or, inl, inr, is_some, length, length-append, min, refl, subst, sym, true, true≢false, ℕ, ◌%◌, ◌&&◌, ◌++◌, ◌+◌, ◌<◌, ◌==◌, ◌∙◌, ◌∷◌, ◌≡◌, ◌≢◌, ◌⊎◌}
+use Rattle.std.proofs.Common.{Bool, List, Some, [], ap, arith, false, get_or, inl, inr, is_some, length, length-append, min, refl, subst, sym, true, ℕ, ◌%◌, ◌&&◌, ◌+◌, ◌<◌, ◌==◌, ◌∙◌, ◌∷◌, ◌≡◌, ◌⊎◌}
 use Rattle.std.specs.Prelude.{if◌then◌else◌, nat_le, nat_lt, not}
+use Rattle.std.specs.declared.option.Option.{Option}
 use Rattle.std.proofs.lemmas.Bool.{and_from, eqb-false, eqb-true, le-leb, le-ltb, lt-ltb}
 use Rattle.mu_model.specs.declared.config.Config.{Config}
 use Rattle.mu_model.specs.declared.event.Answer.{Answer}
 use Rattle.mu_model.specs.declared.event.Event.{Event}
-use Rattle.mu_model.specs.declared.event.Fence.{Fence}
 use Rattle.mu_model.specs.declared.event.Target.{Target}
 use Rattle.mu_model.specs.declared.event.Verb.{Verb}
 use Rattle.mu_model.specs.Contents.{IsInSession, holds_all}
 use Rattle.mu_model.specs.Diligence.{is_confirmed}
-use Rattle.mu_model.specs.Histories.{count_below}
+use Rattle.mu_model.specs.Histories.{count_below, or_zero}
 use Rattle.mu_model.specs.Knowledge.{grown, known}
-use Rattle.mu_model.specs.Leaderships.{is_over, majority_of, noted_grant}
+use Rattle.mu_model.specs.Leaderships.{is_over, majority_of, noted_grant, proposal_number}
 use Rattle.mu_model.specs.Parts.{IsPossible}
 use Rattle.mu_model.specs.Room.{reserve}
 use Rattle.mu_model.specs.Scores.{is_failed}
@@ -20,19 +20,18 @@ use Rattle.mu_model.proofs.Basics.{event_by, same_some}
 use Rattle.mu_agree.proofs.Possible.{parts_shorten_law}
 use Rattle.mu_leading.proofs.Within.{known_few}
 use Rattle.mu_lead.specs.declared.lead.Lead.{Lead}
-use Rattle.mu_lead.specs.declared.note.AbortCause.{AbortCause}
 use Rattle.mu_lead.specs.declared.note.Note.{Note}
 use Rattle.mu_lead.specs.declared.place.Offer.{Offer}
 use Rattle.mu_lead.specs.declared.place.Place.{Place}
 use Rattle.mu_lead.specs.Confirming.{Confirmed}
 use Rattle.mu_lead.specs.Lasting.{tables_of}
 use Rattle.mu_lead.specs.Leading.{end_of}
-use Rattle.mu_lead.specs.Listing.{is_missed, may_mark, number_told}
+use Rattle.mu_lead.specs.Listing.{Tables, is_missed, may_mark, number_told}
 use Rattle.mu_lead.specs.Notes.{note_of_commit, note_of_head, note_of_min, value_committed}
 use Rattle.mu_lead.specs.Noting.{NotedNext, next_note, note_of_enter, note_of_evidence, note_of_past, note_of_round, or_idle}
-use Rattle.mu_lead.specs.Saying.{NotesAt, NotesDue, NotesEnter, NotesHead, TellsAfter, is_working, note_of_fence, note_of_join, note_of_learning, note_of_look}
-use Rattle.mu_lead.specs.Sets.{bits, is_bit}
-use Rattle.mu_lead.specs.Standing.{HasHeeded, HoldsAt, StandsFor, TellsDue, known_told, verb_at, verb_of}
+use Rattle.mu_lead.specs.Saying.{NotesAt, NotesDue, NotesEnter, NotesHead, TellsAfter, is_working, note_of_join, note_of_learning, note_of_look}
+use Rattle.mu_lead.specs.Sets.{bits}
+use Rattle.mu_lead.specs.Standing.{At, HasHeeded, HoldsAt, StandsFor, TellsDue, known_told, verb_at, verb_of}
 use Rattle.mu_lead.proofs.Bringing.{config_small}
 use Rattle.mu_lead.proofs.Confirms.{is_majority}
 use Rattle.mu_lead.proofs.Replies.{enters_or, puts_min_or, sees_fence, tells_head, tells_min}
@@ -161,3 +160,9 @@ idle_noted mine old values answer note heeded s notes tells working holds verb d
     let in_session = values_in_session mine old values answer verb note s possible working grew in
     let all = all_known mine old values answer verb note true working grew (holds in_session.1 in_session.0) in
     sym (ap (λ t. or_idle t (next_note old.config old.id old.number mine (event_by old.id verb answer ∷ mine) (tables_of old) answer old.place)) all ∙ ap (or_idle true) (sym is ∙ working))
+
+-- only a late follower's minimum is compared with the number, and there it is the leadership's
+pub same_number_note : (c : Config) (r b : ℕ) (mine now : List Event) (up : List ℕ) (reach : List (Option ℕ)) (written : List ℕ) (t : Tables) (a : Answer) (place : Place) → At c r b mine up reach written place
+    → next_note c r b mine now t a place ≡ next_note c r (or_zero (proposal_number r mine)) mine now t a place
+same_number_note c r b mine now up reach written t a (Place.LateMin p) at = ap (λ o. next_note c r (or_zero o) mine now t a (Place.LateMin p)) (sym at.late.level.leads.numbered)
+same_number_note c r b mine now up reach written t a place at = refl
