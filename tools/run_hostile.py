@@ -10,7 +10,7 @@
 - Inputs at each limit and one above it; words that are no text get the usage line; output into a full device is status 5.
 - `run` with all cores busy, and with long pauses: each report is one that tools/run_trials.py permits.
 - `mu_draw`: every prefix of a trace, every change of one byte of it, long lines and numbers, and inputs at the limit:
-  the answer of `mu check` where that isn't `legal`, else the picture that tools/picture_cases.py draws; faults and
+  the answer of `mu check` where that is a refusal, else the picture that tools/picture_cases.py draws; faults and
   pieces as above; words that ask for nothing, and steps out of range; a full device, a closed pipe, a stop and go on.
 
 It needs a C compiler, for the library that lets calls fail (tools/hostile.c).
@@ -226,14 +226,16 @@ def is_document(text):
 
 
 def check_pictures(draw, judge, what, inputs):
-    """Each input has the answer of `check`, or where that is `legal` its picture."""
+    """Each input has its picture, up to where `check` says that it breaks, or the answer of `check`."""
     wrong = []
     for given in inputs:
         judged = judge.run(["check"], given)[:2]
         status, text, _ = draw.run([], given)
         is_right = (status, text) == judged
-        if judged[0] == 0:
-            is_right = status == 0 and is_document(text) and text.decode() == picture_cases.drawn(given.decode())
+        if judged[0] in (0, 7):
+            broken = picture_cases.breach_of(judged[1].decode()) if judged[0] == 7 else None
+            is_right = (status == judged[0] and is_document(text)
+                        and text.decode() == picture_cases.drawn(given.decode(), broken=broken))
         if not is_right:
             wrong.append(f"{given[:200]!r}: {status} {text[:60]!r}, where check says {judged[1]!r}")
     draw.say(f"mu_draw: {what}", len(inputs), wrong)
@@ -241,12 +243,12 @@ def check_pictures(draw, judge, what, inputs):
 
 def picture_rows(trace):
     """Words that ask for steps, or for nothing, and inputs at the limit."""
-    count, usage = trace.count(b"\n"), b"usage: mu_draw, mu_draw FIRST LAST\n"
+    count, usage = trace.count(b"\n"), b"usage: mu_draw, mu_draw FIRST LAST, mu_draw brief, mu_draw brief FIRST LAST\n"
     for first, last in ((0, 0), (0, 9999999), (9999999, 9999999), (1, 3), (count, count + 1), (0, count)):
         yield [str(first), str(last)], trace, 0, picture_cases.drawn(trace.decode(), first, last).encode()
     bad = [["0"], ["0", "1", "2"], ["3", "1"], ["-1", "3"], ["+1", "3"], ["a", "b"], ["", "3"], ["00", "1"],
            ["01", "3"], ["1 ", "3"], ["0x1", "3"], ["0", "10000000"], ["10000000", "10000000"],
-           ["0", "99999999999999999999"], ["0", "9" * 100000], ["--help"], ["check"], [b"\xff", "3"], ["0", b"\x80"]]
+           ["0", "99999999999999999999"], ["brief", "1"], ["brief", "2", "1"], ["0", "9" * 100000], ["--help"], ["check"], [b"\xff", "3"], ["0", b"\x80"]]
     for words in bad:
         yield words, trace, 1, usage
     whole = SETTINGS + b"end\n" + b"0 beat = done\n" * 1000

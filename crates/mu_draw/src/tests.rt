@@ -7,7 +7,7 @@ use std::alloc::{AllocError, Global};
 use std::test::Fail;
 
 /// The most bytes that a row writes.
-const ROOM: usize = 4096;
+const ROOM: usize = 16384;
 
 /// A trace of one ask.
 const ASK: &str = "mu 1\nreplicas 1\nring 8\nbudget 9\nend\n0 ask 0 = done\nend\n";
@@ -26,10 +26,19 @@ const ENDS: &str =
 const STOPS: &str = "mu 1\nreplicas 2\nring 8\nbudget 9\nscript\nstop 0 1\nend\n1 ask 0 = done\n\
     1 beat = done\n0 head 1 = 0\nend\n";
 
-/// The lane of replica 1, where it stands above the rows.
-const LANE: &str = "<text class='t' x='214' y='40'>replica 1</text>\n\
-    <text class='t' x='284' y='40'>region 1</text>\n\
-    <rect class='l' x='214' y='46' width='1' height='100%'/>\n";
+/// The lane of replica 1, as it stands above the rows.
+const LANE: &str = "<text class='n' x='230' y='84'>replica 1</text>\n\
+    <text class='n' x='274' y='84'>region 1</text>\n\
+    <rect class='o0' x='225' y='92' width='3' height='100%'/>\n\
+    <rect class='l' x='232' y='92' width='1' height='100%'/>\n";
+
+/// The event that breaks `GRANT`, as it is drawn.
+const BREACH: &str = "<g><title>step 1, line 7: 0 grant 0 = done</title>\n\
+    <rect class='r' x='62' y='121' width='160' height='1'/>\n\
+    <path class='r' d='M76 126l8 8m0-8l-8 8'/>\n\
+    <text class='s' x='56' y='133'>1</text>\n\
+    <text class='t e' x='244' y='133'>0 grant 0 = done</text>\n\
+    <text class='t e' x='244' y='145'>not allowed</text>\n</g>\n</svg>\n";
 
 /// How a call ended, and what it wrote.
 #[derive(Drop)]
@@ -64,20 +73,24 @@ fn after(
 
 #[test]
 fn says_how_it_is_called(rt: HostRuntime) -> Result<(), Fail> {
-    let rows: [&[&str]; 6] = [
+    let rows: [&[&str]; 9] = [
         &["0"],
         &["5", "3"],
         &["-1", "3"],
         &["0", "10000000"],
         &["00", "3"],
         &["0", "3", "5"],
+        &["brief", "3"],
+        &["brief", "5", "3"],
+        &["Brief"],
     ];
     for words in rows {
         let called = after(rt.alloc(), words, ASK, 0, 0)?;
         assert_eq!(rt; called.status, 1);
         assert_eq!(rt;
             called.sink.written(),
-            b"usage: mu_draw, mu_draw FIRST LAST\n".as_slice()
+            b"usage: mu_draw, mu_draw FIRST LAST, mu_draw brief, mu_draw brief FIRST LAST\n"
+                .as_slice()
         );
     }
     Ok(())
@@ -85,15 +98,17 @@ fn says_how_it_is_called(rt: HostRuntime) -> Result<(), Fail> {
 
 #[test]
 fn says_why_there_is_no_picture(rt: HostRuntime) -> Result<(), Fail> {
-    let rows = [
-        ("mu 1\nreplicas 8\n", 2, "refused line 2 cause 2\n"),
-        (GRANT, 7, "illegal 1 not allowed\n"),
-    ];
-    for (input, status, line) in rows {
-        let called = after(rt.alloc(), &[], input, 0, 0)?;
-        assert_eq!(rt; called.status, status);
-        assert_eq!(rt; called.sink.written(), line.as_bytes());
-    }
+    let called = after(rt.alloc(), &[], "mu 1\nreplicas 8\n", 0, 0)?;
+    assert_eq!(rt; called.status, 2);
+    assert_eq!(rt; called.sink.written(), b"refused line 2 cause 2\n".as_slice());
+    Ok(())
+}
+
+#[test]
+fn draws_up_to_the_event_that_breaks_the_trace(rt: HostRuntime) -> Result<(), Fail> {
+    let called = after(rt.alloc(), &[], GRANT, 0, 0)?;
+    assert_eq!(rt; called.status, 7);
+    assert_eq!(rt; called.sink.written().ends_with(BREACH.as_bytes()), true);
     Ok(())
 }
 
@@ -122,34 +137,50 @@ fn ends_with(alloc: Global, asked: &[&str], trace: &str, lines: &str) -> Result<
 
 #[test]
 fn draws_how_a_leadership_and_a_replica_end(rt: HostRuntime) -> Result<(), Fail> {
-    let asks = "<rect class='o1' x='216' y='62' width='12' height='100%'/>\n\
-        <path class='a' d='M152 62v3v-6v3H222v3h-6v-6h6v3'/>\n";
-    let resigns = "<rect class='w' x='215' y='74' width='14' height='100%'/>\n\
-        <text class='t' x='364' y='77'>1: replica 1 resigns to 0, it leads no more</text>\n";
-    let finishes = "<rect class='w' x='62' y='92' width='18' height='100%'/>\n\
-        <text class='t' x='364' y='89'>2: replica 0 has finished</text>\n";
-    let stops = "<rect class='w' x='62' y='92' width='18' height='100%'/>\n\
-        <text class='t' x='364' y='89'>2: replica 0 stops</text>\n";
-    for (trace, end) in [(ENDS, finishes), (STOPS, stops)] {
-        let mut lines = String::from_str(rt.alloc(), asks)?;
-        lines.push_str(resigns)?;
-        lines.push_str(end)?;
-        let drawn = ends_with(rt.alloc(), &[], trace, lines.as_str())?;
-        assert_eq!(rt; drawn, true);
-    }
+    let finishes = "<g><title>step 0, line 6: 1 ask 0 = done</title>\n\
+        <rect class='o1' x='234' y='98' width='12' height='100%'/>\n\
+        <path class='a' d='M124 98l6-3v6zH237v3h6v-6h-6v3'/>\n\
+        <text class='s' x='56' y='101'>0</text>\n</g>\n\
+        <g><title>step 1, line 7: 1 beat = done</title>\n\
+        <rect class='w' x='233' y='110' width='14' height='100%'/>\n\
+        <text class='s' x='56' y='113'>1</text>\n\
+        <circle class='o1' cx='396' cy='110' r='3'/>\n\
+        <text class='t' x='404' y='113'>1: replica 1 resigns to 0, it leads no more</text>\n</g>\n\
+        <g><title>step 2, line 8: 0 head 1 = 0</title>\n\
+        <rect class='w' x='64' y='128' width='24' height='100%'/>\n\
+        <path class='x' d='M72 127h16'/>\n\
+        <text class='s' x='56' y='125'>2</text>\n\
+        <circle class='o0' cx='396' cy='122' r='3'/>\n\
+        <text class='t' x='404' y='125'>2: replica 0 has finished</text>\n</g>\n";
+    let drawn = ends_with(rt.alloc(), &[], ENDS, finishes)?;
+    assert_eq!(rt; drawn, true);
     Ok(())
 }
 
 #[test]
 fn begins_with_the_leaderships_under_way(rt: HostRuntime) -> Result<(), Fail> {
-    let leads = "<rect class='o1' x='216' y='56' width='12' height='100%'/>\n\
-        <rect class='w' x='215' y='62' width='14' height='100%'/>\n\
-        <text class='t' x='364' y='65'>1: replica 1 resigns to 0, it leads no more</text>\n";
-    let resigned = "<rect class='w' x='62' y='68' width='18' height='100%'/>\n\
-        <text class='t' x='364' y='65'>2: replica 0 has finished</text>\n";
-    for (step, lines) in [("1", leads), ("2", resigned)] {
-        let drawn = ends_with(rt.alloc(), &[step, step], ENDS, lines)?;
-        assert_eq!(rt; drawn, true);
-    }
+    let leads = "<rect class='o1' x='234' y='92' width='12' height='100%'/>\n\
+        <g><title>step 1, line 7: 1 beat = done</title>\n\
+        <rect class='w' x='233' y='98' width='14' height='100%'/>\n\
+        <text class='s' x='56' y='101'>1</text>\n\
+        <circle class='o1' cx='396' cy='98' r='3'/>\n\
+        <text class='t' x='404' y='101'>1: replica 1 resigns to 0, it leads no more</text>\n</g>\n";
+    let drawn = ends_with(rt.alloc(), &["1", "1"], ENDS, leads)?;
+    assert_eq!(rt; drawn, true);
+    Ok(())
+}
+
+#[test]
+fn begins_without_the_lane_of_a_replica_that_stopped(rt: HostRuntime) -> Result<(), Fail> {
+    let called = after(rt.alloc(), &["9", "9"], STOPS, 0, 0)?;
+    let mut wanted = String::from_str(
+        rt.alloc(),
+        "<text class='n' x='70' y='84'>replica 0</text>\n\
+         <text class='n' x='114' y='84'>region 0</text>\n",
+    )?;
+    wanted.push_str(LANE)?;
+    wanted.push_str("</svg>\n")?;
+    assert_eq!(rt; called.status, 0);
+    assert_eq!(rt; called.sink.written().ends_with(wanted.as_bytes()), true);
     Ok(())
 }
