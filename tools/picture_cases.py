@@ -506,6 +506,8 @@ class Run:
     def __init__(self, job):
         self.job, self.replicas = job, [Replica() for _ in range(job.replicas)]
         self.regions, self.halted = [Region() for _ in range(job.replicas)], [None] * job.replicas
+        for r, replica in enumerate(self.replicas):
+            replica.finished = replica.has_finished(job, r)
 
     def lanes(self):
         return lanes(self.replicas, self.regions, self.halted)

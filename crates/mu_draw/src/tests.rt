@@ -34,11 +34,11 @@ const LANE: &str = "<text class='n' x='230' y='84'>replica 1</text>\n\
 
 /// The event that breaks `GRANT`, as it is drawn.
 const BREACH: &str = "<g><title>step 1, line 7: 0 grant 0 = done</title>\n\
-    <rect class='r' x='62' y='121' width='160' height='1'/>\n\
-    <path class='r' d='M76 126l8 8m0-8l-8 8'/>\n\
-    <text class='s' x='56' y='133'>1</text>\n\
-    <text class='t e' x='244' y='133'>0 grant 0 = done</text>\n\
-    <text class='t e' x='244' y='145'>not allowed</text>\n</g>\n</svg>\n";
+    <rect class='r' x='62' y='110' width='160' height='1'/>\n\
+    <path class='r' d='M76 115l8 8m0-8l-8 8'/>\n\
+    <text class='s' x='56' y='122'>1</text>\n\
+    <text class='t e' x='244' y='122'>0 grant 0 = done</text>\n\
+    <text class='t e' x='244' y='134'>not allowed</text>\n</g>\n</svg>\n";
 
 /// How a call ended, and what it wrote.
 #[derive(Drop)]
