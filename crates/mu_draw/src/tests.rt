@@ -89,8 +89,7 @@ fn says_how_it_is_called(rt: HostRuntime) -> Result<(), Fail> {
         assert_eq!(rt; called.status, 1);
         assert_eq!(rt;
             called.sink.written(),
-            b"usage: mu_draw, mu_draw FIRST LAST, mu_draw brief, mu_draw brief FIRST LAST\n"
-                .as_slice()
+            b"usage: mu_draw, mu_draw FIRST LAST, mu_draw brief, mu_draw brief FIRST LAST\n".as_slice()
         );
     }
     Ok(())
@@ -100,7 +99,10 @@ fn says_how_it_is_called(rt: HostRuntime) -> Result<(), Fail> {
 fn says_why_there_is_no_picture(rt: HostRuntime) -> Result<(), Fail> {
     let called = after(rt.alloc(), &[], "mu 1\nreplicas 8\n", 0, 0)?;
     assert_eq!(rt; called.status, 2);
-    assert_eq!(rt; called.sink.written(), b"refused line 2 cause 2\n".as_slice());
+    assert_eq!(rt;
+        called.sink.written(),
+        b"refused line 2 cause 2\n".as_slice()
+    );
     Ok(())
 }
 

@@ -59,7 +59,11 @@ pub fn asked_of(words: &[String]) -> Option<Extent>
 fn asked_by(word: &[u8]) -> Option<Extent>
     ensures { result ≡ asked_of_one word.now }
 {
-    if is_brief(word) { Some(all(true)) } else { None }
+    if is_brief(word) {
+        Some(all(true))
+    } else {
+        None
+    }
 }
 
 /// What three words ask for.

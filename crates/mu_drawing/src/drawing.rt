@@ -108,7 +108,10 @@ fn drawing_of_events(
     match check(alloc, &job.config, events)? {
         Verdict::Legal => Ok((picture(alloc, job, line, events, asked)?, true)),
         Verdict::Illegal { index, cause } => {
-            Ok((broken(alloc, job, line, events, index, cause, asked)?, false))
+            Ok((
+                broken(alloc, job, line, events, index, cause, asked)?,
+                false,
+            ))
         }
     }
 }
