@@ -47,7 +47,7 @@ pub fn explain_trace(alloc: Global, bytes: &[u8]) -> Said
 /// # Errors
 ///
 /// Want of memory alone.
-fn located(
+pub(crate) fn located(
     alloc: Global,
     bytes: &[u8],
     config: &Config,
@@ -66,7 +66,7 @@ fn located(
 }
 
 /// How many lines the bytes have.
-fn count_of_lines(bytes: &[u8]) -> u32
+pub(crate) fn count_of_lines(bytes: &[u8]) -> u32
     requires { length bytes.now ≤ TRACE_LIMIT }
     ensures { result ≡ length (lines bytes.now) }
 {

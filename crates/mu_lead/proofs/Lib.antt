@@ -9,7 +9,7 @@ mod Copying
 mod Due
 mod ElectionSteps
 pub mod Elections
-mod Folding
+pub mod Folding
 mod FuosBeside
 mod Gathering
 mod Firsts
@@ -27,6 +27,7 @@ mod Marks
 mod Misses
 mod NextRows
 mod NoteKinds
+pub mod Noted
 mod Numbering
 mod Offers
 mod Onwards
@@ -70,3 +71,4 @@ mod StandsFirsts
 mod Tables
 mod Taking
 mod Telling
+mod Writes

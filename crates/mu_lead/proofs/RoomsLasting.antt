@@ -1,10 +1,11 @@
 -- The counts of a leader last along its listing.
-use Rattle.std.proofs.Common.{Bool, List, None, Some, ap, arith, false, get_or, inl, inr, is_some, refl, subst, sym, true, true≢false, ℕ, ◌%◌, ◌+◌, ◌-◌, ◌<◌, ◌∙◌, ◌∷◌, ◌≡◌}
+use Rattle.std.proofs.Common.{Bool, List, None, Some, ap, arith, false, get_or, inl, inr, is_some, length, refl, subst, sym, true, true≢false, ℕ, ◌%◌, ◌+◌, ◌-◌, ◌<◌, ◌∙◌, ◌∷◌, ◌≡◌}
 use Rattle.std.proofs.lemmas.Bool.{lt-ltb, ltb-false, ltb-true}
 use Rattle.std.proofs.lemmas.Option.{slice_get-get_or}
-use Rattle.std.specs.Prelude.{if◌then◌else◌, nat_lt}
+use Rattle.std.specs.Prelude.{if◌then◌else◌, nat_lt, set}
+use Rattle.std.proofs.lemmas.List.{get_or-set_other, get_or-set_same}
 use Rattle.std.specs.declared.option.Option.{Option}
-use Rattle.mu_model.specs.Contents.{IsConfig, config_word, holds_all}
+use Rattle.mu_model.specs.Contents.{IsConfig, config_word, holds_all, rest_of}
 use Rattle.mu_model.specs.Knowledge.{known}
 use Rattle.mu_model.specs.Leaderships.{is_member, noted_grant}
 use Rattle.mu_model.specs.Parts.{IsPossible}
@@ -23,6 +24,7 @@ use Rattle.mu_known.proofs.Firsts.{first_in_is}
 use Rattle.mu_known.specs.Offers.{IsFirst, first_in}
 use Rattle.mu_lead.proofs.Bringing.{look_event, look_known, put_event}
 use Rattle.mu_lead.proofs.Copying.{first_read, uncopied}
+use Rattle.mu_lead.proofs.Due.{last_there}
 use Rattle.mu_lead.proofs.Keeping.{fuo_event, raise_event}
 use Rattle.mu_lead.proofs.Lates.{fence_ends, fence_event}
 use Rattle.mu_lead.proofs.Listed.{due_step}
@@ -46,20 +48,21 @@ use Rattle.mu_lead.proofs.RoomsPosition.{none_passes, not_none, passes_left, pas
 use Rattle.mu_lead.proofs.RoomsPutting.{rooms_committed, rooms_entered_new, rooms_next_put}
 use Rattle.mu_lead.proofs.RoomsRaising.{rooms_all_brought, rooms_brought_joined, rooms_next_behind, rooms_next_raise, rooms_raised}
 use Rattle.mu_lead.proofs.RoomsReading.{rooms_brings, rooms_learns, rooms_level, rooms_next_fuo}
-use Rattle.mu_lead.proofs.RoomsWriting.{rooms_last_word, rooms_next_word, skip_full, some_words}
+use Rattle.mu_lead.proofs.RoomsWriting.{one_word, rooms_last_word, rooms_next_word, skip_full, some_words}
 use Rattle.mu_lead.proofs.Rows.{learning_taught}
+use Rattle.mu_lead.specs.Journal.{WritesDue, WritesTo}
 use Rattle.mu_lead.specs.Lasting.{FollowsDue, step_of, tables_of}
 use Rattle.mu_lead.specs.Leading.{HoldsTables, end_of}
 use Rattle.mu_lead.specs.Listing.{Tables, after_look, bring_up, bring_up_from, farther, first_member, heads_from, larger_sight, late_from, learn_from, least_candidate, may_mark, member_from, next_place, or_else, pick, sight_of}
 use Rattle.mu_lead.specs.Onward.{MayBringUp}
 use Rattle.mu_lead.specs.Rooms.{IsLed, IsOut, IsPlaced, KeepsTables, RoomsAt, RoomsNext, lag_of, words_left}
-use Rattle.mu_lead.specs.Standing.{At, HasHeeded, StandsFor, TakesDue, verb_at}
+use Rattle.mu_lead.specs.Standing.{At, HasHeeded, StandsFor, TakesDue, verb_at, verb_of}
 use Rattle.mu_lead.specs.declared.lead.Lead.{Lead}
 use Rattle.mu_lead.specs.declared.place.Offer.{Offer}
 use Rattle.mu_lead.specs.declared.place.Place.{Place}
 use Rattle.mu_lead.specs.declared.place.Sight.{Sight}
 use Rattle.mu_lead.specs.declared.place.Then.{Then}
-use Rattle.mu_model.proofs.Basics.{event_by}
+use Rattle.mu_model.proofs.Basics.{event_by, same_some}
 use Rattle.mu_pace.specs.Members.{members_from}
 use Rattle.mu_pace.specs.Weights.{Bringing, Stage}
 
@@ -364,10 +367,33 @@ rooms_last_along c r b n mine old new (Place.Raise p) a some s = by_answer c r b
 rooms_last_along c r b n mine old new Place.Outrun a some s = absurd (true≢false (sym some))
 rooms_last_along c r b n mine old new Place.Rest a some s = absurd (true≢false (sym some))
 
+-- what the counts depend on of the tables is kept by what the verb writes
+keeps_tables : (mine : List Event) (old new : Lead) (verb : Verb) (answer : Answer) → StandsFor mine old → verb_of old (known old.config old.id mine) ≡ Some verb → WritesTo old mine verb answer new → KeepsTables (tables_of old) (tables_of new) old.place
+keeps_tables mine old new verb answer s due writes = go old.place s.at due
+  where
+    by : (w : Verb) → Some w ≡ Some verb → WritesTo old mine w answer new
+    by w same = subst (λ v. WritesTo old mine v answer new) (sym (same_some w verb same)) writes
+
+    go : (place : Place) → At old.config old.id old.number mine old.up old.reach old.written.items place → verb_at old.config old.number (known old.config old.id mine) old.up old.written.items place ≡ Some verb → KeepsTables (tables_of old) (tables_of new) place
+    go (Place.RaiseBehind p on) at due = ap (λ (t : Tables). t.up) (by (Verb.RaiseFuo p (get_or old.up p 0)) due)
+    go (Place.Look p i candidate best) at due = ap (λ (t : Tables). t.up) (by (Verb.Look p i) due)
+    go (Place.Write j last offer) at due =
+        let w = at.0.writing in
+        let end = last_there old.config w.first (rest_of old.config w.first) s.config w.batch.row refl in
+        let inside = at.0.inside in
+        let last_is = w.last_row in
+        let rows = s.tables.rows in
+        let there : j < length old.written.items = omega (arith, end, inside, last_is, rows) in
+        let k = get_or old.written.items j 12 in
+        let is : new.written.items ≡ set old.written.items j (k + 1) = ap (λ (t : Tables). t.written) (by (Verb.WriteRow j k (config_word old.config j k)) due) in
+        one_word old.written.items new.written.items j (last + 1 - j) (omega (arith, inside)) at.1 (ap (λ xs. get_or xs j 12) is ∙ get_or-set_same old.written.items j (k + 1) 12 there)
+        (λ i above below. ap (λ xs. get_or xs i 12) is ∙ get_or-set_other old.written.items j i (k + 1) 12 (λ same. omega (arith, above, same)))
+    go place at due = tt
+
 -- so they have where the leader comes by the verb that was due
-pub rooms_next : (mine : List Event) (old new : Lead) (values : List ℕ) (answer : Answer) → StandsFor mine old → HasHeeded mine old → new.config ≡ old.config → new.id ≡ old.id → KeepsTables (tables_of old) (tables_of new) old.place → TakesDue old values answer new → FollowsDue old values answer new
+pub rooms_next : (mine : List Event) (old new : Lead) (values : List ℕ) (answer : Answer) → StandsFor mine old → HasHeeded mine old → new.config ≡ old.config → new.id ≡ old.id → WritesDue old values answer new → TakesDue old values answer new → FollowsDue old values answer new
     → RoomsNext mine old values answer new
-rooms_next mine old new values answer s heeded config id kept takes follows verb due possible told turn rooms =
+rooms_next mine old new values answer s heeded config id writes takes follows verb due possible told turn rooms =
     let c = old.config in
     let r = old.id in
     let b = old.number in
@@ -384,7 +410,7 @@ rooms_next mine old new values answer s heeded config id kept takes follows verb
       at = s.at;
       possible = subst (λ w. IsPossible c r (event_by r w answer ∷ mine)) (sym is) possible;
       turn = subst (λ w. is_replication mine (event_by r w answer) ≡ true) (sym is) turn;
-      kept = kept;
+      kept = keeps_tables mine old new verb answer s due (writes mine verb s due possible told);
       held = subst (λ w. HoldsTables c r (event_by r w answer ∷ mine) new.up new.reach new.heads new.written.items) (sym is) held;
       next = subst (λ w. At c r new.number (event_by r w answer ∷ mine) new.up new.reach new.written.items (next_place c r b (event_by r w answer ∷ mine) (tables_of new) answer old.place)) (sym is) next;
       rooms = rooms;

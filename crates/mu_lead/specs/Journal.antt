@@ -1,91 +1,124 @@
 -- Where the listing of a replica stands, by its journal alone.
-use Rattle.std.specs.Prelude.{List, None, Some, [], if◌then◌else◌, nat_le, nat_lt, suc, zero, ℕ, ◌&&◌, ◌+◌, ◌==◌, ◌||◌, ◌∷◌, ◌≡◌}
+use Rattle.std.specs.Prelude.{Bool, List, None, Some, [], false, get_or, if◌then◌else◌, max, nat_le, nat_lt, replicate, set, true, ℕ, ◌*◌, ◌+◌, ◌/◌, ◌==◌, ◌||◌, ◌∷◌, ◌≡◌}
 use Rattle.std.specs.declared.option.Option.{Option}
 use Rattle.mu_model.specs.declared.config.Config.{Config}
 use Rattle.mu_model.specs.declared.event.Answer.{Answer}
 use Rattle.mu_model.specs.declared.event.Event.{Event}
 use Rattle.mu_model.specs.declared.event.Verb.{Verb}
 use Rattle.mu_model.specs.Contents.{row_count}
-use Rattle.mu_model.specs.Histories.{or_zero}
+use Rattle.mu_model.specs.Entering.{any_min_read}
+use Rattle.mu_model.specs.Histories.{greatest, or_zero}
 use Rattle.mu_model.specs.Knowledge.{known}
-use Rattle.mu_model.specs.Leaderships.{is_member, proposal_number}
+use Rattle.mu_model.specs.Leaderships.{is_member, leadership, number_put, proposal_number}
+use Rattle.mu_model.specs.Parts.{IsPossible}
 use Rattle.mu_model.specs.Scores.{leader}
+use Rattle.mu_model.specs.Steps.{is_named}
 use Rattle.mu_model.specs.Stretches.{is_replication}
 use Rattle.mu_lead.specs.declared.lead.Lead.{Lead}
 use Rattle.mu_lead.specs.declared.place.Place.{Place}
 use Rattle.mu_lead.specs.Lasting.{tables_of}
 use Rattle.mu_lead.specs.Leading.{end_of}
 use Rattle.mu_lead.specs.Listing.{Tables, next_place}
-use Rattle.mu_lead.specs.Standing.{verb_at}
+use Rattle.mu_lead.specs.Standing.{StandsFor, known_told, verb_at, verb_of}
 
--- up to where the region p has what is known, by one more step of the leader: a leadership that
+-- the table with u at each place that passes, where its first one is place k
+abbrev pub set_where : (ℕ → Bool) → ℕ → ℕ → List ℕ → List ℕ
+set_where test u k [] = []
+set_where test u k (x ∷ xs) = (if test k then u else x) ∷ set_where test u (k + 1) xs
+
+-- up to where each region has what is known, by one more step of the leader: a leadership that
 -- begins knows nothing; a FUO that is read of a member, or of a region that is not ahead, tells it;
 -- so does each entry that is brought there, and a commit for each member
-abbrev pub up_with : Config → ℕ → List Event → List Event → ℕ → ℕ → Verb → Answer → ℕ
-up_with c r past now p was (Verb.Ask q) answer = if q == 0 then 0 else was
-up_with c r past now p was (Verb.Fuo q) (Answer.Number u) =
-    if (q == p) && (is_member r p past || nat_le u (end_of c r past)) then u else was
-up_with c r past now p was (Verb.PutSlot q i b v) Answer.Done =
-    if nat_lt i (end_of c r past) then (if q == p then i + 1 else was)
-    else (if nat_lt (end_of c r past) (end_of c r now) && is_member r p past then i + 1 else was)
-up_with c r past now p was verb answer = was
-
-abbrev pub up_at : Config → ℕ → ℕ → List Event → ℕ
-up_at c r p [] = 0
-up_at c r p (e ∷ past) =
-    if is_replication past e
-    then up_with c r past (e ∷ past) p (up_at c r p past) e.verb e.answer else up_at c r p past
+abbrev pub up_with : Config → ℕ → List Event → List Event → List ℕ → Verb → Answer → List ℕ
+up_with c r past now up (Verb.Ask p) answer = if p == 0 then replicate 7 0 else up
+up_with c r past now up (Verb.Fuo p) (Answer.Number u) =
+    if is_member r p past || nat_le u (end_of c r past) then set up p u else up
+up_with c r past now up (Verb.PutSlot p i b v) Answer.Done =
+    if nat_lt i (end_of c r past) then set up p (i + 1)
+    else (if nat_lt (end_of c r past) (end_of c r now)
+    then set_where (λ q. is_member r q past) (i + 1) 0 up else up)
+up_with c r past now up verb answer = up
 
 -- the greater of a FUO and that one, if any
 abbrev pub greater_fuo : Option ℕ → ℕ → Option ℕ
 greater_fuo None u = Some u
-greater_fuo (Some x) u = if nat_lt x u then Some u else Some x
+greater_fuo (Some x) u = Some (max u x)
 
--- the greatest FUO of p that the leader read or raised in its leadership
-abbrev pub reach_with : ℕ → Option ℕ → Verb → Answer → Option ℕ
-reach_with p was (Verb.Ask q) answer = if q == 0 then None else was
-reach_with p was (Verb.Fuo q) (Answer.Number u) = if q == p then greater_fuo was u else was
-reach_with p was (Verb.RaiseFuo q u) answer = if q == p then greater_fuo was u else was
-reach_with p was verb answer = was
+-- the table with a FUO at the place, where it is the greater one
+abbrev pub fuo_in : List (Option ℕ) → ℕ → ℕ → List (Option ℕ)
+fuo_in reach p u = set reach p (greater_fuo (get_or reach p None) u)
 
-abbrev pub reach_at : ℕ → List Event → Option ℕ
-reach_at p [] = None
-reach_at p (e ∷ past) =
-    if is_replication past e then reach_with p (reach_at p past) e.verb e.answer
-    else reach_at p past
+-- the greatest FUO of each region that the leader read or raised in its leadership
+abbrev pub reach_with : List (Option ℕ) → Verb → Answer → List (Option ℕ)
+reach_with reach (Verb.Ask p) answer = if p == 0 then replicate 7 None else reach
+reach_with reach (Verb.Fuo p) (Answer.Number u) = fuo_in reach p u
+reach_with reach (Verb.RaiseFuo p u) answer = fuo_in reach p u
+reach_with reach verb answer = reach
 
--- the head of q that the leader read last
-abbrev pub head_with : ℕ → ℕ → Verb → Answer → ℕ
-head_with q was (Verb.Head k) (Answer.Number h) = if k == q then h else was
-head_with q was verb answer = was
+-- the head of each replica that the leader read last
+abbrev pub heads_with : List ℕ → Verb → Answer → List ℕ
+heads_with heads (Verb.Head q) (Answer.Number h) = set heads q h
+heads_with heads verb answer = heads
 
-abbrev pub head_at : ℕ → List Event → ℕ
-head_at q [] = 0
-head_at q (e ∷ past) =
-    if is_replication past e then head_with q (head_at q past) e.verb e.answer else head_at q past
+-- how many words of each own row are written
+abbrev pub written_with : List ℕ → Verb → List ℕ
+written_with written (Verb.WriteRow j k x) = set written j (get_or written j 12 + 1)
+written_with written verb = written
 
--- how many words of the own row j are written
-abbrev pub written_with : ℕ → ℕ → Verb → ℕ
-written_with j was (Verb.WriteRow i k x) = if i == j then was + 1 else was
-written_with j was verb = was
-
-abbrev pub written_at : ℕ → List Event → ℕ
-written_at j [] = 0
-written_at j (e ∷ past) = written_with j (written_at j past) e.verb
-
--- the values of the first n numbers from k on
-abbrev pub values_from : {A : Type 0} → (ℕ → A) → ℕ → ℕ → List A
-values_from f k zero = []
-values_from f k (suc n) = f k ∷ values_from f (k + 1) n
+-- the tables of the leader, by one more step
+abbrev pub tables_with : Config → ℕ → List Event → List Event → Tables → Verb → Answer → Tables
+tables_with c r past now t verb answer = record {
+  up = up_with c r past now t.up verb answer;
+  reach = reach_with t.reach verb answer;
+  heads = heads_with t.heads verb answer;
+  written = written_with t.written verb;
+}
 
 -- the tables of the leader, by the journal
 abbrev pub tables_at : Config → ℕ → List Event → Tables
-tables_at c r mine = record {
-  up = values_from (λ p. up_at c r p mine) 0 7;
-  reach = values_from (λ p. reach_at p mine) 0 7;
-  heads = values_from (λ q. head_at q mine) 0 7;
-  written = values_from (λ j. written_at j mine) 0 (row_count c);
+tables_at c r [] = record {
+  up = replicate 7 0;
+  reach = replicate 7 None;
+  heads = replicate 7 0;
+  written = replicate (row_count c) 0;
 }
+tables_at c r (e ∷ past) =
+    if is_replication past e
+    then tables_with c r past (e ∷ past) (tables_at c r past) e.verb e.answer
+    else tables_at c r past
+
+-- by this step the leader's tables become those with it
+abbrev pub WritesTo : Lead → List Event → Verb → Answer → Lead → Type 0
+WritesTo old mine verb answer new =
+    tables_of new
+    ≡ tables_with old.config old.id mine
+    (record { by = old.id; verb = verb; answer = answer } ∷ mine)
+    (tables_of old) verb answer
+
+-- from its place, by the event and with these values known, they do
+abbrev pub WritesFrom : Lead → Place → List ℕ → Verb → Answer → Lead → Type 0
+WritesFrom old place values verb answer new =
+    (mine : List Event) → StandsFor mine old → old.place ≡ place
+    → IsPossible old.config old.id (record { by = old.id; verb = verb; answer = answer } ∷ mine)
+    → values ≡ known_told old.config old.id mine old.id verb answer
+    → WritesTo old mine verb answer new
+
+-- by the answer to the verb that was due they do
+abbrev pub WritesDue : Lead → List ℕ → Answer → Lead → Type 0
+WritesDue old values answer new =
+    (mine : List Event) (verb : Verb) → StandsFor mine old
+    → verb_of old (known old.config old.id mine) ≡ Some verb
+    → IsPossible old.config old.id (record { by = old.id; verb = verb; answer = answer } ∷ mine)
+    → values ≡ known_told old.config old.id mine old.id verb answer
+    → WritesTo old mine verb answer new
+
+-- the same after these events
+abbrev pub WritesNext : List Event → Lead → List ℕ → Answer → Lead → Type 0
+WritesNext mine old values answer new =
+    (verb : Verb) → verb_of old (known old.config old.id mine) ≡ Some verb
+    → IsPossible old.config old.id (record { by = old.id; verb = verb; answer = answer } ∷ mine)
+    → values ≡ known_told old.config old.id mine old.id verb answer
+    → WritesTo old mine verb answer new
 
 -- the place of the listing, by the journal: each replication step of a replica that its scores name
 -- goes on, by any other the listing begins anew, and the background leaves it
@@ -99,15 +132,50 @@ place_after c r (e ∷ past) =
     else Place.Ask 0)
     else place_after c r past
 
--- the verb that is due, by the journal, under the number b
-abbrev pub due_after : Config → ℕ → ℕ → List Event → Option Verb
-due_after c r b mine =
+-- the least number of r, from 8 on, that is above m
+abbrev pub least_above : ℕ → ℕ → ℕ
+least_above r m =
+    if nat_lt m 8 then 8 + r
+    else (if nat_lt m (m / 8 * 8 + r) then m / 8 * 8 + r else m / 8 * 8 + 8 + r)
+
+-- the number, where there is one, else the least of r above all that it read and put
+abbrev pub number_or : ℕ → List Event → Option ℕ → ℕ
+number_or r mine (Some b) = b
+number_or r mine None =
+    least_above r
+    (max (greatest (λ e. any_min_read r e.by e.verb e.answer) (leadership r mine))
+    (greatest (λ e. number_put r e.by e.verb) mine))
+
+-- the number that r puts: that of its leadership, or the next one where it has none
+abbrev pub number_due : ℕ → List Event → ℕ
+number_due r mine = number_or r mine (proposal_number r mine)
+
+-- the verb that is due, by the journal alone
+abbrev pub due_after : Config → ℕ → List Event → Option Verb
+due_after c r mine =
     if leader c r mine == r
-    then verb_at c b (known c r mine) (tables_at c r mine).up (tables_at c r mine).written
-    (place_after c r mine)
+    then verb_at c (number_due r mine) (known c r mine) (tables_at c r mine).up
+    (tables_at c r mine).written (place_after c r mine)
     else None
 
--- the leader is where its journal has it
-pub record IsWhere (mine : List Event) (l : Lead) : Type 0 where
-  pub place : l.place ≡ place_after l.config l.id mine
-  pub tables : tables_of l ≡ tables_at l.config l.id mine
+-- the leader is where the journal of r has it, and at the first ask where no leadership is under way
+pub record IsWhere (c : Config) (r : ℕ) (mine : List Event) (l : Lead) : Type 0 where
+  pub place : l.place ≡ place_after c r mine
+  pub tables : tables_of l ≡ tables_at c r mine
+  pub idle : l.under_way ≡ false → l.place ≡ Place.Ask 0
+
+-- by the answer to the verb that was due, in a turn in which r is named, it is there again
+abbrev pub PlacesNext : List Event → Lead → List ℕ → Answer → Lead → Type 0
+PlacesNext mine old values answer new =
+    (verb : Verb) → verb_of old (known old.config old.id mine) ≡ Some verb
+    → IsPossible old.config old.id (record { by = old.id; verb = verb; answer = answer } ∷ mine)
+    → values ≡ known_told old.config old.id mine old.id verb answer
+    → is_replication mine (record { by = old.id; verb = verb; answer = answer }) ≡ true
+    → is_named old.config old.id mine ≡ true → IsWhere old.config old.id mine old
+    → IsWhere old.config old.id (record { by = old.id; verb = verb; answer = answer } ∷ mine) new
+
+-- the leader was told that a lower replica is named: its tables are those of the journal, and it
+-- asks anew next
+pub record HasLeft (c : Config) (r : ℕ) (mine : List Event) (l : Lead) : Type 0 where
+  pub place : l.place ≡ Place.Ask 0
+  pub tables : tables_of l ≡ tables_at c r mine

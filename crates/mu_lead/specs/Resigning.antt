@@ -18,6 +18,7 @@ use Rattle.mu_lead.specs.declared.place.Place.{Place}
 use Rattle.mu_lead.specs.Beside.{is_beside, leads_at}
 use Rattle.mu_lead.specs.Confirmations.{ConfirmsAt}
 use Rattle.mu_lead.specs.Evidence.{ExplainsAt}
+use Rattle.mu_lead.specs.Lasting.{tables_of}
 use Rattle.mu_lead.specs.Offering.{AtOutrun, AtRest}
 use Rattle.mu_lead.specs.Raising.{RaisesAt}
 use Rattle.mu_lead.specs.Rooms.{RoomsAt, gives_up}
@@ -46,6 +47,7 @@ pub record IsTold (old : Lead) (leader : ℕ) (new : Lead) : Type 0 where
   pub config : new.config ≡ old.config
   pub id : new.id ≡ old.id
   pub written : new.written ≡ old.written
+  pub tables : tables_of new ≡ tables_of old
   pub place : new.place ≡ (if gives_up old leader then Place.Ask 0 else old.place)
 
 -- a beat in a turn of the leader leaves the counts as the place has them: where another replica is

@@ -12,7 +12,8 @@ ghost use Rattle.mu_lead.specs.Standing.{HasHeeded, StandsFor, Takes};
 ghost use Rattle.mu_lead.specs.Saying.{NotesEnter, NotesEvidence, NotesHead, NotesJoin, NotesMin, NotesOver, NotesPut, NotesRound, is_working_or_lost};
 ghost use Rattle.mu_lead.specs.declared.note.Note.{Note as SomeNote};
 ghost use Rattle.mu_lead.specs.Going.{going_after};
-ghost use Rattle.mu_lead.specs.Lasting.{FollowsFrom, FollowsHead};
+ghost use Rattle.mu_lead.specs.Journal.{WritesFrom};
+ghost use Rattle.mu_lead.specs.Lasting.{FollowsFrom, FollowsHead, tables_of};
 
 use crate::lead::Lead;
 use crate::note::Note;
@@ -59,6 +60,7 @@ impl Lead {
         ensures config { self.new.config ≡ self.old.config }
         ensures id { self.new.id ≡ self.old.id }
         ensures named { self.new.named ≡ self.old.named }
+        ensures tables { tables_of self.new ≡ tables_of self.old }
         ensures note { NotesRound self.old p answer result }
         ensures going { self.new.under_way ≡ going_after self.old.under_way result }
         ensures listed { (values : List ℕ)
@@ -79,6 +81,7 @@ impl Lead {
         ensures config { self.new.config ≡ self.old.config }
         ensures id { self.new.id ≡ self.old.id }
         ensures named { self.new.named ≡ self.old.named }
+        ensures tables { tables_of self.new ≡ tables_of self.old }
         ensures note { result ≡ SomeNote.Working }
         ensures going { self.new.under_way ≡ going_after self.old.under_way result }
         ensures listed { (values : List ℕ)
@@ -100,6 +103,7 @@ impl Lead {
         ensures config { self.new.config ≡ self.old.config }
         ensures id { self.new.id ≡ self.old.id }
         ensures named { self.new.named ≡ self.old.named }
+        ensures tables { tables_of self.new ≡ tables_of self.old }
         ensures note { NotesEnter p answer result }
         ensures going { self.new.under_way ≡ going_after self.old.under_way result }
         ensures listed { (values : List ℕ)
@@ -121,6 +125,7 @@ impl Lead {
         ensures config { self.new.config ≡ self.old.config }
         ensures id { self.new.id ≡ self.old.id }
         ensures named { self.new.named ≡ self.old.named }
+        ensures tables { tables_of self.new ≡ tables_of self.old }
         ensures note { result ≡ SomeNote.Working }
         ensures going { self.new.under_way ≡ going_after self.old.under_way result }
         ensures listed { (values : List ℕ)
@@ -147,6 +152,8 @@ impl Lead {
         ensures config { self.new.config ≡ self.old.config }
         ensures id { self.new.id ≡ self.old.id }
         ensures named { self.new.named ≡ self.old.named }
+        ensures writes { WritesFrom self.old (SomePlace.ReadFuo p source) known.now (SomeVerb.Fuo p)
+            answer self.new }
         ensures note { result ≡ SomeNote.Working }
         ensures going { self.new.under_way ≡ going_after self.old.under_way result }
         ensures listed { FollowsFrom self.old (SomePlace.ReadFuo p source) known.now
@@ -170,6 +177,7 @@ impl Lead {
         ensures config { self.new.config ≡ self.old.config }
         ensures id { self.new.id ≡ self.old.id }
         ensures named { self.new.named ≡ self.old.named }
+        ensures tables { tables_of self.new ≡ tables_of self.old }
         ensures note { NotesEnter p answer result }
         ensures going { self.new.under_way ≡ going_after self.old.under_way result }
         ensures listed { (values : List ℕ)
@@ -193,6 +201,10 @@ impl Lead {
         ensures config { self.new.config ≡ self.old.config }
         ensures id { self.new.id ≡ self.old.id }
         ensures named { self.new.named ≡ self.old.named }
+        ensures writes { WritesFrom self.old (SomePlace.PutBehind p then) known.now
+            (SomeVerb.PutSlot p (get_or self.old.up p 0) self.old.number
+            (get_or known.now (get_or self.old.up p 0) 0))
+            answer self.new }
         ensures note { result ≡ SomeNote.Working }
         ensures going { self.new.under_way ≡ going_after self.old.under_way result }
         ensures listed { FollowsFrom self.old (SomePlace.PutBehind p then) known.now
@@ -215,6 +227,7 @@ impl Lead {
         ensures config { self.new.config ≡ self.old.config }
         ensures id { self.new.id ≡ self.old.id }
         ensures named { self.new.named ≡ self.old.named }
+        ensures tables { tables_of self.new ≡ tables_of self.old }
         ensures note { (is_working_or_lost result ≡ true) × NotesOver self.old p answer result }
         ensures going { self.new.under_way ≡ going_after self.old.under_way result }
         ensures listed { (values : List ℕ)
@@ -235,6 +248,7 @@ impl Lead {
         ensures config { self.new.config ≡ self.old.config }
         ensures id { self.new.id ≡ self.old.id }
         ensures named { self.new.named ≡ self.old.named }
+        ensures tables { tables_of self.new ≡ tables_of self.old }
         ensures note { result ≡ SomeNote.Working }
         ensures going { self.new.under_way ≡ going_after self.old.under_way result }
         ensures listed { FollowsFrom self.old (SomePlace.LateFence p) known.now (SomeVerb.Fence p)
@@ -254,6 +268,7 @@ impl Lead {
         ensures config { self.new.config ≡ self.old.config }
         ensures id { self.new.id ≡ self.old.id }
         ensures named { self.new.named ≡ self.old.named }
+        ensures tables { tables_of self.new ≡ tables_of self.old }
         ensures note { NotesMin p self.old.number answer result }
         ensures going { self.new.under_way ≡ going_after self.old.under_way result }
         ensures listed { (values : List ℕ)
@@ -274,6 +289,8 @@ impl Lead {
         ensures config { self.new.config ≡ self.old.config }
         ensures id { self.new.id ≡ self.old.id }
         ensures named { self.new.named ≡ self.old.named }
+        ensures writes { WritesFrom self.old (SomePlace.LateFuo p) known.now (SomeVerb.Fuo p) answer
+            self.new }
         ensures note { result ≡ SomeNote.Working }
         ensures going { self.new.under_way ≡ going_after self.old.under_way result }
         ensures listed { FollowsFrom self.old (SomePlace.LateFuo p) known.now (SomeVerb.Fuo p)
@@ -294,6 +311,7 @@ impl Lead {
         ensures config { self.new.config ≡ self.old.config }
         ensures id { self.new.id ≡ self.old.id }
         ensures named { self.new.named ≡ self.old.named }
+        ensures tables { tables_of self.new ≡ tables_of self.old }
         ensures note { NotesEnter p answer result }
         ensures going { self.new.under_way ≡ going_after self.old.under_way result }
         ensures listed { (values : List ℕ)
@@ -315,6 +333,7 @@ impl Lead {
         ensures config { self.new.config ≡ self.old.config }
         ensures id { self.new.id ≡ self.old.id }
         ensures named { self.new.named ≡ self.old.named }
+        ensures tables { tables_of self.new ≡ tables_of self.old }
         ensures note { length self.old.up ≡ 7
             → NotesJoin p (nat_lt (get_or self.old.up p 0) (length known.now)) answer result }
         ensures going { self.new.under_way ≡ going_after self.old.under_way result }
@@ -348,6 +367,8 @@ impl Lead {
         ensures config { self.new.config ≡ self.old.config }
         ensures id { self.new.id ≡ self.old.id }
         ensures named { self.new.named ≡ self.old.named }
+        ensures writes { WritesFrom self.old (SomePlace.ReadHead q candidate) known.now
+            (SomeVerb.Head q) answer self.new }
         ensures note { NotesHead self.old q known.now answer result }
         ensures going { self.new.under_way ≡ going_after self.old.under_way result }
         ensures listed { FollowsHead self.old q candidate known.now answer self.new }
@@ -367,6 +388,7 @@ impl Lead {
         ensures config { self.new.config ≡ self.old.config }
         ensures id { self.new.id ≡ self.old.id }
         ensures named { self.new.named ≡ self.old.named }
+        ensures tables { tables_of self.new ≡ tables_of self.old }
         ensures note { NotesEnter p answer result }
         ensures going { self.new.under_way ≡ going_after self.old.under_way result }
         ensures listed { FollowsFrom self.old (SomePlace.Enter p offer) known.now
@@ -406,6 +428,8 @@ impl Lead {
         ensures config { self.new.config ≡ self.old.config }
         ensures id { self.new.id ≡ self.old.id }
         ensures named { self.new.named ≡ self.old.named }
+        ensures writes { WritesFrom self.old (SomePlace.Put p offer) known.now
+            (SomeVerb.PutSlot p (length known.now) self.old.number offer.value) answer self.new }
         ensures note { NotesPut (length known.now) offer result }
         ensures going { self.new.under_way ≡ going_after self.old.under_way result }
         ensures listed { FollowsFrom self.old (SomePlace.Put p offer) known.now
@@ -426,6 +450,7 @@ impl Lead {
         ensures config { self.new.config ≡ self.old.config }
         ensures id { self.new.id ≡ self.old.id }
         ensures named { self.new.named ≡ self.old.named }
+        ensures tables { tables_of self.new ≡ tables_of self.old }
         ensures note { NotesEvidence p answer result }
         ensures going { self.new.under_way ≡ going_after self.old.under_way result }
         ensures listed { (values : List ℕ)

@@ -17,7 +17,8 @@ ghost use Rattle.mu_lead.specs.Saying.{TellsAfter};
 ghost use Rattle.mu_lead.specs.declared.note.Note.{Note as SomeNote};
 ghost use Rattle.mu_lead.specs.Going.{going_after};
 ghost use Rattle.mu_model.specs.Diligence.{is_confirmed as is_confirmed_by};
-ghost use Rattle.mu_lead.specs.Lasting.{FollowsFrom};
+ghost use Rattle.mu_lead.specs.Journal.{WritesFrom};
+ghost use Rattle.mu_lead.specs.Lasting.{FollowsFrom, tables_of};
 ghost use Rattle.mu_lead.specs.Listing.{after_round, first_member, noted_from, or_else};
 
 use crate::lead::Lead;
@@ -58,6 +59,9 @@ impl Lead {
         ensures config { self.new.config ≡ self.old.config }
         ensures id { self.new.id ≡ self.old.id }
         ensures named { self.new.named ≡ self.old.named }
+        ensures writes { (values : List ℕ)
+            → WritesFrom self.old (SomePlace.Ask p) values (SomeVerb.Ask p) SomeAnswer.Done
+            self.new }
         ensures note { result ≡ SomeNote.Working }
         ensures going { self.new.under_way ≡ (p == 0 || self.old.under_way) }
         ensures listed { (values : List ℕ)
@@ -90,6 +94,7 @@ impl Lead {
         ensures config { self.new.config ≡ self.old.config }
         ensures id { self.new.id ≡ self.old.id }
         ensures named { self.new.named ≡ self.old.named }
+        ensures tables { tables_of self.new ≡ tables_of self.old }
         ensures note { (mine : List SomeEvent) → StandsFor mine self.old
             → p < self.old.config.replicas
             → IsPossible self.old.config self.old.id
@@ -203,6 +208,7 @@ impl Lead {
         ensures config { self.new.config ≡ self.old.config }
         ensures id { self.new.id ≡ self.old.id }
         ensures named { self.new.named ≡ self.old.named }
+        ensures tables { tables_of self.new ≡ tables_of self.old }
         ensures note { result ≡ SomeNote.Working }
         ensures going { self.new.under_way ≡ going_after self.old.under_way result }
         ensures listed { (values : List ℕ)
@@ -258,6 +264,7 @@ impl Lead {
         ensures config { self.new.config ≡ self.old.config }
         ensures id { self.new.id ≡ self.old.id }
         ensures named { self.new.named ≡ self.old.named }
+        ensures tables { tables_of self.new ≡ tables_of self.old }
         ensures note { result ≡ SomeNote.Working }
         ensures going { self.new.under_way ≡ going_after self.old.under_way result }
         ensures listed { (values : List ℕ)
@@ -283,6 +290,7 @@ impl Lead {
         ensures config { self.new.config ≡ self.old.config }
         ensures id { self.new.id ≡ self.old.id }
         ensures named { self.new.named ≡ self.old.named }
+        ensures tables { tables_of self.new ≡ tables_of self.old }
         ensures note { result ≡ SomeNote.Working }
         ensures going { self.new.under_way ≡ going_after self.old.under_way result }
         ensures listed { (values : List ℕ)

@@ -14,12 +14,14 @@ ghost use Rattle.mu_lead.specs.Causes.{CausesAt};
 ghost use Rattle.mu_lead.specs.Confirmations.{ConfirmsAt};
 ghost use Rattle.mu_lead.specs.Elections.{ElectsAt};
 ghost use Rattle.mu_lead.specs.Evidence.{ExplainsAt};
-ghost use Rattle.mu_lead.specs.Lasting.{Follows, FollowsDue, KeepsNext, tables_of};
+ghost use Rattle.mu_lead.specs.Journal.{IsWhere, PlacesNext, WritesDue, WritesNext};
+ghost use Rattle.mu_lead.specs.Lasting.{Follows, FollowsDue, KeepsNext};
 ghost use Rattle.mu_lead.specs.Raising.{RaisesAt};
 ghost use Rattle.mu_lead.specs.Resigning.{IsTold};
-ghost use Rattle.mu_lead.specs.Rooms.{HasRooms, KeepsTables, RoomsNext, gives_up};
+ghost use Rattle.mu_lead.specs.Rooms.{HasRooms, RoomsNext, gives_up};
 ghost use Rattle.mu_lead.specs.Standing.{HasHeeded, StandsFor, TakesDue, TakesNext, TellsDue, TellsFailed, TellsNext, verb_of};
 ghost use Rattle.mu_lead.specs.Going.{begins_at, going_after};
+ghost use Rattle.mu_lead.specs.Noting.{NotedNext};
 ghost use Rattle.mu_lead.specs.Saying.{NotesDue, SaysNext, is_working as is_working_note};
 ghost use Rattle.mu_lead.specs.Welcomes.{JoinsAt};
 
@@ -77,6 +79,7 @@ impl Lead {
         ensures joins { IfOk result (λ lead. JoinsAt lead.config lead.id [] lead.place) }
         ensures causes { IfOk result (λ lead. CausesAt lead.config lead.id [] lead.place) }
         ensures elects { IfOk result (λ lead. ElectsAt lead.config lead.id [] lead.place) }
+        ensures placed { IfOk result (λ lead. IsWhere lead.config lead.id [] lead) }
         ensures unnamed { IfOk result (λ lead. lead.named ≡ false) }
         ensures idle { IfOk result (λ lead. lead.under_way ≡ false) }
     {
@@ -305,11 +308,15 @@ impl Lead {
             → KeepsNext ElectsAt mine self.old known.now answer self.new }
         ensures listed { HoldsValues self.old.config known.now log.now
             → Follows mine self.old known.now answer self.new }
+        ensures writes { WritesNext mine self.old known.now answer self.new }
+        ensures placed { HoldsValues self.old.config known.now log.now
+            → PlacesNext mine self.old known.now answer self.new }
         ensures tells { TellsNext mine self.old known.now answer result }
         ensures config { self.new.config ≡ self.old.config }
         ensures id { self.new.id ≡ self.old.id }
         ensures named { self.new.named ≡ self.old.named }
         ensures says { SaysNext mine self.old known.now answer result }
+        ensures noted { NotedNext mine self.old known.now answer result }
         ensures going { self.new.under_way
             ≡ going_after (begins_at self.old.place || self.old.under_way) result }
     {
@@ -326,8 +333,7 @@ impl Lead {
     fn take_answer(&mut self, answer: Answer, known: &[u16], log: &KnownLog) -> Note
         ensures stands { HoldsValues self.old.config known.now log.now
             → TakesDue self.old known.now answer self.new }
-        ensures kept { (mine : List Event) → StandsFor mine self.old
-            → KeepsTables (tables_of self.old) (tables_of self.new) self.old.place }
+        ensures writes { WritesDue self.old known.now answer self.new }
         ensures tells { TellsDue self.old known.now answer result }
         ensures config { self.new.config ≡ self.old.config }
         ensures id { self.new.id ≡ self.old.id }

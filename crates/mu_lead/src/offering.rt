@@ -15,7 +15,8 @@ ghost use Rattle.mu_model.specs.declared.config.Config.{Config};
 ghost use Rattle.mu_lead.specs.declared.place.Sight.{Sight as SomeSight};
 ghost use Rattle.mu_lead.specs.declared.place.Place.{Place as SomePlace};
 ghost use Rattle.mu_lead.specs.Leading.{Level, end_of as end_of_known};
-ghost use Rattle.mu_lead.specs.Lasting.{FollowsFrom, FollowsHead, FollowsLook};
+ghost use Rattle.mu_lead.specs.Journal.{WritesFrom};
+ghost use Rattle.mu_lead.specs.Lasting.{FollowsFrom, FollowsHead, FollowsLook, tables_of};
 ghost use Rattle.mu_lead.specs.Listing.{first_member, heads_from, least_candidate, member_from, next_position, offer_row, or_else, own_offer, pick};
 ghost use Rattle.mu_lead.specs.Notes.{TellsPut, note_of_commit, note_of_head, value_committed};
 ghost use Rattle.mu_lead.specs.Offering.{Looking, LooksShow, MayBeMarked, MayOffer, Roomy};
@@ -156,6 +157,8 @@ impl Lead {
         ensures config { self.new.config ≡ self.old.config }
         ensures id { self.new.id ≡ self.old.id }
         ensures named { self.new.named ≡ self.old.named }
+        ensures writes { WritesFrom self.old (SomePlace.ReadHead q candidate) known.now
+            (SomeVerb.Head q) (SomeAnswer.Number head) self.new }
         ensures note { length known.now < 65536 → result
             ≡ note_of_head q (min head 65535) (length known.now)
             (nat_lt (length known.now + reserve self.old.config)
@@ -213,11 +216,11 @@ impl Lead {
             → TakesLook self.old
             (SomePlace.Look p position candidate best) known.now p position
             answer self.new }
-        ensures up { self.new.up ≡ self.old.up }
         ensures quiet { value_committed result ≡ None }
         ensures config { self.new.config ≡ self.old.config }
         ensures id { self.new.id ≡ self.old.id }
         ensures named { self.new.named ≡ self.old.named }
+        ensures tables { tables_of self.new ≡ tables_of self.old }
         ensures note { result ≡ note_of_look position (length known.now) answer }
         ensures going { self.new.under_way ≡ going_after self.old.under_way result }
         ensures listed { HoldsValues self.old.config known.now log.now
@@ -362,6 +365,7 @@ impl Lead {
         ensures config { self.new.config ≡ self.old.config }
         ensures id { self.new.id ≡ self.old.id }
         ensures named { self.new.named ≡ self.old.named }
+        ensures tables { tables_of self.new ≡ tables_of self.old }
         ensures note { result ≡ SomeNote.Working }
         ensures going { self.new.under_way ≡ going_after self.old.under_way result }
         ensures listed { FollowsFrom self.old (SomePlace.Enter p offer) known.now
@@ -405,6 +409,9 @@ impl Lead {
         ensures config { self.new.config ≡ self.old.config }
         ensures id { self.new.id ≡ self.old.id }
         ensures named { self.new.named ≡ self.old.named }
+        ensures writes { WritesFrom self.old (SomePlace.Put p offer) known.now
+            (SomeVerb.PutSlot p (length known.now) self.old.number offer.value) SomeAnswer.Done
+            self.new }
         ensures note { NotesPut (length known.now) offer result }
         ensures going { self.new.under_way ≡ going_after self.old.under_way result }
         ensures listed { FollowsFrom self.old (SomePlace.Put p offer) known.now
@@ -440,6 +447,8 @@ impl Lead {
         ensures config { self.new.config ≡ self.old.config }
         ensures id { self.new.id ≡ self.old.id }
         ensures named { self.new.named ≡ self.old.named }
+        ensures writes { WritesFrom self.old (SomePlace.Raise p) known.now
+            (SomeVerb.RaiseFuo p (length known.now)) SomeAnswer.Done self.new }
         ensures note { result ≡ SomeNote.Working }
         ensures going { self.new.under_way ≡ going_after self.old.under_way result }
         ensures listed { FollowsFrom self.old (SomePlace.Raise p) known.now

@@ -4,6 +4,7 @@ ghost use Rattle.mu_model.specs.declared.event.Event.{Event};
 ghost use Rattle.mu_model.specs.Histories.{count_below};
 ghost use Rattle.mu_model.specs.Leaderships.{is_member, noted_grant};
 ghost use Rattle.mu_leading.specs.Leadership.{StandsForLeadership};
+ghost use Rattle.mu_lead.specs.Journal.{set_where};
 ghost use Rattle.mu_lead.specs.Sets.{bit, bits};
 ghost use Rattle.mu_known.specs.Offers.{IsFirst};
 
@@ -20,6 +21,9 @@ impl Lead {
         ensures others { (mine : List Event) → (p : ℕ)
             → StandsForLeadership self.now.id mine self.now.leading
             → is_member self.now.id p mine ≡ false → get_or result p 0 ≡ get_or self.now.up p 0 }
+        ensures is { (mine : List Event) → length self.now.up ≡ 7
+            → StandsForLeadership self.now.id mine self.now.leading
+            → result ≡ set_where (λ p. is_member self.now.id p mine) u 0 self.now.up }
     {
         let mut up = self.up;
         for p in 0..7u8 {

@@ -1,11 +1,12 @@
 //! The rows of a batch that is offered.
-ghost use Rattle.std.specs.Prelude.{List, None, Some, get_or, if◌then◌else◌, length, nat_lt, ℕ, ◌+◌, ◌-◌, ◌<◌, ◌≡◌, ◌≢◌};
+ghost use Rattle.std.specs.Prelude.{List, None, Some, get_or, if◌then◌else◌, length, nat_lt, set, ℕ, ◌+◌, ◌-◌, ◌<◌, ◌≡◌, ◌≢◌};
 ghost use Rattle.std.specs.declared.option.Option.{Option};
 ghost use Rattle.mu_model.specs.declared.event.Answer.{Answer as SomeAnswer};
 ghost use Rattle.mu_model.specs.declared.event.Event.{Event as SomeEvent};
 ghost use Rattle.mu_model.specs.declared.event.Verb.{Verb as SomeVerb};
 ghost use Rattle.mu_model.specs.Contents.{config_word};
 ghost use Rattle.mu_lead.specs.declared.place.Place.{Place as SomePlace};
+ghost use Rattle.mu_lead.specs.Journal.{WritesFrom};
 ghost use Rattle.mu_lead.specs.Lasting.{FollowsFrom};
 ghost use Rattle.mu_lead.specs.Listing.{write_from};
 ghost use Rattle.mu_lead.specs.Notes.{value_committed};
@@ -60,14 +61,15 @@ impl Lead {
             (SomeVerb.WriteRow j (get_or self.old.written.items j 12)
             (config_word self.old.config j (get_or self.old.written.items j 12)))
             SomeAnswer.Done self.new }
-        ensures words { (mine : List SomeEvent) → StandsFor mine self.old
-            → self.old.place ≡ SomePlace.Write j last offer
-            → words_left self.old.written.items j (last + 1 - j)
-            ≡ words_left self.new.written.items j (last + 1 - j) + 1 }
         ensures quiet { value_committed result ≡ None }
         ensures config { self.new.config ≡ self.old.config }
         ensures id { self.new.id ≡ self.old.id }
         ensures named { self.new.named ≡ self.old.named }
+        ensures writes { (values : List ℕ)
+            → WritesFrom self.old (SomePlace.Write j last offer) values
+            (SomeVerb.WriteRow j (get_or self.old.written.items j 12)
+            (config_word self.old.config j (get_or self.old.written.items j 12)))
+            SomeAnswer.Done self.new }
         ensures note { result ≡ SomeNote.Working }
         ensures going { self.new.under_way ≡ going_after self.old.under_way result }
         ensures listed { (values : List ℕ)
@@ -88,6 +90,7 @@ fn note_words(written: &mut Vec<u8>, j: u16, count: u8)
     ensures long { length written.new.items ≡ length written.old.items }
     ensures here { j < length written.old.items → get_or written.new.items j 0 ≡ count }
     ensures others { (i : ℕ) → i ≢ j → get_or written.new.items i 0 ≡ get_or written.old.items i 0 }
+    ensures is { j < length written.old.items → written.new.items ≡ set written.old.items j count }
 {
     if usize::from(j) < written.len() {
         written[usize::from(j)] = count;

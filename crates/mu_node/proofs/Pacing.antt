@@ -1,5 +1,5 @@
 -- The counts of a leader's steps in each kind of turn of its node.
-use Rattle.std.proofs.Common.{◌≡◌, ◌∙◌, ◌==◌, ◌&&◌, ◌||◌, inl, inr, ℕ, Bool, true, false, None, Some, List, [], ◌∷◌, ap, arith, eqb-true, length, refl, subst, sym}
+use Rattle.std.proofs.Common.{◌≡◌, ◌∙◌, ◌==◌, ◌&&◌, ◌||◌, inl, inr, ℕ, ◌<◌, Bool, true, false, None, Some, List, [], ◌∷◌, ap, arith, eqb-true, length, refl, subst, sym}
 use Rattle.std.specs.Prelude.{if◌then◌else◌, is_some, nat_lt, not}
 use Rattle.std.proofs.Math.Bool.{and-false}
 use Rattle.std.proofs.lemmas.Bool.{and_parts, le-ltb, true≢false}
@@ -35,15 +35,18 @@ use Rattle.mu_lead.specs.Standing.{At, known_told, verb_at, verb_of}
 use Rattle.mu_lead.specs.Welcomes.{JoinsAt}
 use Rattle.mu_lead.proofs.Confirms.{minima_come_in_time}
 use Rattle.mu_lead.specs.Causes.{CausesAt}
+use Rattle.mu_lead.specs.Journal.{HasLeft, IsWhere, PlacesNext, due_after}
 use Rattle.mu_lead.specs.Lasting.{KeepsNext}
 use Rattle.mu_lead.specs.Elections.{ElectsAt}
 use Rattle.mu_lead.specs.Resigning.{CountsAt, IsTold, KeepsCounts}
 use Rattle.mu_lead.proofs.Causes.{leaders_ask_with_cause}
 use Rattle.mu_lead.proofs.Elections.{elections_come_in_time}
+use Rattle.mu_lead.proofs.Folding.{due_is, rests_at, where_beside, where_left, where_named, where_rests, where_unnamed}
 use Rattle.mu_lead.proofs.Resigning.{beats_keep_counts, counts_are_in_time}
 use Rattle.mu_node.specs.Due.{IsIdle, lead_due}
 use Rattle.mu_node.specs.Node.{StandsForLead}
 use Rattle.mu_node.specs.Paced.{HadPaces, HasPaces, HasPlannedPaces, PacesAt, PacesTold}
+use Rattle.mu_node.proofs.Leading.{lower_named}
 
 -- what is said of the configuration and the id of a leader is said of those of its node
 of_node : (F : Config → ℕ → Type 0) (c : Config) (r : ℕ) (lead : Lead) → lead.config ≡ c → lead.id ≡ r → F lead.config lead.id → F c r
@@ -61,10 +64,13 @@ paces_first c r lead same_c same_r paces = of_node (λ k i. HasPaces k i [] lead
 pub paces_beside : (c : Config) (r : ℕ) (mine : List Event) (lead : Lead) (verb : Verb) (answer : Answer) → is_odd (length mine) ≡ false → is_beside (leads_at lead.place) verb ≡ true → StandsForLead c r mine lead → HasPaces c r mine lead
     → HasPaces c r (event_by r verb answer ∷ mine) lead
 paces_beside c r mine lead verb answer even beside held paces = record {
-  counts = of_node (λ k i. CountsAt k i mine lead.written.items lead.place → CountsAt k i (event_by i verb answer ∷ mine) lead.written.items lead.place) c r lead held.config held.id
-      (counts_are_in_time.beside mine lead verb answer even beside held.stands) paces.counts;
-  causes = leaders_ask_with_cause.beside c r mine lead.place verb answer beside paces.causes;
-  elects = elections_come_in_time.beside c r mine lead.place verb answer even beside paces.elects;
+  paces = record {
+    counts = of_node (λ k i. CountsAt k i mine lead.written.items lead.place → CountsAt k i (event_by i verb answer ∷ mine) lead.written.items lead.place) c r lead held.config held.id
+        (counts_are_in_time.beside mine lead verb answer even beside held.stands) paces.paces.counts;
+    causes = leaders_ask_with_cause.beside c r mine lead.place verb answer beside paces.paces.causes;
+    elects = elections_come_in_time.beside c r mine lead.place verb answer even beside paces.paces.elects;
+  };
+  listed = where_beside c r mine (event_by r verb answer) lead even paces.listed;
 }
 
 -- what the contract of the leader says of the answer to its verb
@@ -76,21 +82,25 @@ pub record TakesPaces (mine : List Event) (old : Lead) (values : List ℕ) (answ
   pub joins : KeepsNext JoinsAt mine old values answer new
   pub causes : KeepsNext CausesAt mine old values answer new
   pub elects : KeepsNext ElectsAt mine old values answer new
+  pub placed : PlacesNext mine old values answer new
 
 -- of its own configuration and id
 own_led : (mine : List Event) (old new : Lead) (verb : Verb) (answer : Answer) (values : List ℕ) → new.config ≡ old.config → new.id ≡ old.id → TakesPaces mine old values answer new → is_odd (length mine) ≡ true
-    → verb_of old (known old.config old.id mine) ≡ Some verb → IsPossible old.config old.id (event_by old.id verb answer ∷ mine) → values ≡ known_told old.config old.id mine old.id verb answer → HasPaces old.config old.id mine old
+    → is_named old.config old.id mine ≡ true → verb_of old (known old.config old.id mine) ≡ Some verb → IsPossible old.config old.id (event_by old.id verb answer ∷ mine) → values ≡ known_told old.config old.id mine old.id verb answer → HasPaces old.config old.id mine old
     → HasPaces old.config old.id (event_by old.id verb answer ∷ mine) new
-own_led mine old new verb answer values same_c same_r takes odd is possible told paces = record {
-  counts = record {
-    rooms = of_node (λ k i. RoomsAt k i (event_by old.id verb answer ∷ mine) new.written.items new.place) old.config old.id new same_c same_r (takes.rooms verb is possible told odd paces.counts.rooms);
-    evidence = takes.evidence verb is possible told odd paces.counts.evidence;
-    raises = takes.raises verb is possible told odd paces.counts.raises;
-    confirms = takes.confirms verb is possible told odd paces.counts.confirms;
-    joins = takes.joins verb is possible told odd paces.counts.joins;
+own_led mine old new verb answer values same_c same_r takes odd named is possible told paces = record {
+  paces = record {
+    counts = record {
+      rooms = of_node (λ k i. RoomsAt k i (event_by old.id verb answer ∷ mine) new.written.items new.place) old.config old.id new same_c same_r (takes.rooms verb is possible told odd paces.paces.counts.rooms);
+      evidence = takes.evidence verb is possible told odd paces.paces.counts.evidence;
+      raises = takes.raises verb is possible told odd paces.paces.counts.raises;
+      confirms = takes.confirms verb is possible told odd paces.paces.counts.confirms;
+      joins = takes.joins verb is possible told odd paces.paces.counts.joins;
+    };
+    causes = takes.causes verb is possible told odd paces.paces.causes;
+    elects = takes.elects verb is possible told odd paces.paces.elects;
   };
-  causes = takes.causes verb is possible told odd paces.causes;
-  elects = takes.elects verb is possible told odd paces.elects;
+  listed = takes.placed verb is possible told odd named paces.listed;
 }
 
 -- what is due is the verb of the place, and r is named
@@ -103,28 +113,33 @@ pub paces_led : (c : Config) (r : ℕ) (mine : List Event) (old new : Lead) (ver
     → lead_due c r mine old ≡ Some verb → IsPossible c r (event_by r verb answer ∷ mine) → values ≡ known_told c r mine r verb answer → HasPaces c r mine old
     → HasPaces c r (event_by r verb answer ∷ mine) new
 paces_led c r mine old new verb answer values held same_c same_r takes odd due possible told paces =
-    of_node (λ k i. verb_of old (known k i mine) ≡ Some verb → IsPossible k i (event_by i verb answer ∷ mine) → values ≡ known_told k i mine i verb answer → HasPaces k i mine old → HasPaces k i (event_by i verb answer ∷ mine) new) c r old held.config held.id
-    (own_led mine old new verb answer values same_c same_r takes odd) (is_asked (leader c r mine == r) (verb_of old (known c r mine)) verb due).1 possible told paces
+    of_node (λ k i. is_named k i mine ≡ true → verb_of old (known k i mine) ≡ Some verb → IsPossible k i (event_by i verb answer ∷ mine) → values ≡ known_told k i mine i verb answer → HasPaces k i mine old → HasPaces k i (event_by i verb answer ∷ mine) new) c r old held.config held.id
+    (own_led mine old new verb answer values same_c same_r takes odd) (is_asked (leader c r mine == r) (verb_of old (known c r mine)) verb due).0 (is_asked (leader c r mine == r) (verb_of old (known c r mine)) verb due).1 possible told paces
 
 -- the leader was told whom the scores name
-pub paces_told : (c : Config) (r : ℕ) (mine : List Event) (old new : Lead) (named : ℕ) → named ≡ leader c r mine → old.id ≡ r → IsTold old named new → HasPaces c r mine old
+pub paces_told : (c : Config) (r : ℕ) (mine : List Event) (old new : Lead) (named : ℕ) → r < c.replicas → named ≡ leader c r mine → old.id ≡ r → IsTold old named new → new.under_way ≡ (old.under_way && not (nat_lt named old.id)) → HasPaces c r mine old
     → PacesTold (not (is_named c r mine)) c r mine new
-paces_told c r mine old new named is same told paces = go (is_named c r mine) refl
+paces_told c r mine old new named inside is same told going paces = go (is_named c r mine) refl
   where
     here : PacesAt c r mine new.written.items old.place
-    here = subst (λ (w : Vec ℕ Global). PacesAt c r mine w.items old.place) (sym told.written) paces
+    here = subst (λ (w : Vec ℕ Global). PacesAt c r mine w.items old.place) (sym told.written) paces.paces
 
-    stays : (t : Bool) → new.place ≡ (if t then Place.Ask 0 else old.place) → HadPaces c r mine new
-    stays true up = record { before = old.place; paces = here; place = inr up }
-    stays false up = record { before = old.place; paces = here; place = inl up }
+    stays : (t : Bool) → new.place ≡ (if t then Place.Ask 0 else old.place) → HasLeft c r mine new → HadPaces c r mine new
+    stays true up left = record { before = old.place; paces = here; place = inr up; left = left }
+    stays false up left = record { before = old.place; paces = here; place = inl up; left = left }
 
     go : (t : Bool) → is_named c r mine ≡ t → PacesTold (not t) c r mine new
     go true own =
         let number = eqb-true (leader c r mine) r own in
         let low : nat_lt named old.id ≡ false = le-ltb named old.id (omega (arith, number, is, same)) in
         let kept : gives_up old named ≡ false = ap (λ t. (old.under_way || leads_at old.place) && t) low ∙ and-false (old.under_way || leads_at old.place) in
-        subst (λ p. PacesAt c r mine new.written.items p) (sym (told.place ∙ ap (λ t. if t then Place.Ask 0 else old.place) kept)) here
-    go false other = stays (gives_up old named) told.place
+        record {
+          paces = subst (λ p. PacesAt c r mine new.written.items p) (sym (told.place ∙ ap (λ t. if t then Place.Ask 0 else old.place) kept)) here;
+          listed = where_named c r named mine old new told going low paces.listed;
+        }
+    go false other =
+        let low : nat_lt named old.id ≡ true = ap (λ l. nat_lt l old.id) is ∙ ap (λ i. nat_lt (leader c r mine) i) same ∙ lower_named c r mine inside other in
+        stays (gives_up old named) told.place (where_left c r named mine old new told low paces.listed)
 
 -- in a background turn nothing is told
 pub paces_even : (c : Config) (r : ℕ) (mine : List Event) (lead : Lead) → is_odd (length mine) ≡ false → HasPaces c r mine lead → HasPlannedPaces c r mine lead
@@ -145,11 +160,6 @@ pub led_paces : (c : Config) (r : ℕ) (mine : List Event) (lead : Lead) (verb :
 led_paces c r mine lead verb odd due paces = odd_paces c r mine lead true odd (is_asked (leader c r mine == r) (verb_of lead (known c r mine)) verb due).0 paces
 
 -- nothing is due where all is known or the log was outrun
-abbrev rests_at : Place → Bool
-rests_at Place.Rest = true
-rests_at Place.Outrun = true
-rests_at place = false
-
 none_due : (c : Config) (b : ℕ) (values up written : List ℕ) (place : Place) → verb_at c b values up written place ≡ None → rests_at place ≡ true
 none_due c b values up written Place.Rest none = refl
 none_due c b values up written Place.Outrun none = refl
@@ -168,9 +178,12 @@ rests_on c r b mine up reach written place answer good odd going rests at paces 
 
 unnamed_on : (c : Config) (r : ℕ) (mine : List Event) (lead : Lead) (answer : Answer) → IsConfig c → is_odd (length mine) ≡ true → is_named c r mine ≡ false → HadPaces c r mine lead → HasPaces c r (event_by r Verb.Beat answer ∷ mine) lead
 unnamed_on c r mine lead answer good odd other had = record {
-  counts = beats_keep_counts.unnamed c r mine lead.written.items had.before lead.place answer good odd other had.place had.paces.counts;
-  causes = leaders_ask_with_cause.unnamed c r mine had.before lead.place Verb.Beat answer odd other refl had.place had.paces.causes;
-  elects = elections_come_in_time.unnamed c r mine had.before lead.place Verb.Beat answer odd other refl had.place had.paces.elects;
+  paces = record {
+    counts = beats_keep_counts.unnamed c r mine lead.written.items had.before lead.place answer good odd other had.place had.paces.counts;
+    causes = leaders_ask_with_cause.unnamed c r mine had.before lead.place Verb.Beat answer odd other refl had.place had.paces.causes;
+    elects = elections_come_in_time.unnamed c r mine had.before lead.place Verb.Beat answer odd other refl had.place had.paces.elects;
+  };
+  listed = where_unnamed c r mine lead answer odd other had.left;
 }
 
 beats_on : (c : Config) (r : ℕ) (mine : List Event) (lead : Lead) (answer : Answer) → IsConfig c → is_odd (length mine) ≡ true → outrun c r mine ≡ None → lead_due c r mine lead ≡ None → StandsForLead c r mine lead → HasPlannedPaces c r mine lead
@@ -181,7 +194,9 @@ beats_on c r mine lead answer good odd going none held paces = go (is_named c r 
     at = of_node (λ k i. At k i lead.number mine lead.up lead.reach lead.written.items lead.place) c r lead held.config held.id held.stands.at
 
     go : (t : Bool) → is_named c r mine ≡ t → (if t then verb_of lead (known c r mine) else None) ≡ None → PacesTold (not t) c r mine lead → HasPaces c r (event_by r Verb.Beat answer ∷ mine) lead
-    go true own none paces = rests_on c r lead.number mine lead.up lead.reach lead.written.items lead.place answer good odd going (none_due lead.config lead.number (known c r mine) lead.up lead.written.items lead.place none) at paces
+    go true own none paces =
+        let rests = none_due lead.config lead.number (known c r mine) lead.up lead.written.items lead.place none in
+        record { paces = rests_on c r lead.number mine lead.up lead.reach lead.written.items lead.place answer good odd going rests at paces.paces; listed = where_rests c r mine lead answer odd own rests paces.listed }
     go false other none had = unnamed_on c r mine lead answer good odd other had
 
 -- and so does each event that is not of the leader
@@ -197,9 +212,9 @@ paces_other c r mine lead verb answer good going beside idle held paces = go (is
 kept_with : (c : Config) (r : ℕ) (mine : List Event) (e : Event) (lead : Lead) → StandsForLead c r (e ∷ mine) lead → HasPaces c r (e ∷ mine) lead → HasCause c r mine e
     → (begins_leadership r e ≡ true → steps_left (confirming c r) mine ≡ None) → LeaderKeeps c r mine e
 kept_with c r mine e lead held paces cause anew =
-    let in_time = of_node (λ k i. CountsAt k i (e ∷ mine) lead.written.items lead.place → KeepsCounts k i (e ∷ mine)) c r lead held.config held.id (counts_are_in_time.in_time (e ∷ mine) lead held.stands) paces.counts in
+    let in_time = of_node (λ k i. CountsAt k i (e ∷ mine) lead.written.items lead.place → KeepsCounts k i (e ∷ mine)) c r lead held.config held.id (counts_are_in_time.in_time (e ∷ mine) lead held.stands) paces.paces.counts in
     record {
-      asks = of_node (λ k i. ElectsAt k i (e ∷ mine) lead.place → AsksLately k i mine e) c r lead held.config held.id (elections_come_in_time.in_time mine e lead held.stands) paces.elects;
+      asks = of_node (λ k i. ElectsAt k i (e ∷ mine) lead.place → AsksLately k i mine e) c r lead held.config held.id (elections_come_in_time.in_time mine e lead held.stands) paces.paces.elects;
       cause = cause;
       confirmation = record { in_time = in_time.confirms; anew = anew };
       places = in_time.places;
@@ -228,7 +243,7 @@ place_begins c r by b values up written place begins = absurd (true≢false (sym
 
 pub kept_led : (c : Config) (r : ℕ) (mine : List Event) (old new : Lead) (verb : Verb) (answer : Answer) → lead_due c r mine old ≡ Some verb → StandsForLead c r mine old → HasPaces c r mine old
     → StandsForLead c r (event_by r verb answer ∷ mine) new → HasPaces c r (event_by r verb answer ∷ mine) new → LeaderKeeps c r mine (event_by r verb answer)
-kept_led c r mine old new verb answer due was before held paces = kept_with c r mine (event_by r verb answer) new held paces cause (λ begins. minima_come_in_time.anew c r mine old.place (first begins) before.counts.confirms)
+kept_led c r mine old new verb answer due was before held paces = kept_with c r mine (event_by r verb answer) new held paces cause (λ begins. minima_come_in_time.anew c r mine old.place (first begins) before.paces.counts.confirms)
   where
     is : (is_named c r mine ≡ true) × (verb_of old (known c r mine) ≡ Some verb)
     is = is_asked (leader c r mine == r) (verb_of old (known c r mine)) verb due
@@ -237,4 +252,8 @@ kept_led c r mine old new verb answer due was before held paces = kept_with c r 
     first begins = place_begins old.config r r old.number (known c r mine) old.up old.written.items old.place (ap (asks_first r r) is.1 ∙ begins)
 
     cause : HasCause c r mine (event_by r verb answer)
-    cause = of_node (λ k i. is_named k i mine ≡ true → verb_of old (known k i mine) ≡ Some verb → CausesAt k i mine old.place → HasCause k i mine (event_by i verb answer)) c r old was.config was.id (leaders_ask_with_cause.caused mine old verb answer) is.0 is.1 before.causes
+    cause = of_node (λ k i. is_named k i mine ≡ true → verb_of old (known k i mine) ≡ Some verb → CausesAt k i mine old.place → HasCause k i mine (event_by i verb answer)) c r old was.config was.id (leaders_ask_with_cause.caused mine old verb answer) is.0 is.1 before.paces.causes
+
+-- what the leader has due is what the journal has due
+pub due_listed : (c : Config) (r : ℕ) (mine : List Event) (lead : Lead) → StandsForLead c r mine lead → IsWhere c r mine lead → lead_due c r mine lead ≡ due_after c r mine
+due_listed c r mine lead held listed = of_node (λ k i. IsWhere k i mine lead → lead_due k i mine lead ≡ due_after k i mine) c r lead held.config held.id (due_is mine lead held.stands) listed

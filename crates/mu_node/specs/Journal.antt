@@ -6,9 +6,11 @@ use Rattle.mu_model.specs.Ends.{outrun}
 use Rattle.mu_model.specs.Steps.{is_named}
 use Rattle.mu_model.specs.Stretches.{is_odd}
 use Rattle.mu_grant.specs.Pace.{FollowsCycle}
-use Rattle.mu_lead.specs.declared.lead.Lead.{Lead}
 use Rattle.mu_lead.specs.Beside.{leads_at}
+use Rattle.mu_lead.specs.Journal.{due_after, place_after, tables_at}
 use Rattle.mu_node.specs.Cycle.{IsMade}
+use Rattle.mu_node.specs.Due.{verb_or_beat}
+use Rattle.mu_node.specs.Paced.{PacesAt}
 use Rattle.mu_pace.specs.Watches.{is_named_turn}
 
 -- the last event is a turn of the leader before which the scores named r
@@ -25,15 +27,21 @@ may_lead_before c r mine = is_odd (length mine) || was_named c r mine
 abbrev pub may_lead : Config → ℕ → List Event → Bool
 may_lead c r mine = if is_odd (length mine) then is_named c r mine else was_named c r mine
 
--- r made the event as it was due, by a leader that leads in the background only where it was named,
--- and no look had found a place used again that r still had to read
+-- in a turn of the leader the step is what its listing has due by the journal alone, else a beat
+abbrev pub IsListed : Config → ℕ → List Event → Event → Type 0
+IsListed c r mine e = is_odd (length mine) ≡ true → e.verb ≡ verb_or_beat (due_after c r mine)
+
+-- r made the event as it was due by the journal; its leader's counts were as its place has them, it
+-- leads in the background only where it was named, and no look had found a place used again that r
+-- still had to read
 pub record WasMade (c : Config) (r : ℕ) (mine : List Event) (e : Event) : Type 0 where
   pub own : e.by ≡ r
   pub going : outrun c r mine ≡ None
-  pub lead : Lead
-  pub made : IsMade c r mine lead e.verb
+  pub made : IsMade c r mine e.verb
+  pub paces : PacesAt c r mine (tables_at c r mine).written (place_after c r mine)
   pub leads :
-      is_odd (length mine) ≡ false → leads_at lead.place ≡ true → was_named c r mine ≡ true
+      is_odd (length mine) ≡ false → leads_at (place_after c r mine) ≡ true
+      → was_named c r mine ≡ true
 
 -- the event follows the cycle, and was made as it was due
 pub record FollowsTurn (c : Config) (r : ℕ) (mine : List Event) (e : Event) : Type 0 where

@@ -8,6 +8,7 @@ use Rattle.mu_lead.specs.declared.lead.Lead.{Lead}
 use Rattle.mu_lead.specs.declared.place.Place.{Place}
 use Rattle.mu_lead.specs.Causes.{CausesAt}
 use Rattle.mu_lead.specs.Elections.{ElectsAt}
+use Rattle.mu_lead.specs.Journal.{HasLeft, IsWhere}
 use Rattle.mu_lead.specs.Resigning.{CountsAt}
 
 -- at the place, with so many words of each row written, each count has room, an ask has its cause,
@@ -18,16 +19,18 @@ pub record PacesAt (c : Config) (r : ℕ) (mine : List Event) (written : List �
   pub causes : CausesAt c r mine place
   pub elects : ElectsAt c r mine place
 
--- at the place of the leader
-abbrev pub HasPaces : Config → ℕ → List Event → Lead → Type 0
-HasPaces c r mine lead = PacesAt c r mine lead.written.items lead.place
+-- at the place of the leader, which is where the journal has it
+pub record HasPaces (c : Config) (r : ℕ) (mine : List Event) (lead : Lead) : Type 0 where
+  pub paces : PacesAt c r mine lead.written.items lead.place
+  pub listed : IsWhere c r mine lead
 
 -- the leader was told that another replica is named: each count had room at the place before, where
--- it stays, or it begins anew
+-- it stays, or it begins anew; and it does
 pub record HadPaces (c : Config) (r : ℕ) (mine : List Event) (lead : Lead) : Type 0 where
   pub before : Place
   pub paces : PacesAt c r mine lead.written.items before
   pub place : (lead.place ≡ before) ⊎ (lead.place ≡ Place.Ask 0)
+  pub left : HasLeft c r mine lead
 
 -- what holds of the counts where the leader was told that another is named, and where it wasn't
 abbrev pub PacesTold : Bool → Config → ℕ → List Event → Lead → Type 0

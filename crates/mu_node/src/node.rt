@@ -7,6 +7,7 @@ ghost use Rattle.mu_model.specs.Contents.{IsConfig};
 ghost use Rattle.mu_model.specs.Diligence.{GrantsInTime, IsDiligent, ReadsInTime, Replays, TellsHeads};
 ghost use Rattle.mu_model.specs.Ends.{outrun};
 ghost use Rattle.mu_model.specs.Parts.{IsPossible};
+ghost use Rattle.mu_node.specs.Journal.{IsListed};
 ghost use Rattle.mu_node.specs.Node.{StandsForNode};
 ghost use Rattle.mu_node.specs.Notes.{HasMade, MovesGoing, MovesTurn, TellsTurn};
 ghost use Rattle.mu_node.specs.Beats.{ends_by_beat};
@@ -194,6 +195,8 @@ impl Node {
         ensures heads { TellsHeads (P.config port.new) (P.number port.new) (P.part port.new) }
         ensures replays { Replays (P.config port.new) (P.number port.new) (P.part port.new) }
         ensures keeps { AtEachStep (KeepsBeside (P.config port.new) (P.number port.new))
+            (P.part port.new) }
+        ensures listed { AtEachStep (IsListed (P.config port.new) (P.number port.new))
             (P.part port.new) }
         ensures diligent { IsDiligent (P.config port.new) (P.number port.new) (P.part port.new) }
     {

@@ -7,7 +7,7 @@ use mu_reasons::Broken;
 use mu_report::{Said, status};
 
 /// The status of what is said, once it is written.
-pub(crate) fn status_for(said: &Said) -> Status
+pub fn status_for(said: &Said) -> Status
     ensures { result ≡ status_for_said said.now }
 {
     match said {
@@ -20,6 +20,7 @@ pub(crate) fn status_for(said: &Said) -> Status
         Said::Lived(outcome, _) => status(outcome),
         Said::Judged { verdict, .. } => verdict_status(verdict),
         Said::Explained { broken, .. } => explained_status(broken),
+        Said::Told(account) => status(&account.outcome),
         Said::ReadFault => Status::ReadFault,
         Said::NoMemory => Status::NoMemory,
         Said::TooLong => Status::TooLong,

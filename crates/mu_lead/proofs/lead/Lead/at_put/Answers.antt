@@ -20,6 +20,7 @@ use Rattle.std.proofs.Common.{inr}
 use Rattle.mu_model.specs.Knowledge.{grown}
 use Rattle.mu_lead.specs.Notes.{value_committed}
 use Rattle.mu_lead.proofs.Telling.{put_tells}
+use Rattle.mu_lead.specs.Journal.{WritesTo}
 use Rattle.mu_lead.proofs.lead.Lead.at_put.Goals as goal
 
 pub returns-in_default-clause-stands : goal.returns-in_default-clause-stands
@@ -70,3 +71,16 @@ pub returns-in-Missed-clause-listed : goal.returns-in-Missed-clause-listed
 returns-in-Missed-clause-listed c = λ mine s is possible told.
     let l = c.args.self.now in
     subst (λ a. GoesTo l (event_by l.id (Verb.PutSlot c.args.p (length c.args.known.now) l.number c.args.offer.value) a ∷ mine) a (Place.Put c.args.p c.args.offer) c.missed_slot.new.self) (sym c.in-Missed.is) c.missed_slot.ensures.missed
+
+pub returns-in_default-clause-writes : goal.returns-in_default-clause-writes
+returns-in_default-clause-writes c = λ mine s is possible told.
+    let l = c.args.self.now in
+    elim (puts_slot_or l.config l.id c.args.p (length c.args.known.now) l.number c.args.offer.value c.args.answer mine possible) [
+      | inl done ↦ subst (λ a. WritesTo l mine (Verb.PutSlot c.args.p (length c.args.known.now) l.number c.args.offer.value) a c.took_put.new.self) (sym done) (c.took_put.ensures.writes mine s is (subst (λ a. IsPossible l.config l.id (event_by l.id (Verb.PutSlot c.args.p (length c.args.known.now) l.number c.args.offer.value) a ∷ mine)) done possible) told)
+      | inr missed ↦ absurd (c.in_default.not-Missed missed)
+    ]
+
+pub returns-in-Missed-clause-writes : goal.returns-in-Missed-clause-writes
+returns-in-Missed-clause-writes c = λ mine s is possible told.
+    let l = c.args.self.now in
+    subst (λ a. WritesTo l mine (Verb.PutSlot c.args.p (length c.args.known.now) l.number c.args.offer.value) a c.missed_slot.new.self) (sym c.in-Missed.is) c.missed_slot.ensures.tables

@@ -17,6 +17,7 @@ use Rattle.mu_agree.proofs.Readings.{known_within}
 use Rattle.mu_lead.proofs.Bringing.{config_small}
 use Rattle.mu_lead.proofs.Replies.{puts_slot_or}
 use Rattle.std.proofs.Common.{inr}
+use Rattle.mu_lead.specs.Journal.{WritesTo}
 use Rattle.mu_lead.proofs.lead.Lead.at_put_behind.Goals as goal
 
 pub returns-in_default-clause-stands : goal.returns-in_default-clause-stands
@@ -57,3 +58,16 @@ pub returns-in-Missed-clause-listed : goal.returns-in-Missed-clause-listed
 returns-in-Missed-clause-listed c = λ mine s is possible told.
     let l = c.args.self.now in
     subst (λ a. GoesTo l (event_by l.id (Verb.PutSlot c.args.p (get_or l.up c.args.p 0) l.number (get_or c.args.known.now (get_or l.up c.args.p 0) 0)) a ∷ mine) a (Place.PutBehind c.args.p c.args.then) c.missed_slot.new.self) (sym c.in-Missed.is) c.missed_slot.ensures.missed
+
+pub returns-in_default-clause-writes : goal.returns-in_default-clause-writes
+returns-in_default-clause-writes c = λ mine s is possible told.
+    let l = c.args.self.now in
+    elim (puts_slot_or l.config l.id c.args.p (get_or l.up c.args.p 0) l.number (get_or c.args.known.now (get_or l.up c.args.p 0) 0) c.args.answer mine possible) [
+      | inl done ↦ subst (λ a. WritesTo l mine (Verb.PutSlot c.args.p (get_or l.up c.args.p 0) l.number (get_or c.args.known.now (get_or l.up c.args.p 0) 0)) a c.took_put_behind.new.self) (sym done) (c.took_put_behind.ensures.writes mine s is (subst (λ a. IsPossible l.config l.id (event_by l.id (Verb.PutSlot c.args.p (get_or l.up c.args.p 0) l.number (get_or c.args.known.now (get_or l.up c.args.p 0) 0)) a ∷ mine)) done possible) told)
+      | inr missed ↦ absurd (c.in_default.not-Missed missed)
+    ]
+
+pub returns-in-Missed-clause-writes : goal.returns-in-Missed-clause-writes
+returns-in-Missed-clause-writes c = λ mine s is possible told.
+    let l = c.args.self.now in
+    subst (λ a. WritesTo l mine (Verb.PutSlot c.args.p (get_or l.up c.args.p 0) l.number (get_or c.args.known.now (get_or l.up c.args.p 0) 0)) a c.missed_slot.new.self) (sym c.in-Missed.is) c.missed_slot.ensures.tables

@@ -44,14 +44,14 @@ pub returns-then-resigns-clause-told : goal.returns-then-resigns-clause-told
 returns-then-resigns-clause-told g c =
     let old = c.args.self.now in
     elim c.if-gives_up.branch [
-      | then-gives_up w ↦ subst (IsTold old c.args.leader) (sym w.self-is) (record { config = refl; id = refl; written = refl; place = gives_place _ old.place (sym c.gives_up.ensures ∙ w.if-gives_up.true) })
-      | else-gives_up w ↦ subst (IsTold old c.args.leader) (sym w.self-is) (record { config = refl; id = refl; written = refl; place = keeps_place _ old.place (sym c.gives_up.ensures ∙ w.if-gives_up.false) })
+      | then-gives_up w ↦ subst (IsTold old c.args.leader) (sym w.self-is) (record { config = refl; id = refl; written = refl; tables = refl; place = gives_place _ old.place (sym c.gives_up.ensures ∙ w.if-gives_up.true) })
+      | else-gives_up w ↦ subst (IsTold old c.args.leader) (sym w.self-is) (record { config = refl; id = refl; written = refl; tables = refl; place = keeps_place _ old.place (sym c.gives_up.ensures ∙ w.if-gives_up.false) })
     ]
 
 pub returns-else-resigns-clause-told : goal.returns-else-resigns-clause-told
 returns-else-resigns-clause-told g c =
     let old = c.args.self.now in
     elim c.if-gives_up.branch [
-      | then-gives_up w ↦ subst (IsTold old c.args.leader) (sym w.self-is) (record { config = refl; id = refl; written = refl; place = gives_place _ old.place (sym c.gives_up.ensures ∙ w.if-gives_up.true) })
-      | else-gives_up w ↦ subst (IsTold old c.args.leader) (sym w.self-is) (record { config = refl; id = refl; written = refl; place = keeps_place _ old.place (sym c.gives_up.ensures ∙ w.if-gives_up.false) })
+      | then-gives_up w ↦ subst (IsTold old c.args.leader) (sym w.self-is) (record { config = refl; id = refl; written = refl; tables = refl; place = gives_place _ old.place (sym c.gives_up.ensures ∙ w.if-gives_up.true) })
+      | else-gives_up w ↦ subst (IsTold old c.args.leader) (sym w.self-is) (record { config = refl; id = refl; written = refl; tables = refl; place = keeps_place _ old.place (sym c.gives_up.ensures ∙ w.if-gives_up.false) })
     ]

@@ -13,8 +13,7 @@ use Rattle.mu_model.specs.Knowledge.{known}
 use Rattle.mu_lead.proofs.Telling.{put_any, tells_put, tells_quiet}
 use Rattle.mu_lead.proofs.Going.{goes_asked, goes_on}
 use Rattle.mu_lead.proofs.Saying.{notes_at}
-use Rattle.mu_lead.specs.Rooms.{KeepsTables}
-use Rattle.mu_lead.specs.Lasting.{tables_of}
+use Rattle.mu_lead.proofs.Writes.{writes_done, writes_known, writes_quiet}
 use Rattle.mu_lead.proofs.lead.Lead.take_answer.Goals as goal
 
 pub returns-in-Ask-clause-stands : goal.returns-in-Ask-clause-stands
@@ -427,77 +426,92 @@ returns-in-Raise-clause-listed c = λ counts.
 pub returns-in-Evidence-clause-listed : goal.returns-in-Evidence-clause-listed
 returns-in-Evidence-clause-listed c = λ counts. listed_known c.args.self.now c.at_evidence.new.self (Place.Evidence c.in-Evidence.p) c.args.known.now (λ xs. Verb.Fence c.in-Evidence.p) c.args.answer c.in-Evidence.is (λ xs. refl) (λ mine xs. refl) (c.at_evidence.ensures.listed c.args.known.now)
 
-pub returns-in-Ask-clause-kept : goal.returns-in-Ask-clause-kept
-returns-in-Ask-clause-kept c = λ mine s. subst (KeepsTables (tables_of c.args.self.now) (tables_of c.took_ask.new.self)) (sym c.in-Ask.is) tt
+pub returns-in-Ask-clause-writes : goal.returns-in-Ask-clause-writes
+returns-in-Ask-clause-writes c =
+    let l = c.args.self.now in
+    writes_known l c.took_ask.new.self (Place.Ask c.in-Ask.p) c.args.known.now (λ xs. Verb.Ask c.in-Ask.p) c.args.answer c.in-Ask.is (λ xs. refl) (λ mine xs. refl)
+    (writes_done l c.took_ask.new.self (Place.Ask c.in-Ask.p) c.args.known.now (Verb.Ask c.in-Ask.p) c.args.answer (λ mine possible. (answer_is l.config l.id (Verb.Ask c.in-Ask.p) c.args.answer mine possible).1) (c.took_ask.ensures.writes c.args.known.now))
 
-pub returns-in-Confirm-clause-kept : goal.returns-in-Confirm-clause-kept
-returns-in-Confirm-clause-kept c = λ mine s. subst (KeepsTables (tables_of c.args.self.now) (tables_of c.at_confirm.new.self)) (sym c.in-Confirm.is) tt
+pub returns-in-Confirm-clause-writes : goal.returns-in-Confirm-clause-writes
+returns-in-Confirm-clause-writes c = writes_quiet c.args.self.now c.at_confirm.new.self (Place.Confirm c.in-Confirm.round c.in-Confirm.p) c.args.known.now c.args.answer c.in-Confirm.is refl c.at_confirm.ensures.tables
 
-pub returns-in-ReadMin-clause-kept : goal.returns-in-ReadMin-clause-kept
-returns-in-ReadMin-clause-kept c = λ mine s. subst (KeepsTables (tables_of c.args.self.now) (tables_of c.at_read_min.new.self)) (sym c.in-ReadMin.is) tt
+pub returns-in-ReadMin-clause-writes : goal.returns-in-ReadMin-clause-writes
+returns-in-ReadMin-clause-writes c = writes_quiet c.args.self.now c.at_read_min.new.self (Place.ReadMin c.in-ReadMin.p) c.args.known.now c.args.answer c.in-ReadMin.is refl c.at_read_min.ensures.tables
 
-pub returns-in-EnterMin-clause-kept : goal.returns-in-EnterMin-clause-kept
-returns-in-EnterMin-clause-kept c = λ mine s. subst (KeepsTables (tables_of c.args.self.now) (tables_of c.at_enter_min.new.self)) (sym c.in-EnterMin.is) tt
+pub returns-in-EnterMin-clause-writes : goal.returns-in-EnterMin-clause-writes
+returns-in-EnterMin-clause-writes c = writes_quiet c.args.self.now c.at_enter_min.new.self (Place.EnterMin c.in-EnterMin.p) c.args.known.now c.args.answer c.in-EnterMin.is refl c.at_enter_min.ensures.tables
 
-pub returns-in-PutMin-clause-kept : goal.returns-in-PutMin-clause-kept
-returns-in-PutMin-clause-kept c = λ mine s. subst (KeepsTables (tables_of c.args.self.now) (tables_of c.at_put_min.new.self)) (sym c.in-PutMin.is) tt
+pub returns-in-PutMin-clause-writes : goal.returns-in-PutMin-clause-writes
+returns-in-PutMin-clause-writes c = writes_quiet c.args.self.now c.at_put_min.new.self (Place.PutMin c.in-PutMin.p) c.args.known.now c.args.answer c.in-PutMin.is refl c.at_put_min.ensures.tables
 
-pub returns-in-ReadFuo-clause-kept : goal.returns-in-ReadFuo-clause-kept
-returns-in-ReadFuo-clause-kept c = λ mine s. subst (KeepsTables (tables_of c.args.self.now) (tables_of c.at_read_fuo.new.self)) (sym c.in-ReadFuo.is) tt
+pub returns-in-ReadFuo-clause-writes : goal.returns-in-ReadFuo-clause-writes
+returns-in-ReadFuo-clause-writes c = writes_known c.args.self.now c.at_read_fuo.new.self (Place.ReadFuo c.in-ReadFuo.p c.in-ReadFuo.source) c.args.known.now (λ xs. Verb.Fuo c.in-ReadFuo.p) c.args.answer c.in-ReadFuo.is (λ xs. refl) (λ mine xs. refl) (c.at_read_fuo.ensures.writes)
 
-pub returns-in-Learn-clause-kept : goal.returns-in-Learn-clause-kept
-returns-in-Learn-clause-kept c = λ mine s. subst (KeepsTables (tables_of c.args.self.now) (tables_of c.took_learning.new.self)) (sym c.in-Learn.is) tt
+pub returns-in-Learn-clause-writes : goal.returns-in-Learn-clause-writes
+returns-in-Learn-clause-writes c = writes_quiet c.args.self.now c.took_learning.new.self (Place.Learn c.in-Learn.p) c.args.known.now c.args.answer c.in-Learn.is refl c.took_learning.ensures.tables
 
-pub returns-in-WidenBehind-clause-kept : goal.returns-in-WidenBehind-clause-kept
-returns-in-WidenBehind-clause-kept c = λ mine s. subst (KeepsTables (tables_of c.args.self.now) (tables_of c.took_widening.new.self)) (sym c.in-WidenBehind.is) tt
+pub returns-in-WidenBehind-clause-writes : goal.returns-in-WidenBehind-clause-writes
+returns-in-WidenBehind-clause-writes c =
+    let l = c.args.self.now in
+    writes_known l c.took_widening.new.self (Place.WidenBehind c.in-WidenBehind.p c.in-WidenBehind.then) c.args.known.now (λ xs. Verb.RaiseFuo c.in-WidenBehind.p (get_or c.args.self.now.up c.in-WidenBehind.p 0)) c.args.answer c.in-WidenBehind.is (λ xs. refl) (λ mine xs. refl)
+    (writes_done l c.took_widening.new.self (Place.WidenBehind c.in-WidenBehind.p c.in-WidenBehind.then) c.args.known.now (Verb.RaiseFuo c.in-WidenBehind.p (get_or c.args.self.now.up c.in-WidenBehind.p 0)) c.args.answer (λ mine possible. (answer_is l.config l.id (Verb.RaiseFuo c.in-WidenBehind.p (get_or c.args.self.now.up c.in-WidenBehind.p 0)) c.args.answer mine possible).1) (c.took_widening.ensures.writes c.args.known.now))
 
-pub returns-in-LookBehind-clause-kept : goal.returns-in-LookBehind-clause-kept
-returns-in-LookBehind-clause-kept c = λ mine s. subst (KeepsTables (tables_of c.args.self.now) (tables_of c.took_look_behind.new.self)) (sym c.in-LookBehind.is) tt
+pub returns-in-LookBehind-clause-writes : goal.returns-in-LookBehind-clause-writes
+returns-in-LookBehind-clause-writes c = writes_quiet c.args.self.now c.took_look_behind.new.self (Place.LookBehind c.in-LookBehind.p c.in-LookBehind.then) c.args.known.now c.args.answer c.in-LookBehind.is refl c.took_look_behind.ensures.tables
 
-pub returns-in-EnterBehind-clause-kept : goal.returns-in-EnterBehind-clause-kept
-returns-in-EnterBehind-clause-kept c = λ mine s. subst (KeepsTables (tables_of c.args.self.now) (tables_of c.at_enter_behind.new.self)) (sym c.in-EnterBehind.is) tt
+pub returns-in-EnterBehind-clause-writes : goal.returns-in-EnterBehind-clause-writes
+returns-in-EnterBehind-clause-writes c = writes_quiet c.args.self.now c.at_enter_behind.new.self (Place.EnterBehind c.in-EnterBehind.p c.in-EnterBehind.then) c.args.known.now c.args.answer c.in-EnterBehind.is refl c.at_enter_behind.ensures.tables
 
-pub returns-in-PutBehind-clause-kept : goal.returns-in-PutBehind-clause-kept
-returns-in-PutBehind-clause-kept c = λ mine s. subst (KeepsTables (tables_of c.args.self.now) (tables_of c.at_put_behind.new.self)) (sym c.in-PutBehind.is) tt
+pub returns-in-PutBehind-clause-writes : goal.returns-in-PutBehind-clause-writes
+returns-in-PutBehind-clause-writes c = writes_known c.args.self.now c.at_put_behind.new.self (Place.PutBehind c.in-PutBehind.p c.in-PutBehind.then) c.args.known.now (λ xs. Verb.PutSlot c.in-PutBehind.p (get_or c.args.self.now.up c.in-PutBehind.p 0) c.args.self.now.number (get_or xs (get_or c.args.self.now.up c.in-PutBehind.p 0) 0)) c.args.answer c.in-PutBehind.is (λ xs. refl) (λ mine xs. refl) (c.at_put_behind.ensures.writes)
 
-pub returns-in-RaiseBehind-clause-kept : goal.returns-in-RaiseBehind-clause-kept
-returns-in-RaiseBehind-clause-kept c = λ mine s. subst (KeepsTables (tables_of c.args.self.now) (tables_of c.took_raise_behind.new.self)) (sym c.in-RaiseBehind.is) c.took_raise_behind.ensures.up
+pub returns-in-RaiseBehind-clause-writes : goal.returns-in-RaiseBehind-clause-writes
+returns-in-RaiseBehind-clause-writes c =
+    let l = c.args.self.now in
+    writes_known l c.took_raise_behind.new.self (Place.RaiseBehind c.in-RaiseBehind.p c.in-RaiseBehind.then) c.args.known.now (λ xs. Verb.RaiseFuo c.in-RaiseBehind.p (get_or c.args.self.now.up c.in-RaiseBehind.p 0)) c.args.answer c.in-RaiseBehind.is (λ xs. refl) (λ mine xs. refl)
+    (writes_done l c.took_raise_behind.new.self (Place.RaiseBehind c.in-RaiseBehind.p c.in-RaiseBehind.then) c.args.known.now (Verb.RaiseFuo c.in-RaiseBehind.p (get_or c.args.self.now.up c.in-RaiseBehind.p 0)) c.args.answer (λ mine possible. (answer_is l.config l.id (Verb.RaiseFuo c.in-RaiseBehind.p (get_or c.args.self.now.up c.in-RaiseBehind.p 0)) c.args.answer mine possible).1) (c.took_raise_behind.ensures.writes))
 
-pub returns-in-FenceBehind-clause-kept : goal.returns-in-FenceBehind-clause-kept
-returns-in-FenceBehind-clause-kept c = λ mine s. subst (KeepsTables (tables_of c.args.self.now) (tables_of c.at_fence_behind.new.self)) (sym c.in-FenceBehind.is) tt
+pub returns-in-FenceBehind-clause-writes : goal.returns-in-FenceBehind-clause-writes
+returns-in-FenceBehind-clause-writes c = writes_quiet c.args.self.now c.at_fence_behind.new.self (Place.FenceBehind c.in-FenceBehind.p c.in-FenceBehind.then) c.args.known.now c.args.answer c.in-FenceBehind.is refl c.at_fence_behind.ensures.tables
 
-pub returns-in-LateFence-clause-kept : goal.returns-in-LateFence-clause-kept
-returns-in-LateFence-clause-kept c = λ mine s. subst (KeepsTables (tables_of c.args.self.now) (tables_of c.at_late_fence.new.self)) (sym c.in-LateFence.is) tt
+pub returns-in-LateFence-clause-writes : goal.returns-in-LateFence-clause-writes
+returns-in-LateFence-clause-writes c = writes_quiet c.args.self.now c.at_late_fence.new.self (Place.LateFence c.in-LateFence.p) c.args.known.now c.args.answer c.in-LateFence.is refl c.at_late_fence.ensures.tables
 
-pub returns-in-LateMin-clause-kept : goal.returns-in-LateMin-clause-kept
-returns-in-LateMin-clause-kept c = λ mine s. subst (KeepsTables (tables_of c.args.self.now) (tables_of c.at_late_min.new.self)) (sym c.in-LateMin.is) tt
+pub returns-in-LateMin-clause-writes : goal.returns-in-LateMin-clause-writes
+returns-in-LateMin-clause-writes c = writes_quiet c.args.self.now c.at_late_min.new.self (Place.LateMin c.in-LateMin.p) c.args.known.now c.args.answer c.in-LateMin.is refl c.at_late_min.ensures.tables
 
-pub returns-in-LateFuo-clause-kept : goal.returns-in-LateFuo-clause-kept
-returns-in-LateFuo-clause-kept c = λ mine s. subst (KeepsTables (tables_of c.args.self.now) (tables_of c.at_late_fuo.new.self)) (sym c.in-LateFuo.is) tt
+pub returns-in-LateFuo-clause-writes : goal.returns-in-LateFuo-clause-writes
+returns-in-LateFuo-clause-writes c = writes_known c.args.self.now c.at_late_fuo.new.self (Place.LateFuo c.in-LateFuo.p) c.args.known.now (λ xs. Verb.Fuo c.in-LateFuo.p) c.args.answer c.in-LateFuo.is (λ xs. refl) (λ mine xs. refl) (c.at_late_fuo.ensures.writes)
 
-pub returns-in-LateEnter-clause-kept : goal.returns-in-LateEnter-clause-kept
-returns-in-LateEnter-clause-kept c = λ mine s. subst (KeepsTables (tables_of c.args.self.now) (tables_of c.at_late_enter.new.self)) (sym c.in-LateEnter.is) tt
+pub returns-in-LateEnter-clause-writes : goal.returns-in-LateEnter-clause-writes
+returns-in-LateEnter-clause-writes c = writes_quiet c.args.self.now c.at_late_enter.new.self (Place.LateEnter c.in-LateEnter.p) c.args.known.now c.args.answer c.in-LateEnter.is refl c.at_late_enter.ensures.tables
 
-pub returns-in-LatePut-clause-kept : goal.returns-in-LatePut-clause-kept
-returns-in-LatePut-clause-kept c = λ mine s. subst (KeepsTables (tables_of c.args.self.now) (tables_of c.at_late_put.new.self)) (sym c.in-LatePut.is) tt
+pub returns-in-LatePut-clause-writes : goal.returns-in-LatePut-clause-writes
+returns-in-LatePut-clause-writes c = writes_quiet c.args.self.now c.at_late_put.new.self (Place.LatePut c.in-LatePut.p) c.args.known.now c.args.answer c.in-LatePut.is refl c.at_late_put.ensures.tables
 
-pub returns-in-ReadHead-clause-kept : goal.returns-in-ReadHead-clause-kept
-returns-in-ReadHead-clause-kept c = λ mine s. subst (KeepsTables (tables_of c.args.self.now) (tables_of c.at_read_head.new.self)) (sym c.in-ReadHead.is) tt
+pub returns-in-ReadHead-clause-writes : goal.returns-in-ReadHead-clause-writes
+returns-in-ReadHead-clause-writes c = writes_known c.args.self.now c.at_read_head.new.self (Place.ReadHead c.in-ReadHead.q c.in-ReadHead.candidate) c.args.known.now (λ xs. Verb.Head c.in-ReadHead.q) c.args.answer c.in-ReadHead.is (λ xs. refl) (λ mine xs. refl) c.at_read_head.ensures.writes
 
-pub returns-in-Look-clause-kept : goal.returns-in-Look-clause-kept
-returns-in-Look-clause-kept c = λ mine s. subst (KeepsTables (tables_of c.args.self.now) (tables_of c.took_look.new.self)) (sym c.in-Look.is) c.took_look.ensures.up
+pub returns-in-Look-clause-writes : goal.returns-in-Look-clause-writes
+returns-in-Look-clause-writes c = writes_quiet c.args.self.now c.took_look.new.self (Place.Look c.in-Look.p c.in-Look.i c.in-Look.candidate c.in-Look.best) c.args.known.now c.args.answer c.in-Look.is refl c.took_look.ensures.tables
 
-pub returns-in-Write-clause-kept : goal.returns-in-Write-clause-kept
-returns-in-Write-clause-kept c = λ mine s. subst (KeepsTables (tables_of c.args.self.now) (tables_of c.took_write.new.self)) (sym c.in-Write.is) (c.took_write.ensures.words mine s c.in-Write.is)
+pub returns-in-Write-clause-writes : goal.returns-in-Write-clause-writes
+returns-in-Write-clause-writes c =
+    let l = c.args.self.now in
+    writes_known l c.took_write.new.self (Place.Write c.in-Write.j c.in-Write.last c.in-Write.offer) c.args.known.now (λ xs. Verb.WriteRow c.in-Write.j (get_or c.args.self.now.written.items c.in-Write.j 12) (config_word c.args.self.now.config c.in-Write.j (get_or c.args.self.now.written.items c.in-Write.j 12))) c.args.answer c.in-Write.is (λ xs. refl) (λ mine xs. refl)
+    (writes_done l c.took_write.new.self (Place.Write c.in-Write.j c.in-Write.last c.in-Write.offer) c.args.known.now (Verb.WriteRow c.in-Write.j (get_or c.args.self.now.written.items c.in-Write.j 12) (config_word c.args.self.now.config c.in-Write.j (get_or c.args.self.now.written.items c.in-Write.j 12))) c.args.answer (λ mine possible. (answer_is l.config l.id (Verb.WriteRow c.in-Write.j (get_or c.args.self.now.written.items c.in-Write.j 12) (config_word c.args.self.now.config c.in-Write.j (get_or c.args.self.now.written.items c.in-Write.j 12))) c.args.answer mine possible).1) (c.took_write.ensures.writes c.args.known.now))
 
-pub returns-in-Enter-clause-kept : goal.returns-in-Enter-clause-kept
-returns-in-Enter-clause-kept c = λ mine s. subst (KeepsTables (tables_of c.args.self.now) (tables_of c.at_enter.new.self)) (sym c.in-Enter.is) tt
+pub returns-in-Enter-clause-writes : goal.returns-in-Enter-clause-writes
+returns-in-Enter-clause-writes c = writes_quiet c.args.self.now c.at_enter.new.self (Place.Enter c.in-Enter.p c.in-Enter.offer) c.args.known.now c.args.answer c.in-Enter.is refl c.at_enter.ensures.tables
 
-pub returns-in-Put-clause-kept : goal.returns-in-Put-clause-kept
-returns-in-Put-clause-kept c = λ mine s. subst (KeepsTables (tables_of c.args.self.now) (tables_of c.at_put.new.self)) (sym c.in-Put.is) tt
+pub returns-in-Put-clause-writes : goal.returns-in-Put-clause-writes
+returns-in-Put-clause-writes c = writes_known c.args.self.now c.at_put.new.self (Place.Put c.in-Put.p c.in-Put.offer) c.args.known.now (λ xs. Verb.PutSlot c.in-Put.p (length xs) c.args.self.now.number c.in-Put.offer.value) c.args.answer c.in-Put.is (λ xs. refl) (λ mine xs. refl) (c.at_put.ensures.writes)
 
-pub returns-in-Raise-clause-kept : goal.returns-in-Raise-clause-kept
-returns-in-Raise-clause-kept c = λ mine s. subst (KeepsTables (tables_of c.args.self.now) (tables_of c.took_raise.new.self)) (sym c.in-Raise.is) tt
+pub returns-in-Raise-clause-writes : goal.returns-in-Raise-clause-writes
+returns-in-Raise-clause-writes c =
+    let l = c.args.self.now in
+    writes_known l c.took_raise.new.self (Place.Raise c.in-Raise.p) c.args.known.now (λ xs. Verb.RaiseFuo c.in-Raise.p (length xs)) c.args.answer c.in-Raise.is (λ xs. refl) (λ mine xs. refl)
+    (writes_done l c.took_raise.new.self (Place.Raise c.in-Raise.p) c.args.known.now (Verb.RaiseFuo c.in-Raise.p (length c.args.known.now)) c.args.answer (λ mine possible. (answer_is l.config l.id (Verb.RaiseFuo c.in-Raise.p (length c.args.known.now)) c.args.answer mine possible).1) (c.took_raise.ensures.writes))
 
-pub returns-in-Evidence-clause-kept : goal.returns-in-Evidence-clause-kept
-returns-in-Evidence-clause-kept c = λ mine s. subst (KeepsTables (tables_of c.args.self.now) (tables_of c.at_evidence.new.self)) (sym c.in-Evidence.is) tt
+pub returns-in-Evidence-clause-writes : goal.returns-in-Evidence-clause-writes
+returns-in-Evidence-clause-writes c = writes_quiet c.args.self.now c.at_evidence.new.self (Place.Evidence c.in-Evidence.p) c.args.known.now c.args.answer c.in-Evidence.is refl c.at_evidence.ensures.tables

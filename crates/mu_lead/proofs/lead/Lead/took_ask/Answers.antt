@@ -2,6 +2,8 @@ use Rattle.std.proofs.Common.{refl}
 use Rattle.mu_model.specs.declared.event.Answer.{Answer}
 use Rattle.mu_lead.proofs.Asking.{begins_not}
 use Rattle.mu_lead.proofs.Tables.{tables_first, tables_kept}
+use Rattle.std.proofs.Common.{eq-eqb}
+use Rattle.std.proofs.lemmas.Bool.{ne_eqb}
 use Rattle.mu_lead.proofs.lead.Lead.took_ask.Goals as goal
 
 pub returns-then-p-eq0-clause-stands : goal.returns-then-p-eq0-clause-stands
@@ -31,3 +33,9 @@ returns-then-p-eq0-clause-listed c = λ values mine s is possible told. c.after_
 
 pub returns-else-p-eq0-clause-listed : goal.returns-else-p-eq0-clause-listed
 returns-else-p-eq0-clause-listed c = λ values mine s is possible told. c.after_ask-self-else-p-eq0.ensures.listed s.config.replicas.1
+
+pub returns-then-p-eq0-clause-writes : goal.returns-then-p-eq0-clause-writes
+returns-then-p-eq0-clause-writes c = λ values mine s is possible told. rw (eq-eqb c.args.p 0 c.if-p-eq0.true) refl
+
+pub returns-else-p-eq0-clause-writes : goal.returns-else-p-eq0-clause-writes
+returns-else-p-eq0-clause-writes c = λ values mine s is possible told. rw (ne_eqb c.args.p 0 c.if-p-eq0.false) refl

@@ -6,6 +6,7 @@ use Rattle.mu_lead.proofs.Keeping.{brought_read, fuo_event, leading_calm, leads_
 use Rattle.mu_lead.proofs.Bringing.{raised_before, raised_read}
 use Rattle.mu_lead.proofs.Copying.{fuo_read_now}
 use Rattle.mu_lead.proofs.Tables.{tables_kept}
+use Rattle.mu_lead.proofs.Writes.{fuo_tells}
 use Rattle.mu_lead.proofs.lead.Lead.took_fuo.Goals as goal
 
 pub returns-clause-stands : goal.returns-clause-stands
@@ -43,3 +44,12 @@ returns-clause-listed c = λ mine s is possible told.
     let l = c.args.self.now in
     let now = returns-clause-stands c mine s is possible told in
     c.after_fuo-self.ensures.listed (fuo_event l.id c.args.p c.args.u ∷ mine) (record { possible = possible; config = now.config; inside = now.inside; leading = now.leading; tables = now.tables }) told (rw is at s.at).region
+
+pub returns-clause-writes : goal.returns-clause-writes
+returns-clause-writes c = λ mine s is possible told.
+    let l = c.args.self.now in
+    let here = rw is at s.at in
+    let few = s.config.replicas.1 in
+    let region = here.region in
+    let low : c.args.p < 7 = omega (arith, region, few) in
+    fuo_tells l.config l.id c.args.p c.args.u mine (fuo_event l.id c.args.p c.args.u ∷ mine) l.up c.with_number-self.result l.reach c.with_fuo-self.result l.heads l.written.items (rw here.member refl) (c.with_number-self.ensures.is low) (c.with_fuo-self.ensures.is low s.tables.reaches)

@@ -13,6 +13,7 @@ use Rattle.mu_lead.proofs.Tables.{tables_kept}
 use Rattle.std.proofs.Common.{true}
 use Rattle.mu_lead.proofs.Looks.{head_event, head_now, level_head, marks_now, marks_head, roomy_marked, roomy_read, tables_head}
 use Rattle.std.specs.Prelude.{nat_lt}
+use Rattle.mu_lead.proofs.Writes.{head_read_now}
 use Rattle.mu_lead.proofs.lead.Lead.took_head.Goals as goal
 
 pub returns-then-leaves_room-clause-stands : goal.returns-then-leaves_room-clause-stands
@@ -143,3 +144,24 @@ returns-else-may_mark-clause-listed c = λ mine heeded s is possible told.
     let high = subst (λ values. c.leaves_room.result ≡ nat_lt (length values + c.reserve_of.result) (h + l.config.ring)) told (c.leaves_room.ensures short) ∙ ap (λ free. nat_lt (end_of l.config l.id mine + free) (h + l.config.ring)) c.reserve_of.ensures in
     let may : may_mark l.config l.id after q h ≡ c.may_mark.result = sym (c.may_mark.ensures.is short ∙ ap (λ t. not (q == l.id) && (t && nat_lt (length c.args.known.now + 0) (h + l.config.ring))) (heeded q region) ∙ ap (λ (values : List ℕ). not (q == l.id) && (is_failed l.id q mine && nat_lt (length values + 0) (h + l.config.ring))) told ∙ ap (λ n. not (q == l.id) && (is_failed l.id q mine && nat_lt n (h + l.config.ring))) (let plain : end_of l.config l.id mine + 0 ≡ end_of l.config l.id mine = omega arith in plain)) in
     rw (sym high ∙ c.if-leaves_room.false, may ∙ c.if-may_mark.false) (c.late_from-self.ensures.listed after (record { possible = possible; config = now.config; inside = now.inside; leading = now.leading; tables = now.tables }) told)
+
+pub returns-then-leaves_room-clause-writes : goal.returns-then-leaves_room-clause-writes
+returns-then-leaves_room-clause-writes c = λ mine s is possible told.
+    let l = c.args.self.now in
+    let few = s.config.replicas.1 in
+    let region = (rw is at s.at).region in
+    head_read_now l.config l.id c.args.q c.args.head mine (head_event l.id c.args.q c.args.head ∷ mine) l.up l.reach l.heads c.with_number-self.result l.written.items (c.with_number-self.ensures.is (omega (arith, region, few)))
+
+pub returns-then-may_mark-clause-writes : goal.returns-then-may_mark-clause-writes
+returns-then-may_mark-clause-writes c = λ mine s is possible told.
+    let l = c.args.self.now in
+    let few = s.config.replicas.1 in
+    let region = (rw is at s.at).region in
+    head_read_now l.config l.id c.args.q c.args.head mine (head_event l.id c.args.q c.args.head ∷ mine) l.up l.reach l.heads c.with_number-self.result l.written.items (c.with_number-self.ensures.is (omega (arith, region, few)))
+
+pub returns-else-may_mark-clause-writes : goal.returns-else-may_mark-clause-writes
+returns-else-may_mark-clause-writes c = λ mine s is possible told.
+    let l = c.args.self.now in
+    let few = s.config.replicas.1 in
+    let region = (rw is at s.at).region in
+    head_read_now l.config l.id c.args.q c.args.head mine (head_event l.id c.args.q c.args.head ∷ mine) l.up l.reach l.heads c.with_number-self.result l.written.items (c.with_number-self.ensures.is (omega (arith, region, few)))

@@ -10,6 +10,8 @@ use Rattle.mu_leading.proofs.Within.{known_few}
 use Rattle.mu_lead.proofs.Keeping.{brought_read, fuo_event, leading_calm, raised_now, reached_read, tables_reach, tables_up}
 use Rattle.mu_lead.proofs.Tables.{tables_kept}
 use Rattle.mu_lead.proofs.Lates.{late_left, late_read}
+use Rattle.mu_lead.proofs.Writes.{fuo_left, fuo_tells}
+use Rattle.std.proofs.lemmas.Bool.{le-leb, lt-leb}
 use Rattle.mu_lead.proofs.lead.Lead.took_late_fuo.Goals as goal
 
 pub returns-then-known-u-clause-stands : goal.returns-then-known-u-clause-stands
@@ -85,3 +87,24 @@ returns-else-known-u-clause-listed c = λ mine s is possible told.
     let high = c.if-known-u.false in
     let same = ap length told in
     rw (le-ltb (end_of l.config l.id (fuo_event l.id c.args.p c.args.u ∷ mine)) c.args.u (omega (arith, high, same))) refl
+
+pub returns-then-known-u-clause-writes : goal.returns-then-known-u-clause-writes
+returns-then-known-u-clause-writes c = λ mine s is possible told.
+    let l = c.args.self.now in
+    let late = (rw is at s.at).late in
+    let few = s.config.replicas.1 in
+    let region = late.region in
+    let more = c.if-known-u.true in
+    let long = ap length told in
+    fuo_left l.config l.id c.args.p c.args.u mine (fuo_event l.id c.args.p c.args.u ∷ mine) l.up l.reach c.with_fuo-self.result l.heads l.written.items (rw (late.stranger, lt-leb c.args.u (end_of l.config l.id mine) (omega (arith, more, long))) refl) (c.with_fuo-self.ensures.is (omega (arith, region, few)) s.tables.reaches)
+
+pub returns-else-known-u-clause-writes : goal.returns-else-known-u-clause-writes
+returns-else-known-u-clause-writes c = λ mine s is possible told.
+    let l = c.args.self.now in
+    let late = (rw is at s.at).late in
+    let few = s.config.replicas.1 in
+    let region = late.region in
+    let low : c.args.p < 7 = omega (arith, region, few) in
+    let less = c.if-known-u.false in
+    let long = ap length told in
+    fuo_tells l.config l.id c.args.p c.args.u mine (fuo_event l.id c.args.p c.args.u ∷ mine) l.up c.with_number-self.result l.reach c.with_fuo-self.result l.heads l.written.items (rw (late.stranger, le-leb c.args.u (end_of l.config l.id mine) (omega (arith, less, long))) refl) (c.with_number-self.ensures.is low) (c.with_fuo-self.ensures.is low s.tables.reaches)

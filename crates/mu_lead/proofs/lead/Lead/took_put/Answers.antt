@@ -23,6 +23,9 @@ use Rattle.mu_lead.proofs.Sights.{shows_kept}
 use Rattle.mu_lead.specs.Offering.{AtEnter, LooksShow}
 use Rattle.std.proofs.Common.{[], length-append, true, ◌++◌}
 use Rattle.mu_model.specs.Leaderships.{is_member}
+use Rattle.mu_lead.proofs.Writes.{put_alone, put_commits}
+use Rattle.mu_lead.specs.Journal.{set_where}
+use Rattle.mu_lead.proofs.Commits.{working_commits}
 use Rattle.mu_lead.proofs.lead.Lead.took_put.Goals as goal
 
 pub returns-in-Some-clause-stands : goal.returns-in-Some-clause-stands
@@ -168,3 +171,28 @@ returns-in-None-clause-listed c = λ mine s is possible told.
     let after = put_event l.id c.args.p (length c.args.known.now) l.number c.args.offer.value ∷ mine in
     ap Place.Raise (c.first_member.ensures.listed after few s.inside now.leading)
     ∙ found_place (λ k. is_member l.id k after) (c.args.p + 1) c.saturating_add.result l.config.replicas None (λ q. Place.Enter q c.args.offer) (Place.Raise (first_member l.config l.id after)) (omega (arith, more, region, few)) (c.in-None.ensures l.id after few now.leading)
+
+pub returns-in-Some-clause-writes : goal.returns-in-Some-clause-writes
+returns-in-Some-clause-writes c = λ mine s is possible told.
+    let l = c.args.self.now in
+    let i = length c.args.known.now in
+    let tells = returns-in-Some-clause-tells c mine s is possible told in
+    let grew : known l.config l.id (put_event l.id c.args.p i l.number c.args.offer.value ∷ mine) ≡ c.args.known.now = elim tells [ inl quiet ↦ quiet.1 | inr commits ↦ absurd (working_commits i c.args.offer commits.0) ] in
+    put_alone l.config l.id c.args.p i l.number c.args.offer.value mine (put_event l.id c.args.p i l.number c.args.offer.value ∷ mine) l.up l.reach l.heads l.written.items (ap length told) (ap length (grew ∙ told))
+
+pub returns-in-None-clause-writes : goal.returns-in-None-clause-writes
+returns-in-None-clause-writes c = λ mine s is possible told.
+    let l = c.args.self.now in
+    let i = length c.args.known.now in
+    let now = put_event l.id c.args.p i l.number c.args.offer.value ∷ mine in
+    let few_known = known_few l.config l.id mine s.config (parts_shorten_law l.config l.id mine (put_event l.id c.args.p i l.number c.args.offer.value) possible).before in
+    let leading = (returns-in-None-clause-stands c mine s is possible told).leading in
+    let tells = returns-in-None-clause-tells c mine s is possible told in
+    let short = c.end_of-position.ensures (subst (λ values. length values < 65536) (sym told) few_known) in
+    let grew : known l.config l.id now ≡ c.args.known.now ++ c.args.offer.value ∷ [] = elim tells [ inl quiet ↦ absurd (working_commits c.end_of-position.result c.args.offer (sym quiet.0 ∙ c.committed.ensures.is)) | inr commits ↦ commits.1 ] in
+    let long = ap length grew ∙ length-append c.args.known.now (c.args.offer.value ∷ []) in
+    let same = ap length told in
+    let from = c.from.ensures in
+    let len = c.end_of.ensures (subst (λ values. length values < 65536) (sym told) few_known) in
+    let u : c.from.result + 1 ≡ i + 1 = omega (arith, from, len) in
+    put_commits l.config l.id c.args.p i l.number c.args.offer.value mine now l.up c.brought_to-self.result l.reach l.heads l.written.items same (omega (arith, long, same)) (c.brought_to-self.ensures.is now s.tables.ups leading ∙ ap (λ x. set_where (λ q. is_member l.id q mine) x 0 l.up) u)

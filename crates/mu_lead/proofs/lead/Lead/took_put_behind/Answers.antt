@@ -12,6 +12,9 @@ use Rattle.mu_model.specs.Knowledge.{known}
 use Rattle.mu_lead.proofs.Keeping.{tables_up}
 use Rattle.mu_lead.proofs.Bringing.{behind_put, brought_put, config_small, put_event, put_known}
 use Rattle.mu_lead.proofs.Tables.{tables_kept}
+use Rattle.mu_lead.proofs.Writes.{entry_brought}
+use Rattle.std.specs.Prelude.{set}
+use Rattle.std.proofs.Common.{ap}
 use Rattle.mu_lead.proofs.lead.Lead.took_put_behind.Goals as goal
 
 pub returns-clause-stands : goal.returns-clause-stands
@@ -60,3 +63,20 @@ returns-clause-listed c = λ mine s is possible told.
     let u = get_or l.up c.args.p 0 in
     let v = get_or c.args.known.now u 0 in
     c.after_put_behind-self.ensures.listed (put_event l.id c.args.p u l.number v ∷ mine) (record { possible = possible; config = now.config; inside = now.inside; leading = now.leading; tables = now.tables }) (told ∙ sym (put_known l.config l.id c.args.p u l.number v mine near.lacks)) near.behind.region
+
+pub returns-clause-writes : goal.returns-clause-writes
+returns-clause-writes c = λ mine s is possible told.
+    let l = c.args.self.now in
+    let near = (rw is at s.at).near in
+    let few = s.config.replicas.1 in
+    let region = near.behind.region in
+    let lacks = near.lacks in
+    let p = c.args.p in
+    let u = get_or l.up p 0 in
+    let v = get_or c.args.known.now u 0 in
+    let most = known_within l.config l.id mine (parts_shorten_law l.config l.id mine (put_event l.id p u l.number v) possible).before in
+    let small = config_small l.config s.config in
+    let up_is = c.up_of.ensures s.tables.ups in
+    let more = c.saturating_add-next.ensures in
+    let next : c.saturating_add-next.result ≡ u + 1 = omega (arith, up_is, more, lacks, most, small) in
+    entry_brought l.config l.id p u l.number v mine (put_event l.id p u l.number v ∷ mine) l.up c.with_number-self.result l.reach l.heads l.written.items lacks (c.with_number-self.ensures.is (omega (arith, region, few)) ∙ ap (set l.up p) next)

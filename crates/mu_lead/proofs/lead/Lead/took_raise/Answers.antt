@@ -13,6 +13,7 @@ use Rattle.mu_lead.specs.Standing.{At}
 use Rattle.mu_lead.proofs.Keeping.{leading_calm, raise_event, raised_now, reached_raised, tables_reach}
 use Rattle.mu_lead.proofs.Tables.{tables_kept}
 use Rattle.mu_lead.proofs.Puts.{raised_all, raises_next}
+use Rattle.mu_lead.proofs.Writes.{fuo_raised}
 use Rattle.mu_lead.proofs.lead.Lead.took_raise.Goals as goal
 
 pub returns-in-Some-clause-stands : goal.returns-in-Some-clause-stands
@@ -93,3 +94,19 @@ returns-in-None-clause-listed c = λ mine s is possible told.
     let after = raise_event l.id c.args.p (length c.args.known.now) ∷ mine in
     c.late_from-self.ensures.listed after (record { possible = possible; config = now.config; inside = now.inside; leading = now.leading; tables = now.tables }) told
     ∙ found_place (λ k. is_member l.id k mine) (c.args.p + 1) c.saturating_add.result l.config.replicas None Place.Raise (late_from l.config l.id after l.heads 0) (omega (arith, more, region, few)) (c.in-None.ensures l.id mine few s.leading)
+
+pub returns-in-Some-clause-writes : goal.returns-in-Some-clause-writes
+returns-in-Some-clause-writes c = λ mine s is possible told.
+    let l = c.args.self.now in
+    let few = s.config.replicas.1 in
+    let region = (rw is at s.at).region in
+    let u = length c.args.known.now in
+    fuo_raised l.config l.id c.args.p u mine (raise_event l.id c.args.p u ∷ mine) l.up l.reach c.with_fuo-self.result l.heads l.written.items (c.with_fuo-self.ensures.is (omega (arith, region, few)) s.tables.reaches)
+
+pub returns-in-None-clause-writes : goal.returns-in-None-clause-writes
+returns-in-None-clause-writes c = λ mine s is possible told.
+    let l = c.args.self.now in
+    let few = s.config.replicas.1 in
+    let region = (rw is at s.at).region in
+    let u = length c.args.known.now in
+    fuo_raised l.config l.id c.args.p u mine (raise_event l.id c.args.p u ∷ mine) l.up l.reach c.with_fuo-self.result l.heads l.written.items (c.with_fuo-self.ensures.is (omega (arith, region, few)) s.tables.reaches)

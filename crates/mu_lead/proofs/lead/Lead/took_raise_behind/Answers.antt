@@ -10,6 +10,8 @@ use Rattle.mu_lead.proofs.Bringing.{all_done, done_behind, raised_behind}
 use Rattle.mu_lead.proofs.Tables.{tables_kept}
 use Rattle.std.proofs.Common.{sym}
 use Rattle.mu_lead.specs.Leading.{HaveFew}
+use Rattle.mu_lead.proofs.Writes.{fuo_raised}
+use Rattle.mu_lead.specs.Journal.{fuo_in}
 use Rattle.mu_lead.proofs.lead.Lead.took_raise_behind.Goals as goal
 
 pub returns-in-Joined-clause-stands : goal.returns-in-Joined-clause-stands
@@ -97,3 +99,21 @@ returns-in_default-clause-listed c = λ mine s is possible told.
     let after = raise_event l.id c.args.p (get_or l.up c.args.p 0) ∷ mine in
     let t : Tables = record { up = l.up; reach = c.with_fuo-self.result; heads = l.heads; written = l.written.items } in
     c.bring_up_from-self.ensures.listed after (record { possible = possible; config = now.config; inside = now.inside; leading = now.leading; tables = now.tables }) told ∙ ap (λ q. bring_up_from l.config l.id after t q c.args.then) (let next : c.saturating_add-in_default.result ≡ c.args.p + 1 = omega (arith, more, region, few) in next) ∙ other_region l.config l.id after t c.args.p c.args.then c.in_default.not-Joined
+
+pub returns-in-Joined-clause-writes : goal.returns-in-Joined-clause-writes
+returns-in-Joined-clause-writes c = λ mine s is possible told.
+    let l = c.args.self.now in
+    let few = s.config.replicas.1 in
+    let region = (rw is at s.at).behind.region in
+    let u = get_or l.up c.args.p 0 in
+    fuo_raised l.config l.id c.args.p u mine (raise_event l.id c.args.p u ∷ mine) l.up l.reach c.with_fuo-self.result l.heads l.written.items
+    (c.with_fuo-self.ensures.is (omega (arith, region, few)) s.tables.reaches ∙ ap (fuo_in l.reach c.args.p) (c.up_of.ensures s.tables.ups))
+
+pub returns-in_default-clause-writes : goal.returns-in_default-clause-writes
+returns-in_default-clause-writes c = λ mine s is possible told.
+    let l = c.args.self.now in
+    let few = s.config.replicas.1 in
+    let region = (rw is at s.at).behind.region in
+    let u = get_or l.up c.args.p 0 in
+    fuo_raised l.config l.id c.args.p u mine (raise_event l.id c.args.p u ∷ mine) l.up l.reach c.with_fuo-self.result l.heads l.written.items
+    (c.with_fuo-self.ensures.is (omega (arith, region, few)) s.tables.reaches ∙ ap (fuo_in l.reach c.args.p) (c.up_of.ensures s.tables.ups))

@@ -6,8 +6,9 @@ use Rattle.mu_lead.proofs.Offers.{row_event, tables_row, writing_row}
 use Rattle.mu_lead.proofs.Due.{default_is, last_there}
 use Rattle.mu_model.specs.Contents.{rest_of}
 use Rattle.mu_model.specs.Contents.{config_word}
-use Rattle.mu_lead.proofs.RoomsWriting.{one_word}
-use Rattle.std.proofs.Common.{◌-◌}
+use Rattle.mu_lead.proofs.Writes.{word_written}
+use Rattle.std.specs.Prelude.{set}
+use Rattle.std.proofs.Common.{ap}
 use Rattle.mu_lead.proofs.lead.Lead.took_write.Goals as goal
 
 pub returns-clause-stands : goal.returns-clause-stands
@@ -51,24 +52,20 @@ returns-clause-listed c = λ values mine s is possible told.
     let rows = s.config.few in
     c.write_from-self.ensures.listed (row_event l.id c.args.j (get_or l.written.items c.args.j 12) (config_word l.config c.args.j (get_or l.written.items c.args.j 12)) ∷ mine) (record { possible = possible; config = now.config; inside = now.inside; leading = now.leading; tables = now.tables }) (omega (arith, end, last_is, rows))
 
-pub returns-clause-words : goal.returns-clause-words
-returns-clause-words c = λ mine s is.
+pub returns-clause-writes : goal.returns-clause-writes
+returns-clause-writes c = λ values mine s is possible told.
     let l = c.args.self.now in
     let here = rw is at s.at in
     let j = c.args.j in
-    let last = c.args.last in
+    let k = get_or l.written.items j 12 in
+    let x = config_word l.config j k in
     let w = here.0.writing in
     let end = last_there l.config w.first (rest_of l.config w.first) s.config w.batch.row refl in
     let inside = here.0.inside in
     let last_is = w.last_row in
     let rows = s.tables.rows in
-    let there : j < length l.written.items = omega (arith, end, inside, last_is, rows) in
     let small = here.1 in
     let word = c.next_word.ensures in
     let more = c.saturating_add-count.ensures in
-    let count : c.saturating_add-count.result ≡ get_or l.written.items j 12 + 1 = omega (arith, word, more, small) in
-    let new = c.note_words.new.written.items in
-    let long = c.note_words.ensures.long in
-    let there_new : j < length new = omega (arith, there, long) in
-    one_word l.written.items new j (last + 1 - j) (omega (arith, inside)) small (sym (default_is new j there_new) ∙ c.note_words.ensures.here there ∙ count)
-    (λ i above below. (let inner : i < length l.written.items = omega (arith, above, below, inside, end, last_is, rows) in sym (default_is new i (omega (arith, inner, long))) ∙ c.note_words.ensures.others i (λ e. omega (arith, above, e)) ∙ default_is l.written.items i inner))
+    let count : c.saturating_add-count.result ≡ k + 1 = omega (arith, word, more, small) in
+    word_written l.config l.id j k x mine (row_event l.id j k x ∷ mine) l.up l.reach l.heads l.written.items c.note_words.new.written.items (c.note_words.ensures.is (omega (arith, end, inside, last_is, rows)) ∙ ap (set l.written.items j) count)

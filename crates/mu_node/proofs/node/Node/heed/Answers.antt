@@ -25,7 +25,7 @@ returns-clause-stands g c =
       cycle = held.cycle;
       made = held.made;
       leads = λ leads. held.leads (and_parts (leads_at node.lead.place) (not (nat_lt c.leader-leader.result node.lead.id)) (sym c.heed.ensures.rests ∙ leads)).0;
-      paces = paces_told node.follow.config node.id g.mine node.lead c.heed.new.self c.leader-leader.result named held.lead.id c.heed.ensures.told held.paces;
+      paces = paces_told node.follow.config node.id g.mine node.lead c.heed.new.self c.leader-leader.result held.beside.follow.inside named held.lead.id c.heed.ensures.told c.heed.ensures.going held.paces;
       led = held.led;
     }
 
@@ -78,4 +78,5 @@ returns-clause-told g c =
       going = c.heed.ensures.going ∙ ap (λ t. node.lead.under_way && not t) same;
       place = λ low. c.heed.ensures.place (same ∙ low);
       up = c.heed.ensures.up;
+      tables = c.heed.ensures.told.tables;
     }

@@ -28,15 +28,18 @@ returns-clause-stands c = record {
   made = tt;
   leads = λ leads. absurd (true≢false (sym leads ∙ c.in_ok-new.ensures.rests));
   paces = paces_first c.args.job.now.config c.args.id c.in_ok-new.field-0 c.in_ok-new.ensures.config c.in_ok-new.ensures.id (record {
-    counts = record {
-      rooms = c.in_ok-new.ensures.rooms;
-      evidence = c.in_ok-new.ensures.evidence;
-      raises = c.in_ok-new.ensures.raises;
-      confirms = c.in_ok-new.ensures.confirms;
-      joins = c.in_ok-new.ensures.joins;
+    paces = record {
+      counts = record {
+        rooms = c.in_ok-new.ensures.rooms;
+        evidence = c.in_ok-new.ensures.evidence;
+        raises = c.in_ok-new.ensures.raises;
+        confirms = c.in_ok-new.ensures.confirms;
+        joins = c.in_ok-new.ensures.joins;
+      };
+      causes = c.in_ok-new.ensures.causes;
+      elects = c.in_ok-new.ensures.elects;
     };
-    causes = c.in_ok-new.ensures.causes;
-    elects = c.in_ok-new.ensures.elects;
+    listed = c.in_ok-new.ensures.placed;
   });
   led = tt;
 }
