@@ -130,7 +130,7 @@ fn marks_from(
 ///
 /// # Errors
 ///
-/// Want of memory alone.
+/// Only for want of memory.
 pub fn picture_of(
     alloc: Global,
     config: &Config,
