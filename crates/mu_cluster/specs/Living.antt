@@ -1,6 +1,4 @@
--- left, leaves a majority, has all in time: no line of the script stops a replica; the script
--- leaves replica 0 and a majority; then every command is in the longest log, if the ring is large
--- and the budget enough.
+-- What a replay comes to if its budget is enough.
 use Rattle.std.specs.Prelude.{Bool, List, Some, [], false, not, true, ℕ, ◌<◌, ◌==◌, ◌||◌, ◌∷◌, ◌≡◌, ◌≤◌}
 use Rattle.std.specs.List.{slice_get}
 use Rattle.mu_alive.specs.Enough.{HasLargeRing, steps_enough}
@@ -47,8 +45,8 @@ HasAllWithFirst o =
     → HasLargeRing o.job.config → steps_enough o.job.config ≤ o.job.config.budget
     → HasAllCommands o
 
--- what holds of the replicas if their budgets are spent: if replica 0 isn't stopped, and if any
--- are; and which finish
+-- what holds of the replicas if their budgets are spent: if replica 0 isn't stopped, and if any are;
+-- and which finish
 pub record AppliesAllUnpaused (o : Outcome) : Type 0 where
   pub first : AppliesAllWithFirst o
   pub last : AppliesAllAfterStops o

@@ -4,7 +4,7 @@
 //! goes to standard output, as one document of SVG. Two words, `mu_draw FIRST LAST`, say which
 //! steps are drawn, by their indices from 0; without, all are.
 //!
-//! If there is no picture, one line says why, as `mu check` prints it: `refused line L cause C`,
+//! Where there is no picture, one line says why, as `mu check` prints it: `refused line L cause C`,
 //! `illegal I ..`, `read fault`, `no memory` or `too long`; or how the program is called.
 #![tactic(auto)]
 
@@ -22,7 +22,7 @@ use std::rt::Env;
 ///
 /// # Errors
 ///
-/// `InvalidData` if a word is no text, and another kind for want of memory.
+/// `InvalidData` where a word is no text, and another kind for want of memory.
 fn words_after_name<R: Env + AllocGlobal>(rt: &R) -> Result<Vec<String>, ErrorKind> {
     let args = env::args(rt).map_err(|error| error.kind())?;
     let mut words = Vec::new(rt.alloc());

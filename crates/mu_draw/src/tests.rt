@@ -1,5 +1,5 @@
-//! What the call answers if there is no picture, and at faults, over a source and a sink in memory.
-//! A whole picture is the program's own run: its wanted output is drawn by
+//! What the call answers where there is no picture, and at faults, over a source and a sink in
+//! memory. A whole picture is the program's own run: its wanted output is drawn by
 //! `tools/picture_cases.py`.
 use super::*;
 use mu_io::{MemSink, MemSource};
@@ -26,7 +26,7 @@ const ENDS: &str =
 const STOPS: &str = "mu 1\nreplicas 2\nring 8\nbudget 9\nscript\nstop 0 1\nend\n1 ask 0 = done\n\
     1 beat = done\n0 head 1 = 0\nend\n";
 
-/// The lane of replica 1, if it stands above the rows.
+/// The lane of replica 1, where it stands above the rows.
 const LANE: &str = "<text class='t' x='214' y='40'>replica 1</text>\n\
     <text class='t' x='284' y='40'>region 1</text>\n\
     <rect class='l' x='214' y='46' width='1' height='100%'/>\n";

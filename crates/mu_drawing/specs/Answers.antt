@@ -1,4 +1,4 @@
--- tells (of a drawing): when each answer on a picture of a trace comes, and what was written.
+-- What the call tells, and when each answer comes.
 use Rattle.std.specs.Prelude.{ℕ, ◌≡◌, ◌<◌, ◌≤◌, ◌==◌, ◌⊎◌, List, codes, length, take, None, Some, Err, Ok, IfSome, MatchBool}
 use Rattle.std.specs.declared.option.Option.{Option}
 use Rattle.std.specs.declared.result.Result.{Result}
@@ -35,8 +35,8 @@ pub record IsDrawingOf (job : Job) (events : List Event) (asked : Asked)
   pub drawn : drawing ≡ svg_of job picture
   pub document : IsDocument drawing
 
--- what is told of events: a picture if they are legal, and else the first that breaks the list;
--- want of memory can come at any events
+-- what there is to tell of events: a picture where they are legal, and else the first that breaks
+-- the list; want of memory can come at any events
 abbrev pub TellsOfEvents : Job → List Event → Asked → Told → Type 0
 TellsOfEvents job events asked (Told.Drawn sheet) = IsDrawingOf job events asked sheet
 TellsOfEvents job events asked (Told.Said (Said.Judged count (Verdict.Illegal index cause))) =
@@ -50,15 +50,15 @@ pub record TellsOfTrace (bytes : List ℕ) (asked : Asked) (told : Told) : Type 
   pub fits : trace bytes ≡ Fits spelled
   pub tells : TellsOfEvents spelled.job spelled.events asked told
 
--- what is told of bytes: the first line that leaves the grammar, or what is told of a trace; want
--- of memory can come at any bytes
+-- what there is to tell of bytes: the first line that leaves the grammar, or what is told of a
+-- trace; want of memory can come at any bytes
 abbrev pub Draws : List ℕ → Asked → Told → Type 0
 Draws bytes asked (Told.Said (Said.Refused line cause)) = trace bytes ≡ Leaves line cause
 Draws bytes asked (Told.Said Said.NoMemory) = Unit {0}
 Draws bytes asked told = TellsOfTrace bytes asked told
 
--- bytes within the limit were read, all that the source had left if it tells them, and this is told
--- of them
+-- bytes within the limit were read, all that the source had left where it tells them, and this is
+-- told of them
 pub record TellsOfInput (left : Option (List ℕ)) (asked : Asked) (told : Told) : Type 0 where
   pub bytes : List ℕ
   pub within : length bytes ≤ TRACE_LIMIT
@@ -75,7 +75,7 @@ TellsOfSource left now before after asked told =
     ⊎ (((told ≡ Told.Said Said.NoMemory) × (now ≡ left) × (after ≡ before))
     ⊎ ((after ≡ before) × TellsOfInput left asked told)))
 
--- the usage is told exactly if the words ask for nothing, and then nothing is read
+-- the usage is told exactly where the words ask for nothing, and then nothing is read
 abbrev pub Tells : Option Asked → Option (List ℕ) → Option (List ℕ) → ℕ → ℕ → Told → Type 0
 Tells None left now before after told = (told ≡ Told.Usage) × (now ≡ left) × (after ≡ before)
 Tells (Some asked) left now before after told = TellsOfSource left now before after asked told

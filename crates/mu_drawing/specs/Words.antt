@@ -1,4 +1,4 @@
--- asked (for a drawing): which steps of a trace the words of a command line ask to draw.
+-- What the words of the command line ask for.
 use Rattle.std.specs.Prelude.{ℕ, ◌&&◌, List, [], ◌∷◌, string_bytes, None, Some, if◌then◌else◌, nat_le}
 use Rattle.std.specs.declared.option.Option.{Option}
 use Rattle.std.specs.declared.string.String.{String}
@@ -7,12 +7,12 @@ use Rattle.mu_text.specs.Numbers.{number_of, within}
 use Rattle.mu_drawing.specs.declared.asking.Asked.{Asked}
 use Rattle.mu_drawing.specs.declared.asking.TheConstants.{LAST_STEP}
 
--- the steps from the first to the last, if there is a last
+-- the steps from the first to the last, where there is one
 abbrev pub asked_to : ℕ → Option ℕ → Option Asked
 asked_to first None = None
 asked_to first (Some last) = Some (record { first = first; last = last })
 
--- the steps from the first, if there is one, to the last; no step comes before the first one
+-- the steps from the first, where there is one, to the last, which is no step before it
 abbrev pub asked_from : Option ℕ → List ℕ → Option Asked
 asked_from None last = None
 asked_from (Some first) last = asked_to first (within first LAST_STEP (number_of last))
@@ -28,7 +28,7 @@ asked_of (first ∷ []) = None
 asked_of (first ∷ last ∷ []) = asked_of_two (string_bytes first) (string_bytes last)
 asked_of (first ∷ last ∷ more ∷ words) = None
 
--- the steps from one to another, if they are in order and the last is one that can be named
+-- the steps from one to another, where they are in order and the last is one that can be named
 abbrev pub asked_steps : ℕ → ℕ → Option Asked
 asked_steps first last =
     if nat_le first last && nat_le last LAST_STEP

@@ -22,14 +22,14 @@ pub struct Answered {
     /// The status that the program ends with: 0 drawn, 1 usage, 2 refused, 4 read fault, 5 write
     /// fault, 6 want of memory, 7 illegal, 8 too long.
     pub status: u8,
-    /// What was to be told.
+    /// What there was to tell.
     pub told: Told,
-    /// How many bytes of it were written if the status is 5.
+    /// How many bytes of it were written where the status is 5.
     pub taken: usize,
 }
 
 impl Answered {
-    /// The exit code of the program. What was to be told is dropped.
+    /// What the program ends with. What there was to tell is let go.
     pub fn into_exit_code(self) -> ExitCode
         ensures { exit_status result ≡ self.status }
     {
@@ -53,7 +53,7 @@ pub fn draw<S: Source, K: Sink>(
     answer(sink, told(alloc, asked_of(words), source))
 }
 
-/// What is told if this is asked of the source.
+/// What there is to tell where this is asked of the source.
 fn told<S: Source>(alloc: Global, asked: Option<Asked>, source: &mut S) -> Told
     ensures told { Tells asked (S.left source.old) (S.left source.new)
         (S.faults source.old) (S.faults source.new) result }
@@ -65,7 +65,7 @@ fn told<S: Source>(alloc: Global, asked: Option<Asked>, source: &mut S) -> Told
     }
 }
 
-/// What is told of all that the source has left.
+/// What there is to tell of all that the source has left.
 fn told_of_source<S: Source>(alloc: Global, asked: Asked, source: &mut S) -> Told
     ensures told { TellsOfSource (S.left source.old) (S.left source.new)
         (S.faults source.old) (S.faults source.new) asked result }
@@ -79,7 +79,7 @@ fn told_of_source<S: Source>(alloc: Global, asked: Asked, source: &mut S) -> Tol
     }
 }
 
-/// Writes what is told, and answers how that went.
+/// Writes what there is to tell, and answers how that went.
 pub fn answer<K: Sink>(sink: &mut K, told: Told) -> Answered
     requires { IsSayable told }
     ensures told { result.told ≡ told }
@@ -100,11 +100,11 @@ pub fn answer<K: Sink>(sink: &mut K, told: Told) -> Answered
     }
 }
 
-/// Writes what is told.
+/// Writes what there is to tell.
 ///
 /// # Errors
 ///
-/// `WriteFault` if the sink counted a fault, with the number of bytes that it had taken.
+/// `WriteFault` where the sink counted a fault, with the number of bytes that it had taken.
 fn tell<K: Sink>(sink: &mut K, told: &Told) -> Result<(), WriteFault>
     requires { IsSayable told.now }
     ensures whole { OnOk result

@@ -14,7 +14,7 @@ use std::io::ErrorKind;
 /// The greatest step that a word can name.
 pub const LAST_STEP: u32 = 9_999_999;
 
-/// The limit is the number that is stated here.
+/// The limit is this number.
 pub fn limits_are_stated()
     ensures { LAST_STEP ≡ 9999999 }
 {}
@@ -28,8 +28,8 @@ pub struct Asked {
     pub last: u32,
 }
 
-/// What the words ask for, if they ask for anything: all steps if there is no word, or those from
-/// one to another, each a number of at most 7 digits.
+/// What the words ask for, if they ask for anything: all steps where there is no word, or those
+/// from one to another, each a number of at most 7 digits.
 pub fn asked_of(words: &[String]) -> Option<Asked>
     ensures { result ≡ asked_of_words words.now }
 {
@@ -43,7 +43,7 @@ pub fn asked_of(words: &[String]) -> Option<Asked>
     }
 }
 
-/// The steps from one to another, if both words are numbers in order.
+/// The steps from one to another, where both words are numbers in order.
 fn asked_with(first: &[u8], last: &[u8]) -> Option<Asked>
     ensures { result ≡ asked_of_two first.now last.now }
 {
@@ -52,8 +52,8 @@ fn asked_with(first: &[u8], last: &[u8]) -> Option<Asked>
     Some(Asked { first, last })
 }
 
-/// What is told if the words couldn't be read: the usage if one of them is no text, since no call
-/// has such a word, else want of memory.
+/// What is told where the words couldn't be read: the usage where one of them is no text, since no
+/// call has such a word, else want of memory.
 pub fn unread(kind: ErrorKind) -> Told
     ensures no_text { kind ≡ InvalidData → result ≡ Usage }
     ensures no_memory { kind ≢ InvalidData → result ≡ SaidOf NoMemory }

@@ -57,10 +57,11 @@ impl From<NoMemory> for Undrawn {
     }
 }
 
-/// What is told of the bytes of a trace: `Refused` exactly if they leave the grammar, with the
-/// first line that leaves it and the cause; `Judged` exactly if its events aren't legal, with the
-/// first that breaks them and why; else its picture, of the steps that are asked for. `NoMemory`
-/// for want of memory.
+/// What there is to tell of the bytes of a trace: `Refused` exactly where they leave the grammar,
+/// with the first line that leaves it and the cause; `Judged` exactly where its events aren't
+/// legal, with the first that breaks them and why; else its picture, of the steps that are asked
+/// for.
+/// `NoMemory` for want of memory.
 pub fn told_of(alloc: Global, bytes: &[u8], asked: Asked) -> Told
     requires { length bytes.now ≤ TRACE_LIMIT }
     ensures { Draws bytes.now asked result }
@@ -68,7 +69,7 @@ pub fn told_of(alloc: Global, bytes: &[u8], asked: Asked) -> Told
     told_of_drawing(drawing(alloc, bytes, asked))
 }
 
-/// What is told of a picture, or of why there is none.
+/// What there is to tell of a picture, or of why there is none.
 fn told_of_drawing(drawing: Result<Sheet, Undrawn>) -> Told
     ensures { result ≡ told_with drawing }
 {
@@ -120,7 +121,7 @@ fn drawing_of_events(
 ///
 /// # Errors
 ///
-/// Only for want of memory.
+/// Want of memory alone.
 fn picture(alloc: Global, job: &Job, events: &[Event], asked: Asked) -> Result<Sheet, NoMemory>
     requires config { IsConfig job.now.config }
     requires legal { IsLegal job.now.config events.now }

@@ -1,7 +1,5 @@
--- drawing: the drawing of each mark, fold and lane, and so of a picture.
---
--- Lanes stand side by side, and time goes downwards. A step with a mark has a row; each other step
--- of a short stretch takes one unit, and a long stretch is folded and told.
+-- How a picture is drawn: lanes side by side, time downwards. A step with a mark has a row; each
+-- other step of a short stretch takes one unit, and a long stretch is folded and told.
 use Rattle.std.specs.Prelude.{ℕ, ◌+◌, ◌-◌, ◌*◌, ◌==◌, Bool, true, false, if◌then◌else◌, nat_lt, None, Some, List, [], ◌∷◌, ◌++◌, codes, length}
 use Rattle.std.specs.Fmt.{decimal}
 use Rattle.std.specs.declared.option.Option.{Option}
@@ -14,7 +12,7 @@ use Rattle.mu_picture.specs.declared.marks.Mark.{Mark}
 use Rattle.mu_picture.specs.declared.marks.Picture.{Picture}
 use Rattle.mu_picture.specs.declared.openings.Opening.{Opening}
 
--- the x coordinate of the lane of a replica
+-- where the lane of a replica stands
 abbrev pub lane_of : ℕ → ℕ
 lane_of r = 64 + 150 * r
 
@@ -51,7 +49,7 @@ ended_piece r y = bar_piece (codes "w") (lane_of r - 2) (y + 6) 18
 abbrev pub across_piece : List ℕ → ℕ → ℕ → ℕ → List ℕ
 across_piece class r y p = line_piece class (lane_of r + 8) y (lane_of p + 88)
 
--- the end of a leadership by a put that missed
+-- the end of a leadership where a put missed
 abbrev pub missed_piece : Bool → ℕ → ℕ → List ℕ
 missed_piece true r y = []
 missed_piece false r y = resting_piece r y
@@ -96,7 +94,7 @@ halt_pieces r y (Some Halt.Spent) = ended_piece r y
 halt_pieces r y (Some Halt.Finish) = ended_piece r y
 halt_pieces r y (Some (Halt.Pause rounds)) = []
 
--- the note of a step, if there is something to say
+-- the note of a step, where there is something to say
 abbrev pub said_piece : ℕ → ℕ → ℕ → ℕ → List ℕ → List ℕ
 said_piece n step r y [] = []
 said_piece n step r y (byte ∷ bytes) =
@@ -110,7 +108,7 @@ mark_pieces job n y mark =
     ++ (deed_pieces mark.replica y mark.deed
     ++ said_piece n mark.step mark.replica y (deed_words job mark.deed ++ halt_words mark.halt))
 
--- the height of a stretch of this many steps without a mark: long ones are folded
+-- the height of a stretch of so many steps without a mark: long ones are folded
 abbrev pub stretch_of : ℕ → ℕ
 stretch_of steps = if nat_lt 31 steps then 16 else steps
 
@@ -132,7 +130,7 @@ rows_from job n end at y (mark ∷ marks) =
     row_pieces job n at y mark
     ++ rows_from job n end (mark.step + 1) (y + stretch_of (mark.step - at) + 12) marks
 
--- the y coordinate at which these rows end
+-- where these rows end
 abbrev pub bottom_from : ℕ → ℕ → ℕ → List Mark → ℕ
 bottom_from end at y [] = y + stretch_of (end - at)
 bottom_from end at y (mark ∷ marks) =

@@ -1,4 +1,4 @@
--- shows: the mark tells the end of a journal.
+-- That the ends of journals are drawn.
 use Rattle.std.specs.Prelude.{◌≡◌, None, Some, List, ◌∷◌}
 use Rattle.std.specs.declared.option.Option.{Option}
 use Rattle.mu_model.specs.declared.config.Config.{Config}
@@ -12,7 +12,7 @@ use Rattle.mu_picture.specs.declared.deeds.Deed.{Deed}
 use Rattle.mu_course.specs.declared.halts.Halt.{Halt}
 use Rattle.mu_picture.specs.declared.marks.Mark.{Mark}
 
--- what the replica does by a mark, if there is one
+-- what the replica does by a mark, where there is one
 abbrev pub deed_in : Option Mark → Option Deed
 deed_in None = None
 deed_in (Some mark) = mark.deed

@@ -1,6 +1,4 @@
--- mark, marks of a history, picture: a deed with the end or pause that follows it, in the row of
--- the step's index and the lane of its replica; one mark for each drawn event from a step on, in
--- order; and what was drawn of a run.
+-- Which marks a picture has.
 use Rattle.std.specs.Prelude.{ℕ, ◌≡◌, ◌+◌, ◌-◌, if◌then◌else◌, nat_le, min, None, Some, List, [], ◌∷◌, ◌++◌, length, take}
 use Rattle.std.specs.declared.option.Option.{Option}
 use Rattle.mu_model.specs.declared.config.Config.{Config}
@@ -17,7 +15,7 @@ use Rattle.mu_course.specs.declared.halts.Halt.{Halt}
 use Rattle.mu_picture.specs.declared.marks.Mark.{Mark}
 use Rattle.mu_picture.specs.declared.marks.Picture.{Picture}
 
--- the mark of these parts; if neither is there, there is no mark
+-- the mark of these parts; where neither is there, there is no mark
 abbrev pub made_of : ℕ → ℕ → Option Deed → Option Halt → Option Mark
 made_of step r None None = None
 made_of step r None (Some halt) =
@@ -31,7 +29,7 @@ mark_of c script past e =
     made_of (length past) e.by (deed_of c (part e.by past) (fence_grant e.by past) e)
     (halt_after c script e.by (length (part e.by past) + 1) (finishes c e.by (part e.by past) e))
 
--- the marks, and one more if there is one
+-- the marks, and one more where there is one
 abbrev pub with_mark : List Mark → Option Mark → List Mark
 with_mark marks None = marks
 with_mark marks (Some mark) = marks ++ mark ∷ []
@@ -53,7 +51,7 @@ hidden_from end at (mark ∷ marks) = (mark.step - at) + hidden_from end (mark.s
 abbrev pub end_of : List Event → ℕ → ℕ
 end_of events last = min (last + 1) (length events)
 
--- the picture of the steps `from` one to the `last` of a run, if they are there
+-- the picture of the steps `from` one to the `last` of a run, where they are there
 pub record IsPictureOf (c : Config) (script : Script) (events : List Event) (from last : ℕ)
     (picture : Picture) : Type 0 where
   pub end : picture.end ≡ end_of events last

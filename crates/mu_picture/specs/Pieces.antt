@@ -1,9 +1,9 @@
--- pieces: the elements of a drawing, as bytes.
+-- The elements that a drawing is made of, as bytes.
 use Rattle.std.specs.Prelude.{ℕ, ◌==◌, ◌&&◌, if◌then◌else◌, nat_le, List, [], ◌∷◌, ◌++◌, codes}
 use Rattle.std.specs.Fmt.{decimal}
 
--- what a byte of a text is written as: an entity if it has a meaning in XML, and a question mark if
--- it isn't visible
+-- what a byte of a text is written as: an entity where it has a meaning in XML, and a question mark
+-- where it isn't visible
 abbrev pub escape : ℕ → List ℕ
 escape byte =
     if byte == 60 then codes "&lt;"
@@ -45,7 +45,7 @@ label_piece x y words =
     ++ (decimal x ++ (codes "' y='"
     ++ (decimal y ++ (codes "'>" ++ (escaped words ++ codes "</text>\n")))))
 
--- words next to the lanes and above them
+-- words beside the lanes and above them
 abbrev pub note_piece : ℕ → ℕ → List ℕ → List ℕ
 note_piece x y words =
     codes "<text class='t' x='"

@@ -1,4 +1,4 @@
--- words (of a mark): what is said next to the lanes of a mark.
+-- What is said beside the lanes of a mark.
 use Rattle.std.specs.Prelude.{ℕ, ◌-◌, ◌%◌, Bool, true, false, if◌then◌else◌, None, Some, List, [], ◌∷◌, ◌++◌, codes}
 use Rattle.std.specs.Fmt.{decimal}
 use Rattle.std.specs.declared.option.Option.{Option}

@@ -16,7 +16,7 @@ use mu_model::NoMemory;
 use mu_text::Line;
 use std::alloc::Global;
 
-/// The y coordinate of the first step.
+/// Where the first step stands.
 const TOP: u64 = 56;
 
 /// The most steps of a stretch that isn't folded.
@@ -28,7 +28,7 @@ const FOLD: u64 = 16;
 /// The height of a row.
 const ROW: u64 = 12;
 
-/// The height of a stretch of this many steps without a mark.
+/// The height of a stretch of so many steps without a mark.
 fn stretch(steps: u64) -> u64
     ensures is { result ≡ stretch_of steps }
     ensures low { result ≤ 31 }
@@ -43,7 +43,7 @@ fn hidden_before(step: u32, at: u64) -> u64
     u64::from(step).saturating_sub(at)
 }
 
-/// Adds how many steps a folded stretch hides, if it is folded.
+/// Adds how many steps a folded stretch hides, where it is folded.
 fn push_fold(sheet: &mut Sheet, y: u64, steps: u64) -> Result<(), NoMemory>
     requires { y < 2 ^ 60 }
     ensures { OnOk result (sheet.new ≡ sheet.old ++ fold_piece y steps) }
@@ -57,7 +57,7 @@ fn push_fold(sheet: &mut Sheet, y: u64, steps: u64) -> Result<(), NoMemory>
     push_note(sheet, 4, y + 11, line.as_slice())
 }
 
-/// Adds the note of a step, if there is something to say.
+/// Adds the note of a step, where there is something to say.
 fn push_said(
     sheet: &mut Sheet,
     alloc: Global,
@@ -148,7 +148,7 @@ fn push_rows(
     push_fold(sheet, y, u64::from(picture.end).saturating_sub(at))
 }
 
-/// The y coordinate at which the rows end.
+/// Where the rows end.
 fn bottom(picture: &Picture) -> u64
     requires { length picture.now.marks.items < 2 ^ 32 }
     ensures is { result ≡ bottom_from picture.now.end picture.now.first 56 picture.now.marks.items }
@@ -345,7 +345,7 @@ fn push_document(
 ///
 /// # Errors
 ///
-/// Only for want of memory.
+/// Want of memory alone.
 pub fn drawn(alloc: Global, job: &Job, picture: &Picture) -> Result<Sheet, NoMemory>
     requires lanes { length picture.now.openings.items < 256 }
     requires marks { length picture.now.marks.items < 2 ^ 32 }

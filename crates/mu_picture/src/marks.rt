@@ -130,7 +130,7 @@ fn marks_from(
 ///
 /// # Errors
 ///
-/// Only for want of memory.
+/// Want of memory alone.
 pub fn picture_of(
     alloc: Global,
     config: &Config,

@@ -23,7 +23,7 @@ pub struct Opening {
     pub leads: bool,
 }
 
-/// What holds in the lane of `r` at the walk's step.
+/// What holds in the lane of `r` where the walk is.
 fn opening_at(walk: &Walk, r: u8) -> Opening
     ensures { (past : List Made) → (c : Settings) → r < c.replicas → StandsForWalk c past walk.now
         → result ≡ opening_after c r past }
@@ -72,7 +72,7 @@ pub fn openings_after(
     openings_at(alloc, &walk, config.replicas)
 }
 
-/// What holds in each of the first `n` lanes at the walk's step.
+/// What holds in each of the first `n` lanes where the walk is.
 fn openings_at(alloc: Global, walk: &Walk, n: u8) -> Result<Vec<Opening>, NoMemory>
     ensures { (past : List Made) → (c : Settings) → n ≡ c.replicas → StandsForWalk c past walk.now
         → IfOk result (λ openings. openings.items ≡ openings_of c n past) }

@@ -57,7 +57,7 @@ pub fn push_label(sheet: &mut Sheet, x: u64, y: u64, words: &[u8]) -> Result<(),
     sheet.push(b"</text>\n")
 }
 
-/// Adds words next to the lanes or above them.
+/// Adds words beside the lanes or above them.
 pub fn push_note(sheet: &mut Sheet, x: u64, y: u64, words: &[u8]) -> Result<(), NoMemory>
     ensures { OnOk result (sheet.new ≡ sheet.old ++ note_piece x y words.now) }
 {

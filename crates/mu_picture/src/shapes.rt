@@ -12,13 +12,13 @@ use mu_course::Halt;
 use mu_model::NoMemory;
 use mu_text::Line;
 
-/// The x coordinate of the lane of replica 0.
+/// Where the lane of replica 0 stands.
 const LEFT: u64 = 64;
 
 /// From one lane to the next.
 const LANE: u64 = 150;
 
-/// The x coordinate of the lane of a replica.
+/// Where the lane of a replica stands.
 pub fn lane(r: u64) -> u64
     requires { r < 2 ^ 16 }
     ensures is { result ≡ lane_of r }
@@ -89,7 +89,7 @@ fn push_across(sheet: &mut Sheet, class: &[u8], r: u8, y: u64, p: u8) -> Result<
     )
 }
 
-/// Adds the line of a put, and ends the band if it missed.
+/// Adds the line of a put, and ends the band where it missed.
 fn push_put(sheet: &mut Sheet, landed: bool, r: u8, y: u64, p: u8) -> Result<(), NoMemory>
     ensures { OnOk result (sheet.new
         ≡ sheet.old ++ (missed_piece landed r y ++ across_piece (put_class landed) r y p)) }
@@ -113,7 +113,7 @@ fn push_ask(sheet: &mut Sheet, r: u8, y: u64, p: u8) -> Result<(), NoMemory>
     push_across(sheet, b"a", r, y, p)
 }
 
-/// Adds words and a number in the lane of `r`, next to its band.
+/// Adds words and a number in the lane of `r`, beside its band.
 fn push_numbered(
     sheet: &mut Sheet,
     words: &[u8],
@@ -131,7 +131,7 @@ fn push_numbered(
     push_label(sheet, lane(u64::from(r)) + 18, y, line.as_slice())
 }
 
-/// Adds words next to the region of `r`.
+/// Adds words beside the region of `r`.
 fn push_hosted(sheet: &mut Sheet, words: &[u8], r: u8, y: u64) -> Result<(), NoMemory>
     requires { y < 2 ^ 60 }
     ensures { OnOk result (sheet.new

@@ -1,4 +1,4 @@
-//! What is said next to the lanes of a mark.
+//! What is said beside the lanes of a mark.
 ghost use Rattle.std.specs.Prelude.{◌≡◌, ◌++◌, codes, OnOk};
 ghost use Rattle.std.specs.Fmt.{decimal};
 ghost use Rattle.mu_input.specs.JobLines.{op_words};

@@ -60,8 +60,8 @@ pub(crate) fn told<R: Threads + Wait + Sync>(
     told_with_faults(rt, alloc, word, input, 0, 0)
 }
 
-/// Calls the top call with one word over these bytes in pieces of 16; one read and one write fail
-/// (0 for none).
+/// Calls the top call with one word over these bytes in pieces of 16, where one read and one write
+/// fail (0 for none).
 pub(crate) fn told_with_faults<R: Threads + Wait + Sync>(
     rt: &R,
     alloc: Global,

@@ -55,7 +55,7 @@ const PUT_TOLD: &str =
 /// What those before the put come to.
 const NOTHING_TOLD: &str = "report 1\nlog 0 entries 0 commits 0 running\nreplies 0\nstatus 3\n";
 
-/// The trace of the first `events` events: the job, and a line for each of them.
+/// The trace of the first so many events: the job, and a line for each of them.
 fn trace(alloc: Global, events: usize) -> Result<String, AllocError> {
     let mut text = String::from_str(alloc, ONE_PUT)?;
     for index in 0..events {

@@ -53,7 +53,7 @@ const WORKED: [Case; 5] = [
     (&[], "trades 0\nresting 0\n"),
 ];
 
-/// The book after these commands, if each line spells one.
+/// The book after these commands, where each line spells one.
 fn book_after(alloc: Global, lines: &[(u8, u16, &str)]) -> Result<Book, Fail> {
     let count = lines.len();
     if count > 65_535 {

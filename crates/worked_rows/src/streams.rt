@@ -12,7 +12,7 @@ use std::test::Fail;
 const TEXT: &[u8; 10] = b"replicated";
 
 /// How the reading of the text ends through a source that gives at most `piece` bytes at each read
-/// and fails at the read of this number: none if all is read.
+/// and fails at the read of this number: none where all is read.
 fn end_of(alloc: Global, piece: usize, fails: u32, limit: usize) -> Result<Option<ReadEnd>, Fail>
     requires { 0 < piece }
 {
@@ -69,7 +69,7 @@ fn ends_have_texts(rt: HostRuntime) -> Result<(), Fail> {
     Ok(())
 }
 
-/// What the writing of the text answers through a sink with this much room, which takes at most
+/// What the writing of the text answers through a sink with so much room, which takes at most
 /// `piece` bytes at each write and fails at the write of this number; and what was written.
 fn written_by(
     alloc: Global,
@@ -85,8 +85,8 @@ fn written_by(
     Ok((told, sink.written().to_vec(alloc)?))
 }
 
-/// The size of a piece, the room, and how many bytes are taken if no write fails, or if write 1, 2
-/// or 3 does.
+/// The size of a piece, the room, and how many bytes are taken where no write fails, or the write
+/// of the number 1, 2 or 3.
 const WRITES: [(usize, usize, [usize; 4]); 5] = [
     (1, 10, [10, 0, 1, 2]),
     (2, 12, [10, 0, 2, 4]),
@@ -95,7 +95,7 @@ const WRITES: [(usize, usize, [usize; 4]); 5] = [
     (4, 0, [0, 0, 0, 0]),
 ];
 
-/// What the writing answers if this many bytes of the text are taken.
+/// What the writing answers where so many bytes of the text are taken.
 fn told_of(count: usize) -> Result<(), WriteFault> {
     if count == TEXT.len() {
         Ok(())

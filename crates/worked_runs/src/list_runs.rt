@@ -10,7 +10,7 @@ use mu_report::Said;
 use std::alloc::Global;
 use std::test::Fail;
 
-/// What is said of a job over plain lists.
+/// What there is to say of a job over plain lists.
 fn said_over_lists(alloc: Global, text: &str) -> Said
     ensures { IsShort result }
 {

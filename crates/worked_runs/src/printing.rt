@@ -7,7 +7,7 @@ use mu_report::{Said, print};
 use std::alloc::Global;
 use std::test::Fail;
 
-/// What is printed if no write fails.
+/// What is printed where no write fails.
 pub(crate) fn text_of(alloc: Global, said: &Said) -> Result<Vec<u8>, Fail>
     requires { IsShort said.now }
 {
@@ -16,8 +16,8 @@ pub(crate) fn text_of(alloc: Global, said: &Said) -> Result<Vec<u8>, Fail>
     Ok(written)
 }
 
-/// How printing ends if writes take at most `piece` bytes and one of them fails (0 for none); and
-/// what was written by then.
+/// How printing ends whose writes take at most `piece` bytes and of which one fails (0 for none),
+/// and what was written by then.
 pub(crate) fn printed(
     alloc: Global,
     said: &Said,

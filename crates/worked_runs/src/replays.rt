@@ -76,7 +76,7 @@ pub(crate) fn read_job(alloc: Global, text: &str) -> Result<Job, InputEnd>
     Ok(job)
 }
 
-/// What is said of a replay of the job of these bytes.
+/// What there is to say of a replay of the job of these bytes.
 pub(crate) fn said_of(alloc: Global, text: &str) -> Said
     ensures { IsShort result }
 {
@@ -98,7 +98,7 @@ fn printed(alloc: Global, text: &str) -> Result<Vec<u8>, Fail> {
     text_of(alloc, &said)
 }
 
-/// The same, if the text spells one.
+/// The same, where the text spells one.
 pub(crate) fn job_of(alloc: Global, text: &str) -> Result<Job, Fail>
     ensures { IfOk result (λ job. IsConfig job.config
         × HaveHeads job.config.width job.commands job.config.rows
@@ -154,7 +154,7 @@ fn own_replies(outcome: &Outcome, replica: u8) -> &[Reply] {
         .map_or(&[], |replies| replies.as_slice())
 }
 
-/// The replies to the six commands of two clients, if nobody stops.
+/// The replies to the six commands of two clients, where nobody stops.
 fn six_replies() -> Result<[Reply; 6], Fail> {
     let five = Text::new(b"5").ok_or("no text")?;
     let nine = Text::new(b"9").ok_or("no text")?;
@@ -194,7 +194,7 @@ fn says_what_is_left(rt: HostRuntime) -> Result<(), Fail> {
     Ok(())
 }
 
-/// Whether these are 93 events, the 49th of which writes an entry and the last the head.
+/// Whether these are 93 events, of which the 49th writes an entry and the last the head.
 fn are_of_one_put(outcome: &Outcome) -> bool {
     let Some(journal) = outcome.journals.as_slice().first() else {
         return false;
@@ -279,8 +279,8 @@ fn leader_stops_anywhere(rt: HostRuntime) -> Result<(), Fail> {
     Ok(())
 }
 
-/// Jobs of three replicas, and how many commands each replica applied: all if each finished, and
-/// none if it was stopped at once or outrun at position 1. One job has batches, and in one a mark
+/// Jobs of three replicas, and how many commands each replica applied: all where each finished, and
+/// none where it was stopped at once or outrun at position 1. One job has batches, and in one a mark
 /// stands between the commands.
 const APPLIED: [(&str, [usize; 3]); 4] = [
     ("two_clients", [6, 6, 6]),
@@ -296,7 +296,7 @@ fn named(name: &str) -> &'static str {
         .map_or("", |row| row.1)
 }
 
-/// Whether each replica replied to this many commands, with the replies that are printed.
+/// Whether each replica replied to so many commands, with the replies that are printed.
 fn replied_to(outcome: &Outcome, counts: [usize; 3]) -> bool {
     let lists = [0, 1, 2].map(|replica| own_replies(outcome, replica));
     lists.map(|replies| replies.len()) == counts

@@ -49,8 +49,8 @@ fn says_short_answers(rt: HostRuntime) -> Result<(), Fail> {
     Ok(())
 }
 
-/// How printing ends if its third write fails and a write takes at most `piece` bytes; and what was
-/// written by then.
+/// How printing ends whose third write fails, where a write takes at most so many bytes; and what
+/// was written by then.
 fn cut(alloc: Global, piece: usize) -> Result<(Result<(), WriteFault>, Vec<u8>), Fail>
     requires { 0 < piece }
 {
