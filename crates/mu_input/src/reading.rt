@@ -55,6 +55,7 @@ pub fn read_trace(alloc: Global, bytes: &[u8]) -> Result<(Job, Journal), InputEn
     ensures reading { ReadsTrace result (trace bytes.now) }
     ensures config { IfOk result (λ r. IsConfig r.0.config) }
     ensures session { IfOk result (λ r. IsInSession r.0.commands) }
+    ensures heads { IfOk result (λ r. HaveHeads r.0.config.width r.0.commands r.0.config.rows) }
     ensures few { IfOk result (λ r. length r.1.events < 2 ^ 32) }
 {
     let mut lines = LineReader::new(bytes);
