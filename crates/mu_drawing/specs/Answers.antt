@@ -72,8 +72,8 @@ pub record IsBroken (job : Job) (line : ℕ) (events : List Event) (asked : Exte
   pub cause : Wrong
   pub draws : IsBrokenDrawingOf job line events index cause asked drawing
 
--- what there is to tell of events: a picture where they are legal, and else one up to the first that
--- breaks the list; want of memory can come at any events
+-- what there is to tell of events: a picture where they are legal, and else one up to the first
+-- that breaks the list; want of memory can come at any events
 abbrev pub TellsOfEvents : Job → ℕ → List Event → Extent → Told → Type 0
 TellsOfEvents job line events asked (Told.Drawn sheet) = IsDrawingOf job line events asked sheet
 TellsOfEvents job line events asked (Told.Broken sheet) = IsBroken job line events asked sheet

@@ -85,8 +85,8 @@ end_of events last = min (last + 1) (length events)
 abbrev pub lowest : Picture → ℕ
 lowest picture = (after_marks (top picture.first) picture.marks.items).y
 
--- the picture of the steps `from` one to the `last` of a run, in brief or not, where they are there:
--- of all of them, or if they have too many rows of the first ones
+-- the picture of the steps `from` one to the `last` of a run, in brief or not, where they are
+-- there: of all of them, or if they have too many rows of the first ones
 pub record IsPictureOf (c : Config) (script : Script) (events : List Event) (short : Bool)
     (from last : ℕ) (picture : Picture) : Type 0 where
   pub brief : picture.brief ≡ short

@@ -70,7 +70,8 @@ impl Rows {
     /// any more.
     fn push(&mut self, index: u32, mark: Option<Mark>) -> Result<bool, NoMemory>
         requires { self.old.cursor.rows < 2 ^ 40 }
-        ensures rows { (n : ℕ) → HoldsRows n self.old → IfOk result (λ full. HoldsRows (n + 1) self.new) }
+        ensures rows { (n : ℕ) → HoldsRows n self.old
+            → IfOk result (λ full. HoldsRows (n + 1) self.new) }
         ensures first { self.new.first ≡ self.old.first }
         ensures full { IfOk result (λ full. full ≡ true → (self.new ≡ self.old)
             × (32500 < self.old.cursor.y) × (self.old.first ≤ index)) }

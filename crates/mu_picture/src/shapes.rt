@@ -131,7 +131,7 @@ pub enum Part<'a> {
     Number(u64),
     /// The class of a look.
     Class(Look),
-    /// The far end of a line: a cross where it missed, else an arrow head to the left or to the right.
+    /// The far end of a line: a cross if it missed, else an arrow head to the left or the right.
     Head(bool, bool),
     /// The square at its near end, on the way to the left or to the right.
     Square(bool),
