@@ -39,7 +39,10 @@ fn stopped_replica_is_marked(rt: HostRuntime) -> Result<(), Fail> {
     assert!(rt; is_legal(alloc, &config, events)?);
     assert_eq!(rt; marked(alloc, &config, events, 2)?, Some(5));
     assert_eq!(rt; marked(alloc, &config, events, 1)?, None);
-    assert_eq!(rt; both_know(alloc, &config, events, 0, 1, 5)?, Some((MARK_OF_2, MARK_OF_2)));
+    assert_eq!(rt;
+        both_know(alloc, &config, events, 0, 1, 5)?,
+        Some((MARK_OF_2, MARK_OF_2))
+    );
     assert_eq!(rt; both_know(alloc, &config, events, 0, 2, 5)?, None);
     assert!(rt; !kept(alloc, &config, events, 1, 0)?);
     assert!(rt; kept(alloc, &config, events, 1, 12)?);
