@@ -21,6 +21,7 @@ use Rattle.mu_model.specs.Legal.{IsLegalHistory}
 use Rattle.mu_model.specs.Parts.{IsPossible}
 use Rattle.mu_model.specs.Placing.{fuo_read_or_raised, reaches_head}
 use Rattle.mu_model.specs.Regions.{fence, fence_owner, head_raised, region_fuo, region_head, region_log}
+use Rattle.mu_model.specs.Stretches.{IsStretch}
 use Rattle.mu_model.specs.Steps.{has_min, is_asking, is_fencing, is_fencing_verb, is_min, is_named, knows_all}
 use Rattle.mu_model.proofs.Basics.{same_some}
 use Rattle.mu_model.proofs.Lists.{get_front}
@@ -34,7 +35,7 @@ use Rattle.mu_agree.proofs.Legal.{event_after, legal_older}
 use Rattle.mu_agree.proofs.Prefixes.{known_agree}
 use Rattle.mu_agree.proofs.Room.{covers_below}
 use Rattle.mu_pace.specs.Counters.{AtEachMoment, AtEachStep}
-use Rattle.mu_pace.proofs.Counting.{last_moment, moments_before}
+use Rattle.mu_pace.proofs.Counting.{last_moment, moments_before, steps_before}
 use Rattle.mu_pace.proofs.Growing.{known_grows, stays_less}
 use Rattle.mu_alive.specs.Alone.{AsksAlone, WritesAlone}
 use Rattle.mu_alive.specs.Bringing.{LeadsOn, joining_steps}
@@ -208,11 +209,11 @@ puts_min c a by (Verb.PutMin q b) past some legal may = put_reads c by q b past 
 puts_min c a by verb past some legal may = absurd (true≢false (sym some))
 
 -- who knows something has started
-started : (c : Config) (live : ℕ → Bool) (a : ℕ) (past : List Event) → LeadsAlone c live a past → AsksAllFirst c a (part a past) → holds_all c [] ≡ false → knows_all c a (part a past) ≡ true → Started c a past
+pub started : (c : Config) (live : ℕ → Bool) (a : ℕ) (past : List Event) → LeadsAlone c live a past → AsksAllFirst c a (part a past) → holds_all c [] ≡ false → known c a (part a past) ≢ [] → Started c a past
 started c live a past lone asks_first lacks knows = go (has (is_number_of a) (part a past)) refl
   where
     go : (t : Bool) → has (is_number_of a) (part a past) ≡ t → Started c a past
-    go false none = absurd (true≢false (sym knows ∙ (ap (holds_all c) (blank c a past lone.legal lone.alone (not_there (has (is_number_of a) past) refl)).1 ∙ lacks)))
+    go false none = absurd (knows (blank c a past lone.legal lone.alone (not_there (has (is_number_of a) past) refl)).1)
       where
         own : IsOwnTest a (is_number_of a)
         own = record { own = λ e other. here e.by e.verb other }
@@ -320,6 +321,37 @@ fence_notes c a p e past legal alone own fences owns = go e.by e.verb e.answer o
         ∙ ap is_some (ap (λ x. grant_for a (Some (fence x past))) (eqb-true q p fences) ∙ seen_again a p past (once c a p past legal.0 alone) owns))
     go by verb answer own fences is = absurd (true≢false (sym fences))
 
+-- what a journal keeps its beginnings keep
+pub replays_before : (c : Config) (r : ℕ) (newer older : List Event) → Replays c r (newer ++ older) → Replays c r older
+replays_before c r newer older held = record {
+  reads = λ window o s n off. held.reads window o (more window o s) n off;
+  learns = λ window o s n off low. held.learns window o (more window o s) n off low;
+}
+  where
+    more : (window o : List Event) → IsStretch older window o → IsStretch (newer ++ older) window o
+    more window o s = record { newer = newer ++ s.newer; is = ap (λ l. newer ++ l) s.is ∙ sym (append_assoc newer s.newer (window ++ o)) }
+
+pub heads_before : (c : Config) (r : ℕ) (newer older : List Event) → TellsHeads c r (newer ++ older) → TellsHeads c r older
+heads_before c r newer older held = record {
+  raises = λ window o s low n. held.raises window o (more window o s) low n;
+  reads = λ q window o low other s n. held.reads q window o low other (more window o s) n;
+}
+  where
+    more : (window o : List Event) → IsStretch older window o → IsStretch (newer ++ older) window o
+    more window o s = record { newer = newer ++ s.newer; is = ap (λ l. newer ++ l) s.is ∙ sym (append_assoc newer s.newer (window ++ o)) }
+
+pub keep_before : (c : Config) (live : ℕ → Bool) (a : ℕ) (newer older : List Event) → KeepUp c live a (newer ++ older) → KeepUp c live a older
+keep_before c live a newer older keep = record {
+  replays = λ r low lives. replays_before c r (part r newer) (part r older) (subst (Replays c r) (split r) (keep.replays r low lives));
+  heads = λ r low lives. heads_before c r (part r newer) (part r older) (subst (TellsHeads c r) (split r) (keep.heads r low lives));
+  raises = λ r low lives. steps_before (RaisesToAll c r) (part r newer) (part r older) (subst (AtEachStep (RaisesToAll c r)) (split r) (keep.raises r low lives));
+  unnamed = λ r low lives other. moments_before (λ now. is_named c r now ≡ false) (part r newer) (part r older) (subst (AtEachMoment (λ now. is_named c r now ≡ false)) (split r) (keep.unnamed r low lives other));
+  asked = λ above below e p is min waits on low. keep.asked (part a newer ++ above) below e p (split a ∙ ap (λ x. part a newer ++ x) is ∙ sym (append_assoc (part a newer) above (e ∷ below))) min waits on low;
+}
+  where
+    split : (r : ℕ) → part r (newer ++ older) ≡ part r newer ++ part r older
+    split r = filter-append (λ e. e.by == r) newer older
+
 -- two lists of one length that agree are one
 pub same_lists : (xs ys : List ℕ) → length xs ≡ length ys → ((i v w : ℕ) → slice_get xs i ≡ Some v → slice_get ys i ≡ Some w → v ≡ w) → xs ≡ ys
 same_lists [] [] long agree = refl
@@ -363,7 +395,7 @@ in_region : (c : Config) (a p l : ℕ) (past : List Event) → IsLegalHistory c 
 in_region c a p zero past legal high = omega arith
 in_region c a p (suc l) past legal high = covers_below c a p past legal (suc l) (reached (suc l) (λ e. fuo_read_or_raised a p e.by e.verb e.answer) (part a past) (omega arith) high)
 
-writes_before : (a : ℕ) (newer older : List Event) → WritesAlone a (newer ++ older) → WritesAlone a older
+pub writes_before : (a : ℕ) (newer older : List Event) → WritesAlone a (newer ++ older) → WritesAlone a older
 writes_before a [] older writes = writes
 writes_before a (e ∷ newer) older writes = writes_before a newer older writes.0
 
@@ -555,7 +587,7 @@ raise_all c live a past good large lone writes keep many = go (holds_all c []) r
     begun : holds_all c [] ≡ false → Started c a first.rest
     begun lacks =
         started c live a first.rest first_alone
-        (λ above below e p cuts min waits on low. keep.asked (part a first.newer ++ above) below e p (mine ∙ ap (λ x. part a first.newer ++ x) cuts ∙ sym (append_assoc (part a first.newer) above (e ∷ below))) min waits on low) lacks knows
+        (λ above below e p cuts min waits on low. keep.asked (part a first.newer ++ above) below e p (mine ∙ ap (λ x. part a first.newer ++ x) cuts ∙ sym (append_assoc (part a first.newer) above (e ∷ below))) min waits on low) lacks (λ none. true≢false (sym knows ∙ (ap (holds_all c) none ∙ lacks)))
 
     there : holds_all c [] ≡ false → (r : ℕ) → r < c.replicas → live r ≡ true → (length all ≤ length (applied c r (part r past))) × (length all ≤ region_head r past)
     there lacks r low lives =
