@@ -8,15 +8,10 @@
 //! `illegal I ..`, `read fault`, `no memory` or `too long`; or how the program is called.
 #![tactic(auto)]
 
-mod answering;
-mod asking;
-mod drawing;
 #[cfg(test)]
 mod tests;
 
-pub use answering::{Answered, answer, draw};
-pub use asking::{Asked, LAST_STEP, asked_of, limits_are_stated};
-pub use drawing::Told;
+use mu_drawing::{answer, draw, unread};
 use mu_io::{StdSink, StdSource};
 use std::env;
 use std::io::ErrorKind;
@@ -44,7 +39,7 @@ fn main(rt: HostRuntime) -> ExitCode {
     let mut sink = StdSink::new(rt.stdout());
     let answered = match words_after_name(&rt) {
         Ok(words) => draw(rt.alloc(), words.as_slice(), &mut source, &mut sink),
-        Err(kind) => answer(&mut sink, asking::unread(kind)),
+        Err(kind) => answer(&mut sink, unread(kind)),
     };
     answered.into_exit_code()
 }

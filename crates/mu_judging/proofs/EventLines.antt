@@ -24,7 +24,6 @@ use Rattle.mu_input.specs.declared.cause.TheConstants.{HEAD, REPLICAS, RING, BUD
 use Rattle.mu_input.specs.declared.bodies.Body.{Body}
 use Rattle.mu_input.specs.declared.bodies.BodyLine.{BodyLine}
 use Rattle.mu_input.specs.declared.bodies.BodyLine.TheVariants as body
-use Rattle.mu_input.specs.declared.job.Job.{Job}
 use Rattle.mu_input.specs.declared.scripts.ScriptLine.{ScriptLine}
 use Rattle.mu_input.specs.declared.scripts.ScriptLine.TheVariants as script
 use Rattle.mu_reasons.specs.Breaks.{Explains}

@@ -66,7 +66,7 @@ fn located(
 }
 
 /// How many lines the bytes have.
-fn count_of_lines(bytes: &[u8]) -> u32
+pub(crate) fn count_of_lines(bytes: &[u8]) -> u32
     requires { length bytes.now ≤ TRACE_LIMIT }
     ensures { result ≡ length (lines bytes.now) }
 {

@@ -25,7 +25,8 @@ use Rattle.mu_grant.specs.Stands.{is_of_place}
 use Rattle.mu_lead.specs.declared.place.Place.{Place}
 use Rattle.mu_lead.specs.Beside.{leads_at}
 use Rattle.mu_lead.specs.Elections.{since_ask}
-use Rattle.mu_lead.specs.Standing.{verb_at, verb_of}
+use Rattle.mu_lead.specs.Journal.{number_due, place_after, tables_at}
+use Rattle.mu_lead.specs.Standing.{verb_at}
 use Rattle.mu_pace.specs.Counters.{AtEachMoment, AtEachStep}
 use Rattle.mu_pace.proofs.Counting.{last_moment, moments_before, steps_before}
 use Rattle.mu_node.specs.Cycle.{other_at, place_now}
@@ -37,7 +38,7 @@ use Rattle.mu_node.proofs.Rounding.{Fails, FailsBackground, background_fails}
 -- such a verb is one of the leader, in a turn of its own
 record OfLead (c : Config) (r : ℕ) (mine : List Event) (e : Event) (held : WasMade c r mine e) : Type 0 where
   odd : is_odd (length mine) ≡ true
-  verb : verb_of held.lead (known c r mine) ≡ Some e.verb
+  verb : verb_at c (number_due r mine) (known c r mine) (tables_at c r mine).up (tables_at c r mine).written (place_after c r mine) ≡ Some e.verb
 
 of_lead : (test : Verb → Bool) (c : Config) (r : ℕ) (mine : List Event) (e : Event) (held : WasMade c r mine e) → FailsBackground test → test Verb.Beat ≡ false → ((q : ℕ) → test (Verb.ReadBeat q) ≡ false) → ((w : ℕ) → test (Verb.ReadAsk w) ≡ false) → test e.verb ≡ true → OfLead c r mine e held
 of_lead test c r mine e held fails beat beats asks is = go (is_odd (length mine)) refl
@@ -50,8 +51,11 @@ of_lead test c r mine e held fails beat beats asks is = go (is_odd (length mine)
     mine_due None made = absurd (true≢false (sym is ∙ (ap test made ∙ beat)))
     mine_due (Some verb) made = ap Some (sym made)
 
-    named : (t : Bool) → e.verb ≡ verb_or_beat (if t then verb_of held.lead (known c r mine) else None) → verb_of held.lead (known c r mine) ≡ Some e.verb
-    named true made = mine_due (verb_of held.lead (known c r mine)) made
+    placed : Option Verb
+    placed = verb_at c (number_due r mine) (known c r mine) (tables_at c r mine).up (tables_at c r mine).written (place_after c r mine)
+
+    named : (t : Bool) → e.verb ≡ verb_or_beat (if t then placed else None) → placed ≡ Some e.verb
+    named true made = mine_due placed made
     named false made = absurd (true≢false (sym is ∙ (ap test made ∙ beat)))
 
     read : (s t : Bool) → test (if s then Verb.Beat else if t then Verb.ReadBeat (other_at r (place_now c mine)) else Verb.ReadAsk (place_now c mine - c.replicas)) ≡ false
@@ -65,7 +69,7 @@ of_lead test c r mine e held fails beat beats asks is = go (is_odd (length mine)
         let made = held.made.background even in
         elim (cases_lt (place_now c mine) (host_place c 0)) [
           | inl low ↦ absurd (not_due made.0 (subst (Fails test) (sym (made.1.read low)) (read (place_now c mine == 0) (nat_lt (place_now c mine) c.replicas))) made.2)
-          | inr high ↦ absurd (not_due made.0 (background_fails test fails c r mine (leads_at held.lead.place) made.0 high made.1) made.2)
+          | inr high ↦ absurd (not_due made.0 (background_fails test fails c r mine (leads_at (place_after c r mine)) made.0 high made.1) made.2)
         ]
 
 fences_fail : FailsBackground is_any_fencing_verb
@@ -245,7 +249,7 @@ asks_all_first c r mine e some possible made waits on min p low = go e.verb came
         let still = (moments_before (λ now. has_to_ask c r now ≡ true) f.newer (f.event ∷ f.older) (subst (AtEachMoment (λ now. has_to_ask c r now ≡ true)) f.is waits)).0 in
         let over = last_moment (λ now. is_over r now ≡ false) f.older (moments_before (λ now. is_over r now ≡ false) f.newer (f.event ∷ f.older) (subst (AtEachMoment (λ now. is_over r now ≡ false)) f.is on)).0 in
         let no_min = unread (is_named c r f.older) (knows_all c r f.older) (has_min r f.older) (is_over r f.older) over (last_moment (λ now. has_to_ask c r now ≡ true) f.older still) in
-        let zero_since = at_place c held.lead.config r held.lead.number f.older (known c r f.older) held.lead.up held.lead.written.items held.lead.written.items held.lead.place (ap is_fence_due turn.verb ∙ f.fence) held.paces some f.none no_min over in
+        let zero_since = at_place c c r (number_due r f.older) f.older (known c r f.older) (tables_at c r f.older).up (tables_at c r f.older).written (tables_at c r f.older).written (place_after c r f.older) (ap is_fence_due turn.verb ∙ f.fence) held.paces some f.none no_min over in
         let before = possible_older f.newer (f.event ∷ f.older) (subst (IsPossible c r) f.is came.before) in
         let fence = parts_shorten_law c r f.older f.event before in
         let last = newest_ask c r (c.replicas - 1) f.older there.0 still zero_since (begun f.event.verb fence.allowed.may f.fence) in

@@ -29,13 +29,15 @@ use Rattle.mu_agree.proofs.Sound.{Fits, by_batch, by_mark, chosen_sound}
 use Rattle.mu_follow.specs.Due.{row_read, row_under_way}
 use Rattle.mu_follow.proofs.Waiting.{is_write, own_row_same, row_of_known}
 use Rattle.mu_lead.specs.declared.place.Place.{Place}
-use Rattle.mu_lead.specs.Standing.{verb_at, verb_of}
+use Rattle.mu_lead.specs.Standing.{verb_at}
 use Rattle.mu_pace.specs.Counters.{AtEachStep}
 use Rattle.mu_pace.proofs.Counting.{steps_before}
 use Rattle.mu_node.specs.Due.{verb_or_beat}
 use Rattle.mu_node.specs.Journal.{WasMade}
 use Rattle.mu_node.proofs.Open.{IsStill, word_on}
 use Rattle.mu_node.proofs.Replaying.{IsAfter, IsAt, at_next, at_rest, last_whole, next_place}
+use Rattle.mu_lead.specs.Journal.{number_due, place_after, tables_at}
+use Rattle.mu_node.specs.Due.{listed_due}
 
 -- the entry of which a row is
 record RowOf (c : Config) (u : ℕ) (values : List ℕ) : Type 0 where
@@ -160,8 +162,8 @@ reads_none c b values up written place old = refl
 odd_keeps : (c : Config) (r : ℕ) (past : List Event) (e : Event) → WasMade c r past e → is_odd (length past) ≡ true → row_under_way (e ∷ past) ≡ row_under_way past
 odd_keeps c r past e held odd = ap (λ v. row_read v (row_under_way past)) (held.made.replication odd) ∙ none (leader c r past == r)
   where
-    none : (t : Bool) → row_read (verb_or_beat (if t then verb_of held.lead (known c r past) else None)) (row_under_way past) ≡ row_under_way past
-    none true = reads_none held.lead.config held.lead.number (known c r past) held.lead.up held.lead.written.items held.lead.place (row_under_way past)
+    none : (t : Bool) → row_read (verb_or_beat (if t then listed_due c r past else None)) (row_under_way past) ≡ row_under_way past
+    none true = reads_none c (number_due r past) (known c r past) (tables_at c r past).up (tables_at c r past).written (place_after c r past) (row_under_way past)
     none false = refl
 
 -- so an event that completes no row leaves all as it is for the one that is read

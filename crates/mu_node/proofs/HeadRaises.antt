@@ -17,12 +17,12 @@ use Rattle.mu_model.specs.Stretches.{is_odd}
 use Rattle.mu_grant.specs.Pace.{host_place}
 use Rattle.mu_grant.specs.Stands.{Gives, is_of_place}
 use Rattle.mu_follow.specs.Due.{ahead_due, filled_known, first_word_of, fuo_due, head_due, look_due, next_due, next_word_of, other_head_due, other_of, own_fuo, replay_due, row_under_way, rows_had, word_due}
-use Rattle.mu_lead.specs.declared.lead.Lead.{Lead}
 use Rattle.mu_lead.specs.declared.place.Place.{Place}
 use Rattle.mu_lead.specs.Beside.{leads_at}
-use Rattle.mu_lead.specs.Standing.{verb_at, verb_of}
+use Rattle.mu_lead.specs.Journal.{due_after, number_due, place_after, tables_at}
+use Rattle.mu_lead.specs.Standing.{verb_at}
 use Rattle.mu_node.specs.Cycle.{handed, other_at, place_now}
-use Rattle.mu_node.specs.Due.{lead_due, verb_or_beat}
+use Rattle.mu_node.specs.Due.{verb_or_beat}
 use Rattle.mu_node.specs.Journal.{WasMade}
 use Rattle.mu_node.proofs.Rounding.{Fails, either}
 use Rattle.mu_node.proofs.Turning.{handed_here}
@@ -82,12 +82,12 @@ raised_value c r mine handed f leading h is = go (nat_lt f 3) (nat_lt f 15) (f =
     go false false false false hs false is = absurd (not_raised None h refl is)
 
 -- a leader raises none in a turn of its own
-led_none : (c : Config) (r : ℕ) (mine : List Event) (lead : Lead) → NoRaise (lead_due c r mine lead)
-led_none c r mine lead = either is_head_raise_verb (leader c r mine == r) (verb_of lead (known c r mine)) None (at lead.config lead.number (known c r mine) lead.up lead.written.items lead.place) refl
+led_none : (c : Config) (r : ℕ) (mine : List Event) → NoRaise (due_after c r mine)
+led_none c r mine = either is_head_raise_verb (leader c r mine == r) (verb_at c (number_due r mine) (known c r mine) (tables_at c r mine).up (tables_at c r mine).written (place_after c r mine)) None (at (number_due r mine) (known c r mine) (tables_at c r mine).up (tables_at c r mine).written (place_after c r mine)) refl
   where
-    at : (c : Config) (b : ℕ) (values up written : List ℕ) (place : Place) → is_head_raise_verb (verb_or_beat (verb_at c b values up written place)) ≡ false
-    at c b values up written Place.Rest = refl
-    at c b values up written place = refl
+    at : (b : ℕ) (values up written : List ℕ) (place : Place) → is_head_raise_verb (verb_or_beat (verb_at c b values up written place)) ≡ false
+    at b values up written Place.Rest = refl
+    at b values up written place = refl
 
 -- so the head goes to all that is applied and within the FUO
 pub raises_to_all : (c : Config) (r h : ℕ) (mine : List Event) (e : Event) → WasMade c r mine e → e.verb ≡ Verb.RaiseHead h → min (length (applied c r mine)) (own_fuo r mine) ≤ h
@@ -107,7 +107,7 @@ raises_to_all c r h mine e held raises = go (is_odd (length mine)) refl
     given d (Some verb) gives = host d verb (gives.given verb refl).0
 
     go : (t : Bool) → is_odd (length mine) ≡ t → min (length (applied c r mine)) (own_fuo r mine) ≤ h
-    go true odd = absurd (not_raised (lead_due c r mine held.lead) h (led_none c r mine held.lead) (sym (held.made.replication odd) ∙ raises))
+    go true odd = absurd (not_raised (due_after c r mine) h (led_none c r mine) (sym (held.made.replication odd) ∙ raises))
     go false even =
         let made = held.made.background even in
         elim (cases_lt (place_now c mine) (host_place c 0)) [
@@ -116,7 +116,7 @@ raises_to_all c r h mine e held raises = go (is_odd (length mine)) refl
             | inl near ↦ (let at : place_now c mine ≡ host_place c (place_now c mine - host_place c 0) = omega (arith, high) in
                 absurd (not_raised made.0 h (given (place_now c mine - host_place c 0) made.0 (made.1.host (place_now c mine - host_place c 0) (omega (arith, near, high)) at)) (sym made.2 ∙ raises)))
             | inr far ↦ (let at = made.1.replay (place_now c mine - host_place c 4) (omega (arith, far)) in
-                let value = raised_value c r mine (handed c r mine) (place_now c mine - host_place c 4) (leads_at held.lead.place) h (sym (ap verb_or_beat at) ∙ (sym made.2 ∙ raises)) in
+                let value = raised_value c r mine (handed c r mine) (place_now c mine - host_place c 4) (leads_at (place_after c r mine)) h (sym (ap verb_or_beat at) ∙ (sym made.2 ∙ raises)) in
                 let place = value.0 in
                 let here : place_now c mine ≡ 2 * c.replicas + 20 = omega (arith, place, far) in
                 let all = handed_here c r mine even (eq-eqb (place_now c mine) (2 * c.replicas + 20) here) in

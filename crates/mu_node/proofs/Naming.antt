@@ -12,7 +12,6 @@ use Rattle.mu_model.specs.declared.event.Verb.{Verb}
 use Rattle.mu_model.specs.Answers.{answer_of}
 use Rattle.mu_model.specs.Bounds.{cycle}
 use Rattle.mu_model.specs.Histories.{has, how_many, newer_or, newest, or_zero, part, since}
-use Rattle.mu_model.specs.Knowledge.{known}
 use Rattle.mu_model.specs.Regions.{beats, is_beat_by}
 use Rattle.mu_model.specs.Scores.{beat_read, leader, next_score, score, score_after_read}
 use Rattle.mu_model.specs.Steps.{is_asking, is_asking_verb, is_beat, is_beat_read, is_beat_read_verb, is_beat_verb}
@@ -23,7 +22,6 @@ use Rattle.mu_detect.proofs.Least.{least_found}
 use Rattle.mu_grant.specs.Pace.{host_place}
 use Rattle.mu_grant.specs.Stands.{is_of_place}
 use Rattle.mu_lead.specs.Beside.{leads_at}
-use Rattle.mu_lead.specs.Standing.{verb_of}
 use Rattle.mu_pace.specs.Counters.{AtEachStep}
 use Rattle.mu_pace.proofs.Cycles.{rounds_read_in_time}
 use Rattle.mu_pace.proofs.Rounds.{rounds_keep_pace}
@@ -31,6 +29,8 @@ use Rattle.mu_node.specs.Cycle.{other_at, place_now}
 use Rattle.mu_node.specs.Due.{verb_or_beat}
 use Rattle.mu_node.specs.Journal.{WasMade}
 use Rattle.mu_node.proofs.Rounding.{Fails, FailsBackground, background_fails, keeps_rounds, read_here}
+use Rattle.mu_lead.specs.Journal.{place_after}
+use Rattle.mu_node.specs.Due.{listed_due}
 
 -- how often q has beaten is how many beats its part has
 pub beats_part : (q : ℕ) (past : List Event) → how_many is_beat (part q past) ≡ beats q past
@@ -160,7 +160,7 @@ asker_named c r p mine e held asks = go (is_odd (length mine)) refl
     not_due : (due : Option Verb) → Fails (is_asking_verb p) due → e.verb ≡ verb_or_beat due → ⊥
     not_due due fails made = true≢false (sym asks ∙ (ap (is_asking_verb p) made ∙ fails))
 
-    named : (t : Bool) → (leader c r mine == r) ≡ t → e.verb ≡ verb_or_beat (if t then verb_of held.lead (known c r mine) else None) → leader c r mine ≡ r
+    named : (t : Bool) → (leader c r mine == r) ≡ t → e.verb ≡ verb_or_beat (if t then listed_due c r mine else None) → leader c r mine ≡ r
     named true is made = eqb-true (leader c r mine) r is
     named false is made = absurd (not_due None refl made)
 
@@ -175,7 +175,7 @@ asker_named c r p mine e held asks = go (is_odd (length mine)) refl
         let made = held.made.background even in
         elim (cases_lt (place_now c mine) (host_place c 0)) [
           | inl low ↦ absurd (not_due made.0 (subst (Fails (is_asking_verb p)) (sym (made.1.read low)) (read (place_now c mine == 0) (nat_lt (place_now c mine) c.replicas))) made.2)
-          | inr high ↦ absurd (not_due made.0 (background_fails (is_asking_verb p) (asks_fail p) c r mine (leads_at held.lead.place) made.0 high made.1) made.2)
+          | inr high ↦ absurd (not_due made.0 (background_fails (is_asking_verb p) (asks_fail p) c r mine (leads_at (place_after c r mine)) made.0 high made.1) made.2)
         ]
 
 -- the verb writes a word of a row
@@ -201,7 +201,7 @@ writer_named c r mine e held writes = go (is_odd (length mine)) refl
     not_due : (due : Option Verb) → Fails is_row_write due → e.verb ≡ verb_or_beat due → ⊥
     not_due due fails made = true≢false (sym writes ∙ (ap is_row_write made ∙ fails))
 
-    named : (t : Bool) → (leader c r mine == r) ≡ t → e.verb ≡ verb_or_beat (if t then verb_of held.lead (known c r mine) else None) → leader c r mine ≡ r
+    named : (t : Bool) → (leader c r mine == r) ≡ t → e.verb ≡ verb_or_beat (if t then listed_due c r mine else None) → leader c r mine ≡ r
     named true is made = eqb-true (leader c r mine) r is
     named false is made = absurd (not_due None refl made)
 
@@ -216,5 +216,5 @@ writer_named c r mine e held writes = go (is_odd (length mine)) refl
         let made = held.made.background even in
         elim (cases_lt (place_now c mine) (host_place c 0)) [
           | inl low ↦ absurd (not_due made.0 (subst (Fails is_row_write) (sym (made.1.read low)) (read (place_now c mine == 0) (nat_lt (place_now c mine) c.replicas))) made.2)
-          | inr high ↦ absurd (not_due made.0 (background_fails is_row_write writes_fail c r mine (leads_at held.lead.place) made.0 high made.1) made.2)
+          | inr high ↦ absurd (not_due made.0 (background_fails is_row_write writes_fail c r mine (leads_at (place_after c r mine)) made.0 high made.1) made.2)
         ]

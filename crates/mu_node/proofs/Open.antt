@@ -19,7 +19,6 @@ use Rattle.mu_grant.specs.Stands.{is_of_place}
 use Rattle.mu_follow.specs.Due.{replay_due, row_read, row_under_way}
 use Rattle.mu_follow.proofs.Waiting.{fuo_rises, is_write, known_same, own_applied_same, own_row_same}
 use Rattle.mu_lead.specs.Beside.{leads_at}
-use Rattle.mu_lead.specs.Standing.{verb_of}
 use Rattle.mu_pace.specs.Counters.{AtEachMoment, AtEachStep, HasRoom, IsInTime, Watch, fewer, left_after, steps_left}
 use Rattle.mu_pace.specs.Watches.{is_named_turn, is_replay_due, reading_own, replaying}
 use Rattle.mu_pace.proofs.Cycles.{closed_moments, steps_give, while_allows}
@@ -28,6 +27,8 @@ use Rattle.mu_node.specs.Cycle.{handed, other_at, place_now}
 use Rattle.mu_node.specs.Due.{verb_or_beat}
 use Rattle.mu_node.specs.Journal.{WasMade, was_named}
 use Rattle.mu_node.proofs.Rounding.{FailsBackground, background_fails, replayed_at}
+use Rattle.mu_lead.specs.Journal.{place_after}
+use Rattle.mu_node.specs.Due.{listed_due}
 
 -- a step that closes a count leaves what the moment allows
 pub closes_anew : (w : Watch) (n : ℕ) (past : List Event) (e : Event) → w.closes past e ≡ true → ((allowed : ℕ) → w.allows (e ∷ past) ≡ Some allowed → n ≤ allowed) → HasRoom w n (e ∷ past)
@@ -54,12 +55,12 @@ rows_anew c r n (e ∷ past) low named = closes_anew (replaying c r) n past e (o
 
 -- a read of the own FUO is due at its place, or r was named right before
 own_closed : (c : Config) (r : ℕ) (past : List Event) (e : Event) → WasMade c r past e → length past % cycle c ≡ 2 * (2 * c.replicas + 4) → ((reading_own c r).closes past e ≡ true) ⊎ HasRoom (reading_own c r) (cycle c + 1) past
-own_closed c r past e held at = go (leads_at held.lead.place) refl
+own_closed c r past e held at = go (leads_at (place_after c r past)) refl
   where
-    here : (is_odd (length past) ≡ false) × (e.verb ≡ verb_or_beat (replay_due c r past (handed c r past) 0 (leads_at held.lead.place)))
+    here : (is_odd (length past) ≡ false) × (e.verb ≡ verb_or_beat (replay_due c r past (handed c r past) 0 (leads_at (place_after c r past))))
     here = replayed_at c r 0 past e held (at ∙ omega arith)
 
-    go : (t : Bool) → leads_at held.lead.place ≡ t → ((reading_own c r).closes past e ≡ true) ⊎ HasRoom (reading_own c r) (cycle c + 1) past
+    go : (t : Bool) → leads_at (place_after c r past) ≡ t → ((reading_own c r).closes past e ≡ true) ⊎ HasRoom (reading_own c r) (cycle c + 1) past
     go true leading = inr (own_anew c r (cycle c + 1) past (omega arith) (held.leads here.0 leading))
     go false other =
         let reads : e.verb ≡ Verb.Fuo r = here.1 ∙ ap (λ t. verb_or_beat (replay_due c r past (handed c r past) 0 t)) other in
@@ -74,7 +75,7 @@ own_in_time c r past made =
 pub beats_unnamed : (c : Config) (r : ℕ) (past : List Event) (e : Event) → WasMade c r past e → is_named_turn c r past e ≡ false → is_odd (length past) ≡ true → e.verb ≡ Verb.Beat
 beats_unnamed c r past e held unnamed odd =
     let other : is_named c r past ≡ false = sym (ap (λ t. t && is_named c r past) odd) ∙ unnamed in
-    held.made.replication odd ∙ ap (λ t. verb_or_beat (if t then verb_of held.lead (known c r past) else None)) other
+    held.made.replication odd ∙ ap (λ t. verb_or_beat (if t then listed_due c r past else None)) other
 
 -- no word of a row is written in a background turn, nor where r isn't named
 write_fails : FailsBackground is_write
@@ -104,7 +105,7 @@ made_no_write c r past e held unnamed = go (is_odd (length past)) refl
         let made = held.made.background even in
         elim (cases_lt place (host_place c 0)) [
           | inl low ↦ ap is_write (made.2 ∙ ap verb_or_beat (made.1.read low)) ∙ read (place == 0) (nat_lt place c.replicas)
-          | inr high ↦ ap is_write made.2 ∙ background_fails is_write write_fails c r past (leads_at held.lead.place) made.0 high made.1
+          | inr high ↦ ap is_write made.2 ∙ background_fails is_write write_fails c r past (leads_at (place_after c r past)) made.0 high made.1
         ]
 
 -- an event that doesn't close the count

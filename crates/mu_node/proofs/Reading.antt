@@ -19,14 +19,15 @@ use Rattle.mu_grant.specs.Pace.{host_place}
 use Rattle.mu_grant.specs.Stands.{Gives, is_of_place}
 use Rattle.mu_known.specs.RowWords.{IsOfKnown, IsReadKnown, ReadsKnown}
 use Rattle.mu_follow.specs.Due.{ahead_due, filled_known, fuo_due, head_due, next_due, other_head_due, other_of, own_fuo, first_word_of, look_due, next_word_of, raise_due, replay_due, row_read, row_under_way, rows_had, word_due}
-use Rattle.mu_lead.specs.declared.lead.Lead.{Lead}
 use Rattle.mu_lead.specs.declared.place.Place.{Place}
 use Rattle.mu_lead.specs.Beside.{leads_at}
-use Rattle.mu_lead.specs.Standing.{verb_at, verb_of}
+use Rattle.mu_lead.specs.Standing.{verb_at}
 use Rattle.mu_pace.specs.Counters.{AtEachStep}
 use Rattle.mu_node.specs.Cycle.{IsBackgroundDue, handed, other_at, place_now, read_at}
-use Rattle.mu_node.specs.Due.{lead_due, verb_or_beat}
+use Rattle.mu_node.specs.Due.{verb_or_beat}
 use Rattle.mu_node.specs.Journal.{WasMade}
+use Rattle.mu_lead.specs.Journal.{due_after, number_due, place_after, tables_at}
+use Rattle.mu_node.specs.Due.{listed_due}
 
 -- a row of a known batch stays one
 grown_begins : (values : List ℕ) (o : Option ℕ) (i v : ℕ) → slice_get values i ≡ Some v → slice_get (grown values o) i ≡ Some v
@@ -130,8 +131,8 @@ replay_reads c r count f leading mine reads =
     (reads_other c r mine (verb_or_beat (raise_due c r mine count f)) (raise_reads c r count f mine)))
 
 -- the leader
-led_reads : (c : Config) (r : ℕ) (mine : List Event) (lead : Lead) → is_row_read (verb_or_beat (lead_due c r mine lead)) ≡ false
-led_reads c r mine lead = choose (leader c r mine == r) (verb_of lead (known c r mine)) None (at lead.config lead.number (known c r mine) lead.up lead.written.items lead.place) refl
+led_reads : (c : Config) (r : ℕ) (mine : List Event) → is_row_read (verb_or_beat (due_after c r mine)) ≡ false
+led_reads c r mine = choose (leader c r mine == r) (listed_due c r mine) None (at c (number_due r mine) (known c r mine) (tables_at c r mine).up (tables_at c r mine).written (place_after c r mine)) refl
   where
     at : (c : Config) (b : ℕ) (values up written : List ℕ) (place : Place) → is_row_read (verb_or_beat (verb_at c b values up written place)) ≡ false
     at c b values up written Place.Rest = refl
@@ -173,8 +174,8 @@ made_reads : (c : Config) (r : ℕ) (mine : List Event) (e : Event) → ReadsKno
 made_reads c r mine e reads was = go (is_odd (length mine)) refl
   where
     go : (t : Bool) → is_odd (length mine) ≡ t → IsReadKnown c r mine e.verb
-    go true odd = subst (IsReadKnown c r mine) (sym (was.made.replication odd)) (reads_other c r mine (verb_or_beat (lead_due c r mine was.lead)) (led_reads c r mine was.lead))
-    go false even = let made = was.made.background even in subst (IsReadKnown c r mine) (sym made.2) (background_reads c r mine (leads_at was.lead.place) made.0 reads made.1)
+    go true odd = subst (IsReadKnown c r mine) (sym (was.made.replication odd)) (reads_other c r mine (verb_or_beat (due_after c r mine)) (led_reads c r mine))
+    go false even = let made = was.made.background even in subst (IsReadKnown c r mine) (sym made.2) (background_reads c r mine (leads_at (place_after c r mine)) made.0 reads made.1)
 
 -- a node reads rows of known batches alone
 pub reads_known : (c : Config) (r : ℕ) (mine : List Event) → AtEachStep (WasMade c r) mine → ReadsKnown c r mine

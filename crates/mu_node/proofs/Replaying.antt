@@ -33,6 +33,7 @@ use Rattle.mu_node.specs.Due.{verb_or_beat}
 use Rattle.mu_node.specs.Journal.{WasMade}
 use Rattle.mu_node.proofs.Rounding.{at_place, place_index, replayed_at}
 use Rattle.mu_node.proofs.Open.{IsOpenStep, IsStill, closes_anew, open_step, rows_allow, rows_anew, still_applied, still_known, still_open, undue_room}
+use Rattle.mu_lead.specs.Journal.{place_after}
 
 -- how many events come before the next last word
 abbrev ahead : ℕ → ℕ → ℕ
@@ -152,7 +153,7 @@ words_due c r past count f k leading is some low =
 word_read : (c : Config) (r k row : ℕ) (past : List Event) (e : Event) → WasMade c r past e → length past % cycle c ≡ 4 * c.replicas + 14 + 2 * k → 1 ≤ k → k < 12 → row_under_way past ≡ Some row → e.verb ≡ Verb.ReadRow row k
 word_read c r k row past e held at some low under_way =
     let here = replayed_at c r (3 + k) past e held (at ∙ omega arith) in
-    here.1 ∙ (ap verb_or_beat (words_due c r past (handed c r past) (3 + k) k (leads_at held.lead.place) refl some low) ∙ ap (λ o. verb_or_beat (next_word_of k o)) under_way)
+    here.1 ∙ (ap verb_or_beat (words_due c r past (handed c r past) (3 + k) k (leads_at (place_after c r past)) refl some low) ∙ ap (λ o. verb_or_beat (next_word_of k o)) under_way)
 
 -- a word that was there or is read
 word_had : (c : Config) (r row j k : ℕ) (past : List Event) (e : Event) → e.by ≡ r → e.verb ≡ Verb.ReadRow row k → (j ≡ k) ⊎ (has_word r row j past ≡ true) → has_word r row j (e ∷ past) ≡ true
@@ -240,13 +241,13 @@ looks_next c r past e made held still possible at = elim (cases_lt (length (appl
   | inr high ↦ inr (by_due (is_replay_due c r past) refl high)
 ]
   where
-    here : (is_odd (length past) ≡ false) × (e.verb ≡ verb_or_beat (replay_due c r past (handed c r past) 2 (leads_at held.lead.place)))
+    here : (is_odd (length past) ≡ false) × (e.verb ≡ verb_or_beat (replay_due c r past (handed c r past) 2 (leads_at (place_after c r past))))
     here = replayed_at c r 2 past e held (at ∙ omega arith)
 
     eased : ((n : ℕ) → n ≤ 8 * c.replicas + 88 → HasRoom (replaying c r) n past) → IsEased c r (e ∷ past)
     eased room = room_lasts c r past e (λ last. omega (arith, at, last)) (any_eases c r past room)
 
-    teaches : length (known c r past) < greatest_fuo_read r r past → (t : Bool) → leads_at held.lead.place ≡ t → IsEased c r (e ∷ past) ⊎ (outrun c r (e ∷ past) ≡ None → ⊥)
+    teaches : length (known c r past) < greatest_fuo_read r r past → (t : Bool) → leads_at (place_after c r past) ≡ t → IsEased c r (e ∷ past) ⊎ (outrun c r (e ∷ past) ≡ None → ⊥)
     teaches below true leading = inl (eased (λ n few. rows_anew c r n past few (held.leads here.0 leading)))
     teaches below false other =
         let decided : is_known_decided r past r (length (known c r past)) ≡ true = true_or (nat_lt (length (known c r past)) (greatest_fuo_read r r past)) _ (lt-ltb (length (known c r past)) (greatest_fuo_read r r past) below) in
@@ -257,7 +258,7 @@ looks_next c r past e made held still possible at = elim (cases_lt (length (appl
         elim found [ inl more ↦ absurd (true≢false (sym more ∙ still.learns)) | inr over ↦ inr over ]
 
     by_due : (t : Bool) → is_replay_due c r past ≡ t → length (known c r past) ≤ length (applied c r past) → IsEased c r (e ∷ past) ⊎ (outrun c r (e ∷ past) ≡ None → ⊥)
-    by_due true due high = let low = ltb-true (length (applied c r past)) (greatest_fuo_read r r past) due in teaches (omega (arith, low, high)) (leads_at held.lead.place) refl
+    by_due true due high = let low = ltb-true (length (applied c r past)) (greatest_fuo_read r r past) due in teaches (omega (arith, low, high)) (leads_at (place_after c r past)) refl
     by_due false none high = inl (eased (λ n few. undue_room c r n past made none))
 
 -- what is done at the next place

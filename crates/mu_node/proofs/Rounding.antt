@@ -22,20 +22,21 @@ use Rattle.mu_grant.specs.Pace.{host_place}
 use Rattle.mu_grant.specs.Stands.{Gives, is_of_place}
 use Rattle.mu_follow.specs.Due.{ahead_due, filled_known, first_word_of, fuo_due, head_due, look_due, next_due, next_word_of, other_head_due, other_of, own_fuo, raise_due, replay_due, row_under_way, rows_had, word_due}
 use Rattle.mu_follow.specs.Paces.{RaisesHeadAt}
-use Rattle.mu_lead.specs.declared.lead.Lead.{Lead}
 use Rattle.mu_lead.specs.declared.place.Place.{Place}
 use Rattle.mu_lead.specs.Beside.{leads_at}
-use Rattle.mu_lead.specs.Standing.{verb_at, verb_of}
+use Rattle.mu_lead.specs.Standing.{verb_at}
 use Rattle.mu_pace.specs.Collecting.{KeepsRounds}
 use Rattle.mu_pace.specs.Counters.{AtEachMoment, AtEachStep, IsInTime}
 use Rattle.mu_pace.specs.Watches.{is_head_due, raising_head}
 use Rattle.mu_pace.proofs.Cycles.{steps_give}
 use Rattle.mu_pace.proofs.Rounds.{places_are_indices}
 use Rattle.mu_node.specs.Cycle.{IsBackgroundDue, handed, other_at, place_now, read_at}
-use Rattle.mu_node.specs.Due.{lead_due, verb_or_beat}
+use Rattle.mu_node.specs.Due.{verb_or_beat}
 use Rattle.mu_node.specs.Journal.{WasMade}
 use Rattle.mu_follow.proofs.Paces.{heads_rise_in_time}
 use Rattle.mu_node.proofs.Turning.{handed_here}
+use Rattle.mu_lead.specs.Journal.{due_after, number_due, place_after, tables_at}
+use Rattle.mu_node.specs.Due.{listed_due}
 
 -- a place of the background, from the place of the round
 pub at_place : (c : Config) (x : ℕ) (mine : List Event) → length mine % cycle c ≡ 2 * x → (is_odd (length mine) ≡ false) × (place_now c mine ≡ x)
@@ -89,7 +90,7 @@ read_here c r x mine e held at low =
 
 -- what the replayer has due is what was made
 pub replayed_at : (c : Config) (r f : ℕ) (mine : List Event) (e : Event) (held : WasMade c r mine e) → length mine % cycle c ≡ 2 * (2 * c.replicas + 4 + f)
-    → (is_odd (length mine) ≡ false) × (e.verb ≡ verb_or_beat (replay_due c r mine (handed c r mine) f (leads_at held.lead.place)))
+    → (is_odd (length mine) ≡ false) × (e.verb ≡ verb_or_beat (replay_due c r mine (handed c r mine) f (leads_at (place_after c r mine))))
 replayed_at c r f mine e held at =
     let here = at_place c (2 * c.replicas + 4 + f) mine at in
     let made = held.made.background here.0 in
@@ -242,8 +243,8 @@ beat_fails q = record {
     host d verb is = refl
 
 -- what a leader has due reads none
-led_no_beat : (c : Config) (r q : ℕ) (mine : List Event) (lead : Lead) → Fails (is_beat_read_verb q) (lead_due c r mine lead)
-led_no_beat c r q mine lead = either (is_beat_read_verb q) (leader c r mine == r) (verb_of lead (known c r mine)) None (at lead.config lead.number (known c r mine) lead.up lead.written.items lead.place) refl
+led_no_beat : (c : Config) (r q : ℕ) (mine : List Event) → Fails (is_beat_read_verb q) (due_after c r mine)
+led_no_beat c r q mine = either (is_beat_read_verb q) (leader c r mine == r) (listed_due c r mine) None (at c (number_due r mine) (known c r mine) (tables_at c r mine).up (tables_at c r mine).written (place_after c r mine)) refl
   where
     at : (c : Config) (b : ℕ) (values up written : List ℕ) (place : Place) → is_beat_read_verb q (verb_or_beat (verb_at c b values up written place)) ≡ false
     at c b values up written Place.Rest = refl
@@ -265,13 +266,13 @@ apart_here c r q mine e held reads = go (is_odd (length mine)) refl
     of_read false first false is = absurd (true≢false (sym is))
 
     go : (t : Bool) → is_odd (length mine) ≡ t → length mine % cycle c ≡ 2 * beat_place r q
-    go true odd = absurd (not_due (lead_due c r mine held.lead) (led_no_beat c r q mine held.lead) (held.made.replication odd))
+    go true odd = absurd (not_due (due_after c r mine) (led_no_beat c r q mine) (held.made.replication odd))
     go false even =
         let made = held.made.background even in
         elim (cases_lt place (host_place c 0)) [
           | inl low ↦ (let is : e.verb ≡ read_at c.replicas r place = made.2 ∙ ap verb_or_beat (made.1.read low) in
               place_index c (beat_place r q) mine even (of_read (place == 0) refl (nat_lt place c.replicas) (sym (ap (is_beat_read_verb q) is) ∙ reads)))
-          | inr high ↦ absurd (not_due made.0 (background_fails (is_beat_read_verb q) (beat_fails q) c r mine (leads_at held.lead.place) made.0 high made.1) made.2)
+          | inr high ↦ absurd (not_due made.0 (background_fails (is_beat_read_verb q) (beat_fails q) c r mine (leads_at (place_after c r mine)) made.0 high made.1) made.2)
         ]
 
 -- the place of q among the others, counted from 0

@@ -31,11 +31,14 @@ use Rattle.mu_node.specs.declared.node.Node.{Node}
 use Rattle.mu_node.specs.Answers.{HoldsAnswers}
 use Rattle.mu_node.specs.Cycle.{IsBackgroundDue, handed, handed_before, other_at, place_now, read_at}
 use Rattle.mu_node.specs.Due.{lead_due, verb_or_beat}
-use Rattle.mu_node.specs.Node.{HasHeard, HasPlanned}
+use Rattle.mu_node.specs.Node.{HasHeard, HasPlanned, StandsForLead}
 use Rattle.mu_node.specs.Notes.{HasTold, MovesGoing, SaysTook, TellsNote, TellsTook, heed_note, note_before}
 use Rattle.mu_node.proofs.Leading.{odd_may}
 use Rattle.mu_node.proofs.Leads.{due_named, due_unresigned}
 use Rattle.mu_node.proofs.Pacing.{paces_odd}
+use Rattle.mu_lead.specs.Journal.{IsWhere, due_after, place_after}
+use Rattle.mu_lead.specs.Listing.{Tables}
+use Rattle.mu_node.proofs.Pacing.{due_listed}
 
 -- the verb neither reads asks nor is one of the host
 abbrev pub IsPlain : Verb → Type 0
@@ -184,20 +187,26 @@ replays c r mine leading good possible inside short few f = go (replay_due c r m
 -- what a turn is noted as
 pub note_told : (c : Config) (r : ℕ) (mine : List Event) (lead planned next : Lead) (leads : Bool) (due : Option Verb) (heeded : Note) (answer : Answer) (note : Note) → leads ≡ is_odd (length mine) → (is_odd (length mine) ≡ true → due ≡ lead_due c r mine lead)
     → heeded ≡ note_before c r mine lead → IsPossible c r (event_by r (verb_or_beat due) answer ∷ mine) → TellsTook c r mine leads due heeded answer note
-    → (is_odd (length mine) ≡ true → HasTold c r mine lead planned) → SaysTook c r mine leads due heeded planned next answer note → TellsNote c r mine lead answer note
-note_told c r mine lead planned next leads due heeded answer note turn led before possible took told says = record {
+    → (is_odd (length mine) ≡ true → HasTold c r mine lead planned) → SaysTook c r mine leads due heeded planned next answer note → StandsForLead c r mine lead → IsWhere c r mine lead → TellsNote c r mine lead answer note
+note_told c r mine lead planned next leads due heeded answer note turn led before possible took told says held listed = record {
   background = λ even. took.beside (turn ∙ even) ∙ (before ∙ ap (λ t. if t then heed_note c r mine lead else Note.Working) even);
-  idle = λ odd none. took.idle (led odd ∙ none) ∙ (before ∙ ap (λ t. if t then heed_note c r mine lead else Note.Working) odd);
-  taken = λ verb odd some.
+  idle = λ odd none. took.idle (led odd ∙ same ∙ none) ∙ (before ∙ ap (λ t. if t then heed_note c r mine lead else Note.Working) odd);
+  taken = λ verb odd due_now.
+      let some = same ∙ due_now in
       took.taken verb (turn ∙ odd) (led odd ∙ some) (before ∙ (ap (λ t. if t then heed_note c r mine lead else Note.Working) odd ∙ due_unresigned c r mine lead verb some))
       (subst (λ v. IsPossible c r (event_by r v answer ∷ mine)) (ap verb_or_beat (led odd ∙ some)) possible);
-  says = λ verb odd some.
-      let same = (told odd).place (due_named c r mine lead verb some) in
-      subst (λ p. Says c r mine lead.up p verb answer note) same
+  says = λ verb odd due_now.
+      let some = same ∙ due_now in
+      let stays = (told odd).place (due_named c r mine lead verb some) in
+      subst (λ u. Says c r mine u (place_after c r mine) verb answer note) (ap (λ (t : Tables). t.up) listed.tables)
+      (subst (λ p. Says c r mine lead.up p verb answer note) (stays ∙ listed.place)
       (subst (λ u. Says c r mine u planned.place verb answer note) (told odd).up
       (says.says verb (turn ∙ odd) (led odd ∙ some) (before ∙ (ap (λ t. if t then heed_note c r mine lead else Note.Working) odd ∙ due_unresigned c r mine lead verb some))
-      (subst (λ v. IsPossible c r (event_by r v answer ∷ mine)) (ap verb_or_beat (led odd ∙ some)) possible)));
+      (subst (λ v. IsPossible c r (event_by r v answer ∷ mine)) (ap verb_or_beat (led odd ∙ some)) possible))));
 }
+  where
+    same : lead_due c r mine lead ≡ due_after c r mine
+    same = due_listed c r mine lead held listed
 
 -- where the scores name r, its leadership is under way as before
 told_going : (under low : Bool) → low ≡ false → (under && not low) ≡ under

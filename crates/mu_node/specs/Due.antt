@@ -10,7 +10,8 @@ use Rattle.mu_model.specs.Scores.{leader}
 use Rattle.mu_model.specs.Stretches.{is_odd}
 use Rattle.mu_lead.specs.declared.lead.Lead.{Lead}
 use Rattle.mu_lead.specs.Beside.{is_beside, leads_at}
-use Rattle.mu_lead.specs.Standing.{HasHeeded, verb_of}
+use Rattle.mu_lead.specs.Journal.{number_due, place_after, tables_at}
+use Rattle.mu_lead.specs.Standing.{HasHeeded, verb_at, verb_of}
 
 -- the step that is made: a beat where nothing is due
 abbrev pub verb_or_beat : Option Verb → Verb
@@ -26,6 +27,12 @@ pub record MayBeside (c : Config) (r : ℕ) (mine : List Event) (lead : Lead)
 -- the verb that the leader has due, in a turn of its own: of its place where the scores name r
 abbrev pub lead_due : Config → ℕ → List Event → Lead → Option Verb
 lead_due c r mine lead = if leader c r mine == r then verb_of lead (known c r mine) else None
+
+-- the same by the journal, where the scores name r
+abbrev pub listed_due : Config → ℕ → List Event → Option Verb
+listed_due c r mine =
+    verb_at c (number_due r mine) (known c r mine) (tables_at c r mine).up
+    (tables_at c r mine).written (place_after c r mine)
 
 -- in a turn of the leader the verb is a beat, and nothing is due
 abbrev pub IsIdle : Config → ℕ → List Event → Lead → Verb → Type 0

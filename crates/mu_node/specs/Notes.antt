@@ -12,6 +12,7 @@ use Rattle.mu_model.specs.Stretches.{is_odd}
 use Rattle.mu_lead.specs.declared.lead.Lead.{Lead}
 use Rattle.mu_lead.specs.declared.note.Note.{Note}
 use Rattle.mu_lead.specs.Going.{begins_at, going_after}
+use Rattle.mu_lead.specs.Journal.{due_after, place_after, tables_at}
 use Rattle.mu_lead.specs.Notes.{value_committed}
 use Rattle.mu_lead.specs.Saying.{Says}
 use Rattle.mu_lead.specs.Standing.{known_told}
@@ -73,19 +74,19 @@ pub record SaysTook (c : Config) (r : ℕ) (mine : List Event) (leads : Bool) (d
 -- the note of a turn that made this event: nothing in a background turn; in one of the leader what
 -- it noted when it was told whom the scores name where nothing was due, else what the answer meant,
 -- which names an entry exactly where the put made it known, and each other cause exactly where the
--- leader's contract says
+-- leader's contract says, at the place of the listing that the journal has
 pub record TellsNote (c : Config) (r : ℕ) (mine : List Event) (lead : Lead) (answer : Answer)
     (note : Note) : Type 0 where
   pub background : is_odd (length mine) ≡ false → note ≡ Note.Working
   pub idle :
-      is_odd (length mine) ≡ true → lead_due c r mine lead ≡ None → note ≡ heed_note c r mine lead
+      is_odd (length mine) ≡ true → due_after c r mine ≡ None → note ≡ heed_note c r mine lead
   pub taken :
-      (verb : Verb) → is_odd (length mine) ≡ true → lead_due c r mine lead ≡ Some verb
+      (verb : Verb) → is_odd (length mine) ≡ true → due_after c r mine ≡ Some verb
       → known c r (record { by = r; verb = verb; answer = answer } ∷ mine)
       ≡ grown (known_told c r mine r verb answer) (value_committed note)
   pub says :
-      (verb : Verb) → is_odd (length mine) ≡ true → lead_due c r mine lead ≡ Some verb
-      → Says c r mine lead.up lead.place verb answer note
+      (verb : Verb) → is_odd (length mine) ≡ true → due_after c r mine ≡ Some verb
+      → Says c r mine (tables_at c r mine).up (place_after c r mine) verb answer note
 
 -- a step of r: its event comes to the part, it is the verb that was due or a beat, and the note
 -- tells of it
@@ -94,7 +95,7 @@ pub record HasMade (c : Config) (r : ℕ) (mine now : List Event) (lead : Lead)
   pub verb : Verb
   pub answer : Answer
   pub part : now ≡ (record { by = r; verb = verb; answer = answer }) ∷ mine
-  pub made : IsMade c r mine lead verb
+  pub made : IsMade c r mine verb
   pub tells : TellsNote c r mine lead answer note
 
 -- the same of a turn that made a step

@@ -2,6 +2,7 @@
 //! input, and told to the bytes of the output.
 #![tactic(auto)]
 
+mod alone;
 mod asking;
 mod booking;
 mod living;
@@ -14,7 +15,10 @@ mod summing;
 mod top;
 mod tracing;
 
+pub use alone::{Alone, told_alone};
 pub use asking::{Asked, INPUT_LIMIT, Task, limits_are_stated};
 pub use serving::SENDERS;
 pub use starting::mu_from_words;
+pub use statuses::status_for;
+pub use summing::told_of_bulk;
 pub use top::{Answered, mu};

@@ -7,7 +7,7 @@ use mu_reasons::Broken;
 use mu_report::{Said, status};
 
 /// The status of what is said, once it is written.
-pub(crate) fn status_for(said: &Said) -> Status
+pub fn status_for(said: &Said) -> Status
     ensures { result ≡ status_for_said said.now }
 {
     match said {

@@ -1,4 +1,4 @@
-use Rattle.std.proofs.Common.{◌+◌, ◌≡◌, ◌≤◌, arith, length}
+use Rattle.std.proofs.Common.{arith}
 use Rattle.mu_input.proofs.Advancing.{few_lines}
 use Rattle.mu_judging.proofs.explaining.count_of_lines.Goals as goal
 

@@ -1,4 +1,4 @@
-use Rattle.std.proofs.Common.{◌≡◌, ◌<◌, ◌^◌, ap, arith, length, subst, sym, ◌∙◌}
+use Rattle.std.proofs.Common.{◌<◌, ◌^◌, ap, arith, length, subst, sym}
 use Rattle.mu_input.proofs.Advancing.{few_lines}
 use Rattle.mu_reasons.specs.Breaks.{Explains}
 use Rattle.mu_text.specs.Lines.{lines}

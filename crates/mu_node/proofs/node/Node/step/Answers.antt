@@ -13,7 +13,10 @@ use Rattle.mu_lead.specs.Beside.{leads_at}
 use Rattle.mu_node.specs.declared.node.Node.{Node}
 use Rattle.mu_node.specs.Cycle.{IsBackgroundDue, IsMade}
 use Rattle.mu_node.specs.Due.{FitsLead, lead_due, verb_or_beat}
+use Rattle.mu_lead.specs.Journal.{tables_at}
+use Rattle.mu_lead.specs.Listing.{Tables}
 use Rattle.mu_node.specs.Journal.{FollowsTurn}
+use Rattle.mu_node.specs.Paced.{PacesAt}
 use Rattle.mu_node.specs.Node.{HasPlanned, StandsForNode}
 use Rattle.mu_node.specs.Notes.{MovesGoing, SaysTook, TellsNote, TellsTook}
 use Rattle.mu_node.proofs.Leading.{even_may}
@@ -83,11 +86,12 @@ follows_of c r mine old planned due answer good possible short going stands held
   made = record {
     own = refl;
     going = going;
-    lead = old.lead;
-    made = record { replication = λ odd. ap verb_or_beat (led odd); background = λ even. (due, cycle even, refl) };
-    paces = stands.paces.paces;
-    listed = λ odd. ap verb_or_beat (led odd ∙ due_listed c r mine old.lead stands.lead stands.paces.listed);
-    leads = λ even leads. even_may c r mine even (stands.leads leads);
+    made = record {
+      replication = λ odd. ap verb_or_beat (led odd ∙ due_listed c r mine old.lead stands.lead stands.paces.listed);
+      background = λ even. (due, subst (λ l. IsBackgroundDue c r mine l due) (ap leads_at stands.paces.listed.place) (cycle even), refl);
+    };
+    paces = subst (λ p. PacesAt c r mine (tables_at c r mine).written p) stands.paces.listed.place (subst (λ (t : Tables). PacesAt c r mine t.written old.lead.place) stands.paces.listed.tables stands.paces.paces);
+    leads = λ even leads. even_may c r mine even (stands.leads (ap leads_at stands.paces.listed.place ∙ leads));
   };
 }
 
@@ -134,14 +138,17 @@ returns-clause-made g c =
     own id c.requires.1.0 c.or_beat-verb.ensures c.step-answer.ensures.part c.step-answer.ensures.possible in
     let took = to_own (λ x i l. TellsTook x i l c.plan-plan.result.leads due c.plan-plan.result.heeded answer c.took.result) new.follow.config node.follow.config c.args.id node.id g.mine g.mine (sym plan.config) (id ∙ sym c.requires.1.1.0) refl c.took.ensures.note in
     let says = to_own (λ x i l. SaysTook x i l c.plan-plan.result.leads due c.plan-plan.result.heeded new.lead c.took.new.self.lead answer c.took.result) new.follow.config node.follow.config c.args.id node.id g.mine g.mine (sym plan.config) (id ∙ sym c.requires.1.1.0) refl c.took.ensures.says in
+    let stands = to_own (λ x i l. StandsForNode x i l node) k node.follow.config r node.id mine g.mine own id c.requires.1.0 held in
+    let listed = stands.paces.listed in
+    let same = due_listed node.follow.config node.id g.mine node.lead stands.lead listed in
     record {
       verb = c.or_beat-verb.result;
       answer = answer;
       part = c.step-answer.ensures.part;
-      made = to_port (λ x i l. IsMade x i l node.lead c.or_beat-verb.result) k node.follow.config r node.id mine g.mine own id c.requires.1.0
-          (subst (λ v. IsMade node.follow.config node.id g.mine node.lead v) (sym c.or_beat-verb.ensures) (record { replication = λ odd. ap verb_or_beat (plan.led odd); background = λ even. (due, plan.cycle even, refl) }));
+      made = to_port (λ x i l. IsMade x i l c.or_beat-verb.result) k node.follow.config r node.id mine g.mine own id c.requires.1.0
+          (subst (λ v. IsMade node.follow.config node.id g.mine v) (sym c.or_beat-verb.ensures) (record { replication = λ odd. ap verb_or_beat (plan.led odd ∙ same); background = λ even. (due, subst (λ l. IsBackgroundDue node.follow.config node.id g.mine l due) (ap leads_at listed.place) (plan.cycle even), refl) }));
       tells = to_port (λ x i l. TellsNote x i l node.lead answer c.took.result) k node.follow.config r node.id mine g.mine own id c.requires.1.0
-          (note_told node.follow.config node.id g.mine node.lead new.lead c.took.new.self.lead c.plan-plan.result.leads due c.plan-plan.result.heeded answer c.took.result plan.leads plan.led plan.heeded possible took plan.told says);
+          (note_told node.follow.config node.id g.mine node.lead new.lead c.took.new.self.lead c.plan-plan.result.leads due c.plan-plan.result.heeded answer c.took.result plan.leads plan.led plan.heeded possible took plan.told says stands.lead listed);
     }
 
 pub returns-clause-going : goal.returns-clause-going

@@ -133,7 +133,7 @@ returns-in-Some-clause-listed g c =
     let k = g.P.Port.config c.args.port.now in
     let r = g.P.Port.number c.args.port.now in
     let stands = c.requires.stands in
-    steps_give (WasMade k r) (IsListed k r) (λ past e made. made.listed) (g.P.Port.part c.args.port.now) stands.made
+    steps_give (WasMade k r) (IsListed k r) (λ past e made. made.made.replication) (g.P.Port.part c.args.port.now) stands.made
 
 pub returns-in-None-clause-listed : goal.returns-in-None-clause-listed
 returns-in-None-clause-listed g c =
@@ -141,4 +141,4 @@ returns-in-None-clause-listed g c =
     let k = g.P.Port.config now in
     let r = g.P.Port.number now in
     let stands = c.step.ensures.stands in
-    steps_give (WasMade k r) (IsListed k r) (λ past e made. made.listed) (g.P.Port.part now) stands.made
+    steps_give (WasMade k r) (IsListed k r) (λ past e made. made.made.replication) (g.P.Port.part now) stands.made

@@ -1,0 +1,17 @@
+use Rattle.std.proofs.Common.{arith}
+use Rattle.mu_model.specs.Legal.{IsLegalHistory, MayFollow}
+use Rattle.mu_model.proofs.Budgets.{short_history}
+use Rattle.mu_regions.proofs.Range.{in_range}
+use Rattle.mu_check.proofs.judge.Judge.take.Goals as goal
+
+pub returns : goal.returns
+returns c = λ past held.
+    let config = c.args.config.now in
+    let follows = c.in_default.ensures past held in
+    let short = short_history config past held.legal c.requires.replicas.1 c.requires.budget.1 in
+    let legal : IsLegalHistory config past × MayFollow config past c.args.event.now = (held.legal, follows) in
+    record {
+      legal = legal;
+      regions = c.take.ensures config past (omega (arith, short)) (in_range config _ _ _ follows.allowed).near held.regions;
+      replicas = c.take-2.ensures past legal held.replicas;
+    }

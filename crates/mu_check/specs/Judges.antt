@@ -1,0 +1,22 @@
+-- When the states of a judge stand for a legal history.
+use Rattle.std.specs.Prelude.{List, ◌∷◌, ◌≡◌, None, Some}
+use Rattle.std.specs.declared.option.Option.{Option}
+use Rattle.mu_check.specs.declared.judge.Judge.{Judge}
+use Rattle.mu_model.specs.declared.config.Config.{Config}
+use Rattle.mu_model.specs.declared.event.Event.{Event}
+use Rattle.mu_model.specs.Legal.{IsLegalHistory}
+use Rattle.mu_outcome.specs.Verdicts.{IsWrong}
+use Rattle.mu_outcome.specs.declared.verdict.Wrong.{Wrong}
+use Rattle.mu_parts.specs.Parts.{StandsForReplicas}
+use Rattle.mu_regions.specs.Stands.{Stands}
+
+-- the history is legal, and the states are those that it leads to
+pub record StandsForJudge (c : Config) (past : List Event) (judge : Judge) : Type 0 where
+  pub legal : IsLegalHistory c past
+  pub regions : Stands c past judge.regions
+  pub replicas : StandsForReplicas c past judge.replicas
+
+-- the judge took the event, or nothing changed since this is wrong with it
+abbrev pub StaysOrTakes : Config → List Event → Event → Judge → Judge → Option Wrong → Type 0
+StaysOrTakes c past e old new None = StandsForJudge c (e ∷ past) new
+StaysOrTakes c past e old new (Some cause) = (new ≡ old) × IsWrong c past e cause

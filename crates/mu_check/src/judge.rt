@@ -1,0 +1,91 @@
+//! The states that the events so far have led to: a list of events is judged one by one.
+ghost use Rattle.std.specs.Prelude.{List, [], ◌≡◌, ◌↔◌, IfOk, IsTrue, MatchOption};
+ghost use Rattle.mu_model.specs.declared.event.Event.{Event as Made};
+ghost use Rattle.mu_model.specs.Contents.{IsConfig};
+ghost use Rattle.mu_model.specs.Legal.{MayFollow};
+ghost use Rattle.mu_outcome.specs.Verdicts.{IsWrong};
+ghost use Rattle.mu_reasons.specs.Breaks.{IsFault};
+ghost use Rattle.mu_check.specs.Judges.{StandsForJudge, StaysOrTakes};
+
+use mu_model::{Answer, Config, Event, NoMemory};
+use mu_outcome::Wrong;
+use mu_parts::Replicas;
+use mu_reasons::{Fault, Reason};
+use mu_regions::Regions;
+use std::alloc::Global;
+
+/// Whether the answers are the same.
+fn is_same(given: Answer, defined: Answer) -> bool
+    ensures { IsTrue result ↔ (given ≡ defined) }
+{
+    given == defined
+}
+
+/// The states of the regions and of the replicas after a legal list of events.
+#[derive(Drop)]
+pub struct Judge {
+    regions: Regions,
+    replicas: Replicas,
+}
+
+impl Judge {
+    /// The states before any event. Takes all memory that a judge ever takes.
+    ///
+    /// # Errors
+    ///
+    /// Want of memory alone.
+    pub fn new(alloc: Global, config: &Config) -> Result<Judge, NoMemory>
+        requires { IsConfig config.now }
+        ensures { IfOk result (λ judge. StandsForJudge config.now [] judge) }
+    {
+        Ok(Judge {
+            regions: Regions::new(alloc, config)?,
+            replicas: Replicas::new(alloc, config)?,
+        })
+    }
+
+    /// Takes one more event if it may follow; else it stays as it is, and this is what is wrong.
+    pub fn take(&mut self, config: &Config, event: &Event) -> Option<Wrong>
+        requires { IsConfig config.now }
+        ensures { (past : List Made) → StandsForJudge config.now past self.old
+            → StaysOrTakes config.now past event.now self.old self.new result }
+    {
+        if let Some(cause) = self.wrong(config, event) {
+            return Some(cause);
+        }
+        self.regions.take(event);
+        self.replicas.take(config, event);
+        None
+    }
+
+    /// What is wrong with an event after those that were taken.
+    fn wrong(&self, config: &Config, event: &Event) -> Option<Wrong>
+        requires { IsConfig config.now }
+        ensures { (past : List Made) → StandsForJudge config.now past self.now
+            → MatchOption result (MayFollow config.now past event.now)
+            (λ cause. IsWrong config.now past event.now cause) }
+    {
+        if !self.replicas.allows(config, event.by, &event.verb) {
+            return Some(Wrong::NotAllowed);
+        }
+        let expected = self.regions.answer(event.by, &event.verb);
+        if is_same(event.answer, expected) {
+            None
+        } else {
+            Some(Wrong::WrongAnswer { expected })
+        }
+    }
+
+    /// The reason why an event may not follow, if this is wrong with it.
+    pub fn fault(&self, config: &Config, event: &Event, cause: Wrong) -> Fault
+        requires { IsConfig config.now }
+        ensures { (past : List Made) → StandsForJudge config.now past self.now
+            → IsWrong config.now past event.now cause → IsFault config.now past event.now result }
+    {
+        match (cause, self.replicas.why_not(config, event.by, &event.verb)) {
+            (Wrong::NotAllowed, Some(reason)) => Fault::NotAllowed(reason),
+            (Wrong::NotAllowed, None) => Fault::NotAllowed(Reason::NoReplica { replica: event.by }),
+            (Wrong::WrongAnswer { expected }, _) => Fault::WrongAnswer { expected },
+        }
+    }
+}

@@ -1,0 +1,43 @@
+//! The picture of a trace in memory.
+ghost use Rattle.std.specs.Prelude.{◌≡◌, ◌≤◌, Some, length};
+ghost use Rattle.mu_drawing.specs.Answers.{IsSayable, Tells, TellsOfSource};
+ghost use Rattle.mu_drawing.specs.Words.{asked_steps};
+
+use crate::asking::{Asked, LAST_STEP};
+use crate::drawing::{Told, told_of};
+use mu_input::TRACE_LIMIT;
+use mu_report::Said;
+use std::alloc::Global;
+
+/// The steps from one to another, where they are in order and the last is one that can be named.
+pub fn asked_between(first: u32, last: u32) -> Option<Asked>
+    ensures { result ≡ asked_steps first last }
+{
+    if first <= last && last <= LAST_STEP {
+        Some(Asked { first, last })
+    } else {
+        None
+    }
+}
+
+/// What the program tells where it is asked this, and these are the bytes of its input.
+pub fn told_in_memory(alloc: Global, asked: Option<Asked>, bytes: &[u8]) -> Told
+    ensures told { Tells asked (Some bytes.now) (Some bytes.now) 0 0 result }
+    ensures sayable { IsSayable result }
+{
+    match asked {
+        None => Told::Usage,
+        Some(asked) => told_of_bytes(alloc, asked, bytes),
+    }
+}
+
+/// The same where steps are asked for.
+fn told_of_bytes(alloc: Global, asked: Asked, bytes: &[u8]) -> Told
+    ensures told { TellsOfSource (Some bytes.now) (Some bytes.now) 0 0 asked result }
+    ensures sayable { IsSayable result }
+{
+    if bytes.len() > TRACE_LIMIT {
+        return Told::Said(Said::TooLong);
+    }
+    told_of(alloc, bytes, asked)
+}
