@@ -10,7 +10,7 @@ pub mod Fetching
 pub mod Finishing
 mod Following
 mod Granting
-mod Lagging
+pub mod Lagging
 mod LastNoting
 mod Lasting
 mod Moments
