@@ -66,9 +66,12 @@ def cases_at(path):
 
 
 def troubles(cases, answers):
-    """What is wrong with the answers, a line for each case that isn't right."""
+    """What is wrong with the answers, a line for each case that isn't right; each case has to have one."""
     found = [(case, case.trouble(answer)) for case, answer in zip(cases, answers)]
-    return [f"{case.name}: {trouble}" for case, trouble in found if trouble]
+    wrong = [f"{case.name}: {trouble}" for case, trouble in found if trouble]
+    if len(answers) != len(cases):
+        wrong.append(f"{len(cases)} cases have {len(answers)} answers")
+    return wrong
 
 
 def main():

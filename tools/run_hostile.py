@@ -125,6 +125,8 @@ class Trials:
                 is_right = (status, text) == (status_due, said) or answer.permits(status, text)
             if not is_right:
                 wrong.append(f"{words} call {call}: {status} {text[:60]!r}")
+        if call == 1:
+            wrong.append(f"{words}: no {kind} was let fail")
         at_once = f", {piece} bytes at once" if piece else ""
         self.say(f"{self.title(words)}: each {kind} fails in turn{at_once}", call, wrong)
 

@@ -3,6 +3,7 @@ ghost use Rattle.std.specs.Prelude.{◌≡◌, ◌≢◌, ◌+◌, ◌-◌, ◌<
 ghost use Rattle.std.specs.Io.KnownBytes.{Appends, Consumes, IsAtEnd, Keeps};
 ghost use Rattle.mu_io.specs.Faults.{Rose};
 ghost use Rattle.mu_io.specs.Whole.{OnFault, OnNoMemory, OnTooLong, TakesAtMost};
+ghost use Rattle.mu_io.specs.declared.whole.TheConstants.{PIECE};
 
 use crate::{Failed, Sink, Source};
 use std::alloc::Global;
@@ -122,7 +123,9 @@ fn fill<S: Source>(
 ) -> Result<usize, Failed>
     requires empty { buffer.old.items ≡ [] }
     requires room { size ≤ vec_capacity buffer.old }
+    requires no_more { vec_capacity buffer.old ≤ size }
     requires piece { 0 < length piece.old }
+    requires small { length piece.old ≤ PIECE }
     ensures count { IfOk result (λ n. n ≡ length buffer.new.items) }
     ensures at_most { IfOk result (λ n. n ≤ size) }
     ensures bytes { OnOk result

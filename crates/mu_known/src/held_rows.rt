@@ -1,5 +1,5 @@
 //! Which rows a replica has written or read, and what it has applied.
-ghost use Rattle.std.specs.Prelude.{IfOk, List, [], length, ℕ, Bool, ◌%◌, ◌&&◌, ◌*◌, ◌+◌, ◌/◌, ◌<◌, ◌==◌, ◌||◌, ◌∷◌, ◌≡◌, ◌≤◌, false};
+ghost use Rattle.std.specs.Prelude.{IfOk, List, [], length, replicate, ℕ, Bool, ◌%◌, ◌&&◌, ◌*◌, ◌+◌, ◌/◌, ◌<◌, ◌==◌, ◌||◌, ◌∷◌, ◌≡◌, ◌≤◌, false};
 ghost use Rattle.mu_model.specs.declared.config.Config.{Config};
 ghost use Rattle.mu_model.specs.declared.event.Event.{Event};
 ghost use Rattle.mu_model.specs.Contents.{IsConfig, row_count};
@@ -78,16 +78,31 @@ fn note_got(got: &mut [bool], r: u8, event: &Event)
     }
 }
 
+/// No own word written: a mark for each of the twelve words of each row, and no more.
+fn none_written(alloc: Global, config: &Config) -> Result<Vec<bool>, NoMemory>
+    requires { IsConfig config.now }
+    ensures { IfOk result (λ marks. marks.items ≡ replicate (row_count config.now * 12) false) }
+{
+    vec![in alloc; false; config.rows.len() * 12]
+}
+
+/// No word there: such marks of seven replicas, and no more.
+fn none_there(alloc: Global, config: &Config) -> Result<Vec<bool>, NoMemory>
+    requires { IsConfig config.now }
+    ensures { IfOk result (λ marks. marks.items ≡ replicate (row_count config.now * 84) false) }
+{
+    vec![in alloc; false; config.rows.len() * 84]
+}
+
 impl HeldRows {
     /// Nothing written or read. Takes all memory that it ever needs.
     pub fn new(alloc: Global, config: &Config) -> Result<HeldRows, NoMemory>
         requires { IsConfig config.now }
         ensures { IfOk result (λ state. (r : ℕ) → StandsForHeldRows config.now r [] state) }
     {
-        let rows = config.rows.len();
         Ok(HeldRows {
-            written: vec![in alloc; false; rows * 12]?,
-            got: vec![in alloc; false; rows * 84]?,
+            written: none_written(alloc, config)?,
+            got: none_there(alloc, config)?,
             applied: 0,
         })
     }

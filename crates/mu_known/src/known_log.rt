@@ -121,6 +121,16 @@ fn note_seen(seen: &mut [bool], r: u8, event: &Event)
     }
 }
 
+/// No value yet: room for one at each position, and no more.
+fn no_values(alloc: Global, config: &Config) -> Result<Vec<u16>, NoMemory>
+    requires { row_count config.now ≤ 1500 }
+    ensures none { IfOk result (λ values. values.items ≡ []) }
+    ensures room { IfOk result (λ values. vec_capacity values
+        ≡ row_count config.now + reserve config.now + 1) }
+{
+    Vec::with_capacity(alloc, positions_in(config))
+}
+
 impl KnownLog {
     /// Nothing learnt. Takes all memory that it ever needs.
     pub fn new(alloc: Global, config: &Config) -> Result<KnownLog, NoMemory>
@@ -129,7 +139,7 @@ impl KnownLog {
     {
         let positions = positions_in(config);
         Ok(KnownLog {
-            values: Vec::with_capacity(alloc, positions)?,
+            values: no_values(alloc, config)?,
             marks: [false; 7],
             counts: vec![in alloc; 0; 256]?,
             rows: ClientRows::new(alloc, config)?,

@@ -1,5 +1,5 @@
 //! The words that a replica has of the rows of a job.
-ghost use Rattle.std.specs.Prelude.{IfOk, if◌then◌else◌, List, [], ℕ, ◌&&◌, ◌<◌, ◌==◌, ◌∷◌, ◌≡◌};
+ghost use Rattle.std.specs.Prelude.{IfOk, if◌then◌else◌, List, [], replicate, ℕ, ◌&&◌, ◌*◌, ◌<◌, ◌==◌, ◌∷◌, ◌≡◌};
 ghost use Rattle.mu_model.specs.declared.config.Config.{Config};
 ghost use Rattle.mu_model.specs.declared.event.Event.{Event};
 ghost use Rattle.mu_model.specs.Contents.{IsConfig, row_count};
@@ -50,6 +50,14 @@ fn note_word(words: &mut [u64], r: u8, event: &Event)
     }
 }
 
+/// No word of any row: room for twelve of each, and no more.
+fn no_words(alloc: Global, config: &Config) -> Result<Vec<u64>, NoMemory>
+    requires { IsConfig config.now }
+    ensures { IfOk result (λ words. words.items ≡ replicate (row_count config.now * 12) 0) }
+{
+    vec![in alloc; 0; config.rows.len() * 12]
+}
+
 impl RowWords {
     /// No word. Takes all memory that it ever needs: 96 bytes for each command.
     pub fn new(alloc: Global, config: &Config) -> Result<RowWords, NoMemory>
@@ -57,7 +65,7 @@ impl RowWords {
         ensures { IfOk result (λ state. (r : ℕ) → StandsForRowWords config.now r [] state) }
     {
         Ok(RowWords {
-            words: vec![in alloc; 0; config.rows.len() * 12]?,
+            words: no_words(alloc, config)?,
         })
     }
 
