@@ -1,9 +1,11 @@
 -- A replica that asks alone, and that all others keep up with, commits again in time though heads lag.
-use Rattle.std.proofs.Common.{◌≡◌, ◌≢◌, ◌⊎◌, ℕ, zero, suc, ◌+◌, ◌*◌, ◌<◌, ◌≤◌, ◌==◌, ◌&&◌, ◌||◌, not, inl, inr, Bool, true, false, cond, Some, None, List, [], ◌∷◌, ◌++◌, length, refl, sym, ◌∙◌, ap, arith, subst, true≢false, append_assoc, eqb-true, is_some}
+use Rattle.std.proofs.Common.{◌≡◌, ◌≢◌, ◌⊎◌, ℕ, zero, suc, ◌+◌, ◌-◌, ◌*◌, ◌/◌, ◌%◌, ◌<◌, ◌≤◌, ◌==◌, ◌&&◌, ◌||◌, not, inl, inr, Bool, true, false, cond, Some, None, List, [], ◌∷◌, ◌++◌, length, refl, sym, ◌∙◌, ap, arith, subst, true≢false, append_assoc, eqb-true, is_some}
 use Rattle.std.specs.declared.option.Option.{Option}
 use Rattle.std.specs.Prelude.{if◌then◌else◌, nat_le}
 use Rattle.std.proofs.lemmas.Bool.{and_from, and_parts, cases_lt, lt-leb}
 use Rattle.std.proofs.lemmas.List.{length-append}
+use Rattle.std.proofs.lemmas.Nat.{div-add-mod'}
+use Rattle.std.proofs.Math.Nat.{mod-lt}
 use Rattle.mu_model.specs.declared.config.Config.{Config}
 use Rattle.mu_model.specs.declared.event.Answer.{Answer}
 use Rattle.mu_model.specs.declared.event.Event.{Event}
@@ -37,7 +39,7 @@ use Rattle.mu_alive.specs.Alone.{WritesAlone}
 use Rattle.mu_alive.specs.Bringing.{bringing_steps}
 use Rattle.mu_alive.specs.Enough.{beginning_steps}
 use Rattle.mu_alive.specs.Finishing.{KeepUp, lagging_steps}
-use Rattle.mu_alive.specs.Lagging.{LoneLeadersApplyAllInAnyRing, LoneLeadersCommitAgain, committing_steps, steps_in_any_ring}
+use Rattle.mu_alive.specs.Lagging.{LoneLeadersApplyAllInAnyRing, LoneLeadersFillTheRing, filling_steps, free_places, steps_in_any_ring}
 use Rattle.mu_alive.specs.Lone.{LeadsAlone}
 use Rattle.mu_alive.proofs.Applying.{applied_is_known}
 use Rattle.mu_alive.proofs.Beginning.{CutAt, begins_in_time, cut_at}
@@ -97,35 +99,28 @@ goes_on : (c : Config) (a : ℕ) (newer base : List Event) → AtEachStep (Leads
 goes_on c a [] base leads fine goes = goes
 goes_on c a (e ∷ newer) base leads fine goes = goes_step c a e (newer ++ base) leads.1 fine (goes_on c a newer base leads.0 fine.0 goes)
 
--- where all heads have come to what it knows, none lags
-room_left : (c : Config) (a q l by : ℕ) (verb : Verb) (answer : Answer) (past : List Event) → IsConfig c → Needs c by (part by past) verb → answer ≡ answer_of c by past verb → ((r : ℕ) → r < c.replicas → l ≤ region_head r past) → lacks_room c (l + reserve c) (head_read a q by verb answer) ≡ false
-room_left c a q l by (Verb.Head p) answer past good needs is heads = subst (λ x. lacks_room c (l + reserve c) (head_read a q by (Verb.Head p) x) ≡ false) (sym is) (go ((by == a) && (p == q)) refl)
+-- while the ring has places above the heads of all, besides those for marks, none lags
+room_left : (c : Config) (a q l k by : ℕ) (verb : Verb) (answer : Answer) (past : List Event) → k + reserve c < l + c.ring → Needs c by (part by past) verb → answer ≡ answer_of c by past verb → ((r : ℕ) → r < c.replicas → l ≤ region_head r past) → lacks_room c (k + reserve c) (head_read a q by verb answer) ≡ false
+room_left c a q l k by (Verb.Head p) answer past room needs is heads = subst (λ x. lacks_room c (k + reserve c) (head_read a q by (Verb.Head p) x) ≡ false) (sym is) (go ((by == a) && (p == q)) refl)
   where
-    few : reserve c < c.ring
-    few = let low = good.ring.0 in let most = good.replicas.1 in reserves (c.version == 2) low most
-      where
-        reserves : (t : Bool) → 8 ≤ c.ring → c.replicas ≤ 7 → cond t c.replicas 0 < c.ring
-        reserves true low most = omega (arith, low, most)
-        reserves false low most = omega (arith, low)
-
-    go : (t : Bool) → ((by == a) && (p == q)) ≡ t → lacks_room c (l + reserve c) (cond t (Some (region_head p past)) None) ≡ false
-    go true read = lt-leb (region_head p past + c.ring) (l + reserve c) (let high = heads p needs in let f = few in omega (arith, high, f))
+    go : (t : Bool) → ((by == a) && (p == q)) ≡ t → lacks_room c (k + reserve c) (cond t (Some (region_head p past)) None) ≡ false
+    go true read = lt-leb (region_head p past + c.ring) (k + reserve c) (let high = heads p needs in omega (arith, high, room))
     go false other = refl
-room_left c a q l by verb answer past good needs is heads = refl
+room_left c a q l k by verb answer past room needs is heads = refl
 
-none_lags : (c : Config) (a l : ℕ) (past : List Event) (e : Event) → IsConfig c → IsLegalHistory c (e ∷ past) → length (known c a (part a past)) ≡ l → ((r : ℕ) → r < c.replicas → l ≤ region_head r past) → is_lagging c a (part a past) e ≡ false
-none_lags c a l past e good legal long heads =
+none_lags : (c : Config) (a l k : ℕ) (past : List Event) (e : Event) → k + reserve c < l + c.ring → IsLegalHistory c (e ∷ past) → length (known c a (part a past)) ≡ k → ((r : ℕ) → r < c.replicas → l ≤ region_head r past) → is_lagging c a (part a past) e ≡ false
+none_lags c a l k past e room legal long heads =
     roomy c.replicas (λ q. not (marked c q (known c a (part a past))) && lacks_room c (length (known c a (part a past)) + reserve c) (head_read a q e.by e.verb e.answer))
-    (λ q. off (not (marked c q (known c a (part a past)))) (lacks_room c (length (known c a (part a past)) + reserve c) (head_read a q e.by e.verb e.answer)) (ap (λ n. lacks_room c (n + reserve c) (head_read a q e.by e.verb e.answer)) long ∙ room_left c a q l e.by e.verb e.answer past good legal.1.allowed.may legal.1.answer heads))
+    (λ q. off (not (marked c q (known c a (part a past)))) (lacks_room c (length (known c a (part a past)) + reserve c) (head_read a q e.by e.verb e.answer)) (ap (λ n. lacks_room c (n + reserve c) (head_read a q e.by e.verb e.answer)) long ∙ room_left c a q l k e.by e.verb e.answer past room legal.1.allowed.may legal.1.answer heads))
   where
     off : (t u : Bool) → u ≡ false → (t && u) ≡ false
     off true u h = h
     off false u h = refl
 
 -- so it commits within the bound from there on
-commits_from : (c : Config) (live : ℕ → Bool) (a l : ℕ) (newer older : List Event) → IsConfig c → LeadsAlone c live a (newer ++ older) → knows_all c a (part a (newer ++ older)) ≡ false → Goes c a (part a older) → ((r : ℕ) → r < c.replicas → l ≤ region_head r older) → l ≤ length (known c a (part a older))
-    → length (known c a (part a (newer ++ older))) ≤ l → 2 * bringing_steps c ≤ length (part a newer) → ⊥
-commits_from c live a l newer older good lone lacks goes heads knew none long = elim (closed_or (progressing c a) k.rest base) [
+commits_from : (c : Config) (live : ℕ → Bool) (a l k' : ℕ) (newer older : List Event) → IsConfig c → k' + reserve c < l + c.ring → LeadsAlone c live a (newer ++ older) → knows_all c a (part a (newer ++ older)) ≡ false → Goes c a (part a older) → ((r : ℕ) → r < c.replicas → l ≤ region_head r older) → k' ≤ length (known c a (part a older))
+    → length (known c a (part a (newer ++ older))) ≤ k' → 2 * bringing_steps c ≤ length (part a newer) → ⊥
+commits_from c live a l k' newer older good room lone lacks goes heads knew none long = elim (closed_or (progressing c a) k.rest base) [
   | inl x ↦ closed x (located a newer (k.newer ++ x.newer) x.older x.event (k.is ∙ ap (λ z. k.newer ++ z) x.is ∙ sym (append_assoc k.newer x.newer (x.event ∷ x.older))))
   | inr open_yet ↦
       let short = open_short a (progressing c a) (limit c c.replicas) k.rest base (moments_before (λ now. IsInTime (progressing c a) now) k.newer (k.rest ++ base) (subst (AtEachMoment (IsInTime (progressing c a))) split (progress_moments c a (part a (newer ++ older)) lone.led))) goes.open_yet open_yet in
@@ -191,7 +186,7 @@ commits_from c live a l newer older good lone lacks goes heads knew none long = 
         named : is_named c a past ≡ true
         named = leads_here.1.named read
 
-        grown : length (known c a past) ≡ l
+        grown : length (known c a past) ≡ k'
         grown =
             let more = known_grows c a x.older base in
             let rest = known_grows c a ((k.newer ++ x.newer) ++ x.event ∷ []) past in
@@ -202,7 +197,7 @@ commits_from c live a l newer older good lone lacks goes heads knew none long = 
         lag =
             let whole : newer ++ older ≡ l'.newer ++ x.event ∷ (l'.older ++ older) = ap (λ z. z ++ older) l'.is ∙ append_assoc l'.newer (x.event ∷ l'.older) older in
             subst (λ z. is_lagging c a z x.event ≡ false) mine_is
-            (none_lags c a l (l'.older ++ older) x.event good (legal_older c l'.newer (x.event ∷ (l'.older ++ older)) (subst (IsLegalHistory c) whole lone.legal)) (ap (λ z. length (known c a z)) mine_is ∙ grown)
+            (none_lags c a l k' (l'.older ++ older) x.event room (legal_older c l'.newer (x.event ∷ (l'.older ++ older)) (subst (IsLegalHistory c) whole lone.legal)) (ap (λ z. length (known c a z)) mine_is ∙ grown)
             (λ r low. let up = greatest_along (λ e. head_raised r e.by e.verb) l'.older older in let high = heads r low in omega (arith, up, high)))
 
         by_kind : (m : Bool) → commits_more c a past x.event ≡ m → (t : Bool) → t ≡ false → (m || t) ≡ true → ⊥
@@ -229,14 +224,71 @@ goes_at c live a past lone lacks long = elim (min_or_none a (part a past)) [
 lacks_older : (c : Config) (a : ℕ) (newer older : List Event) → knows_all c a (part a (newer ++ older)) ≡ false → knows_all c a (part a older) ≡ false
 lacks_older c a newer older lacks = last_moment (λ now. knows_all c a now ≡ false) (part a older) (moments_before (λ now. knows_all c a now ≡ false) (part a newer) (part a older) (subst (AtEachMoment (λ now. knows_all c a now ≡ false)) (filter-append (λ e. e.by == a) newer older) (lacks_moments c a (part a (newer ++ older)) lacks)))
 
-pub commits_again : LoneLeadersCommitAgain
-commits_again c live a newer older good all lone writes keep lacks begun long = elim (cases_lt (length (known c a (part a older))) (length (known c a (part a (newer ++ older))))) [
-  | inl more ↦ more
-  | inr none ↦ absurd (stuck none (known c a (part a older)) refl)
+-- from where the heads of all have come to l on it knows one entry more with each such stretch,
+-- while the ring has places
+fills : (c : Config) (live : ℕ → Bool) (a l m : ℕ) (newer older : List Event) → IsConfig c → m + reserve c ≤ c.ring → LeadsAlone c live a (newer ++ older) → knows_all c a (part a (newer ++ older)) ≡ false → beginning_steps c ≤ length (part a older) → ((r : ℕ) → r < c.replicas → l ≤ region_head r older) → l ≤ length (known c a (part a older)) → m * (2 * bringing_steps c) ≤ length (part a newer)
+    → l + m ≤ length (known c a (part a (newer ++ older)))
+fills c live a l zero newer older good room lone lacks begun heads knew long =
+    let grows = known_grows c a (part a newer) (part a older) in let same = ap (λ x. length (known c a x)) (filter-append (λ e. e.by == a) newer older) in omega (arith, grows, same, knew)
+fills c live a l (suc m) newer older good room lone lacks begun heads knew long = elim (cases_lt (l + m) (length (known c a (part a (newer ++ older))))) [
+  | inl more ↦ omega (arith, more)
+  | inr none ↦ absurd (commits_from c live a l (l + m) at.newer (at.rest ++ older) good (omega (arith, room)) lone_all lacks_all (goes_at c live a (at.rest ++ older) lone_rest lacks_rest (let sum = longer at.rest in omega (arith, sum, begun))) (λ r low. let up = greatest_along (λ e. head_raised r e.by e.verb) at.rest older in let high = heads r low in omega (arith, up, high)) (fills c live a l m at.rest older good (omega (arith, room)) lone_rest lacks_rest begun heads knew (equal (m * (2 * bringing_steps c)) (length (part a at.rest)) at.count)) (let same = ap (λ x. length (known c a (part a x))) split in omega (arith, same, none)) (rest_of_it (2 * bringing_steps c) m (length (part a newer)) (length (part a at.newer)) (length (part a at.rest)) (ap (λ x. length (part a x)) at.is ∙ ap length (filter-append (λ e. e.by == a) at.newer at.rest) ∙ length-append (part a at.newer) (part a at.rest)) at.count long))
 ]
   where
+    fewer : (m d n : ℕ) → suc m * d ≤ n → m * d ≤ n
+    fewer m d n long = let next : suc m * d ≡ m * d + d = omega arith in omega (arith, next, long)
+
+    rest_of_it : (d m n x y : ℕ) → n ≡ x + y → y ≡ m * d → suc m * d ≤ n → d ≤ x
+    rest_of_it d m n x y sum is long = let next : suc m * d ≡ m * d + d = omega arith in omega (arith, next, sum, is, long)
+
+    at : CutAt a (m * (2 * bringing_steps c)) newer
+    at = cut_at a (m * (2 * bringing_steps c)) newer (fewer m (2 * bringing_steps c) (length (part a newer)) long)
+
+    split : newer ++ older ≡ at.newer ++ (at.rest ++ older)
+    split = ap (λ x. x ++ older) at.is ∙ append_assoc at.newer at.rest older
+
+    longer : (xs : List Event) → length (part a (xs ++ older)) ≡ length (part a xs) + length (part a older)
+    longer xs = ap length (filter-append (λ e. e.by == a) xs older) ∙ length-append (part a xs) (part a older)
+
+    lone_all : LeadsAlone c live a (at.newer ++ (at.rest ++ older))
+    lone_all = subst (LeadsAlone c live a) split lone
+
+    lone_rest : LeadsAlone c live a (at.rest ++ older)
+    lone_rest = lone_before c live a at.newer (at.rest ++ older) lone_all
+
+    lacks_all : knows_all c a (part a (at.newer ++ (at.rest ++ older))) ≡ false
+    lacks_all = subst (λ x. knows_all c a (part a x) ≡ false) split lacks
+
+    lacks_rest : knows_all c a (part a (at.rest ++ older)) ≡ false
+    lacks_rest = lacks_older c a at.newer (at.rest ++ older) lacks_all
+
+    equal : (x n : ℕ) → n ≡ x → x ≤ n
+    equal x n is = omega (arith, is)
+
+reserve_fits : (c : Config) → IsConfig c → reserve c < c.ring
+reserve_fits c good = let low = good.ring.0 in let most = good.replicas.1 in reserves (c.version == 2) low most
+  where
+    reserves : (t : Bool) → 8 ≤ c.ring → c.replicas ≤ 7 → cond t c.replicas 0 < c.ring
+    reserves true low most = omega (arith, low, most)
+    reserves false low most = omega (arith, low)
+
+pub fills_the_ring : LoneLeadersFillTheRing
+fills_the_ring c live a newer older good all lone writes keep lacks begun long =
+    subst (λ x. length (known c a (part a older)) + free_places c ≤ length (known c a (part a x))) (sym at_top)
+    (fills c live a (length (known c a (part a older))) (free_places c) top.newer (top.rest ++ older) good (let fits = reserve_fits c good in omega (arith, fits)) (subst (LeadsAlone c live a) at_top lone) (subst (λ x. knows_all c a (part a x) ≡ false) at_top lacks)
+    (let sum = ap length (filter-append (λ e. e.by == a) top.rest older) ∙ length-append (part a top.rest) (part a older) in omega (arith, sum, begun))
+    (heads (known c a (part a older)) refl)
+    (let grows = known_grows c a (part a top.rest) (part a older) in let same = ap (λ x. length (known c a x)) (filter-append (λ e. e.by == a) top.rest older) in omega (arith, grows, same))
+    (rest_of_it (lagging_steps c) (free_places c * (2 * bringing_steps c)) (length (part a newer)) (length (part a top.newer)) (length (part a top.rest)) (ap (λ x. length (part a x)) top.is ∙ ap length (filter-append (λ e. e.by == a) top.newer top.rest) ∙ length-append (part a top.newer) (part a top.rest)) top.count long))
+  where
+    fewer : (x y n : ℕ) → x + y ≤ n → x ≤ n
+    fewer x y n long = omega (arith, long)
+
+    rest_of_it : (x y n m k : ℕ) → n ≡ m + k → k ≡ x → x + y ≤ n → y ≤ m
+    rest_of_it x y n m k sum is long = omega (arith, sum, is, long)
+
     top : CutAt a (lagging_steps c) newer
-    top = cut_at a (lagging_steps c) newer (omega (arith, long))
+    top = cut_at a (lagging_steps c) newer (fewer (lagging_steps c) (free_places c * (2 * bringing_steps c)) (length (part a newer)) long)
 
     at_top : newer ++ older ≡ top.newer ++ (top.rest ++ older)
     at_top = ap (λ x. x ++ older) top.is ∙ append_assoc top.newer top.rest older
@@ -254,38 +306,30 @@ commits_again c live a newer older good all lone writes keep lacks begun long = 
         empty true is = absurd (true≢false (sym (holds_more c [] (known c a (part a (newer ++ older))) is) ∙ lacks))
         empty false is = is
 
-    stuck : length (known c a (part a (newer ++ older))) ≤ length (known c a (part a older)) → (values : List ℕ) → known c a (part a older) ≡ values → ⊥
-    stuck none values is = commits_from c live a (length (known c a (part a older))) top.newer (top.rest ++ older) good (subst (LeadsAlone c live a) at_top lone) (subst (λ x. knows_all c a (part a x) ≡ false) at_top lacks)
-        (goes_at c live a (top.rest ++ older) lone_top (lacks_older c a top.newer (top.rest ++ older) (subst (λ x. knows_all c a (part a x) ≡ false) at_top lacks)) (let sum = ap length (filter-append (λ e. e.by == a) top.rest older) ∙ length-append (part a top.rest) (part a older) in omega (arith, sum, begun)))
-        (heads values is)
-        (let grows = known_grows c a (part a top.rest) (part a older) in let same = ap (λ x. length (known c a x)) (filter-append (λ e. e.by == a) top.rest older) in omega (arith, grows, same))
-        (let same = ap (λ x. length (known c a (part a x))) at_top in omega (arith, same, none))
-        (let sum = ap (λ x. length (part a x)) top.is ∙ ap length (filter-append (λ e. e.by == a) top.newer top.rest) ∙ length-append (part a top.newer) (part a top.rest) in let count = top.count in omega (arith, sum, count, long))
-      where
-        heads : (values : List ℕ) → known c a (part a older) ≡ values → (r : ℕ) → r < c.replicas → length (known c a (part a older)) ≤ region_head r (top.rest ++ older)
-        heads [] is r low = let e = ap length is in omega (arith, e)
-        heads (v ∷ values) is r low =
-            (raised_after c live a (length (known c a (part a older))) top.rest older good lone_top (writes_before a top.newer (top.rest ++ older) (subst (WritesAlone a) at_top writes)) (keep_before c live a top.newer (top.rest ++ older) (subst (KeepUp c live a) at_top keep))
-            (started c live a older lone_older
-            (λ above below e p cuts min waits on inside. (keep_before c live a newer older keep).asked above below e p cuts min waits on inside) lacks_all (λ empty. let e = sym is ∙ empty in cc)) (omega arith) (let count = top.count in omega (arith, count)) r low (all r low)).1
+    heads : (values : List ℕ) → known c a (part a older) ≡ values → (r : ℕ) → r < c.replicas → length (known c a (part a older)) ≤ region_head r (top.rest ++ older)
+    heads [] is r low = let e = ap length is in omega (arith, e)
+    heads (v ∷ values) is r low =
+        (raised_after c live a (length (known c a (part a older))) top.rest older good lone_top (writes_before a top.newer (top.rest ++ older) (subst (WritesAlone a) at_top writes)) (keep_before c live a top.newer (top.rest ++ older) (subst (KeepUp c live a) at_top keep))
+        (started c live a older lone_older
+        (λ above below e p cuts min waits on inside. (keep_before c live a newer older keep).asked above below e p cuts min waits on inside) lacks_all (λ empty. let e = sym is ∙ empty in cc)) (omega arith) (let count = top.count in omega (arith, count)) r low (all r low)).1
 
--- after so many steps of that kind it knows so many entries
-knows_more_each : (c : Config) (live : ℕ → Bool) (a k : ℕ) (past : List Event) → IsConfig c → ((r : ℕ) → r < c.replicas → live r ≡ true) → LeadsAlone c live a past → WritesAlone a past → KeepUp c live a past → knows_all c a (part a past) ≡ false → beginning_steps c + k * committing_steps c ≤ length (part a past)
-    → k ≤ length (known c a (part a past))
-knows_more_each c live a zero past good all lone writes keep lacks long = omega arith
-knows_more_each c live a (suc k) past good all lone writes keep lacks long =
-    let enough = one_more (beginning_steps c) k (committing_steps c) (length (part a past)) long in
-    let at = cut_at a (beginning_steps c + k * committing_steps c) past (fewer (beginning_steps c + k * committing_steps c) (committing_steps c) (length (part a past)) enough) in
+-- after so many stretches of that kind it knows so many entries
+fills_each : (c : Config) (live : ℕ → Bool) (a k : ℕ) (past : List Event) → IsConfig c → ((r : ℕ) → r < c.replicas → live r ≡ true) → LeadsAlone c live a past → WritesAlone a past → KeepUp c live a past → knows_all c a (part a past) ≡ false → beginning_steps c + k * filling_steps c ≤ length (part a past)
+    → k * free_places c ≤ length (known c a (part a past))
+fills_each c live a zero past good all lone writes keep lacks long = omega arith
+fills_each c live a (suc k) past good all lone writes keep lacks long =
+    let enough = one_more (beginning_steps c) k (filling_steps c) (length (part a past)) long in
+    let at = cut_at a (beginning_steps c + k * filling_steps c) past (fewer (beginning_steps c + k * filling_steps c) (filling_steps c) (length (part a past)) enough) in
     let count = at.count in
     let lone_all = subst (LeadsAlone c live a) at.is lone in
     let keep_all = subst (KeepUp c live a) at.is keep in
     let writes_all = subst (WritesAlone a) at.is writes in
     let lacks_now = subst (λ x. knows_all c a (part a x) ≡ false) at.is lacks in
-    let ih = knows_more_each c live a k at.rest good all (lone_before c live a at.newer at.rest lone_all) (writes_before a at.newer at.rest writes_all) (keep_before c live a at.newer at.rest keep_all) (lacks_older c a at.newer at.rest lacks_now) (equal (beginning_steps c + k * committing_steps c) (length (part a at.rest)) count) in
+    let ih = fills_each c live a k at.rest good all (lone_before c live a at.newer at.rest lone_all) (writes_before a at.newer at.rest writes_all) (keep_before c live a at.newer at.rest keep_all) (lacks_older c a at.newer at.rest lacks_now) (equal (beginning_steps c + k * filling_steps c) (length (part a at.rest)) count) in
     let sum : length (part a past) ≡ length (part a at.newer) + length (part a at.rest) = ap (λ x. length (part a x)) at.is ∙ ap length (filter-append (λ e. e.by == a) at.newer at.rest) ∙ length-append (part a at.newer) (part a at.rest) in
-    let more : length (known c a (part a at.rest)) < length (known c a (part a (at.newer ++ at.rest))) = commits_again c live a at.newer at.rest good all lone_all writes_all keep_all lacks_now (at_least (beginning_steps c) (k * committing_steps c) (length (part a at.rest)) count) (rest_of_it (beginning_steps c + k * committing_steps c) (committing_steps c) (length (part a past)) (length (part a at.newer)) (length (part a at.rest)) sum count enough) in
+    let more : length (known c a (part a at.rest)) + free_places c ≤ length (known c a (part a (at.newer ++ at.rest))) = fills_the_ring c live a at.newer at.rest good all lone_all writes_all keep_all lacks_now (at_least (beginning_steps c) (k * filling_steps c) (length (part a at.rest)) count) (rest_of_it (beginning_steps c + k * filling_steps c) (filling_steps c) (length (part a past)) (length (part a at.newer)) (length (part a at.rest)) sum count enough) in
     let same = ap (λ x. length (known c a (part a x))) at.is in
-    omega (arith, ih, more, same)
+    next k (free_places c) (length (known c a (part a at.rest))) (length (known c a (part a (at.newer ++ at.rest)))) (length (known c a (part a past))) ih more same
   where
     one_more : (b k d n : ℕ) → b + suc k * d ≤ n → b + k * d + d ≤ n
     one_more b k d n long = let next : suc k * d ≡ k * d + d = omega arith in omega (arith, next, long)
@@ -302,9 +346,27 @@ knows_more_each c live a (suc k) past good all lone writes keep lacks long =
     rest_of_it : (x d n m k : ℕ) → n ≡ m + k → k ≡ x → x + d ≤ n → d ≤ m
     rest_of_it x d n m k sum is long = omega (arith, sum, is, long)
 
+    next : (k d x y z : ℕ) → k * d ≤ x → x + d ≤ y → z ≡ y → suc k * d ≤ z
+    next k d x y z ih more same = let is : suc k * d ≡ k * d + d = omega arith in omega (arith, is, ih, more, same)
+
+-- so many stretches reach past all positions
+passes_all : (n m : ℕ) → 1 ≤ m → n < (n / m + 1) * m
+passes_all n m some =
+    let parts : n / m * m + n % m ≡ n = div-add-mod' n m in
+    let low : n % m < m = mod-lt n some in
+    let next : (n / m + 1) * m ≡ n / m * m + m = omega arith in
+    omega (arith, parts, low, next)
+
 pub applies_in_any_ring : LoneLeadersApplyAllInAnyRing
 applies_in_any_ring c live a past good all lone writes keep long = ap (holds_all c) (applied_is_known c a past good lone.legal writes) ∙ go (knows_all c a (part a past)) refl
   where
     go : (t : Bool) → knows_all c a (part a past) ≡ t → t ≡ true
     go true is = refl
-    go false lacks = absurd (let many = knows_more_each c live a (row_count c + reserve c) past good all lone writes keep lacks long in let few = parts_fit_law c a (part a past) good (part_is_possible c a past lone.legal) lacks in omega (arith, many, few))
+    go false lacks =
+        let many = fills_each c live a ((row_count c + reserve c) / free_places c + 1) past good all lone writes keep lacks long in
+        let pass = passes_all (row_count c + reserve c) (free_places c) (let fits = reserve_fits c good in omega (arith, fits)) in
+        let few = parts_fit_law c a (part a past) good (part_is_possible c a past lone.legal) lacks in
+        absurd (over (length (known c a (part a past))) (row_count c + reserve c) (((row_count c + reserve c) / free_places c + 1) * free_places c) many pass (omega (arith, few)))
+      where
+        over : (x k y : ℕ) → y ≤ x → k < y → x ≤ k → ⊥
+        over x k y many pass few = omega (arith, many, pass, few)

@@ -8,7 +8,7 @@ ghost use Rattle.mu_alive.specs.Enough.{LoneLeadersApplyAll, LoneLeadersKnowAll}
 ghost use Rattle.mu_alive.specs.Failing.{HeldFailedInTime};
 ghost use Rattle.mu_alive.specs.Finishing.{LoneLeadersRaiseAll};
 ghost use Rattle.mu_alive.specs.Following.{FollowersCatchUp};
-ghost use Rattle.mu_alive.specs.Lagging.{LoneLeadersApplyAllInAnyRing, LoneLeadersCommitAgain};
+ghost use Rattle.mu_alive.specs.Lagging.{LoneLeadersApplyAllInAnyRing, LoneLeadersFillTheRing};
 ghost use Rattle.mu_alive.specs.Last.{LastLeadersApplyAll, LastLeadersKnowAll};
 ghost use Rattle.mu_alive.specs.Turns.{HostsGrantInTurn, TurnsLeadOn};
 ghost use Rattle.mu_alive.specs.Unhindered.{UnhinderedCommit};
@@ -80,8 +80,8 @@ pub fn lone_leaders_raise_all()
 {}
 
 /// A replica that asks alone, and that all others keep up with, commits again in time in any ring.
-pub fn lone_leaders_commit_again()
-    ensures { LoneLeadersCommitAgain }
+pub fn lone_leaders_fill_the_ring()
+    ensures { LoneLeadersFillTheRing }
 {}
 
 /// So it has applied every command in time, in any ring.
