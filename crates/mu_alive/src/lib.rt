@@ -79,7 +79,7 @@ pub fn lone_leaders_raise_all()
     ensures { LoneLeadersRaiseAll }
 {}
 
-/// A replica that asks alone, and that all others keep up with, commits again in time in any ring.
+/// A replica that asks alone, and that all others keep up with, fills the ring in time.
 pub fn lone_leaders_fill_the_ring()
     ensures { LoneLeadersFillTheRing }
 {}
