@@ -1,4 +1,5 @@
--- How soon a leader commits on though heads lag, whatever the ring.
+-- free places, filling steps, steps in any ring: the places of a ring that aren't kept for marks;
+-- the steps within which a leader fills them though heads lag; and knows every command.
 use Rattle.std.specs.Prelude.{Bool, List, false, length, true, ℕ, ◌*◌, ◌++◌, ◌+◌, ◌-◌, ◌/◌, ◌<◌, ◌≡◌, ◌≤◌}
 use Rattle.mu_model.specs.declared.config.Config.{Config}
 use Rattle.mu_model.specs.declared.event.Event.{Event}

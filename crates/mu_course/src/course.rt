@@ -1,9 +1,10 @@
 //! What the events of one replica come to.
-ghost use Rattle.std.specs.Prelude.{IfOk, List, [], false, if◌then◌else◌, not, ℕ, ◌&&◌, ◌<◌, ◌||◌, ◌∷◌, ◌≡◌};
+ghost use Rattle.std.specs.Prelude.{IfOk, List, [], false, if◌then◌else◌, length, map, not, take, ℕ, ◌&&◌, ◌<◌, ◌||◌, ◌∷◌, ◌≡◌, ◌≤◌};
 ghost use Rattle.mu_model.specs.declared.config.Config.{Config as Settings};
 ghost use Rattle.mu_model.specs.declared.event.Event.{Event as Made};
 ghost use Rattle.mu_model.specs.Contents.{IsConfig};
 ghost use Rattle.mu_model.specs.Ends.{is_finished as is_finished_of};
+ghost use Rattle.mu_model.specs.Knowledge.{applied as applied_of, commits as commits_of, known as known_of};
 ghost use Rattle.mu_model.specs.Leaderships.{begins_leadership};
 ghost use Rattle.mu_model.specs.Parts.{IsPossible};
 ghost use Rattle.mu_model.specs.Scores.{is_failed as is_failed_by, leader as leader_of};
@@ -11,13 +12,19 @@ ghost use Rattle.mu_model.specs.Steps.{is_beat as is_beat_event};
 ghost use Rattle.mu_model.specs.Stretches.{is_odd};
 ghost use Rattle.mu_course.specs.Courses.{StandsForCourse, TellsTurn};
 ghost use Rattle.mu_course.specs.Resigning.{is_leading as is_leading_of, yields as yields_by};
+ghost use Rattle.mu_course.specs.SoFar.{IsSoFar};
 ghost use Rattle.mu_course.specs.Telling.{Tells};
+ghost use Rattle.mu_known.specs.Commits.{pair_of};
 
 use crate::finishing::is_finished;
+use crate::halts::stops_at;
+use crate::noting::{commit_in, outrun_after, push_commit};
+use crate::so_far::{EndSoFar, first_end};
 use crate::told::{Told, is_end, told_by};
 use mu_detect::Scores;
 use mu_follow::{Completion, Published, count_applied};
-use mu_model::{Config, Event, NoMemory, Verb};
+use mu_known::Commit;
+use mu_model::{Config, Event, NoMemory, Script, Verb, positions_in};
 use mu_parts::Replica;
 use std::alloc::Global;
 
@@ -26,7 +33,7 @@ use std::alloc::Global;
 pub struct Course {
     /// What they let it do next.
     replica: Replica,
-    /// Whom it holds to be failed.
+    /// Which replicas it holds to be failed.
     scores: Scores,
     /// Whether it gave up its last leadership.
     resigned: bool,
@@ -34,6 +41,10 @@ pub struct Course {
     heads: Published,
     /// How many of the entries that it applied hold all commands.
     completion: Completion,
+    /// What it committed.
+    commits: Vec<Commit>,
+    /// The region and the position at which it was outrun.
+    outrun: Option<(u8, u16)>,
 }
 
 /// What an event comes to for the replica that makes it.
@@ -41,7 +52,7 @@ pub struct Course {
 pub struct Turn {
     /// For its leadership as the verbs end it, and for what it knows.
     pub told: Told,
-    /// Whom its scores named before.
+    /// The replica that its scores named before.
     pub named: u8,
     /// Whether it gives up its leadership by it.
     pub resigns: bool,
@@ -69,21 +80,22 @@ fn begins(event: &Event, r: u8) -> bool
     }
 }
 
-/// Whether a step is odd, counted from 0, before which so many were made.
+/// Whether the next step is odd, after this many steps: steps are counted from 0.
 fn is_odd_step(steps: u32) -> bool
     ensures { result ≡ is_odd steps }
 {
     steps % 2 == 1
 }
 
-/// Whether a beat, or no beat, in a turn of replication, or in no such turn, gives way to another.
+/// Whether an event gives way to another leader: it is a beat in a turn of replication, and another
+/// replica is named.
 fn is_yield(beats: bool, replicates: bool, named: bool) -> bool
     ensures { result ≡ (beats && (replicates && not named)) }
 {
     beats && (replicates && !named)
 }
 
-/// Whether what has begun, is over or was given up, is under way.
+/// Whether a leadership is under way: it has begun, isn't over and wasn't given up.
 fn is_under_way(begun: bool, over: bool, resigned: bool) -> bool
     ensures { result ≡ (begun && (not over && not resigned)) }
 {
@@ -97,7 +109,14 @@ fn resigned_after(resigned: bool, begins: bool, yields: bool) -> bool
     if begins { false } else { yields || resigned }
 }
 
-/// Whether a leadership is given up, which is under way, where a step gives way.
+/// The first values, or all if there are fewer.
+fn first_of(values: &[u16], count: usize) -> &[u16]
+    ensures { count ≤ length values.now → result.now ≡ take count values.now }
+{
+    &values[..count.min(values.len())]
+}
+
+/// Whether a leadership is given up: it is under way, and the step gives way to another.
 fn is_resigning(leading: bool, yields: bool) -> bool
     ensures { result ≡ (leading && yields) }
 {
@@ -105,7 +124,7 @@ fn is_resigning(leading: bool, yields: bool) -> bool
 }
 
 impl Course {
-    /// Before any event. Takes all memory that it ever needs.
+    /// The course of a replica before any event. Takes all memory that it ever needs.
     pub fn new(alloc: Global, config: &Config, replica: u8) -> Result<Course, NoMemory>
         requires config { IsConfig config.now }
         requires inside { replica < config.now.replicas }
@@ -121,6 +140,8 @@ impl Course {
             resigned: false,
             heads,
             completion,
+            commits: Vec::with_capacity(alloc, positions_in(config))?,
+            outrun: None,
         })
     }
 
@@ -134,7 +155,7 @@ impl Course {
         is_under_way(begun, over, self.resigned)
     }
 
-    /// Whom its scores name.
+    /// The replica that its scores name leader.
     pub fn named(&self) -> u8
         ensures { (c : Settings) → (r : ℕ) → (mine : List Made) → StandsForCourse c r mine self.now
             → result ≡ leader_of c r mine }
@@ -142,7 +163,7 @@ impl Course {
         self.scores.leader()
     }
 
-    /// Whether it holds `q` to be failed. Of a replica that isn't there the answer says nothing.
+    /// Whether it holds `q` to be failed. If there is no such replica, the answer says nothing.
     pub fn fails(&self, q: u8) -> bool
         ensures { (c : Settings) → (r : ℕ) → (mine : List Made) → q < c.replicas
             → StandsForCourse c r mine self.now → result ≡ is_failed_by r q mine }
@@ -186,6 +207,9 @@ impl Course {
             → Tells config.now mine event.now result }
     {
         let told = told_by(&mut self.replica, config, event);
+        let commit = commit_in(event, told.taught);
+        push_commit(&mut self.commits, commit);
+        self.outrun = outrun_after(self.outrun, event.by, told.known, event);
         self.scores.note(event);
         self.resigned = resigned_after(self.resigned, begins(event, event.by), yields);
         self.heads.note(event.by, event);
@@ -196,6 +220,43 @@ impl Course {
             &self.replica.held_rows,
         );
         told
+    }
+
+    /// What the replica knows, in order.
+    pub fn known(&self) -> &[u16]
+        ensures { (c : Settings) → (r : ℕ) → (mine : List Made) → StandsForCourse c r mine self.now
+            → result.now ≡ known_of c r mine }
+    {
+        self.replica.known_log.known()
+    }
+
+    /// What it has applied, in order.
+    pub fn applied(&self) -> &[u16]
+        ensures { (c : Settings) → (r : ℕ) → (mine : List Made) → StandsForCourse c r mine self.now
+            → result.now ≡ applied_of c r mine }
+    {
+        first_of(self.known(), self.replica.held_rows.applied_length())
+    }
+
+    /// What it committed, in order.
+    pub fn commits(&self) -> &[Commit]
+        ensures { (c : Settings) → (r : ℕ) → (mine : List Made) → StandsForCourse c r mine self.now
+            → map pair_of result.now ≡ commits_of c r mine }
+    {
+        self.commits.as_slice()
+    }
+
+    /// How it has ended so far, by its script and its budget.
+    pub fn end(&self, config: &Config, script: &Script) -> EndSoFar
+        requires { IsConfig config.now }
+        ensures { (r : ℕ) → (mine : List Made) → StandsForCourse config.now r mine self.now
+            → IsSoFar config.now script.now r mine result }
+    {
+        let steps = self.replica.steps;
+        let stopped = stops_at(script.stops.as_slice(), self.replica.replica, steps);
+        let spent = steps == config.budget;
+        let finished = self.is_finished(config);
+        first_end(stopped, spent, self.outrun, finished)
     }
 
     /// Takes the next event of the replica, which it was allowed, and tells what it comes to. Takes

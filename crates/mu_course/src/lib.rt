@@ -1,14 +1,17 @@
-//! What the events of a legal list come to: of each replica its leadership, what it knows, whom it
-//! names and what befalls it after a step, and the states of the regions.
+//! What the events of a legal list come to: of each replica its leadership, what it knows, which
+//! replicas it names and what befalls it after a step, and the states of the regions.
 #![tactic(auto)]
 
 mod course;
 mod finishing;
 mod halts;
+mod noting;
+mod so_far;
 mod told;
 mod walk;
 
 pub use course::Turn;
 pub use halts::{Halt, halt_after};
+pub use so_far::EndSoFar;
 pub use told::Told;
-pub use walk::Walk;
+pub use walk::{Walk, walked};

@@ -14,7 +14,7 @@ use std::marker::Model;
 /// The most bytes that one read of [`read_all`] asks for.
 pub const PIECE: usize = 65_536;
 
-/// The limit is this number.
+/// The limit is the number that is stated here.
 pub fn limits_are_stated()
     ensures { PIECE ≡ 65536 }
 {}
@@ -71,10 +71,10 @@ impl Error for ReadEnd {}
 ///
 /// # Errors
 ///
-/// `Fault` where the source counted a fault: up to `limit` bytes may have been taken then.
-/// `TooLong` where more than `limit` bytes came: the first `limit + 1` of them were taken.
-/// `NoMemory` where no memory was given for `limit + 1` bytes and a piece, or `limit + 1` is above
-/// `usize::MAX`: nothing was read.
+/// `Fault` if the source counted a fault: up to `limit` bytes may have been taken then. `TooLong`
+/// if more than `limit` bytes came: the first `limit + 1` of them were taken. `NoMemory` if no
+/// memory was given for `limit + 1` bytes and a piece, or `limit + 1` is above `usize::MAX`:
+/// nothing was read.
 pub fn read_all<S: Source>(alloc: Global, source: &mut S, limit: usize) -> Result<Bytes, ReadEnd>
     ensures within_limit { IfOk result (λ bytes. length bytes ≤ limit) }
     ensures whole { IfOk result (λ bytes. IfSome (S.left source.old) (λ left. left ≡ bytes)) }
@@ -189,7 +189,7 @@ pub struct WriteFault {
 ///
 /// # Errors
 ///
-/// `WriteFault` where the sink counted a fault, with the number of the bytes that it had taken.
+/// `WriteFault` if the sink counted a fault, with the number of the bytes that it had taken.
 pub fn write_all<K: Sink>(sink: &mut K, bytes: &[u8]) -> Result<(), WriteFault>
     ensures whole { OnOk result (Appends (K.written sink.old) (K.written sink.new) bytes.now) }
     ensures same_faults { OnOk result (K.faults sink.new ≡ K.faults sink.old) }

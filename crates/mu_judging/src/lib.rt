@@ -1,10 +1,12 @@
-//! From the bytes of a trace to what there is to say of it, of a whole trace or line by line.
+//! From the bytes of a trace to what is said of it, of a whole trace or line by line.
 #![tactic(auto)]
 
 mod explaining;
 mod judging;
 mod line_judge;
+mod telling;
 
 pub use explaining::explain_trace;
 pub use judging::judge;
 pub use line_judge::{LineJudge, lines_are_judged_as_a_whole};
+pub use telling::tell_trace;

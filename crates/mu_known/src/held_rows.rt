@@ -22,11 +22,12 @@ pub struct HeldRows {
     /// Which words it has of the rows of all replicas: twelve of each of seven replicas for each
     /// row.
     got: Vec<bool>,
-    /// How many of the values that it knows it has in full, before the first that it has not.
+    /// How many of the values that it knows it has in full, before the first that it doesn't have
+    /// in full.
     applied: usize,
 }
 
-/// Where the table of all rows has word `k` of the row of the payload number `v`.
+/// The place of word `k` of the row of the payload number `v` in the table of all rows.
 fn place(v: usize, k: u8) -> usize
     ensures { result ≡ word_place v k }
 {
@@ -95,7 +96,7 @@ fn none_there(alloc: Global, config: &Config) -> Result<Vec<bool>, NoMemory>
 }
 
 impl HeldRows {
-    /// Nothing written or read. Takes all memory that it ever needs.
+    /// A state with nothing written or read. Takes all memory that it ever needs.
     pub fn new(alloc: Global, config: &Config) -> Result<HeldRows, NoMemory>
         requires { IsConfig config.now }
         ensures { IfOk result (λ state. (r : ℕ) → StandsForHeldRows config.now r [] state) }
@@ -169,8 +170,8 @@ impl HeldRows {
             || self.has_rows(v, u16::from(row_rest(config, v % PAYLOADS)) + 1)
     }
 
-    /// How many of the known entries the replica has in full before the first that it has not,
-    /// where it has at least `n`.
+    /// How many known entries the replica has in full before the first that it doesn't have in
+    /// full, if it has at least `n`.
     fn front_from(&self, config: &Config, known: &[u16], n: usize) -> usize
         ensures { (r : ℕ) → (mine : List Event) → IsConfig config.now
             → HasWords config.now r mine self.now.got.items
@@ -199,7 +200,7 @@ impl HeldRows {
         self.applied = self.front_from(config, known_after, self.applied);
     }
 
-    /// Takes the next event of `r` where it neither writes nor reads a row, after which it knows
+    /// Takes the next event of `r`, if that neither writes nor reads a row, after which it knows
     /// these values. Takes no memory.
     pub fn pass(&mut self, config: &Config, known_after: &[u16])
         ensures { (r : ℕ) → (mine : List Event) → (e : Event) → IsConfig config.now
@@ -257,7 +258,7 @@ impl HeldRows {
         self.wrote_rows(j, u16::from(row_rest(config, j)) + 1)
     }
 
-    /// How many of the values that are known the replica has applied.
+    /// How many of the known values the replica has applied.
     pub fn applied_length(&self) -> usize
         ensures { (c : Config) → (r : ℕ) → (mine : List Event) → StandsForHeldRows c r mine self.now
             → result ≡ length (applied c r mine) }

@@ -9,8 +9,8 @@ ghost use Rattle.mu_known.specs.RowWords.{HoldWords, StandsForRowWords, word_hel
 use mu_model::{Answer, Config, Event, NoMemory, PAYLOADS, Row, Verb};
 use std::alloc::Global;
 
-/// Of each word of each row of a job, what the replica wrote or read there last. All replicas write
-/// the same row for a command, so that twelve words for each command are enough.
+/// What a replica last wrote or read of each word of each row of a job. All replicas write the same
+/// row for a command, so that twelve words for each command are enough.
 #[derive(Drop)]
 pub struct RowWords {
     /// Twelve words of each row.
@@ -59,7 +59,7 @@ fn no_words(alloc: Global, config: &Config) -> Result<Vec<u64>, NoMemory>
 }
 
 impl RowWords {
-    /// No word. Takes all memory that it ever needs: 96 bytes for each command.
+    /// A state with no word. Takes all memory that it ever needs: 96 bytes for each command.
     pub fn new(alloc: Global, config: &Config) -> Result<RowWords, NoMemory>
         requires { IsConfig config.now }
         ensures { IfOk result (λ state. (r : ℕ) → StandsForRowWords config.now r [] state) }
@@ -90,7 +90,7 @@ impl RowWords {
         }
     }
 
-    /// Row `j`, of the words that were written or read last: 0 where none was.
+    /// Row `j`, as the words that were written or read last: 0 for a word that never was.
     pub fn row(&self, j: u16) -> Row
         ensures { (c : Config) → (r : ℕ) → (mine : List Event) → j < row_count c
             → StandsForRowWords c r mine self.now → result.words ≡ words_held r j mine }

@@ -110,7 +110,7 @@ impl Region {
         self.take_change(event);
     }
 
-    /// Takes an event that is no read: a beat changes the count of beats alone.
+    /// Takes an event that is no read: a beat changes only the count of beats.
     fn take_change(&mut self, event: &Event)
         ensures { (c : Config) → (p : ℕ) → (past : List Event) → length past < 2 ^ 20
             → IsNear c event.now.verb → Holds c p past self.old

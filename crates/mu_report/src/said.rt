@@ -5,6 +5,7 @@ ghost use Rattle.mu_io.specs.Faults.{Rose};
 ghost use Rattle.mu_report.specs.Printing.{PrintsAll, PrintsPart};
 ghost use Rattle.mu_report.specs.Said.{text, lines_of, said_of_end, IsShort};
 
+use crate::accounts::print_account;
 use crate::answers::verdict_line;
 use crate::book::print_book;
 use crate::line::{print_line, print_words};
@@ -20,11 +21,13 @@ use mu_io::{Sink, WriteFault};
 use mu_mistakes::Misread;
 use mu_outcome::{Outcome, Verdict};
 use mu_reasons::Broken;
+use mu_telling::Account;
 use snap_reads::Lived;
 
 /// How the program is called.
 const USAGE: &[u8] =
-    b"usage: mu replay, mu run, mu check, mu why, mu trace, mu bulk N, mu live K, mu desk, mu book";
+    b"usage: mu replay, mu run, mu check, mu why, mu tell, mu trace, mu bulk N, mu live K, \
+    mu desk, mu book";
 
 /// What the program says at its end.
 pub enum Said {
@@ -63,6 +66,8 @@ pub enum Said {
         /// The first event that breaks the list, if there is one.
         broken: Option<Broken>,
     },
+    /// What a legal list of events comes to.
+    Told(Account),
     /// Where the input leaves the grammar and why, in words.
     Misread(Misread),
     /// The input couldn't be read.
@@ -73,8 +78,8 @@ pub enum Said {
     TooLong,
 }
 
-/// Written by hand, so that who lets what is said go calls one function: derived, each of its
-/// variants is proved to be let go at each place where one is.
+/// Written by hand, so that whoever drops what is said calls one function: if it were derived, the
+/// drop of each variant would be proved at each place at which one is dropped.
 impl Drop for Said {
     fn drop(self) {
         match self {
@@ -94,6 +99,7 @@ impl Drop for Said {
                 line: _,
                 broken: _,
             } => {}
+            Said::Told(account) => let_account_go(account),
             Said::Misread(_) => {}
             Said::ReadFault => {}
             Said::NoMemory => {}
@@ -102,13 +108,16 @@ impl Drop for Said {
     }
 }
 
-/// Lets an outcome go.
+/// Drops an outcome.
 fn let_go(_outcome: Outcome) {}
+
+/// Lets an account go.
+fn let_account_go(_account: Account) {}
 
 impl From<InputEnd> for Said {
     ghost from_gives = { λ end said. said ≡ said_of_end end };
 
-    /// What is said where no job and no trace was read.
+    /// What is said if no job and no trace was read.
     fn from(end: InputEnd) -> Said {
         match end {
             InputEnd::Refused { line, cause } => Said::Refused { line, cause },
@@ -117,12 +126,12 @@ impl From<InputEnd> for Said {
     }
 }
 
-/// Writes the text of what is said, each line in one call where the sink takes it whole, and of the
+/// Writes the text of what is said, each line in one call if the sink takes it whole, and of the
 /// events of a trace up to 256 lines in one. Takes no memory.
 ///
 /// # Errors
 ///
-/// `WriteFault` where the sink counted a fault, with the number of bytes of the text that it had
+/// `WriteFault` if the sink counted a fault, with the number of bytes of the text that it had
 /// taken.
 pub fn print<K: Sink>(sink: &mut K, said: &Said) -> Result<(), WriteFault>
     requires { IsShort said.now }
@@ -180,6 +189,7 @@ fn print_said<K: Sink>(sink: &mut K, said: &Said) -> Result<usize, WriteFault>
             line,
             broken,
         } => print_explained(sink, *events, *line, broken),
+        Said::Told(account) => print_account(sink, account),
         Said::Misread(misread) => print_misread(sink, misread),
         Said::ReadFault => print_words(sink, 0, b"read fault"),
         Said::NoMemory => print_words(sink, 0, b"no memory"),

@@ -12,7 +12,7 @@ use snap_reads::MOST_READERS;
 /// The most bytes that the input of a job may have.
 pub const INPUT_LIMIT: usize = 1_048_576;
 
-/// The limits are the numbers that are stated.
+/// The limits are the numbers that are stated here.
 pub fn limits_are_stated()
     ensures input { INPUT_LIMIT ≡ 1048576 }
     ensures trace { TRACE_LIMIT ≡ 67108864 }
@@ -33,11 +33,13 @@ pub enum Task {
     Check,
     /// `why`: judge a trace, and tell where it breaks and why.
     Why,
+    /// `tell`: judge a trace, and report what its events come to.
+    Tell,
     /// `desk`: run a job in turns whose commands come from clients that send at once.
     Desk,
     /// `book`: run a job in turns, and tell the book of orders after its commands.
     Book,
-    /// `live K`: run a job in turns, and publish the commands of its longest log to so many
+    /// `live K`: run a job in turns, and publish the commands of its longest log to this many
     /// readers.
     Live(u8),
 }
@@ -47,7 +49,7 @@ pub enum Task {
 pub enum Asked {
     /// Something with its input.
     Input(Task),
-    /// `bulk N`: run the stated large job of so many commands in turns.
+    /// `bulk N`: run the stated large job of this many commands in turns.
     Bulk(u16),
 }
 
@@ -62,6 +64,7 @@ impl Task {
             Task::Trace => INPUT_LIMIT,
             Task::Check => TRACE_LIMIT,
             Task::Why => TRACE_LIMIT,
+            Task::Tell => TRACE_LIMIT,
             Task::Desk => INPUT_LIMIT,
             Task::Book => INPUT_LIMIT,
             Task::Live(_) => INPUT_LIMIT,
@@ -82,9 +85,9 @@ pub fn asked_of(words: &[String]) -> Option<Asked>
     }
 }
 
-/// The stated large job of so many commands, if the first word is `bulk` and the second spells a
-/// number from 0 to 1,500; or so many live readers, if the first is `live` and the second spells
-/// one from 1 to 4.
+/// The stated large job, if the first word is `bulk` and the second spells a number of commands
+/// from 0 to 1,500; or live readers, if the first is `live` and the second spells a number of them
+/// from 1 to 4.
 fn asked_with(word: &[u8], number: &[u8]) -> Option<Asked>
     ensures exact { result ≡ asked_of_two word.now number.now }
     ensures reach { IfSome result IsInReach }
@@ -118,6 +121,8 @@ fn named_task(word: &[u8]) -> Option<Task>
         Some(Task::Check)
     } else if word == b"why".as_slice() {
         Some(Task::Why)
+    } else if word == b"tell".as_slice() {
+        Some(Task::Tell)
     } else if word == b"desk".as_slice() {
         Some(Task::Desk)
     } else if word == b"book".as_slice() {

@@ -20,6 +20,7 @@ pub fn status_for(said: &Said) -> Status
         Said::Lived(outcome, _) => status(outcome),
         Said::Judged { verdict, .. } => verdict_status(verdict),
         Said::Explained { broken, .. } => explained_status(broken),
+        Said::Told(account) => status(&account.outcome),
         Said::ReadFault => Status::ReadFault,
         Said::NoMemory => Status::NoMemory,
         Said::TooLong => Status::TooLong,
@@ -36,7 +37,7 @@ fn verdict_status(verdict: &Verdict) -> Status
     }
 }
 
-/// The status where this was found to break a list, if anything was.
+/// The status if this was found to break a list, if anything was.
 fn explained_status(broken: &Option<Broken>) -> Status
     ensures { result ≡ status_of_broken broken.now }
 {
