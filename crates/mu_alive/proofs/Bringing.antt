@@ -73,17 +73,17 @@ stays_older r [] ys all = all
 stays_older r (e ∷ xs) ys all = stays_older r xs ys (stays_less r e (xs ++ ys) all).1
 
 -- a count was opened in the leadership, with at most so many steps, and isn't closed yet
-record Pending (r : ℕ) (w : Watch) (most : ℕ) (now : List Event) : Type 0 where
-  window : List Event
-  opened : List Event
-  amount : ℕ
-  is : now ≡ window ++ opened
-  same : stays r window ≡ true
-  allows : w.allows opened ≡ Some amount
-  few : amount ≤ most
-  unclosed : each_step (λ past e. not (w.closes past e)) window opened ≡ true
+pub record Pending (r : ℕ) (w : Watch) (most : ℕ) (now : List Event) : Type 0 where
+  pub window : List Event
+  pub opened : List Event
+  pub amount : ℕ
+  pub is : now ≡ window ++ opened
+  pub same : stays r window ≡ true
+  pub allows : w.allows opened ≡ Some amount
+  pub few : amount ≤ most
+  pub unclosed : each_step (λ past e. not (w.closes past e)) window opened ≡ true
 
-pending_on : (r : ℕ) (w : Watch) (most : ℕ) (e : Event) (past : List Event) → begins_leadership r e ≡ false → w.closes past e ≡ false → Pending r w most past → Pending r w most (e ∷ past)
+pub pending_on : (r : ℕ) (w : Watch) (most : ℕ) (e : Event) (past : List Event) → begins_leadership r e ≡ false → w.closes past e ≡ false → Pending r w most past → Pending r w most (e ∷ past)
 pending_on r w most e past same open_yet k = record {
   window = e ∷ k.window;
   opened = k.opened;
@@ -96,14 +96,14 @@ pending_on r w most e past same open_yet k = record {
 }
 
 -- a stretch closes a count or leaves it open
-record Closed (w : Watch) (window base : List Event) : Type 0 where
-  newer : List Event
-  event : Event
-  older : List Event
-  is : window ≡ newer ++ event ∷ older
-  closes : w.closes (older ++ base) event ≡ true
+pub record Closed (w : Watch) (window base : List Event) : Type 0 where
+  pub newer : List Event
+  pub event : Event
+  pub older : List Event
+  pub is : window ≡ newer ++ event ∷ older
+  pub closes : w.closes (older ++ base) event ≡ true
 
-closed_or : (w : Watch) (window base : List Event) → Closed w window base ⊎ (each_step (λ past e. not (w.closes past e)) window base ≡ true)
+pub closed_or : (w : Watch) (window base : List Event) → Closed w window base ⊎ (each_step (λ past e. not (w.closes past e)) window base ≡ true)
 closed_or w [] base = inr refl
 closed_or w (e ∷ window) base = elim (closed_or w window base) [
   | inl k ↦ inl (record { newer = e ∷ k.newer; event = k.event; older = k.older; is = ap (λ l. e ∷ l) k.is; closes = k.closes })
@@ -115,7 +115,7 @@ closed_or w (e ∷ window) base = elim (closed_or w window base) [
     go false is rest = inr (ap (λ t. if not t then each_step (λ past e. not (w.closes past e)) window base else false) is ∙ rest)
 
 -- if it leaves it open, it is shorter than what was allowed and paid
-open_short : (r : ℕ) (w : Watch) (most : ℕ) (window base : List Event) → AtEachMoment (IsInTime w) (window ++ base) → (k : Pending r w most base) → each_step (λ past e. not (w.closes past e)) window base ≡ true
+pub open_short : (r : ℕ) (w : Watch) (most : ℕ) (window base : List Event) → AtEachMoment (IsInTime w) (window ++ base) → (k : Pending r w most base) → each_step (λ past e. not (w.closes past e)) window base ≡ true
     → steps w.counts window base < most + paid w.pays (window ++ k.window) k.opened
 open_short r w most window base held k open_yet =
     let rest = subst (λ l. each_step (λ past e. not (w.closes past e)) window l ≡ true) k.is open_yet in
@@ -218,7 +218,7 @@ not_away b t n m hb hn hm = rw (hb, hn, hm) (go t)
     go true = refl
     go false = refl
 
-away_by : (b t n m : Bool) → b ≡ false → n ≡ true → (b || (t && (not n || m))) ≡ true → (t ≡ true) × (m ≡ true)
+pub away_by : (b t n m : Bool) → b ≡ false → n ≡ true → (b || (t && (not n || m))) ≡ true → (t ≡ true) × (m ≡ true)
 away_by false t true m hb hn is = and_parts t m is
 away_by true t n m hb hn is = absurd (true≢false hb)
 away_by false t false m hb hn is = absurd (true≢false (sym hn))
@@ -230,7 +230,7 @@ Brought c a p now = (is_brought_up c a p now ≡ true) ⊎ (Pending a (bringing_
 abbrev HasBrought : Config → ℕ → ℕ → List Event → Type 0
 HasBrought c a p now = is_member a p now ≡ true → Brought c a p now
 
-limit_fits : (c : Config) (r : ℕ) (now : List Event) → limit_now c r now ≤ limit c c.replicas
+pub limit_fits : (c : Config) (r : ℕ) (now : List Event) → limit_now c r now ≤ limit c c.replicas
 limit_fits c r now = let l = count_few c.replicas (λ p. is_member r p now) in omega (arith, l)
 
 members_fit : (c : Config) (r : ℕ) (now : List Event) → members c r now ≤ limit c c.replicas
@@ -316,7 +316,7 @@ inside_puts c a [] base possible = tt
 inside_puts c a (e ∷ window) base possible = (inside_puts c a window base (parts_shorten_law c a (window ++ base) e possible).before, puts_inside c a (window ++ base) e possible)
 
 -- what such a stretch is paid
-paid_at_most : (c : Config) (a : ℕ) (window base : List Event) → IsConfig c → IsPossible c a (window ++ base) → stays a window ≡ true → paid (earns c a) window base ≤ 6 * c.replicas + 8 * ((row_count c + reserve c) + c.replicas * (row_count c + reserve c))
+pub paid_at_most : (c : Config) (a : ℕ) (window base : List Event) → IsConfig c → IsPossible c a (window ++ base) → stays a window ≡ true → paid (earns c a) window base ≤ 6 * c.replicas + 8 * ((row_count c + reserve c) + c.replicas * (row_count c + reserve c))
 paid_at_most c a window base good possible same = paid_few c a (row_count c + reserve c) window base same (inside_puts c a window base possible) (known_fits c a (window ++ base) good possible)
 
 -- the counts of a journal at each moment

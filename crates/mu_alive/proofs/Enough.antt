@@ -178,7 +178,7 @@ fine_moments c a past legal on going lacks =
     (both_moments (λ now. outrun c a now ≡ None) (λ now. knows_all c a now ≡ false) (λ now. (outrun c a now ≡ None) × (knows_all c a now ≡ false)) (λ now x y. (x, y)) (part a past) (going_moments c a (part a past) going) (lacks_moments c a (part a past) lacks))
 
 -- no head lacks room in a large ring
-roomy : (n : ℕ) (f : ℕ → Bool) → ((q : ℕ) → f q ≡ false) → not (all_below n (λ q. not (f q))) ≡ false
+pub roomy : (n : ℕ) (f : ℕ → Bool) → ((q : ℕ) → f q ≡ false) → not (all_below n (λ q. not (f q))) ≡ false
 roomy n f none = ap not (each_all n (λ q. not (f q)) (λ q low. ap not (none q)))
 
 never_lacks : (c : Config) (limit : ℕ) (o : Option ℕ) → limit < c.ring → lacks_room c limit o ≡ false
@@ -258,7 +258,7 @@ calm_on c a (e ∷ newer) base good large fine kept is =
       min_on a e past same ih.1,
     )
 
-progress_moments : (c : Config) (a : ℕ) (mine : List Event) → AtEachStep (LeaderKeeps c a) mine → AtEachMoment (IsInTime (progressing c a)) mine
+pub progress_moments : (c : Config) (a : ℕ) (mine : List Event) → AtEachStep (LeaderKeeps c a) mine → AtEachMoment (IsInTime (progressing c a)) mine
 progress_moments c a [] kept = λ left is. absurd (none_some left is)
 progress_moments c a (e ∷ mine) kept = (progress_moments c a mine kept.0, kept.1.places.progressing)
 

@@ -73,7 +73,7 @@ applied_grows c r (e ∷ newer) older =
     let long = ap length more.1 ∙ length-append (applied c r (newer ++ older)) more.0 in
     omega (arith, ih, long)
 
-applied_on : (c : Config) (r : ℕ) (newer older : List Event) → holds_all c (applied c r older) ≡ true → holds_all c (applied c r (newer ++ older)) ≡ true
+pub applied_on : (c : Config) (r : ℕ) (newer older : List Event) → holds_all c (applied c r older) ≡ true → holds_all c (applied c r (newer ++ older)) ≡ true
 applied_on c r [] older all = all
 applied_on c r (e ∷ newer) older all =
     let more = applied_more c r e (newer ++ older) in

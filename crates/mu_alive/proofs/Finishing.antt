@@ -21,6 +21,7 @@ use Rattle.mu_model.specs.Legal.{IsLegalHistory}
 use Rattle.mu_model.specs.Parts.{IsPossible}
 use Rattle.mu_model.specs.Placing.{fuo_read_or_raised, reaches_head}
 use Rattle.mu_model.specs.Regions.{fence, fence_owner, head_raised, region_fuo, region_head, region_log}
+use Rattle.mu_model.specs.Stretches.{IsStretch}
 use Rattle.mu_model.specs.Steps.{has_min, is_asking, is_fencing, is_fencing_verb, is_min, is_named, knows_all}
 use Rattle.mu_model.proofs.Basics.{same_some}
 use Rattle.mu_model.proofs.Lists.{get_front}
@@ -34,12 +35,12 @@ use Rattle.mu_agree.proofs.Legal.{event_after, legal_older}
 use Rattle.mu_agree.proofs.Prefixes.{known_agree}
 use Rattle.mu_agree.proofs.Room.{covers_below}
 use Rattle.mu_pace.specs.Counters.{AtEachMoment, AtEachStep}
-use Rattle.mu_pace.proofs.Counting.{last_moment, moments_before}
+use Rattle.mu_pace.proofs.Counting.{last_moment, moments_before, steps_before}
 use Rattle.mu_pace.proofs.Growing.{known_grows, stays_less}
 use Rattle.mu_alive.specs.Alone.{AsksAlone, WritesAlone}
 use Rattle.mu_alive.specs.Bringing.{LeadsOn, joining_steps}
 use Rattle.mu_alive.specs.Enough.{HasLargeRing, steps_enough}
-use Rattle.mu_alive.specs.Finishing.{AsksAllFirst, HaveAllRaised, LoneLeadersRaiseAll}
+use Rattle.mu_alive.specs.Finishing.{AsksAllFirst, HaveAllRaised, KeepUp, LoneLeadersRaiseAll, lagging_steps}
 use Rattle.mu_alive.specs.Following.{RaisesToAll, following_steps}
 use Rattle.mu_alive.specs.Lone.{IsNear, LeadsAlone}
 use Rattle.mu_alive.specs.Turns.{is_own_min}
@@ -174,10 +175,10 @@ one_leads c a (e ∷ newer) base kept some =
     (ap (λ t. not (if t then true else has (begins_leadership a) newer)) same ∙ ih.0, min_on a e (newer ++ base) same ih.1)
 
 -- a leads under a number, and asked each region before
-record Started (c : Config) (a : ℕ) (past : List Event) : Type 0 where
-  read : has_min a (part a past) ≡ true
-  numbered : is_some (proposal_number a (part a past)) ≡ true
-  asked : (p : ℕ) → p < c.replicas → has (is_asking p) (part a past) ≡ true
+pub record Started (c : Config) (a : ℕ) (past : List Event) : Type 0 where
+  pub read : has_min a (part a past) ≡ true
+  pub numbered : is_some (proposal_number a (part a past)) ≡ true
+  pub asked : (p : ℕ) → p < c.replicas → has (is_asking p) (part a past) ≡ true
 
 named_moments : (c : Config) (a : ℕ) (mine : List Event) → AtEachMoment (λ now. is_named c a now ≡ true) mine → AtEachMoment (From 0 (λ now. is_named c a now ≡ true)) mine
 named_moments c a [] named = λ _. named
@@ -208,11 +209,11 @@ puts_min c a by (Verb.PutMin q b) past some legal may = put_reads c by q b past 
 puts_min c a by verb past some legal may = absurd (true≢false (sym some))
 
 -- who knows something has started
-started : (c : Config) (live : ℕ → Bool) (a : ℕ) (past : List Event) → LeadsAlone c live a past → AsksAllFirst c a (part a past) → holds_all c [] ≡ false → knows_all c a (part a past) ≡ true → Started c a past
+pub started : (c : Config) (live : ℕ → Bool) (a : ℕ) (past : List Event) → LeadsAlone c live a past → AsksAllFirst c a (part a past) → holds_all c [] ≡ false → known c a (part a past) ≢ [] → Started c a past
 started c live a past lone asks_first lacks knows = go (has (is_number_of a) (part a past)) refl
   where
     go : (t : Bool) → has (is_number_of a) (part a past) ≡ t → Started c a past
-    go false none = absurd (true≢false (sym knows ∙ (ap (holds_all c) (blank c a past lone.legal lone.alone (not_there (has (is_number_of a) past) refl)).1 ∙ lacks)))
+    go false none = absurd (knows (blank c a past lone.legal lone.alone (not_there (has (is_number_of a) past) refl)).1)
       where
         own : IsOwnTest a (is_number_of a)
         own = record { own = λ e other. here e.by e.verb other }
@@ -320,6 +321,37 @@ fence_notes c a p e past legal alone own fences owns = go e.by e.verb e.answer o
         ∙ ap is_some (ap (λ x. grant_for a (Some (fence x past))) (eqb-true q p fences) ∙ seen_again a p past (once c a p past legal.0 alone) owns))
     go by verb answer own fences is = absurd (true≢false (sym fences))
 
+-- what a journal keeps its beginnings keep
+pub replays_before : (c : Config) (r : ℕ) (newer older : List Event) → Replays c r (newer ++ older) → Replays c r older
+replays_before c r newer older held = record {
+  reads = λ window o s n off. held.reads window o (more window o s) n off;
+  learns = λ window o s n off low. held.learns window o (more window o s) n off low;
+}
+  where
+    more : (window o : List Event) → IsStretch older window o → IsStretch (newer ++ older) window o
+    more window o s = record { newer = newer ++ s.newer; is = ap (λ l. newer ++ l) s.is ∙ sym (append_assoc newer s.newer (window ++ o)) }
+
+pub heads_before : (c : Config) (r : ℕ) (newer older : List Event) → TellsHeads c r (newer ++ older) → TellsHeads c r older
+heads_before c r newer older held = record {
+  raises = λ window o s low n. held.raises window o (more window o s) low n;
+  reads = λ q window o low other s n. held.reads q window o low other (more window o s) n;
+}
+  where
+    more : (window o : List Event) → IsStretch older window o → IsStretch (newer ++ older) window o
+    more window o s = record { newer = newer ++ s.newer; is = ap (λ l. newer ++ l) s.is ∙ sym (append_assoc newer s.newer (window ++ o)) }
+
+pub keep_before : (c : Config) (live : ℕ → Bool) (a : ℕ) (newer older : List Event) → KeepUp c live a (newer ++ older) → KeepUp c live a older
+keep_before c live a newer older keep = record {
+  replays = λ r low lives. replays_before c r (part r newer) (part r older) (subst (Replays c r) (split r) (keep.replays r low lives));
+  heads = λ r low lives. heads_before c r (part r newer) (part r older) (subst (TellsHeads c r) (split r) (keep.heads r low lives));
+  raises = λ r low lives. steps_before (RaisesToAll c r) (part r newer) (part r older) (subst (AtEachStep (RaisesToAll c r)) (split r) (keep.raises r low lives));
+  unnamed = λ r low lives other. moments_before (λ now. is_named c r now ≡ false) (part r newer) (part r older) (subst (AtEachMoment (λ now. is_named c r now ≡ false)) (split r) (keep.unnamed r low lives other));
+  asked = λ above below e p is min waits on low. keep.asked (part a newer ++ above) below e p (split a ∙ ap (λ x. part a newer ++ x) is ∙ sym (append_assoc (part a newer) above (e ∷ below))) min waits on low;
+}
+  where
+    split : (r : ℕ) → part r (newer ++ older) ≡ part r newer ++ part r older
+    split r = filter-append (λ e. e.by == r) newer older
+
 -- two lists of one length that agree are one
 pub same_lists : (xs ys : List ℕ) → length xs ≡ length ys → ((i v w : ℕ) → slice_get xs i ≡ Some v → slice_get ys i ≡ Some w → v ≡ w) → xs ≡ ys
 same_lists [] [] long agree = refl
@@ -363,7 +395,7 @@ in_region : (c : Config) (a p l : ℕ) (past : List Event) → IsLegalHistory c 
 in_region c a p zero past legal high = omega arith
 in_region c a p (suc l) past legal high = covers_below c a p past legal (suc l) (reached (suc l) (λ e. fuo_read_or_raised a p e.by e.verb e.answer) (part a past) (omega arith) high)
 
-writes_before : (a : ℕ) (newer older : List Event) → WritesAlone a (newer ++ older) → WritesAlone a older
+pub writes_before : (a : ℕ) (newer older : List Event) → WritesAlone a (newer ++ older) → WritesAlone a older
 writes_before a [] older writes = writes
 writes_before a (e ∷ newer) older writes = writes_before a newer older writes.0
 
@@ -378,64 +410,51 @@ pub moments_more : (P Q : List Event → Type 0) → ((now : List Event) → P n
 moments_more P Q more [] held = more [] held
 moments_more P Q more (e ∷ mine) held = (moments_more P Q more mine held.0, more (e ∷ mine) held.1)
 
--- a has started by the time that it knows all
-started_then : (c : Config) (live : ℕ → Bool) (a : ℕ) (past newer older : List Event) → IsConfig c → HasLargeRing c → LeadsAlone c live a past → AsksAllFirst c a (part a past) → holds_all c [] ≡ false → past ≡ newer ++ older → steps_enough c ≤ length (part a older) → Started c a older
-started_then c live a past newer older good large lone asks lacks is long =
-    let here : LeadsAlone c live a older = lone_before c live a newer older (subst (LeadsAlone c live a) is lone) in
-    let split : part a past ≡ part a newer ++ part a older = ap (part a) is ∙ filter-append (λ e. e.by == a) newer older in
-    started c live a older here
-    (λ above below e p mine min waits on low. asks (part a newer ++ above) below e p (split ∙ ap (λ x. part a newer ++ x) mine ∙ sym (append_assoc (part a newer) above (e ∷ below))) min waits on low) lacks (knows_all_in_time c live a older good large here long)
-
--- and then owns the region of each that keeps up
-owns_then : (c : Config) (live : ℕ → Bool) (a p : ℕ) (past newer older : List Event) → IsConfig c → HasLargeRing c → LeadsAlone c live a past → AsksAllFirst c a (part a past) → holds_all c [] ≡ false → p < c.replicas → live p ≡ true → past ≡ newer ++ older
-    → steps_enough c + (2 * cycle c + 2) ≤ length (part a older) → fence_owner p older ≡ Some a
-owns_then c live a p past newer older good large lone asks lacks low lives is long = at (cut_at a (steps_enough c) older (omega (arith, long)))
+-- then it owns the region of each that keeps up, so many steps later
+owns_after : (c : Config) (live : ℕ → Bool) (a p : ℕ) (newer older : List Event) → LeadsAlone c live a (newer ++ older) → Started c a older → p < c.replicas → live p ≡ true → 2 * cycle c + 2 ≤ length (part a newer) → fence_owner p (newer ++ older) ≡ Some a
+owns_after c live a p newer older lone begun low lives long =
+    granted c a p newer older lone.inside lone.legal lone.alone (lone.reads p low lives) (lone.grants p low lives) (asked_once a p older (begun.asked p low)) enough
   where
-    at : CutAt a (steps_enough c) older → fence_owner p older ≡ Some a
-    at k =
-        let here : LeadsAlone c live a older = lone_before c live a newer older (subst (LeadsAlone c live a) is lone) in
-        let both : LeadsAlone c live a (k.newer ++ k.rest) = subst (LeadsAlone c live a) k.is here in
-        let base : LeadsAlone c live a k.rest = lone_before c live a k.newer k.rest both in
-        let count = k.count in
-        let whole : past ≡ (newer ++ k.newer) ++ k.rest = is ∙ ap (λ x. newer ++ x) k.is ∙ sym (append_assoc newer k.newer k.rest) in
-        let begun = started_then c live a past (newer ++ k.newer) k.rest good large lone asks lacks whole (omega (arith, count)) in
-        let late = (last_moment (IsNear c live a) (k.newer ++ k.rest) both.near p low lives).1 in
-        let early = (last_moment (IsNear c live a) k.rest base.near p low lives).0 in
-        let split = ap length (filter-append (λ e. e.by == p) k.newer k.rest) ∙ length-append (part p k.newer) (part p k.rest) in
-        let same = ap (λ x. length (part a x)) k.is in
-        subst (λ x. fence_owner p x ≡ Some a) (sym k.is)
-        (granted c a p k.newer k.rest both.inside both.legal both.alone (both.reads p low lives) (both.grants p low lives) (asked_once a p k.rest (begun.asked p low)) (omega (arith, late, early, split, same, count, long)))
+    enough : 2 * cycle c ≤ length (part p newer)
+    enough =
+        let late = (last_moment (IsNear c live a) (newer ++ older) lone.near p low lives).1 in
+        let early = (last_moment (IsNear c live a) older (moments_before (IsNear c live a) newer older lone.near) p low lives).0 in
+        let theirs = ap length (filter-append (λ e. e.by == p) newer older) ∙ length-append (part p newer) (part p older) in
+        let mine = ap length (filter-append (λ e. e.by == a) newer older) ∙ length-append (part a newer) (part a older) in
+        omega (arith, late, early, theirs, mine, long)
 
--- what the FUO of each comes to
-brought_then : (c : Config) (live : ℕ → Bool) (a p l : ℕ) (past top newer older : List Event) → IsConfig c → HasLargeRing c → LeadsAlone c live a past → AsksAllFirst c a (part a past) → holds_all c [] ≡ false → p < c.replicas → live p ≡ true → past ≡ top ++ (newer ++ older)
-    → steps_enough c + (2 * cycle c + 2) ≤ length (part a older) → joining_steps c ≤ length (part a newer) → l ≤ length (known c a (part a older)) → l ≤ greatest (λ e. fuo_read_or_raised a p e.by e.verb e.answer) (part a (newer ++ older))
-brought_then c live a p l past top newer older good large lone asks lacks low lives is long enough knows =
-    subst (λ x. l ≤ greatest (λ e. fuo_read_or_raised a p e.by e.verb e.answer) x) (sym split)
-    (brought_up c a p l (part a newer) (part a older) good (subst (LeadsOn c a) split on)
-    (record {
-      inside = low;
-      read = begun.read;
-      numbered = begun.numbered;
-      same = (one_leads c a (part a newer) (part a older) (subst (AtEachStep (Leads c a)) split (lone_leads c a (part a (newer ++ older)) (lone_on c a (newer ++ older) here.legal here.alone) here.named here.led)) begun.read).0;
-      notes = notes;
-    }) knows enough)
+-- who has started goes on, with its number and its minimum
+started_on : (c : Config) (live : ℕ → Bool) (a : ℕ) (newer older : List Event) → LeadsAlone c live a (newer ++ older) → Started c a older → (stays a (part a newer) ≡ true) × Started c a (newer ++ older)
+started_on c live a newer older lone begun = (on.0, record {
+  read = ap (has_min a) split ∙ on.1;
+  numbered = ap (λ x. is_some (proposal_number a x)) split ∙ numbered_stays a (part a newer) (part a older) on.0 begun.numbered;
+  asked = λ p low. subst (λ x. has (is_asking p) x ≡ true) (sym split) (some_asked p (part a newer) (part a older) (begun.asked p low));
+})
   where
     split : part a (newer ++ older) ≡ part a newer ++ part a older
     split = filter-append (λ e. e.by == a) newer older
 
-    here : LeadsAlone c live a (newer ++ older)
-    here = lone_before c live a top (newer ++ older) (subst (LeadsAlone c live a) is lone)
+    on : (stays a (part a newer) ≡ true) × (has_min a (part a newer ++ part a older) ≡ true)
+    on = one_leads c a (part a newer) (part a older) (subst (AtEachStep (Leads c a)) split (lone_leads c a (part a (newer ++ older)) (lone_on c a (newer ++ older) lone.legal lone.alone) lone.named lone.led)) begun.read
 
-    begun : Started c a older
-    begun = started_then c live a past (top ++ newer) older good large lone asks lacks (is ∙ sym (append_assoc top newer older)) (omega (arith, long))
+-- what the FUO of each comes to
+brought_after : (c : Config) (live : ℕ → Bool) (a p l : ℕ) (newer older : List Event) → IsConfig c → LeadsAlone c live a (newer ++ older) → Started c a older → p < c.replicas → live p ≡ true → ((above below : List Event) → newer ≡ above ++ below → fence_owner p (below ++ older) ≡ Some a)
+    → joining_steps c ≤ length (part a newer) → l ≤ length (known c a (part a older)) → l ≤ greatest (λ e. fuo_read_or_raised a p e.by e.verb e.answer) (part a (newer ++ older))
+brought_after c live a p l newer older good lone begun low lives owns enough knows =
+    subst (λ x. l ≤ greatest (λ e. fuo_read_or_raised a p e.by e.verb e.answer) x) (sym split)
+    (brought_up c a p l (part a newer) (part a older) good (subst (LeadsOn c a) split on)
+    (record { inside = low; read = begun.read; numbered = begun.numbered; same = (started_on c live a newer older lone begun).0; notes = notes }) knows enough)
+  where
+    split : part a (newer ++ older) ≡ part a newer ++ part a older
+    split = filter-append (λ e. e.by == a) newer older
 
     on : LeadsOn c a (part a (newer ++ older))
     on = record {
-      inside = here.inside;
-      possible = part_is_possible c a (newer ++ older) here.legal;
-      on = lone_on c a (newer ++ older) here.legal here.alone;
-      named = moments_more (λ now. is_named c a now ≡ true) (λ now. is_some (proposal_number a now) ≡ true → is_named c a now ≡ true) (λ now named _. named) (part a (newer ++ older)) here.named;
-      led = here.led;
+      inside = lone.inside;
+      possible = part_is_possible c a (newer ++ older) lone.legal;
+      on = lone_on c a (newer ++ older) lone.legal lone.alone;
+      named = moments_more (λ now. is_named c a now ≡ true) (λ now. is_some (proposal_number a now) ≡ true → is_named c a now ≡ true) (λ now named _. named) (part a (newer ++ older)) lone.named;
+      led = lone.led;
     }
 
     notes : (above below : List Event) (e : Event) → part a newer ≡ above ++ e ∷ below → is_fencing p e ≡ true → is_some (noted_grant a p (e ∷ (below ++ part a older))) ≡ true
@@ -444,112 +463,144 @@ brought_then c live a p l past top newer older good large lone asks lacks low li
         at : Located a newer e below → is_some (noted_grant a p (e ∷ (below ++ part a older))) ≡ true
         at l =
             let whole : newer ++ older ≡ l.newer ++ e ∷ (l.older ++ older) = ap (λ x. x ++ older) l.is ∙ append_assoc l.newer (e ∷ l.older) older in
-            let deeper : past ≡ (top ++ (l.newer ++ e ∷ [])) ++ (l.older ++ older) = is ∙ ap (λ x. top ++ x) (whole ∙ sym (append_assoc l.newer (e ∷ []) (l.older ++ older))) ∙ sym (append_assoc top (l.newer ++ e ∷ []) (l.older ++ older)) in
-            let there : LeadsAlone c live a (l.older ++ older) = lone_before c live a (top ++ (l.newer ++ e ∷ [])) (l.older ++ older) (subst (LeadsAlone c live a) deeper lone) in
+            let there : LeadsAlone c live a (l.older ++ older) = lone_before c live a (l.newer ++ e ∷ []) (l.older ++ older) (subst (LeadsAlone c live a) (whole ∙ sym (append_assoc l.newer (e ∷ []) (l.older ++ older))) lone) in
             let parts : part a (l.older ++ older) ≡ below ++ part a older = filter-append (λ e. e.by == a) l.older older ∙ ap (λ x. x ++ part a older) l.before in
-            let more = ap length parts ∙ length-append below (part a older) in
-            let owns = owns_then c live a p past (top ++ (l.newer ++ e ∷ [])) (l.older ++ older) good large lone asks lacks low lives deeper (omega (arith, long, more)) in
-            subst (λ x. is_some (noted_grant a p (e ∷ x)) ≡ true) parts (fence_notes c a p e (l.older ++ older) (legal_older c l.newer (e ∷ (l.older ++ older)) (subst (IsLegalHistory c) whole here.legal)) there.alone l.own fences owns)
+            subst (λ x. is_some (noted_grant a p (e ∷ x)) ≡ true) parts
+            (fence_notes c a p e (l.older ++ older) (legal_older c l.newer (e ∷ (l.older ++ older)) (subst (IsLegalHistory c) whole lone.legal)) there.alone l.own fences (owns (l.newer ++ e ∷ []) l.older (l.is ∙ sym (append_assoc l.newer (e ∷ []) l.older))))
+
+-- so many steps after it has started all that keep up have applied what it knew, and raised their heads to it
+pub raised_after : (c : Config) (live : ℕ → Bool) (a l : ℕ) (newer older : List Event) → IsConfig c → LeadsAlone c live a (newer ++ older) → WritesAlone a (newer ++ older) → KeepUp c live a (newer ++ older) → Started c a older → l ≤ length (known c a (part a older)) → lagging_steps c ≤ length (part a newer)
+    → (r : ℕ) → r < c.replicas → live r ≡ true → (l ≤ length (applied c r (part r (newer ++ older)))) × (l ≤ region_head r (newer ++ older))
+raised_after c live a l newer older good lone writes keep begun knows many r low lives = which (cases_eq r a)
+  where
+    past : List Event
+    past = newer ++ older
+
+    mine : part a past ≡ part a newer ++ part a older
+    mine = filter-append (λ e. e.by == a) newer older
+
+    total : length (part a past) ≡ length (part a newer) + length (part a older)
+    total = ap length mine ∙ length-append (part a newer) (part a older)
+
+    third : CutAt a ((2 * cycle c + 2) + joining_steps c) newer
+    third = cut_at a ((2 * cycle c + 2) + joining_steps c) newer (omega (arith, many))
+
+    second : CutAt a (2 * cycle c + 2) third.rest
+    second = cut_at a (2 * cycle c + 2) third.rest (let count = third.count in omega (arith, count))
+
+    at_third : past ≡ third.newer ++ (third.rest ++ older)
+    at_third = ap (λ x. x ++ older) third.is ∙ append_assoc third.newer third.rest older
+
+    at_second : third.rest ++ older ≡ second.newer ++ (second.rest ++ older)
+    at_second = ap (λ x. x ++ older) second.is ∙ append_assoc second.newer second.rest older
+
+    third_alone : LeadsAlone c live a (third.rest ++ older)
+    third_alone = lone_before c live a third.newer (third.rest ++ older) (subst (LeadsAlone c live a) at_third lone)
+
+    second_alone : LeadsAlone c live a (second.newer ++ (second.rest ++ older))
+    second_alone = subst (LeadsAlone c live a) at_second third_alone
+
+    parts : (q : ℕ) → part q past ≡ part q third.newer ++ part q (third.rest ++ older)
+    parts q = ap (part q) at_third ∙ filter-append (λ e. e.by == q) third.newer (third.rest ++ older)
+
+    fuo : (p : ℕ) → p < c.replicas → live p ≡ true → l ≤ greatest (λ e. fuo_read_or_raised a p e.by e.verb e.answer) (part a (third.rest ++ older))
+    fuo p inside goes =
+        subst (λ x. l ≤ greatest (λ e. fuo_read_or_raised a p e.by e.verb e.answer) (part a x)) (sym at_second)
+        (brought_after c live a p l second.newer (second.rest ++ older) good second_alone (started_on c live a second.rest older (lone_before c live a second.newer (second.rest ++ older) second_alone) begun).1 inside goes owns
+        (let counts = second.count in let count = third.count in let sum = ap (λ x. length (part a x)) second.is ∙ ap length (filter-append (λ e. e.by == a) second.newer second.rest) ∙ length-append (part a second.newer) (part a second.rest) in omega (arith, counts, count, sum))
+        (let grows = known_grows c a (part a second.rest) (part a older) in let same = ap (λ x. length (known c a x)) (filter-append (λ e. e.by == a) second.rest older) in omega (arith, grows, same, knows)))
+      where
+        owns : (above below : List Event) → second.newer ≡ above ++ below → fence_owner p (below ++ (second.rest ++ older)) ≡ Some a
+        owns above below cuts =
+            let whole : second.newer ++ (second.rest ++ older) ≡ above ++ ((below ++ second.rest) ++ older) = ap (λ x. x ++ (second.rest ++ older)) cuts ∙ append_assoc above below (second.rest ++ older) ∙ ap (λ x. above ++ x) (sym (append_assoc below second.rest older)) in
+            let here = lone_before c live a above ((below ++ second.rest) ++ older) (subst (LeadsAlone c live a) whole second_alone) in
+            let more = ap length (filter-append (λ e. e.by == a) below second.rest) ∙ length-append (part a below) (part a second.rest) in
+            let count = second.count in
+            subst (λ x. fence_owner p x ≡ Some a) (append_assoc below second.rest older) (owns_after c live a p (below ++ second.rest) older here begun inside goes (omega (arith, more, count)))
+
+    third_taken : length (part a (third.rest ++ older)) ≡ (2 * cycle c + 2) + joining_steps c + length (part a older)
+    third_taken = let sum = ap length (filter-append (λ e. e.by == a) third.rest older) ∙ length-append (part a third.rest) (part a older) in let count = third.count in omega (arith, sum, count)
+
+    follower : r ≢ a → (l ≤ length (applied c r (part r past))) × (l ≤ region_head r past)
+    follower other =
+        subst (λ x. (l ≤ length (applied c r (part r x))) × (l ≤ region_head r x)) (sym at_third)
+        (follows_up c r l third.newer (third.rest ++ older) good
+        (record {
+          inside = low;
+          legal = subst (IsLegalHistory c) at_third lone.legal;
+          replays = subst (λ x. Replays c r (part r x)) at_third (keep.replays r low lives);
+          heads = subst (λ x. TellsHeads c r (part r x)) at_third (keep.heads r low lives);
+          raises = subst (λ x. AtEachStep (RaisesToAll c r) (part r x)) at_third (keep.raises r low lives);
+          unnamed = moments_more (λ now. is_named c r now ≡ false) (λ now. length (part r (third.rest ++ older)) ≤ length now → is_named c r now ≡ false) (λ now off _. off) (part r (third.newer ++ (third.rest ++ older))) (subst (λ x. AtEachMoment (λ now. is_named c r now ≡ false) (part r x)) at_third (keep.unnamed r low lives other));
+        })
+        (in_region c a r l (third.rest ++ older) third_alone.legal (fuo r low lives)) enough)
+      where
+        enough : following_steps c ≤ length (part r third.newer)
+        enough =
+            let late = (last_moment (IsNear c live a) past lone.near r low lives).1 in
+            let early = (last_moment (IsNear c live a) (third.rest ++ older) third_alone.near r low lives).0 in
+            let split = ap length (parts r) ∙ length-append (part r third.newer) (part r (third.rest ++ older)) in
+            let taken = third_taken in
+            let all = total in
+            omega (arith, late, early, split, taken, all, many)
+
+    leader : (l ≤ length (applied c a (part a past))) × (l ≤ region_head a past)
+    leader =
+        let is = ap length (applied_is_known c a older good (legal_older c newer older lone.legal) (writes_before a newer older writes)) in
+        let had = applied_grows c a (part a third.rest) (part a older) in
+        let there = ap (λ x. length (applied c a x)) (filter-append (λ e. e.by == a) third.rest older) in
+        let grows = applied_grows c a (part a third.newer) (part a (third.rest ++ older)) in
+        let same = ap (λ x. length (applied c a x)) (parts a) in
+        let sum = ap length (parts a) ∙ length-append (part a third.newer) (part a (third.rest ++ older)) in
+        let taken = third_taken in
+        let all = total in
+        let head =
+        head_follows c a l (part a third.newer) (part a (third.rest ++ older)) (subst (IsPossible c a) (parts a) (part_is_possible c a past lone.legal)) (subst (TellsHeads c a) (parts a) (keep.heads a lone.inside lone.lives)) (subst (AtEachStep (RaisesToAll c a)) (parts a) (keep.raises a lone.inside lone.lives))
+        (omega (arith, is, had, there, knows)) (fuo a lone.inside lone.lives) (omega (arith, sum, taken, all, many)) in
+        let region : region_head a (part a past) ≡ region_head a past = greatest-part (λ e. head_raised a e.by e.verb) a (heads-own a) past in
+        let whole = ap (region_head a) (parts a) in
+        (omega (arith, is, had, there, grows, same, knows), omega (arith, head, region, whole))
+
+    which : (r ≡ a) ⊎ (r ≢ a) → (l ≤ length (applied c r (part r past))) × (l ≤ region_head r past)
+    which (inl same) = subst (λ x. (l ≤ length (applied c x (part x past))) × (l ≤ region_head x past)) (sym same) leader
+    which (inr other) = follower other
 
 pub raise_all : LoneLeadersRaiseAll
 raise_all c live a past good large lone writes keep many = go (holds_all c []) refl
   where
-    third : CutAt a (steps_enough c + (2 * cycle c + 2) + joining_steps c) past
-    third = cut_at a (steps_enough c + (2 * cycle c + 2) + joining_steps c) past (omega (arith, many))
-
-    second : CutAt a (steps_enough c + (2 * cycle c + 2)) third.rest
-    second = cut_at a (steps_enough c + (2 * cycle c + 2)) third.rest (let count = third.count in omega (arith, count))
-
-    first : CutAt a (steps_enough c) second.rest
-    first = cut_at a (steps_enough c) second.rest (let count = second.count in omega (arith, count))
+    first : CutAt a (steps_enough c) past
+    first = cut_at a (steps_enough c) past (omega (arith, many))
 
     -- all commands
     all : List ℕ
     all = known c a (part a first.rest)
 
-    at_first : past ≡ (third.newer ++ (second.newer ++ first.newer)) ++ first.rest
-    at_first = third.is ∙ ap (λ x. third.newer ++ x) (second.is ∙ ap (λ x. second.newer ++ x) first.is ∙ sym (append_assoc second.newer first.newer first.rest)) ∙ sym (append_assoc third.newer (second.newer ++ first.newer) first.rest)
+    mine : part a past ≡ part a first.newer ++ part a first.rest
+    mine = ap (part a) first.is ∙ filter-append (λ e. e.by == a) first.newer first.rest
 
     first_alone : LeadsAlone c live a first.rest
-    first_alone = lone_before c live a (third.newer ++ (second.newer ++ first.newer)) first.rest (subst (LeadsAlone c live a) at_first lone)
+    first_alone = lone_before c live a first.newer first.rest (subst (LeadsAlone c live a) first.is lone)
 
     knows : holds_all c all ≡ true
     knows = let count = first.count in knows_all_in_time c live a first.rest good large first_alone (omega (arith, count))
 
-    parts : (r : ℕ) → part r past ≡ part r third.newer ++ part r third.rest
-    parts r = ap (part r) third.is ∙ filter-append (λ e. e.by == r) third.newer third.rest
+    begun : holds_all c [] ≡ false → Started c a first.rest
+    begun lacks =
+        started c live a first.rest first_alone
+        (λ above below e p cuts min waits on low. keep.asked (part a first.newer ++ above) below e p (mine ∙ ap (λ x. part a first.newer ++ x) cuts ∙ sym (append_assoc (part a first.newer) above (e ∷ below))) min waits on low) lacks (λ none. true≢false (sym knows ∙ (ap (holds_all c) none ∙ lacks)))
 
-    known_second : length all ≤ length (known c a (part a second.rest))
-    known_second =
-        let grows = known_grows c a (part a first.newer) (part a first.rest) in
-        let same = ap (λ x. length (known c a x)) (ap (part a) first.is ∙ filter-append (λ e. e.by == a) first.newer first.rest) in
-        omega (arith, grows, same)
-
-    fuo : holds_all c [] ≡ false → (p : ℕ) → p < c.replicas → live p ≡ true → length all ≤ greatest (λ e. fuo_read_or_raised a p e.by e.verb e.answer) (part a third.rest)
-    fuo lacks p low lives =
-        let counts = second.count in
-        let count = third.count in
-        let sum = ap (λ x. length (part a x)) second.is ∙ ap length (filter-append (λ e. e.by == a) second.newer second.rest) ∙ length-append (part a second.newer) (part a second.rest) in
-        subst (λ x. length all ≤ greatest (λ e. fuo_read_or_raised a p e.by e.verb e.answer) (part a x)) (sym second.is)
-        (brought_then c live a p (length all) past third.newer second.newer second.rest good large lone keep.asked lacks low lives (third.is ∙ ap (λ x. third.newer ++ x) second.is) (omega (arith, counts)) (omega (arith, counts, count, sum)) known_second)
-
-    third_legal : IsLegalHistory c third.rest
-    third_legal = legal_older c third.newer third.rest (subst (IsLegalHistory c) third.is lone.legal)
-
-    -- of another
-    follower : holds_all c [] ≡ false → (r : ℕ) → r < c.replicas → live r ≡ true → r ≢ a → (length all ≤ length (applied c r (part r past))) × (length all ≤ region_head r past)
-    follower lacks r low lives other =
-        subst (λ x. (length all ≤ length (applied c r (part r x))) × (length all ≤ region_head r x)) (sym third.is)
-        (follows_up c r (length all) third.newer third.rest good
-        (record {
-          inside = low;
-          legal = subst (IsLegalHistory c) third.is lone.legal;
-          replays = subst (λ x. Replays c r (part r x)) third.is (keep.replays r low lives);
-          heads = subst (λ x. TellsHeads c r (part r x)) third.is (keep.heads r low lives);
-          raises = subst (λ x. AtEachStep (RaisesToAll c r) (part r x)) third.is (keep.raises r low lives);
-          unnamed = moments_more (λ now. is_named c r now ≡ false) (λ now. length (part r third.rest) ≤ length now → is_named c r now ≡ false) (λ now off _. off) (part r (third.newer ++ third.rest)) (subst (λ x. AtEachMoment (λ now. is_named c r now ≡ false) (part r x)) third.is (keep.unnamed r low lives other));
-        })
-        (in_region c a r (length all) third.rest third_legal (fuo lacks r low lives)) enough)
-      where
-        enough : following_steps c ≤ length (part r third.newer)
-        enough =
-            let late = (last_moment (IsNear c live a) past lone.near r low lives).1 in
-            let early = (last_moment (IsNear c live a) third.rest (moments_before (IsNear c live a) third.newer third.rest (subst (AtEachMoment (IsNear c live a)) third.is lone.near)) r low lives).0 in
-            let split = ap length (parts r) ∙ length-append (part r third.newer) (part r third.rest) in
-            let count = third.count in
-            omega (arith, late, early, split, count, many)
-
-    -- of a itself
-    own_applied : length all ≤ length (applied c a (part a third.rest))
-    own_applied =
-        let is = ap length (applied_is_known c a first.rest good first_alone.legal (writes_before a (third.newer ++ (second.newer ++ first.newer)) first.rest (subst (WritesAlone a) at_first writes))) in
-        let split : part a third.rest ≡ part a (second.newer ++ first.newer) ++ part a first.rest = ap (part a) (second.is ∙ ap (λ x. second.newer ++ x) first.is ∙ sym (append_assoc second.newer first.newer first.rest)) ∙ filter-append (λ e. e.by == a) (second.newer ++ first.newer) first.rest in
-        let grows = applied_grows c a (part a (second.newer ++ first.newer)) (part a first.rest) in
-        let same = ap (λ x. length (applied c a x)) split in
-        omega (arith, is, grows, same)
-
-    leader : holds_all c [] ≡ false → (length all ≤ length (applied c a (part a past))) × (length all ≤ region_head a past)
-    leader lacks =
-        let grows = applied_grows c a (part a third.newer) (part a third.rest) in
-        let same = ap (λ x. length (applied c a x)) (parts a) in
-        let had = own_applied in
-        let sum = ap length (parts a) ∙ length-append (part a third.newer) (part a third.rest) in
-        let count = third.count in
-        let head =
-        head_follows c a (length all) (part a third.newer) (part a third.rest) (subst (IsPossible c a) (parts a) (part_is_possible c a past lone.legal)) (subst (TellsHeads c a) (parts a) (keep.heads a lone.inside lone.lives)) (subst (AtEachStep (RaisesToAll c a)) (parts a) (keep.raises a lone.inside lone.lives)) had (fuo lacks a lone.inside lone.lives) (omega (arith, sum, count, many)) in
-        let region : region_head a (part a past) ≡ region_head a past = greatest-part (λ e. head_raised a e.by e.verb) a (heads-own a) past in
-        let whole = ap (region_head a) (parts a) in
-        (omega (arith, grows, same, had), omega (arith, head, region, whole))
-
-    there : holds_all c [] ≡ false → (r : ℕ) → r < c.replicas → live r ≡ true → (r ≡ a) ⊎ (r ≢ a) → (length all ≤ length (applied c r (part r past))) × (length all ≤ region_head r past)
-    there lacks r low lives (inl same) = subst (λ x. (length all ≤ length (applied c x (part x past))) × (length all ≤ region_head x past)) (sym same) (leader lacks)
-    there lacks r low lives (inr other) = follower lacks r low lives other
+    there : holds_all c [] ≡ false → (r : ℕ) → r < c.replicas → live r ≡ true → (length all ≤ length (applied c r (part r past))) × (length all ≤ region_head r past)
+    there lacks r low lives =
+        let count = first.count in
+        let sum = ap length mine ∙ length-append (part a first.newer) (part a first.rest) in
+        subst (λ x. (length all ≤ length (applied c r (part r x))) × (length all ≤ region_head r x)) (sym first.is)
+        (raised_after c live a (length all) first.newer first.rest good (subst (LeadsAlone c live a) first.is lone) (subst (WritesAlone a) first.is writes) (subst (KeepUp c live a) first.is keep) (begun lacks) (omega arith) (omega (arith, count, sum, many)) r low lives)
 
     holds : holds_all c [] ≡ false → (r : ℕ) → r < c.replicas → live r ≡ true → holds_all c (take (length all) (applied c r (part r past))) ≡ true
-    holds lacks r low lives = ap (holds_all c) (same_lists (take (length all) (applied c r (part r past))) all (let long = (there lacks r low lives (cases_eq r a)).0 in let taken = length-take (length all) (applied c r (part r past)) in omega (arith, long, taken)) agree) ∙ knows
+    holds lacks r low lives = ap (holds_all c) (same_lists (take (length all) (applied c r (part r past))) all (let long = (there lacks r low lives).0 in let taken = length-take (length all) (applied c r (part r past)) in omega (arith, long, taken)) agree) ∙ knows
       where
         more : IsPrefixOf all (known c a (part a past))
-        more = subst (λ x. IsPrefixOf all (known c a x)) (sym (ap (part a) at_first ∙ filter-append (λ e. e.by == a) (third.newer ++ (second.newer ++ first.newer)) first.rest)) (known_stays c a (part a (third.newer ++ (second.newer ++ first.newer))) (part a first.rest))
+        more = subst (λ x. IsPrefixOf all (known c a x)) (sym mine) (known_stays c a (part a first.newer) (part a first.rest))
 
         agree : (i v w : ℕ) → slice_get (take (length all) (applied c r (part r past))) i ≡ Some v → slice_get all i ≡ Some w → v ≡ w
         agree i v w at held =
@@ -558,4 +609,4 @@ raise_all c live a past good large lone writes keep many = go (holds_all c []) r
 
     go : (t : Bool) → holds_all c [] ≡ t → HaveAllRaised c live past
     go true none = record { upto = 0; raised = λ r low lives. omega arith; reached = λ r low lives. omega arith; held = λ r low lives. none }
-    go false lacks = record { upto = length all; raised = λ r low lives. (there lacks r low lives (cases_eq r a)).1; reached = λ r low lives. (there lacks r low lives (cases_eq r a)).0; held = λ r low lives. holds lacks r low lives }
+    go false lacks = record { upto = length all; raised = λ r low lives. (there lacks r low lives).1; reached = λ r low lives. (there lacks r low lives).0; held = λ r low lives. holds lacks r low lives }

@@ -10,6 +10,7 @@ pub mod Fetching
 pub mod Finishing
 mod Following
 mod Granting
+pub mod Lagging
 mod LastNoting
 mod Lasting
 mod Moments

@@ -48,10 +48,14 @@ pub record HaveAllRaised (c : Config) (live : ℕ → Bool) (past : List Event) 
       (r : ℕ) → r < c.replicas → live r ≡ true
       → holds_all c (take upto (applied c r (part r past))) ≡ true
 
--- a knows all; each live host has granted to it; each region is brought up; each replica follows
+-- in so many steps each live host has granted to it, each region is brought up, and each replica
+-- has applied what a knew and raised its head to it
+abbrev pub lagging_steps : Config → ℕ
+lagging_steps c = 2 * cycle c + 2 + joining_steps c + (following_steps c + 2)
+
+-- before that it knows all
 abbrev pub raising_steps : Config → ℕ
-raising_steps c =
-    steps_enough c + (2 * cycle c + 2) + joining_steps c + (following_steps c + 2)
+raising_steps c = steps_enough c + lagging_steps c
 
 -- after `raising_steps` of a all that keep up with it have done so
 abbrev pub LoneLeadersRaiseAll : Type 0

@@ -5,6 +5,7 @@ pub mod Enough
 pub mod Failing
 pub mod Finishing
 pub mod Following
+pub mod Lagging
 pub mod Last
 pub mod Lone
 pub mod Turns

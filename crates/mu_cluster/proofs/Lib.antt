@@ -1,5 +1,6 @@
 pub mod Agreeing
 mod AllTold
+mod AnyRing
 mod Branching
 mod Driven
 pub mod FewCommands

@@ -44,7 +44,7 @@ use Rattle.mu_alive.proofs.Beginning.{grants_before, reads_before}
 use Rattle.mu_alive.proofs.Cutting.{Cut, Located, cut, located}
 use Rattle.mu_alive.proofs.Enough.{asks_before, outrun_before}
 use Rattle.mu_alive.proofs.Fetching.{applied_grows}
-use Rattle.mu_alive.proofs.Finishing.{get_of_front, get_take, heads-own, raise_all, same_lists}
+use Rattle.mu_alive.proofs.Finishing.{get_of_front, get_take, heads-own, heads_before, raise_all, replays_before, same_lists}
 use Rattle.mu_cluster.specs.Rounds.{part_of}
 use Rattle.mu_cluster.specs.Naming.{NamesFirst}
 use Rattle.mu_cluster.proofs.InStep.{StaysAhead, in_step}
@@ -128,25 +128,6 @@ same_taken c r s l past legal one other =
     (λ i v w at there.
     known_agree c r s past legal i v w (get_of_front (λ x. has_entry c r x (part r past)) (known c r (part r past)) i v (get_take l (applied c r (part r past)) i v at)) (get_of_front (λ x. has_entry c s x (part s past)) (known c s (part s past)) i w (get_take l (applied c s (part s past)) i w there)))
 
--- what a journal keeps its beginnings keep
-replays_before : (c : Config) (r : ℕ) (newer older : List Event) → Replays c r (newer ++ older) → Replays c r older
-replays_before c r newer older held = record {
-  reads = λ window o s n off. held.reads window o (more window o s) n off;
-  learns = λ window o s n off low. held.learns window o (more window o s) n off low;
-}
-  where
-    more : (window o : List Event) → IsStretch older window o → IsStretch (newer ++ older) window o
-    more window o s = record { newer = newer ++ s.newer; is = ap (λ l. newer ++ l) s.is ∙ sym (append_assoc newer s.newer (window ++ o)) }
-
-heads_before : (c : Config) (r : ℕ) (newer older : List Event) → TellsHeads c r (newer ++ older) → TellsHeads c r older
-heads_before c r newer older held = record {
-  raises = λ window o s low n. held.raises window o (more window o s) low n;
-  reads = λ q window o low other s n. held.reads q window o low other (more window o s) n;
-}
-  where
-    more : (window o : List Event) → IsStretch older window o → IsStretch (newer ++ older) window o
-    more window o s = record { newer = newer ++ s.newer; is = ap (λ l. newer ++ l) s.is ∙ sym (append_assoc newer s.newer (window ++ o)) }
-
 raises_steps : (c : Config) (r : ℕ) (mine : List Event) → AtEachStep (WasMade c r) mine → AtEachStep (RaisesToAll c r) mine
 raises_steps c r [] made = tt
 raises_steps c r (e ∷ mine) made = (raises_steps c r mine made.0, λ h is. raises_to_all c r h mine e made.1 is)
@@ -167,22 +148,33 @@ pub record RaisedBy (c : Config) (live : ℕ → Bool) (events : List Event) (mo
   pub few : (r : ℕ) → r < c.replicas → live r ≡ true → length (part r past) ≤ most
   pub raised : HaveAllRaised c live past
 
+-- replica 0 leads alone up to some moment, and all keep up with it
+pub record LoneAt (c : Config) (live : ℕ → Bool) (events : List Event) (most : ℕ) : Type 0 where
+  pub front : List Event
+  pub past : List Event
+  pub is : history events ≡ front ++ past
+  pub taken : length (part 0 past) ≡ most
+  pub few : (r : ℕ) → r < c.replicas → live r ≡ true → length (part r past) ≤ most
+  pub lone : LeadsAlone c live 0 past
+  pub writes : WritesAlone 0 past
+  pub keep : KeepUp c live 0 past
+
 -- where none finished before replica 0 has taken so many steps
-none_before : (c : Config) (live : ℕ → Bool) (events : List Event) (lengths : List ℕ) (rounds : ℕ) → IsConfig c → AreUnpaused c events lengths rounds → GoOn c live events → HasLargeRing c → ((r : ℕ) → r < c.replicas → live r ≡ true → raising_steps c ≤ slice_index lengths r) → RaisedBy c live events (raising_steps c)
-none_before c live events lengths rounds good run on large late = at (bottom.rest) refl
+pub lone_at : (c : Config) (live : ℕ → Bool) (events : List Event) (lengths : List ℕ) (rounds most : ℕ) → IsConfig c → AreUnpaused c events lengths rounds → GoOn c live events → 1 ≤ most → ((r : ℕ) → r < c.replicas → live r ≡ true → most ≤ slice_index lengths r) → LoneAt c live events most
+lone_at c live events lengths rounds most good run on one_more late = at (bottom.rest) refl
   where
     some : 0 < c.replicas
     some = (let l = good.replicas.0 in omega (arith, l))
 
-    bottom : Cut (raising_steps c) (part_of 0 events)
-    bottom = cut (raising_steps c) (part_of 0 events) (let taken = run.taken 0 some in let l = late 0 some on.first in omega (arith, taken, l))
+    bottom : Cut most (part_of 0 events)
+    bottom = cut most (part_of 0 events) (let taken = run.taken 0 some in let l = late 0 some on.first in omega (arith, taken, l))
 
-    at : (rest : List Event) → bottom.rest ≡ rest → RaisedBy c live events (raising_steps c)
-    at [] is = absurd (let count = bottom.count in let none = ap length is in omega (arith, count, none))
+    at : (rest : List Event) → bottom.rest ≡ rest → LoneAt c live events most
+    at [] is = absurd (let count = bottom.count in let none = ap length is in omega (arith, count, none, one_more))
     at (last ∷ mine) is = there (located 0 (history events) bottom.newer mine last (bottom.is ∙ ap (λ l. bottom.newer ++ l) is))
       where
-        there : Located 0 (history events) last mine → RaisedBy c live events (raising_steps c)
-        there l = record { front = l.newer; past = past; is = l.is; few = few; raised = raise_all c live 0 past good large lone writes keep (let n = taken in omega (arith, n)) }
+        there : Located 0 (history events) last mine → LoneAt c live events most
+        there l = record { front = l.newer; past = past; is = l.is; taken = taken; few = few; lone = lone; writes = writes; keep = keep }
           where
             past : List Event
             past = last ∷ l.older
@@ -190,10 +182,10 @@ none_before c live events lengths rounds good run on large late = at (bottom.res
             own_part : part 0 past ≡ last ∷ mine
             own_part = ap (λ t. cond t (last ∷ part 0 l.older) (part 0 l.older)) (eq-eqb last.by 0 l.own) ∙ ap (λ x. last ∷ x) l.before
 
-            taken : length (part 0 past) ≡ raising_steps c
+            taken : length (part 0 past) ≡ most
             taken = let same = ap length own_part in let count = bottom.count in let e = ap length is in omega (arith, same, count, e)
 
-            few : (r : ℕ) → r < c.replicas → live r ≡ true → length (part r past) ≤ raising_steps c
+            few : (r : ℕ) → r < c.replicas → live r ≡ true → length (part r past) ≤ most
             few r low lives = elim (cases_eq r 0) [
               | inl same ↦ (let e = ap (λ x. length (part x past)) same in let n = taken in omega (arith, e, n))
               | inr other ↦
@@ -279,6 +271,11 @@ none_before c live events lengths rounds good run on large late = at (bottom.res
               unnamed = λ r low lives other. moments_of r (λ now. is_named c r now ≡ false) past (off r low lives other);
               asked = asked;
             }
+
+none_before : (c : Config) (live : ℕ → Bool) (events : List Event) (lengths : List ℕ) (rounds : ℕ) → IsConfig c → AreUnpaused c events lengths rounds → GoOn c live events → HasLargeRing c → ((r : ℕ) → r < c.replicas → live r ≡ true → raising_steps c ≤ slice_index lengths r) → RaisedBy c live events (raising_steps c)
+none_before c live events lengths rounds good run on large late =
+    let l = lone_at c live events lengths rounds (raising_steps c) good run on (omega arith) late in
+    record { front = l.front; past = l.past; is = l.is; few = l.few; raised = raise_all c live 0 l.past good large l.lone l.writes l.keep (let n = l.taken in omega (arith, n)) }
 
 -- the history up to the last event of q
 record UpTo (q : ℕ) (whole : List Event) : Type 0 where

@@ -2,6 +2,7 @@
 use Rattle.std.specs.Prelude.{Bool, List, Some, [], false, not, true, ℕ, ◌<◌, ◌==◌, ◌||◌, ◌∷◌, ◌≡◌, ◌≤◌}
 use Rattle.std.specs.List.{slice_get}
 use Rattle.mu_alive.specs.Enough.{HasLargeRing, steps_enough}
+use Rattle.mu_alive.specs.Lagging.{steps_in_any_ring}
 use Rattle.mu_model.specs.declared.config.Config.{Config}
 use Rattle.mu_model.specs.declared.script.End.{End}
 use Rattle.mu_model.specs.declared.script.Stop.{Stop}
@@ -45,16 +46,33 @@ HasAllWithFirst o =
     → HasLargeRing o.job.config → steps_enough o.job.config ≤ o.job.config.budget
     → HasAllCommands o
 
+-- if the script has no line, replica 0 has every row in its log in any ring, should all have spent
+-- their budgets, and these be enough
+abbrev pub AppliesAllInAnyRing : Outcome → Type 0
+AppliesAllInAnyRing o =
+    o.job.script.pauses ≡ [] → o.job.script.stops ≡ []
+    → steps_in_any_ring o.job.config ≤ o.job.config.budget
+    → ((r : ℕ) → r < o.job.config.replicas → slice_get o.ends r ≡ Some End.Budget)
+    → holds_all o.job.config (log_of o 0) ≡ true
+
+-- so there it has every command
+abbrev pub HasAllInAnyRing : Outcome → Type 0
+HasAllInAnyRing o =
+    o.job.script.pauses ≡ [] → o.job.script.stops ≡ []
+    → steps_in_any_ring o.job.config ≤ o.job.config.budget → HasAllCommands o
+
 -- what holds of the replicas if their budgets are spent: if replica 0 isn't stopped, and if any are;
--- and which finish
+-- if none is, in any ring; and which finish
 pub record AppliesAllUnpaused (o : Outcome) : Type 0 where
   pub first : AppliesAllWithFirst o
   pub last : AppliesAllAfterStops o
+  pub any : AppliesAllInAnyRing o
   pub each : AppliesEachInTime o
 
--- a replay stays alive: it has every command if replica 0 isn't stopped, and if leaders are; and in
--- the first case each replica that isn't stopped finishes
+-- a replay stays alive: it has every command if replica 0 isn't stopped, if leaders are, and in any
+-- ring if none is; and in the first case each replica that isn't stopped finishes
 pub record HasAllInTime (o : Outcome) : Type 0 where
   pub first : HasAllWithFirst o
   pub last : HasAllAfterStops o
+  pub any : HasAllInAnyRing o
   pub each : FinishesInTime o

@@ -1,0 +1,96 @@
+-- In a replay whose script has no line replica 0 has every row in time, in any ring.
+use Rattle.std.proofs.Common.{◌≡◌, ◌∙◌, ◌⊎◌, ℕ, zero, suc, ◌+◌, ◌/◌, ◌<◌, ◌≤◌, ◌==◌, inl, inr, Bool, true, false, Some, List, [], ◌++◌, ap, arith, length, map, refl, subst, sym}
+use Rattle.std.specs.Prelude.{slice_index}
+use Rattle.std.specs.List.{slice_get}
+use Rattle.mu_input.specs.Heads.{HaveHeads}
+use Rattle.mu_model.specs.declared.config.Config.{Config}
+use Rattle.mu_model.specs.declared.event.Event.{Event}
+use Rattle.mu_model.specs.declared.script.End.{End}
+use Rattle.mu_model.specs.Contents.{IsConfig, holds_all}
+use Rattle.mu_model.specs.Diligence.{IsDiligent}
+use Rattle.mu_model.specs.Ends.{EndsBy}
+use Rattle.mu_model.specs.Histories.{count_below, history, part}
+use Rattle.mu_model.specs.Journals.{Record}
+use Rattle.mu_model.specs.Knowledge.{applied}
+use Rattle.mu_model.specs.Leaderships.{majority_of}
+use Rattle.mu_model.proofs.Basics.{same_some}
+use Rattle.mu_model.proofs.Parts.{filter-append}
+use Rattle.mu_outcome.specs.declared.outcome.Outcome.{Outcome}
+use Rattle.mu_outcome.specs.declared.status.Status.{Status}
+use Rattle.mu_outcome.specs.Completion.{Completes}
+use Rattle.mu_outcome.specs.Entries.{commands_in, longest}
+use Rattle.mu_outcome.specs.Outcomes.{IsRun, events_of, journal_of}
+use Rattle.mu_outcome.proofs.Completing.{all_from_log, completes_over}
+use Rattle.mu_alive.specs.Lagging.{steps_in_any_ring}
+use Rattle.mu_alive.proofs.Fetching.{applied_on}
+use Rattle.mu_alive.proofs.Lagging.{applies_in_any_ring}
+use Rattle.mu_cluster.specs.declared.rounds.Seat.{Seat}
+use Rattle.mu_cluster.specs.Living.{AppliesAllInAnyRing, HasAllInAnyRing}
+use Rattle.mu_cluster.specs.Naming.{NoneOutrunUnpaused}
+use Rattle.mu_cluster.specs.Paces.{AreDiligent}
+use Rattle.mu_cluster.specs.Rounds.{Played, part_of}
+use Rattle.mu_cluster.proofs.Agreeing.{agrees_of, over_order}
+use Rattle.mu_cluster.proofs.Lives.{done_or_not}
+use Rattle.mu_cluster.proofs.Naming.{AreUnpaused, unpaused_of}
+use Rattle.mu_cluster.proofs.Onward.{journal_part, nodes_of}
+use Rattle.mu_cluster.proofs.Outrunning.{spends_of}
+use Rattle.mu_cluster.proofs.Raised.{GoOn, LoneAt, lone_at}
+
+-- all are a majority
+all_count : (n : ℕ) → count_below n (λ r. true) ≡ n
+all_count zero = refl
+all_count (suc n) = let ih = all_count n in omega (arith, ih)
+
+-- in what a replay leaves
+pub any_ring_of : (o : Outcome) (order : Record) (seats : List Seat) (rounds : ℕ) → IsConfig o.job.config → (run : IsRun o) → o.order ≡ Some order → Played o.job.config o.job.script order.events seats rounds 0 → AreDiligent o → AppliesAllInAnyRing o
+any_ring_of o order seats rounds good run given played diligent unpaused unstopped enough spent =
+    ap (holds_all c) (run.logs 0 some ∙ ap (applied c 0) (journal_part o run 0 some)) ∙ holds (lone_at c (λ r. true) events lengths run.turns.rounds (steps_in_any_ring c) good all goes_on (omega arith) late)
+  where
+    c : Config
+    c = o.job.config
+
+    events : List Event
+    events = run.order.events
+
+    lengths : List ℕ
+    lengths = map (λ journal. length (events_of journal)) o.journals
+
+    some : 0 < c.replicas
+    some = (let l = good.replicas.0 in omega (arith, l))
+
+    all : AreUnpaused c events lengths run.turns.rounds
+    all = unpaused_of o order seats rounds run given played unpaused
+
+    budget : (r : ℕ) → r < c.replicas → length (part_of r events) ≡ c.budget
+    budget r low = ap length (sym (journal_part o run r low)) ∙ go (run.ended r low).0 (run.ended r low).1 (run.ended r low).2.ends
+      where
+        go : (end : End) → slice_get o.ends r ≡ Some end → EndsBy c o.job.script r (history (journal_of o r)) end → length (history (journal_of o r)) ≡ c.budget
+        go end is ends = (subst (EndsBy c o.job.script r (history (journal_of o r))) (same_some end End.Budget (sym is ∙ spent r low)) ends).1
+
+    late : (r : ℕ) → r < c.replicas → true ≡ true → steps_in_any_ring c ≤ slice_index lengths r
+    late r low _ = let taken = all.taken r low in let b = budget r low in omega (arith, taken, b, enough)
+
+    goes_on : GoOn c (λ r. true) events
+    goes_on = record {
+      first = refl;
+      majority = (let count = all_count c.replicas in let l = good.replicas.0 in omega (arith, count, l));
+      diligent = λ r low. subst (IsDiligent c r) (journal_part o run r low) (diligent r low);
+      led = (nodes_of o order seats rounds run given played diligent).led 0 some;
+      ended = λ r low _. inl (budget r low);
+    }
+
+    holds : LoneAt c (λ r. true) events (steps_in_any_ring c) → holds_all c (applied c 0 (part_of 0 events)) ≡ true
+    holds l =
+        ap (λ x. holds_all c (applied c 0 x)) (ap (part 0) l.is ∙ filter-append (λ e. e.by == 0) l.front l.past)
+        ∙ applied_on c 0 (part 0 l.front) (part 0 l.past) (applies_in_any_ring c (λ r. true) 0 l.past good (λ r low. refl) l.lone l.writes l.keep (let n = l.taken in omega (arith, n)))
+
+-- so the replay has every command
+pub any_lives : (o : Outcome) → IsConfig o.job.config → HaveHeads o.job.config.width o.job.commands o.job.config.rows → IsRun o → NoneOutrunUnpaused o → AppliesAllInAnyRing o → HasAllInAnyRing o
+any_lives o good have run none applies unpaused unstopped enough =
+    elim (done_or_not (length (commands_in o.job (longest o.logs))) (length o.job.commands)) [
+      | inl done ↦ completes.done.0 done
+      | inr open_yet ↦ all_from_log o run.order.events good have (over_order o run) (agrees_of o good have run) 0 (let l = good.replicas.0 in omega (arith, l)) (applies unpaused unstopped enough ((spends_of o run completes none).spent unpaused unstopped (completes.unfinished.0 open_yet)))
+    ]
+  where
+    completes : Completes o
+    completes = completes_over o run.order.events good have (over_order o run) (agrees_of o good have run)
