@@ -1,75 +1,111 @@
 //! The trace of a replay, event by event, and the verdict on it.
-use crate::calling::told;
-use std::alloc::{AllocError, Global};
+use crate::calling::answers;
 use std::test::Fail;
 
 /// One replica and one command.
 const ONE_PUT: &str = "mu 1\nreplicas 1\nring 8\nbudget 1000\nclient 0\nput a 5\nend\n";
 
-/// How many events the replica makes.
-const EVENTS: usize = 93;
-
-/// Its events that aren't beats, by their indices.
-const STEPS: [(usize, &str); 32] = [
-    (1, "0 ask 0 = done"),
-    (2, "0 readask 0 = 1"),
-    (3, "0 fence 0 = fence none 0 open none"),
-    (4, "0 close = fence none 0 open none"),
-    (5, "0 fence 0 = fence none 0 closing none"),
-    (7, "0 fence 0 = fence none 0 closing none"),
-    (9, "0 fence 0 = fence none 0 closing none"),
-    (10, "0 grant 0 = done"),
-    (11, "0 fence 0 = fence 0 1 open none"),
-    (13, "0 min 0 = 0"),
-    (15, "0 enter 0 min = entered"),
-    (17, "0 putmin 0 8 = done"),
-    (19, "0 fuo 0 = 0"),
-    (21, "0 look 0 0 = empty"),
-    (23, "0 writerow 0 0 1103806660609 = done"),
-    (25, "0 writerow 0 1 97 = done"),
-    (27, "0 writerow 0 2 0 = done"),
-    (29, "0 writerow 0 3 0 = done"),
-    (31, "0 writerow 0 4 53 = done"),
-    (33, "0 writerow 0 5 0 = done"),
-    (35, "0 writerow 0 6 0 = done"),
-    (37, "0 writerow 0 7 0 = done"),
-    (39, "0 writerow 0 8 0 = done"),
-    (41, "0 writerow 0 9 0 = done"),
-    (43, "0 writerow 0 10 0 = done"),
-    (45, "0 writerow 0 11 0 = done"),
-    (47, "0 enter 0 place 0 = entered"),
-    (49, "0 putslot 0 0 8 0 = done"),
-    (50, "0 readask 0 = 1"),
-    (51, "0 raisefuo 0 1 = done"),
-    (92, "0 raisehead 1 = done"),
-    (EVENTS, "end"),
-];
-
-/// The trace: the job, and a line for each event.
-fn trace(alloc: Global) -> Result<String, AllocError> {
-    let mut text = String::from_str(alloc, ONE_PUT)?;
-    for index in 0..=EVENTS {
-        let line = STEPS
-            .iter()
-            .find(|step| step.0 == index)
-            .map_or("0 beat = done", |step| step.1);
-        text.push_str(line)?;
-        text.push('\n')?;
-    }
-    Ok(text)
-}
+/// Its events, a line each, and the last line.
+const EVENTS: &str = "\
+    0 beat = done\n\
+    0 ask 0 = done\n\
+    0 readask 0 = 1\n\
+    0 fence 0 = fence none 0 open none\n\
+    0 close = fence none 0 open none\n\
+    0 fence 0 = fence none 0 closing none\n\
+    0 beat = done\n\
+    0 fence 0 = fence none 0 closing none\n\
+    0 beat = done\n\
+    0 fence 0 = fence none 0 closing none\n\
+    0 grant 0 = done\n\
+    0 fence 0 = fence 0 1 open none\n\
+    0 beat = done\n\
+    0 min 0 = 0\n\
+    0 beat = done\n\
+    0 enter 0 min = entered\n\
+    0 beat = done\n\
+    0 putmin 0 8 = done\n\
+    0 beat = done\n\
+    0 fuo 0 = 0\n\
+    0 beat = done\n\
+    0 look 0 0 = empty\n\
+    0 beat = done\n\
+    0 writerow 0 0 1103806660609 = done\n\
+    0 beat = done\n\
+    0 writerow 0 1 97 = done\n\
+    0 beat = done\n\
+    0 writerow 0 2 0 = done\n\
+    0 beat = done\n\
+    0 writerow 0 3 0 = done\n\
+    0 beat = done\n\
+    0 writerow 0 4 53 = done\n\
+    0 beat = done\n\
+    0 writerow 0 5 0 = done\n\
+    0 beat = done\n\
+    0 writerow 0 6 0 = done\n\
+    0 beat = done\n\
+    0 writerow 0 7 0 = done\n\
+    0 beat = done\n\
+    0 writerow 0 8 0 = done\n\
+    0 beat = done\n\
+    0 writerow 0 9 0 = done\n\
+    0 beat = done\n\
+    0 writerow 0 10 0 = done\n\
+    0 beat = done\n\
+    0 writerow 0 11 0 = done\n\
+    0 beat = done\n\
+    0 enter 0 place 0 = entered\n\
+    0 beat = done\n\
+    0 putslot 0 0 8 0 = done\n\
+    0 readask 0 = 1\n\
+    0 raisefuo 0 1 = done\n\
+    0 beat = done\n\
+    0 beat = done\n\
+    0 beat = done\n\
+    0 beat = done\n\
+    0 beat = done\n\
+    0 beat = done\n\
+    0 beat = done\n\
+    0 beat = done\n\
+    0 beat = done\n\
+    0 beat = done\n\
+    0 beat = done\n\
+    0 beat = done\n\
+    0 beat = done\n\
+    0 beat = done\n\
+    0 beat = done\n\
+    0 beat = done\n\
+    0 beat = done\n\
+    0 beat = done\n\
+    0 beat = done\n\
+    0 beat = done\n\
+    0 beat = done\n\
+    0 beat = done\n\
+    0 beat = done\n\
+    0 beat = done\n\
+    0 beat = done\n\
+    0 beat = done\n\
+    0 beat = done\n\
+    0 beat = done\n\
+    0 beat = done\n\
+    0 beat = done\n\
+    0 beat = done\n\
+    0 beat = done\n\
+    0 beat = done\n\
+    0 beat = done\n\
+    0 beat = done\n\
+    0 beat = done\n\
+    0 beat = done\n\
+    0 beat = done\n\
+    0 beat = done\n\
+    0 beat = done\n\
+    0 raisehead 1 = done\n\
+    end\n";
 
 #[test]
 fn traces_one_put(rt: HostRuntime) -> Result<(), Fail> {
-    let text = trace(rt.alloc())?;
-    let rows = [
-        ("trace", ONE_PUT, text.as_str()),
-        ("check", text.as_str(), "legal 93\n"),
-    ];
-    for (word, input, said) in rows {
-        let told = told(&rt, rt.alloc(), word, input)?;
-        assert_eq!(rt; told.status, 0, "{word}");
-        assert_eq!(rt; told.sink.written(), said.as_bytes(), "{word}");
-    }
+    let trace = [ONE_PUT, EVENTS];
+    assert!(rt; answers(&rt, rt.alloc(), &["trace"], &[ONE_PUT], 0, &trace)?);
+    assert!(rt; answers(&rt, rt.alloc(), &["check"], &trace, 0, &["legal 93\n"])?);
     Ok(())
 }

@@ -132,7 +132,17 @@ macro_rules! words {
     };
 }
 
-pub(crate) use {asked, done, due, fence, first_grant, granted_on, idle, joins, made, open, words};
+pub(crate) use asked;
+pub(crate) use done;
+pub(crate) use due;
+pub(crate) use fence;
+pub(crate) use first_grant;
+pub(crate) use granted_on;
+pub(crate) use idle;
+pub(crate) use joins;
+pub(crate) use made;
+pub(crate) use open;
+pub(crate) use words;
 
 /// The leader asks for all regions.
 pub(crate) const ASKS: [Step; 3] = [
