@@ -1,5 +1,5 @@
 //! The order book through the top call.
-use crate::calling::told;
+use crate::calling::answers;
 use std::test::Fail;
 
 /// Two clients' orders in one symbol: two buys, of which one is cancelled too late, and two sells.
@@ -46,18 +46,21 @@ X S5x1 1.1
 status 0
 ";
 
+/// Jobs, the status of their books, and what is said of them.
+const BOOKS: [(&str, u8, &str); 4] = [
+    (ORDER_BOOK, 0, ORDER_BOOK_SAID),
+    (NO_COMMANDS, 0, NO_COMMANDS_SAID),
+    (EQUAL_PRICES, 0, EQUAL_PRICES_SAID),
+    ("mu 1\nreplicas 8\n", 2, "refused line 2 cause 2\n"),
+];
+
 #[test]
 fn order_book(rt: HostRuntime) -> Result<(), Fail> {
-    let rows = [
-        (ORDER_BOOK, 0, ORDER_BOOK_SAID),
-        (NO_COMMANDS, 0, NO_COMMANDS_SAID),
-        (EQUAL_PRICES, 0, EQUAL_PRICES_SAID),
-        ("mu 1\nreplicas 8\n", 2, "refused line 2 cause 2\n"),
-    ];
-    for (input, status, text) in rows {
-        let told = told(&rt, rt.alloc(), "book", input)?;
-        assert_eq!(rt; told.status, status, "{text}");
-        assert_eq!(rt; told.sink.written(), text.as_bytes(), "{text}");
+    for (input, status, text) in BOOKS {
+        assert!(rt;
+            answers(&rt, rt.alloc(), &["book"], &[input], status, &[text])?,
+            "{text}"
+        );
     }
     Ok(())
 }

@@ -1,5 +1,5 @@
 //! Jobs at a desk through the top call.
-use crate::calling::told;
+use crate::calling::answers;
 use std::test::Fail;
 
 /// Six commands of two clients.
@@ -48,18 +48,21 @@ replies 6
 status 0
 ";
 
+/// Jobs, the status of a desk, and what is said of them.
+const DESKS: [(&str, u8, &str); 4] = [
+    (TWO_CLIENTS, 0, TWO_CLIENTS_SAID),
+    (BATCHES, 2, "refused line 1 cause 16\n"),
+    (FIVE_CLIENTS, 2, "refused line 9 cause 16\n"),
+    ("mu 2\nreplicas 8\n", 2, "refused line 2 cause 2\n"),
+];
+
 #[test]
 fn desk(rt: HostRuntime) -> Result<(), Fail> {
-    let rows = [
-        (TWO_CLIENTS, 0, TWO_CLIENTS_SAID),
-        (BATCHES, 2, "refused line 1 cause 16\n"),
-        (FIVE_CLIENTS, 2, "refused line 9 cause 16\n"),
-        ("mu 2\nreplicas 8\n", 2, "refused line 2 cause 2\n"),
-    ];
-    for (input, status, text) in rows {
-        let told = told(&rt, rt.alloc(), "desk", input)?;
-        assert_eq!(rt; told.status, status, "{text}");
-        assert_eq!(rt; told.sink.written(), text.as_bytes(), "{text}");
+    for (input, status, text) in DESKS {
+        assert!(rt;
+            answers(&rt, rt.alloc(), &["desk"], &[input], status, &[text])?,
+            "{text}"
+        );
     }
     Ok(())
 }
