@@ -4,7 +4,8 @@ use std::test::Fail;
 
 /// Two clients' orders in one symbol: two buys, of which one is cancelled too late, and two sells.
 const ORDER_BOOK: &str =
-    "mu 1\nreplicas 3\nring 8\nbudget 20000\nclient 0\nput X B100x5\nput X B101x2\nput X C1\nclient 1\nput X S102x4\nput X S100x6\nget X\nend\n";
+    "mu 1\nreplicas 3\nring 8\nbudget 20000\nclient 0\nput X B100x5\nput X B101x2\nput X C1\n\
+        client 1\nput X S102x4\nput X S100x6\nget X\nend\n";
 
 /// What is said of it.
 const ORDER_BOOK_SAID: &str = "book 1
@@ -34,7 +35,8 @@ status 0
 
 /// Of two sells at one price the earlier one trades; no order has a price of 0 or a leading zero.
 const EQUAL_PRICES: &str =
-    "mu 1\nreplicas 1\nring 8\nbudget 20000\nclient 0\nput X S5x1\nput X B5x1\nput X B0x1\nclient 1\nput X S5x1\nput X B5x01\nend\n";
+    "mu 1\nreplicas 1\nring 8\nbudget 20000\nclient 0\nput X S5x1\nput X B5x1\nput X B0x1\n\
+        client 1\nput X S5x1\nput X B5x01\nend\n";
 
 /// What is said of it.
 const EQUAL_PRICES_SAID: &str = "book 1

@@ -4,15 +4,18 @@ use std::test::Fail;
 
 /// Six commands of two clients.
 pub(crate) const TWO_CLIENTS: &str =
-    "mu 1\nreplicas 3\nring 8\nbudget 20000\nclient 0\nput a 5\nget a\ncas a 5 6\nclient 1\nput b 7\nswap a 9\ncas a 9 1\nend\n";
+    "mu 1\nreplicas 3\nring 8\nbudget 20000\nclient 0\nput a 5\nget a\ncas a 5 6\nclient 1\n\
+        put b 7\nswap a 9\ncas a 9 1\nend\n";
 
 /// The same in batches.
 const BATCHES: &str =
-    "mu 2\nreplicas 3\nring 8\nbudget 20000\nbatch 4\nclient 0\nput a 5\nget a\ncas a 5 6\nclient 1\nput b 7\nswap a 9\ncas a 9 1\nend\n";
+    "mu 2\nreplicas 3\nring 8\nbudget 20000\nbatch 4\nclient 0\nput a 5\nget a\ncas a 5 6\n\
+        client 1\nput b 7\nswap a 9\ncas a 9 1\nend\n";
 
 /// Five clients.
 const FIVE_CLIENTS: &str =
-    "mu 1\nreplicas 1\nring 8\nbudget 1000\nclient 0\nclient 1\nclient 2\nclient 3\nclient 4\nend\n";
+    "mu 1\nreplicas 1\nring 8\nbudget 1000\nclient 0\nclient 1\nclient 2\nclient 3\nclient 4\n\
+        end\n";
 
 /// What is said of the two clients' job, in whatever order their commands come: a log takes them in
 /// turn.

@@ -1,4 +1,5 @@
-//! What the calls of `mu_law` answer over the order of a replay in which a stopped replica is marked.
+//! What the calls of `mu_law` answer over the order of a replay in which a stopped replica is
+//! marked.
 ghost use Rattle.mu_model.specs.Contents.{IsConfig};
 ghost use Rattle.mu_model.specs.Legal.{IsLegal};
 
@@ -8,7 +9,8 @@ use mu_model::{Config, Event, NoMemory};
 use std::alloc::Global;
 use std::test::Fail;
 
-/// Thirteen entries in eight places: the mark of replica 2, which takes no step, stands at position 5.
+/// Thirteen entries in eight places: the mark of replica 2, which takes no step, stands at
+/// position 5.
 const MARKED: &str = "mu 2\nreplicas 3\nring 8\nbudget 20000\nbatch 1\nclient 0\n\
     put a 1\nput a 1\nput a 1\nput a 1\nput a 1\nput a 1\n\
     put a 1\nput a 1\nput a 1\nput a 1\nput a 1\nput a 1\n\
