@@ -254,6 +254,22 @@ const UNTRUE: [(&str, Shown); 4] = [
     ("chosen value is overwritten", CHOSEN_VALUE_IS_OVERWRITTEN),
 ];
 
+/// Replica 0 leads and has written its row when replica 2 puts a value in the region of 0 under a
+/// larger number.
+const OVERTAKEN: [Stretch; 5] = [
+    Stretch::Lead(0, &[0, 1], 8),
+    Stretch::Write(0),
+    Stretch::Lead(2, &[0, 2], 10),
+    Stretch::Write(2),
+    Stretch::Fill(2, 0, 10, THIRD),
+];
+
+/// A look of another machine of the leader at the first position that it doesn't know.
+const LOOK_BESIDE: [Stretch; 1] = [Stretch::Step(0, Verb::Look(0, 0))];
+
+/// The put that is due to the leader.
+const DUE_PUT: [Stretch; 1] = [Stretch::Fill(0, 1, 8, FIRST)];
+
 /// Whether a list is legal, and this is chosen at its first position.
 fn chooses_first(
     alloc: Global,
@@ -291,5 +307,24 @@ fn lists_show_what_is_untrue(rt: HostRuntime) -> Result<(), Fail> {
     for (name, shown) in UNTRUE {
         assert!(rt; is_shown(rt.alloc(), &shown)?, "{name}");
     }
+    Ok(())
+}
+
+/// Whether the stretches, one after the other, make a legal list.
+fn is_allowed(alloc: Global, parts: &[&[Stretch]]) -> Result<bool, Fail> {
+    let config = config_of(alloc, LONG_JOB)?;
+    let mut course = Course::new(alloc, &config)?;
+    for part in parts {
+        course.follow(part)?;
+    }
+    Ok(is_legal(alloc, &config, course.events.as_slice())?)
+}
+
+/// False: what other machines of a replica look at leaves the put that is due to its leader allowed.
+#[test]
+fn look_beside_forbids_due_put(rt: HostRuntime) -> Result<(), Fail> {
+    assert!(rt; is_allowed(rt.alloc(), &[&OVERTAKEN, &DUE_PUT])?);
+    assert!(rt; is_allowed(rt.alloc(), &[&OVERTAKEN, &LOOK_BESIDE])?);
+    assert!(rt; !is_allowed(rt.alloc(), &[&OVERTAKEN, &LOOK_BESIDE, &DUE_PUT])?);
     Ok(())
 }
