@@ -1,6 +1,5 @@
 //! The stated large job of all 1,500 commands through the top call.
-use crate::calling::ask;
-use mu_io::MemSource;
+use crate::calling::answers;
 use std::test::Fail;
 
 /// What is said of it.
@@ -14,9 +13,6 @@ status 0
 
 #[test]
 fn sums_up_all_commands(rt: HostRuntime) -> Result<(), Fail> {
-    let source = MemSource::new(Vec::new(rt.alloc()), 16, Vec::new(rt.alloc()));
-    let told = ask(&rt, rt.alloc(), &["bulk", "1500"], source, 0)?;
-    assert_eq!(rt; told.status, 0);
-    assert_eq!(rt; told.sink.written(), ALL_SAID.as_bytes());
+    assert!(rt; answers(&rt, rt.alloc(), &["bulk", "1500"], &[], 0, &[ALL_SAID])?);
     Ok(())
 }

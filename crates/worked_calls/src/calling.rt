@@ -9,12 +9,57 @@ use std::thread::Threads;
 /// The most bytes that a row writes.
 const ROOM: usize = 4096;
 
+/// The most bytes that one read gives.
+const PIECE: usize = 16;
+
 /// What the top call answered and wrote.
 #[derive(Drop)]
 pub(crate) struct Call {
     pub(crate) status: u8,
     pub(crate) taken: usize,
     pub(crate) sink: MemSink,
+}
+
+/// The bytes of pieces, one after the other.
+fn bytes_of(alloc: Global, pieces: &[&str]) -> Result<Vec<u8>, AllocError> {
+    let mut bytes = Vec::new(alloc);
+    for piece in pieces {
+        bytes.extend_from_slice(piece.as_bytes())?;
+    }
+    Ok(bytes)
+}
+
+/// The words that are asked.
+fn words_of(alloc: Global, asked: &[&str]) -> Result<Vec<String>, AllocError> {
+    let mut words = Vec::new(alloc);
+    for word in asked {
+        words.push(String::from_str(alloc, word)?)?;
+    }
+    Ok(words)
+}
+
+/// A source of an input in pieces, which fails at one read (0 for none).
+fn source_of(alloc: Global, input: &[&str], failing_read: u32) -> Result<MemSource, AllocError> {
+    let fails = vec![in alloc; failing_read]?;
+    Ok(MemSource::new(bytes_of(alloc, input)?, PIECE, fails))
+}
+
+/// A sink that fails at one write (0 for none).
+fn sink_of(alloc: Global, failing_write: u32) -> Result<MemSink, AllocError> {
+    let fails = vec![in alloc; failing_write]?;
+    Ok(MemSink::new(vec![in alloc; 0; ROOM]?, ROOM, fails))
+}
+
+/// The status of the top call, and how many bytes the sink took.
+fn answer<R: Threads + Wait + Sync>(
+    rt: &R,
+    alloc: Global,
+    words: &[String],
+    source: &mut MemSource,
+    sink: &mut MemSink,
+) -> (u8, usize) {
+    let answered = mu(rt, alloc, words, source, sink, &OpenGate);
+    (answered.status, answered.taken)
 }
 
 /// Calls the top call with these words over this source, and over a sink that fails at one write
@@ -26,42 +71,38 @@ pub(crate) fn ask<R: Threads + Wait + Sync>(
     mut source: MemSource,
     failing_write: u32,
 ) -> Result<Call, AllocError> {
-    let mut words = Vec::new(alloc);
-    for word in asked {
-        words.push(String::from_str(alloc, word)?)?;
-    }
-    let mut sink = MemSink::new(
-        vec![in alloc; 0; ROOM]?,
-        ROOM,
-        vec![in alloc; failing_write]?,
-    );
-    let answered = mu(
-        rt,
-        alloc,
-        words.as_slice(),
-        &mut source,
-        &mut sink,
-        &OpenGate,
-    );
+    let words = words_of(alloc, asked)?;
+    let mut sink = sink_of(alloc, failing_write)?;
+    let (status, taken) = answer(rt, alloc, words.as_slice(), &mut source, &mut sink);
     Ok(Call {
-        status: answered.status,
-        taken: answered.taken,
+        status,
+        taken,
         sink,
     })
 }
 
-/// Calls the top call with one word over these bytes in pieces of 16.
-pub(crate) fn told<R: Threads + Wait + Sync>(
-    rt: &R,
-    alloc: Global,
-    word: &str,
-    input: &str,
-) -> Result<Call, AllocError> {
-    told_with_faults(rt, alloc, word, input, 0, 0)
+/// Whether a call ended with this status, and all of this text was taken.
+pub(crate) fn says(call: &Call, status: u8, text: &[u8]) -> bool {
+    (call.status, call.taken) == (status, text.len()) && call.sink.written() == text
 }
 
-/// Calls the top call with one word over these bytes in pieces of 16, where one read and one write
-/// fail (0 for none).
+/// Whether the top call with these words over the input ends with this status and says this text,
+/// both in pieces.
+pub(crate) fn answers<R: Threads + Wait + Sync>(
+    rt: &R,
+    alloc: Global,
+    asked: &[&str],
+    input: &[&str],
+    status: u8,
+    text: &[&str],
+) -> Result<bool, AllocError> {
+    let text = bytes_of(alloc, text)?;
+    let source = source_of(alloc, input, 0)?;
+    let call = ask(rt, alloc, asked, source, 0)?;
+    Ok(says(&call, status, text.as_slice()))
+}
+
+/// Calls the top call with one word over the input, where one read and one write fail (0 for none).
 pub(crate) fn told_with_faults<R: Threads + Wait + Sync>(
     rt: &R,
     alloc: Global,
@@ -70,7 +111,6 @@ pub(crate) fn told_with_faults<R: Threads + Wait + Sync>(
     failing_read: u32,
     failing_write: u32,
 ) -> Result<Call, AllocError> {
-    let bytes = Vec::from_slice(alloc, input.as_bytes())?;
-    let source = MemSource::new(bytes, 16, vec![in alloc; failing_read]?);
+    let source = source_of(alloc, &[input], failing_read)?;
     ask(rt, alloc, &[word], source, failing_write)
 }

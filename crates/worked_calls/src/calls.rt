@@ -1,9 +1,9 @@
 //! Worked rows through the top call, over sources and sinks in memory.
-use crate::calling::{ask, told, told_with_faults};
-use mu_io::MemSource;
-use mu_top::INPUT_LIMIT;
+use crate::calling::{answers, says, told_with_faults};
 use std::alloc::{AllocError, Global};
+use std::sync::Wait;
 use std::test::Fail;
+use std::thread::Threads;
 
 /// The job of a put and a get.
 const PUT_AND_GET: &str = "mu 1\nreplicas 3\nring 8\nbudget 1000\nclient 0\nput a 5\nget a\nend\n";
@@ -32,36 +32,35 @@ const USAGE: &str = "usage: mu replay, mu run, mu check, mu why, mu tell, mu tra
 /// The job of the lists of events below.
 const ONE_PUT: &str = "mu 1\nreplicas 3\nring 8\nbudget 100\nclient 0\nput a 5\nend\n";
 
-/// The lines of a list of 26 events in which a region is granted on before the second number lands.
-const LATE_NUMBER: [&str; 27] = [
-    "0 ask 0 = done",
-    "0 ask 1 = done",
-    "0 ask 2 = done",
-    "0 readask 0 = 1",
-    "0 close = fence none 0 open none",
-    "0 grant 0 = done",
-    "1 readask 0 = 1",
-    "1 close = fence none 0 open none",
-    "1 grant 0 = done",
-    "0 fence 0 = fence 0 1 open none",
-    "0 fence 1 = fence 0 1 open none",
-    "0 min 0 = 0",
-    "0 min 1 = 0",
-    "0 enter 0 min = entered",
-    "0 putmin 0 8 = done",
-    "0 enter 1 min = entered",
-    "1 ask 0 = done",
-    "1 ask 1 = done",
-    "1 ask 2 = done",
-    "1 readask 1 = 1",
-    "1 close = fence 0 1 open min",
-    "1 looktarget = done",
-    "1 drain = done",
-    "1 grant 1 = done",
-    "0 putmin 1 8 = missed",
-    "0 fence 1 = fence 1 2 open none",
-    "end",
-];
+/// A list of 26 events in which a region is granted on before the second number lands: up to the put
+/// of the first number.
+const BEFORE_FIRST_NUMBER: &str = "\
+    0 ask 0 = done\n\
+    0 ask 1 = done\n\
+    0 ask 2 = done\n\
+    0 readask 0 = 1\n\
+    0 close = fence none 0 open none\n\
+    0 grant 0 = done\n\
+    1 readask 0 = 1\n\
+    1 close = fence none 0 open none\n\
+    1 grant 0 = done\n\
+    0 fence 0 = fence 0 1 open none\n\
+    0 fence 1 = fence 0 1 open none\n\
+    0 min 0 = 0\n\
+    0 min 1 = 0\n\
+    0 enter 0 min = entered\n";
+
+/// Between the two puts.
+const BEFORE_SECOND_NUMBER: &str = "\
+    0 enter 1 min = entered\n\
+    1 ask 0 = done\n\
+    1 ask 1 = done\n\
+    1 ask 2 = done\n\
+    1 readask 1 = 1\n\
+    1 close = fence 0 1 open min\n\
+    1 looktarget = done\n\
+    1 drain = done\n\
+    1 grant 1 = done\n";
 
 /// What is said of the stated large job of ten commands.
 const TEN_SAID: &str = "bulk 10
@@ -72,68 +71,22 @@ replies done 4 value 1 none 4 kept 1
 status 0
 ";
 
-#[test]
-fn sums_up_large_jobs(rt: HostRuntime) -> Result<(), Fail> {
-    let rows = [
-        ("10", 0, TEN_SAID),
-        ("1501", 1, USAGE),
-        ("07", 1, USAGE),
-        ("", 1, USAGE),
-    ];
-    for (count, status, text) in rows {
-        let source = MemSource::new(Vec::new(rt.alloc()), 16, Vec::new(rt.alloc()));
-        let told = ask(&rt, rt.alloc(), &["bulk", count], source, 0)?;
-        assert_eq!(rt; told.status, status, "{count}");
-        assert_eq!(rt; told.sink.written(), text.as_bytes(), "{count}");
-    }
-    let told = told(&rt, rt.alloc(), "bulk", "")?;
-    assert_eq!(rt; told.status, 1);
-    Ok(())
-}
+/// The words of a call without input, its status, and what is said.
+const SUMS: [(&[&str], u8, &str); 5] = [
+    (&["bulk", "10"], 0, TEN_SAID),
+    (&["bulk", "1501"], 1, USAGE),
+    (&["bulk", "07"], 1, USAGE),
+    (&["bulk", ""], 1, USAGE),
+    (&["bulk"], 1, USAGE),
+];
 
 #[test]
-fn answers_jobs_and_refusals(rt: HostRuntime) -> Result<(), Fail> {
-    let rows = [
-        ("replay", PUT_AND_GET, 0, PUT_AND_GET_SAID),
-        (
-            "replay",
-            "mu 1\nreplicas 3\nring 8\nbudget 1000\nend\n",
-            0,
-            "report 1\nlog 0 entries 0 commits 0 finished\nlog 1 entries 0 commits 0 finished\nlog 2 entries 0 commits 0 finished\nreplies 0\nstatus 0\n",
-        ),
-        (
-            "replay",
-            "mu 1\nreplicas 2\nring 8\nbudget 1000\nend\n",
-            0,
-            "report 1\nlog 0 entries 0 commits 0 finished\nlog 1 entries 0 commits 0 finished\nreplies 0\nstatus 0\n",
-        ),
-        ("replay", "", 2, "refused line 1 cause 11\n"),
-        (
-            "replay",
-            "mu 1\nreplicas 3\nring 8\nbudget 500\nclient 0\nput a 5\nscript\nstop 1 0\nstop 2 0\nend\n",
-            3,
-            "report 1\nlog 0 entries 0 commits 0 budget\nlog 1 entries 0 commits 0 stopped\nlog 2 entries 0 commits 0 stopped\nreplies 0\nstatus 3\n",
-        ),
-        (
-            "replay",
-            "mu 1\nreplicas 3\nring 8\nbudget 1000\n",
-            2,
-            "refused line 5 cause 11\n",
-        ),
-        (
-            "replay",
-            "mu 1\nreplicas 3\nring 8\nbudget 1000\nend\nx\n",
-            2,
-            "refused line 6 cause 12\n",
-        ),
-        ("replays", PUT_AND_GET, 1, USAGE),
-        ("checks", PUT_AND_GET, 1, USAGE),
-    ];
-    for (word, input, status, text) in rows {
-        let told = told(&rt, rt.alloc(), word, input)?;
-        assert_eq!(rt; told.status, status, "{text}");
-        assert_eq!(rt; told.sink.written(), text.as_bytes(), "{text}");
-        assert_eq!(rt; told.taken, text.len(), "{text}");
+fn sums_up_large_jobs(rt: HostRuntime) -> Result<(), Fail> {
+    for (words, status, text) in SUMS {
+        assert!(rt;
+            answers(&rt, rt.alloc(), words, &[], status, &[text])?,
+            "{words:?}"
+        );
     }
     Ok(())
 }
@@ -185,111 +138,190 @@ replies 12
 status 0
 ";
 
+/// Words, jobs, the status, and what is said.
+const ANSWERED: [(&str, &str, u8, &str); 10] = [
+    ("replay", PUT_AND_GET, 0, PUT_AND_GET_SAID),
+    (
+        "replay",
+        "mu 1\nreplicas 3\nring 8\nbudget 1000\nend\n",
+        0,
+        "report 1\nlog 0 entries 0 commits 0 finished\nlog 1 entries 0 commits 0 finished\n\
+        log 2 entries 0 commits 0 finished\nreplies 0\nstatus 0\n",
+    ),
+    (
+        "replay",
+        "mu 1\nreplicas 2\nring 8\nbudget 1000\nend\n",
+        0,
+        "report 1\nlog 0 entries 0 commits 0 finished\nlog 1 entries 0 commits 0 finished\n\
+        replies 0\nstatus 0\n",
+    ),
+    ("replay", "", 2, "refused line 1 cause 11\n"),
+    (
+        "replay",
+        "mu 1\nreplicas 3\nring 8\nbudget 500\nclient 0\nput a 5\n\
+        script\nstop 1 0\nstop 2 0\nend\n",
+        3,
+        "report 1\nlog 0 entries 0 commits 0 budget\nlog 1 entries 0 commits 0 stopped\n\
+        log 2 entries 0 commits 0 stopped\nreplies 0\nstatus 3\n",
+    ),
+    (
+        "replay",
+        "mu 1\nreplicas 3\nring 8\nbudget 1000\n",
+        2,
+        "refused line 5 cause 11\n",
+    ),
+    (
+        "replay",
+        "mu 1\nreplicas 3\nring 8\nbudget 1000\nend\nx\n",
+        2,
+        "refused line 6 cause 12\n",
+    ),
+    ("replays", PUT_AND_GET, 1, USAGE),
+    ("checks", PUT_AND_GET, 1, USAGE),
+    (
+        "replay",
+        "mu 2\nreplicas 3\nring 8\nbudget 20000\nbatch 1\nclient 0\n\
+        put a 1\nput a 1\nput a 1\nput a 1\nput a 1\nput a 1\n\
+        put a 1\nput a 1\nput a 1\nput a 1\nput a 1\nput a 1\n\
+        script\nstop 2 0\nend\n",
+        0,
+        GONE_SAID,
+    ),
+];
+
 #[test]
-fn gone_replica(rt: HostRuntime) -> Result<(), Fail> {
-    let mut job = String::from_str(
-        rt.alloc(),
-        "mu 2\nreplicas 3\nring 8\nbudget 20000\nbatch 1\nclient 0\n",
-    )?;
-    for _ in 0..12 {
-        job.push_str("put a 1\n")?;
+fn answers_jobs_and_refusals(rt: HostRuntime) -> Result<(), Fail> {
+    for (word, input, status, text) in ANSWERED {
+        assert!(rt;
+            answers(&rt, rt.alloc(), &[word], &[input], status, &[text])?,
+            "{text}"
+        );
     }
-    job.push_str("script\nstop 2 0\nend\n")?;
-    let told = told(&rt, rt.alloc(), "replay", job.as_str())?;
-    assert_eq!(rt; told.status, 0);
-    assert_eq!(rt; told.sink.written(), GONE_SAID.as_bytes());
     Ok(())
 }
 
-/// A trace of these lines after the job of one put, with another line in place of the one at an
-/// index.
-fn trace(alloc: Global, lines: &[&str], changed: usize, other: &str) -> Result<String, AllocError> {
-    let mut text = String::from_str(alloc, ONE_PUT)?;
-    for (index, line) in lines.iter().enumerate() {
-        text.push_str(if index == changed { other } else { *line })?;
-        text.push('\n')?;
-    }
-    Ok(text)
-}
+/// The last event of the list, and the last line.
+const LAST: &str = "0 fence 1 = fence 1 2 open none\nend\n";
+
+/// Pieces of traces, the status, and what is said: the list, and lists with another step in the
+/// place of a put of a number; then hostile events.
+const JUDGED: [(&[&str], u8, &str); 7] = [
+    (
+        &[
+            ONE_PUT,
+            BEFORE_FIRST_NUMBER,
+            "0 putmin 0 8 = done\n",
+            BEFORE_SECOND_NUMBER,
+            "0 putmin 1 8 = missed\n",
+            LAST,
+        ],
+        0,
+        "legal 26\n",
+    ),
+    (
+        &[
+            ONE_PUT,
+            BEFORE_FIRST_NUMBER,
+            "0 putmin 0 8 = done\n",
+            BEFORE_SECOND_NUMBER,
+            "0 putmin 1 8 = done\n",
+            LAST,
+        ],
+        7,
+        "illegal 24 expected missed\n",
+    ),
+    (
+        &[
+            ONE_PUT,
+            BEFORE_FIRST_NUMBER,
+            "0 putmin 0 16 = done\n",
+            BEFORE_SECOND_NUMBER,
+            "0 putmin 1 8 = missed\n",
+            LAST,
+        ],
+        7,
+        "illegal 14 not allowed\n",
+    ),
+    (
+        &[ONE_PUT, "0 putslot 0 65535 8 0 = done\nend\n"],
+        7,
+        "illegal 0 not allowed\n",
+    ),
+    (
+        &[ONE_PUT, "0 putslot 0 65536 8 0 = done\nend\n"],
+        2,
+        "refused line 8 cause 13\n",
+    ),
+    (
+        &[ONE_PUT, "3 beat = done\nend\n"],
+        2,
+        "refused line 8 cause 13\n",
+    ),
+    (
+        &[ONE_PUT, "0 beat = missed\nend\n"],
+        7,
+        "illegal 0 expected done\n",
+    ),
+];
 
 #[test]
-fn judged_scripts(rt: HostRuntime) -> Result<(), Fail> {
-    let rows = [
-        (26, "end", 0, "legal 26\n"),
-        (24, "0 putmin 1 8 = done", 7, "illegal 24 expected missed\n"),
-        (14, "0 putmin 0 16 = done", 7, "illegal 14 not allowed\n"),
-    ];
-    for (changed, line, status, text) in rows {
-        let input = trace(rt.alloc(), &LATE_NUMBER, changed, line)?;
-        let told = told(&rt, rt.alloc(), "check", input.as_str())?;
-        assert_eq!(rt; told.status, status, "{text}");
-        assert_eq!(rt; told.sink.written(), text.as_bytes(), "{text}");
+fn judges_lists(rt: HostRuntime) -> Result<(), Fail> {
+    for (input, status, text) in JUDGED {
+        assert!(rt;
+            answers(&rt, rt.alloc(), &["check"], input, status, &[text])?,
+            "{text}"
+        );
     }
     Ok(())
 }
 
-#[test]
-fn hostile_inputs(rt: HostRuntime) -> Result<(), Fail> {
-    let rows = [
-        ("0 putslot 0 65535 8 0 = done", 7, "illegal 0 not allowed\n"),
-        (
-            "0 putslot 0 65536 8 0 = done",
-            2,
-            "refused line 8 cause 13\n",
-        ),
-        ("3 beat = done", 2, "refused line 8 cause 13\n"),
-        ("0 beat = missed", 7, "illegal 0 expected done\n"),
-    ];
-    for (line, status, text) in rows {
-        let input = trace(rt.alloc(), &[line, "end"], 0, line)?;
-        let told = told(&rt, rt.alloc(), "check", input.as_str())?;
-        assert_eq!(rt; told.status, status, "{line}");
-        assert_eq!(rt; told.sink.written(), text.as_bytes(), "{line}");
-    }
-    Ok(())
+/// Whether the replay of the put and the get ends with this status and says this text, where one
+/// read fails (0 for none).
+fn ends_at_read<R: Threads + Wait + Sync>(
+    rt: &R,
+    alloc: Global,
+    failing: u32,
+    status: u8,
+    text: &str,
+) -> Result<bool, AllocError> {
+    let call = told_with_faults(rt, alloc, "replay", PUT_AND_GET, failing, 0)?;
+    Ok(says(&call, status, text.as_bytes()))
 }
 
 #[test]
 fn tells_each_failing_read(rt: HostRuntime) -> Result<(), Fail> {
-    for failing in 1..=6 {
-        let told = told_with_faults(&rt, rt.alloc(), "replay", PUT_AND_GET, failing, 0)?;
-        if failing < 6 {
-            assert_eq!(rt; told.status, 4, "at read {failing}");
-            assert_eq!(rt;
-                told.sink.written(),
-                b"read fault\n".as_slice(),
-                "at read {failing}"
-            );
-        } else {
-            assert_eq!(rt; told.status, 0);
-        }
+    for failing in 1..=5 {
+        assert!(rt;
+            ends_at_read(&rt, rt.alloc(), failing, 4, "read fault\n")?,
+            "at read {failing}"
+        );
     }
+    assert!(rt; ends_at_read(&rt, rt.alloc(), 6, 0, PUT_AND_GET_SAID)?);
     Ok(())
+}
+
+/// The status, what was taken and how many bytes were written of the replay of the put and the get,
+/// where one write fails.
+fn end_at_write<R: Threads + Wait + Sync>(
+    rt: &R,
+    alloc: Global,
+    failing: u32,
+) -> Result<(u8, usize, usize), AllocError> {
+    let call = told_with_faults(rt, alloc, "replay", PUT_AND_GET, 0, failing)?;
+    Ok((call.status, call.taken, call.sink.written().len()))
 }
 
 #[test]
 fn tells_each_failing_write(rt: HostRuntime) -> Result<(), Fail> {
-    let mut taken = 0;
+    let mut taken: usize = 0;
     let mut failing: u32 = 1;
     for line in PUT_AND_GET_SAID.lines() {
-        let told = told_with_faults(&rt, rt.alloc(), "replay", PUT_AND_GET, 0, failing)?;
-        assert_eq!(rt; told.status, 5, "at write {failing}");
-        assert_eq!(rt; told.taken, taken, "at write {failing}");
-        assert_eq!(rt; told.sink.written().len(), taken, "at write {failing}");
+        let end = end_at_write(&rt, rt.alloc(), failing)?;
+        assert_eq!(rt; end, (5, taken, taken), "at write {failing}");
         taken = taken.saturating_add(line.len()).saturating_add(1);
         failing = failing.saturating_add(1);
     }
-    let told = told_with_faults(&rt, rt.alloc(), "replay", PUT_AND_GET, 0, failing)?;
-    assert_eq!(rt; told.status, 0);
-    Ok(())
-}
-
-#[test]
-fn refuses_more_bytes_than_the_limit(rt: HostRuntime) -> Result<(), Fail> {
-    let bytes = vec![in rt.alloc(); b'\n'; INPUT_LIMIT + 1]?;
-    let source = MemSource::new(bytes, usize::MAX, Vec::new(rt.alloc()));
-    let told = ask(&rt, rt.alloc(), &["replay"], source, 0)?;
-    assert_eq!(rt; told.status, 8);
-    assert_eq!(rt; told.sink.written(), b"too long\n".as_slice());
+    let end = end_at_write(&rt, rt.alloc(), failing)?;
+    assert_eq!(rt; end, (0, taken, taken));
     Ok(())
 }

@@ -1,7 +1,6 @@
 //! Live readers through the top call.
-use crate::calling::{ask, told};
+use crate::calling::answers;
 use crate::desks::TWO_CLIENTS;
-use mu_io::MemSource;
 use std::test::Fail;
 
 /// What is said of the two clients' job to two readers: the report without its last line, and what
@@ -48,17 +47,21 @@ status 0
 const USAGE: &str = "usage: mu replay, mu run, mu check, mu why, mu tell, mu trace, mu bulk N, \
         mu live K, mu desk, mu book\n";
 
+/// The words of a call, its status, and what is said.
+const LIVES: [(&[&str], u8, &str); 4] = [
+    (&["live", "0"], 1, USAGE),
+    (&["live", "2"], 0, TWO_READERS_SAID),
+    (&["live", "5"], 1, USAGE),
+    (&["live"], 1, USAGE),
+];
+
 #[test]
 fn live_readers(rt: HostRuntime) -> Result<(), Fail> {
-    let rows = [("0", 1, USAGE), ("2", 0, TWO_READERS_SAID), ("5", 1, USAGE)];
-    for (readers, status, text) in rows {
-        let bytes = Vec::from_slice(rt.alloc(), TWO_CLIENTS.as_bytes())?;
-        let source = MemSource::new(bytes, 4096, Vec::new(rt.alloc()));
-        let told = ask(&rt, rt.alloc(), &["live", readers], source, 0)?;
-        assert_eq!(rt; told.status, status, "{readers}");
-        assert_eq!(rt; told.sink.written(), text.as_bytes(), "{readers}");
+    for (words, status, text) in LIVES {
+        assert!(rt;
+            answers(&rt, rt.alloc(), words, &[TWO_CLIENTS], status, &[text])?,
+            "{words:?}"
+        );
     }
-    let told = told(&rt, rt.alloc(), "live", TWO_CLIENTS)?;
-    assert_eq!(rt; told.status, 1);
     Ok(())
 }

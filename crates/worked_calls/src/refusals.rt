@@ -1,8 +1,11 @@
 //! Inputs that the top call refuses, each with its first wrong line and the cause.
-use crate::calling::{ask, told};
+use crate::calling::{answers, ask, says};
 use mu_io::MemSource;
 use mu_top::INPUT_LIMIT;
+use std::alloc::{AllocError, Global};
+use std::sync::Wait;
 use std::test::Fail;
+use std::thread::Threads;
 
 /// Inputs that are no job, and what is said of them.
 const REFUSED: [(&str, &str); 14] = [
@@ -64,19 +67,42 @@ const REFUSED: [(&str, &str); 14] = [
 #[test]
 fn refuses_with_line_and_cause(rt: HostRuntime) -> Result<(), Fail> {
     for (input, text) in REFUSED {
-        let told = told(&rt, rt.alloc(), "replay", input)?;
-        assert_eq!(rt; told.status, 2, "{text}");
-        assert_eq!(rt; told.sink.written(), text.as_bytes(), "{text}");
+        assert!(rt;
+            answers(&rt, rt.alloc(), &["replay"], &[input], 2, &[text])?,
+            "{text}"
+        );
     }
     Ok(())
 }
 
+/// Whether the top call over so many line feeds ends with this status and says this text.
+fn answers_line_feeds<R: Threads + Wait + Sync>(
+    rt: &R,
+    alloc: Global,
+    count: usize,
+    status: u8,
+    text: &str,
+) -> Result<bool, AllocError> {
+    let bytes = vec![in alloc; b'\n'; count]?;
+    let source = MemSource::new(bytes, usize::MAX, Vec::new(alloc));
+    let call = ask(rt, alloc, &["replay"], source, 0)?;
+    Ok(says(&call, status, text.as_bytes()))
+}
+
+/// How many line feeds there are, the status, and what is said: as many bytes as an input may have,
+/// and one more.
+const LINE_FEEDS: [(usize, u8, &str); 2] = [
+    (INPUT_LIMIT, 2, "refused line 1 cause 1\n"),
+    (INPUT_LIMIT + 1, 8, "too long\n"),
+];
+
 #[test]
-fn refuses_line_ends_up_to_the_limit(rt: HostRuntime) -> Result<(), Fail> {
-    let bytes = vec![in rt.alloc(); b'\n'; INPUT_LIMIT]?;
-    let source = MemSource::new(bytes, usize::MAX, Vec::new(rt.alloc()));
-    let told = ask(&rt, rt.alloc(), &["replay"], source, 0)?;
-    assert_eq!(rt; told.status, 2);
-    assert_eq!(rt; told.sink.written(), b"refused line 1 cause 1\n".as_slice());
+fn takes_bytes_up_to_the_limit(rt: HostRuntime) -> Result<(), Fail> {
+    for (count, status, text) in LINE_FEEDS {
+        assert!(rt;
+            answers_line_feeds(&rt, rt.alloc(), count, status, text)?,
+            "{text}"
+        );
+    }
     Ok(())
 }

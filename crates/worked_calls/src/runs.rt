@@ -1,5 +1,5 @@
 //! Runs by threads through the top call.
-use crate::calling::told;
+use crate::calling::answers;
 use std::test::Fail;
 
 /// One replica and one command.
@@ -14,20 +14,20 @@ replies 1
 status 0
 ";
 
-#[test]
-fn one_put_by_threads(rt: HostRuntime) -> Result<(), Fail> {
-    for word in ["replay", "run"] {
-        let told = told(&rt, rt.alloc(), word, ONE_PUT)?;
-        assert_eq!(rt; told.status, 0, "{word}");
-        assert_eq!(rt; told.sink.written(), ONE_PUT_SAID.as_bytes(), "{word}");
-    }
-    Ok(())
-}
+/// Words, jobs, the status, and what is said.
+const RUNS: [(&str, &str, u8, &str); 3] = [
+    ("replay", ONE_PUT, 0, ONE_PUT_SAID),
+    ("run", ONE_PUT, 0, ONE_PUT_SAID),
+    ("run", "mu 1\nreplicas 8\n", 2, "refused line 2 cause 2\n"),
+];
 
 #[test]
-fn refused_by_threads(rt: HostRuntime) -> Result<(), Fail> {
-    let told = told(&rt, rt.alloc(), "run", "mu 1\nreplicas 8\n")?;
-    assert_eq!(rt; told.status, 2);
-    assert_eq!(rt; told.sink.written(), b"refused line 2 cause 2\n".as_slice());
+fn runs_by_threads(rt: HostRuntime) -> Result<(), Fail> {
+    for (word, input, status, text) in RUNS {
+        assert!(rt;
+            answers(&rt, rt.alloc(), &[word], &[input], status, &[text])?,
+            "{word}"
+        );
+    }
     Ok(())
 }

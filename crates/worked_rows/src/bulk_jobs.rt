@@ -1,7 +1,10 @@
 //! The stated job: its first ten commands, and the replies to all of them, counted.
+ghost use Rattle.std.specs.Prelude.{◌<◌, ◌≤◌};
+
 use crate::spelled::command;
 use kv_store::{Command, Reply, Store};
 use mu_input::bulk;
+use mu_model::NoMemory;
 use std::alloc::{AllocError, Global};
 use std::test::Fail;
 
@@ -19,14 +22,41 @@ const FIRST_TEN: [(u8, u16, &str); 10] = [
     (1, 3, "del k0"),
 ];
 
+/// Whether a command is the one that a line spells.
+fn is_spelled(made: &Command, spelling: &(u8, u16, &str)) -> bool {
+    let (client, number, line) = *spelling;
+    command(client, number, line) == Some(*made)
+}
+
+/// Whether the stated job of ten commands has these.
+fn are_ten(alloc: Global, spellings: &[(u8, u16, &str); 10]) -> Result<bool, NoMemory> {
+    let job = bulk(alloc, 10)?;
+    let commands = job.commands.as_slice();
+    Ok(
+        (commands.len(), job.config.rows.len()) == (10, 10)
+            && commands
+                .iter()
+                .zip(spellings)
+                .all(|(made, spelling)| is_spelled(made, spelling)),
+    )
+}
+
 #[test]
 fn bulk_ten(rt: HostRuntime) -> Result<(), Fail> {
-    let job = bulk(rt.alloc(), 10)?;
-    assert_eq!(rt; (job.commands.len(), job.config.rows.len()), (10, 10));
-    for (made, &(client, number, line)) in job.commands.as_slice().iter().zip(FIRST_TEN.iter()) {
-        assert_eq!(rt; Some(*made), command(client, number, line), "{line}");
-    }
+    assert!(rt; are_ten(rt.alloc(), &FIRST_TEN)?);
     Ok(())
+}
+
+/// Where a reply is counted: done, a value, none and a kept value.
+fn kind_of(reply: &Reply) -> usize
+    ensures { result < 4 }
+{
+    match reply {
+        Reply::Done => 0,
+        Reply::Value(_) => 1,
+        Reply::None => 2,
+        Reply::Kept(_) => 3,
+    }
 }
 
 /// How many replies of a new store to the commands are done, a value, none and a kept value.
@@ -34,26 +64,24 @@ fn counted(alloc: Global, commands: &[Command]) -> Result<[u64; 4], AllocError> 
     let mut store = Store::with_room(alloc, commands.len())?;
     let mut counts = [0u64; 4];
     for command in commands {
-        let kind = match store.apply(command) {
-            Reply::Done => 0,
-            Reply::Value(_) => 1,
-            Reply::None => 2,
-            Reply::Kept(_) => 3,
-        };
+        let kind = kind_of(&store.apply(command));
         counts[kind] = counts[kind].wrapping_add(1);
     }
     Ok(counts)
 }
 
+/// The same of the stated job of so many commands.
+fn counted_of(alloc: Global, count: u16) -> Result<[u64; 4], Fail>
+    requires { count ≤ 1500 }
+{
+    let job = bulk(alloc, count)?;
+    Ok(counted(alloc, job.commands.as_slice())?)
+}
+
 #[test]
 fn replies_to_all(rt: HostRuntime) -> Result<(), Fail> {
     for (count, wanted) in [(10, [4, 1, 4, 1]), (1_500, [749, 299, 302, 150])] {
-        let job = bulk(rt.alloc(), count)?;
-        assert_eq!(rt;
-            counted(rt.alloc(), job.commands.as_slice())?,
-            wanted,
-            "{count}"
-        );
+        assert_eq!(rt; counted_of(rt.alloc(), count)?, wanted, "{count}");
     }
     Ok(())
 }

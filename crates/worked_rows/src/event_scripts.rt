@@ -25,8 +25,20 @@ pub(crate) fn config_of(alloc: Global, job: &str) -> Result<Config, Fail>
     ensures { IfOk result IsConfig }
 {
     match read(alloc, job.as_bytes()) {
-        Ok(job) => Ok(job.config.copied(alloc)?),
+        Ok(job) => Ok(job.config),
         Err(_) => Err(Fail::from("no job")),
+    }
+}
+
+/// The configuration, where it has three replicas.
+fn of_three(config: Config) -> Result<Config, Fail>
+    requires { IsConfig config }
+    ensures { IfOk result (λ c. IsConfig c × (c.replicas ≡ 3)) }
+{
+    if config.replicas == 3 {
+        Ok(config)
+    } else {
+        Err(Fail::from("not three"))
     }
 }
 
@@ -34,11 +46,9 @@ pub(crate) fn config_of(alloc: Global, job: &str) -> Result<Config, Fail>
 pub(crate) fn config(alloc: Global, job: &str) -> Result<Config, Fail>
     ensures { IfOk result (λ c. IsConfig c × (c.replicas ≡ 3)) }
 {
-    let config = config_of(alloc, job)?;
-    if config.replicas == 3 {
-        Ok(config)
-    } else {
-        Err(Fail::from("not three"))
+    match read(alloc, job.as_bytes()) {
+        Ok(job) => of_three(job.config),
+        Err(_) => Err(Fail::from("no job")),
     }
 }
 

@@ -1,8 +1,7 @@
 //! Whole jobs and traces, and what is read of them.
 use mu_input::{Job, TRACE_LIMIT, desk_line, read, read_trace};
 use mu_model::{Answer, Config, Event, Pause, Row, Stop, Verb};
-use std::alloc::{AllocError, Global};
-use std::test::Fail;
+use std::alloc::Global;
 
 /// Six commands of two clients.
 pub(crate) const TWO_CLIENTS: &str =
@@ -12,26 +11,9 @@ pub(crate) const TWO_CLIENTS: &str =
 const PAIRS: &str =
     "mu 2\nreplicas 3\nring 8\nbudget 20000\nbatch 2\nclient 0\nput a 5\nget a\ncas a 5 6\nclient 1\nput b 7\nswap a 9\nend\n";
 
-/// The job that a text spells.
-fn job_of(alloc: Global, text: &str) -> Result<Job, Fail> {
-    match read(alloc, text.as_bytes()) {
-        Ok(job) => Ok(job),
-        Err(_) => Err(Fail::from("no job")),
-    }
-}
-
 /// The client, the number and how many rows of its batch follow, of a row.
 fn head_of(row: &Row) -> (u8, u16, u8) {
     (row.client(), row.number(), row.rest())
-}
-
-/// The heads of the rows.
-fn heads_of(alloc: Global, rows: &[Row]) -> Result<Vec<(u8, u16, u8)>, AllocError> {
-    let mut heads = Vec::new(alloc);
-    for row in rows {
-        heads.push(head_of(row))?;
-    }
-    Ok(heads)
 }
 
 /// Version, width, replicas, ring and budget.
@@ -61,15 +43,30 @@ const CUT: [(&str, (u8, u8, u8, u16, u32), &[(u8, u16, u8)]); 2] = [
     ),
 ];
 
-#[test]
-fn cuts_batches(rt: HostRuntime) -> Result<(), Fail> {
-    for (text, settings, wanted) in CUT {
-        let job = job_of(rt.alloc(), text)?;
-        assert_eq!(rt; settings_of(&job.config), settings, "{text}");
-        let heads = heads_of(rt.alloc(), job.config.rows.as_slice())?;
-        assert_eq!(rt; heads.as_slice(), wanted, "{text}");
+/// Whether a job has these settings, and rows with these heads.
+fn is_cut(job: &Job, settings: (u8, u8, u8, u16, u32), heads: &[(u8, u16, u8)]) -> bool {
+    let rows = job.config.rows.as_slice().iter();
+    settings_of(&job.config) == settings && rows.map(head_of).eq(heads.iter().copied())
+}
+
+/// The same of the job of a text.
+fn is_cut_of(
+    alloc: Global,
+    text: &str,
+    settings: (u8, u8, u8, u16, u32),
+    heads: &[(u8, u16, u8)],
+) -> bool {
+    match read(alloc, text.as_bytes()) {
+        Ok(job) => is_cut(&job, settings, heads),
+        Err(_) => false,
     }
-    Ok(())
+}
+
+#[test]
+fn cuts_batches(rt: HostRuntime) {
+    for (text, settings, heads) in CUT {
+        assert!(rt; is_cut_of(rt.alloc(), text, settings, heads), "{text}");
+    }
 }
 
 /// Jobs, and their stops and pauses in the order that they are kept in.
@@ -136,14 +133,21 @@ const SCRIPTS: [(&str, [Stop; 2], [Pause; 3]); 2] = [
     ),
 ];
 
-#[test]
-fn orders_stops_and_pauses(rt: HostRuntime) -> Result<(), Fail> {
-    for (text, stops, pauses) in SCRIPTS {
-        let script = job_of(rt.alloc(), text)?.script;
-        assert_eq!(rt; script.stops.as_slice(), stops.as_slice(), "{text}");
-        assert_eq!(rt; script.pauses.as_slice(), pauses.as_slice(), "{text}");
+/// Whether the job of a text has these stops and pauses.
+fn has_script(alloc: Global, text: &str, stops: &[Stop], pauses: &[Pause]) -> bool {
+    match read(alloc, text.as_bytes()) {
+        Ok(job) => {
+            job.script.stops.as_slice() == stops && job.script.pauses.as_slice() == pauses
+        }
+        Err(_) => false,
     }
-    Ok(())
+}
+
+#[test]
+fn orders_stops_and_pauses(rt: HostRuntime) {
+    for (text, stops, pauses) in SCRIPTS {
+        assert!(rt; has_script(rt.alloc(), text, &stops, &pauses), "{text}");
+    }
 }
 
 /// A trace of two events, and these.

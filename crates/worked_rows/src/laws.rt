@@ -1,24 +1,101 @@
 //! A list in which an entry that was put at one region only is taken over by the next leader.
+ghost use Rattle.mu_model.specs.Contents.{IsConfig};
+ghost use Rattle.mu_model.specs.Legal.{IsLegal};
+
 use crate::event_scripts::{ADOPTED_VALUE, JOB, config, events_of};
 use mu_law::{both_know, chosen_at, is_legal, kept, known, marked, session_of};
+use mu_model::{Config, Event, NoMemory};
+use std::alloc::Global;
 use std::test::Fail;
+
+/// What is chosen at the first position.
+pub(crate) fn first_choice(
+    alloc: Global,
+    config: &Config,
+    events: &[Event],
+) -> Result<Option<u16>, NoMemory>
+    requires { IsLegal config.now events.now }
+{
+    chosen_at(alloc, config, events, 0)
+}
+
+/// Whether replica 1 knows just the first command, of the client's session.
+fn knows_one(alloc: Global, config: &Config, events: &[Event]) -> Result<bool, NoMemory>
+    requires config { IsConfig config.now }
+    requires legal { IsLegal config.now events.now }
+{
+    let known = known(alloc, config, events, 1)?;
+    Ok(known.as_slice() == [0].as_slice())
+}
+
+/// How many commands of client 0 replica 1 knows.
+fn session(alloc: Global, config: &Config, events: &[Event]) -> Result<u16, NoMemory>
+    requires config { IsConfig config.now }
+    requires legal { IsLegal config.now events.now }
+{
+    session_of(alloc, config, events, 1, 0)
+}
+
+/// What replicas 1 and 2 both know at the first position.
+fn shared(alloc: Global, config: &Config, events: &[Event]) -> Result<Option<(u16, u16)>, NoMemory>
+    requires config { IsConfig config.now }
+    requires legal { IsLegal config.now events.now }
+{
+    both_know(alloc, config, events, 1, 2, 0)
+}
+
+/// Whether the first position still has its place at replica 1.
+fn keeps(alloc: Global, config: &Config, events: &[Event]) -> Result<bool, NoMemory>
+    requires config { IsConfig config.now }
+    requires legal { IsLegal config.now events.now }
+{
+    kept(alloc, config, events, 1, 0)
+}
+
+/// Where a mark of replica 2 is chosen.
+fn mark(alloc: Global, config: &Config, events: &[Event]) -> Result<Option<u16>, NoMemory>
+    requires config { IsConfig config.now }
+    requires legal { IsLegal config.now events.now }
+{
+    marked(alloc, config, events, 2)
+}
+
+/// Whether the laws answer so of a legal list.
+fn is_adopted(alloc: Global, config: &Config, events: &[Event]) -> Result<bool, NoMemory>
+    requires config { IsConfig config.now }
+    requires legal { IsLegal config.now events.now }
+{
+    Ok(
+        first_choice(alloc, config, events)? == Some(0)
+            && knows_one(alloc, config, events)?
+            && session(alloc, config, events)? == 1
+            && shared(alloc, config, events)?.is_none()
+            && keeps(alloc, config, events)?
+            && mark(alloc, config, events)?.is_none(),
+    )
+}
+
+/// Whether a list is legal, and the laws answer so.
+fn is_legal_and_adopted(alloc: Global, config: &Config, events: &[Event]) -> Result<bool, NoMemory>
+    requires { IsConfig config.now }
+{
+    if is_legal(alloc, config, events)? {
+        is_adopted(alloc, config, events)
+    } else {
+        Ok(false)
+    }
+}
+
+/// The same of the adopted value.
+fn next_adopts(alloc: Global) -> Result<bool, Fail> {
+    let (_, _, pieces) = ADOPTED_VALUE;
+    let config = config(alloc, JOB)?;
+    let order = events_of(alloc, pieces)?;
+    Ok(is_legal_and_adopted(alloc, &config, order.as_slice())?)
+}
 
 #[test]
 fn next_leader_adopts(rt: HostRuntime) -> Result<(), Fail> {
-    let alloc = rt.alloc();
-    let config = config(alloc, JOB)?;
-    let (_, _, pieces) = ADOPTED_VALUE;
-    let order = events_of(alloc, pieces)?;
-    let events = order.as_slice();
-    assert!(rt; is_legal(alloc, &config, events)?);
-    assert_eq!(rt; chosen_at(alloc, &config, events, 0)?, Some(0));
-    assert_eq!(rt;
-        known(alloc, &config, events, 1)?.as_slice(),
-        [0].as_slice()
-    );
-    assert_eq!(rt; session_of(alloc, &config, events, 1, 0)?, 1);
-    assert_eq!(rt; both_know(alloc, &config, events, 1, 2, 0)?, None);
-    assert!(rt; kept(alloc, &config, events, 1, 0)?);
-    assert_eq!(rt; marked(alloc, &config, events, 2)?, None);
+    assert!(rt; next_adopts(rt.alloc())?);
     Ok(())
 }

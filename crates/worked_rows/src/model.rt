@@ -3,7 +3,7 @@ ghost use Rattle.std.specs.Prelude.{◌≡◌, ◌<◌, ◌^◌, length};
 ghost use Rattle.mu_model.specs.Histories.{history};
 ghost use Rattle.mu_model.specs.Answers.{answer_of};
 
-use crate::event_scripts::{JOB, SCRIPTS, config, events_of, part_of};
+use crate::event_scripts::{JOB, SCRIPTS, Step, config, events_of, part_of};
 use mu_model::{Answer, Config, Event, Verb, majority, next_number, score_after};
 use mu_oracle::{allows, answers};
 use std::alloc::{AllocError, Global};
@@ -55,17 +55,25 @@ fn first_wrong(
     Ok(None)
 }
 
+/// How many events the pieces of a script have, and the first wrong one.
+fn told_of(
+    alloc: Global,
+    config: &Config,
+    pieces: &[&[Step]],
+) -> Result<(usize, Option<usize>), AllocError>
+    requires { 0 < config.now.ring }
+{
+    let events = events_of(alloc, pieces)?;
+    let wrong = first_wrong(alloc, config, events.as_slice())?;
+    Ok((events.len(), wrong))
+}
+
 #[test]
 fn scripts_are_legal(rt: HostRuntime) -> Result<(), Fail> {
     let config = config(rt.alloc(), JOB)?;
     for (name, count, pieces) in SCRIPTS {
-        let events = events_of(rt.alloc(), pieces)?;
-        assert_eq!(rt; events.len(), count, "{name}");
-        assert_eq!(rt;
-            first_wrong(rt.alloc(), &config, events.as_slice())?,
-            None,
-            "{name}"
-        );
+        let told = told_of(rt.alloc(), &config, pieces)?;
+        assert_eq!(rt; told, (count, None), "{name}");
     }
     Ok(())
 }

@@ -1,9 +1,13 @@
 //! Books of whole runs, against outside values.
+ghost use Rattle.std.specs.Prelude.{length, ◌≤◌};
+
 use crate::more_order_cases::MORE_CASES;
 use crate::order_cases::{CASES, Case};
 use crate::spelled::command;
-use match_book::{Book, Id, Resting, Side, Trade};
+use kv_store::Command;
+use match_book::{Book, Resting, Side, Trade};
 use std::alloc::{AllocError, Global};
+use std::fmt::Write;
 use std::test::Fail;
 
 /// Commands, and the book after them, each worked out by hand.
@@ -53,19 +57,25 @@ const WORKED: [Case; 5] = [
     (&[], "trades 0\nresting 0\n"),
 ];
 
-/// The book after these commands, where each line spells one.
-fn book_after(alloc: Global, lines: &[(u8, u16, &str)]) -> Result<Book, Fail> {
-    let count = lines.len();
-    if count > 65_535 {
-        return Err("too many commands")?;
+/// The most commands of a book.
+const MOST: usize = 65_535;
+
+/// The commands of these lines, where each spells one.
+fn commands_of(alloc: Global, lines: &[(u8, u16, &str)]) -> Result<Vec<Command>, Fail> {
+    let mut commands = Vec::new(alloc);
+    for &(client, number, line) in lines {
+        commands.push(command(client, number, line).ok_or("no command")?)?;
     }
-    let mut book = Book::with_room(alloc, count)?;
-    for index in 0..count {
-        let (client, number, line) = lines[index];
-        match command(client, number, line) {
-            Some(command) => book.apply(&command),
-            None => return Err(Fail::from("no command")),
-        }
+    Ok(commands)
+}
+
+/// The book after these commands.
+fn book_after(alloc: Global, commands: &[Command]) -> Result<Book, AllocError>
+    requires { length commands.now ≤ 65535 }
+{
+    let mut book = Book::with_room(alloc, commands.len())?;
+    for command in commands {
+        book.apply(command);
     }
     Ok(book)
 }
@@ -78,54 +88,68 @@ fn shown_symbol(symbol: &[u8]) -> &str {
     }
 }
 
-/// The client and the number of an order.
-fn shown_id(alloc: Global, id: &Id) -> Result<String, AllocError> {
-    format!(in alloc; "{}.{}", id.client, id.number)
-}
-
-fn shown_trade(alloc: Global, trade: &Trade) -> Result<String, AllocError> {
-    let buy = shown_id(alloc, &trade.buy)?;
-    let sell = shown_id(alloc, &trade.sell)?;
-    let symbol = shown_symbol(trade.symbol.as_bytes());
+/// Writes the line of a trade.
+fn write_trade(text: &mut String, trade: &Trade) -> Result<(), AllocError> {
     let (index, price, quantity) = (trade.index, trade.price, trade.quantity);
-    format!(in alloc; "{index} {buy} {sell} {symbol} {price}x{quantity}\n")
+    let (buy, sell) = (trade.buy, trade.sell);
+    let symbol = shown_symbol(trade.symbol.as_bytes());
+    write!(text, "{index} {}.{} ", buy.client, buy.number)?;
+    write!(text, "{}.{} ", sell.client, sell.number)?;
+    write!(text, "{symbol} {price}x{quantity}\n")
 }
 
-fn shown_order(alloc: Global, order: &Resting) -> Result<String, AllocError> {
-    let id = shown_id(alloc, &order.id)?;
+/// Writes the line of a resting order.
+fn write_order(text: &mut String, order: &Resting) -> Result<(), AllocError> {
     let symbol = shown_symbol(order.symbol.as_bytes());
     let side = match order.side {
         Side::Buy => "B",
         Side::Sell => "S",
     };
-    let (price, left) = (order.price, order.left);
-    format!(in alloc; "{symbol} {side}{price}x{left} {id}\n")
+    let (price, left, id) = (order.price, order.left, order.id);
+    write!(text, "{symbol} {side}{price}x{left} ")?;
+    write!(text, "{}.{}\n", id.client, id.number)
 }
 
-/// The trades and the resting orders, line by line.
-fn shown(alloc: Global, trades: &[Trade], resting: &[Resting]) -> Result<String, AllocError> {
-    let mut lines = format!(in alloc; "trades {}\n", trades.len())?;
-    for trade in trades {
-        lines.push_str(shown_trade(alloc, trade)?.as_str())?;
+/// Writes the trades and the resting orders, line by line.
+fn write_book(text: &mut String, book: &Book) -> Result<(), AllocError> {
+    write!(text, "trades {}\n", book.trades().len())?;
+    for trade in book.trades() {
+        write_trade(text, trade)?;
     }
-    lines.push_str(format!(in alloc; "resting {}\n", resting.len())?.as_str())?;
-    for order in resting {
-        lines.push_str(shown_order(alloc, order)?.as_str())?;
+    write!(text, "resting {}\n", book.resting().len())?;
+    for order in book.resting() {
+        write_order(text, order)?;
     }
-    Ok(lines)
+    Ok(())
 }
 
-/// What the book shows after the commands of these lines.
-fn shown_after(alloc: Global, lines: &[(u8, u16, &str)]) -> Result<String, Fail> {
-    let book = book_after(alloc, lines)?;
-    Ok(shown(alloc, book.trades(), book.resting())?)
+/// Whether the book shows this.
+fn shows(alloc: Global, book: &Book, wanted: &str) -> Result<bool, AllocError> {
+    let mut text = String::new(alloc);
+    write_book(&mut text, book)?;
+    Ok(text.as_str() == wanted)
+}
+
+/// Whether the book after these commands shows this.
+fn shows_after(alloc: Global, commands: &[Command], wanted: &str) -> Result<bool, AllocError> {
+    if commands.len() > MOST {
+        return Ok(false);
+    }
+    let book = book_after(alloc, commands)?;
+    shows(alloc, &book, wanted)
+}
+
+/// The same of the commands of these lines.
+fn is_shown(alloc: Global, lines: &[(u8, u16, &str)], wanted: &str) -> Result<bool, Fail> {
+    let commands = commands_of(alloc, lines)?;
+    Ok(shows_after(alloc, commands.as_slice(), wanted)?)
 }
 
 #[test]
 fn keeps_the_books_of_the_cases(rt: HostRuntime) -> Result<(), Fail> {
     for cases in [WORKED.as_slice(), CASES.as_slice(), MORE_CASES.as_slice()] {
         for &(lines, wanted) in cases {
-            assert_eq!(rt; shown_after(rt.alloc(), lines)?.as_str(), wanted);
+            assert!(rt; is_shown(rt.alloc(), lines, wanted)?, "{wanted}");
         }
     }
     Ok(())

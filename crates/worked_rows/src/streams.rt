@@ -5,23 +5,44 @@ use mu_io::{
     Failed, MemSink, MemSource, ReadEnd, Sink, Source, StdSink, StdSource, Unbuffered, WriteFault,
     read_all, write_all,
 };
-use std::alloc::Global;
+use std::alloc::{AllocError, Global};
 use std::io::{Cursor, Error, ErrorKind, Read, Result as IoResult, Write};
 use std::test::Fail;
 
 const TEXT: &[u8; 10] = b"replicated";
 
-/// How the reading of the text ends through a source that gives at most `piece` bytes at each read
-/// and fails at the read of this number: none where all is read.
-fn end_of(alloc: Global, piece: usize, fails: u32, limit: usize) -> Result<Option<ReadEnd>, Fail>
+/// A source of the text that gives at most `piece` bytes at each read and fails at the read of this
+/// number.
+fn source_of(alloc: Global, piece: usize, fails: u32) -> Result<MemSource, AllocError>
     requires { 0 < piece }
 {
     let fails = vec![in alloc; fails]?;
-    let mut source = MemSource::new(TEXT.to_vec(alloc)?, piece, fails);
-    match read_all(alloc, &mut source, limit) {
-        Ok(bytes) if bytes.as_slice() == TEXT.as_slice() => Ok(None),
-        Ok(_) => Err(Fail::from("other bytes")),
-        Err(end) => Ok(Some(end)),
+    Ok(MemSource::new(TEXT.to_vec(alloc)?, piece, fails))
+}
+
+/// Whether the reading of the text ends so through such a source: none if all is read.
+fn ends_so(
+    alloc: Global,
+    piece: usize,
+    fails: u32,
+    limit: usize,
+    wanted: Option<ReadEnd>,
+) -> Result<bool, AllocError>
+    requires { 0 < piece }
+{
+    let mut source = source_of(alloc, piece, fails)?;
+    Ok(match read_all(alloc, &mut source, limit) {
+        Ok(bytes) => wanted.is_none() && bytes.as_slice() == TEXT.as_slice(),
+        Err(end) => wanted == Some(end),
+    })
+}
+
+/// How the reading ends whose so many reads take the text and see its end.
+fn wanted_end(fails: u32, reads: u32) -> Option<ReadEnd> {
+    if fails == 0 || fails > reads {
+        None
+    } else {
+        Some(ReadEnd::Fault)
     }
 }
 
@@ -31,30 +52,31 @@ fn reads_whole_inputs(rt: HostRuntime) -> Result<(), Fail> {
     for (piece, reads) in [(1, 11), (3, 5), (16, 2)] {
         assert!(rt; piece > 0);
         for fails in 0..reads + 2 {
-            let wanted = if fails == 0 || fails > reads {
-                None
-            } else {
-                Some(ReadEnd::Fault)
-            };
-            let end = end_of(rt.alloc(), piece, fails, 10)?;
-            assert_eq!(rt; end, wanted, "piece {piece}, read {fails}");
+            let wanted = wanted_end(fails, reads);
+            let is_right = ends_so(rt.alloc(), piece, fails, 10, wanted)?;
+            assert!(rt; is_right, "piece {piece}, read {fails}");
         }
-        let end = end_of(rt.alloc(), piece, 0, 9)?;
-        assert_eq!(rt; end, Some(ReadEnd::TooLong), "piece {piece}");
+        let is_right = ends_so(rt.alloc(), piece, 0, 9, Some(ReadEnd::TooLong))?;
+        assert!(rt; is_right, "piece {piece}");
     }
-    let end = end_of(rt.alloc(), 4, 0, usize::MAX)?;
-    assert_eq!(rt; end, Some(ReadEnd::NoMemory));
+    assert!(rt; ends_so(rt.alloc(), 4, 0, usize::MAX, Some(ReadEnd::NoMemory))?);
     Ok(())
 }
 
-#[test]
-fn reads_an_empty_input(rt: HostRuntime) -> Result<(), Fail> {
-    for limit in [0, 5] {
-        let mut empty = MemSource::new(Vec::new(rt.alloc()), 4, Vec::new(rt.alloc()));
-        let bytes = read_all(rt.alloc(), &mut empty, limit)?;
-        assert!(rt; bytes.as_slice().is_empty());
+/// Whether all of an empty input is read under this limit.
+fn reads_empty(alloc: Global, limit: usize) -> bool {
+    let mut empty = MemSource::new(Vec::new(alloc), 4, Vec::new(alloc));
+    match read_all(alloc, &mut empty, limit) {
+        Ok(bytes) => bytes.as_slice().is_empty(),
+        Err(_) => false,
     }
-    Ok(())
+}
+
+#[test]
+fn reads_an_empty_input(rt: HostRuntime) {
+    for limit in [0, 5] {
+        assert!(rt; reads_empty(rt.alloc(), limit));
+    }
 }
 
 #[test]
@@ -69,20 +91,28 @@ fn ends_have_texts(rt: HostRuntime) -> Result<(), Fail> {
     Ok(())
 }
 
-/// What the writing of the text answers through a sink with so much room, which takes at most
-/// `piece` bytes at each write and fails at the write of this number; and what was written.
-fn written_by(
+/// A sink with so much room, which takes at most `piece` bytes at each write and fails at the write
+/// of this number.
+fn sink_of(alloc: Global, piece: usize, room: usize, fails: u32) -> Result<MemSink, AllocError>
+    requires { 0 < piece }
+{
+    let fails = vec![in alloc; fails]?;
+    Ok(MemSink::new(vec![in alloc; 0; room]?, piece, fails))
+}
+
+/// Whether the writing of the text answers so through such a sink, and leaves this.
+fn writes_so(
     alloc: Global,
     piece: usize,
     room: usize,
     fails: u32,
-) -> Result<(Result<(), WriteFault>, Vec<u8>), Fail>
+    told: Result<(), WriteFault>,
+    text: &[u8],
+) -> Result<bool, AllocError>
     requires { 0 < piece }
 {
-    let room = vec![in alloc; 0; room]?;
-    let mut sink = MemSink::new(room, piece, vec![in alloc; fails]?);
-    let told = write_all(&mut sink, TEXT);
-    Ok((told, sink.written().to_vec(alloc)?))
+    let mut sink = sink_of(alloc, piece, room, fails)?;
+    Ok(write_all(&mut sink, TEXT) == told && sink.written() == text)
 }
 
 /// The size of a piece, the room, and how many bytes are taken where no write fails, or the write
@@ -110,13 +140,9 @@ fn writes_whole_outputs(rt: HostRuntime) -> Result<(), Fail> {
         assert!(rt; piece > 0);
         for (fails, &count) in (0u32..).zip(counts.iter()) {
             assert!(rt; count <= TEXT.len());
-            let (told, written) = written_by(rt.alloc(), piece, room, fails)?;
-            assert_eq!(rt; told, told_of(count), "piece {piece}, write {fails}");
-            assert_eq!(rt;
-                written.as_slice(),
-                &TEXT[..count],
-                "piece {piece}, write {fails}"
-            );
+            let text = &TEXT[..count];
+            let is_right = writes_so(rt.alloc(), piece, room, fails, told_of(count), text)?;
+            assert!(rt; is_right, "piece {piece}, write {fails}");
         }
     }
     Ok(())

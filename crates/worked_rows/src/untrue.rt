@@ -2,7 +2,8 @@
 ghost use Rattle.mu_model.specs.Contents.{IsConfig};
 
 use crate::event_scripts::{LONG_JOB, config_of};
-use mu_law::{chosen_at, is_legal};
+use crate::laws::first_choice;
+use mu_law::is_legal;
 use mu_model::{Answer, Config, Event, NoMemory, Target, Verb};
 use mu_regions::Regions;
 use std::alloc::Global;
@@ -269,15 +270,27 @@ const LOOK_BESIDE: [Stretch; 1] = [Stretch::Step(0, Verb::Look(0, 0))];
 /// The put that is due to the leader.
 const DUE_PUT: [Stretch; 1] = [Stretch::Fill(0, 1, 8, FIRST)];
 
-/// What is chosen at the first position of a legal list.
-fn first_chosen(alloc: Global, config: &Config, events: &[Event]) -> Result<Option<u16>, Fail>
+/// Whether a list is legal, and this is chosen at its first position.
+fn chooses_first(
+    alloc: Global,
+    config: &Config,
+    events: &[Event],
+    chosen: u16,
+) -> Result<bool, NoMemory>
     requires { IsConfig config.now }
 {
     if is_legal(alloc, config, events)? {
-        Ok(chosen_at(alloc, config, events, 0)?)
+        Ok(first_choice(alloc, config, events)? == Some(chosen))
     } else {
-        Err(Fail::from("not legal"))
+        Ok(false)
     }
+}
+
+/// Whether the hosts once found all these in their first slots.
+fn were_shown(events: &[Event], sights: &[Sight]) -> bool {
+    sights
+        .iter()
+        .all(|&(p, number, value)| was_shown(events, p, number, value))
 }
 
 /// Goes through the stretches, and says whether the list shows what it should.
@@ -285,12 +298,8 @@ fn is_shown(alloc: Global, shown: &Shown) -> Result<bool, Fail> {
     let (job, stretches, chosen, sights) = *shown;
     let config = config_of(alloc, job)?;
     let events = events_of(alloc, &config, stretches)?;
-    let events = events.as_slice();
-    let mut all = first_chosen(alloc, &config, events)? == Some(chosen);
-    for &(p, number, value) in sights {
-        all &= was_shown(events, p, number, value);
-    }
-    Ok(all)
+    let is_chosen = chooses_first(alloc, &config, events.as_slice(), chosen)?;
+    Ok(is_chosen && were_shown(events.as_slice(), sights))
 }
 
 #[test]

@@ -46,47 +46,57 @@ impl Gate for Crossed {
     }
 }
 
-fn key(name: &str) -> Result<Key, Fail> {
-    Ok(Key::new(name.as_bytes()).ok_or("no key")?)
+impl Crossed {
+    fn new() -> Crossed {
+        Crossed {
+            first: AtomicU64::new(0),
+            third: AtomicU64::new(0),
+            failures: AtomicU64::new(0),
+        }
+    }
 }
 
-fn text(held: &str) -> Result<Text, Fail> {
-    Ok(Text::new(held.as_bytes()).ok_or("no text")?)
+/// The second client's first two commands, which are sent before any of the first.
+fn first_two() -> Option<[Command; 2]> {
+    let put = Op::Put(Key::new(b"b")?, Text::new(b"7")?);
+    let swap = Op::Swap(Key::new(b"a")?, Text::new(b"9")?);
+    Some([Command::new(1, 1, put)?, Command::new(1, 2, swap)?])
 }
 
-/// What a desk collects of the job of a text.
+/// What a desk collects of a job.
 fn collected<R: Threads + Wait + Sync, G: Gate + Sync>(
     rt: &R,
     alloc: Global,
     text: &str,
     gate: &G,
 ) -> Result<Job, Fail> {
-    let Ok(job) = read(alloc, text.as_bytes()) else {
-        return Err(Fail::from("no job"));
-    };
     if desk_line(text.as_bytes()).is_some() {
         return Err(Fail::from("no job for a desk"));
     }
-    Ok(collect(rt, alloc, job, gate)?)
+    match read(alloc, text.as_bytes()) {
+        Ok(job) => Ok(collect(rt, alloc, job, gate)?),
+        Err(_) => Err(Fail::from("no job")),
+    }
 }
 
-/// Whether there are six commands with their rows, and these two are the first.
-fn begins(job: &Job, first: Command, second: Command) -> bool {
+/// Whether six commands with their rows are collected of a text, and these two are the first.
+fn begins<R: Threads + Wait + Sync, G: Gate + Sync>(
+    rt: &R,
+    alloc: Global,
+    text: &str,
+    gate: &G,
+    first: &[Command],
+) -> Result<bool, Fail> {
+    let job = collected(rt, alloc, text, gate)?;
     let commands = job.commands.as_slice();
-    commands.len() == 6 && job.config.rows.len() == 6 && commands.starts_with(&[first, second])
+    Ok((commands.len(), job.config.rows.len()) == (6, 6) && commands.starts_with(first))
 }
 
 #[test]
 fn clients_send_at_once(rt: HostRuntime) -> Result<(), Fail> {
-    let gate = Crossed {
-        first: AtomicU64::new(0),
-        third: AtomicU64::new(0),
-        failures: AtomicU64::new(0),
-    };
-    let first = Command::new(1, 1, Op::Put(key("b")?, text("7")?)).ok_or("no command")?;
-    let second = Command::new(1, 2, Op::Swap(key("a")?, text("9")?)).ok_or("no command")?;
-    let collected = collected(&rt, rt.alloc(), TWO_CLIENTS, &gate)?;
-    let is_right = begins(&collected, first, second);
+    let first = first_two().ok_or("no command")?;
+    let gate = Crossed::new();
+    let is_right = begins(&rt, rt.alloc(), TWO_CLIENTS, &gate, &first)?;
     assert!(rt; is_right && gate.failures.load(Ordering::SeqCst) == 0);
     Ok(())
 }

@@ -4,31 +4,39 @@ ghost use Rattle.mu_report.specs.Said.{IsShort};
 
 use mu_io::{MemSink, WriteFault};
 use mu_report::{Said, print};
-use std::alloc::Global;
-use std::test::Fail;
+use std::alloc::{AllocError, Global};
 
-/// What is printed where no write fails.
-pub(crate) fn text_of(alloc: Global, said: &Said) -> Result<Vec<u8>, Fail>
-    requires { IsShort said.now }
+/// The most bytes that a row prints.
+const ROOM: usize = 8192;
+
+/// A sink whose writes take at most `piece` bytes and of which one fails (0 for none).
+fn sink_of(alloc: Global, piece: usize, fails: u32) -> Result<MemSink, AllocError>
+    requires { 0 < piece }
 {
-    let (result, written) = printed(alloc, said, 4096, 0)?;
-    result.map_err(|_| Fail::from("a fault"))?;
-    Ok(written)
+    let fails = vec![in alloc; fails]?;
+    Ok(MemSink::new(vec![in alloc; 0; ROOM]?, piece, fails))
 }
 
-/// How printing ends whose writes take at most `piece` bytes and of which one fails (0 for none),
-/// and what was written by then.
-pub(crate) fn printed(
+/// Whether printing ends so and leaves this text, where a write takes at most `piece` bytes and one
+/// write fails (0 for none).
+pub(crate) fn prints_so_far(
     alloc: Global,
     said: &Said,
     piece: usize,
     fails: u32,
-) -> Result<(Result<(), WriteFault>, Vec<u8>), Fail>
+    end: Result<(), WriteFault>,
+    text: &[u8],
+) -> Result<bool, AllocError>
     requires short { IsShort said.now }
     requires piece { 0 < piece }
 {
-    let room = vec![in alloc; 0; 8192]?;
-    let mut sink = MemSink::new(room, piece, vec![in alloc; fails]?);
-    let result = print(&mut sink, said);
-    Ok((result, sink.written().to_vec(alloc)?))
+    let mut sink = sink_of(alloc, piece, fails)?;
+    Ok(print(&mut sink, said) == end && sink.written() == text)
+}
+
+/// Whether this text is printed where no write fails.
+pub(crate) fn prints(alloc: Global, said: &Said, text: &str) -> Result<bool, AllocError>
+    requires { IsShort said.now }
+{
+    prints_so_far(alloc, said, ROOM, 0, Ok(()), text.as_bytes())
 }

@@ -12,37 +12,43 @@ use std::test::Fail;
 use std::thread;
 use std::thread::Threads;
 
-fn key(name: &str) -> Result<Key, Fail> {
-    Ok(Key::new(name.as_bytes()).ok_or("no key")?)
+/// The put of a text at a key of client 0, with its number.
+fn put(number: u16, key: Key, held: Text) -> Option<Command> {
+    Command::new(0, number, Op::Put(key, held))
 }
 
-fn text(held: &str) -> Result<Text, Fail> {
-    Ok(Text::new(held.as_bytes()).ok_or("no text")?)
+/// What a new reader sees at a key before the first command is published, after that, and after the
+/// second one is: the text, and how many commands were published.
+fn looks(alloc: Global, key: &Key, puts: &[Command; 2]) -> Result<[(Option<Text>, u16); 3], Fail> {
+    let (mut writer, mut readers) = start(alloc, 2, 1)?;
+    match readers.as_mut_slice() {
+        [reader] => {
+            writer.apply(&puts[0]);
+            let before = reader.get(key);
+            writer.publish();
+            let between = reader.get(key);
+            writer.apply(&puts[1]);
+            writer.publish();
+            reader.learn(writer.tell());
+            let seen = [before, between, reader.get(key)];
+            Ok(seen.map(|seen| (seen.value(), seen.upto())))
+        }
+        _ => Err(Fail::from("not one reader")),
+    }
 }
 
-fn put(number: u16, name: &str, held: &str) -> Result<Command, Fail> {
-    Ok(Command::new(0, number, Op::Put(key(name)?, text(held)?)).ok_or("no command")?)
+/// A key, two texts, and the puts of these.
+fn two_puts() -> Option<(Key, [Text; 2], [Command; 2])> {
+    let key = Key::new(b"a")?;
+    let (five, six) = (Text::new(b"5")?, Text::new(b"6")?);
+    Some((key, [five, six], [put(1, key, five)?, put(2, key, six)?]))
 }
 
 #[test]
 fn publish_and_tell(rt: HostRuntime) -> Result<(), Fail> {
-    let (mut writer, mut readers) = start(rt.alloc(), 2, 1)?;
-    let mut reader = readers.pop().ok_or("no reader")?;
-    let a = key("a")?;
-
-    writer.apply(&put(1, "a", "5")?);
-    let seen = reader.get(&a);
-    assert_eq!(rt; (seen.value(), seen.upto()), (None, 0));
-
-    writer.publish();
-    let seen = reader.get(&a);
-    assert_eq!(rt; (seen.value(), seen.upto()), (Some(text("5")?), 1));
-
-    writer.apply(&put(2, "a", "6")?);
-    writer.publish();
-    reader.learn(writer.tell());
-    let seen = reader.get(&a);
-    assert_eq!(rt; (seen.value(), seen.upto()), (Some(text("6")?), 2));
+    let (key, [five, six], puts) = two_puts().ok_or("no command")?;
+    let seen = looks(rt.alloc(), &key, &puts)?;
+    assert_eq!(rt; seen, [(None, 0), (Some(five), 1), (Some(six), 2)]);
     Ok(())
 }
 
@@ -88,6 +94,20 @@ impl Gate for Crossed {
     }
 }
 
+impl Crossed {
+    fn new() -> Crossed {
+        Crossed {
+            publishing: AtomicU64::new(0),
+            get: AtomicU64::new(0),
+            fifth: AtomicU64::new(0),
+            next: AtomicU64::new(0),
+            one: AtomicU64::new(0),
+            other: AtomicU64::new(0),
+            failures: AtomicU64::new(0),
+        }
+    }
+}
+
 /// What a replay of the job of a text leaves.
 fn replayed(alloc: Global, text: &str) -> Result<Outcome, Fail>
     ensures { IfOk result (λ outcome. length (told_commands outcome) ≤ 1500) }
@@ -117,7 +137,7 @@ fn lived<R: Threads + Sync, G: Gate + Sync>(
     requires { (1 ≤ readers) × (readers ≤ 4) }
 {
     let outcome = replayed(alloc, text)?;
-    Ok(live(rt, alloc, &outcome, readers, gate)?)
+    live(rt, alloc, &outcome, readers, gate).map_err(|_| Fail::from("no memory"))
 }
 
 /// How many sights each reader had.
@@ -143,25 +163,30 @@ fn saw_beside(lived: &Lived) -> bool {
     }
 }
 
+/// What each of two readers saw last, at two keys.
+fn last_sights() -> Option<[Option<[(Key, Option<Text>, u16); 2]>; 2]> {
+    let a = (Key::new(b"a")?, Some(Text::new(b"1")?), 6);
+    let b = (Key::new(b"b")?, Some(Text::new(b"7")?), 6);
+    Some([Some([a, b]); 2])
+}
+
+/// Whether two readers of the two clients' job saw the last things, and the first one what was
+/// published beside it.
+fn saw<R: Threads + Sync, G: Gate + Sync>(
+    rt: &R,
+    alloc: Global,
+    gate: &G,
+    wanted: [Option<[(Key, Option<Text>, u16); 2]>; 2],
+) -> Result<bool, Fail> {
+    let lived = lived(rt, alloc, TWO_CLIENTS, 2, gate)?;
+    Ok(saw_beside(&lived) && counts(&lived, &[202, 202]) && saw_last(&lived, wanted))
+}
+
 #[test]
 fn readers_go_on_beside_the_writer(rt: HostRuntime) -> Result<(), Fail> {
-    let gate = Crossed {
-        publishing: AtomicU64::new(0),
-        get: AtomicU64::new(0),
-        fifth: AtomicU64::new(0),
-        next: AtomicU64::new(0),
-        one: AtomicU64::new(0),
-        other: AtomicU64::new(0),
-        failures: AtomicU64::new(0),
-    };
-    let wanted = [
-        (key("a")?, Some(text("1")?), 6),
-        (key("b")?, Some(text("7")?), 6),
-    ];
-    let lived = lived(&rt, rt.alloc(), TWO_CLIENTS, 2, &gate)?;
-    let are_right = saw_beside(&lived)
-        && counts(&lived, &[202, 202])
-        && saw_last(&lived, [Some(wanted); 2]);
+    let wanted = last_sights().ok_or("no key")?;
+    let gate = Crossed::new();
+    let are_right = saw(&rt, rt.alloc(), &gate, wanted)?;
     assert!(rt; are_right && gate.failures.load(Ordering::SeqCst) == 0);
     Ok(())
 }

@@ -1,13 +1,14 @@
 //! Texts of whole answers, as they come out of a sink in memory.
 ghost use Rattle.std.specs.Prelude.{◌<◌};
+ghost use Rattle.mu_report.specs.Said.{IsShort};
 
-use crate::printing::{printed, text_of};
+use crate::printing::{prints, prints_so_far};
 use crate::replays::said_of;
 use mu_io::WriteFault;
 use mu_model::{Answer, Fence, Target};
 use mu_outcome::{Verdict, Wrong};
 use mu_report::Said;
-use std::alloc::Global;
+use std::alloc::{AllocError, Global};
 use std::test::Fail;
 
 /// A put and a get.
@@ -30,117 +31,139 @@ replies 2
 status 0
 ";
 
+/// What is said where the words ask for nothing.
+const USAGE: &str = "usage: mu replay, mu run, mu check, mu why, mu tell, mu trace, mu bulk N, \
+    mu live K, mu desk, mu book\n";
+
+/// Whether this text is printed of what is said.
+fn is_printed(alloc: Global, said: Said, text: &str) -> Result<bool, AllocError>
+    requires { IsShort said }
+{
+    prints(alloc, &said, text)
+}
+
 #[test]
 fn says_short_answers(rt: HostRuntime) -> Result<(), Fail> {
-    let said = text_of(rt.alloc(), &Said::Usage)?;
-    assert_eq!(rt;
-        said.as_slice(),
-        b"usage: mu replay, mu run, mu check, mu why, mu tell, mu trace, mu bulk N, \
-        mu live K, mu desk, mu book\n"
-            .as_slice()
-    );
-    let said = text_of(rt.alloc(), &Said::Refused { line: 5, cause: 11 })?;
-    assert_eq!(rt; said.as_slice(), b"refused line 5 cause 11\n".as_slice());
-    let said = text_of(rt.alloc(), &Said::ReadFault)?;
-    assert_eq!(rt; said.as_slice(), b"read fault\n".as_slice());
-    let said = text_of(rt.alloc(), &Said::NoMemory)?;
-    assert_eq!(rt; said.as_slice(), b"no memory\n".as_slice());
-    let said = text_of(rt.alloc(), &Said::TooLong)?;
-    assert_eq!(rt; said.as_slice(), b"too long\n".as_slice());
+    let refused = Said::Refused { line: 5, cause: 11 };
+    assert!(rt; is_printed(rt.alloc(), refused, "refused line 5 cause 11\n")?);
+    assert!(rt; is_printed(rt.alloc(), Said::Usage, USAGE)?);
+    assert!(rt; is_printed(rt.alloc(), Said::ReadFault, "read fault\n")?);
+    assert!(rt; is_printed(rt.alloc(), Said::NoMemory, "no memory\n")?);
+    assert!(rt; is_printed(rt.alloc(), Said::TooLong, "too long\n")?);
     Ok(())
 }
 
-/// How printing ends whose third write fails, where a write takes at most so many bytes; and what
-/// was written by then.
-fn cut(alloc: Global, piece: usize) -> Result<(Result<(), WriteFault>, Vec<u8>), Fail>
+/// Whether printing whose third write fails, where a write takes at most so many bytes, ends with so
+/// many bytes taken, and leaves just these.
+fn is_cut(alloc: Global, piece: usize, taken: usize) -> Result<bool, AllocError>
     requires { 0 < piece }
 {
+    let first = PLAIN_TEXT.as_bytes().get(..taken).unwrap_or(&[]);
     let said = said_of(alloc, PUT_AND_GET);
-    printed(alloc, &said, piece, 3)
+    prints_so_far(alloc, &said, piece, 3, Err(WriteFault { taken }), first)
 }
 
 #[test]
 fn counts_what_was_taken(rt: HostRuntime) -> Result<(), Fail> {
     for (piece, taken) in [(100, 44), (7, 9), (1, 2)] {
         assert!(rt; piece > 0);
-        let (result, written) = cut(rt.alloc(), piece)?;
-        let first = PLAIN_TEXT.as_bytes().get(..taken);
-        assert_eq!(rt; result, Err(WriteFault { taken }), "piece {piece}");
-        assert_eq!(rt; Some(written.as_slice()), first, "piece {piece}");
+        assert!(rt; is_cut(rt.alloc(), piece, taken)?, "piece {piece}");
     }
     Ok(())
 }
 
-/// A fence in four parts.
-fn fence(owner: Option<u8>, grant: u32, closing: bool, target: Target) -> Fence {
-    Fence {
-        owner,
-        grant,
-        closing,
-        target,
-    }
-}
+/// A fence of nobody.
+const OF_NOBODY: Fence = Fence {
+    owner: None,
+    grant: 0,
+    closing: false,
+    target: Target::None,
+};
+
+/// A fence that is closing, of which the owner has entered the last place.
+const AT_LAST_PLACE: Fence = Fence {
+    owner: Some(0),
+    grant: 1,
+    closing: true,
+    target: Target::Place(65_535),
+};
+
+/// A fence whose owner has entered for the minimum.
+const AT_MIN: Fence = Fence {
+    owner: Some(3),
+    grant: 8,
+    closing: false,
+    target: Target::Min,
+};
 
 /// Answers that an event would have to have, and the lines on them.
-fn expected_answers() -> [(Answer, &'static str); 11] {
-    [
-        (Answer::Done, "illegal 24 expected done\n"),
-        (Answer::Missed, "illegal 24 expected missed\n"),
-        (Answer::Entered, "illegal 24 expected entered\n"),
-        (Answer::Empty, "illegal 24 expected empty\n"),
-        (Answer::Past, "illegal 24 expected past\n"),
-        (Answer::Number(0), "illegal 24 expected 0\n"),
-        (
-            Answer::Number(u64::MAX),
-            "illegal 24 expected 18446744073709551615\n",
-        ),
-        (
-            Answer::Entry {
-                number: 4_294_967_295,
-                value: 65_535,
-            },
-            "illegal 24 expected entry 4294967295 65535\n",
-        ),
-        (
-            Answer::Seen(fence(None, 0, false, Target::None)),
-            "illegal 24 expected fence none 0 open none\n",
-        ),
-        (
-            Answer::Seen(fence(Some(0), 1, true, Target::Place(65_535))),
-            "illegal 24 expected fence 0 1 closing place 65535\n",
-        ),
-        (
-            Answer::Lost(fence(Some(3), 8, false, Target::Min)),
-            "illegal 24 expected lost 3 8 open min\n",
-        ),
-    ]
-}
+const EXPECTED: [(Answer, &str); 11] = [
+    (Answer::Done, "illegal 24 expected done\n"),
+    (Answer::Missed, "illegal 24 expected missed\n"),
+    (Answer::Entered, "illegal 24 expected entered\n"),
+    (Answer::Empty, "illegal 24 expected empty\n"),
+    (Answer::Past, "illegal 24 expected past\n"),
+    (Answer::Number(0), "illegal 24 expected 0\n"),
+    (
+        Answer::Number(u64::MAX),
+        "illegal 24 expected 18446744073709551615\n",
+    ),
+    (
+        Answer::Entry {
+            number: 4_294_967_295,
+            value: 65_535,
+        },
+        "illegal 24 expected entry 4294967295 65535\n",
+    ),
+    (
+        Answer::Seen(OF_NOBODY),
+        "illegal 24 expected fence none 0 open none\n",
+    ),
+    (
+        Answer::Seen(AT_LAST_PLACE),
+        "illegal 24 expected fence 0 1 closing place 65535\n",
+    ),
+    (
+        Answer::Lost(AT_MIN),
+        "illegal 24 expected lost 3 8 open min\n",
+    ),
+];
 
-/// What is said of 26 events on which this is the verdict.
-fn judged(alloc: Global, verdict: Verdict) -> Result<Vec<u8>, Fail> {
+/// Whether this text is printed of 26 events on which this is the verdict.
+fn is_told(alloc: Global, verdict: Verdict, text: &str) -> Result<bool, AllocError> {
     let said = Said::Judged {
         events: 26,
         verdict,
     };
-    text_of(alloc, &said)
+    prints(alloc, &said, text)
 }
 
 #[test]
 fn says_expected_answers(rt: HostRuntime) -> Result<(), Fail> {
-    for (expected, text) in expected_answers() {
+    for (expected, text) in EXPECTED {
         let cause = Wrong::WrongAnswer { expected };
-        let said = judged(rt.alloc(), Verdict::Illegal { index: 24, cause })?;
-        assert_eq!(rt; said.as_slice(), text.as_bytes());
+        let verdict = Verdict::Illegal { index: 24, cause };
+        assert!(rt; is_told(rt.alloc(), verdict, text)?, "{text}");
     }
     Ok(())
 }
 
+/// Other verdicts, and the lines on them.
+const VERDICTS: [(Verdict, &str); 2] = [
+    (
+        Verdict::Illegal {
+            index: 14,
+            cause: Wrong::NotAllowed,
+        },
+        "illegal 14 not allowed\n",
+    ),
+    (Verdict::Legal, "legal 26\n"),
+];
+
 #[test]
 fn says_verdicts(rt: HostRuntime) -> Result<(), Fail> {
-    let cause = Wrong::NotAllowed;
-    let said = judged(rt.alloc(), Verdict::Illegal { index: 14, cause })?;
-    assert_eq!(rt; said.as_slice(), b"illegal 14 not allowed\n".as_slice());
-    let said = judged(rt.alloc(), Verdict::Legal)?;
-    assert_eq!(rt; said.as_slice(), b"legal 26\n".as_slice());
+    for (verdict, text) in VERDICTS {
+        assert!(rt; is_told(rt.alloc(), verdict, text)?, "{text}");
+    }
     Ok(())
 }

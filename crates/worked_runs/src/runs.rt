@@ -95,6 +95,16 @@ fn are_three(outcome: &Outcome) -> bool {
         && logs.iter().all(agree)
 }
 
+/// Whether three replicas' logs of a run of the two clients' job are so.
+fn three_agree<R: Threads + Wait + Sync, G: Gate + Sync>(
+    rt: &R,
+    alloc: Global,
+    gate: &G,
+) -> Result<bool, Fail> {
+    let outcome = ran(rt, alloc, TWO_CLIENTS, gate)?;
+    Ok(are_three(&outcome))
+}
+
 #[test]
 fn three_replicas_run_at_once(rt: HostRuntime) -> Result<(), Fail> {
     let gate = Crossed {
@@ -103,9 +113,8 @@ fn three_replicas_run_at_once(rt: HostRuntime) -> Result<(), Fail> {
         third: Pair::new(),
         failures: AtomicU64::new(0),
     };
-    let outcome = ran(&rt, rt.alloc(), TWO_CLIENTS, &gate)?;
-    let are_right = are_three(&outcome) && gate.failures.load(Ordering::SeqCst) == 0;
-    assert!(rt; are_right);
+    let are_right = three_agree(&rt, rt.alloc(), &gate)?;
+    assert!(rt; are_right && gate.failures.load(Ordering::SeqCst) == 0);
     Ok(())
 }
 
