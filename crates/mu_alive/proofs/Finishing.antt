@@ -425,11 +425,14 @@ owns_after c live a p newer older lone begun low lives long =
 
 -- who has started goes on, with its number and its minimum
 started_on : (c : Config) (live : ℕ → Bool) (a : ℕ) (newer older : List Event) → LeadsAlone c live a (newer ++ older) → Started c a older → (stays a (part a newer) ≡ true) × Started c a (newer ++ older)
-started_on c live a newer older lone begun = (on.0, record {
-  read = ap (has_min a) split ∙ on.1;
-  numbered = ap (λ x. is_some (proposal_number a x)) split ∙ numbered_stays a (part a newer) (part a older) on.0 begun.numbered;
-  asked = λ p low. subst (λ x. has (is_asking p) x ≡ true) (sym split) (some_asked p (part a newer) (part a older) (begun.asked p low));
-})
+started_on c live a newer older lone begun = (
+  on.0,
+  record {
+    read = ap (has_min a) split ∙ on.1;
+    numbered = ap (λ x. is_some (proposal_number a x)) split ∙ numbered_stays a (part a newer) (part a older) on.0 begun.numbered;
+    asked = λ p low. subst (λ x. has (is_asking p) x ≡ true) (sym split) (some_asked p (part a newer) (part a older) (begun.asked p low));
+  },
+)
   where
     split : part a (newer ++ older) ≡ part a newer ++ part a older
     split = filter-append (λ e. e.by == a) newer older
