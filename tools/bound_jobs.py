@@ -14,6 +14,7 @@ import os
 import sys
 
 import trying
+from run_cases import troubles
 from run_trials import Job, Wrong, check_report
 
 LEAST_RING = 8
@@ -123,7 +124,7 @@ def main():
         return write(words[1])
     cases = list(bound_cases())
     answers = trying.run_cases(words[0], cases) if words else trying.answers_of("mu", cases)
-    wrong = [f"{case.name}: {trouble}" for case, answer in zip(cases, answers) if (trouble := case.trouble(answer))]
+    wrong = troubles(cases, answers)
     print(*wrong, f"{len(cases) - len(wrong)} passed, {len(wrong)} failed", sep="\n")
     return 1 if wrong else 0
 

@@ -5,7 +5,8 @@
     tools/run_cases.py PROGRAM CASES [CASES..]     a program that is named
 
 CASES is a folder or a table. In a folder a case NAME is a file NAME with the input, NAME.args with the
-words, one a line, and NAME.stdout with what has to be printed. A table is a file NAME.table. A case of
+words, one a line, and NAME.stdout with what has to be printed; where there is a file NAME.told, it is what
+`tell` has to print of NAME.stdout, a trace. A table is a file NAME.table. A case of
 it is a line `case NAME WORD`, the input, and a line `prints` with what has to be printed below it, or
 `prints sha256 SUM` with its checksum. The status that is wanted is that of the last line, `status S`,
 or of what is said: usage 1, refused 2, illegal 7.
@@ -43,6 +44,9 @@ def stored_cases(folder):
             title = os.path.join(os.path.basename(os.path.normpath(folder)), name)
             cases.append(trying.Case(title, [word for word in words if word], contents(path), wanted,
                                      wanted_status(wanted)))
+            if os.path.exists(path + ".told"):
+                told = contents(path + ".told")
+                cases.append(trying.Case(f"{title}, told", ["tell"], wanted, told, wanted_status(told)))
     return cases
 
 
@@ -66,9 +70,12 @@ def cases_at(path):
 
 
 def troubles(cases, answers):
-    """What is wrong with the answers, a line for each case that isn't right."""
+    """What is wrong with the answers, a line for each case that isn't right; each case has to have one."""
     found = [(case, case.trouble(answer)) for case, answer in zip(cases, answers)]
-    return [f"{case.name}: {trouble}" for case, trouble in found if trouble]
+    wrong = [f"{case.name}: {trouble}" for case, trouble in found if trouble]
+    if len(answers) != len(cases):
+        wrong.append(f"{len(cases)} cases have {len(answers)} answers")
+    return wrong
 
 
 def main():

@@ -125,6 +125,8 @@ class Trials:
                 is_right = (status, text) == (status_due, said) or answer.permits(status, text)
             if not is_right:
                 wrong.append(f"{words} call {call}: {status} {text[:60]!r}")
+        if call == 1:
+            wrong.append(f"{words}: no {kind} was let fail")
         at_once = f", {piece} bytes at once" if piece else ""
         self.say(f"{self.title(words)}: each {kind} fails in turn{at_once}", call, wrong)
 
@@ -338,7 +340,8 @@ def main():
         judged = open(os.path.join(TOP, "examples", "late-exchange.trace"), "rb").read()
         broken = open(os.path.join(TOP, "examples", "grant-before-drain.trace"), "rb").read()
         jobs = [(["replay"], TWO_CLIENTS), (["run"], TWO_CLIENTS), (["trace"], TWO_CLIENTS), (["check"], trace),
-                (["check"], judged), (["why"], judged), (["why"], broken), (["replay"], BATCHED),
+                (["check"], judged), (["why"], judged), (["why"], broken), (["tell"], trace),
+                (["replay"], BATCHED),
                 (["desk"], TWO_CLIENTS), (["book"], TWO_CLIENTS), (["live", "2"], TWO_CLIENTS), (["bulk", "10"], b"")]
         for words, given in jobs:
             if given:

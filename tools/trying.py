@@ -108,6 +108,16 @@ def try_cases(crate, cases, *flags):
     return answers
 
 
+def count_of_tests(crate):
+    """How many tests stand in the sources of a crate."""
+    folder = os.path.join(CRATES, crate, "src")
+    count = 0
+    for name in os.listdir(folder):
+        with open(os.path.join(folder, name), encoding="utf-8") as source:
+            count += source.read().count("#[test]\n")
+    return count
+
+
 def without(tests, text):
     """The text of a file without some tests."""
     for name in tests:

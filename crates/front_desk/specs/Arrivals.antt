@@ -1,4 +1,4 @@
--- What may arrive of the commands of several clients.
+-- arrival: for each client, the commands that arrived are the given ones, whole, in order and once.
 use Rattle.std.specs.Prelude.{ℕ, ◌≡◌, ◌==◌, List, [], ◌∷◌, if◌then◌else◌}
 use Rattle.kv_store.specs.Commands.{Request}
 
@@ -9,7 +9,7 @@ commands_by client (command ∷ commands) =
     if command.client == client then command ∷ commands_by client commands
     else commands_by client commands
 
--- of each client, the commands that arrived are those that were given: whole, in order and each
+-- for each client, the commands that arrived are those that were given: whole, in order and each
 -- once; and there are no others
 abbrev pub IsArrival : List Request → List Request → Type 0
 IsArrival given arrived = (client : ℕ) → commands_by client arrived ≡ commands_by client given

@@ -1,4 +1,4 @@
--- What a collected job keeps.
+-- collected: the parts of a job that collecting keeps.
 use Rattle.std.specs.Prelude.{◌≡◌}
 use Rattle.mu_input.specs.Batches.{rows_of}
 use Rattle.mu_input.specs.declared.job.Job.{Job}

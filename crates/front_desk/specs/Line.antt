@@ -1,4 +1,5 @@
--- The line of commands: what stands in it, and what each pass knows.
+-- keeps order: the rule of the queue: for each client, what was taken and what is in the line is
+-- what it has sent.
 use Rattle.std.specs.Prelude.{ℕ, ◌≡◌, ◌<◌, ◌≤◌, ◌==◌, true, false, List, [], ◌∷◌, ◌++◌, Some, None, if◌then◌else◌}
 use Rattle.std.specs.declared.option.Option.{Option}
 use mathlib.Core.Option as opt
@@ -52,7 +53,7 @@ front_of (e ∷ es) = e ∷ []
 abbrev pub after_first : Hand → Hand
 after_first v = record { entries = rest_of v.entries; takes = v.takes; taken = v.taken }
 
--- a hand with this entry alone
+-- a hand with only this entry
 abbrev pub first_alone : Hand → Hand
 first_alone v = record { entries = front_of v.entries; takes = false; taken = [] }
 
@@ -97,8 +98,8 @@ pub record HasTheTaken (views : List Hand) (pass : ℕ) : Type 0 where
   pub there : get_elem? views pass ≡ opt.some hand
   pub takes : hand.takes ≡ true
 
--- what was taken and what stands in the line are, of each client, the commands that it has sent, in
--- order; those past the last have sent nothing; of each other client one hand has the entry, one
+-- for each client, what was taken and what stands in the line are the commands that it has sent, in
+-- order; those past the last have sent nothing; one hand has the entry of each other client, one
 -- hand takes, and each hand knows its part
 pub record KeepsOrder (standing : List Request) (views : List Hand) : Type 0 where
   pub owner : ℕ → ℕ
@@ -113,7 +114,7 @@ pub record KeepsOrder (standing : List Request) (views : List Hand) : Type 0 whe
       (pass : ℕ) (v : Hand) → get_elem? views pass ≡ opt.some v
       → KnowsItsPart owner sent taker got pass v
 
--- of each client of the hand, what was taken and what stands in the line is what it has sent; and
+-- for each client of the hand, what was taken and what stands in the line is what it has sent; and
 -- nobody past the last sent
 pub record Delivers (v : Hand) (standing : List Request) : Type 0 where
   pub each :

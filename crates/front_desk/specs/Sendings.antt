@@ -1,4 +1,4 @@
--- What the clients of passes have sent.
+-- sent: what the clients of passes have sent.
 use Rattle.std.specs.Prelude.{ℕ, ◌+◌, ◌≡◌, List, [], ◌∷◌, Option}
 use Rattle.kv_store.specs.Commands.{Request}
 use Rattle.crossbeam_queue.specs.Passes.{Pass, view, IsPassOf}

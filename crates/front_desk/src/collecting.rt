@@ -22,10 +22,10 @@ use std::sync::Wait;
 use std::thread;
 use std::thread::Threads;
 
-/// The job, with its commands in the order in which they come where each client sends its own from
-/// a thread of its own, and one more takes them. `gate` is passed before each command, with its
-/// client and how many the client has sent. Where no thread can be made, the clients send one after
-/// another, and then the commands are taken.
+/// The job, with its commands in the order in which they arrive: each client sends its own from a
+/// thread of its own, and one more thread takes them. `gate` is passed before each command, with
+/// its client and how many the client has sent. If no thread can be made, the clients send one
+/// after another, and then the commands are taken.
 ///
 /// Takes all memory before the first command is sent, and may wait for the threads.
 ///
@@ -98,8 +98,8 @@ fn arrive<R: Threads + Wait + Sync, G: Gate + Sync>(
     arrived
 }
 
-/// All clients send, and one more branch takes as many commands as there are: where no thread can
-/// be made for it, it comes last, and finds all of them in the line.
+/// Lets all clients send; one more branch takes as many commands as there are. If no thread can be
+/// made for it, it comes last, and finds all of them in the line.
 fn pass_through<R: Threads + Wait + Sync, G: Gate + Sync>(
     rt: &R,
     line: &Line,

@@ -23,7 +23,7 @@ pub struct Hand {
     pub taken: LinkedList<Command>,
 }
 
-/// The rule: what was taken and what stands in the line is, of each client, what it has sent.
+/// The rule: for each client, what was taken and what stands in the line is what it has sent.
 pub struct InOrder;
 
 impl Protocol<Command, Hand> for InOrder {
@@ -83,5 +83,5 @@ impl Join<Hand> for Parts {
 /// The line of commands.
 pub type Line = RuledArrayQueue<Command, Hand, InOrder>;
 
-/// A thread's access to it.
+/// A thread's access to the line.
 pub type LinePass = Pass<Command, Hand>;

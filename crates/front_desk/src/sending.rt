@@ -63,7 +63,7 @@ fn send<R: Wait, G: Gate>(
     pass
 }
 
-/// Two clients send, each in a branch of its own.
+/// Lets two clients send, each in a branch of its own.
 fn send_two<R: Threads + Wait + Sync, G: Gate + Sync>(
     rt: &R,
     line: &Line,
@@ -95,7 +95,7 @@ fn send_two<R: Threads + Wait + Sync, G: Gate + Sync>(
     Pair { low, high }
 }
 
-/// All four clients send, each in a branch of its own.
+/// Lets all four clients send, each in a branch of its own.
 pub fn send_all<R: Threads + Wait + Sync, G: Gate + Sync>(
     rt: &R,
     line: &Line,

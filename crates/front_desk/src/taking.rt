@@ -8,7 +8,7 @@ use kv_store::Command;
 use std::sync::Wait;
 use std::thread;
 
-/// Takes so many commands, in the order in which they come, into a list that has room for them.
+/// Takes this many commands, in the order in which they come, into a list that has room for them.
 pub fn take_all<R: Wait>(
     rt: &R,
     line: &Line,

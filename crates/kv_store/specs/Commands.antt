@@ -1,10 +1,10 @@
--- Commands of clients.
+-- request, key of an operation: the commands of clients, and the key that an operation names.
 use Rattle.std.specs.Prelude.{ℕ, List, ◌≤◌, length, ⊤}
 use Rattle.kv_store.specs.declared.TheConstants.{LAST_CLIENT, LAST_NUMBER, CAS_TEXT_BYTES}
 use Rattle.kv_store.specs.declared.command.Op.{Op}
 use Rattle.kv_store.specs.declared.command.Op.TheVariants.{Put, Get, Del, Swap, Cas}
 
--- what a client asks for: the client, the number of the command among those of the client, and the
+-- what a client asks for: the client, the number of the command among those of this client, and the
 -- operation
 pub record Request : Type 0 where
   pub client : ℕ
@@ -19,7 +19,7 @@ key_of (Del key) = key
 key_of (Swap key text) = key
 key_of (Cas key old new) = key
 
--- both texts of a cas are short, so that they stand side by side where one text does
+-- both texts of a cas are short, so that they stand side by side in the place of one text
 abbrev pub HasShortTexts : Op → Type 0
 HasShortTexts (Put key text) = ⊤
 HasShortTexts (Get key) = ⊤

@@ -1,4 +1,4 @@
--- How a word stands in an array: from its start on, with zeros behind.
+-- padded: a word in an array: it stands from the start on, with zeros behind.
 use Rattle.std.specs.Prelude.{ℕ, ◌≡◌, ◌-◌, List, ◌++◌, length, take, replicate}
 use Rattle.kv_store.specs.Words.{IsWord}
 

@@ -1,4 +1,5 @@
--- Sessions: each client numbers its commands.
+-- in session (requests): each client's commands are numbered 1, 2, .. in order, and each comes
+-- once.
 use Rattle.std.specs.Prelude.{ℕ, ◌+◌, ◌≡◌, ◌==◌, List, [], ◌∷◌, if◌then◌else◌, ⊤}
 use Rattle.kv_store.specs.Commands.{Request}
 
@@ -14,6 +15,6 @@ abbrev pub CountsFrom : ℕ → List ℕ → Type 0
 CountsFrom first [] = ⊤
 CountsFrom first (number ∷ numbers) = (number ≡ first) × CountsFrom (first + 1) numbers
 
--- of each client, the numbers of the commands are 1, 2 and so on, in this order
+-- the commands of each client have the numbers 1, 2 and so on, in this order
 abbrev pub IsInSession : List Request → Type 0
 IsInSession commands = (client : ℕ) → CountsFrom 1 (numbers_of client commands)

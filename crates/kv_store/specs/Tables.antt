@@ -1,5 +1,5 @@
--- The store of the product: a table from keys to texts, what each operation answers, and what it
--- leaves.
+-- store, replies: the key-value store as a table from keys to texts: what each operation leaves and
+-- what it answers, and so what a list of commands does.
 use Rattle.std.specs.Prelude.{ℕ, refl, List, [], ◌∷◌, Bool, false, if◌then◌else◌, None, Some}
 use Rattle.std.specs.declared.option.Option.{Option}
 use Rattle.std.specs.Str.{bytes_eq}
@@ -14,7 +14,7 @@ use Rattle.kv_store.specs.declared.command.Op.TheVariants.{Put, Get, Del, Swap, 
 use Rattle.kv_store.specs.declared.store.Reply.{Reply}
 use Rattle.kv_store.specs.declared.store.Reply.TheVariants as reply
 
--- from keys to texts
+-- a table from keys to texts
 abbrev pub Table : Type 0
 Table = FinMap (slice_cmp nat_cmp) (List ℕ)
 
@@ -22,12 +22,12 @@ Table = FinMap (slice_cmp nat_cmp) (List ℕ)
 abbrev pub empty_table : Table
 empty_table = map.empty
 
--- the reply to get and to swap, where the key had this
+-- the reply to get and to swap, if the key had this
 abbrev pub had : Option (List ℕ) → Reply
 had None = reply.None
 had (Some text) = reply.Value text
 
--- the reply to del, where the key had this
+-- the reply to del, if the key had this
 abbrev pub removed : Option (List ℕ) → Reply
 removed None = reply.None
 removed (Some text) = reply.Done
@@ -37,7 +37,7 @@ abbrev pub holds : Option (List ℕ) → List ℕ → Bool
 holds None old = false
 holds (Some text) old = bytes_eq text old
 
--- the reply to cas, where the key had this
+-- the reply to cas, if the key had this
 abbrev pub compared : Option (List ℕ) → List ℕ → Reply
 compared None old = reply.None
 compared (Some text) old = if bytes_eq text old then reply.Done else reply.Kept text

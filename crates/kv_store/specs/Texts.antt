@@ -1,4 +1,4 @@
--- The map of the store, seen as a table.
+-- table of the map: the map of the store, seen as a table.
 use Rattle.std.specs.Prelude.{ℕ, List}
 use Rattle.std.specs.FinMap as map
 use Rattle.indexmap.specs.IndexMap.{IndexMap}

@@ -1,4 +1,4 @@
--- Keys and texts: short words of visible bytes.
+-- key, text: keys and texts: short words of visible bytes.
 use Rattle.std.specs.Prelude.{ℕ, ◌≤◌, List, length, All}
 use Rattle.kv_store.specs.declared.TheConstants.{KEY_BYTES, TEXT_BYTES, FIRST_BYTE, LAST_BYTE}
 

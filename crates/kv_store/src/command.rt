@@ -16,7 +16,7 @@ pub enum Op {
     Del(Key),
     /// Sets a text, and answers the one before.
     Swap(Key, Text),
-    /// Sets the second text where the key has the first.
+    /// Sets the second text if the key has the first.
     Cas(Key, Text, Text),
 }
 
@@ -48,8 +48,8 @@ impl Model for Command {
 }
 
 impl Command {
-    /// The command. `None` where the client is above 15, the number is 0 or above 1,500, or a text
-    /// of a `Cas` is longer than 32 bytes.
+    /// The command with these parts. `None` if the client is above 15, the number is 0 or above
+    /// 1,500, or a text of a `Cas` is longer than 32 bytes.
     pub fn new(client: u8, number: u16, op: Op) -> Option<Command>
         ensures allowed { IsSome result ↔ IsAllowed client number op }
         ensures same { IfSome result

@@ -32,7 +32,7 @@ impl Model for Key {
 }
 
 impl Key {
-    /// The key of these bytes. `None` where they are no 1 to 24 bytes from 33 to 126.
+    /// The key with these bytes. `None` if they aren't 1 to 24 bytes from 33 to 126.
     pub fn new(bytes: &[u8]) -> Option<Key>
         ensures allowed { IsSome result ↔ IsKey bytes.now }
         ensures same { IfSome result (λ key. key ≡ bytes.now) }

@@ -35,7 +35,7 @@ pub const LAST_CLIENT: u8 = 15;
 /// The greatest number of a command of a client. The least is 1.
 pub const LAST_NUMBER: u16 = 1500;
 
-/// Each limit is this number.
+/// Each limit is the number that is stated here.
 pub fn limits_are_stated()
     ensures words { (KEY_BYTES ≡ 24) × (TEXT_BYTES ≡ 64) × (CAS_TEXT_BYTES ≡ 32) }
     ensures bytes { (FIRST_BYTE ≡ 33) × (LAST_BYTE ≡ 126) }

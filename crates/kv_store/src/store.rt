@@ -48,7 +48,7 @@ impl Model for Store {
 }
 
 impl Store {
-    /// The empty store, with room for so many commands. An `Err` is for want of memory.
+    /// The empty store, with room for this many commands. An `Err` comes only for want of memory.
     pub fn with_room(alloc: Global, commands: usize) -> Result<Store, NoMemory>
         ensures empty { IfOk result (λ store. store.table ≡ empty_table) }
         ensures room { IfOk result (λ store. commands ≤ store.room) }
@@ -85,7 +85,7 @@ impl Store {
     }
 }
 
-/// What a get or a swap answers, where the key had this.
+/// The reply to a get or a swap, if the key had this.
 fn found(before: Option<Text>) -> Reply
     ensures { result ≡ had before }
 {
@@ -123,7 +123,7 @@ fn forget(texts: &mut Texts, key: &Key) -> Reply
     }
 }
 
-/// Sets a text where the key has the old one.
+/// Sets a text if the key has the old one.
 fn compare_and_set(texts: &mut Texts, key: &Key, old: Text, new: Text) -> Reply
     ensures reply { result ≡ compared (map.get (table_of texts.old) key.now) old }
     ensures table { table_of texts.new ≡ table_after (table_of texts.old) (Op.Cas key.now old new) }

@@ -31,7 +31,7 @@ impl Model for Text {
 }
 
 impl Text {
-    /// The text of these bytes. `None` where they are no 1 to 64 bytes from 33 to 126.
+    /// The text with these bytes. `None` if they aren't 1 to 64 bytes from 33 to 126.
     pub fn new(bytes: &[u8]) -> Option<Text>
         ensures allowed { IsSome result ↔ IsText bytes.now }
         ensures same { IfSome result (λ text. text ≡ bytes.now) }

@@ -30,7 +30,8 @@ impl Model for ListFabric {
 impl ListFabric {
     ghost use Rattle.mu_model.specs.Contents.{IsConfig};
 
-    /// No event yet. Takes memory for the budgets of all replicas and for the regions.
+    /// A fabric with no event yet. Takes memory for the budgets of all replicas and for the
+    /// regions.
     pub fn start(alloc: Global, config: &Config) -> Result<ListFabric, NoMemory>
         requires { IsConfig config.now }
         ensures config { IfOk result (λ f. f.config ≡ config.now) }

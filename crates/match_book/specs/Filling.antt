@@ -1,5 +1,5 @@
--- How an order is filled from the front of a list of orders in the stated arrangement (private
--- contracts).
+-- filled, rested: what an order gives that is filled from a list in order (only for private
+-- contracts of `match_book`).
 use Rattle.std.specs.Prelude.{ℕ, ◌-◌, ◌==◌, ◌&&◌, ◌++◌, Bool, not, filter, if◌then◌else◌, List, [], ◌∷◌, nat_lt}
 use Rattle.std.specs.Ordering.{is_lt, nat_cmp, ordering_then}
 use Rattle.std.specs.Cmp.Lexicographic.{slice_cmp}
@@ -32,7 +32,7 @@ pub record Filled : Type 0 where
 abbrev pub led_by : Trade → Filled → Filled
 led_by trade rest = record { trades = trade ∷ rest.trades; left = rest.left; queue = rest.queue }
 
--- an order of which so much is left trades with those at the front that it crosses
+-- an order with `left` left trades with those at the front that it crosses
 abbrev pub filled : ℕ → Resting → ℕ → List Resting → Filled
 filled index order left [] = record { trades = []; left = left; queue = [] }
 filled index order left (best ∷ queue) =
@@ -47,7 +47,7 @@ filled index order left (best ∷ queue) =
     (filled index order (left - best.left) queue))
     else record { trades = []; left = left; queue = best ∷ queue }
 
--- orders in the stated arrangement with what is left of one more, where something is
+-- orders in the stated arrangement with what is left of one more, if something is
 abbrev pub rested : Resting → ℕ → List Resting → List Resting
 rested order left orders =
     if left == 0 then orders

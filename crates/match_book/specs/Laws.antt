@@ -1,4 +1,5 @@
--- Laws of ledgers.
+-- laws of ledgers: commands lead to only one ledger; no buy is at or above a sell of its symbol;
+-- quantities add up.
 use Rattle.std.specs.Prelude.{ℕ, ◌≡◌, ◌+◌, ◌<◌, ◌&&◌, Bool, not, filter, List, if◌then◌else◌, Contains, sum_by, None, Some}
 use Rattle.std.specs.declared.option.Option.{Option}
 use Rattle.std.specs.List.Sorted.{IsPermutation}
@@ -15,7 +16,7 @@ use Rattle.match_book.specs.Ledgers.{HaveDifferentIds, IsLedgerOf, Ledger, id_of
 use Rattle.match_book.specs.Orders.{instruction_of}
 use Rattle.match_book.specs.Places.{IsInOrder, arranged, goes_first, is_same}
 
--- of one symbol, side and price
+-- the two orders are of one symbol, side and price
 abbrev pub stands_with : Resting → Resting → Bool
 stands_with one another = not (goes_first one another) && not (goes_first another one)
 
@@ -30,7 +31,7 @@ pub record IsArrangement (book arranged : List Resting) : Type 0 where
 abbrev pub BooksAreArranged : Type 0
 BooksAreArranged = (book : List Resting) → IsArrangement book (arranged book)
 
--- commands lead to one ledger alone
+-- commands lead to only one ledger
 abbrev pub IsDetermined : Type 0
 IsDetermined =
     (commands : List Request) (one another : Ledger) → IsLedgerOf commands one
@@ -40,7 +41,7 @@ IsDetermined =
 abbrev pub SessionsDiffer : Type 0
 SessionsDiffer = (commands : List Request) → IsInSession commands → HaveDifferentIds commands
 
--- each price at which a symbol is to be bought is below each at which it is to be sold
+-- each price at which a symbol is to be bought is below each price at which it is to be sold
 abbrev pub IsUncrossed : Type 0
 IsUncrossed =
     (commands : List Request) (ledger : Ledger) → HaveDifferentIds commands
@@ -58,19 +59,19 @@ abbrev pub quantity_of_op : Op → ℕ
 quantity_of_op (Put symbol text) = quantity_placed (instruction_of text)
 quantity_of_op _ = 0
 
--- the quantity of the order of this id, 0 where the command placed none
+-- the quantity of the order of this id, 0 if the command placed none
 abbrev pub quantity_of : Id → List Request → ℕ
 quantity_of id commands =
     sum_by
     (λ (command : Request). if is_same id (id_of command) then quantity_of_op command.op else 0)
     commands
 
--- what is left of the order of this id, 0 where it isn't there
+-- what is left of the order of this id, 0 if it isn't there
 abbrev pub left_of : Id → List Resting → ℕ
 left_of id orders =
     sum_by (λ (order : Resting). if is_same id order.id then order.left else 0) orders
 
--- of each order, the quantity is what it traded, what is left in the book, and what was cancelled
+-- the quantity of each order is what it traded, what is left in the book, and what was cancelled
 abbrev pub AddsUp : Type 0
 AddsUp =
     (commands : List Request) (ledger : Ledger) → HaveDifferentIds commands

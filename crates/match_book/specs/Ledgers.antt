@@ -1,5 +1,5 @@
--- Ledgers: the book as a list of resting orders in order of arrival, the trades and the cancels;
--- and how a command changes them.
+-- ledger, step of a command: the resting orders in order of arrival, all trades and all cancels;
+-- how a command changes them; and an order's trades, as a relation.
 use Rattle.std.specs.Prelude.{ℕ, ◌≡◌, ◌⊎◌, ◌+◌, ◌-◌, ◌<◌, ◌≤◌, ◌==◌, Bool, not, if◌then◌else◌, ◌&&◌, ◌||◌, List, [], ◌∷◌, ◌++◌, length, map, sum, sum_by, count_by, filter, filter_map, slice_index, slice_index_or, None, Some}
 use Rattle.std.specs.declared.option.Option.{Option}
 use Rattle.std.specs.Str.{bytes_eq}
@@ -27,7 +27,7 @@ pub record Ledger : Type 0 where
   -- the orders that cancels took from the book, with what was left of them
   pub cancelled : List Resting
 
--- before any command
+-- the ledger before any command
 abbrev pub empty_ledger : Ledger
 empty_ledger = record { applied = 0; book = []; trades = []; cancelled = [] }
 
@@ -40,13 +40,13 @@ abbrev pub traded : Id → List Trade → ℕ
 traded id trades =
     sum_by (λ (trade : Trade). if takes_part id trade then trade.quantity else 0) trades
 
--- the same order with so much left
+-- the same order with this much left
 abbrev pub leaving : Resting → ℕ → Resting
 leaving order left =
     record
     { id = order.id; symbol = order.symbol; side = order.side; price = order.price; left = left }
 
--- the order with so much left, where that is something
+-- the order with this much left, if that is something
 abbrev pub with_left : Resting → ℕ → Option Resting
 with_left order left = if left == 0 then None else Some (leaving order left)
 
@@ -55,7 +55,7 @@ with_left order left = if left == 0 then None else Some (leaving order left)
 abbrev pub remaining : List Trade → Resting → Option Resting
 remaining trades order = with_left order (order.left - traded order.id trades)
 
--- which of two orders buys, where the first is of this side
+-- which of two orders buys, if the first is of this side
 abbrev pub buyer : Side → Id → Id → Id
 buyer Buy one another = one
 buyer Sell one another = another
@@ -86,7 +86,7 @@ queue_for order book = filter (crosses order) (arranged book)
 pub record AreTraded (quantity : ℕ) (queue : List Resting) (quantities : List ℕ) : Type 0 where
   -- one for each of the first orders
   pub few : length quantities ≤ length queue
-  -- each but the last trades the whole of what is left there
+  -- each but the last trades all that is left there
   pub whole :
       (k : ℕ) (d : Resting) → k + 1 < length quantities
       → slice_index quantities k ≡ (slice_index_or queue k d).left

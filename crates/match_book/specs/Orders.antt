@@ -1,4 +1,4 @@
--- What the text of a put asks of the book.
+-- instruction: what the text of a put asks of the book: an order, a cancel, or nothing.
 use Rattle.std.specs.Prelude.{ℕ, ◌+◌, ◌==◌, if◌then◌else◌, List, [], ◌∷◌, take, drop, position, None, Some}
 use Rattle.std.specs.declared.option.Option.{Option}
 use Rattle.kv_store.specs.declared.TheConstants.{LAST_NUMBER}
@@ -13,12 +13,12 @@ use Rattle.match_book.specs.declared.order.Side.TheVariants.{Buy, Sell}
 abbrev pub amount_of : List ℕ → Option ℕ
 amount_of word = within 1 MOST_AMOUNT (of_32 word)
 
--- an order, where its price and its quantity are amounts
+-- an order, if its price and its quantity are amounts
 abbrev pub order_for : Side → Option ℕ → Option ℕ → Option Instruction
 order_for side (Some price) (Some quantity) = Some (Order side price quantity)
 order_for side _ _ = None
 
--- the order whose price stands before the first `x`, and whose quantity stands after it
+-- the order with its price before the first `x`, and its quantity after it
 abbrev pub order_split : Side → List ℕ → Option ℕ → Option Instruction
 order_split side terms None = None
 order_split side terms (Some at) =
@@ -27,7 +27,7 @@ order_split side terms (Some at) =
 abbrev pub order_of : Side → List ℕ → Option Instruction
 order_of side terms = order_split side terms (position (λ byte. byte == TIMES) terms)
 
--- a cancel, where there is a number
+-- a cancel, if there is a number
 abbrev pub cancel_for : Option ℕ → Option Instruction
 cancel_for None = None
 cancel_for (Some number) = Some (Cancel number)

@@ -1,4 +1,8 @@
--- How the resting orders are placed, which of them an order crosses, and the stated arrangement.
+-- placing, arranged, in order: by the bytes of the symbol; buys before sells; the better price;
+-- then the earlier arrival.
+--
+-- crosses: the order and a resting one are of one symbol and of opposite sides, and the buy price
+-- is at least the sell price.
 use Rattle.std.specs.Prelude.{ℕ, ◌≡◌, ◌==◌, ⊤, Bool, false, true, not, ◌&&◌, List, [], ◌∷◌, ◌++◌, filter, nat_le}
 use Rattle.std.specs.declared.cmp.Ordering.{Ordering}
 use Rattle.std.specs.declared.cmp.Ordering.TheVariants.{Less, Equal, Greater}
@@ -34,7 +38,7 @@ side_placing Buy Sell = Less
 side_placing Sell Buy = Greater
 side_placing Sell Sell = Equal
 
--- of one side the better price comes first: the higher one of buys, the lower one of sells
+-- on one side the better price comes first: the higher one of buys, the lower one of sells
 abbrev pub price_placing : Side → ℕ → ℕ → Ordering
 price_placing Buy price another = nat_cmp another price
 price_placing Sell price another = nat_cmp price another
@@ -70,8 +74,8 @@ abbrev pub meet : Side → ℕ → ℕ → Bool
 meet Buy buy sell = nat_le sell buy
 meet Sell sell buy = nat_le sell buy
 
--- the order crosses a resting one: of its symbol and of the other side, where the buy price is at
--- least the sell price
+-- the order crosses a resting one: it has the same symbol and the other side, and the buy price is
+-- at least the sell price
 abbrev pub crosses : Resting → Resting → Bool
 crosses order resting =
     (bytes_eq resting.symbol order.symbol && is_equal_side resting.side (other order.side))

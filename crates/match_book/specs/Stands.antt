@@ -1,4 +1,4 @@
--- When a book stands for commands.
+-- stands for (book): the book holds what the commands lead to, in the stated arrangement.
 use Rattle.std.specs.Prelude.{ℕ, ◌≡◌, List}
 use Rattle.kv_store.specs.Commands.{Request}
 use Rattle.match_book.specs.declared.order.Resting.{Resting}

@@ -43,8 +43,8 @@ impl Model for Book {
 }
 
 impl Book {
-    /// The empty book, with room for so many orders and twice as many trades. An `Err` is for want
-    /// of memory.
+    /// The empty book, with room for this many commands and twice as many trades. An `Err` comes
+    /// only for want of memory.
     pub fn with_room(alloc: Global, commands: usize) -> Result<Book, NoMemory>
         requires { commands ≤ 65535 }
         ensures empty { IfOk result (λ book. StandsFor [] book) }

@@ -10,13 +10,13 @@ use mu_text::{limited, of_32};
 /// What a client asks of the book.
 #[derive(Clone, Copy, PartialEq, Eq, Debug)]
 pub(crate) enum Instruction {
-    /// To trade on a side, at a price, a quantity.
+    /// To trade: the side, the price and the quantity.
     Order(Side, u32, u32),
-    /// To cancel what is left of the order that the own command of this number placed.
+    /// To cancel what is left of the order that the client's own command of this number placed.
     Cancel(u16),
 }
 
-/// What a text asks for. `None` where it is no order and no cancel.
+/// What a text asks for. `None` if it is no order and no cancel.
 pub(crate) fn read(text: &[u8]) -> Option<Instruction>
     ensures { result ≡ instruction_of text.now }
 {
@@ -39,14 +39,14 @@ fn order(side: Side, terms: &[u8]) -> Option<Instruction>
     }
 }
 
-/// Where the first `x` stands, if there is one.
+/// The place of the first `x`, if there is one.
 fn times_at(terms: &[u8]) -> Option<usize>
     ensures { result ≡ position (λ byte. byte == TIMES) terms.now }
 {
     terms.iter().position(|&byte| byte == TIMES)
 }
 
-/// The order, where both its price and its quantity are amounts.
+/// The order, if both its price and its quantity are amounts.
 fn order_for(side: Side, price: Option<u32>, quantity: Option<u32>) -> Option<Instruction>
     ensures { result ≡ order_for side price quantity }
 {

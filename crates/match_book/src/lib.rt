@@ -30,7 +30,7 @@ pub const CANCEL: u8 = b'C';
 /// The byte between a price and a quantity.
 pub const TIMES: u8 = b'x';
 
-/// The limit and each letter is this number; a letter is its ASCII code.
+/// The limit and each letter are the numbers that are stated here; a letter is its ASCII code.
 pub fn limits_are_stated()
     ensures amount { MOST_AMOUNT ≡ 999999999 }
     ensures sides { (BUY ≡ 66) × (SELL ≡ 83) }
@@ -44,7 +44,7 @@ pub fn books_are_arranged()
     ensures { BooksAreArranged }
 {}
 
-/// Commands lead to one ledger alone.
+/// Commands lead to only one ledger.
 pub fn ledgers_are_determined()
     ensures { IsDetermined }
 {}

@@ -74,7 +74,7 @@ fn place_of(orders: &[Resting], id: Id, symbol: &Key) -> Option<usize>
     orders.iter().position(|order| is_named(id, symbol, order))
 }
 
-/// Where the orders of a symbol and side begin.
+/// The place at which the orders of a symbol and side begin.
 fn first_of(resting: &[Resting], symbol: &Key, side: Side) -> usize
     ensures bound { result ≤ length resting.now }
     ensures front { IsInOrder resting.now
@@ -148,7 +148,7 @@ fn trade_with(index: u16, order: &Resting, resting: &Resting, quantity: u32) -> 
     }
 }
 
-/// Takes so many orders from `start` on out of the book.
+/// Takes `count` orders from `start` on out of the book.
 fn forget(resting: &mut Vec<Resting>, start: usize, count: usize)
     requires { start + count ≤ vec_len resting.old }
     ensures items { resting.new.items ≡ take start resting.old.items

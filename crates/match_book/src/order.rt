@@ -69,7 +69,7 @@ impl Side {
     }
 }
 
-/// How two sides follow on one another: buys come first.
+/// How two sides follow each other: buys come first.
 fn side_placing(side: Side, other: Side) -> Ordering
     ensures { result ≡ side_placing side other }
 {
@@ -80,7 +80,7 @@ fn side_placing(side: Side, other: Side) -> Ordering
     }
 }
 
-/// How two orders follow on one another in the book, whichever arrived earlier: by the bytes of the
+/// How two orders follow each other in the book, whichever arrived earlier: by the bytes of the
 /// symbol, then buys before sells, then the better price.
 pub(crate) fn placing(one: &Resting, another: &Resting) -> Ordering
     ensures { result ≡ placing one.now another.now }
@@ -108,8 +108,8 @@ pub(crate) fn is_ahead(symbol: &Key, side: Side, order: &Resting) -> bool
         .is_lt()
 }
 
-/// Whether an order crosses a resting one: of its symbol and the other side, with the buy price at
-/// least the sell price.
+/// Whether an order crosses a resting one: it has the same symbol and the other side, and the buy
+/// price is at least the sell price.
 pub(crate) fn crosses(order: &Resting, resting: &Resting) -> bool
     ensures { result ≡ crosses order.now resting.now }
 {

@@ -1,4 +1,4 @@
--- Where a look showed an entry the log has one for good.
+-- If a look showed an entry, the log has one for good.
 use Rattle.std.proofs.Common.{◌≡◌, ℕ, ◌+◌, ◌<◌, Bool, true, false, ◌==◌, ◌&&◌, List, ◌∷◌, length, refl, sym, ◌∙◌, ap, arith, Some, None, subst, eqb-true, true≢false, inl, inr}
 use Rattle.std.specs.declared.option.Option.{Option}
 use Rattle.std.specs.Prelude.{nat_lt, if◌then◌else◌}

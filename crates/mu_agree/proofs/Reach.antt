@@ -1,4 +1,4 @@
--- While r owns a region, its log grows by r's own puts alone.
+-- While r owns a region, the log of the region grows only by r's own puts.
 use Rattle.std.proofs.Common.{◌≡◌, ◌∙◌, ℕ, ◌+◌, ◌<◌, ◌≤◌, max, Bool, true, false, cond, ◌&&◌, ◌==◌, List, [], ◌∷◌, length, refl, ap, arith, Some, None, subst, eqb-true}
 use Rattle.std.specs.Prelude.{min}
 use Rattle.std.specs.declared.option.Option.{Option}

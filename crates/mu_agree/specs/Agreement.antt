@@ -1,4 +1,5 @@
--- The laws of agreement.
+-- agreement: at most one value is chosen for each position; known lists are prefixes of one
+-- another; FUOs and looks keep what they promise.
 use Rattle.std.specs.Prelude.{Bool, List, None, Some, [], if◌then◌else◌, length, max, min, true, ℕ, ◌&&◌, ◌++◌, ◌+◌, ◌<◌, ◌==◌, ◌∷◌, ◌≡◌, ◌≢◌, ◌≤◌, ◌⊎◌}
 use Rattle.std.specs.declared.option.Option.{Option}
 use Rattle.std.specs.List.{slice_get}
@@ -82,7 +83,7 @@ HeadWithinFuo =
     (c : Config) (events : List Event) (r : ℕ) → IsLegal c events
     → region_head r (history events) ≤ region_fuo r (history events)
 
--- a look by r at a position that it still has to read is `Past` only where a mark of r is chosen
+-- a look by r at a position that it still has to read is `Past` only if a mark of r is chosen
 abbrev pub LooksAreKept : Type 0
 LooksAreKept =
     (c : Config) (earlier later : List Event) (e : Event) (p i : ℕ)
@@ -104,12 +105,12 @@ LogWithinFuo =
     (c : Config) (events : List Event) (p : ℕ) → IsLegal c events → p < c.replicas
     → length (region_log p (history events)) ≤ region_fuo p (history events) + c.ring
 
--- the answer, where the test holds
+-- the answer, if the test holds
 abbrev pub kept_if : Bool → Option ℕ → Option ℕ
 kept_if t None = None
 kept_if t (Some x) = if t then Some x else None
 
--- the lesser of two offsets, where there are any
+-- the lesser of two offsets, if there are any
 abbrev pub lesser_or : Option ℕ → Option ℕ → Option ℕ
 lesser_or None rest = rest
 lesser_or (Some x) None = Some x
@@ -130,7 +131,7 @@ end_put r p by (Verb.PutSlot q j b v) Answer.Done =
     if (by == r) && (q == p) then Some (j + 1) else None
 end_put r p by _ _ = None
 
--- one more than the greatest position at p where a put of r landed
+-- one more than the greatest position of p at which a put of r landed
 abbrev pub put_end : ℕ → ℕ → List Event → ℕ
 put_end r p past = greatest (λ e. end_put r p e.by e.verb e.answer) past
 

@@ -1,4 +1,5 @@
--- What holds of the journal of one replica.
+-- journals: a beginning of a diligent journal is diligent, and a journal obeys its script only
+-- once.
 use Rattle.std.specs.Prelude.{List, [], ℕ, ◌++◌, ◌≡◌}
 use Rattle.mu_model.specs.declared.config.Config.{Config}
 use Rattle.mu_model.specs.declared.event.Event.{Event}

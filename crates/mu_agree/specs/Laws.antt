@@ -1,4 +1,5 @@
--- What holds of the writers of every legal list of events.
+-- writers: in each legal list, proposal numbers differ, only owners put, a put that missed shuts
+-- its writer out, and the numbers of minima and slots rise.
 use Rattle.std.specs.Prelude.{Bool, List, Some, false, true, ℕ, ◌++◌, ◌<◌, ◌==◌, ◌∷◌, ◌≡◌, ◌≤◌, ◌⊎◌}
 use Rattle.std.specs.List.{slice_get}
 use Rattle.mu_model.specs.declared.config.Config.{Config}

@@ -1,4 +1,5 @@
--- The paces as a machine keeps them: at each moment few events came since the last that counts.
+-- recent, spaced: the paces at each moment, as a machine keeps them: few events came since the last
+-- that counts. They give the paces by stretches.
 use Rattle.std.specs.Prelude.{Bool, List, [], if◌then◌else◌, length, not, true, ℕ, ◌&&◌, ◌*◌, ◌+◌, ◌<◌, ◌||◌, ◌∷◌, ◌≡◌, ◌≢◌, ◌≤◌}
 use Rattle.mu_model.specs.declared.config.Config.{Config}
 use Rattle.mu_model.specs.declared.event.Event.{Event}
@@ -19,7 +20,8 @@ pub record ReadsRecently (c : Config) (r : ℕ) (past : List Event) : Type 0 whe
   pub beats : (q : ℕ) → q < c.replicas → q ≢ r → IsRecent (is_beat_read q) (cycle c) past
   pub asks : (w : ℕ) → w < c.replicas → IsRecent (is_ask_read w) (cycle c) past
 
--- before each event that passes at least k came since the last that passes, where there is one
+-- before each event that passes, at least k events came since the last one that passes, if there is
+-- one
 abbrev pub IsSpaced : (Event → Bool) → ℕ → List Event → Type 0
 IsSpaced test k [] = Unit {0}
 IsSpaced test k (e ∷ past) =
@@ -50,13 +52,14 @@ pub record AsksRecently (c : Config) (r : ℕ) (past : List Event) : Type 0 wher
       (p : ℕ) → p < c.replicas
       → IsRecentStep (asks_or_rests c r (is_fencing p)) (17 * c.replicas + 1) past
 
--- who reads recently at each moment, and no beat twice in a round, reads in time in each stretch
+-- a replica that has read recently at each moment, and no beat twice in a round, reads in time in
+-- each stretch
 abbrev pub RecentReadsAreInTime : Type 0
 RecentReadsAreInTime =
     (c : Config) (r : ℕ) (past : List Event) → ReadsRecently c r past
     → ((q : ℕ) → IsSpaced (is_beat_read q) (4 * c.replicas + 43) past) → ReadsInTime c r past
 
--- who asks recently at each moment asks in time in each stretch
+-- a replica that has asked recently at each moment asks in time in each stretch
 abbrev pub RecentAsksAreInTime : Type 0
 RecentAsksAreInTime =
     (c : Config) (r : ℕ) (past : List Event) → AsksRecently c r past → AsksInTime c r past

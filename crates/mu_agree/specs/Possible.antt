@@ -1,5 +1,4 @@
--- What every possible part of one replica has: the laws as a machine needs them, which sees its own
--- events alone.
+-- laws of parts: the laws of agreement as one replica needs them, by its own events only.
 use Rattle.std.specs.Prelude.{List, None, Some, [], false, if◌then◌else◌, length, true, ℕ, ◌%◌, ◌++◌, ◌+◌, ◌<◌, ◌∷◌, ◌≡◌, ◌≢◌, ◌≤◌, ◌⊎◌}
 use Rattle.std.specs.List.{slice_get}
 use Rattle.std.specs.declared.option.Option.{Option}
@@ -66,13 +65,13 @@ PartsFind =
     (c : Config) (r p i : ℕ) (mine : List Event) (e : Event) → IsPossible c r (e ∷ mine)
     → e.verb ≡ Verb.Look p i → i < greatest_fuo_read r p mine → e.answer ≢ Answer.Empty
 
--- a look at what isn't known is `Past` in version 2 alone
+-- in version 2 only, a look at what isn't known is `Past`
 abbrev pub PartsKeep : Type 0
 PartsKeep =
     (c : Config) (r p i : ℕ) (mine : List Event) (e : Event) → IsPossible c r (e ∷ mine)
     → e.verb ≡ Verb.Look p i → length (known c r mine) ≤ i → e.answer ≡ Answer.Past → c.version ≡ 2
 
--- after a `Past` look at what r still has to bring to p each fence of p shows another grant
+-- after a `Past` look at what r still has to bring to p, each fence of p shows another grant
 abbrev pub PartsMove : Type 0
 PartsMove =
     (c : Config) (r p j g u : ℕ) (mine between : List Event) (e f : Event) (x : Fence)
@@ -82,7 +81,7 @@ PartsMove =
     → put_end r p (leadership r mine) ≤ j + c.ring
     → f.verb ≡ Verb.Fence p → f.answer ≡ Answer.Seen x → x.grant ≢ g
 
--- while some command isn't known there is a position for it
+-- while some command isn't known, there is a position for it
 abbrev pub PartsFit : Type 0
 PartsFit =
     (c : Config) (r : ℕ) (mine : List Event) → IsConfig c → IsPossible c r mine
@@ -129,7 +128,7 @@ entered_under r p [] = None
 entered_under r p (e ∷ past) =
     if is_enter_of r p e then noted_grant r p past else entered_under r p past
 
--- after a put that missed each fence of the region is closing, or shows a later grant than the one
+-- after a put that missed, each fence of the region is closing, or shows a later grant than the one
 -- under which r entered
 abbrev pub PartsShowMisses : Type 0
 PartsShowMisses =
@@ -138,7 +137,7 @@ PartsShowMisses =
     → entered_under r p mine ≡ Some g
     → f.verb ≡ Verb.Fence p → f.answer ≡ Answer.Seen x → (x.closing ≡ true) ⊎ (g < x.grant)
 
--- at and below a position that showed an entry no look of a possible part is empty
+-- at and below a position that showed an entry, no look of a possible part is empty
 abbrev pub PartsStayFilled : Type 0
 PartsStayFilled =
     (c : Config) (r p i j : ℕ) (mine : List Event) (e : Event) → IsPossible c r (e ∷ mine)

@@ -1,4 +1,5 @@
--- What the entries of a legal list are.
+-- sessions: known entries stand for batches and marks, in session, with rows written first and read
+-- right, each mark once.
 use Rattle.std.specs.Prelude.{List, Some, true, ℕ, ◌%◌, ◌++◌, ◌+◌, ◌/◌, ◌<◌, ◌∷◌, ◌≡◌, ◌≤◌}
 use Rattle.std.specs.List.{slice_get}
 use Rattle.mu_model.specs.declared.config.Config.{Config}

@@ -1,4 +1,5 @@
-//! The laws of agreement: what holds of every legal list of events, and of every possible part.
+//! The laws of agreement: what holds of every legal list of events, and of every possible part. A
+//! part is the events of one replica in a list, and it is possible if some legal list has it.
 #![tactic(auto)]
 
 ghost use Rattle.mu_agree.specs.Agreement.{AtMostOneChosen, FuoIsChosen, FuoIsKept, HeadWithinFuo, KnownAgree, KnownIsChosen, LogWithinFuo, LogWithinReach, LooksAreKept, MarksHaveCause, PlacesAreKept};
@@ -64,7 +65,7 @@ pub fn head_within_fuo()
     ensures { HeadWithinFuo }
 {}
 
-/// A look at what a replica still has to read is past only where it is marked.
+/// A look at what a replica still has to read is past only if it is marked.
 pub fn looks_are_kept()
     ensures { LooksAreKept }
 {}
@@ -129,7 +130,7 @@ pub fn parts_mark_once()
     ensures { PartsMarkOnce }
 {}
 
-/// A possible part reads the rows of what it knows right.
+/// A possible part reads the rows of what it knows correctly.
 pub fn parts_read_right()
     ensures { PartsReadRight }
 {}
@@ -149,8 +150,8 @@ pub fn log_within_fuo()
     ensures { LogWithinFuo }
 {}
 
-/// While a replica owns a region, its log reaches no further than the ring beyond the least FUO that
-/// it read, or its own puts.
+/// While a replica owns a region, its log reaches no further than the ring beyond the least FUO
+/// that it read, or its own puts.
 pub fn log_within_reach()
     ensures { LogWithinReach }
 {}
@@ -190,17 +191,17 @@ pub fn parts_stay_past()
     ensures { PartsStayPast }
 {}
 
-/// Where a possible part saw an entry it sees no empty place again.
+/// If a possible part saw an entry, it sees no empty place at or below its position again.
 pub fn parts_stay_filled()
     ensures { PartsStayFilled }
 {}
 
-/// While a possible part doesn't know some command some client has a next batch.
+/// While a possible part doesn't know some command, some client has a next batch.
 pub fn parts_have_next()
     ensures { PartsHaveNext }
 {}
 
-/// After a put that missed each fence of its region shows that it closed or was granted on.
+/// After a put that missed, each fence of its region shows that it closed or was granted on.
 pub fn parts_show_misses()
     ensures { PartsShowMisses }
 {}
@@ -215,12 +216,12 @@ pub fn obeys_once()
     ensures { ObeysOnce }
 {}
 
-/// Who reads recently at each moment reads in time in each stretch.
+/// A replica that has read recently at each moment reads in time in each stretch.
 pub fn recent_reads_are_in_time()
     ensures { RecentReadsAreInTime }
 {}
 
-/// Who asks recently at each moment asks in time in each stretch.
+/// A replica that has asked recently at each moment asks in time in each stretch.
 pub fn recent_asks_are_in_time()
     ensures { RecentAsksAreInTime }
 {}

@@ -1,7 +1,7 @@
 -- The leaderships of a replica that asks alone never end.
-use Rattle.std.proofs.Common.{◌≡◌, ◌≢◌, ℕ, zero, suc, ◌+◌, ◌%◌, ◌<◌, ◌≤◌, ◌⊎◌, inl, inr, Bool, true, false, cond, ◌&&◌, ◌||◌, not, ◌==◌, List, [], ◌∷◌, refl, sym, ◌∙◌, ap, arith, Some, None, subst, eqb-true, true≢false}
+use Rattle.std.proofs.Common.{◌≡◌, ◌≢◌, ℕ, zero, suc, ◌+◌, ◌%◌, ◌≤◌, ◌⊎◌, inl, inr, Bool, true, false, cond, ◌&&◌, ◌||◌, not, ◌==◌, List, [], ◌∷◌, refl, sym, ◌∙◌, ap, arith, Some, None, subst, eqb-true, true≢false}
 use Rattle.std.specs.declared.option.Option.{Option}
-use Rattle.std.specs.Prelude.{is_some, max, nat_lt}
+use Rattle.std.specs.Prelude.{is_some, nat_lt}
 use Rattle.std.proofs.lemmas.Bool.{and_parts, cases_eq, le-ltb, ltb-true}
 use Rattle.mu_model.specs.declared.config.Config.{Config}
 use Rattle.mu_model.specs.declared.event.Answer.{Answer}
@@ -10,8 +10,8 @@ use Rattle.mu_model.specs.declared.event.Target.{Target}
 use Rattle.mu_model.specs.declared.event.Verb.{Verb}
 use Rattle.mu_model.specs.Allowed.{Allowed, Needs}
 use Rattle.mu_model.specs.Answers.{drained, entered_or_lost, put_answer}
-use Rattle.mu_model.specs.Entering.{MayEnter, number_allowed, open_target}
-use Rattle.mu_model.specs.Histories.{all_below, earlier_or, newer_or, or_zero, part}
+use Rattle.mu_model.specs.Entering.{MayEnter, open_target}
+use Rattle.mu_model.specs.Histories.{all_below, newer_or, or_zero, part}
 use Rattle.mu_model.specs.Leaderships.{grant_at_joining, grant_for, is_above, is_changed, is_first_ask, is_over, noted_grant, owner_is, proposal_number}
 use Rattle.mu_model.specs.Legal.{IsLegalHistory}
 use Rattle.mu_model.specs.Regions.{asks, fence, fence_closing, fence_grant, fence_owner, granted_by, is_ask_by, fence_target, region_min}
@@ -22,9 +22,10 @@ use Rattle.mu_agree.proofs.Access.{MayLand, entered_facts, landed, last_close, m
 use Rattle.mu_agree.proofs.Entering.{slot_entered}
 use Rattle.mu_agree.proofs.Legal.{event_after, legal_induction}
 use Rattle.mu_agree.proofs.Members.{joined_under-part}
-use Rattle.mu_agree.proofs.Numbers.{greatest_own_put, greatest_own_put-part, number-part}
+use Rattle.mu_agree.proofs.Numbers.{greatest_own_put}
 use Rattle.mu_agree.specs.Laws.{is_landing}
 use Rattle.mu_alive.specs.Alone.{AsksAlone, LoneAskersLead}
+use Rattle.mu_alive.proofs.OwnNumbers.{top}
 
 -- an induction over the legal histories in which a asks alone
 pub alone_induction : (c : Config) (a : ℕ) (P : List Event → Type 0) → P []
@@ -153,7 +154,7 @@ owned_once a p past (inr o) owns = (o.1, o.2)
 abbrev pub NotesOne : ℕ → ℕ → List Event → Type 0
 NotesOne a p past = (g : ℕ) → noted_grant a p past ≡ Some g → (g ≡ 1) × (fence_owner p past ≡ Some a)
 
-owner_named : (a : ℕ) (o : Option ℕ) → owner_is a o ≡ true → o ≡ Some a
+pub owner_named : (a : ℕ) (o : Option ℕ) → owner_is a o ≡ true → o ≡ Some a
 owner_named a None h = absurd (true≢false (sym h))
 owner_named a (Some w) h = ap Some (eqb-true w a h)
 
@@ -353,33 +354,6 @@ low_step c a p by v past legal alone may s = s
 low : (c : Config) (a p : ℕ) (past : List Event) → IsLegalHistory c past → AsksAlone a past → IsLow a p past
 low c a p = alone_induction c a (IsLow a p) (omega arith) (λ past by v h alone own may s. low_step c a p by v past h alone may s)
 
--- what a put is at most the number of its leadership
-abbrev pub IsTop : ℕ → List Event → Type 0
-IsTop a past = (b : ℕ) → proposal_number a past ≡ Some b → greatest_own_put a past ≤ b
-
-top_ask : (c : Config) (a by q : ℕ) (past : List Event) → IsTop a past → (t : Bool) → is_first_ask a by (Verb.Ask q) ≡ t → IsTop a (event_after c past by (Verb.Ask q) ∷ past)
-top_ask c a by q past s true h = rw h (λ b e. cc)
-top_ask c a by q past s false h = rw h s
-
-top_case : (mine : List Event) (a b t : ℕ) (o : Option ℕ) → greatest_own_put a mine ≡ t → number_allowed a mine b o → ((m : ℕ) → o ≡ Some m → t ≤ m) → (m : ℕ) → earlier_or (Some b) o ≡ Some m → max b t ≤ m
-top_case mine a b t None is may s m e = let k : b ≡ m = same_some b m e in let above : greatest_own_put a mine < b = may.3 in omega (arith, k, above, is)
-top_case mine a b t (Some x) is may s m e = let k : x ≡ m = same_some x m e in let l = s m e in let n : b ≡ x = may in omega (arith, k, l, n)
-
-top_put : (c : Config) (a by q b : ℕ) (past : List Event) → Needs c by (part by past) (Verb.PutMin q b) → IsTop a past → (answer : Answer) → (t : Bool) → (by == a) ≡ t → IsTop a (record { by = by; verb = Verb.PutMin q b; answer = answer } ∷ past)
-top_put c a by q b past may s answer true h =
-    let at_a = subst (λ z. Needs c z (part z past) (Verb.PutMin q b)) (eqb-true by a h) may in
-    let numbered : number_allowed a (part a past) b (proposal_number a past) = subst (number_allowed a (part a past) b) (number-part a past) at_a.1.numbered in
-    rw h (top_case (part a past) a b (greatest_own_put a past) (proposal_number a past) (greatest_own_put-part a past) numbered s)
-top_put c a by q b past may s answer false h = rw h s
-
-top_step : (c : Config) (a by : ℕ) (v : Verb) (past : List Event) → Needs c by (part by past) v → IsTop a past → IsTop a (event_after c past by v ∷ past)
-top_step c a by (Verb.Ask q) past may s = top_ask c a by q past s (is_first_ask a by (Verb.Ask q)) refl
-top_step c a by (Verb.PutMin q b) past may s = top_put c a by q b past may s (put_answer (drained by q past)) (by == a) refl
-top_step c a by v past may s = s
-
-top : (c : Config) (a : ℕ) (past : List Event) → IsLegalHistory c past → IsTop a past
-top c a = legal_induction c (IsTop a) (λ b e. cc) (λ past by v h may s. top_step c a by v past may.may s)
-
 -- so a leadership never ends
 abbrev pub GoesOn : ℕ → List Event → Type 0
 GoesOn a past = is_over a past ≡ false
@@ -388,7 +362,7 @@ over_ask : (c : Config) (a by q : ℕ) (past : List Event) → GoesOn a past →
 over_ask c a by q past s true h = rw h refl
 over_ask c a by q past s false h = rw h s
 
-still_on : (x y : Bool) → x ≡ false → y ≡ false → (x || y) ≡ false
+pub still_on : (x y : Bool) → x ≡ false → y ≡ false → (x || y) ≡ false
 still_on true y h k = absurd (true≢false h)
 still_on false y h k = k
 
@@ -402,7 +376,7 @@ unchanged a p past (Some x) o s =
     same : (x : Option ℕ) (t : Bool) (g : ℕ) → x ≡ Some 1 → t ≡ false → g ≡ 1 → is_changed (Some x) (record { owner = fence_owner p past; grant = g; closing = t; target = fence_target p past }) ≡ false
     same x t g hx ht hg = rw (hx, ht, hg) refl
 
-not_above : (o : Option ℕ) (x : ℕ) → ((b : ℕ) → o ≡ Some b → x ≤ b) → is_above o x ≡ false
+pub not_above : (o : Option ℕ) (x : ℕ) → ((b : ℕ) → o ≡ Some b → x ≤ b) → is_above o x ≡ false
 not_above None x s = refl
 not_above (Some b) x s = le-ltb b x (s b refl)
 

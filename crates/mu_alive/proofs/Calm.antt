@@ -24,7 +24,7 @@ use Rattle.mu_agree.proofs.Tame.{known_longer}
 use Rattle.mu_pace.specs.Counters.{AtEachMoment, IsInTime, fewer, left_after, paid, steps_left}
 use Rattle.mu_pace.specs.Watches.{earns, leaves, limit, limit_now, progressing}
 use Rattle.mu_pace.proofs.Counting.{goes_on, last_moment, opened}
-use Rattle.mu_pace.proofs.Growing.{earned}
+use Rattle.mu_pace.proofs.Growing.{earned, stays_less}
 use Rattle.mu_pace.proofs.Leading.{commit_known}
 use Rattle.mu_alive.specs.Calm.{CalmLeadersCommit, IsCalm, IsCalmStep}
 
@@ -148,12 +148,22 @@ calm_stays c r (e ∷ window) older calm = go (begins_leadership r e) calm.1.sam
     go true h ih = absurd (true≢false h)
     go false h ih = ih
 
-copied_pairs : (c : Config) (r most : ℕ) (window older : List Event) → IsCalm c r window older → length (known c r (window ++ older)) ≤ most → steps (is_copying c r) window older + copies c r most c.replicas older ≤ copies c r most c.replicas (window ++ older)
-copied_pairs c r most [] older calm few = omega arith
-copied_pairs c r most (e ∷ window) older calm few =
+-- each put of the stretch is into the log of a region that there is
+abbrev pub PutsInside : Config → List Event → Type 0
+PutsInside c [] = Unit {0}
+PutsInside c (e ∷ window) = PutsInside c window × ((p i b v : ℕ) → e.verb ≡ Verb.PutSlot p i b v → p < c.replicas)
+
+calm_puts : (c : Config) (r : ℕ) (window older : List Event) → IsCalm c r window older → PutsInside c window
+calm_puts c r [] older calm = tt
+calm_puts c r (e ∷ window) older calm = (calm_puts c r window older calm.0, calm.1.inside)
+
+copied_pairs : (c : Config) (r most : ℕ) (window older : List Event) → stays r window ≡ true → PutsInside c window → length (known c r (window ++ older)) ≤ most → steps (is_copying c r) window older + copies c r most c.replicas older ≤ copies c r most c.replicas (window ++ older)
+copied_pairs c r most [] older same inside few = omega arith
+copied_pairs c r most (e ∷ window) older same inside few =
     let longer = known_longer c r e (window ++ older) in
-    let ih = copied_pairs c r most window older calm.0 (omega (arith, few, longer)) in
-    go (is_copying c r (window ++ older) e) refl ih (copying c r most e.by e.verb e.answer (window ++ older) calm.1.same calm.1.inside (omega (arith, few, longer))) (copies_on c r most c.replicas e (window ++ older) calm.1.same)
+    let less = stays_less r e window same in
+    let ih = copied_pairs c r most window older less.1 inside.0 (omega (arith, few, longer)) in
+    go (is_copying c r (window ++ older) e) refl ih (copying c r most e.by e.verb e.answer (window ++ older) less.0 inside.1 (omega (arith, few, longer))) (copies_on c r most c.replicas e (window ++ older) less.0)
   where
     go : (t : Bool) → is_copying c r (window ++ older) e ≡ t → steps (is_copying c r) window older + copies c r most c.replicas older ≤ copies c r most c.replicas (window ++ older)
         → (is_copying c r (window ++ older) e ≡ true → copies c r most c.replicas (window ++ older) + 1 ≤ copies c r most c.replicas (e ∷ (window ++ older)))
@@ -161,6 +171,19 @@ copied_pairs c r most (e ∷ window) older calm few =
         → (if t then steps (is_copying c r) window older + 1 else steps (is_copying c r) window older) + copies c r most c.replicas older ≤ copies c r most c.replicas (e ∷ (window ++ older))
     go true is ih more on = let m = more is in omega (arith, ih, m)
     go false is ih more on = omega (arith, ih, on)
+
+-- so a stretch of one leadership is paid at most for all members, entries and copies
+pub paid_few : (c : Config) (r most : ℕ) (window older : List Event) → stays r window ≡ true → PutsInside c window → length (known c r (window ++ older)) ≤ most → paid (earns c r) window older ≤ 6 * c.replicas + 8 * (most + c.replicas * most)
+paid_few c r most window older same inside fits =
+    let e = earned c r window older same in
+    let l = learnt c r window older in
+    let y = copied_pairs c r most window older same inside fits in
+    let few = copies_few c r most c.replicas (window ++ older) in
+    let members_few = count_few c.replicas (λ p. is_member r p (window ++ older)) in
+    sums (members c r older) (members c r (window ++ older)) (paid (earns c r) window older) (copied c r window older) (steps (is_learning c r) window older) (steps (is_copying c r) window older) (copies c r most c.replicas (window ++ older)) (c.replicas * most) c.replicas most e refl (omega (arith, l, fits)) (omega (arith, y)) few members_few
+  where
+    sums : (m k x z l y all nm n most : ℕ) → 6 * m + x ≤ 6 * k + 8 * z → z ≡ l + y → l ≤ most → y ≤ all → all ≤ nm → k ≤ n → x ≤ 6 * n + 8 * (most + nm)
+    sums m k x z l y all nm n most a b d e f g = omega (arith, a, b, d, e, f, g)
 
 -- a calm step closes the progress bound exactly where it commits in a turn of replication
 closing : (b n o l k x t m : Bool) → b ≡ false → n ≡ true → o ≡ false → l ≡ false → k ≡ false → x ≡ false → (b || (t && (not n || (m || (o || (l || (k || x))))))) ≡ (t && m)
@@ -256,7 +279,7 @@ calm_commits c r most first window older held milestone calm fits =
     let some = last_moment (IsInTime (progressing c r)) (window ++ first ∷ older) held t.left t.is in
     let e = earned c r window (first ∷ older) (calm_stays c r window (first ∷ older) calm) in
     let l = learnt c r window (first ∷ older) in
-    let y = copied_pairs c r most window (first ∷ older) calm fits in
+    let y = copied_pairs c r most window (first ∷ older) (calm_stays c r window (first ∷ older) calm) (calm_puts c r window (first ∷ older) calm) fits in
     let few = copies_few c r most c.replicas (window ++ first ∷ older) in
     all_spent (replications window (first ∷ older)) t.left (limit c c.replicas) (steps (commits_more c r) window (first ∷ older)) (steps (is_learning c r) window (first ∷ older)) (steps (is_copying c r) window (first ∷ older))
     (paid (earns c r) window (first ∷ older)) (c.replicas * most) c.replicas most (length (known c r (first ∷ older))) (length (known c r (window ++ first ∷ older))) (copies c r most c.replicas (window ++ first ∷ older))

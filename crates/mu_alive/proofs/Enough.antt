@@ -53,7 +53,7 @@ pub record FirstMin (a : ℕ) (mine : List Event) : Type 0 where
   pub begun : has_begun a older ≡ true
   pub none : AtEachMoment (λ now. has_min a now ≡ false) older
 
-first_verb : (a by : ℕ) (verb : Verb) (answer : Answer) → is_min_verb verb ≡ true → begins_leadership a (record { by = by; verb = verb; answer = answer }) ≡ false
+pub first_verb : (a by : ℕ) (verb : Verb) (answer : Answer) → is_min_verb verb ≡ true → begins_leadership a (record { by = by; verb = verb; answer = answer }) ≡ false
 first_verb a by (Verb.Min p) answer is = refl
 first_verb a by verb answer is = absurd (true≢false (sym is))
 
@@ -99,7 +99,7 @@ asks_before c r newer older held = record {
     more : (window o : List Event) → IsStretch older window o → IsStretch (newer ++ older) window o
     more window o s = record { newer = newer ++ s.newer; is = ap (λ l. newer ++ l) s.is ∙ sym (append_assoc newer s.newer (window ++ o)) }
 
-lone_before : (c : Config) (live : ℕ → Bool) (a : ℕ) (newer older : List Event) → LeadsAlone c live a (newer ++ older) → LeadsAlone c live a older
+pub lone_before : (c : Config) (live : ℕ → Bool) (a : ℕ) (newer older : List Event) → LeadsAlone c live a (newer ++ older) → LeadsAlone c live a older
 lone_before c live a newer older lone = record {
   inside = lone.inside;
   lives = lone.lives;
@@ -133,7 +133,7 @@ possible_moments c a (e ∷ past) legal = go (e.by == a) (possible_moments c a p
     go true ih here = (ih, here)
     go false ih here = ih
 
-lone_on : (c : Config) (a : ℕ) (past : List Event) → IsLegalHistory c past → AsksAlone a past → AtEachMoment (λ now. is_over a now ≡ false) (part a past)
+pub lone_on : (c : Config) (a : ℕ) (past : List Event) → IsLegalHistory c past → AsksAlone a past → AtEachMoment (λ now. is_over a now ≡ false) (part a past)
 lone_on c a [] legal alone = refl
 lone_on c a (e ∷ past) legal alone = go (e.by == a) (lone_on c a past legal.0 alone.0) (over-part a (e ∷ past) ∙ never_over c a (e ∷ past) legal alone)
   where
@@ -207,7 +207,7 @@ pub record Leads (c : Config) (a : ℕ) (past : List Event) (e : Event) : Type 0
   pub same : has_min a past ≡ true → begins_leadership a e ≡ false
   pub named : has_min a past ≡ true → is_named c a past ≡ true
 
-lone_leads : (c : Config) (a : ℕ) (mine : List Event) → AtEachMoment (λ now. is_over a now ≡ false) mine → AtEachMoment (λ now. is_named c a now ≡ true) mine → AtEachStep (LeaderKeeps c a) mine → AtEachStep (Leads c a) mine
+pub lone_leads : (c : Config) (a : ℕ) (mine : List Event) → AtEachMoment (λ now. is_over a now ≡ false) mine → AtEachMoment (λ now. is_named c a now ≡ true) mine → AtEachStep (LeaderKeeps c a) mine → AtEachStep (Leads c a) mine
 lone_leads c a [] on named kept = tt
 lone_leads c a (e ∷ past) on named kept = (lone_leads c a past on.0 named.0 kept.0, record { same = λ has_one. go has_one (begins_leadership a e) refl; named = λ _. last_moment (λ now. is_named c a now ≡ true) past named.0 })
   where
@@ -228,7 +228,7 @@ min_on a e past same is =
     any false h = h
 
 -- so what comes after the first minimum is calm
-puts_inside : (c : Config) (a : ℕ) (past : List Event) (e : Event) → IsPossible c a (e ∷ past) → (p i b v : ℕ) → e.verb ≡ Verb.PutSlot p i b v → p < c.replicas
+pub puts_inside : (c : Config) (a : ℕ) (past : List Event) (e : Event) → IsPossible c a (e ∷ past) → (p i b v : ℕ) → e.verb ≡ Verb.PutSlot p i b v → p < c.replicas
 puts_inside c a past e possible p i b v is = go e.verb (parts_shorten_law c a past e possible).allowed.may is
   where
     go : (verb : Verb) → Needs c a past verb → verb ≡ Verb.PutSlot p i b v → p < c.replicas

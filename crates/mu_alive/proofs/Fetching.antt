@@ -1,6 +1,7 @@
 -- Who completes a row in each two rounds has applied all that it knows in time.
-use Rattle.std.proofs.Common.{◌≡◌, ℕ, zero, suc, ◌+◌, ◌-◌, ◌*◌, ◌%◌, ◌/◌, ◌<◌, ◌≤◌, ◌==◌, ◌&&◌, ◌||◌, not, inl, inr, Bool, true, false, cond, List, [], ◌∷◌, ◌++◌, length, refl, sym, ◌∙◌, ap, arith, subst, true≢false, append_assoc}
+use Rattle.std.proofs.Common.{◌≡◌, ℕ, suc, ◌+◌, ◌-◌, ◌*◌, ◌%◌, ◌/◌, ◌<◌, ◌≤◌, ◌==◌, ◌&&◌, ◌||◌, not, inl, inr, Bool, true, false, cond, List, [], ◌∷◌, ◌++◌, length, refl, sym, ◌∙◌, ap, arith, subst, true≢false, append_assoc}
 use Rattle.std.specs.Prelude.{nat_le}
+use Rattle.std.proofs.Math.Nat.{mul-le-mul_left}
 use Rattle.std.proofs.lemmas.Bool.{and_parts, cases_lt, leb-true}
 use Rattle.std.proofs.lemmas.List.{length-append}
 use Rattle.mu_model.specs.declared.config.Config.{Config}
@@ -13,35 +14,29 @@ use Rattle.mu_model.specs.Histories.{IsPrefixOf, all_below, count_below, has, pa
 use Rattle.mu_model.specs.Knowledge.{applied, front, has_entry, has_row, has_word, is_read, is_written, known, wrote}
 use Rattle.mu_model.specs.Room.{reserve}
 use Rattle.mu_model.specs.Steps.{knows_all}
-use Rattle.mu_model.specs.Stretches.{some_step}
+use Rattle.mu_model.specs.Stretches.{IsStretch, some_step}
 use Rattle.mu_model.proofs.Basics.{or_true, true_or}
 use Rattle.mu_model.proofs.Parts.{filter-append, part_is_possible}
 use Rattle.mu_model.proofs.Scans.{all_at, each_all}
 use Rattle.mu_agree.proofs.Counting.{count_more}
 use Rattle.mu_agree.proofs.Knowing.{known_stays}
+use Rattle.mu_agree.proofs.Landings.{has_more}
 use Rattle.mu_agree.proofs.Sessions.{row_within}
 use Rattle.mu_pace.proofs.Positions.{known_fits}
-use Rattle.mu_alive.specs.Last.{FetchesInTime, LastLeadersApplyAll, LeadsLast, last_steps}
+use Rattle.mu_alive.specs.Last.{LastLeadersApplyAll, LeadsLast, last_steps}
 use Rattle.mu_alive.proofs.Beginning.{CutAt, cut_at}
 use Rattle.mu_alive.proofs.Calm.{count_adds, count_few}
-use Rattle.mu_alive.proofs.Cutting.{cut}
 use Rattle.mu_alive.proofs.Enough.{holds_more, knows_on}
 use Rattle.mu_alive.proofs.Lasting.{last_before, last_knows_all}
+use Rattle.mu_alive.proofs.Moments.{adds_up}
 
 -- what r has it goes on having
-has_on : (test : Event → Bool) (e : Event) (past : List Event) → has test past ≡ true → has test (e ∷ past) ≡ true
-has_on test e past some = go (test e)
-  where
-    go : (t : Bool) → cond t true (has test past) ≡ true
-    go true = refl
-    go false = some
-
 word_on : (r u k : ℕ) (e : Event) (past : List Event) → has_word r u k past ≡ true → has_word r u k (e ∷ past) ≡ true
 word_on r u k e past is = go (u / 4096 == r) (wrote r (u % 4096) k past) refl (has (λ f. is_read r u k f.by f.verb) past) refl is
   where
     go : (t w : Bool) → wrote r (u % 4096) k past ≡ w → (x : Bool) → has (λ f. is_read r u k f.by f.verb) past ≡ x → ((t && w) || x) ≡ true → ((t && wrote r (u % 4096) k (e ∷ past)) || has (λ f. is_read r u k f.by f.verb) (e ∷ past)) ≡ true
-    go t w hw true hx is = or_true (t && wrote r (u % 4096) k (e ∷ past)) (has (λ f. is_read r u k f.by f.verb) (e ∷ past)) (has_on (λ f. is_read r u k f.by f.verb) e past hx)
-    go true true hw false hx is = true_or (wrote r (u % 4096) k (e ∷ past)) (has (λ f. is_read r u k f.by f.verb) (e ∷ past)) (has_on (λ f. is_written r (u % 4096) k f.by f.verb) e past hw)
+    go t w hw true hx is = or_true (t && wrote r (u % 4096) k (e ∷ past)) (has (λ f. is_read r u k f.by f.verb) (e ∷ past)) (has_more (λ f. is_read r u k f.by f.verb) e past hx)
+    go true true hw false hx is = true_or (wrote r (u % 4096) k (e ∷ past)) (has (λ f. is_read r u k f.by f.verb) (e ∷ past)) (has_more (λ f. is_written r (u % 4096) k f.by f.verb) e past hw)
     go true false hw false hx is = absurd (true≢false (sym is))
     go false w hw false hx is = absurd (true≢false (sym is))
 
@@ -64,15 +59,25 @@ front_grows test now (x ∷ xs) ys more = go (test x) refl (front_grows test now
     go true is ih = (ih.0, ap (λ t. cond t (x ∷ front now (xs ++ ys)) []) (more x is) ∙ ap (λ l. x ∷ l) ih.1)
     go false is ih = (cond (now x) (x ∷ front now (xs ++ ys)) [], refl)
 
+applied_more : (c : Config) (r : ℕ) (e : Event) (past : List Event) → IsPrefixOf (applied c r past) (applied c r (e ∷ past))
+applied_more c r e past =
+    let more = known_stays c r (e ∷ []) past in
+    let grows = front_grows (λ v. has_entry c r v past) (λ v. has_entry c r v (e ∷ past)) (known c r past) more.0 (λ v is. entry_on c r v e past is) in
+    (grows.0, ap (front (λ v. has_entry c r v (e ∷ past))) more.1 ∙ grows.1)
+
+pub applied_grows : (c : Config) (r : ℕ) (newer older : List Event) → length (applied c r older) ≤ length (applied c r (newer ++ older))
+applied_grows c r [] older = omega arith
+applied_grows c r (e ∷ newer) older =
+    let ih = applied_grows c r newer older in
+    let more = applied_more c r e (newer ++ older) in
+    let long = ap length more.1 ∙ length-append (applied c r (newer ++ older)) more.0 in
+    omega (arith, ih, long)
+
 applied_on : (c : Config) (r : ℕ) (newer older : List Event) → holds_all c (applied c r older) ≡ true → holds_all c (applied c r (newer ++ older)) ≡ true
 applied_on c r [] older all = all
 applied_on c r (e ∷ newer) older all =
-    let past = newer ++ older in
-    let ih = applied_on c r newer older all in
-    let more = known_stays c r (e ∷ []) past in
-    let grows = front_grows (λ v. has_entry c r v past) (λ v. has_entry c r v (e ∷ past)) (known c r past) more.0 (λ v is. entry_on c r v e past is) in
-    let is : applied c r (e ∷ past) ≡ applied c r past ++ grows.0 = ap (front (λ v. has_entry c r v (e ∷ past))) more.1 ∙ grows.1 in
-    subst (λ l. holds_all c l ≡ true) (sym is) (holds_more c (applied c r past) grows.0 ih)
+    let more = applied_more c r e (newer ++ older) in
+    subst (λ l. holds_all c l ≡ true) (sym more.1) (holds_more c (applied c r (newer ++ older)) more.0 (applied_on c r newer older all))
 
 -- a front as long as the list is the list
 front_whole : (test : ℕ → Bool) (xs : List ℕ) → length xs ≤ length (front test xs) → front test xs ≡ xs
@@ -84,14 +89,14 @@ front_whole test (x ∷ xs) long = go (test x) long (front_whole test xs)
     go false long ih = absurd (omega (arith, long))
 
 -- how many rows of an entry r has, and of some entries
-abbrev rows_of_entry : Config → ℕ → List Event → ℕ → ℕ
+abbrev pub rows_of_entry : Config → ℕ → List Event → ℕ → ℕ
 rows_of_entry c r past v = cond (is_batch c v) (count_below (rest_of c (v % 4096) + 1) (λ t. has_row r (v + t) past)) 0
 
-abbrev rows_got : Config → ℕ → List Event → List ℕ → ℕ
+abbrev pub rows_got : Config → ℕ → List Event → List ℕ → ℕ
 rows_got c r past [] = 0
 rows_got c r past (v ∷ vs) = rows_of_entry c r past v + rows_got c r past vs
 
-few_rows : (c : Config) (r : ℕ) (past : List Event) (values : List ℕ) → IsConfig c → rows_got c r past values ≤ c.width * length values
+pub few_rows : (c : Config) (r : ℕ) (past : List Event) (values : List ℕ) → IsConfig c → rows_got c r past values ≤ c.width * length values
 few_rows c r past [] good = omega arith
 few_rows c r past (v ∷ vs) good =
     let ih = few_rows c r past vs good in
@@ -122,7 +127,7 @@ got_both c r past [] ys = omega arith
 got_both c r past (x ∷ xs) ys = let ih = got_both c r past xs ys in omega (arith, ih)
 
 -- of all that it knows
-abbrev got_now : Config → ℕ → List Event → ℕ
+abbrev pub got_now : Config → ℕ → List Event → ℕ
 got_now c r past = rows_got c r past (known c r past)
 
 got_on : (c : Config) (r : ℕ) (e : Event) (past : List Event) → rows_got c r (e ∷ past) (known c r past) ≤ got_now c r (e ∷ past)
@@ -130,7 +135,7 @@ got_on c r e past =
     let more = known_stays c r (e ∷ []) past in
     subst (λ l. rows_got c r (e ∷ past) (known c r past) ≤ rows_got c r (e ∷ past) l) (sym more.1) (got_both c r (e ∷ past) (known c r past) more.0)
 
-got_stays : (c : Config) (r : ℕ) (newer older : List Event) → got_now c r older ≤ got_now c r (newer ++ older)
+pub got_stays : (c : Config) (r : ℕ) (newer older : List Event) → got_now c r older ≤ got_now c r (newer ++ older)
 got_stays c r [] older = omega arith
 got_stays c r (e ∷ newer) older =
     let ih = got_stays c r newer older in
@@ -162,7 +167,7 @@ one_more c r u e past (v ∷ vs) is lacks has_it = go (is_batch c v) refl (nat_l
     go true hb false hl h hh is ih = later ih is
     go false hb l hl h hh is ih = later ih is
 
-completes_one : (c : Config) (r : ℕ) (e : Event) (past : List Event) → completes_row c r past e ≡ true → got_now c r past + 1 ≤ got_now c r (e ∷ past)
+pub completes_one : (c : Config) (r : ℕ) (e : Event) (past : List Event) → completes_row c r past e ≡ true → got_now c r past + 1 ≤ got_now c r (e ∷ past)
 completes_one c r e past is = go e.verb is
   where
     go : (verb : Verb) → completes_row_verb c r past (e ∷ past) verb ≡ true → got_now c r past + 1 ≤ got_now c r (e ∷ past)
@@ -185,28 +190,6 @@ some_completed c r (e ∷ window) older some = go (completes_row c r (window ++ 
     go : (t : Bool) → completes_row c r (window ++ older) e ≡ t → cond t true (some_step (completes_row c r) window older) ≡ true → (some_step (completes_row c r) window older ≡ true → got_now c r older + 1 ≤ got_now c r (window ++ older)) → got_now c r older + 1 ≤ got_now c r (e ∷ (window ++ older))
     go true is some ih = let one = completes_one c r e (window ++ older) is in let stays = got_stays c r window older in omega (arith, one, stays)
     go false is some ih = let more = ih some in let stays = got_stays c r (e ∷ []) (window ++ older) in omega (arith, more, stays)
-
--- so many rounds complete so many rows
-rows_come : (c : Config) (r k : ℕ) (whole top window base : List Event) → FetchesInTime c r whole → whole ≡ top ++ (window ++ base) → ((newer rest : List Event) → whole ≡ newer ++ (rest ++ base) → length (applied c r (rest ++ base)) < length (known c r (rest ++ base)))
-    → k * (2 * cycle c) ≤ length window → k ≤ got_now c r (window ++ base)
-rows_come c r zero whole top window base fetches is lacks long = omega arith
-rows_come c r (suc k) whole top window base fetches is lacks long =
-    let next : suc k * (2 * cycle c) ≡ k * (2 * cycle c) + 2 * cycle c = omega arith in
-    let under = cut (k * (2 * cycle c)) window (omega (arith, next, long)) in
-    let count = under.count in
-    let sum = ap length under.is ∙ length-append under.newer under.rest in
-    let round = cut (2 * cycle c) under.newer (omega (arith, next, long, count, sum)) in
-    let lower : whole ≡ (top ++ under.newer) ++ (under.rest ++ base) = is ∙ ap (λ l. top ++ (l ++ base)) under.is ∙ ap (λ l. top ++ l) (append_assoc under.newer under.rest base) ∙ sym (append_assoc top under.newer (under.rest ++ base)) in
-    let upper : whole ≡ (top ++ round.newer) ++ (round.rest ++ (under.rest ++ base)) =
-    lower ∙ ap (λ l. (top ++ l) ++ (under.rest ++ base)) round.is ∙ ap (λ l. l ++ (under.rest ++ base)) (sym (append_assoc top round.newer round.rest)) ∙ append_assoc (top ++ round.newer) round.rest (under.rest ++ base) in
-    let ih = rows_come c r k whole (top ++ under.newer) under.rest base fetches lower lacks (omega (arith, count)) in
-    let some = fetches round.rest (under.rest ++ base) (record { newer = top ++ round.newer; is = upper }) round.count (lacks (top ++ under.newer) under.rest lower) in
-    let one = some_completed c r round.rest (under.rest ++ base) some in
-    let all : window ++ base ≡ round.newer ++ (round.rest ++ (under.rest ++ base)) =
-    ap (λ l. l ++ base) under.is ∙ append_assoc under.newer under.rest base ∙ ap (λ l. l ++ (under.rest ++ base)) round.is ∙ append_assoc round.newer round.rest (under.rest ++ base) in
-    let stays = got_stays c r round.newer (round.rest ++ (under.rest ++ base)) in
-    let same = ap (got_now c r) all in
-    omega (arith, ih, one, stays, same)
 
 -- who knows every command and hasn't applied each knows an entry that it hasn't applied
 lacks_one : (c : Config) (r : ℕ) (whole newer rest base : List Event) → whole ≡ newer ++ (rest ++ base) → knows_all c r base ≡ true → holds_all c (applied c r whole) ≡ false → length (applied c r (rest ++ base)) < length (known c r (rest ++ base))
@@ -234,16 +217,18 @@ last_applies_all c live a start past good large last fetches many = go (holds_al
     late lacks =
         let count = at.count in
         let sum = ap length split ∙ length-append (part a at.newer) (part a at.rest) in
-        let got = rows_come c a (c.width * (row_count c + reserve c) + 1) (part a past) [] (part a at.newer) (part a at.rest) fetches split (λ newer rest is. lacks_one c a (part a past) newer rest (part a at.rest) is knows lacks) (omega (arith, count, sum, many)) in
+        let got = adds_up (2 * cycle c) (c.width * (row_count c + reserve c) + 1) (got_now c a) (part a past) [] (part a at.newer) (part a at.rest) (got_stays c a) rows split (omega (arith, count, sum, many)) in
         let few = few_rows c a (part a past) (known c a (part a past)) good in
         let fits = known_fits c a (part a past) good (part_is_possible c a past last.legal) in
-        let most : c.width * length (known c a (part a past)) ≤ c.width * (row_count c + reserve c) = times c.width (length (known c a (part a past))) (row_count c + reserve c) fits in
+        let most : c.width * length (known c a (part a past)) ≤ c.width * (row_count c + reserve c) = mul-le-mul_left c.width fits in
         let same = ap (got_now c a) split in
         omega (arith, got, few, most, same)
       where
-        times : (w x y : ℕ) → x ≤ y → w * x ≤ w * y
-        times zero x y less = omega arith
-        times (suc w) x y less = let ih = times w x y less in let a : suc w * x ≡ w * x + x = omega arith in let b : suc w * y ≡ w * y + y = omega arith in omega (arith, ih, a, b, less)
+        -- so many rounds complete so many rows
+        rows : (w rest : List Event) → IsStretch (part a past) w (rest ++ part a at.rest) → length w ≡ 2 * cycle c → got_now c a (rest ++ part a at.rest) + 1 ≤ got_now c a (w ++ (rest ++ part a at.rest))
+        rows w rest s two =
+            some_completed c a w (rest ++ part a at.rest)
+            (fetches w (rest ++ part a at.rest) s two (lacks_one c a (part a past) (s.newer ++ w) rest (part a at.rest) (s.is ∙ sym (append_assoc s.newer w (rest ++ part a at.rest))) knows lacks))
 
     go : (t : Bool) → holds_all c (applied c a (part a past)) ≡ t → t ≡ true
     go true is = refl

@@ -15,7 +15,7 @@ use Rattle.mu_model.specs.Steps.{is_asking_verb}
 use Rattle.mu_agree.proofs.Legal.{event_after, legal_onward}
 use Rattle.mu_alive.specs.Turns.{AreInTurn}
 use Rattle.mu_alive.proofs.Noting.{reads_fence}
-use Rattle.mu_alive.proofs.TurnFences.{IsHighest, OwnedTop, no_grant, owned_top, seen_again}
+use Rattle.mu_alive.proofs.TurnOwners.{IsHighest, OwnedTop, no_grant, owned_top, seen_again}
 use Rattle.mu_alive.proofs.Turns.{not_begun}
 
 -- a owns p, and once it read its fence in the leadership it notes a grant

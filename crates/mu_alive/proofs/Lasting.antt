@@ -29,7 +29,8 @@ use Rattle.mu_alive.proofs.Cutting.{Cut, cut, located}
 use Rattle.mu_alive.proofs.Enough.{Leads, asks_before, begins_verb, few_after, fine_moments, lacks_moments, min_or_none, min_parts, outrun_before}
 use Rattle.mu_alive.proofs.LastNoting.{notes_own}
 use Rattle.mu_alive.proofs.Moments.{From, asks_there, both_moments}
-use Rattle.mu_alive.proofs.TurnFences.{IsHighest, lead_on_moments, turns_lead_on}
+use Rattle.mu_alive.proofs.TurnFences.{lead_on_moments, turns_lead_on}
+use Rattle.mu_alive.proofs.TurnOwners.{IsHighest}
 use Rattle.mu_alive.proofs.TurnGrants.{highest_older, hosts_grant, turns_before}
 
 -- it names itself after so many steps

@@ -1,5 +1,5 @@
 -- What holds at each moment of a journal, in its stretches.
-use Rattle.std.proofs.Common.{◌≡◌, ℕ, suc, zero, ◌+◌, ◌*◌, ◌%◌, ◌<◌, ◌≤◌, ◌&&◌, ◌||◌, not, inl, inr, Bool, true, false, cond, List, [], ◌∷◌, ◌++◌, length, refl, sym, arith, subst, true≢false}
+use Rattle.std.proofs.Common.{◌≡◌, ℕ, suc, zero, ◌+◌, ◌*◌, ◌%◌, ◌<◌, ◌≤◌, ◌&&◌, ◌||◌, not, inl, inr, Bool, true, false, cond, List, [], ◌∷◌, ◌++◌, length, refl, sym, ◌∙◌, ap, arith, subst, true≢false, append_assoc}
 use Rattle.std.specs.Prelude.{if◌then◌else◌}
 use Rattle.std.proofs.lemmas.Bool.{cases_eq, eq-eqb, ne_eqb}
 use Rattle.std.proofs.lemmas.List.{length-append}
@@ -8,10 +8,11 @@ use Rattle.mu_model.specs.declared.event.Event.{Event}
 use Rattle.mu_model.specs.Diligence.{AsksInTime, has_to_ask}
 use Rattle.mu_model.specs.Histories.{has}
 use Rattle.mu_model.specs.Steps.{is_asking, replicates}
-use Rattle.mu_model.specs.Stretches.{each_step, is_odd, is_replication, replications}
+use Rattle.mu_model.specs.Stretches.{IsStretch, each_step, is_odd, is_replication, replications}
 use Rattle.mu_pace.specs.Counters.{AtEachMoment}
 use Rattle.mu_alive.specs.Enough.{asking_steps}
 use Rattle.mu_pace.proofs.Counting.{last_moment, moments_before}
+use Rattle.mu_alive.proofs.Cutting.{cut}
 
 -- of two moments in a row one has an odd count
 one_odd : (m k : ℕ) → (if is_odd (suc m) then (if is_odd m then k + 1 else k) + 1 else (if is_odd m then k + 1 else k)) ≡ k + 1
@@ -87,3 +88,25 @@ asks_there c start r p past newer window older asks is long late low held =
     (asks.asks p window older low (record { newer = newer; is = is }) (halves (17 * c.replicas + 1) window older long)
     (each_before start (has_to_ask c r) is_replication window older late
     (moments_before (From start (λ now. has_to_ask c r now ≡ true)) newer (window ++ older) (subst (AtEachMoment (From start (λ now. has_to_ask c r now ≡ true))) is held))))
+
+-- if each m events of a stretch add one to what only grows, k times as many add k
+pub adds_up : (m k : ℕ) (gain : List Event → ℕ) (whole top window base : List Event) → ((newer older : List Event) → gain older ≤ gain (newer ++ older))
+    → ((w rest : List Event) → IsStretch whole w (rest ++ base) → length w ≡ m → gain (rest ++ base) + 1 ≤ gain (w ++ (rest ++ base)))
+    → whole ≡ top ++ (window ++ base) → k * m ≤ length window → k ≤ gain (window ++ base)
+adds_up m zero gain whole top window base grows adds is long = omega arith
+adds_up m (suc k) gain whole top window base grows adds is long =
+    let next : suc k * m ≡ k * m + m = omega arith in
+    let under = cut (k * m) window (omega (arith, next, long)) in
+    let count = under.count in
+    let sum = ap length under.is ∙ length-append under.newer under.rest in
+    let round = cut m under.newer (omega (arith, next, long, count, sum)) in
+    let lower : whole ≡ (top ++ under.newer) ++ (under.rest ++ base) = is ∙ ap (λ l. top ++ (l ++ base)) under.is ∙ ap (λ l. top ++ l) (append_assoc under.newer under.rest base) ∙ sym (append_assoc top under.newer (under.rest ++ base)) in
+    let upper : whole ≡ (top ++ round.newer) ++ (round.rest ++ (under.rest ++ base)) =
+    lower ∙ ap (λ l. (top ++ l) ++ (under.rest ++ base)) round.is ∙ ap (λ l. l ++ (under.rest ++ base)) (sym (append_assoc top round.newer round.rest)) ∙ append_assoc (top ++ round.newer) round.rest (under.rest ++ base) in
+    let ih = adds_up m k gain whole (top ++ under.newer) under.rest base grows adds lower (omega (arith, count)) in
+    let one = adds round.rest under.rest (record { newer = top ++ round.newer; is = upper }) round.count in
+    let all : window ++ base ≡ round.newer ++ (round.rest ++ (under.rest ++ base)) =
+    ap (λ l. l ++ base) under.is ∙ append_assoc under.newer under.rest base ∙ ap (λ l. l ++ (under.rest ++ base)) round.is ∙ append_assoc round.newer round.rest (under.rest ++ base) in
+    let stays = grows round.newer (round.rest ++ (under.rest ++ base)) in
+    let same = ap gain all in
+    omega (arith, ih, one, stays, same)

@@ -26,7 +26,7 @@ use Rattle.mu_alive.proofs.Alone.{owner-part, seen-part}
 use Rattle.mu_alive.proofs.Beginning.{cut_at, grants_before, reads_before}
 use Rattle.mu_alive.proofs.Calm.{count_adds, count_few}
 use Rattle.mu_alive.proofs.Cutting.{Located, cut, located, met, more_pass}
-use Rattle.mu_alive.proofs.TurnFences.{IsHighest, OwnedTop, Waits, no_grant, owned_top, served-part, top_induction, waiter_begun, waits}
+use Rattle.mu_alive.proofs.TurnOwners.{IsHighest, OwnedTop, Waits, no_grant, owned_top, served-part, top_induction, waiter_begun, waits}
 use Rattle.mu_alive.proofs.Turns.{begun_on, not_begun}
 
 -- what came before some events in turn was in turn

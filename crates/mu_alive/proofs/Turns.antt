@@ -202,7 +202,7 @@ open_read : (c : Config) (w p : ℕ) (past : List Event) → IsLegalHistory c pa
 open_read c w p = legal_induction c (OpenRead w p) (λ is. cc) (λ past by v h may s. open_step c w p by v past may.may s)
 
 -- who puts a number has read a minimum
-put_reads : (c : Config) (by q b : ℕ) (past : List Event) → IsLegalHistory c past → Needs c by (part by past) (Verb.PutMin q b) → has (is_own_min by) past ≡ true
+pub put_reads : (c : Config) (by q b : ℕ) (past : List Event) → IsLegalHistory c past → Needs c by (part by past) (Verb.PutMin q b) → has (is_own_min by) past ≡ true
 put_reads c by q b past legal may = open_read c by q past legal (sym (open_target-part by q past) ∙ may.1.entered)
 
 abbrev pub PutRead : ℕ → List Event → Type 0

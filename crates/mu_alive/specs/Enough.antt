@@ -32,14 +32,15 @@ steps_enough c = beginning_steps c + 2 * calm_steps c (row_count c + reserve c)
 abbrev pub HasLargeRing : Config → Type 0
 HasLargeRing c = row_count c + 2 * reserve c ≤ c.ring
 
--- a replica that asks alone, while a majority keeps up with it, knows every command after so many steps
+-- a replica that asks alone, while a majority keeps up with it, knows every command after so many
+-- steps
 abbrev pub LoneLeadersKnowAll : Type 0
 LoneLeadersKnowAll =
     (c : Config) (live : ℕ → Bool) (a : ℕ) (past : List Event) → IsConfig c → HasLargeRing c
     → LeadsAlone c live a past
     → steps_enough c ≤ length (part a past) → knows_all c a (part a past) ≡ true
 
--- and where no other wrote rows it has applied them
+-- and if no other wrote rows, it has applied them
 abbrev pub LoneLeadersApplyAll : Type 0
 LoneLeadersApplyAll =
     (c : Config) (live : ℕ → Bool) (a : ℕ) (past : List Event) → IsConfig c → HasLargeRing c

@@ -26,7 +26,8 @@ NamesItself c a start mine =
     (start ≤ length mine) ⊎ (has_begun a mine ≡ true) → is_named c a mine ≡ true
 
 -- replicas ask in turn, and none above a has asked; a names itself after so many steps; a majority
--- with a keeps up with it, and these hosts keep their paces; a keeps a leader's, and was never outrun
+-- with a keeps up with it, and these hosts keep their paces; a keeps a leader's, and was never
+-- outrun
 pub record LeadsLast (c : Config) (live : ℕ → Bool) (a start : ℕ) (past : List Event) : Type 0 where
   pub inside : a < c.replicas
   pub lives : live a ≡ true
@@ -72,7 +73,7 @@ FetchesInTime c r past =
 abbrev pub fetching_steps : Config → ℕ
 fetching_steps c = (c.width * (row_count c + reserve c) + 1) * (2 * cycle c)
 
--- where it fetches rows in time it has applied every command so many steps after, also those whose
+-- if it fetches rows in time, it has applied every command so many steps after, also those whose
 -- rows earlier leaders wrote
 abbrev pub LastLeadersApplyAll : Type 0
 LastLeadersApplyAll =

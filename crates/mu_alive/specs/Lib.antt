@@ -1,7 +1,10 @@
 pub mod Alone
+pub mod Bringing
 pub mod Calm
 pub mod Enough
 pub mod Failing
+pub mod Finishing
+pub mod Following
 pub mod Last
 pub mod Lone
 pub mod Turns

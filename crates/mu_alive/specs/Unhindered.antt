@@ -8,8 +8,9 @@ use Rattle.mu_model.specs.Ends.{outrun}
 use Rattle.mu_model.specs.Leaderships.{has_begun}
 use Rattle.mu_model.specs.Steps.{commits_more, has_min, is_any_fencing, is_lagging, is_over_after, knows_all, replicates}
 
--- the event keeps a leader from its next commit: its leadership is over, a head leaves no room, every
--- command is known, a place was found used again, or it has read no minimum and is confirmed no more
+-- the event keeps a leader from its next commit: its leadership is over, a head leaves no room,
+-- every command is known, a place was found used again, or it has read no minimum and is confirmed
+-- no more
 abbrev pub is_hindrance : Config → ℕ → List Event → Event → Bool
 is_hindrance c r past e =
     is_over_after r past e
@@ -25,17 +26,17 @@ pub record IsConfirming (c : Config) (r : ℕ) (older : List Event) (e : Event) 
   pub no_min : has_min r older ≡ false
   pub confirmed : is_confirmed c r (e ∷ older) ≡ true
 
--- among so many replication events of one leadership after e, before each of which r is named and of
--- which none is a hindrance, one commits
+-- among so many replication events of one leadership after e, before each of which r is named and
+-- of which none is a hindrance, one commits
 abbrev pub CommitsWithin : Config → ℕ → List Event → List Event → List Event → ℕ → Type 0
 CommitsWithin c r past window older count =
     Follows c r past window older count
     → replicates (is_hindrance c r) window older ≡ false
     → replicates (commits_more c r) window older ≡ true
 
--- in each diligent journal a leader commits within the bound of its replication events from its first
--- minimum, its last commit or the last head without room on; and from its confirmation on within as
--- many more as there are replicas
+-- in each diligent journal a leader commits within the bound of its replication events from its
+-- first minimum, its last commit or the last head without room on; and from its confirmation on
+-- within as many more as there are replicas
 pub record UnhinderedCommit : Type 0 where
   pub leading :
       (c : Config) (r : ℕ) (past window older : List Event) (e : Event)

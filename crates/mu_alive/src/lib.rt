@@ -2,9 +2,12 @@
 #![tactic(auto)]
 
 ghost use Rattle.mu_alive.specs.Alone.{LoneAskersLead};
+ghost use Rattle.mu_alive.specs.Bringing.{FollowersAreBroughtUp};
 ghost use Rattle.mu_alive.specs.Calm.{CalmLeadersCommit};
 ghost use Rattle.mu_alive.specs.Enough.{LoneLeadersApplyAll, LoneLeadersKnowAll};
 ghost use Rattle.mu_alive.specs.Failing.{HeldFailedInTime};
+ghost use Rattle.mu_alive.specs.Finishing.{LoneLeadersRaiseAll};
+ghost use Rattle.mu_alive.specs.Following.{FollowersCatchUp};
 ghost use Rattle.mu_alive.specs.Last.{LastLeadersApplyAll, LastLeadersKnowAll};
 ghost use Rattle.mu_alive.specs.Turns.{HostsGrantInTurn, TurnsLeadOn};
 ghost use Rattle.mu_alive.specs.Unhindered.{UnhinderedCommit};
@@ -58,4 +61,19 @@ pub fn last_leaders_apply_all()
 /// A leader that is confirmed, that nobody challenges and that has room commits within the bound.
 pub fn unhindered_leaders_commit()
     ensures { UnhinderedCommit }
+{}
+
+/// A replica that doesn't lead applies what is decided in time, and raises its head to it.
+pub fn followers_catch_up()
+    ensures { FollowersCatchUp }
+{}
+
+/// A region that grants to a leader becomes a member, and is brought to what the leader knows.
+pub fn followers_are_brought_up()
+    ensures { FollowersAreBroughtUp }
+{}
+
+/// All that keep up with a replica that asks alone have applied all, and raised their heads to it.
+pub fn lone_leaders_raise_all()
+    ensures { LoneLeadersRaiseAll }
 {}

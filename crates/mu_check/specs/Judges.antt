@@ -1,4 +1,5 @@
--- When the states of a judge stand for a legal history.
+-- stands for (judge), stays or takes: the history is legal, and the states of the judge are those
+-- that it leads to; the judge took an event, or nothing changed since this is wrong with it.
 use Rattle.std.specs.Prelude.{List, ◌∷◌, ◌≡◌, None, Some}
 use Rattle.std.specs.declared.option.Option.{Option}
 use Rattle.mu_check.specs.declared.judge.Judge.{Judge}

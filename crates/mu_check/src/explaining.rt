@@ -13,7 +13,7 @@ use std::alloc::Global;
 ///
 /// # Errors
 ///
-/// Want of memory alone.
+/// Only for want of memory.
 pub fn explain(alloc: Global, config: &Config, events: &[Event]) -> Result<Option<Broken>, NoMemory>
     requires config { IsConfig config.now }
     ensures { IfOk result (λ found. Explains config.now events.now found) }

@@ -33,7 +33,7 @@ impl Judge {
     ///
     /// # Errors
     ///
-    /// Want of memory alone.
+    /// Only for want of memory.
     pub fn new(alloc: Global, config: &Config) -> Result<Judge, NoMemory>
         requires { IsConfig config.now }
         ensures { IfOk result (λ judge. StandsForJudge config.now [] judge) }

@@ -13,7 +13,7 @@ use std::alloc::Global;
 ///
 /// # Errors
 ///
-/// Want of memory alone.
+/// Only for want of memory.
 pub fn check(alloc: Global, config: &Config, events: &[Event]) -> Result<Verdict, NoMemory>
     requires config { IsConfig config.now }
     ensures { IfOk result (λ verdict. Judges config.now events.now verdict) }

@@ -1,13 +1,12 @@
 -- What each replica leaves stands in the lists of an outcome, and the outcome is a run.
-use Rattle.std.proofs.Common.{◌≡◌, ◌∙◌, ℕ, suc, zero, ◌+◌, ◌*◌, ◌%◌, ◌<◌, ◌≤◌, Bool, true, false, cond, List, [], ◌∷◌, ◌++◌, None, Some, ap, append-nil, arith, inl, inr, length, map, refl, subst, sym, take, drop}
+use Rattle.std.proofs.Common.{◌≡◌, ◌∙◌, ℕ, suc, zero, ◌+◌, ◌<◌, ◌≤◌, true, false, List, [], ◌∷◌, ◌++◌, None, Some, ap, append-nil, arith, inl, inr, length, map, refl, subst, sym}
 use Rattle.std.specs.declared.option.Option.{Option}
 use Rattle.std.specs.Prelude.{nat_lt, not, slice_index}
 use Rattle.std.specs.List.{slice_get}
 use Rattle.std.proofs.lemmas.Bool.{cases_lt}
-use Rattle.std.proofs.lemmas.List.{length_push, length-append, length-map, length-reverse, length-take, reverse-reverse}
+use Rattle.std.proofs.lemmas.List.{length_push, length-map, length-reverse, reverse-reverse}
 use Rattle.std.proofs.lemmas.Option.{slice_get_within}
 use mathlib.Core.List.{reverse}
-use Rattle.kv_store.specs.Commands.{Request}
 use Rattle.kv_store.specs.Tables.{replies}
 use Rattle.kv_store.specs.declared.store.Reply.{Reply}
 use Rattle.kv_store.proofs.Runs.{length-replies}
@@ -19,18 +18,15 @@ use Rattle.mu_model.specs.declared.config.Config.{Config}
 use Rattle.mu_model.specs.declared.event.Event.{Event}
 use Rattle.mu_model.specs.declared.script.End.{End}
 use Rattle.mu_model.specs.declared.script.Script.{Script}
-use Rattle.mu_model.specs.Contents.{IsConfig, is_batch, rest_of, row_count}
+use Rattle.mu_model.specs.Contents.{IsConfig, row_count}
 use Rattle.mu_model.specs.Ends.{EndsBy, Obeys}
 use Rattle.mu_model.specs.Histories.{has, history, part}
 use Rattle.mu_model.specs.Journals.{Record}
-use Rattle.mu_model.specs.Knowledge.{applied, commits, has_entry, known}
+use Rattle.mu_model.specs.Knowledge.{applied, commits}
 use Rattle.mu_model.specs.Legal.{IsLegal}
-use Rattle.mu_model.specs.Room.{reserve}
 use Rattle.mu_model.proofs.Basics.{same_some}
 use Rattle.mu_model.proofs.Lists.{get_front, get_push_here, item_below}
 use Rattle.mu_model.proofs.Parts.{history-part, part_is_possible}
-use Rattle.mu_agree.proofs.Readings.{known_within}
-use Rattle.mu_known.proofs.Fetched.{batch_there, front_fits}
 use Rattle.mu_known.specs.declared.commit.Commit.{Commit}
 use Rattle.mu_known.specs.Commits.{pair_of}
 use Rattle.mu_node.specs.declared.result.NodeResult.{NodeResult}

@@ -1,8 +1,10 @@
 pub mod Agreeing
+mod AllTold
 mod Branching
 mod Driven
 pub mod FewCommands
 mod Filling
+mod Finishing
 mod InStep
 mod InTurn
 mod Lives
@@ -13,6 +15,7 @@ mod Onward
 mod Outrunning
 mod Passes
 mod Ports
+mod Raised
 mod Rounding
 pub mod RowsMade
 mod Seats

@@ -47,7 +47,7 @@ use Rattle.mu_cluster.proofs.Naming.{AreUnpaused, before_end, named_of, none_her
 use Rattle.mu_cluster.proofs.Outrunning.{none_outrun}
 
 -- r is at most a step ahead of q at each moment
-near_one : (lead q most r : ℕ) (past : List Event) → AtEachStep (StaysAhead lead q most r) past → length (part r past) ≤ most → AtEachMoment (λ now. length (part r now) ≤ length (part q now) + 1) past
+pub near_one : (lead q most r : ℕ) (past : List Event) → AtEachStep (StaysAhead lead q most r) past → length (part r past) ≤ most → AtEachMoment (λ now. length (part r now) ≤ length (part q now) + 1) past
 near_one lead q most r [] ahead few = omega arith
 near_one lead q most r (e ∷ past) ahead few = go (e.by == r) refl (e.by == q) few (λ less. near_one lead q most r past ahead.0 less)
   where
@@ -73,15 +73,15 @@ near_one lead q most r (e ∷ past) ahead few = go (e.by == r) refl (e.by == q) 
     go false other u few earlier = let ih = earlier few in let now = last past ih in let more = stays u in (ih, omega (arith, now, more))
 
 -- the same of each replica
-each_near : (n : ℕ) (live : ℕ → Bool) (Q : ℕ → List Event → Type 0) (past : List Event) → ((r : ℕ) → r < n → live r ≡ true → AtEachMoment (Q r) past) → AtEachMoment (λ now. (r : ℕ) → r < n → live r ≡ true → Q r now) past
+pub each_near : (n : ℕ) (live : ℕ → Bool) (Q : ℕ → List Event → Type 0) (past : List Event) → ((r : ℕ) → r < n → live r ≡ true → AtEachMoment (Q r) past) → AtEachMoment (λ now. (r : ℕ) → r < n → live r ≡ true → Q r now) past
 each_near n live Q [] all = λ r low there. all r low there
 each_near n live Q (e ∷ past) all = (each_near n live Q past (λ r low there. (all r low there).0), λ r low there. (all r low there).1)
 
-near_both : (P Q R : List Event → Type 0) → ((now : List Event) → P now → Q now → R now) → (past : List Event) → AtEachMoment P past → AtEachMoment Q past → AtEachMoment R past
+pub near_both : (P Q R : List Event → Type 0) → ((now : List Event) → P now → Q now → R now) → (past : List Event) → AtEachMoment P past → AtEachMoment Q past → AtEachMoment R past
 near_both P Q R more [] p q = more [] p q
 near_both P Q R more (e ∷ past) p q = (near_both P Q R more past p.0 q.0, more (e ∷ past) p.1 q.1)
 
-near_self : (a : ℕ) (past : List Event) → AtEachMoment (λ now. (length (part a now) ≤ length (part a now) + 1) × (length (part a now) ≤ length (part a now) + 1)) past
+pub near_self : (a : ℕ) (past : List Event) → AtEachMoment (λ now. (length (part a now) ≤ length (part a now) + 1) × (length (part a now) ≤ length (part a now) + 1)) past
 near_self a [] = (omega arith, omega arith)
 near_self a (e ∷ past) = (near_self a past, (omega arith, omega arith))
 
@@ -114,17 +114,17 @@ reached events front older e is some = record {
   left = has_later (λ f. f.by == 0) (e ∷ []) (history front) (has_history (λ f. f.by == 0) front some);
 }
 
-more_front : (events front older : List Event) (e : Event) → history events ≡ front ++ e ∷ older → history events ≡ (front ++ e ∷ []) ++ older
+pub more_front : (events front older : List Event) (e : Event) → history events ≡ front ++ e ∷ older → history events ≡ (front ++ e ∷ []) ++ older
 more_front events front older e is = is ∙ sym (append_assoc front (e ∷ []) older)
 
 -- up to there no other asks
-asks_alone : (c : Config) (events front past : List Event) → NamesFirst c events → history events ≡ front ++ past → has (λ f. f.by == 0) front ≡ true → AsksAlone 0 past
+pub asks_alone : (c : Config) (events front past : List Event) → NamesFirst c events → history events ≡ front ++ past → has (λ f. f.by == 0) front ≡ true → AsksAlone 0 past
 asks_alone c events front [] names is some = tt
 asks_alone c events front (e ∷ past) names is some =
     (asks_alone c events (front ++ e ∷ []) past names (more_front events front past e is) (has_both (λ f. f.by == 0) front (e ∷ []) some), λ p asked. names.asks (history past) e p (reached events front past e is some) asked)
 
 -- and no other writes rows
-writes_alone : (c : Config) (events front past : List Event) (lengths : List ℕ) (rounds : ℕ) → NamesFirst c events → AreUnpaused c events lengths rounds → history events ≡ front ++ past → has (λ f. f.by == 0) front ≡ true → WritesAlone 0 past
+pub writes_alone : (c : Config) (events front past : List Event) (lengths : List ℕ) (rounds : ℕ) → NamesFirst c events → AreUnpaused c events lengths rounds → history events ≡ front ++ past → has (λ f. f.by == 0) front ≡ true → WritesAlone 0 past
 writes_alone c events front [] lengths rounds names run is some = tt
 writes_alone c events front (e ∷ past) lengths rounds names run is some =
     (writes_alone c events (front ++ e ∷ []) past lengths rounds names run (more_front events front past e is) (has_both (λ f. f.by == 0) front (e ∷ []) some), writes)
@@ -142,7 +142,7 @@ writes_alone c events front (e ∷ past) lengths rounds names run is some =
         sym (writer_named c e.by (part e.by past) e made (ap is_row_write wrote)) ∙ named
 
 -- replica 0 names itself
-names_itself : (c : Config) (mine : List Event) → 0 < c.replicas → AtEachMoment (λ now. is_named c 0 now ≡ true) mine
+pub names_itself : (c : Config) (mine : List Event) → 0 < c.replicas → AtEachMoment (λ now. is_named c 0 now ≡ true) mine
 names_itself c [] some = eq-eqb (leader c 0 []) 0 (first_named c 0 [] some (λ other. absurd (other refl)))
 names_itself c (e ∷ mine) some = (names_itself c mine some, eq-eqb (leader c 0 (e ∷ mine)) 0 (first_named c 0 (e ∷ mine) some (λ other. absurd (other refl))))
 

@@ -157,7 +157,7 @@ holds_first c events lengths rounds earlier r run at inside other =
 pub before_end : (events earlier : List Event) (e : Event) → IsReached events earlier e → IsBeforeEnd events earlier
 before_end events earlier e at = record { later = e ∷ at.later; is = at.is; left = at.left }
 
-names_in : (c : Config) (events : List Event) (lengths : List ℕ) (rounds : ℕ) → AreUnpaused c events lengths rounds → NamesFirst c events
+pub names_in : (c : Config) (events : List Event) (lengths : List ℕ) (rounds : ℕ) → AreUnpaused c events lengths rounds → NamesFirst c events
 names_in c events lengths rounds run = record { named = named; asks = asks }
   where
     named : (earlier : List Event) (r : ℕ) → IsBeforeEnd events earlier → r < c.replicas → leader c r (part_of r earlier) ≡ 0

@@ -14,13 +14,13 @@ use Rattle.mu_model.specs.Answers.{answer_of}
 use Rattle.mu_model.specs.Bounds.{cycle}
 use Rattle.mu_model.specs.Contents.{IsConfig}
 use Rattle.mu_model.specs.Diligence.{ReadsInTime, was_unnamed}
-use Rattle.mu_model.specs.Histories.{has, history, newer_or, newest, or_zero, part}
+use Rattle.mu_model.specs.Histories.{has, history, newest, or_zero, part}
 use Rattle.mu_model.specs.Journals.{Record}
 use Rattle.mu_model.specs.Leaderships.{begins_leadership, is_over}
 use Rattle.mu_model.specs.Legal.{IsLegalHistory}
-use Rattle.mu_model.specs.Regions.{beats, is_beat_by}
+use Rattle.mu_model.specs.Regions.{beats}
 use Rattle.mu_model.specs.Scores.{alive_after, beat_read, leader, least_below, next_score, points_after, score, score_after_read}
-use Rattle.mu_model.specs.Steps.{is_asking, is_asking_verb, is_beat_read, is_beat_read_verb, is_named}
+use Rattle.mu_model.specs.Steps.{is_asking, is_asking_verb, is_beat_read, is_named}
 use Rattle.mu_model.specs.Stretches.{is_replication}
 use Rattle.mu_model.proofs.Basics.{same_number, same_some}
 use Rattle.mu_model.proofs.Lists.{item_below}

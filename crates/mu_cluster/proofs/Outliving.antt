@@ -1,6 +1,5 @@
 -- In a replay without a pause the least replica that isn't stopped leads on where the leaders below it were.
-use Rattle.std.proofs.Common.{◌≡◌, ◌∙◌, ◌≢◌, ◌⊎◌, ℕ, ◌+◌, ◌<◌, ◌≤◌, ◌==◌, inl, inr, Bool, true, false, cond, None, Some, List, [], ◌∷◌, ◌++◌, ap, append_assoc, arith, eqb-true, length, map, refl, subst, sym}
-use Rattle.std.specs.declared.option.Option.{Option}
+use Rattle.std.proofs.Common.{◌≡◌, ◌∙◌, ◌≢◌, ℕ, ◌+◌, ◌<◌, ◌≤◌, ◌==◌, inl, inr, Bool, true, false, cond, Some, List, [], ◌∷◌, ◌++◌, ap, append_assoc, arith, length, map, refl, subst, sym}
 use Rattle.std.specs.Prelude.{not, slice_index}
 use Rattle.std.specs.List.{slice_get}
 use Rattle.std.proofs.lemmas.Bool.{eq-eqb, true≢false}
@@ -26,7 +25,6 @@ use Rattle.mu_node.specs.Journal.{WasMade}
 use Rattle.mu_node.proofs.Fetching.{rows_fetched}
 use Rattle.mu_node.proofs.Naming.{asker_named}
 use Rattle.mu_outcome.specs.declared.outcome.Outcome.{Outcome}
-use Rattle.mu_outcome.specs.declared.status.Status.{Status}
 use Rattle.mu_outcome.specs.Completion.{Completes, HasAllCommands, IsCutShort}
 use Rattle.mu_outcome.specs.Entries.{commands_in, longest}
 use Rattle.mu_outcome.specs.Outcomes.{IsRun, events_of, journal_of}
@@ -44,10 +42,10 @@ use Rattle.mu_alive.proofs.Cutting.{Located, cut, located}
 use Rattle.mu_alive.proofs.Failing.{held_failed}
 use Rattle.mu_alive.proofs.Fetching.{last_applies_all}
 use Rattle.mu_alive.proofs.TurnGrants.{turns_before}
-use Rattle.mu_alive.proofs.Turns.{begun-part, not_begun}
+use Rattle.mu_alive.proofs.Turns.{begun-part}
 use Rattle.mu_cluster.specs.declared.rounds.Seat.{Seat}
 use Rattle.mu_cluster.specs.Naming.{NoneOutrunUnpaused}
-use Rattle.mu_cluster.specs.Outliving.{AppliesAllAfterStops, GoesOnWith, HasAllAfterStops, HasTimeAfter, is_stop, steps_after, was_stopped}
+use Rattle.mu_cluster.specs.Outliving.{AppliesAllAfterStops, HasAllAfterStops, is_stop, steps_after, was_stopped}
 use Rattle.mu_cluster.specs.Paces.{AreDiligent}
 use Rattle.mu_cluster.specs.Rounds.{Played, part_of}
 use Rattle.mu_cluster.proofs.Agreeing.{agrees_of, over_order}
@@ -82,7 +80,7 @@ after n mine more =
     go newer (e ∷ rest) is count = record { top = newer; event = e; bottom = rest; is = is; count = omega (arith, count) }
 
 -- a replica that has ended is held failed so many steps of the reader after
-fails_then : (c : Config) (events : List Event) (lengths : List ℕ) (rounds q r : ℕ) (newer older : List Event) → AreUnpaused c events lengths rounds → ReadsInTime c r (part_of r events) → history events ≡ newer ++ older → q < c.replicas → r < c.replicas → q ≢ r
+pub fails_then : (c : Config) (events : List Event) (lengths : List ℕ) (rounds q r : ℕ) (newer older : List Event) → AreUnpaused c events lengths rounds → ReadsInTime c r (part_of r events) → history events ≡ newer ++ older → q < c.replicas → r < c.replicas → q ≢ r
     → length (part_of q events) + failing_steps c ≤ length (part r older) → is_failed r q older ≡ true
 fails_then c events lengths rounds q r newer older run reads is low inside other late = found (after (length (part_of q events)) (part r older) (omega (arith, late)))
   where
@@ -126,7 +124,7 @@ begun_named c events lengths rounds a newer older run nodes is begun =
     ap (λ l. leader c a (part a l)) k.is ∙ subst (λ i. leader c i (part i (k.newer ++ k.event ∷ k.older)) ≡ i) k.own (stays_named c events lengths rounds newer k.newer k.older k.event run nodes.reads whole k.asks named)
 
 -- what holds of each beginning of the list holds at each moment of a part
-moments_of : (a : ℕ) (P : List Event → Type 0) (past : List Event) → ((newer older : List Event) → past ≡ newer ++ older → P (part a older)) → AtEachMoment P (part a past)
+pub moments_of : (a : ℕ) (P : List Event → Type 0) (past : List Event) → ((newer older : List Event) → past ≡ newer ++ older → P (part a older)) → AtEachMoment P (part a past)
 moments_of a P [] all = all [] [] refl
 moments_of a P (e ∷ past) all = go (e.by == a) refl (moments_of a P past (λ newer older is. all (e ∷ newer) older (ap (λ l. e ∷ l) is)))
   where

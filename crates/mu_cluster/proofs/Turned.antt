@@ -21,7 +21,7 @@ use Rattle.mu_model.proofs.Parts.{filter-append}
 use Rattle.mu_grant.specs.Pace.{InCycleOrder}
 use Rattle.mu_grant.proofs.Rounds.{reads_open}
 use Rattle.mu_alive.proofs.Cutting.{Located, cut, located, met}
-use Rattle.mu_alive.proofs.TurnFences.{closing-part}
+use Rattle.mu_alive.proofs.TurnOwners.{closing-part}
 use Rattle.mu_cluster.specs.Rounds.{part_of}
 use Rattle.mu_cluster.proofs.Naming.{AreUnpaused}
 use Rattle.mu_cluster.proofs.Turning.{asks_late, outlasted}

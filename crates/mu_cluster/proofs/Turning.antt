@@ -30,7 +30,7 @@ use Rattle.mu_cluster.proofs.Naming.{AreUnpaused, part_before, part_step}
 use Rattle.mu_cluster.proofs.Trusting.{trusts}
 
 -- the least that passes is at most each that does
-least_most : (n q : ℕ) (test : ℕ → Bool) → q < n → test q ≡ true → least_below n test ≤ q
+pub least_most : (n q : ℕ) (test : ℕ → Bool) → q < n → test q ≡ true → least_below n test ≤ q
 least_most zero q test low passes = absurd (omega (arith, low))
 least_most (suc n) q test low passes = elim (cases_eq q n) [
   | inl same ↦ (let fits = least_below_fits n test in last (least_below n test == n) refl (subst (λ x. test x ≡ true) same passes) fits same)

@@ -1,5 +1,5 @@
 -- Rows that were made of commands spell them.
-use Rattle.std.proofs.Common.{◌≡◌, ◌∙◌, ℕ, zero, suc, ◌<◌, ◌≤◌, ◌/◌, ◌^◌, List, [], ◌∷◌, Some, ap, arith, length, refl, subst, sym}
+use Rattle.std.proofs.Common.{◌≡◌, ◌∙◌, ℕ, zero, suc, ◌/◌, ◌^◌, List, [], ◌∷◌, Some, ap, arith, length, refl, subst, sym}
 use Rattle.std.specs.Prelude.{slice_index}
 use Rattle.std.specs.List.{slice_get}
 use Rattle.std.proofs.lemmas.Option.{slice_get_within}
@@ -7,10 +7,9 @@ use Rattle.kv_store.specs.Commands.{Request}
 use Rattle.mu_follow.specs.Groups.{AreSpelled}
 use Rattle.mu_input.specs.Batches.{followers, rows_of}
 use Rattle.mu_input.specs.Heads.{HaveHeads}
-use Rattle.mu_known.specs.RowWords.{config_words}
 use Rattle.mu_model.specs.declared.config.Config.{Config}
 use Rattle.mu_model.specs.declared.config.Row.{Row}
-use Rattle.mu_model.specs.Contents.{IsConfig, rest_of, row_count, word_of}
+use Rattle.mu_model.specs.Contents.{IsConfig, rest_of, word_of}
 use Rattle.mu_model.proofs.Basics.{same_some}
 use Rattle.mu_rows.specs.Rows.{IsCommand, spelled}
 

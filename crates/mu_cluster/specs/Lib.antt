@@ -1,4 +1,5 @@
 pub mod Branches
+pub mod Finishing
 pub mod Lists
 pub mod Leading
 pub mod Living

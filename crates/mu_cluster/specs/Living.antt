@@ -1,4 +1,4 @@
--- What a replay comes to where its budget is enough.
+-- What a replay comes to if its budget is enough.
 use Rattle.std.specs.Prelude.{Bool, List, Some, [], false, not, true, ℕ, ◌<◌, ◌==◌, ◌||◌, ◌∷◌, ◌≡◌, ◌≤◌}
 use Rattle.std.specs.List.{slice_get}
 use Rattle.mu_alive.specs.Enough.{HasLargeRing, steps_enough}
@@ -11,6 +11,7 @@ use Rattle.mu_model.specs.Leaderships.{majority_of}
 use Rattle.mu_outcome.specs.declared.outcome.Outcome.{Outcome}
 use Rattle.mu_outcome.specs.Completion.{HasAllCommands}
 use Rattle.mu_outcome.specs.Outcomes.{log_of}
+use Rattle.mu_cluster.specs.Finishing.{AppliesEachInTime, FinishesInTime}
 use Rattle.mu_cluster.specs.Outliving.{AppliesAllAfterStops, HasAllAfterStops}
 
 -- a line of the script stops r
@@ -27,8 +28,8 @@ pub record LeavesMajority (c : Config) (stops : List Stop) : Type 0 where
   pub first : is_left stops 0 ≡ true
   pub majority : majority_of c.replicas ≤ count_below c.replicas (is_left stops)
 
--- where its script has no pause and leaves a majority with replica 0, its ring is large and its
--- budget enough, replica 0 has every row in its log, should these replicas have spent their budgets
+-- if its script has no pause and leaves a majority with replica 0, its ring is large and its budget
+-- enough, replica 0 has every row in its log, should these replicas have spent their budgets
 abbrev pub AppliesAllWithFirst : Outcome → Type 0
 AppliesAllWithFirst o =
     o.job.script.pauses ≡ [] → LeavesMajority o.job.config o.job.script.stops
@@ -44,13 +45,16 @@ HasAllWithFirst o =
     → HasLargeRing o.job.config → steps_enough o.job.config ≤ o.job.config.budget
     → HasAllCommands o
 
--- what holds of the replicas where their budgets are spent: where replica 0 isn't stopped, and where
--- any are
+-- what holds of the replicas if their budgets are spent: if replica 0 isn't stopped, and if any are;
+-- and which finish
 pub record AppliesAllUnpaused (o : Outcome) : Type 0 where
   pub first : AppliesAllWithFirst o
   pub last : AppliesAllAfterStops o
+  pub each : AppliesEachInTime o
 
--- a replay stays alive: it has every command where replica 0 isn't stopped, and where leaders are
+-- a replay stays alive: it has every command if replica 0 isn't stopped, and if leaders are; and in
+-- the first case each replica that isn't stopped finishes
 pub record HasAllInTime (o : Outcome) : Type 0 where
   pub first : HasAllWithFirst o
   pub last : HasAllAfterStops o
+  pub each : FinishesInTime o

@@ -1,5 +1,5 @@
--- What a replay comes to where leaders are stopped, one after another.
-use Rattle.std.specs.Prelude.{Bool, List, Some, [], false, length, not, true, ℕ, ◌+◌, ◌<◌, ◌≡◌, ◌≤◌}
+-- What a replay comes to if leaders are stopped, one after another.
+use Rattle.std.specs.Prelude.{Bool, Some, [], false, length, not, true, ℕ, ◌+◌, ◌<◌, ◌≡◌, ◌≤◌}
 use Rattle.std.specs.declared.option.Option.{Option}
 use Rattle.std.specs.List.{slice_get}
 use Rattle.mu_alive.specs.Enough.{HasLargeRing}
@@ -42,7 +42,7 @@ pub record HasTimeAfter (o : Outcome) (s k : ℕ) : Type 0 where
   pub large : HasLargeRing o.job.config
   pub enough : k + steps_after o.job.config s ≤ o.job.config.budget
 
--- where the script has no pause the least replica that goes on with a majority has every row in its
+-- if the script has no pause, the least replica that goes on with a majority has every row in its
 -- log, should those that weren't stopped have spent their budgets
 abbrev pub AppliesAllAfterStops : Outcome → Type 0
 AppliesAllAfterStops o =

@@ -2,10 +2,11 @@
 use Rattle.std.specs.Prelude.{ℕ, ◌≡◌, ◌&&◌, not, Bool, List, ◌∷◌}
 use Rattle.mu_model.specs.declared.config.Config.{Config}
 use Rattle.mu_model.specs.declared.event.Event.{Event}
-use Rattle.mu_model.specs.Ends.{is_finished}
+use Rattle.mu_model.specs.Ends.{is_finished, outrun}
 use Rattle.mu_model.specs.Knowledge.{applied}
 use Rattle.mu_model.specs.Scores.{leader}
 use Rattle.mu_detect.specs.Stands.{StandsFor}
+use Rattle.mu_follow.specs.Commits.{HoldsCommits}
 use Rattle.mu_follow.specs.Completion.{HoldsCompletion}
 use Rattle.mu_follow.specs.Published.{HoldsPublished}
 use Rattle.mu_parts.specs.Parts.{StandsForReplica}
@@ -21,6 +22,8 @@ pub record StandsForCourse (c : Config) (r : ℕ) (mine : List Event) (course : 
   pub resigned : course.resigned ≡ has_resigned c r mine
   pub heads : HoldsPublished r mine course.heads
   pub completion : HoldsCompletion c (applied c r mine) course.completion
+  pub commits : HoldsCommits c r mine course.commits
+  pub outrun : course.outrun ≡ outrun c r mine
 
 -- the event finishes r, which had not finished before
 abbrev pub finishes : Config → ℕ → List Event → Event → Bool

@@ -1,9 +1,10 @@
 //! What the events of one replica come to.
-ghost use Rattle.std.specs.Prelude.{IfOk, List, [], false, if◌then◌else◌, not, ℕ, ◌&&◌, ◌<◌, ◌||◌, ◌∷◌, ◌≡◌};
+ghost use Rattle.std.specs.Prelude.{IfOk, List, [], false, if◌then◌else◌, length, map, not, take, ℕ, ◌&&◌, ◌<◌, ◌||◌, ◌∷◌, ◌≡◌, ◌≤◌};
 ghost use Rattle.mu_model.specs.declared.config.Config.{Config as Settings};
 ghost use Rattle.mu_model.specs.declared.event.Event.{Event as Made};
 ghost use Rattle.mu_model.specs.Contents.{IsConfig};
 ghost use Rattle.mu_model.specs.Ends.{is_finished as is_finished_of};
+ghost use Rattle.mu_model.specs.Knowledge.{applied as applied_of, commits as commits_of, known as known_of};
 ghost use Rattle.mu_model.specs.Leaderships.{begins_leadership};
 ghost use Rattle.mu_model.specs.Parts.{IsPossible};
 ghost use Rattle.mu_model.specs.Scores.{is_failed as is_failed_by, leader as leader_of};
@@ -11,13 +12,19 @@ ghost use Rattle.mu_model.specs.Steps.{is_beat as is_beat_event};
 ghost use Rattle.mu_model.specs.Stretches.{is_odd};
 ghost use Rattle.mu_course.specs.Courses.{StandsForCourse, TellsTurn};
 ghost use Rattle.mu_course.specs.Resigning.{is_leading as is_leading_of, yields as yields_by};
+ghost use Rattle.mu_course.specs.SoFar.{IsSoFar};
 ghost use Rattle.mu_course.specs.Telling.{Tells};
+ghost use Rattle.mu_known.specs.Commits.{pair_of};
 
 use crate::finishing::is_finished;
+use crate::halts::stops_at;
+use crate::noting::{commit_in, outrun_after, push_commit};
+use crate::so_far::{EndSoFar, first_end};
 use crate::told::{Told, is_end, told_by};
 use mu_detect::Scores;
 use mu_follow::{Completion, Published, count_applied};
-use mu_model::{Config, Event, NoMemory, Verb};
+use mu_known::Commit;
+use mu_model::{Config, Event, NoMemory, Script, Verb, positions_in};
 use mu_parts::Replica;
 use std::alloc::Global;
 
@@ -34,6 +41,10 @@ pub struct Course {
     heads: Published,
     /// How many of the entries that it applied hold all commands.
     completion: Completion,
+    /// What it committed.
+    commits: Vec<Commit>,
+    /// Where it was outrun.
+    outrun: Option<(u8, u16)>,
 }
 
 /// What an event comes to for the replica that makes it.
@@ -97,6 +108,13 @@ fn resigned_after(resigned: bool, begins: bool, yields: bool) -> bool
     if begins { false } else { yields || resigned }
 }
 
+/// The first values, or all where there are fewer.
+fn first_of(values: &[u16], count: usize) -> &[u16]
+    ensures { count ≤ length values.now → result.now ≡ take count values.now }
+{
+    &values[..count.min(values.len())]
+}
+
 /// Whether a leadership is given up, which is under way, where a step gives way.
 fn is_resigning(leading: bool, yields: bool) -> bool
     ensures { result ≡ (leading && yields) }
@@ -121,6 +139,8 @@ impl Course {
             resigned: false,
             heads,
             completion,
+            commits: Vec::with_capacity(alloc, positions_in(config))?,
+            outrun: None,
         })
     }
 
@@ -186,6 +206,9 @@ impl Course {
             → Tells config.now mine event.now result }
     {
         let told = told_by(&mut self.replica, config, event);
+        let commit = commit_in(event, told.taught);
+        push_commit(&mut self.commits, commit);
+        self.outrun = outrun_after(self.outrun, event.by, told.known, event);
         self.scores.note(event);
         self.resigned = resigned_after(self.resigned, begins(event, event.by), yields);
         self.heads.note(event.by, event);
@@ -196,6 +219,43 @@ impl Course {
             &self.replica.held_rows,
         );
         told
+    }
+
+    /// What the replica knows, in order.
+    pub fn known(&self) -> &[u16]
+        ensures { (c : Settings) → (r : ℕ) → (mine : List Made) → StandsForCourse c r mine self.now
+            → result.now ≡ known_of c r mine }
+    {
+        self.replica.known_log.known()
+    }
+
+    /// What it has applied, in order.
+    pub fn applied(&self) -> &[u16]
+        ensures { (c : Settings) → (r : ℕ) → (mine : List Made) → StandsForCourse c r mine self.now
+            → result.now ≡ applied_of c r mine }
+    {
+        first_of(self.known(), self.replica.held_rows.applied_length())
+    }
+
+    /// What it committed, in order.
+    pub fn commits(&self) -> &[Commit]
+        ensures { (c : Settings) → (r : ℕ) → (mine : List Made) → StandsForCourse c r mine self.now
+            → map pair_of result.now ≡ commits_of c r mine }
+    {
+        self.commits.as_slice()
+    }
+
+    /// How it has ended so far, by its script and its budget.
+    pub fn end(&self, config: &Config, script: &Script) -> EndSoFar
+        requires { IsConfig config.now }
+        ensures { (r : ℕ) → (mine : List Made) → StandsForCourse config.now r mine self.now
+            → IsSoFar config.now script.now r mine result }
+    {
+        let steps = self.replica.steps;
+        let stopped = stops_at(script.stops.as_slice(), self.replica.replica, steps);
+        let spent = steps == config.budget;
+        let finished = self.is_finished(config);
+        first_end(stopped, spent, self.outrun, finished)
     }
 
     /// Takes the next event of the replica, which it was allowed, and tells what it comes to. Takes

@@ -19,7 +19,7 @@ pub enum Halt {
 }
 
 /// Whether the script stops the replica after so many steps.
-fn stops_at(stops: &[Stop], replica: u8, steps: u32) -> bool
+pub(crate) fn stops_at(stops: &[Stop], replica: u8, steps: u32) -> bool
     ensures { result ≡ stops_at_steps replica steps stops.now }
 {
     for stop in stops {

@@ -5,10 +5,13 @@
 mod course;
 mod finishing;
 mod halts;
+mod noting;
+mod so_far;
 mod told;
 mod walk;
 
 pub use course::Turn;
 pub use halts::{Halt, halt_after};
+pub use so_far::EndSoFar;
 pub use told::Told;
-pub use walk::Walk;
+pub use walk::{Walk, walked};

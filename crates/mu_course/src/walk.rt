@@ -1,17 +1,22 @@
 //! A walk over a legal list of events, with the states of all replicas and regions.
-ghost use Rattle.std.specs.Prelude.{IfOk, List, [], Some, ◌∷◌, ◌<◌, ◌≡◌};
+ghost use Rattle.std.specs.Prelude.{IfOk, List, [], Some, length, map, take, ◌∷◌, ◌<◌, ◌≡◌, ◌≤◌};
 ghost use Rattle.mu_model.specs.declared.event.Event.{Event as Made};
 ghost use Rattle.mu_model.specs.Contents.{IsConfig};
-ghost use Rattle.mu_model.specs.Histories.{part};
-ghost use Rattle.mu_model.specs.Legal.{IsLegalHistory};
+ghost use Rattle.mu_model.specs.Histories.{history, part};
+ghost use Rattle.mu_model.specs.Knowledge.{applied as applied_of, commits as commits_of, known as known_of};
+ghost use Rattle.mu_model.specs.Legal.{IsLegal, IsLegalHistory};
 ghost use Rattle.mu_model.specs.Regions.{fence as fence_of, fence_grant};
 ghost use Rattle.mu_model.specs.Scores.{is_failed, leader};
 ghost use Rattle.mu_model.specs.declared.config.Config.{Config as Settings};
 ghost use Rattle.mu_course.specs.Walks.{StandsForWalk, TellsStep, fence_shown, grants_shown};
 ghost use Rattle.mu_course.specs.Resigning.{is_leading};
+ghost use Rattle.mu_course.specs.SoFar.{IsSoFar};
+ghost use Rattle.mu_known.specs.Commits.{pair_of};
 
 use crate::course::{Course, Turn};
-use mu_model::{Answer, Config, Event, Fence, NoMemory, Verb};
+use crate::so_far::EndSoFar;
+use mu_known::Commit;
+use mu_model::{Answer, Config, Event, Fence, NoMemory, Script, Verb};
 use mu_regions::Regions;
 use std::alloc::Global;
 
@@ -83,6 +88,42 @@ impl Walk {
         }
     }
 
+    /// What the replica has applied, in order. Nothing if there is no such replica.
+    pub fn applied(&self, r: u8) -> &[u16]
+        ensures { (past : List Made) → (c : Settings) → r < c.replicas
+            → StandsForWalk c past self.now → result.now ≡ applied_of c r (part r past) }
+    {
+        match self.courses.get(usize::from(r)) {
+            None => &[],
+            Some(course) => course.applied(),
+        }
+    }
+
+    /// What it committed, in order. Nothing if there is no such replica.
+    pub fn commits(&self, r: u8) -> &[Commit]
+        ensures { (past : List Made) → (c : Settings) → r < c.replicas
+            → StandsForWalk c past self.now
+            → map pair_of result.now ≡ commits_of c r (part r past) }
+    {
+        match self.courses.get(usize::from(r)) {
+            None => &[],
+            Some(course) => course.commits(),
+        }
+    }
+
+    /// How it has ended so far, by its script and its budget.
+    pub fn end(&self, config: &Config, script: &Script, r: u8) -> EndSoFar
+        requires { IsConfig config.now }
+        ensures { (past : List Made) → r < config.now.replicas
+            → StandsForWalk config.now past self.now
+            → IsSoFar config.now script.now r (part r past) result }
+    {
+        match self.courses.get(usize::from(r)) {
+            None => EndSoFar::Running,
+            Some(course) => course.end(config, script),
+        }
+    }
+
     /// Whom the scores of the replica name.
     pub fn named(&self, r: u8) -> u8
         ensures { (past : List Made) → (c : Settings) → r < c.replicas
@@ -121,4 +162,29 @@ impl Walk {
             Some(course) => Some(course.take(config, event)),
         }
     }
+}
+
+/// The states after the first `count` events of a legal list.
+///
+/// # Errors
+///
+/// Want of memory alone.
+pub fn walked(
+    alloc: Global,
+    config: &Config,
+    events: &[Event],
+    count: usize,
+) -> Result<Walk, NoMemory>
+    requires config { IsConfig config.now }
+    requires legal { IsLegal config.now events.now }
+    requires within { count ≤ length events.now }
+    ensures { IfOk result (λ walk.
+        StandsForWalk config.now (history (take count events.now)) walk) }
+{
+    let mut walk = Walk::new(alloc, config)?;
+    for index in 0..count {
+        let event = events[index];
+        let _ = walk.take(config, &event);
+    }
+    Ok(walk)
 }

@@ -1,4 +1,5 @@
--- When the scores of a replica stand for its events.
+-- stands for (scores): for each replica a score, a flag and a count stand for the events of one
+-- replica; an event that reads no count of beats keeps that.
 use Rattle.std.specs.Prelude.{Bool, List, Some, false, true, ℕ, ◌<◌, ◌∷◌, ◌≡◌, ◌≤◌}
 use Rattle.std.specs.List.{slice_get}
 use Rattle.mu_model.specs.declared.event.Answer.{Answer}

@@ -1,5 +1,5 @@
-//! Which replicas one replica holds to be failed, and whom it names leader, kept up to date read by
-//! read.
+//! Which replicas one replica holds to be failed, and which it names leader, kept up to date read
+//! by read.
 //!
 //! `mu_model` says it by recursions on the replica's events. Here it comes from a score, a flag and
 //! the count read last for each replica, so that a read costs the same however long the list is.

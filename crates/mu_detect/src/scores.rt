@@ -65,7 +65,7 @@ impl Scores {
         }
     }
 
-    /// Takes a read of the count of beats of `q`. Of a replica that isn't there it takes nothing.
+    /// Takes a read of the count of beats of `q`. If there is no such replica, nothing changes.
     pub fn take(&mut self, q: u8, count: u64)
         ensures reads { (n r : ℕ) → (mine : List Event) → (event : Event) → event.by ≡ r
             → event.verb ≡ Verb.ReadBeat q → event.answer ≡ Answer.Number count
@@ -90,7 +90,7 @@ impl Scores {
         }
     }
 
-    /// The score of `q`, from 0 to 15. Of a replica that isn't there the answer says nothing.
+    /// The score of `q`, from 0 to 15. If there is no such replica, the answer says nothing.
     pub fn score(&self, q: u8) -> u8
         ensures { (n r : ℕ) → (mine : List Event) → q < n → StandsFor n r mine self.now
             → result ≡ (score r q mine).0 }
@@ -101,7 +101,7 @@ impl Scores {
         }
     }
 
-    /// Whether `q` is held to be alive. Of a replica that isn't there the answer says nothing.
+    /// Whether `q` is held to be alive. If there is no such replica, the answer says nothing.
     pub fn alive(&self, q: u8) -> bool
         ensures { (n r : ℕ) → (mine : List Event) → q < n → StandsFor n r mine self.now
             → result ≡ (score r q mine).1 }
@@ -112,8 +112,8 @@ impl Scores {
         }
     }
 
-    /// Whom the scores name leader: the least of the own id and the others that are held to be
-    /// alive.
+    /// The replica that the scores name leader: the least of this replica's id and the others that
+    /// are held to be alive.
     pub fn leader(&self) -> u8
         ensures { (c : Config) → (r : ℕ) → (mine : List Event)
             → StandsFor c.replicas r mine self.now

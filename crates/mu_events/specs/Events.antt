@@ -1,4 +1,4 @@
--- Lines of events: `BY VERB = ANSWER`.
+-- event line: the event that a line `BY VERB = ANSWER` spells.
 use Rattle.std.specs.Prelude.{ℕ, Bool, false, true, List, [], ◌∷◌, codes, None, Some, if◌then◌else◌}
 use Rattle.std.specs.declared.option.Option.{Option}
 use Rattle.std.specs.Option.{option_map}
@@ -11,7 +11,7 @@ use Rattle.mu_model.specs.declared.event.Target.TheVariants as target
 use Rattle.mu_model.specs.declared.event.Verb.{Verb}
 use Rattle.mu_text.specs.Numbers.{below, of_8, of_16, of_32, of_64, wide_number_of}
 
--- a thing made of several, where all are there
+-- a value made of several, if all are there
 abbrev pub of_two :
     {A : Type 0} {B : Type 0} {C : Type 0} → (A → B → C) → Option A → Option B → Option C
 of_two make (Some a) (Some b) = Some (make a b)
@@ -92,7 +92,7 @@ verb_of (name ∷ a ∷ b ∷ c ∷ []) = verb_of_three name a b c
 verb_of (name ∷ a ∷ b ∷ c ∷ d ∷ []) = verb_of_four name a b c d
 verb_of _ = None
 
--- whom a fence lets write: a number, or `none`
+-- the replica that a fence lets write: a number, or `none`
 abbrev pub owner_of : List ℕ → Option (Option ℕ)
 owner_of word = if bytes_eq word (codes "none") then Some None else option_map Some (of_8 word)
 
@@ -154,7 +154,7 @@ sides (word ∷ words) =
     if bytes_eq word (codes "=") then Some ([], words)
     else option_map (λ parts. (word ∷ parts.0, parts.1)) (sides words)
 
--- the event of one of so many replicas that these words before and after a `=` spell
+-- the event that these words before and after a `=` spell, by one of this number of replicas
 abbrev pub event_between : ℕ → Option (List (List ℕ) × List (List ℕ)) → Option Event
 event_between replicas (Some (by ∷ verb, answer)) =
     of_three (λ by verb answer. record { by = by; verb = verb; answer = answer })

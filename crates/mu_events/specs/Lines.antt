@@ -1,4 +1,4 @@
--- How an event is spelled as a line, and which events a line spells.
+-- lines (of events): how an event is spelled as a line, and which events a line spells.
 use Rattle.std.specs.Prelude.{ℕ, ◌<◌, ◌^◌, Bool, false, true, List, ◌++◌, None, Some, codes, ⊤}
 use Rattle.std.specs.declared.option.Option.{Option}
 use Rattle.std.specs.Fmt.{decimal}
@@ -16,7 +16,7 @@ target_words target.None = codes "none"
 target_words target.Min = codes "min"
 target_words (target.Place place) = codes "place " ++ decimal place
 
--- whom a fence lets write
+-- the replica that a fence lets write
 abbrev pub owner_words : Option ℕ → List ℕ
 owner_words None = codes "none"
 owner_words (Some owner) = decimal owner
@@ -137,7 +137,7 @@ abbrev pub EntersForWord : Verb → Type 0
 EntersForWord (verb.Enter p target.None) = ⊥
 EntersForWord _ = ⊤
 
--- an event of one of so many replicas, as a line spells it
+-- an event by one of this number of replicas, as a line spells it
 pub record IsSpelled (replicas : ℕ) (event : Event) : Type 0 where
   pub known : event.by < replicas
   pub fits : FitsEvent event

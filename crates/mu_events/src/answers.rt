@@ -54,7 +54,7 @@ fn push_fence(line: &mut Line, fence: &Fence)
     push_target(line, fence.target);
 }
 
-/// Adds whom a fence lets write: at most 4 bytes.
+/// Adds the replica that a fence lets write: at most 4 bytes.
 fn push_owner(line: &mut Line, owner: Option<u8>)
     requires { length line.old + 20 ≤ LINE_BYTES }
     ensures bytes { line.new ≡ line.old ++ owner_words owner }

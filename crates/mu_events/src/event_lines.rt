@@ -12,7 +12,7 @@ use crate::answers::{push_answer, push_target};
 use mu_model::{Event, Verb};
 use mu_text::Line;
 
-/// An event: the replica, its step and the answer.
+/// The line of an event: its replica, its step and the answer.
 pub fn event_line(event: &Event) -> Line
     ensures bytes { result ≡ event_line_of event.now }
     ensures fits { FitsEvent event.now }
@@ -27,7 +27,7 @@ pub fn event_line(event: &Event) -> Line
     line
 }
 
-/// The words of an event's line spell that event of one of so many replicas.
+/// The words of an event's line spell that event, if it is by one of this number of replicas.
 pub fn events_are_read_back()
     ensures { (replicas : ℕ) (event : Made) → IsSpelled replicas event
         → event_of replicas (words (event_line_of event)) ≡ Some event }

@@ -12,7 +12,8 @@ ghost use Rattle.mu_text.specs.Numbers.{below, wide_number_of};
 use mu_model::{Answer, Event, Fence, Target, Verb};
 use mu_text::{MANY_WORDS, of_8, of_16, of_32, of_64, split_words};
 
-/// The event of one of so many replicas that a line spells, if it spells one. Takes no memory.
+/// The event that a line spells, if it spells an event of one of `replicas` replicas. Takes no
+/// memory.
 pub fn event(replicas: u8, line: &[u8]) -> Option<Event>
     ensures { result ≡ event_of replicas (words line.now) }
 {
@@ -31,7 +32,7 @@ fn event_of(replicas: u8, words: &[&[u8]]) -> Option<Event>
     }
 }
 
-/// Where the first `=` stands, if there is one.
+/// The place of the first `=`, if there is one.
 fn place_of_equals(words: &[&[u8]]) -> Option<usize>
     ensures { result ≡ position (λ word. bytes_eq word.now (codes "=")) words.now }
 {
@@ -51,7 +52,7 @@ fn sides<'a, 'b>(words: &'b [&'a [u8]]) -> Option<(&'b [&'a [u8]], &'b [&'a [u8]
     }
 }
 
-/// The event that the words round a `=` spell.
+/// The event that the words before and after a `=` spell.
 fn event_between(replicas: u8, by: &[u8], verb: &[&[u8]], answer: &[&[u8]]) -> Option<Event>
     ensures { result ≡ event_between replicas (Some
         (by.now ∷ map (λ word. word.now) verb.now, map (λ word. word.now) answer.now)) }
@@ -63,7 +64,7 @@ fn event_between(replicas: u8, by: &[u8], verb: &[&[u8]], answer: &[&[u8]]) -> O
     })
 }
 
-/// One of so many replicas.
+/// The replica that a word names, if it is one of `replicas`.
 fn replica_of(replicas: u8, word: &[u8]) -> Option<u8>
     ensures { result ≡ below replicas (wide_number_of word.now) }
 {
@@ -249,7 +250,7 @@ fn fence_of(words: &[&[u8]]) -> Option<Fence>
     })
 }
 
-/// Whom a fence lets write: a replica, or nobody.
+/// The replica that a fence lets write, or nobody.
 fn owner_of(word: &[u8]) -> Option<Option<u8>>
     ensures { result ≡ owner_of word.now }
 {

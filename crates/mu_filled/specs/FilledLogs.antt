@@ -1,4 +1,5 @@
--- How far the logs of the regions are known to be filled, and how far they have what r knows.
+-- stands for (filled logs): the state of how far each log is known to be filled, and to have what r
+-- knows, stands for the events of r.
 use Rattle.std.specs.Prelude.{Bool, List, None, Some, false, if◌then◌else◌, length, nat_lt, true, ℕ, ◌&&◌, ◌+◌, ◌<◌, ◌==◌, ◌||◌, ◌≡◌, ◌≤◌}
 use Rattle.std.specs.declared.option.Option.{Option}
 use Rattle.std.specs.List.{slice_get}
@@ -17,12 +18,12 @@ use Rattle.mu_filled.specs.declared.filled_log.FilledLog.{FilledLog}
 use Rattle.mu_filled.specs.declared.filled_logs.Coverage.{Coverage}
 use Rattle.mu_filled.specs.declared.filled_logs.FilledLogs.{FilledLogs}
 
--- j is below the number, where there is one
+-- j is below the number, if there is one
 abbrev pub is_below : Option ℕ → ℕ → Bool
 is_below None j = false
 is_below (Some x) j = nat_lt j x
 
--- j is the position, where there is one
+-- j is the position, if there is one
 abbrev pub is_at : Option ℕ → ℕ → Bool
 is_at None j = false
 is_at (Some i) j = i == j
@@ -76,7 +77,7 @@ pub record IsFilledTo (c : Config) (r p : ℕ) (mine : List Event) (n : ℕ) : T
   pub below : (j : ℕ) → j < n → is_filled c r p mine j ≡ true
   pub next : is_filled c r p mine n ≡ false
 
--- each region of the list, counted from 0, does
+-- each state of the list stands for what r knows of its region, counted from 0
 abbrev pub HoldsCoverages : Config → ℕ → List Event → List Coverage → Type 0
 HoldsCoverages c r mine regions =
     (p : ℕ) (region : Coverage) → slice_get regions p ≡ Some region

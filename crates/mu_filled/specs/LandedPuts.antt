@@ -1,5 +1,5 @@
--- What r has put into logs in its leadership, and when the state of that stands for the events of
--- r.
+-- stands for (landed puts): the state of what r has put into logs in its leadership stands for the
+-- events of r.
 use Rattle.std.specs.Prelude.{Bool, List, None, Some, false, if◌then◌else◌, length, ℕ, ◌&&◌, ◌*◌, ◌+◌, ◌<◌, ◌==◌, ◌≡◌, ◌≤◌}
 use Rattle.std.specs.declared.option.Option.{Option}
 use Rattle.std.specs.List.{slice_get}
@@ -29,18 +29,18 @@ entry_put r p i by _ _ = None
 abbrev pub last_landed : ℕ → ℕ → ℕ → List Event → Option (ℕ × ℕ)
 last_landed r p i mine = newest (λ e. entry_put r p i e.by e.verb e.answer) (leadership r mine)
 
--- the entry, where there is one, is (b, v)
+-- the entry, if there is one, is (b, v)
 abbrev pub is_entry : Option (ℕ × ℕ) → ℕ → ℕ → Bool
 is_entry None b v = false
 is_entry (Some entry) b v = (entry.0 == b) && (entry.1 == v)
 
--- the entry that was noted, where it is of the n-th leadership
+-- the entry that was noted, if it is of the n-th leadership
 abbrev pub noted_in : ℕ → Option Landing → Option (ℕ × ℕ)
 noted_in n None = None
 noted_in n (Some landing) =
     if landing.leadership == n then Some (landing.number, landing.value) else None
 
--- what was noted, where there is something, is of one of the first n leaderships
+-- what was noted, if there is something, is of one of the first n leaderships
 abbrev pub IsWithin : ℕ → Option Landing → Type 0
 IsWithin n None = Unit {0}
 IsWithin n (Some landing) = landing.leadership ≤ n

@@ -62,7 +62,7 @@ fn first_unmarked(marks: &[bool], from: u64) -> u64
 }
 
 impl FilledLog {
-    /// Nothing filled yet. Takes memory for all positions.
+    /// A log with no position filled yet. Takes memory for all positions.
     pub fn new(alloc: Global, config: &Config) -> Result<FilledLog, NoMemory>
         requires { row_count config.now ≤ 1500 }
         ensures { IfOk result (λ log. (r p : ℕ) → StandsForFilledLog config.now r p [] log) }
@@ -73,9 +73,9 @@ impl FilledLog {
         })
     }
 
-    /// Takes what the next event shows of the log: the FUO that it reads, where it reads one, and
-    /// the position that it shows to be filled, where it shows one. Takes no memory. The pointer
-    /// only moves on, so over all events the time of one is constant on average.
+    /// Takes what the next event shows of the log: the FUO that it reads, if it reads one, and the
+    /// position that it shows to be filled, if it shows one. Takes no memory. The pointer only
+    /// moves on, so over all events the time of one is constant on average.
     pub fn take(&mut self, read: Option<u64>, spot: Option<u16>)
         ensures { (c : Config) → (r p : ℕ) → (event : Event) → (mine : List Event)
             → IsPossible c r (event ∷ mine) → read ≡ fuo_read r p event.by event.verb event.answer
@@ -87,7 +87,7 @@ impl FilledLog {
         self.filled_to = first_unmarked(&self.filled, raised(read, self.filled_to));
     }
 
-    /// Up to where all positions are known to be filled.
+    /// The position below which all are known to be filled.
     pub fn filled_to(&self) -> u64
         ensures { (c : Config) → (r p : ℕ) → (mine : List Event)
             → StandsForFilledLog c r p mine self.now

@@ -40,8 +40,7 @@ fn is_known(values: &[u16], i: u16, v: u16) -> bool
     }
 }
 
-/// Whether the event made `i` known, which is so where the known values end with it now, and ended
-/// before it.
+/// Whether the event made `i` known: the known values now end with it, and ended before it.
 fn is_learnt(known_before: &[u16], known_after: &[u16], i: u16) -> bool
     ensures { result ≡ ((length known_before.now == i) && (length known_after.now == i + 1)) }
 {
@@ -70,7 +69,7 @@ fn is_spread(
     is_learnt(known_before, known_after, i) && landings.has_landed(p, i, b, v)
 }
 
-/// The position, where it is filled.
+/// The position, if it is filled.
 fn spot_if(filled: bool, i: u16) -> Option<u16>
     ensures { result ≡ (if filled then Some i else None) }
 {
@@ -106,7 +105,7 @@ fn spot_filled(
     }
 }
 
-/// Whether the known value of position `at` was put at `p` in the leadership. It was where the last
+/// Whether the known value of position `at` was put at `p` in the leadership. It was, if the last
 /// put there was of this value: as long as the position isn't known all puts are alike, and later
 /// ones are of the known value.
 fn has_put_known(p: u8, at: u64, values: &[u16], landings: &LandedPuts) -> bool
@@ -138,7 +137,7 @@ fn first_behind(p: u8, from: u64, values: &[u16], landings: &LandedPuts) -> u64
     from.max(len)
 }
 
-/// What is left of a pointer of the leadership after the event: nothing where a new one begins.
+/// What is left of a pointer of the leadership after the event: nothing if a new one begins.
 fn kept(held: u64, r: u8, event: &Event) -> u64
     ensures { result ≡ (if begins_leadership r event.now then 0 else held) }
 {
@@ -157,7 +156,8 @@ pub struct Coverage {
 }
 
 impl Coverage {
-    /// Nothing known of the log of the region `id`. Takes memory for its positions.
+    /// The state in which nothing is known of the log of the region `id`. Takes memory for its
+    /// positions.
     fn new(alloc: Global, id: u8, config: &Config) -> Result<Coverage, NoMemory>
         requires { row_count config.now ≤ 1500 }
         ensures { IfOk result (λ region. (r : ℕ) → HoldsCoverage config.now r id [] region) }
@@ -237,7 +237,7 @@ fn take_at_each(
 }
 
 impl FilledLogs {
-    /// Nothing known yet. Takes all memory that it ever needs.
+    /// A state in which nothing is known yet. Takes all memory that it ever needs.
     pub fn new(alloc: Global, config: &Config) -> Result<FilledLogs, NoMemory>
         requires { row_count config.now ≤ 1500 }
         ensures { IfOk result (λ state. (r : ℕ) → StandsForFilledLogs config.now r [] state) }
@@ -280,7 +280,7 @@ impl FilledLogs {
         );
     }
 
-    /// Up to where all positions of `p` are known to be filled.
+    /// The position of `p` below which all are known to be filled.
     pub fn filled_to(&self, p: u8) -> u64
         ensures { (c : Config) → (r : ℕ) → (mine : List Event) → p < 7
             → StandsForFilledLogs c r mine self.now → IsFilledTo c r p mine result }

@@ -49,14 +49,14 @@ fn leadership_after(held: u32, r: u8, event: &Event) -> u32
     }
 }
 
-/// Where position `i` of `p` has its place among the notes.
+/// The place of position `i` of `p` among the notes.
 fn slot_of(p: u8, i: u16) -> usize
     ensures { result ≡ i * 7 + p }
 {
     usize::from(i) * 7 + usize::from(p)
 }
 
-/// What was noted, where it is of this leadership.
+/// What was noted, if it is of this leadership.
 fn noted_now(leadership: u32, noted: Option<Landing>) -> Option<(u32, u16)>
     ensures { result ≡ noted_in leadership noted }
 {
@@ -66,8 +66,7 @@ fn noted_now(leadership: u32, noted: Option<Landing>) -> Option<(u32, u16)>
     }
 }
 
-/// The region, the position, the number and the value of what the event of `r` puts, where it
-/// lands.
+/// The region, the position, the number and the value of what the event of `r` puts, if it lands.
 fn put_in(r: u8, event: &Event) -> Option<(u8, u16, u32, u16)>
     ensures { result ≡ landed_put r event.now.by event.now.verb event.now.answer }
 {
@@ -115,7 +114,7 @@ fn note_landing(notes: &mut [Option<Landing>], leadership: u32, r: u8, event: &E
 }
 
 impl LandedPuts {
-    /// Nothing put yet. Takes all memory that it ever needs.
+    /// A state in which nothing was put yet. Takes all memory that it ever needs.
     pub fn new(alloc: Global, config: &Config) -> Result<LandedPuts, NoMemory>
         requires { row_count config.now ≤ 1500 }
         ensures { IfOk result (λ state. (r : ℕ) → StandsForLandedPuts config.now r [] state) }
@@ -151,7 +150,7 @@ impl LandedPuts {
         }
     }
 
-    /// Whether `v` was put at position `i` of `p` under the number `b` in the leadership. Where `i`
+    /// Whether `v` was put at position `i` of `p` under the number `b` in the leadership. If `i`
     /// wasn't known before the last event, all puts there in one leadership are alike, so the last
     /// one tells.
     pub fn has_landed(&self, p: u8, i: u16, b: u32, v: u16) -> bool
@@ -197,8 +196,7 @@ impl LandedPuts {
     }
 
     /// Whether all members have taken `v` at position `i` under the number `b`, and are a majority
-    /// of the
-    /// `n` replicas, where `i` is the first position that wasn't known before the last event.
+    /// of the `n` replicas, if `i` is the first position that wasn't known before the last event.
     pub fn has_accepted(&self, n: u8, leading: &Leadership, i: u16, b: u32, v: u16) -> bool
         requires { n ≤ 7 }
         ensures { (c : Config) → (r : ℕ) → (event : Event) → (mine : List Event) → n ≡ c.replicas

@@ -1,4 +1,4 @@
--- What a put changes of what a replica knows, and of what is filled of its own log.
+-- How a put changes what a replica knows, and what is filled of its own log.
 use Rattle.std.proofs.Common.{◌≡◌, ℕ, ◌+◌, ◌<◌, ◌==◌, ◌&&◌, ◌||◌, Bool, true, false, cond, List, [], ◌∷◌, ◌++◌, length, refl, sym, ◌∙◌, ap, arith, Some, None, eqb-true, eq-eqb}
 use Rattle.std.specs.Prelude.{not}
 use Rattle.std.specs.declared.option.Option.{Option}

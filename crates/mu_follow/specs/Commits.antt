@@ -1,4 +1,4 @@
--- When a list of commits stands for what r committed.
+-- holds commits: a list of commits stands for what r committed.
 use Rattle.std.specs.Prelude.{List, map, vec_capacity, ℕ, ◌+◌, ◌<◌, ◌≡◌}
 use Rattle.std.specs.declared.alloc.Global.{Global}
 use Rattle.std.specs.declared.vec.Vec.{Vec}

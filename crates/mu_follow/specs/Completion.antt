@@ -1,4 +1,4 @@
--- From where on a log holds every command, and when the state of that stands for a log.
+-- holds completion: the state stands for the length from which on a log holds every command.
 use Rattle.std.specs.Prelude.{Bool, List, Some, false, length, take, true, ℕ, ◌+◌, ◌<◌, ◌≡◌, ◌≤◌}
 use Rattle.std.specs.List.{slice_get}
 use Rattle.mu_model.specs.declared.config.Config.{Config}

@@ -1,4 +1,4 @@
--- What a replayer has due at each of its places.
+-- due of a replayer: the verb that a replayer has due at each of its places.
 use Rattle.std.specs.Prelude.{Bool, List, None, Some, [], false, if◌then◌else◌, length, min, nat_lt, not, true, ℕ, ◌%◌, ◌*◌, ◌+◌, ◌-◌, ◌/◌, ◌==◌, ◌∷◌, ◌≡◌, ◌≤◌}
 use Rattle.std.specs.declared.option.Option.{Option}
 use Rattle.std.specs.List.{slice_get}
@@ -35,13 +35,13 @@ pub record HoldsProgress (c : Config) (r : ℕ) (mine : List Event)
   pub row : progress.row ≡ row_under_way mine
   pub handed : progress.handed ≤ length (applied c r mine)
 
--- a look at the own log one position after the next
+-- a look at the replica's own log, one position after the next
 abbrev pub ahead_due : Config → ℕ → List Event → Option Verb
 ahead_due c r mine =
     if nat_lt (length (known c r mine) + 1) (row_count c + reserve c)
     then Some (Verb.Look r (length (known c r mine) + 1)) else None
 
--- a look at the next position of the own log, where it is decided
+-- a look at the next position of the replica's own log, if it is decided
 abbrev pub next_due : Config → ℕ → List Event → Option Verb
 next_due c r mine =
     if is_known_decided r mine r (length (known c r mine))
@@ -66,7 +66,7 @@ first_word_of c r mine (Some v) =
     then Some (Verb.ReadRow (v + rows_had c r mine v) 0) else None)
     else None
 
--- the word k of the row, where there is one
+-- the word k of the row, if there is one
 abbrev pub next_word_of : ℕ → Option ℕ → Option Verb
 next_word_of k None = None
 next_word_of k (Some v) = Some (Verb.ReadRow v k)
@@ -77,17 +77,17 @@ word_due c r mine handed k =
     if k == 0 then first_word_of c r mine (slice_get (known c r mine) handed)
     else next_word_of k (row_under_way mine)
 
--- up to where the own log is filled and known
+-- up to which position the replica's own log is filled and known
 abbrev pub filled_known : Config → ℕ → List Event → ℕ
 filled_known c r mine = least_below (length (known c r mine)) (λ j. not (is_filled c r r mine j))
 
--- a raise of the own FUO to there
+-- a raise of its own FUO to there
 abbrev pub fuo_due : Config → ℕ → List Event → Option Verb
 fuo_due c r mine =
     if nat_lt (own_fuo r mine) (filled_known c r mine)
     then Some (Verb.RaiseFuo r (filled_known c r mine)) else None
 
--- a raise of the own head to what is handed on and decided
+-- a raise of its own head to what is handed on and decided
 abbrev pub head_due : ℕ → List Event → ℕ → Option Verb
 head_due r mine handed =
     if nat_lt (region_head r mine) (min handed (own_fuo r mine))
@@ -109,8 +109,8 @@ raise_due c r mine handed place =
     if place == 15 then fuo_due c r mine else if place == 16 then head_due r mine handed
     else if place == 17 then other_head_due c r mine else None
 
--- the verb of a place of the replayer, where one is due: the first three are left to the leader
--- while r leads
+-- the verb of a place of the replayer, if one is due: the first three are left to the leader while
+-- r leads
 abbrev pub replay_due : Config → ℕ → List Event → ℕ → ℕ → Bool → Option Verb
 replay_due c r mine handed place leading =
     if nat_lt place 3 then (if leading then None else look_due c r mine place)

@@ -1,4 +1,4 @@
--- When a replayer stands for the events of replica r.
+-- stands for (replayer): the state of a replayer stands for the events of replica r.
 use Rattle.std.specs.Prelude.{List, length, ℕ, ◌+◌, ◌<◌, ◌∷◌, ◌≡◌}
 use Rattle.std.specs.declared.option.Option.{Option}
 use Rattle.mu_model.specs.declared.config.Config.{Config}
@@ -15,7 +15,7 @@ use Rattle.mu_follow.specs.Completion.{HoldsCompletion}
 use Rattle.mu_follow.specs.Due.{HoldsProgress}
 use Rattle.mu_follow.specs.Published.{HoldsPublished}
 
--- what it knows, has and did stands for the events, and it has counted so many
+-- what it knows, has and did stands for the events; count events are counted
 pub record HoldsFollow (c : Config) (r : ℕ) (mine : List Event) (count : ℕ)
     (state : Follow) : Type 0 where
   pub config : state.config ≡ c

@@ -1,4 +1,5 @@
--- The commands of entries.
+-- group, spells, are spelled: the commands of an entry; twelve words spell a command; the rows of a
+-- configuration spell a list of commands, one each.
 use Rattle.std.specs.Prelude.{List, Some, [], drop, if◌then◌else◌, length, take, ℕ, ◌%◌, ◌++◌, ◌+◌, ◌∷◌, ◌≡◌, ◌≤◌}
 use Rattle.std.specs.List.{slice_get}
 use Rattle.kv_store.specs.Commands.{Request}

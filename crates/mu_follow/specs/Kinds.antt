@@ -1,4 +1,4 @@
--- What the verb of an event has to do with a replayer, and which of its states it can change.
+-- kinds: what the verb of an event means for a replayer, and which of its states it can change.
 use Rattle.std.specs.Prelude.{Bool, List, None, Some, false, if◌then◌else◌, true, ℕ, ◌&&◌, ◌==◌}
 use Rattle.std.specs.declared.option.Option.{Option}
 use Rattle.std.specs.List.{slice_get}
@@ -60,7 +60,7 @@ abbrev pub is_head : Kind → Bool
 is_head Kind.Head = true
 is_head _ = false
 
--- the position of the own log that a put of a known value fills
+-- the position of its own log that a put of a known value fills
 abbrev pub put_spot : ℕ → List ℕ → Verb → Answer → Option ℕ
 put_spot r values (Verb.PutSlot q i b v) Answer.Done =
     if (q == r) && is_value (slice_get values i) v then Some i else None

@@ -1,4 +1,5 @@
--- How soon a replayer does its work.
+-- raises its head at: the event at one place of each round raises the replica's own head if it may
+-- be raised, so it is raised in time.
 use Rattle.std.specs.Prelude.{List, length, true, ℕ, ◌%◌, ◌<◌, ◌≡◌}
 use Rattle.mu_model.specs.declared.config.Config.{Config}
 use Rattle.mu_model.specs.declared.event.Event.{Event}
@@ -7,7 +8,7 @@ use Rattle.mu_model.specs.Steps.{is_head_raise}
 use Rattle.mu_pace.specs.Counters.{AtEachMoment, AtEachStep, IsInTime}
 use Rattle.mu_pace.specs.Watches.{is_head_due, raising_head}
 
--- the event at the place k of each round raises the own head where it may be raised
+-- the event at the place k of each round raises the replica's own head if it may be raised
 abbrev pub RaisesHeadAt : Config → ℕ → ℕ → List Event → Type 0
 RaisesHeadAt c r k past =
     AtEachStep
@@ -15,7 +16,7 @@ RaisesHeadAt c r k past =
     → is_head_raise e ≡ true)
     past
 
--- who raises its head so at one place of the round raises it in time
+-- a replica that raises its head like this at one place of the round raises it in time
 abbrev pub HeadsRiseInTime : Type 0
 HeadsRiseInTime =
     (c : Config) (r k : ℕ) (past : List Event) → k < cycle c → RaisesHeadAt c r k past

@@ -1,4 +1,4 @@
--- When the heads that r keeps stand for its events.
+-- holds published heads: the heads that r keeps stand for its events.
 use Rattle.std.specs.Prelude.{List, Some, ℕ, ◌<◌, ◌≡◌}
 use Rattle.std.specs.declared.option.Option.{Option}
 use Rattle.std.specs.List.{slice_get}
@@ -8,7 +8,7 @@ use Rattle.mu_model.specs.Regions.{region_head}
 use Rattle.mu_model.specs.Room.{head_read}
 use Rattle.mu_follow.specs.declared.published.Published.{Published}
 
--- the head of q that r read last, where it read one
+-- the head of q that r read last, if it read one
 abbrev pub head_heard : ℕ → ℕ → List Event → Option ℕ
 head_heard r q mine = newest (λ e. head_read r q e.by e.verb e.answer) mine
 

@@ -3,7 +3,7 @@ ghost use Rattle.std.specs.Prelude.{[], length, vec_capacity, ◌++◌, ◌<◌,
 
 use mu_known::Commit;
 
-/// Adds a commit, where there is room, as there is for each position.
+/// Adds a commit, if there is room: there is, for each position.
 pub(crate) fn push_commit(commits: &mut Vec<Commit>, commit: Commit)
     ensures items { length commits.old.items < vec_capacity commits.old
         → commits.new.items ≡ commits.old.items ++ commit ∷ [] }

@@ -1,4 +1,4 @@
-//! From where on a log holds every command of the job.
+//! From which length on a log holds every command of the job.
 ghost use Rattle.std.specs.Prelude.{Bool, IfOk, List, None, Some, [], if◌then◌else◌, length, nat_le, take, true, ℕ, ◌++◌, ◌+◌, ◌<◌, ◌==◌, ◌^◌, ◌∷◌, ◌≡◌, ◌≤◌, ◌||◌};
 ghost use Rattle.mu_model.specs.declared.config.Config.{Config};
 ghost use Rattle.mu_model.specs.Contents.{IsConfig, includes, row_count, rows_of};
@@ -60,7 +60,7 @@ fn first_missing(held: &[bool], from: usize) -> usize
     from.max(len)
 }
 
-/// Whether all rows are held, of which this is the first that isn't.
+/// Whether all rows are held; `first` is the first that isn't.
 fn is_whole(config: &Config, first: usize) -> bool
     ensures { (is_there : ℕ → Bool) → IsFirstMissing config.now is_there first
         → result ≡ all_below (row_count config.now) is_there }
@@ -68,7 +68,8 @@ fn is_whole(config: &Config, first: usize) -> bool
     config.rows.len() <= first
 }
 
-/// How many of one entry more hold all, where so many held all before, and all are held now or not.
+/// The number of entries that hold all, after one more: `full` held all before, and `all` says
+/// whether all are held now.
 fn full_after(full: usize, counted: usize, all: bool) -> usize
     requires { counted < 2 ^ 32 }
     ensures { full ≤ counted + 1
@@ -83,7 +84,7 @@ fn full_after(full: usize, counted: usize, all: bool) -> usize
 }
 
 impl Completion {
-    /// No entry is counted. Takes memory for the rows.
+    /// A state in which no entry is counted. Takes memory for the rows.
     pub fn new(alloc: Global, config: &Config) -> Result<Completion, NoMemory>
         ensures { IfOk result (λ state. HoldsCompletion config.now [] state) }
     {
@@ -111,7 +112,7 @@ impl Completion {
         self.counted = self.counted.saturating_add(1);
     }
 
-    /// Counts the first entries of the values up to so many.
+    /// Counts the first `applied` entries of the values.
     pub fn take(&mut self, config: &Config, values: &[u16], applied: usize)
         ensures { IsConfig config.now → length values.now ≤ 65536 → applied ≤ length values.now
             → self.old.counted ≤ applied
@@ -123,7 +124,7 @@ impl Completion {
         }
     }
 
-    /// How many of the entries that are counted hold all commands, where they do.
+    /// How many of the counted entries hold all commands, if they do.
     pub fn full(&self) -> Option<usize>
         ensures { (c : Config) → (values : List ℕ) → HoldsCompletion c values self.now
             → result

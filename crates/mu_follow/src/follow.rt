@@ -25,7 +25,7 @@ use mu_known::{Commit, HeldRows, KnownLog, RowWords};
 use mu_model::{Config, NoMemory, PAYLOADS, Verb, positions_in, row_rest, stands_for_batch};
 use std::alloc::Global;
 
-/// How many places a cycle has beside two for each replica.
+/// How many places a cycle has besides two for each replica.
 const PLACES: u32 = 22;
 
 /// What one replica has come to by its own events, and how far it is as a replayer.
@@ -43,15 +43,15 @@ pub struct Follow {
     pub(crate) rows: HeldRows,
     /// The words of the rows, as it wrote or read them.
     pub(crate) words: RowWords,
-    /// Up to where its own log is filled.
+    /// Up to which position its own log is filled.
     pub(crate) own_log: FilledLog,
     /// The heads.
     pub(crate) heads: Published,
-    /// From where on the log holds every command.
+    /// From which length on the log holds every command.
     pub(crate) completion: Completion,
     /// What it committed.
     pub(crate) commits: Vec<Commit>,
-    /// Where it was outrun.
+    /// The region and the position at which it was outrun.
     pub(crate) outrun: Option<(u8, u16)>,
     /// How far it is.
     pub(crate) progress: Progress,
@@ -189,8 +189,8 @@ impl Follow {
         &self.knowing
     }
 
-    /// How many of the values that are known the replica has in full, before the first that it has
-    /// not.
+    /// How many known values the replica has in full, before the first that it doesn't have in
+    /// full.
     pub fn applied_count(&self) -> usize
         ensures { (c : Config) → (r : ℕ) → (mine : List Event) → StandsForFollow c r mine self.now
             → result ≡ length (applied c r mine) }
@@ -206,7 +206,7 @@ impl Follow {
         self.commits.as_slice()
     }
 
-    /// How many of the applied entries hold every command, where they do.
+    /// How many of the applied entries hold every command, if they do.
     pub fn full_count(&self) -> Option<usize>
         ensures { (c : Config) → (r : ℕ) → (mine : List Event) → StandsForFollow c r mine self.now
             → result ≡ (if is_full c r mine then Some (full_length c r mine) else None) }
@@ -214,7 +214,7 @@ impl Follow {
         self.completion.full()
     }
 
-    /// The own head.
+    /// The replica's own head.
     pub fn own_head(&self) -> u16
         ensures { (c : Config) → (r : ℕ) → (mine : List Event) → StandsForFollow c r mine self.now
             → result ≡ region_head r mine }
@@ -240,8 +240,8 @@ impl Follow {
         self.outrun
     }
 
-    /// The verb of a place of the replayer, 0 to 17, where one is due: the first three are left to
-    /// the leader while the replica leads.
+    /// The verb of a place of the replayer, 0 to 17, if one is due: the first three are left to the
+    /// leader while the replica leads.
     pub fn due(&self, place: u8, leading: bool) -> Option<Verb>
         requires config { IsConfig self.now.config }
         ensures exact { (c : Config) → (r : ℕ) → (mine : List Event) → IsPossible c r mine
@@ -270,7 +270,7 @@ impl Follow {
         }
     }
 
-    /// The verb of the first three places: the own FUO is read, and the own log is looked at.
+    /// The verb of the first three places: the replica reads its own FUO, and looks at its own log.
     fn look(&self, place: u8) -> Option<Verb>
         requires config { IsConfig self.now.config }
         ensures { (c : Config) → (r : ℕ) → (mine : List Event) → IsPossible c r mine
@@ -299,7 +299,8 @@ impl Follow {
         }
     }
 
-    /// The verb of the last three places: the own FUO and head are raised, and a head is read.
+    /// The verb of the last three places: the replica raises its own FUO and head, and reads a
+    /// head.
     fn raise_or_read(&self, place: u8) -> Option<Verb>
         requires config { IsConfig self.now.config }
         ensures { (c : Config) → (r : ℕ) → (mine : List Event) → IsPossible c r mine
@@ -326,7 +327,7 @@ impl Follow {
         as_position(self.knowing.known().len() as u64)
     }
 
-    /// The look at the own log one position after the next.
+    /// The look at its own log, one position after the next.
     fn look_ahead(&self) -> Option<Verb>
         requires config { IsConfig self.now.config }
         ensures { (c : Config) → (r : ℕ) → (mine : List Event) → IsPossible c r mine
@@ -340,7 +341,7 @@ impl Follow {
         }
     }
 
-    /// The look at the next position of the own log, where it is decided.
+    /// The look at the next position of its own log, if it is decided.
     fn look_next(&self) -> Option<Verb>
         requires config { IsConfig self.now.config }
         ensures { (c : Config) → (r : ℕ) → (mine : List Event) → IsPossible c r mine
@@ -380,7 +381,7 @@ impl Follow {
         }
     }
 
-    /// The raise of the own FUO to where the log is filled and known.
+    /// The raise of its own FUO to the position up to which the log is filled and known.
     fn raise_of_fuo(&self) -> Option<Verb>
         requires config { IsConfig self.now.config }
         ensures { (c : Config) → (r : ℕ) → (mine : List Event) → IsPossible c r mine
@@ -395,7 +396,7 @@ impl Follow {
         }
     }
 
-    /// The raise of the own head to what is handed on and decided.
+    /// The raise of its own head to what is handed on and decided.
     fn raise_of_head(&self) -> Option<Verb>
         requires config { IsConfig self.now.config }
         ensures { (c : Config) → (r : ℕ) → (mine : List Event) → IsPossible c r mine

@@ -36,7 +36,7 @@ fn size_of(config: &Config, v: u16) -> u16
 }
 
 impl Follow {
-    /// The entry that is to be applied next: the first that was not applied yet, where all its rows
+    /// The entry that is to be applied next: the first that was not applied yet, if all its rows
     /// are written or read. Takes no memory.
     pub fn ready(&self) -> Option<Ready>
         ensures entry { (c : Config) → (r : ℕ) → (mine : List Event)
@@ -60,7 +60,7 @@ impl Follow {
     }
 
     /// The command that a row spells, by its twelve words as the replica wrote or read them, and
-    /// `None` where they spell no command. Takes no memory.
+    /// `None` if they spell no command. Takes no memory.
     pub fn command(&self, row: u16) -> Option<Command>
         ensures some { (c : Config) → (r : ℕ) → (mine : List Event) → row < row_count c
             → StandsForFollow c r mine self.now
@@ -80,7 +80,7 @@ impl Follow {
         }
     }
 
-    /// The entry that was to be applied next is applied now.
+    /// Notes that the entry that was to be applied next is applied now.
     pub fn applied(&mut self)
         requires ready { self.old.progress.handed < self.old.rows.applied }
         ensures stands { (c : Config) → (r : ℕ) → (mine : List Event)

@@ -9,7 +9,7 @@ use mu_model::Verb;
 pub enum Kind {
     /// A log is looked at: an entry may be learnt, or have been lost.
     Look,
-    /// An entry is put: it may be known, or fill the own log.
+    /// An entry is put: it may be known, or fill the replica's own log.
     Put,
     /// A FUO is read or raised.
     Fuo,

@@ -21,7 +21,8 @@ pub use mu_known::Commit;
 pub use noting::count_applied;
 pub use published::Published;
 
-/// Who raises its head at one place of the round, where it may be raised, raises it in time.
+/// A replica that raises its head at one place of the round, if it may be raised, raises it in
+/// time.
 pub fn heads_rise_in_time()
     ensures { HeadsRiseInTime }
 {}

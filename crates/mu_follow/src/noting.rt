@@ -1,4 +1,4 @@
-//! What the events of a replica change of what it knows, has and did as a replayer.
+//! How the events of a replica change what it knows, has and did as a replayer.
 ghost use Rattle.std.specs.Prelude.{List, None, Some, if◌then◌else◌, length, ℕ, ◌&&◌, ◌+◌, ◌<◌, ◌==◌, ◌∷◌, ◌≡◌};
 ghost use Rattle.std.specs.List.{slice_get};
 ghost use Rattle.mu_model.specs.declared.config.Config.{Config};
@@ -30,7 +30,7 @@ fn steps_after(steps: u32) -> u32
     steps.saturating_add(1)
 }
 
-/// The position, where it is filled.
+/// The position, if it is filled.
 fn spot_if(filled: bool, i: u16) -> Option<u16>
     ensures { result ≡ (if filled then Some i else None) }
 {
@@ -44,7 +44,7 @@ fn is_learnt(before: usize, after: usize, i: u16) -> bool
     before == usize::from(i) && after == usize::from(i) + 1
 }
 
-/// The position of the own log that a look shows to be filled: it taught its entry.
+/// The position of its own log that a look shows to be filled: the look taught its entry.
 fn spot_of_look(r: u8, before: usize, after: usize, event: &Event) -> Option<u16>
     ensures { (c : Config) → (mine : List Event) → kind_of_verb event.now.verb ≡ Kind.Look
         → before ≡ length (known c r mine) → after ≡ length (known c r (event.now ∷ mine))
@@ -70,7 +70,7 @@ fn is_known(values: &[u16], i: u16, v: u16) -> bool
     }
 }
 
-/// The position of the own log that a put of what was known before it fills.
+/// The position of its own log that is filled by a put of what was known before the put.
 fn spot_of_put(r: u8, known: &[u16], event: &Event) -> Option<u16>
     ensures { result ≡ put_spot r known.now event.now.verb event.now.answer }
 {
@@ -98,8 +98,8 @@ pub fn count_applied(
 }
 
 impl Follow {
-    /// Takes the next event of the replica, of any kind: all that it changes, but for the entry
-    /// that a put made known, which `learn` is told next. Takes no memory.
+    /// Takes the next event of the replica, of any kind: all that it changes, except the entry that
+    /// a put made known, which `learn` is told next. Takes no memory.
     #[inline(always)]
     pub fn note(&mut self, event: &Event)
         requires config { IsConfig self.old.config }
@@ -173,7 +173,7 @@ impl Follow {
         );
     }
 
-    /// Takes a put, but for the entry that it makes known.
+    /// Takes a put, except for the entry that it makes known.
     fn note_put(&mut self, event: &Event)
         ensures stands { (mine : List Event) → (n : ℕ) → kind_of_verb event.now.verb ≡ Kind.Put
             → IsPossible self.old.config event.now.by (event.now ∷ mine)

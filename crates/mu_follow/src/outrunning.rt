@@ -7,7 +7,8 @@ ghost use Rattle.mu_model.specs.Knowledge.{known as known_of};
 
 use mu_model::{Answer, Event, Verb};
 
-/// The region and the position that the event finds so, where so many values were known before it.
+/// The region and the position that the event finds to be past, if `known` values were known before
+/// it.
 fn outrun_in(r: u8, known: usize, event: &Event) -> Option<(u8, u16)>
     ensures { result ≡ outrun_by r known event.now.by event.now.verb event.now.answer }
 {

@@ -12,7 +12,7 @@ const LAST_WORD: u8 = 11;
 /// How far the replayer is.
 #[derive(Drop)]
 pub struct Progress {
-    /// The greatest own FUO read or raised.
+    /// The greatest FUO of its own region that was read or raised.
     pub(crate) fuo: u64,
     /// How many entries were handed on to be applied.
     pub(crate) handed: usize,
@@ -27,7 +27,7 @@ fn greater(held: u64, own: bool, fuo: u64) -> u64
     if own { held.max(fuo) } else { held }
 }
 
-/// The greatest own FUO read or raised, after the event.
+/// The greatest FUO of its own region that was read or raised, after the event.
 fn fuo_after(held: u64, r: u8, event: &Event) -> u64
     ensures { (mine : List SomeEvent) → event.now.by ≡ r → held ≡ own_fuo r mine
         → result ≡ own_fuo r (event.now ∷ mine) }
@@ -51,7 +51,7 @@ fn row_after(held: Option<u16>, event: &Event) -> Option<u16>
 }
 
 impl Progress {
-    /// Nothing done.
+    /// A replayer that has done nothing yet.
     pub fn new() -> Progress
         ensures fuo { (r : ℕ) → result.fuo ≡ own_fuo r [] }
         ensures row { result.row ≡ row_under_way [] }

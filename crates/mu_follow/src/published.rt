@@ -6,16 +6,16 @@ ghost use Rattle.mu_follow.specs.Published.{HearsHeads, HoldsPublished, head_hea
 
 use mu_model::{Answer, Event, Verb};
 
-/// The own head, and the heads of the others as they were read last.
+/// The replica's own head, and the heads of the others as they were read last.
 #[derive(Drop)]
 pub struct Published {
-    /// The own head.
+    /// The replica's own head.
     own: u16,
-    /// The heads read last, where one was read.
+    /// The heads read last, each if one was read.
     read: [Option<u64>; 7],
 }
 
-/// The own head after the event.
+/// The replica's own head after the event.
 fn own_after(held: u16, r: u8, event: &Event) -> u16
     ensures { (mine : List Event) → held ≡ region_head r mine
         → result ≡ region_head r (event.now ∷ mine) }
@@ -55,7 +55,7 @@ fn note_read(read: &mut [Option<u64>; 7], r: u8, event: &Event)
 }
 
 impl Published {
-    /// Nothing applied, and nothing read.
+    /// A state with nothing applied and nothing read.
     pub fn new() -> Published
         ensures { (r : ℕ) → HoldsPublished r [] result }
     {
@@ -74,7 +74,7 @@ impl Published {
         note_read(&mut self.read, r, event);
     }
 
-    /// The own head.
+    /// The replica's own head.
     pub fn own(&self) -> u16
         ensures { (r : ℕ) → (mine : List Event) → HoldsPublished r mine self.now
             → result ≡ region_head r mine }
@@ -82,7 +82,7 @@ impl Published {
         self.own
     }
 
-    /// The head of `q` read last.
+    /// The head of `q` that was read last.
     pub fn of(&self, q: u8) -> Option<u64>
         ensures { (r : ℕ) → (mine : List Event) → q < 7 → HoldsPublished r mine self.now
             → result ≡ head_heard r q mine }

@@ -1,9 +1,9 @@
 //! A place where running threads can be held.
 
-/// Called by each thread of a run before each of its steps, with the number of the thread and how
-/// many steps it has made. What it does changes no answer.
+/// Is called by each thread of a run before each of its steps, with the number of the thread and
+/// how many steps it has made. What it does changes no answer.
 pub trait Gate {
-    /// Lets the thread on when it likes.
+    /// Lets the thread go on when the gate likes.
     fn pass(&self, thread: u8, step: u32);
 }
 

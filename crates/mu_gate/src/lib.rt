@@ -1,4 +1,4 @@
-//! Places where threads that run beside each other can be held.
+//! Places where threads that run concurrently can be held.
 #![tactic(auto)]
 
 mod gate;

@@ -1,4 +1,4 @@
--- Who waits, and which is the verb that was due.
+-- Which replicas wait, and which verb was due.
 use Rattle.std.proofs.Common.{Bool, List, None, Some, false, not, true, suc, zero, ℕ, ◌+◌, ◌<◌, ◌≡◌, ◌≢◌, ap, arith, inl, inr, refl, subst, sym, ◌∙◌, true≢false}
 use Rattle.std.specs.Prelude.{is_some}
 use Rattle.std.specs.declared.option.Option.{Option}

@@ -1,6 +1,9 @@
--- The order in which a replica calls the places of its cycle, as far as the host goes, and how soon
--- the host grants. Turns count from 0, and each is one event: the even ones are background turns
--- and go round the cycle, the odd ones are replication turns.
+-- place, cycle's order: the turn of a journal at each place of the cycle; at a host's place each
+-- event makes what is due there, verbs of the host come nowhere else, and asks are read only at
+-- their places; a grant follows in the same round.
+--
+-- Turns count from 0, and each is one event: the even ones are background turns and go round the
+-- cycle, the odd ones are replication turns.
 use Rattle.std.specs.Prelude.{Bool, List, None, Some, [], false, length, true, ℕ, ◌%◌, ◌*◌, ◌+◌, ◌/◌, ◌<◌, ◌∷◌, ◌≡◌, ◌≤◌, ◌⊎◌}
 use Rattle.std.specs.declared.option.Option.{Option}
 use Rattle.mu_model.specs.declared.config.Config.{Config}
@@ -19,7 +22,7 @@ use Rattle.mu_grant.specs.Stands.{Gives}
 abbrev pub places : Config → ℕ
 places c = 2 * c.replicas + 22
 
--- the place where the asks of w are read
+-- the place at which the asks of w are read
 abbrev pub ask_place : Config → ℕ → ℕ
 ask_place c w = c.replicas + w
 
@@ -40,7 +43,7 @@ is_host_verb Verb.Drain = true
 is_host_verb (Verb.Grant w) = true
 is_host_verb _ = false
 
--- the verb is what is due at the host's place d, or none of the host where nothing is due there
+-- the verb is what is due at the host's place d, or none of the host's if nothing is due there
 pub record MakesDue (c : Config) (r : ℕ) (past : List Event) (d : ℕ) (verb : Verb) : Type 0 where
   pub due : Option Verb
   pub gives : Gives c r past d due
@@ -63,7 +66,7 @@ InCycleOrder c r [] = Unit {0}
 InCycleOrder c r (e ∷ past) = InCycleOrder c r past × FollowsCycle c r past e
 
 -- a read of asks that leaves w unserved is followed by a grant at the next place of grants at the
--- latest: that is 2 (n - w) + 6 events on, where there are n replicas
+-- latest: that is 2 (n - w) + 6 events on, if there are n replicas
 abbrev pub GrantsInTheRound : Type 0
 GrantsInTheRound =
     (c : Config) (r : ℕ) (past : List Event) → r < c.replicas → length past ≤ c.budget
@@ -79,8 +82,8 @@ GrantsWithinTheCycle =
     (c : Config) (r : ℕ) (past : List Event) → r < c.replicas → length past ≤ c.budget
     → InCycleOrder c r past → GrantsInTime c r past
 
--- at a place of the host an event follows the cycle that makes what is due there;
--- where nothing is due, one that is no verb of the host and reads no asks
+-- at a place of the host an event follows the cycle that makes what is due there; if nothing is
+-- due, one that is no verb of the host and reads no asks
 abbrev pub DueFollows : Type 0
 DueFollows =
     (c : Config) (r d : ℕ) (past : List Event) (e : Event) (due : Option Verb) → e.by ≡ r → d < 4

@@ -1,4 +1,6 @@
--- When the state of a host stands for its events, and what it gives and takes.
+-- stands for (grants): a host's state stands for its own events; at each place it gives an allowed
+-- verb, and none exactly if none is allowed; an event that is no read of asks and no verb of the
+-- host keeps the state.
 use Rattle.std.specs.Prelude.{Bool, List, None, Some, false, true, ℕ, ◌<◌, ◌==◌, ◌∷◌, ◌≡◌, ◌≤◌}
 use Rattle.std.specs.declared.option.Option.{Option}
 use Rattle.std.specs.List.{slice_get}
@@ -54,7 +56,7 @@ is_of_place place Verb.Drain = place == 2
 is_of_place place (Verb.Grant w) = place == 3
 is_of_place place _ = false
 
--- at a place a verb of it is given that is allowed, and none exactly where none is allowed
+-- what a host gives at a place: an allowed verb of that place, and none exactly if none is allowed
 pub record Gives (c : Config) (r : ℕ) (mine : List Event) (place : ℕ)
     (due : Option Verb) : Type 0 where
   pub given :
@@ -84,7 +86,7 @@ is_noted Verb.Drain _ = true
 is_noted (Verb.Grant w) _ = true
 is_noted _ _ = false
 
--- an event that is none of these changes nothing of what the state stands for
+-- an event of any other kind changes nothing of what the state stands for
 abbrev pub OthersKeep : Type 0
 OthersKeep =
     (n r : ℕ) (mine : List Event) (state : Grants) (event : Event)

@@ -24,14 +24,15 @@ pub struct Guest {
     as_owner: u64,
 }
 
-/// What a host has read of asks, whom it has served, and how far its closed fence is drained.
+/// What a host has read of asks, which replicas it has served, and how far its closed fence is
+/// drained.
 #[derive(Drop)]
 pub struct Grants {
     /// How many replicas there are.
     replicas: u8,
     /// The replica whose region it is.
     id: u8,
-    /// Whom the region was granted to last.
+    /// The replica to which the region was granted last.
     owner: Option<u8>,
     /// Whether a `Close` is pending.
     closing: bool,
@@ -214,7 +215,7 @@ fn is_of_host(verb: &Verb) -> bool
     }
 }
 
-/// The guest whose asks are read, or who is granted the region.
+/// The guest whose asks are read, or that is granted the region.
 fn guest_of(verb: &Verb) -> Option<u8>
     ensures { result ≡ guest_named verb.now }
 {
@@ -246,7 +247,7 @@ fn take_at_guests(guests: &mut [Guest], owner: Option<u8>, closing: bool, r: u8,
     }
 }
 
-/// The verb, where it may be made.
+/// The verb, if it may be made.
 fn given(may: bool, verb: Verb) -> Option<Verb>
     ensures only { (other : Verb) → result ≡ Some other → IsTrue may × (other ≡ verb) }
     ensures none { result ≡ None → may ≡ false }
@@ -254,7 +255,7 @@ fn given(may: bool, verb: Verb) -> Option<Verb>
     if may { Some(verb) } else { None }
 }
 
-/// The `Grant` to the replica, where there is one.
+/// The `Grant` to the replica, if there is one.
 fn granting(w: Option<u8>) -> Option<Verb>
     ensures some { (q : ℕ) → w ≡ Some q → result ≡ Some (Verb.Grant q) }
     ensures none { w ≡ None → result ≡ None }
@@ -288,8 +289,8 @@ impl Grants {
         }
     }
 
-    /// Takes the next event of the replica, of any kind. It may be a `Drain` only where a
-    /// `LookTarget` came since the last `Close`, as it does wherever a drain is allowed.
+    /// Takes the next event of the replica, of any kind. It may be a `Drain` only if a `LookTarget`
+    /// came since the last `Close`, as it did if a drain is allowed.
     #[inline(always)]
     pub fn note(&mut self, event: &Event)
         ensures { (n r : ℕ) → (mine : List Event)
@@ -430,7 +431,7 @@ impl Grants {
         self.closing && (!self.has_to_drain() || self.drained)
     }
 
-    /// Whom the host may grant its region to, if anybody.
+    /// The replica to which the host may grant its region, if any.
     fn next_owner(&self) -> Option<u8>
         ensures found { (c : Config) → (r w : ℕ) → (mine : List Event)
             → StandsFor c.replicas r mine self.now
@@ -474,7 +475,7 @@ impl Grants {
         }
     }
 
-    /// The verb that was due, where an answer to it came.
+    /// The verb that was due, if an answer to it came.
     fn answered(&self, answer: Answer) -> Option<Verb>
         ensures { (c : Config) → (r : ℕ) → (mine : List Event) → (event : Event)
             → StandsFor c.replicas r mine self.now → IsDue c r mine event → event.answer ≡ answer
@@ -494,7 +495,7 @@ impl Grants {
         }
     }
 
-    /// Takes the answer of the verb that was due and is made.
+    /// Takes the answer of the verb that was due and was made.
     pub fn take(&mut self, answer: Answer)
         ensures { (c : Config) → (r : ℕ) → (mine : List Event) → (event : Event)
             → IsDue c r mine event

@@ -18,7 +18,7 @@ pub fn others_keep()
 {}
 
 /// A host that read an ask which it hasn't served grants in the same round of the cycle, so within
-/// `4n + 44` of its own events, of `n` replicas: whatever a stopped writer left at its fence, where
+/// `4n + 44` of its own events, with `n` replicas: whatever a stopped writer left at its fence, if
 /// its places are called in the cycle's order.
 pub fn grants_within_the_cycle()
     ensures round { GrantsInTheRound }
@@ -26,7 +26,7 @@ pub fn grants_within_the_cycle()
 {}
 
 /// What keeps the cycle's order: at a place of the host what is due there, and elsewhere any step
-/// that is none of the host's, with asks read at their places alone.
+/// that is none of the host's, with asks read only at their places.
 pub fn turns_follow()
     ensures due { DueFollows }
     ensures other { OtherFollows }

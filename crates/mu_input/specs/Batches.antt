@@ -1,4 +1,5 @@
--- How the commands of a job are cut into batches, and their rows.
+-- batch: how the commands of a job are cut into batches: how many commands follow one in its batch,
+-- and the rows.
 use Rattle.std.specs.Prelude.{ℕ, ◌+◌, ◌%◌, ◌==◌, List, [], ◌∷◌, if◌then◌else◌}
 use Rattle.kv_store.specs.Commands.{Request}
 use Rattle.mu_model.specs.declared.config.Row.{Row}

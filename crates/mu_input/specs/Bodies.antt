@@ -1,4 +1,4 @@
--- The commands of a job: the lines between the settings and the script or the end.
+-- body: the commands of a job: the lines between the settings and the script or the end.
 use Rattle.std.specs.Prelude.{ℕ, ◌+◌, ◌-◌, ◌<◌, ◌==◌, ⊤, nat_lt, true, false, List, [], ◌∷◌, ◌++◌, length, codes, if◌then◌else◌}
 use Rattle.kv_store.specs.Commands.{Request, HasShortTexts}
 use Rattle.kv_store.specs.Sessions.{numbers_of}
@@ -13,20 +13,20 @@ use Rattle.mu_input.specs.declared.bodies.BodyLine.{BodyLine}
 use Rattle.mu_input.specs.declared.bodies.BodyLine.TheVariants.{Client, Operation, Script, End}
 use Rattle.mu_input.specs.declared.bodies.Body.{Body}
 
--- a line of the next client, after so many: it has this number
+-- a line of the next client after this many: it has this number
 abbrev pub client_line : ℕ → List (List ℕ) → Line BodyLine
 client_line clients (name ∷ number ∷ []) =
     if is_numbered clients (number_of number)
     then (if nat_lt clients MOST_CLIENTS then Says Client else Wrong TOO_MANY) else Wrong CLIENT
 client_line clients _ = Wrong CLIENT
 
--- an operation of the last client, where there is room for it among so many commands
+-- an operation of the last client, if there is room for it after this many commands
 abbrev pub operation_line : ℕ → Line Op → Line BodyLine
 operation_line commands (Says op) =
     if nat_lt commands MOST_COMMANDS then Says (Operation op) else Wrong TOO_MANY
 operation_line commands (Wrong cause) = Wrong cause
 
--- what a line says after so many clients and commands
+-- what a line says after this many clients and commands
 abbrev pub body_line : ℕ → ℕ → List (List ℕ) → Line BodyLine
 body_line clients commands line =
     if is_first (codes "client") line then client_line clients line
@@ -36,7 +36,7 @@ body_line clients commands line =
     else if is_alone (codes "end") line then Says End
     else Wrong OPERATION
 
--- there is room for what a line says after so many clients and commands
+-- there is room for what a line says after this many clients and commands
 abbrev pub HasRoom : ℕ → ℕ → BodyLine → Type 0
 HasRoom clients commands Client = clients < MOST_CLIENTS
 HasRoom clients commands (Operation op) =
@@ -61,7 +61,7 @@ body_after clients commands number left again (Says End) =
     Begins (record { commands = commands; has_script = false }) left
 body_after clients commands number left again (Wrong cause) = Breaks number cause
 
--- the commands that the lines from `number` on give, after so many clients and these commands
+-- the commands that the lines from `number` on give, after this many clients and these commands
 abbrev pub body_from : ℕ → List Request → ℕ → List (List ℕ) → Front Body
 body_from clients commands number [] = Breaks number NO_END
 body_from clients commands number (line ∷ lines) =

@@ -1,4 +1,4 @@
--- A large job, stated by its number of commands.
+-- stated job: a large job, stated by its number of commands.
 use Rattle.std.specs.Prelude.{ℕ, zero, suc, ◌+◌, ◌-◌, ◌/◌, ◌%◌, ◌==◌, List, [], ◌∷◌, ◌++◌, codes, if◌then◌else◌}
 use Rattle.std.specs.Fmt.{decimal}
 use Rattle.kv_store.specs.Commands.{Request}

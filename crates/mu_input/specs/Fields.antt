@@ -1,4 +1,4 @@
--- Keys and texts, as tests.
+-- is key, is text: which bytes are a key or a text, as tests.
 use Rattle.std.specs.Prelude.{ℕ, Bool, ◌&&◌, nat_le, List, length}
 use Rattle.std.specs.List.{list_all}
 use Rattle.kv_store.specs.declared.TheConstants.{KEY_BYTES, TEXT_BYTES, FIRST_BYTE, LAST_BYTE}

@@ -1,4 +1,4 @@
--- The grammar of a job: what bytes spell.
+-- job: the grammar of a job: which bytes spell which job, of settings, commands and a script.
 use Rattle.std.specs.Prelude.{ℕ, List}
 use Rattle.kv_store.specs.Commands.{Request}
 use Rattle.mu_model.specs.declared.script.Script.{Script}
@@ -41,7 +41,7 @@ with_commands commands job = record {
   script = job.script;
 }
 
--- the settings, the commands, and a script where one follows
+-- the settings, the commands, and a script if one follows
 abbrev pub job_at : Left → Front Job
 job_at left =
     followed (settings_at left) (λ settings left.

@@ -1,4 +1,4 @@
--- What the head words of rows say.
+-- have heads: what the head words of rows say.
 use Rattle.std.specs.Prelude.{ℕ, ◌≡◌, ◌/◌, ◌%◌, ◌^◌, List, [], ◌∷◌, slice_index, ⊤}
 use Rattle.kv_store.specs.Commands.{Request}
 use Rattle.mu_model.specs.declared.config.Row.{Row}

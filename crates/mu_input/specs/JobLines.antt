@@ -1,4 +1,4 @@
--- A job and a trace as lines, without their ends.
+-- job lines: a job and a trace as lines, without their ends.
 use Rattle.std.specs.Prelude.{ℕ, zero, suc, if◌then◌else◌, ◌+◌, ◌==◌, ◌||◌, nat_lt, nat_le, Bool, List, [], ◌∷◌, ◌++◌, length, map, codes}
 use Rattle.std.specs.Fmt.{decimal}
 use Rattle.kv_store.specs.Commands.{Request}
@@ -20,7 +20,7 @@ op_words (Del key) = codes "del " ++ key
 op_words (Swap key text) = codes "swap " ++ key ++ codes " " ++ text
 op_words (Cas key old new) = codes "cas " ++ key ++ codes " " ++ old ++ codes " " ++ new
 
--- how many commands a batch has at most, in version 2 alone
+-- the most commands of a batch, only in version 2
 abbrev pub batch_lines : Config → List (List ℕ)
 batch_lines config =
     if config.version == 2 then (codes "batch " ++ decimal config.width) ∷ [] else []
@@ -48,7 +48,7 @@ commands_lines client [] = []
 commands_lines client (command ∷ commands) =
     command_lines client command ++ commands_lines client commands
 
--- so many clients, each with its commands, the first of them this one
+-- the lines of this many clients, each with its commands; the first is this client
 abbrev pub client_lines : List Request → ℕ → ℕ → List (List ℕ)
 client_lines commands client zero = []
 client_lines commands client (suc clients) =
@@ -69,7 +69,7 @@ pause_line pause =
 abbrev pub has_lines : Script → Bool
 has_lines script = nat_lt 0 (length script.stops) || nat_lt 0 (length script.pauses)
 
--- the script, where it has a line
+-- the script, if it has a line
 abbrev pub script_lines : Script → List (List ℕ)
 script_lines script =
     if has_lines script

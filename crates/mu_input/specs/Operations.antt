@@ -1,4 +1,4 @@
--- What a line asks of the store.
+-- operation line: what a line asks of the store.
 use Rattle.std.specs.Prelude.{ℕ, Bool, true, false, ◌&&◌, ◌||◌, nat_le, length, List, [], ◌∷◌, codes, if◌then◌else◌}
 use Rattle.std.specs.Str.{bytes_eq}
 use Rattle.kv_store.specs.declared.TheConstants.{CAS_TEXT_BYTES}

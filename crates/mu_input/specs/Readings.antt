@@ -1,4 +1,5 @@
--- What bytes spell, or the first line that leaves the grammar, and why.
+-- reading: what bytes spell, or the first line that leaves the grammar, with its cause; the same of
+-- the first lines, and of one line.
 use Rattle.std.specs.Prelude.{ℕ, ◌≡◌, ◌≢◌, List, [], ◌∷◌, ⊤}
 use Rattle.std.specs.declared.result.Result.{Result}
 use Rattle.std.specs.declared.result.Result.TheVariants.{Ok, Err}

@@ -1,4 +1,4 @@
--- The script of a job: its stops and pauses.
+-- script: the stops and pauses of a job.
 use Rattle.std.specs.Prelude.{ℕ, zero, suc, ◌+◌, ◌==◌, nat_lt, Bool, true, false, not, ◌&&◌, ◌||◌, List, [], ◌∷◌, ◌++◌, length, codes, None, Some, if◌then◌else◌}
 use Rattle.std.specs.declared.option.Option.{Option}
 use Rattle.std.specs.Str.{bytes_eq}
@@ -18,7 +18,7 @@ abbrev pub is_stopped : ℕ → List Stop → Bool
 is_stopped r [] = false
 is_stopped r (stop ∷ stops) = (stop.replica == r) || is_stopped r stops
 
--- the stop of a replica after so many steps, where it has none yet
+-- the stop of a replica after this many steps, if it has none yet
 abbrev pub another_stop : List Stop → Option ℕ → Option ℕ → Option Stop
 another_stop stops (Some r) (Some k) =
     if is_stopped r stops then None else Some (record { replica = r; steps = k })
@@ -38,7 +38,7 @@ pauses_before r k [] = true
 pauses_before r k (pause ∷ pauses) =
     (not (pause.replica == r) || nat_lt pause.steps k) && pauses_before r k pauses
 
--- the pause of a replica after so many steps, for so many rounds, where it comes after its earlier
+-- the pause of a replica after this many steps, for this many rounds, if it comes after its earlier
 -- ones
 abbrev pub another_pause : List Pause → Option ℕ → Option ℕ → Option ℕ → Option Pause
 another_pause pauses (Some r) (Some k) (Some m) =
@@ -60,12 +60,12 @@ stop_or_pause (Some stop) pause = Some (line.Stop stop)
 stop_or_pause None (Some pause) = Some (line.Pause pause)
 stop_or_pause None None = None
 
--- it is judged before there is room for it after so many lines
+-- it is judged before there is room for it after this many lines
 abbrev pub with_room : ℕ → Option ScriptLine → Line ScriptLine
 with_room count None = Wrong SCRIPT
 with_room count (Some said) = if nat_lt count MOST_SCRIPT_LINES then Says said else Wrong TOO_MANY
 
--- what a line says after these stops and pauses of so many replicas
+-- what a line says after these stops and pauses of this number of replicas
 abbrev pub script_line : ℕ → List Stop → List Pause → List (List ℕ) → Line ScriptLine
 script_line replicas stops pauses words =
     if is_alone (codes "end") words then Says line.End
@@ -118,7 +118,7 @@ script_from replicas stops pauses number (text ∷ lines) =
     (λ stops pauses. script_from replicas stops pauses (number + 1) lines)
     (script_line replicas stops pauses (words text))
 
--- the script at the front of the lines that are left, where one follows, and else an empty one
+-- the script at the front of the lines that are left, if one follows, and else an empty one
 abbrev pub script_at : Bool → ℕ → Left → Front Script
 script_at follows replicas left =
     if follows then script_from replicas [] [] left.number left.lines

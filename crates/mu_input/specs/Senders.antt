@@ -1,4 +1,4 @@
--- Which jobs a desk of few senders can serve.
+-- for a desk, desk line: which jobs a front desk serves; the first line that keeps a job from it.
 use Rattle.std.specs.Prelude.{ℕ, ◌+◌, ◌≡◌, ◌<◌, ◌==◌, List, [], ◌∷◌, Some, None, if◌then◌else◌}
 use Rattle.std.specs.declared.option.Option.{Option}
 use Rattle.std.specs.List.{All}
@@ -23,8 +23,8 @@ pub record IsForDesk (job : Job) : Type 0 where
   pub version : job.config.version ≡ 1
   pub senders : HaveSenders job.commands
 
--- this line says so after so many clients and commands: it is the one where a client too many
--- begins, or `again` looks on
+-- the number of this line, if a client too many begins there after this many clients and commands;
+-- else `again` looks on after a client or an operation, and there is none after anything else
 abbrev pub beyond_after : ℕ → ℕ → ℕ → (ℕ → ℕ → Option ℕ) → Line BodyLine → Option ℕ
 beyond_after clients commands number again (Says Client) =
     if clients == MOST_SENDERS then Some number else again (clients + 1) commands
@@ -33,7 +33,7 @@ beyond_after clients commands number again (Says Script) = None
 beyond_after clients commands number again (Says End) = None
 beyond_after clients commands number again (Wrong cause) = None
 
--- the number of the line where the client after the last sender's begins, among the lines from
+-- the number of the line at which the client after the last sender's begins, among the lines from
 -- `number` on
 abbrev pub beyond_from : ℕ → ℕ → ℕ → List (List ℕ) → Option ℕ
 beyond_from clients commands number [] = None
@@ -42,7 +42,7 @@ beyond_from clients commands number (line ∷ lines) =
     (λ clients commands. beyond_from clients commands (number + 1) lines)
     (body_line clients commands (words line))
 
--- the line where a job of these settings leaves what a desk serves: its first in version 2, else
+-- the line at which a job of these settings leaves what a desk serves: the first in version 2, else
 -- that of a client too many
 abbrev pub line_after : Front Settings → Option ℕ
 line_after (Begins settings left) =

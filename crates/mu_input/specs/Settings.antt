@@ -1,4 +1,4 @@
--- The settings of a job: its first lines.
+-- settings: the first lines of a job.
 use Rattle.std.specs.Prelude.{ℕ, ◌+◌, ◌≡◌, ◌≤◌, List, [], ◌∷◌, codes, if◌then◌else◌, ◌==◌, None}
 use Rattle.std.specs.declared.option.Option.{Option}
 use Rattle.std.specs.Option.{option_map_or}

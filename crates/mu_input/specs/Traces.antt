@@ -1,4 +1,4 @@
--- The grammar of a trace: a job, and after its `end` the lines of events and another `end`.
+-- trace: the grammar of a trace: a job, and after its `end` the lines of events and another `end`.
 use Rattle.std.specs.Prelude.{ℕ, ◌+◌, ◌≡◌, List, [], ◌∷◌, ◌++◌, codes, if◌then◌else◌, ⊤}
 use Rattle.std.specs.declared.result.Result.{Result}
 use Rattle.std.specs.declared.result.Result.TheVariants.{Ok, Err}
@@ -15,7 +15,8 @@ use Rattle.mu_input.specs.declared.job.Job.{Job}
 use Rattle.mu_input.specs.declared.job.InputEnd.{InputEnd}
 use Rattle.mu_input.specs.declared.job.InputEnd.TheVariants.{Refused, NoMemory}
 
--- the events of so many replicas that the lines from `number` on give after these, up to an `end`
+-- the events of this number of replicas that the lines from `number` on give after these, up to an
+-- `end`
 abbrev pub events_from : ℕ → List Event → ℕ → List (List ℕ) → Front (List Event)
 events_from replicas events number [] = Breaks number NO_END
 events_from replicas events number (line ∷ lines) =

@@ -16,8 +16,7 @@ use mu_model::{Config, Row, Rows, Script, Sequence};
 use mu_rows::encode;
 use std::alloc::{AllocError, Global};
 
-/// The job of these settings, commands and script. Takes memory for the rows alone, and linear
-/// time.
+/// The job of these settings, commands and script. Takes memory only for the rows, and linear time.
 ///
 /// # Errors
 ///
@@ -75,8 +74,8 @@ pub fn with_commands(job: Job, commands: Commands, room: Vec<Row>) -> Job
     }
 }
 
-/// The rows of commands, in batches of at most so many: 1 to 4. Takes linear time, since how many
-/// commands follow one in its batch is seen from the next three.
+/// The rows of commands, in batches of at most `width`: 1 to 4. Takes linear time, since the next
+/// three commands show how many follow one in its batch.
 ///
 /// # Errors
 ///

@@ -51,13 +51,13 @@ impl Body {
 }
 
 /// The commands, taken from the front of the lines with the `script` or `end` behind them. Takes
-/// memory for the commands alone.
+/// memory only for the commands.
 ///
 /// # Errors
 ///
 /// `Refused` with the first line that leaves this part, a missing line included, and the cause: 5 a
 /// client that isn't the next, or a command before any, 6 no command, 7 the key, 8 a text, 9 one
-/// client or command too many, 11 where the lines end. `NoMemory` for want of memory.
+/// client or command too many, 11 if the lines end. `NoMemory` for want of memory.
 pub fn read_body(alloc: Global, lines: &mut LineReader<'_>) -> Result<Body, InputEnd>
     requires { lines.old.number + 1600 < 2 ^ 32 }
     ensures reading { ReadsFront result (body_at lines.old) lines.new }
@@ -94,7 +94,7 @@ pub fn read_body(alloc: Global, lines: &mut LineReader<'_>) -> Result<Body, Inpu
     }
 }
 
-/// What a line says after so many clients and commands, or the cause why it says nothing.
+/// What a line says after this many clients and commands, or the cause why it says nothing.
 pub fn body_line(clients: u8, commands: usize, line: &[u8]) -> Result<BodyLine, u8>
     ensures reading { Tells result (body_line clients commands (words line.now)) }
     ensures room { IfOk result (HasRoom clients commands) }

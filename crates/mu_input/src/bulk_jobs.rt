@@ -14,7 +14,7 @@ use kv_store::{Command, Key, Op, Text};
 use mu_model::{NoMemory, Script, Sequence};
 use std::alloc::{AllocError, Global};
 
-/// The job of so many commands, 0 to 1,500, which four clients ask for in turn. Takes memory for
+/// The job of `count` commands, 0 to 1,500, for which four clients ask in turn. Takes memory for
 /// the commands and the rows, and linear time.
 ///
 /// # Errors

@@ -43,7 +43,7 @@ pub const EVENT: u8 = 13;
 /// The commands of a batch.
 pub const BATCH: u8 = 15;
 
-/// Each cause is this number.
+/// Each cause is the number that is stated here.
 pub fn causes_are_stated()
     ensures settings { (HEAD ≡ 1) × (REPLICAS ≡ 2) × (RING ≡ 3) × (BUDGET ≡ 4) × (BATCH ≡ 15) }
     ensures body { (CLIENT ≡ 5) × (OPERATION ≡ 6) × (KEY ≡ 7) × (VALUE ≡ 8) × (TOO_MANY ≡ 9) }

@@ -31,7 +31,7 @@ pub struct Settings {
 ///
 /// `Refused` with the first line that is no setting, or is missing, and the cause: 1 the version, 2
 /// the replicas, 3 the places of a ring, 4 the steps of a replica, 15 the commands of a batch, 11
-/// where the lines end.
+/// if the lines end.
 pub fn read_settings(lines: &mut LineReader<'_>) -> Result<Settings, InputEnd>
     requires { lines.old.number + 6 < 2 ^ 32 }
     ensures reading { ReadsFront result (settings_at lines.old) lines.new }

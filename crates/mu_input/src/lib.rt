@@ -55,7 +55,7 @@ pub const MOST_SCRIPT_LINES: usize = 100;
 /// The most rounds of a pause.
 pub const MOST_ROUNDS: u32 = 10_000;
 
-/// Each limit is this number.
+/// Each limit is the number that is stated here.
 pub fn limits_are_stated()
     ensures settings { (MOST_REPLICAS ≡ 7) × (LEAST_RING ≡ 8) × (MOST_RING ≡ 1024)
         × (MOST_STEPS ≡ 131071) × (MOST_WIDTH ≡ 4) }

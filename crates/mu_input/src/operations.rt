@@ -22,8 +22,7 @@ pub fn names_operation(words: &[&[u8]]) -> bool
 ///
 /// # Errors
 ///
-/// The cause: 6 where the words don't spell one, else 7 where the key is none, else 8 where a text
-/// is none.
+/// The cause: 6 if the words don't spell one, else 7 if the key is none, else 8 if a text is none.
 pub fn operation(words: &[&[u8]]) -> Result<Op, u8>
     ensures reading { Tells result (operation_of (map (λ word. word.now) words.now)) }
     ensures short { IfOk result HasShortTexts }
@@ -124,14 +123,14 @@ fn short_text(bytes: &[u8]) -> Result<Text, u8>
     }
 }
 
-/// The key of these bytes, where they are one.
+/// The key of these bytes, if they are one.
 pub fn key_of(bytes: &[u8]) -> Option<Key>
     ensures { result ≡ (if is_key bytes.now then Some bytes.now else None) }
 {
     Key::new(bytes)
 }
 
-/// The text of these bytes, where they are one.
+/// The text of these bytes, if they are one.
 pub fn text_of(bytes: &[u8]) -> Option<Text>
     ensures { result ≡ (if is_text bytes.now then Some bytes.now else None) }
 {

@@ -19,16 +19,16 @@ use mu_model::Journal;
 use mu_text::LineReader;
 use std::alloc::Global;
 
-/// The job that bytes spell. Takes memory for its commands, rows and script alone, and the time of
+/// The job that bytes spell. Takes memory only for its commands, rows and script, and the time of
 /// one walk over the bytes.
 ///
 /// # Errors
 ///
-/// `Refused` exactly where the bytes leave the grammar, with the first line that leaves it, a
-/// missing line included, and the cause: 1 the version, 2 the replicas, 3 the places of a ring, 4
-/// the steps of a replica, 5 the client, 6 the operation, 7 the key, 8 a text, 9 one line too many,
-/// 10 the script, 11 no end, 12 a line after the end, 15 the commands of a batch. `NoMemory` for
-/// want of memory.
+/// `Refused` exactly if the bytes leave the grammar, with the first line that leaves it, a missing
+/// line included, and the cause: 1 the version, 2 the replicas, 3 the places of a ring, 4 the steps
+/// of a replica, 5 the client, 6 the operation, 7 the key, 8 a text, 9 one line too many, 10 the
+/// script, 11 no end, 12 a line after the end, 15 the commands of a batch. `NoMemory` for want of
+/// memory.
 pub fn read(alloc: Global, bytes: &[u8]) -> Result<Job, InputEnd>
     ensures reading { Reads result (job bytes.now) }
     ensures config { IfOk result (λ job. IsConfig job.config) }
@@ -44,7 +44,7 @@ pub fn read(alloc: Global, bytes: &[u8]) -> Result<Job, InputEnd>
     Ok(job)
 }
 
-/// The job and the events that the bytes of a trace spell. Takes memory for these alone, and the
+/// The job and the events that the bytes of a trace spell. Takes memory only for these, and the
 /// time of one walk over the bytes.
 ///
 /// # Errors
@@ -55,6 +55,7 @@ pub fn read_trace(alloc: Global, bytes: &[u8]) -> Result<(Job, Journal), InputEn
     ensures reading { ReadsTrace result (trace bytes.now) }
     ensures config { IfOk result (λ r. IsConfig r.0.config) }
     ensures session { IfOk result (λ r. IsInSession r.0.commands) }
+    ensures heads { IfOk result (λ r. HaveHeads r.0.config.width r.0.commands r.0.config.rows) }
     ensures few { IfOk result (λ r. length r.1.events < 2 ^ 32) }
 {
     let mut lines = LineReader::new(bytes);

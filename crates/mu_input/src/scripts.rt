@@ -22,7 +22,7 @@ pub enum ScriptLine {
     End,
 }
 
-/// The script of so many replicas where one follows, and else an empty one.
+/// The script of `replicas` replicas if one follows, and else an empty one.
 ///
 /// # Errors
 ///
@@ -51,7 +51,7 @@ pub fn script_where(
     }
 }
 
-/// The script of so many replicas, 1 to 7, taken from the front of the lines up to its `end`.
+/// The script of `replicas` replicas, 1 to 7, taken from the front of the lines up to its `end`.
 ///
 /// # Errors
 ///
@@ -213,7 +213,7 @@ fn pauses_before(replica: u8, steps: u32, pauses: &[Pause]) -> bool
         .all(|pause| pause.replica != replica || pause.steps < steps)
 }
 
-/// The replica that a word names, one of so many.
+/// The replica that a word names, if it is one of `replicas`.
 fn replica_of(word: &[u8], replicas: u8) -> Option<u8>
     ensures { result ≡ below replicas (number_of word.now) }
 {
@@ -242,7 +242,7 @@ fn script_of(
     })
 }
 
-/// The stops of so many replicas, replica by replica.
+/// The stops of `replicas` replicas, replica by replica.
 fn stops_in_order(alloc: Global, replicas: u8, stops: &[Stop]) -> Result<Vec<Stop>, AllocError>
     ensures { IfOk result (λ ordered. ordered.items ≡ stops_in_order replicas stops.now) }
 {
@@ -265,7 +265,7 @@ fn push_stops_of(ordered: &mut Vec<Stop>, replica: u8, stops: &[Stop]) -> Result
     Ok(())
 }
 
-/// The pauses of so many replicas, replica by replica and in the order of their steps.
+/// The pauses of `replicas` replicas, replica by replica and in the order of their steps.
 fn pauses_in_order(alloc: Global, replicas: u8, pauses: &[Pause]) -> Result<Vec<Pause>, AllocError>
     ensures { IfOk result (λ ordered. ordered.items ≡ pauses_in_order replicas pauses.now) }
 {

@@ -10,7 +10,7 @@ use crate::bodies::{BodyLine, body_line};
 use crate::heading::read_settings;
 use mu_text::LineReader;
 
-/// The line that keeps a job from a desk: 1 for a job of version 2, else the line where a fifth
+/// The line that keeps a job from a desk: 1 for a job of version 2, else the line at which a fifth
 /// client begins. Bytes that leave the grammar before such a line have none. Takes no memory, and
 /// the time of one walk over the bytes.
 pub fn desk_line(bytes: &[u8]) -> Option<u32>
@@ -25,7 +25,7 @@ pub fn desk_line(bytes: &[u8]) -> Option<u32>
     }
 }
 
-/// The line where the client after the last sender's begins, among the lines of the commands.
+/// The line at which the client after the last sender's begins, among the lines of the commands.
 fn client_beyond(lines: &mut LineReader<'_>) -> Option<u32>
     requires { lines.old.number + 1600 < 2 ^ 32 }
     ensures { result ≡ beyond_from 0 0 lines.old.number lines.old.lines }

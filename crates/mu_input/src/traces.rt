@@ -17,7 +17,7 @@ use mu_model::Event;
 use mu_text::LineReader;
 use std::alloc::Global;
 
-/// Takes the events of so many replicas, up to the line `end`. Takes memory for the events alone,
+/// Takes the events of `replicas` replicas, up to the line `end`. Takes memory only for the events,
 /// and the time of one walk over the lines.
 ///
 /// # Errors

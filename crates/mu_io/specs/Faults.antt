@@ -1,4 +1,6 @@
--- Counts of faults: numbers of 64 bits that stop at the last one.
+-- rose: a count of faults rose in a call.
+--
+-- Counts of faults are numbers of 64 bits that stop at the last one.
 use Rattle.std.specs.Prelude.{ℕ, ◌+◌, ◌==◌, ◌||◌, nat_lt, min, IsTrue}
 
 -- a count rose, or stands at its last value

@@ -1,4 +1,4 @@
--- A source and a sink in memory, as contracts see them.
+-- memory source, memory sink: a source and a sink in memory, as contracts see them.
 use Rattle.std.specs.Prelude.{ℕ, List}
 
 -- `left` is still to be given, at most `piece` bytes a call; `calls` came so far, and those

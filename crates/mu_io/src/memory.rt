@@ -109,8 +109,8 @@ impl Source for MemSource {
     }
 }
 
-/// A sink that keeps its bytes, takes them in pieces, and fails at the calls that it is told and
-/// where it is full.
+/// A sink that keeps its bytes, takes them in pieces, and fails at the calls that it is told, and
+/// if it is full.
 #[derive(Debug, Drop)]
 pub struct MemSink {
     room: Vec<u8>,

@@ -8,9 +8,9 @@ use crate::{Failed, Sink, Source};
 use std::io::{Cursor, Read, Stdout, Write};
 use std::marker::Model;
 
-/// A reader of `std` as a source, as `StdSource::new(rt.stdin())`. It tells of the bytes what the
-/// reader tells: nothing where that is a standard stream. A contract sees the reader and the number
-/// of its faults.
+/// A reader of `std` as a source, as `StdSource::new(rt.stdin())`. It says of the bytes what the
+/// reader says: nothing if that is a standard stream. A contract sees the reader and the number of
+/// its faults.
 #[derive(Drop)]
 pub struct StdSource<I> {
     input: I,
@@ -72,9 +72,9 @@ impl Unbuffered for Cursor<&mut [u8]> {}
 
 impl<W: Unbuffered> Unbuffered for &mut W {}
 
-/// A writer of `std` as a sink, as `StdSink::new(rt.stdout())`. It tells of the bytes what the
-/// writer tells: nothing where that is a standard stream. It flushes nothing, so it asks for a
-/// writer that does not buffer. A contract sees the writer and the number of its faults.
+/// A writer of `std` as a sink, as `StdSink::new(rt.stdout())`. It says of the bytes what the
+/// writer says: nothing if that is a standard stream. It flushes nothing, so it asks for a writer
+/// that does not buffer. A contract sees the writer and the number of its faults.
 #[derive(Drop)]
 pub struct StdSink<O> {
     output: O,

@@ -7,9 +7,9 @@ ghost use Rattle.mu_io.specs.Faults.{Rose, one_more};
 #[derive(Clone, Copy, Debug, PartialEq, Eq)]
 pub struct Failed;
 
-/// What gives bytes, and counts its faults in a `u64` that stops at its last value.
+/// A source of bytes that counts its faults in a `u64`, which stops at its last value.
 pub trait Source {
-    // The bytes that are left, where the source tells them.
+    // The bytes that are left, if the source tells them.
     ghost left: { Self → Option (List ℕ) };
 
     // How many faults it has counted.
@@ -20,7 +20,7 @@ pub trait Source {
     ///
     /// # Errors
     ///
-    /// `Failed` where the source counted a fault in this call. No byte was taken, and a later call
+    /// `Failed` if the source counted a fault in this call. No byte was taken, and a later call
     /// goes on from there.
     fn read(&mut self, into: &mut [u8]) -> Result<usize, Failed>
         ensures at_most { IfOk result (λ k. k ≤ length into.new) }
@@ -33,20 +33,20 @@ pub trait Source {
         ensures never_falls { faults self.old ≤ faults self.new };
 }
 
-/// What takes bytes, and counts its faults in a `u64` that stops at its last value.
+/// A sink for bytes that counts its faults in a `u64`, which stops at its last value.
 pub trait Sink {
-    // The bytes that it has taken, where the sink tells them.
+    // The bytes that it has taken, if the sink tells them.
     ghost written: { Self → Option (List ℕ) };
 
     // How many faults it has counted.
     ghost faults: { Self → ℕ };
 
-    /// Writes some bytes of the front of `from`, at least one where there is one, and answers how
+    /// Writes some bytes of the front of `from`, at least one if there is one, and answers how
     /// many.
     ///
     /// # Errors
     ///
-    /// `Failed` where the sink counted a fault in this call. No byte was written.
+    /// `Failed` if the sink counted a fault in this call. No byte was written.
     fn write(&mut self, from: &[u8]) -> Result<usize, Failed>
         ensures at_most { IfOk result (λ k. k ≤ length from.now) }
         ensures some { IfOk result (λ k. 0 < length from.now → 0 < k) }

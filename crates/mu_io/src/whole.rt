@@ -3,6 +3,7 @@ ghost use Rattle.std.specs.Prelude.{◌≡◌, ◌≢◌, ◌+◌, ◌-◌, ◌<
 ghost use Rattle.std.specs.Io.KnownBytes.{Appends, Consumes, IsAtEnd, Keeps};
 ghost use Rattle.mu_io.specs.Faults.{Rose};
 ghost use Rattle.mu_io.specs.Whole.{OnFault, OnNoMemory, OnTooLong, TakesAtMost};
+ghost use Rattle.mu_io.specs.declared.whole.TheConstants.{PIECE};
 
 use crate::{Failed, Sink, Source};
 use std::alloc::Global;
@@ -13,7 +14,7 @@ use std::marker::Model;
 /// The most bytes that one read of [`read_all`] asks for.
 pub const PIECE: usize = 65_536;
 
-/// The limit is this number.
+/// The limit is the number that is stated here.
 pub fn limits_are_stated()
     ensures { PIECE ≡ 65536 }
 {}
@@ -70,10 +71,10 @@ impl Error for ReadEnd {}
 ///
 /// # Errors
 ///
-/// `Fault` where the source counted a fault: up to `limit` bytes may have been taken then.
-/// `TooLong` where more than `limit` bytes came: the first `limit + 1` of them were taken.
-/// `NoMemory` where no memory was given for `limit + 1` bytes and a piece, or `limit + 1` is above
-/// `usize::MAX`: nothing was read.
+/// `Fault` if the source counted a fault: up to `limit` bytes may have been taken then. `TooLong`
+/// if more than `limit` bytes came: the first `limit + 1` of them were taken. `NoMemory` if no
+/// memory was given for `limit + 1` bytes and a piece, or `limit + 1` is above `usize::MAX`:
+/// nothing was read.
 pub fn read_all<S: Source>(alloc: Global, source: &mut S, limit: usize) -> Result<Bytes, ReadEnd>
     ensures within_limit { IfOk result (λ bytes. length bytes ≤ limit) }
     ensures whole { IfOk result (λ bytes. IfSome (S.left source.old) (λ left. left ≡ bytes)) }
@@ -122,7 +123,9 @@ fn fill<S: Source>(
 ) -> Result<usize, Failed>
     requires empty { buffer.old.items ≡ [] }
     requires room { size ≤ vec_capacity buffer.old }
+    requires no_more { vec_capacity buffer.old ≤ size }
     requires piece { 0 < length piece.old }
+    requires small { length piece.old ≤ PIECE }
     ensures count { IfOk result (λ n. n ≡ length buffer.new.items) }
     ensures at_most { IfOk result (λ n. n ≤ size) }
     ensures bytes { OnOk result
@@ -186,7 +189,7 @@ pub struct WriteFault {
 ///
 /// # Errors
 ///
-/// `WriteFault` where the sink counted a fault, with the number of the bytes that it had taken.
+/// `WriteFault` if the sink counted a fault, with the number of the bytes that it had taken.
 pub fn write_all<K: Sink>(sink: &mut K, bytes: &[u8]) -> Result<(), WriteFault>
     ensures whole { OnOk result (Appends (K.written sink.old) (K.written sink.new) bytes.now) }
     ensures same_faults { OnOk result (K.faults sink.new ≡ K.faults sink.old) }

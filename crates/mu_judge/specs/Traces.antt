@@ -1,4 +1,5 @@
--- How an input is cut into traces, and what is printed of them.
+-- cut, judges all, judges some: how an input is cut into traces, the lines on them, and which of
+-- these are written at a fault.
 use Rattle.std.specs.Prelude.{ℕ, ◌≡◌, ◌<◌, ◌&&◌, Bool, true, false, List, [], ◌∷◌, ◌++◌, length, take, drop, None, Some, IfSome, MatchOption, Err, Ok, if◌then◌else◌}
 use Rattle.std.specs.declared.result.Result.{Result}
 use Rattle.std.specs.declared.option.Option.{Option}
@@ -30,7 +31,7 @@ cut (byte ∷ bytes) =
     if is_between (byte ∷ bytes) then Some ([], drop 4 bytes)
     else option_map (λ parts. (byte ∷ parts.0, parts.1)) (cut bytes)
 
--- what there is to say of each trace of the bytes, in order
+-- what is said of each trace of the bytes, in order
 abbrev pub SaysOfAll : List ℕ → List Said → Type 0
 SaysOfAll bytes [] = ⊥
 SaysOfAll bytes (said ∷ saids) =
@@ -56,34 +57,35 @@ are_legal (said ∷ saids) = is_legal said && are_legal saids
 abbrev pub first_of : List ℕ → List ℕ
 first_of bytes = option_map_or (λ parts. parts.0) (cut bytes) bytes
 
--- what there is to say of the first traces of the bytes, in order, and of the one after them
+-- what is said of the first traces of the bytes, in order, and of the one after them
 abbrev pub SaysOfFirst : List ℕ → List Said → Said → Type 0
 SaysOfFirst bytes [] last = SaysOf (first_of bytes) last
 SaysOfFirst bytes (said ∷ saids) last =
     MatchOption (cut bytes) ⊥ (λ parts. SaysOf parts.0 said × SaysOfFirst parts.1 saids last)
 
--- what there is to say of the trace was written, and whether it is legal
+-- what is said of the trace was written, and whether it is legal
 pub record JudgesOne (bytes : List ℕ) (before after : Option (List ℕ)) (legal : Bool) : Type 0 where
   pub said : Said
   pub says : SaysOf bytes said
   pub printed : Appends before after (text said)
   pub legal_is : is_legal said ≡ legal
 
--- what there is to say of each trace was written, in order, and whether all are legal
+-- what is said of each trace was written, in order, and whether all are legal
 pub record JudgesAll (bytes : List ℕ) (before after : Option (List ℕ)) (legal : Bool) : Type 0 where
   pub saids : List Said
   pub says : SaysOfAll bytes saids
   pub printed : Appends before after (texts saids)
   pub legal_is : are_legal saids ≡ legal
 
--- of what there is to say of the trace so many bytes were written, but not all
+-- the first `taken` bytes of what is said of the trace were written, but not all
 pub record JudgesPart (bytes : List ℕ) (before after : Option (List ℕ)) (taken : ℕ) : Type 0 where
   pub said : Said
   pub says : SaysOf bytes said
   pub printed : Appends before after (take taken (text said))
   pub short : taken < length (text said)
 
--- what there is to say of the first traces was written, and of the next so many bytes, but not all
+-- what is said of the first traces was written, and of the next the first `taken` bytes, but not
+-- all
 pub record JudgesSome (bytes : List ℕ) (before after : Option (List ℕ)) (taken : ℕ) : Type 0 where
   pub saids : List Said
   pub last : Said
@@ -92,7 +94,7 @@ pub record JudgesSome (bytes : List ℕ) (before after : Option (List ℕ)) (tak
   pub short : taken < length (text last)
 
 -- each end, and what it tells of the bytes that the source had left and of those that the sink had
--- taken before and after, where these tell them
+-- taken before and after, if these tell them
 abbrev pub Stops : Option (List ℕ) → Option (List ℕ) → Option (List ℕ) → End → Type 0
 Stops left before after End.WriteFault =
     IfSome left (λ bytes. (taken : ℕ) × JudgesSome bytes before after taken)
@@ -101,8 +103,8 @@ Stops left before after End.TooLong =
 Stops left before after End.ReadFault = after ≡ before
 Stops left before after End.NoMemory = after ≡ before
 
--- a fault comes where the count of the source's or the sink's faults rose; at each other end
--- neither did
+-- a fault comes if the count of the source's or the sink's faults rose; at each other end neither
+-- did
 abbrev pub HasFault : ℕ → ℕ → ℕ → ℕ → End → Type 0
 HasFault read now_read wrote now_wrote End.ReadFault = Rose read now_read
 HasFault read now_read wrote now_wrote End.WriteFault = Rose wrote now_wrote

@@ -36,8 +36,8 @@ pub enum End {
     TooLong,
 }
 
-/// The status that the program ends with: 0 where all traces are legal, 7 where one is not, else 4
-/// read fault, 5 write fault, 6 want of memory, 8 too long.
+/// The status that the program ends with: 0 if all traces are legal, 7 if one is not, else 4 read
+/// fault, 5 write fault, 6 want of memory, 8 too long.
 pub fn status(end: Result<bool, End>) -> u8
     ensures { result ≡ status_of end }
 {
@@ -71,15 +71,15 @@ fn is_legal(said: &Said) -> bool
     }
 }
 
-/// Reads a whole input, judges its traces one by one, and writes the line of each. Whether all of
-/// them are legal.
+/// Reads a whole input, judges its traces one by one, and writes the line of each. Answers whether
+/// all of them are legal.
 ///
 /// # Errors
 ///
-/// A fault of the source, where at most the limit was taken of the input; more bytes than the
-/// limit; want of memory for the input, where nothing was taken: each before anything is written.
-/// Or a fault of the sink, where the lines of the first traces are written, and of the next line so
-/// many bytes as the sink had taken.
+/// A fault of the source: then at most the limit was taken of the input. More bytes than the limit.
+/// Want of memory for the input: then nothing was taken. Each of these comes before anything is
+/// written. Or a fault of the sink: then the lines of the first traces are written, and of the next
+/// line as many bytes as the sink had taken.
 pub fn judge_input<S: Source, K: Sink>(
     alloc: Global,
     source: &mut S,
@@ -109,12 +109,13 @@ pub fn judge_input<S: Source, K: Sink>(
     }
 }
 
-/// Judges the traces of an input one by one, and writes the line of each. Whether all are legal.
+/// Judges the traces of an input one by one, and writes the line of each. Answers whether all are
+/// legal.
 ///
 /// # Errors
 ///
-/// `WriteFault` where the sink counted a fault, with the number of the bytes of that line that it
-/// had taken.
+/// `WriteFault` if the sink counted a fault, with the number of the bytes of that line that it had
+/// taken.
 fn judge_bytes<K: Sink>(alloc: Global, bytes: &[u8], sink: &mut K) -> Result<bool, WriteFault>
     requires { length bytes.now ≤ TRACE_LIMIT }
     ensures all { IfOk result (λ legal.
@@ -134,12 +135,12 @@ fn judge_bytes<K: Sink>(alloc: Global, bytes: &[u8], sink: &mut K) -> Result<boo
     Ok(legal)
 }
 
-/// Judges a trace and writes its line. Whether it is legal.
+/// Judges a trace and writes its line. Answers whether it is legal.
 ///
 /// # Errors
 ///
-/// `WriteFault` where the sink counted a fault, with the number of the bytes of the line that it
-/// had taken.
+/// `WriteFault` if the sink counted a fault, with the number of the bytes of the line that it had
+/// taken.
 fn judge_trace<K: Sink>(alloc: Global, bytes: &[u8], sink: &mut K) -> Result<bool, WriteFault>
     requires { length bytes.now ≤ TRACE_LIMIT }
     ensures one { IfOk result (λ legal.
@@ -153,11 +154,11 @@ fn judge_trace<K: Sink>(alloc: Global, bytes: &[u8], sink: &mut K) -> Result<boo
     print_verdict(sink, &said)
 }
 
-/// Writes what is said of a trace. Whether the trace is legal.
+/// Writes what is said of a trace. Answers whether the trace is legal.
 ///
 /// # Errors
 ///
-/// Those of `judge_trace`, which alone owns what is said: it is let go in one place so.
+/// Those of `judge_trace`, which owns what is said, so that it is dropped in one place.
 fn print_verdict<K: Sink>(sink: &mut K, said: &Said) -> Result<bool, WriteFault>
     requires { IsShort said.now }
     ensures whole { OnOk result

@@ -6,10 +6,9 @@
 //! its own or lack it. An input without such a line is one trace.
 //!
 //! For each trace one line is printed, as `mu check` prints it: `refused line L cause C`,
-//! `legal E`,
-//! `illegal I not allowed`, `illegal I expected ANSWER`, or `no memory`. The status is 0 where
-//! all traces are legal, 7 where one is not, 4 for a read fault, 5 for a write fault, 6 where there
-//! is no memory for the input, and 8 for an input above 8,388,608 bytes.
+//! `legal E`, `illegal I not allowed`, `illegal I expected ANSWER`, or `no memory`. The status is 0
+//! if all traces are legal, 7 if one is not, 4 for a read fault, 5 for a write fault, 6 if there is
+//! no memory for the input, and 8 for an input above 8,388,608 bytes.
 #![tactic(auto)]
 
 mod cutting;

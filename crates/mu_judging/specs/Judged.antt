@@ -9,6 +9,7 @@ use Rattle.mu_outcome.specs.declared.verdict.Verdict.{Verdict}
 use Rattle.mu_report.specs.declared.said.Said.{Said}
 use Rattle.mu_report.specs.Said.{said_of_end}
 pub use Rattle.mu_judging.specs.Explained.{ExplainsOf}
+pub use Rattle.mu_judging.specs.Told.{TellsOf}
 
 -- the bytes spell a trace of so many events, and this is the verdict on them
 pub record IsJudged (bytes : List ℕ) (events : ℕ) (verdict : Verdict) : Type 0 where

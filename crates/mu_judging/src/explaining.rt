@@ -47,7 +47,7 @@ pub fn explain_trace(alloc: Global, bytes: &[u8]) -> Said
 /// # Errors
 ///
 /// Want of memory alone.
-fn located(
+pub(crate) fn located(
     alloc: Global,
     bytes: &[u8],
     config: &Config,

@@ -4,7 +4,9 @@
 mod explaining;
 mod judging;
 mod line_judge;
+mod telling;
 
 pub use explaining::explain_trace;
 pub use judging::judge;
 pub use line_judge::{LineJudge, lines_are_judged_as_a_whole};
+pub use telling::tell_trace;

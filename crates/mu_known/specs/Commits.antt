@@ -1,4 +1,4 @@
--- A commit as a pair.
+-- commit: a commit as a pair of a position and a value.
 use Rattle.std.specs.Prelude.{ℕ}
 use Rattle.mu_known.specs.declared.commit.Commit.{Commit}
 

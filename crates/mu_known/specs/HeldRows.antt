@@ -1,4 +1,4 @@
--- When the state of the rows that replica r has stands for its events.
+-- stands for (held rows): the state of the rows that replica r wrote or read stands for its events.
 use Rattle.std.specs.Prelude.{Bool, List, Some, false, length, true, ℕ, ◌%◌, ◌*◌, ◌+◌, ◌/◌, ◌<◌, ◌≡◌}
 use Rattle.std.specs.List.{slice_get}
 use Rattle.mu_model.specs.declared.config.Config.{Config}
@@ -8,17 +8,17 @@ use Rattle.mu_model.specs.Contents.{row_count}
 use Rattle.mu_model.specs.Knowledge.{applied, has_word, wrote}
 use Rattle.mu_known.specs.declared.held_rows.HeldRows.{HeldRows}
 
--- where the table of all rows has word k of the row of the payload number v
+-- the place of word k of the row of the payload number v in the table of all rows
 abbrev pub word_place : ℕ → ℕ → ℕ
 word_place v k = (v % 4096 * 7 + v / 4096) * 12 + k
 
--- the table tells of each word of the first so many rows of seven replicas whether it is there
+-- the table says of each word of the first `rows` rows of seven replicas whether it is there
 abbrev pub AreThere : ℕ → (ℕ → ℕ → Bool) → List Bool → Type 0
 AreThere rows is_there table =
     (v k : ℕ) → v / 4096 < 7 → v % 4096 < rows → k < 12
     → slice_get table (word_place v k) ≡ Some (is_there v k)
 
--- which words r has, of all rows
+-- which words of all rows r has
 abbrev pub HasWords : Config → ℕ → List Event → List Bool → Type 0
 HasWords c r mine got = AreThere (row_count c) (λ v k. has_word r v k mine) got
 

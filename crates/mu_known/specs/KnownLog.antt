@@ -1,4 +1,4 @@
--- When the state of what replica r has learnt stands for its events.
+-- stands for (known log): the state of what replica r has learnt stands for its events.
 use Rattle.std.specs.Prelude.{Bool, List, None, Some, false, length, vec_capacity, ℕ, ◌+◌, ◌<◌, ◌≡◌, ◌≤◌}
 use Rattle.std.specs.declared.option.Option.{Option}
 use Rattle.std.specs.List.{slice_get}
@@ -12,19 +12,19 @@ use Rattle.mu_model.specs.Room.{reserve}
 use Rattle.mu_known.specs.Offers.{StandsForClientRows}
 use Rattle.mu_known.specs.declared.known_log.KnownLog.{KnownLog}
 
--- of a put at position n the flag tells whether every member has taken it in the leadership, which
--- is not over; of other verbs it tells nothing
+-- for a put at position n the flag tells whether every member has taken it in the leadership, which
+-- is not over; for other verbs it tells nothing
 abbrev pub TellsAccepted : Config → ℕ → List Event → ℕ → Verb → Bool → Type 0
 TellsAccepted c r now n (Verb.PutSlot p i b v) accepted =
     i ≡ n → accepted ≡ is_accepted_by_all c r now i b v
 TellsAccepted c r now n _ accepted = Unit {0}
 
--- the flag, where there is one, is set
+-- the flag, if there is one, is set
 abbrev pub is_set : Option Bool → Bool
 is_set None = false
 is_set (Some flag) = flag
 
--- of which replicas a mark is among the values
+-- the replicas that have a mark among the values
 abbrev pub MarksReplicas : Config → List ℕ → List Bool → Type 0
 MarksReplicas c values marks = (q : ℕ) → q < 7 → slice_get marks q ≡ Some (marked c q values)
 
@@ -37,7 +37,7 @@ CountsCommands c values counts =
 abbrev pub ReadsFuos : ℕ → List Event → List ℕ → Type 0
 ReadsFuos r mine fuos = (p : ℕ) → p < 7 → slice_get fuos p ≡ Some (greatest_fuo_read r p mine)
 
--- at which positions of its own region r has seen an entry
+-- the positions of its own region at which r has seen an entry
 abbrev pub SeesEntries : ℕ → List Event → List Bool → Type 0
 SeesEntries r mine seen = (i : ℕ) → is_set (slice_get seen i) ≡ has (entry_seen r r i) mine
 

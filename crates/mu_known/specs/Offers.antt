@@ -1,4 +1,5 @@
--- Which batch of a client comes next, and what is kept of the rows of each client.
+-- batch of a client, clients below: the row of a client's next batch, given the known values; one
+-- more than the greatest client.
 use Rattle.std.specs.Prelude.{Bool, List, None, Some, false, if◌then◌else◌, max, nat_lt, suc, true, zero, ℕ, ◌&&◌, ◌+◌, ◌-◌, ◌<◌, ◌==◌, ◌≡◌, ◌≤◌}
 use Rattle.std.specs.declared.option.Option.{Option}
 use Rattle.std.specs.List.{slice_get}
@@ -6,7 +7,7 @@ use Rattle.mu_model.specs.declared.config.Config.{Config}
 use Rattle.mu_model.specs.Contents.{begins_batch, client_of, command_count, number_of, row_count}
 use Rattle.mu_known.specs.declared.client_rows.ClientRows.{ClientRows}
 
--- the first of so many numbers from `from` on that passes
+-- the first number that passes, among `count` numbers from `from` on
 abbrev pub first_of : (ℕ → Bool) → ℕ → ℕ → Option ℕ
 first_of test from zero = None
 first_of test from (suc count) = if test from then Some from else first_of test (from + 1) count
@@ -26,7 +27,7 @@ abbrev pub NamesRow : Option ℕ → (ℕ → Type 0) → Type 0
 NamesRow None holds = Unit {0}
 NamesRow (Some j) holds = holds j
 
--- row j begins a batch of the client, and is the next after so many of its commands
+-- row j begins a batch of the client, and is the next after `count` of its commands
 abbrev pub begins_after : Config → ℕ → ℕ → ℕ → Bool
 begins_after c client count j =
     begins_batch c j && ((client_of c j == client) && (number_of c j == count + 1))
@@ -61,7 +62,7 @@ last_below c client (suc j) =
     if client_of c j == client then max (last_below c client j) (number_of c j)
     else last_below c client j
 
--- of each client the greatest number of its rows, among the first n
+-- for each client the greatest number of its rows, among the first n
 abbrev pub HaveLasts : Config → ℕ → List ℕ → Type 0
 HaveLasts c n lasts =
     (client : ℕ) → client < 256 → slice_get lasts client ≡ Some (last_below c client n)

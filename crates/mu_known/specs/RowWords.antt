@@ -1,4 +1,5 @@
--- The words that replica r wrote or read of the rows of a job.
+-- word met, word held, reads known: the word that a replica last wrote or read of a row; the same,
+-- or 0 if there is none; it read only rows of known batches.
 use Rattle.std.specs.Prelude.{List, None, Some, [], if◌then◌else◌, true, ℕ, ◌%◌, ◌&&◌, ◌*◌, ◌+◌, ◌<◌, ◌==◌, ◌∷◌, ◌≡◌, ◌≤◌}
 use Rattle.std.specs.declared.option.Option.{Option}
 use Rattle.std.specs.List.{slice_get}
@@ -20,7 +21,7 @@ word_told r j k by (Verb.ReadRow v word) (Answer.Number x) =
     if (by == r) && ((v % 4096 == j) && (word == k)) then Some x else None
 word_told r j k by _ _ = None
 
--- the word that r wrote or read there last, where it did
+-- the word that r wrote or read there last, if it ever did
 abbrev pub word_met : ℕ → ℕ → ℕ → List Event → Option ℕ
 word_met r j k mine = newest (λ e. word_told r j k e.by e.verb e.answer) mine
 
@@ -28,7 +29,7 @@ word_met r j k mine = newest (λ e. word_told r j k e.by e.verb e.answer) mine
 abbrev pub word_held : ℕ → ℕ → ℕ → List Event → ℕ
 word_held r j k mine = or_zero (word_met r j k mine)
 
--- the twelve of a row
+-- the twelve words of a row, as r holds them
 abbrev pub words_held : ℕ → ℕ → List Event → List ℕ
 words_held r j mine =
     word_held r j 0 mine ∷ word_held r j 1 mine ∷ word_held r j 2 mine ∷ word_held r j 3 mine
@@ -36,14 +37,14 @@ words_held r j mine =
     ∷ word_held r j 8 mine ∷ word_held r j 9 mine ∷ word_held r j 10 mine
     ∷ word_held r j 11 mine ∷ []
 
--- the twelve of a row of the configuration
+-- the twelve words of a row of the configuration
 abbrev pub config_words : Config → ℕ → List ℕ
 config_words c j =
     config_word c j 0 ∷ config_word c j 1 ∷ config_word c j 2 ∷ config_word c j 3
     ∷ config_word c j 4 ∷ config_word c j 5 ∷ config_word c j 6 ∷ config_word c j 7
     ∷ config_word c j 8 ∷ config_word c j 9 ∷ config_word c j 10 ∷ config_word c j 11 ∷ []
 
--- the table has these words of the first so many rows
+-- the table has these words of the first `rows` rows
 abbrev pub HoldWords : ℕ → (ℕ → ℕ → ℕ) → List ℕ → Type 0
 HoldWords rows word table =
     (j k : ℕ) → j < rows → k < 12 → slice_get table (j * 12 + k) ≡ Some (word j k)
@@ -63,17 +64,18 @@ pub record IsOfKnown (c : Config) (r : ℕ) (mine : List Event) (w : ℕ) : Type
   pub within : row ≤ rest_of c (value % 4096)
   pub is : w ≡ value + row
 
--- where the step reads a row, it is one of a batch that is known
+-- if the step reads a row, the row is one of a batch that is known
 abbrev pub IsReadKnown : Config → ℕ → List Event → Verb → Type 0
 IsReadKnown c r mine (Verb.ReadRow w k) = IsOfKnown c r mine w
 IsReadKnown c r mine _ = Unit {0}
 
--- r read rows of known batches alone
+-- r read only rows of known batches
 abbrev pub ReadsKnown : Config → ℕ → List Event → Type 0
 ReadsKnown c r [] = Unit {0}
 ReadsKnown c r (e ∷ mine) = ReadsKnown c r mine × IsReadKnown c r mine e.verb
 
--- who read rows of known batches alone holds each row that it has as the configuration has it
+-- a replica that reads only rows of known batches holds each row that it has as the configuration
+-- has it
 abbrev pub RowsAreRight : Type 0
 RowsAreRight =
     (c : Config) (r : ℕ) (mine : List Event) (v t : ℕ) → IsConfig c → IsPossible c r mine

@@ -1,5 +1,5 @@
 //! Which rows a replica has written or read, and what it has applied.
-ghost use Rattle.std.specs.Prelude.{IfOk, List, [], length, ℕ, Bool, ◌%◌, ◌&&◌, ◌*◌, ◌+◌, ◌/◌, ◌<◌, ◌==◌, ◌||◌, ◌∷◌, ◌≡◌, ◌≤◌, false};
+ghost use Rattle.std.specs.Prelude.{IfOk, List, [], length, replicate, ℕ, Bool, ◌%◌, ◌&&◌, ◌*◌, ◌+◌, ◌/◌, ◌<◌, ◌==◌, ◌||◌, ◌∷◌, ◌≡◌, ◌≤◌, false};
 ghost use Rattle.mu_model.specs.declared.config.Config.{Config};
 ghost use Rattle.mu_model.specs.declared.event.Event.{Event};
 ghost use Rattle.mu_model.specs.Contents.{IsConfig, row_count};
@@ -22,11 +22,12 @@ pub struct HeldRows {
     /// Which words it has of the rows of all replicas: twelve of each of seven replicas for each
     /// row.
     got: Vec<bool>,
-    /// How many of the values that it knows it has in full, before the first that it has not.
+    /// How many of the values that it knows it has in full, before the first that it doesn't have
+    /// in full.
     applied: usize,
 }
 
-/// Where the table of all rows has word `k` of the row of the payload number `v`.
+/// The place of word `k` of the row of the payload number `v` in the table of all rows.
 fn place(v: usize, k: u8) -> usize
     ensures { result ≡ word_place v k }
 {
@@ -78,16 +79,31 @@ fn note_got(got: &mut [bool], r: u8, event: &Event)
     }
 }
 
+/// No own word written: a mark for each of the twelve words of each row, and no more.
+fn none_written(alloc: Global, config: &Config) -> Result<Vec<bool>, NoMemory>
+    requires { IsConfig config.now }
+    ensures { IfOk result (λ marks. marks.items ≡ replicate (row_count config.now * 12) false) }
+{
+    vec![in alloc; false; config.rows.len() * 12]
+}
+
+/// No word there: such marks of seven replicas, and no more.
+fn none_there(alloc: Global, config: &Config) -> Result<Vec<bool>, NoMemory>
+    requires { IsConfig config.now }
+    ensures { IfOk result (λ marks. marks.items ≡ replicate (row_count config.now * 84) false) }
+{
+    vec![in alloc; false; config.rows.len() * 84]
+}
+
 impl HeldRows {
-    /// Nothing written or read. Takes all memory that it ever needs.
+    /// A state with nothing written or read. Takes all memory that it ever needs.
     pub fn new(alloc: Global, config: &Config) -> Result<HeldRows, NoMemory>
         requires { IsConfig config.now }
         ensures { IfOk result (λ state. (r : ℕ) → StandsForHeldRows config.now r [] state) }
     {
-        let rows = config.rows.len();
         Ok(HeldRows {
-            written: vec![in alloc; false; rows * 12]?,
-            got: vec![in alloc; false; rows * 84]?,
+            written: none_written(alloc, config)?,
+            got: none_there(alloc, config)?,
             applied: 0,
         })
     }
@@ -154,8 +170,8 @@ impl HeldRows {
             || self.has_rows(v, u16::from(row_rest(config, v % PAYLOADS)) + 1)
     }
 
-    /// How many of the known entries the replica has in full before the first that it has not,
-    /// where it has at least `n`.
+    /// How many known entries the replica has in full before the first that it doesn't have in
+    /// full, if it has at least `n`.
     fn front_from(&self, config: &Config, known: &[u16], n: usize) -> usize
         ensures { (r : ℕ) → (mine : List Event) → IsConfig config.now
             → HasWords config.now r mine self.now.got.items
@@ -184,7 +200,7 @@ impl HeldRows {
         self.applied = self.front_from(config, known_after, self.applied);
     }
 
-    /// Takes the next event of `r` where it neither writes nor reads a row, after which it knows
+    /// Takes the next event of `r`, if that neither writes nor reads a row, after which it knows
     /// these values. Takes no memory.
     pub fn pass(&mut self, config: &Config, known_after: &[u16])
         ensures { (r : ℕ) → (mine : List Event) → (e : Event) → IsConfig config.now
@@ -242,7 +258,7 @@ impl HeldRows {
         self.wrote_rows(j, u16::from(row_rest(config, j)) + 1)
     }
 
-    /// How many of the values that are known the replica has applied.
+    /// How many of the known values the replica has applied.
     pub fn applied_length(&self) -> usize
         ensures { (c : Config) → (r : ℕ) → (mine : List Event) → StandsForHeldRows c r mine self.now
             → result ≡ length (applied c r mine) }

@@ -23,7 +23,7 @@ use std::alloc::Global;
 pub struct KnownLog {
     /// The values that it knows, in order.
     values: Vec<u16>,
-    /// Of which replicas it knows a mark.
+    /// The replicas whose marks it knows.
     marks: [bool; 7],
     /// How many commands of each client it knows.
     counts: Vec<u16>,
@@ -31,7 +31,7 @@ pub struct KnownLog {
     rows: ClientRows,
     /// The greatest FUO that it has read of each region.
     fuos: [u64; 7],
-    /// At which positions of its own region it has seen an entry.
+    /// The positions of its own region at which it has seen an entry.
     seen: Vec<bool>,
 }
 
@@ -83,7 +83,7 @@ fn count_rows(counts: &mut [u16], config: &Config, v: u16)
     }
 }
 
-/// Adds a value where there is room. Takes no memory.
+/// Adds a value if there is room. Takes no memory.
 fn push_value(values: &mut Vec<u16>, v: u16)
     ensures items { length values.old.items < vec_capacity values.old
         → values.new.items ≡ values.old.items ++ v ∷ [] }
@@ -121,15 +121,25 @@ fn note_seen(seen: &mut [bool], r: u8, event: &Event)
     }
 }
 
+/// No value yet: room for one at each position, and no more.
+fn no_values(alloc: Global, config: &Config) -> Result<Vec<u16>, NoMemory>
+    requires { row_count config.now ≤ 1500 }
+    ensures none { IfOk result (λ values. values.items ≡ []) }
+    ensures room { IfOk result (λ values. vec_capacity values
+        ≡ row_count config.now + reserve config.now + 1) }
+{
+    Vec::with_capacity(alloc, positions_in(config))
+}
+
 impl KnownLog {
-    /// Nothing learnt. Takes all memory that it ever needs.
+    /// A state in which nothing is learnt. Takes all memory that it ever needs.
     pub fn new(alloc: Global, config: &Config) -> Result<KnownLog, NoMemory>
         requires { IsConfig config.now }
         ensures { IfOk result (λ state. (r : ℕ) → StandsForKnownLog config.now r [] state) }
     {
         let positions = positions_in(config);
         Ok(KnownLog {
-            values: Vec::with_capacity(alloc, positions)?,
+            values: no_values(alloc, config)?,
             marks: [false; 7],
             counts: vec![in alloc; 0; 256]?,
             rows: ClientRows::new(alloc, config)?,
@@ -168,8 +178,8 @@ impl KnownLog {
         u64::from(i) < self.fuo_read(p) || (p == r && self.has_seen(usize::from(i) + 1))
     }
 
-    /// The value that the event of `r` teaches, where `accepted` tells of a put at the next
-    /// position whether all members have taken it.
+    /// The value that the event of `r` teaches; if it is a put at the next position, `accepted`
+    /// tells whether all members have taken it.
     fn learnt(&self, r: u8, accepted: bool, event: &Event) -> Option<u16>
         ensures { (c : Config) → (mine : List Event) → IsPlaced c event.now.verb
             → TellsAccepted c r (event.now ∷ mine) (length (known c r mine)) event.now.verb accepted
@@ -199,7 +209,7 @@ impl KnownLog {
         }
     }
 
-    /// Adds the value, where there is one, at the end. Takes no memory.
+    /// Adds the value, if there is one, at the end. Takes no memory.
     pub fn learn(&mut self, config: &Config, learnt: Option<u16>)
         ensures values { (values : List ℕ) → IsConfig config.now
             → ((v : ℕ) → learnt ≡ Some v
@@ -216,8 +226,7 @@ impl KnownLog {
         }
     }
 
-    /// Takes the next event of `r`, which it was allowed. Where it is a put at the next position
-    /// that
+    /// Takes the next event of `r`, which it was allowed. If it is a put at the next position that
     /// `r` doesn't know, `accepted` tells whether all members have taken it then, in a leadership
     /// that is not over. Takes no memory.
     pub fn take(&mut self, config: &Config, r: u8, accepted: bool, event: &Event)

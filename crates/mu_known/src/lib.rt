@@ -16,7 +16,8 @@ pub use held_rows::HeldRows;
 pub use known_log::KnownLog;
 pub use row_words::RowWords;
 
-/// Who reads rows of known batches alone holds each row that it has as the configuration has it.
+/// A replica that reads only rows of known batches holds each row that it has as the configuration
+/// has it.
 pub fn rows_are_right()
     ensures { RowsAreRight }
 {}

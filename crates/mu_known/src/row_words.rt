@@ -1,5 +1,5 @@
 //! The words that a replica has of the rows of a job.
-ghost use Rattle.std.specs.Prelude.{IfOk, if◌then◌else◌, List, [], ℕ, ◌&&◌, ◌<◌, ◌==◌, ◌∷◌, ◌≡◌};
+ghost use Rattle.std.specs.Prelude.{IfOk, if◌then◌else◌, List, [], replicate, ℕ, ◌&&◌, ◌*◌, ◌<◌, ◌==◌, ◌∷◌, ◌≡◌};
 ghost use Rattle.mu_model.specs.declared.config.Config.{Config};
 ghost use Rattle.mu_model.specs.declared.event.Event.{Event};
 ghost use Rattle.mu_model.specs.Contents.{IsConfig, row_count};
@@ -9,8 +9,8 @@ ghost use Rattle.mu_known.specs.RowWords.{HoldWords, StandsForRowWords, word_hel
 use mu_model::{Answer, Config, Event, NoMemory, PAYLOADS, Row, Verb};
 use std::alloc::Global;
 
-/// Of each word of each row of a job, what the replica wrote or read there last. All replicas write
-/// the same row for a command, so that twelve words for each command are enough.
+/// What a replica last wrote or read of each word of each row of a job. All replicas write the same
+/// row for a command, so that twelve words for each command are enough.
 #[derive(Drop)]
 pub struct RowWords {
     /// Twelve words of each row.
@@ -50,14 +50,22 @@ fn note_word(words: &mut [u64], r: u8, event: &Event)
     }
 }
 
+/// No word of any row: room for twelve of each, and no more.
+fn no_words(alloc: Global, config: &Config) -> Result<Vec<u64>, NoMemory>
+    requires { IsConfig config.now }
+    ensures { IfOk result (λ words. words.items ≡ replicate (row_count config.now * 12) 0) }
+{
+    vec![in alloc; 0; config.rows.len() * 12]
+}
+
 impl RowWords {
-    /// No word. Takes all memory that it ever needs: 96 bytes for each command.
+    /// A state with no word. Takes all memory that it ever needs: 96 bytes for each command.
     pub fn new(alloc: Global, config: &Config) -> Result<RowWords, NoMemory>
         requires { IsConfig config.now }
         ensures { IfOk result (λ state. (r : ℕ) → StandsForRowWords config.now r [] state) }
     {
         Ok(RowWords {
-            words: vec![in alloc; 0; config.rows.len() * 12]?,
+            words: no_words(alloc, config)?,
         })
     }
 
@@ -82,7 +90,7 @@ impl RowWords {
         }
     }
 
-    /// Row `j`, of the words that were written or read last: 0 where none was.
+    /// Row `j`, as the words that were written or read last: 0 for a word that never was.
     pub fn row(&self, j: u16) -> Row
         ensures { (c : Config) → (r : ℕ) → (mine : List Event) → j < row_count c
             → StandsForRowWords c r mine self.now → result.words ≡ words_held r j mine }

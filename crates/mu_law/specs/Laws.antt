@@ -1,4 +1,4 @@
--- What the laws of agreement say of one list of events, in true order.
+-- laws of one list: what the laws of agreement say of a list of events that a call is given.
 use Rattle.std.specs.Prelude.{List, Some, false, length, true, ℕ, ◌%◌, ◌++◌, ◌+◌, ◌/◌, ◌<◌, ◌∷◌, ◌≡◌, ◌≤◌, ◌⊎◌}
 use Rattle.std.specs.List.{slice_get}
 use Rattle.mu_agree.specs.Agreement.{IsMarked}
@@ -31,7 +31,7 @@ AreMarkedOnce c values =
     (q i j v w : ℕ) → slice_get values i ≡ Some v → slice_get values j ≡ Some w
     → is_mark c q v ≡ true → is_mark c q w ≡ true → i ≡ j
 
--- of what any two replicas know one begins the other
+-- of what any two replicas know, one list begins the other
 abbrev pub KnownListsAgree : Config → List Event → Type 0
 KnownListsAgree c events =
     (r s : ℕ)

@@ -62,7 +62,7 @@ fn choice_by(config: &Config, events: &[Event], i: usize, e: &Event) -> Option<u
     }
 }
 
-/// The position at which the put `e` shows a mark of `q` to be chosen.
+/// The position of the put `e`, if it shows a mark of `q` to be chosen.
 fn mark_by(config: &Config, events: &[Event], q: u8, e: &Event) -> Option<u16>
     ensures { result ≡ choice_of_mark config.now (history events.now) q e.now.verb e.now.answer }
 {
@@ -93,7 +93,7 @@ fn choice_found(config: &Config, events: &[Event], i: usize) -> Option<u16>
     found
 }
 
-/// The position at which some put shows a mark of `q` to be chosen.
+/// The position of a put that shows a mark of `q` to be chosen, if there is one.
 fn mark_found(config: &Config, events: &[Event], q: u8) -> Option<u16>
     ensures { result
         ≡ newest (λ e. choice_of_mark config.now (history events.now) q e.verb e.answer)
@@ -108,12 +108,11 @@ fn mark_found(config: &Config, events: &[Event], q: u8) -> Option<u16>
     found
 }
 
-/// The value that is chosen at position `i`, exactly where one is. On condition that the list is
-/// legal.
+/// The value that is chosen at position `i`, exactly if one is. This holds if the list is legal.
 ///
 /// # Errors
 ///
-/// Want of memory.
+/// Only for want of memory.
 pub fn chosen_at(
     _alloc: Global,
     config: &Config,
@@ -134,12 +133,12 @@ pub fn chosen_at(
     Ok(choice_found(config, events, i))
 }
 
-/// The position at which a mark of `q` is chosen, exactly where one is. On condition that the list
-/// is legal.
+/// The position at which a mark of `q` is chosen, exactly if one is. This holds if the list is
+/// legal.
 ///
 /// # Errors
 ///
-/// Want of memory.
+/// Only for want of memory.
 pub fn marked(
     _alloc: Global,
     config: &Config,

@@ -15,14 +15,14 @@ use mu_model::{Answer, Config, Event, NoMemory, Verb};
 use std::alloc::Global;
 
 /// Whether a look at position `i` of the region of `r`, made now by `r`, would find a place that
-/// isn't used again: where `r` is no replica its region is empty. On condition that the list is
-/// legal. No place of any region is used again while a replica whose mark isn't chosen still has to
-/// read it: where its head, or all that it knows, is at or below the position, a look is not past,
-/// neither one that was made nor one made now.
+/// isn't used again. If `r` is no replica, its region is empty. This holds if the list is legal. No
+/// place of any region is used again while a replica whose mark isn't chosen still has to read it:
+/// if its head, or all that it knows, is at or below the position, a look is not past, neither one
+/// that was made nor one made now.
 ///
 /// # Errors
 ///
-/// Want of memory.
+/// Only for want of memory.
 pub fn kept(
     alloc: Global,
     config: &Config,

@@ -33,14 +33,14 @@ pub fn values_known(
     Vec::from_slice(alloc, state.known_log.known())
 }
 
-/// The entries that the part of `r` has learnt, in order. On condition that the list is legal. Each
-/// is chosen and stands for a batch or a mark, and all are in session; of the lists of any two
+/// The entries that the part of `r` has learnt, in order. This holds if the list is legal. Each is
+/// chosen and stands for a batch or a mark, and all are in session; of the lists of any two
 /// replicas one begins the other. The rows of a batch were written before the first put of it, and
 /// are read as the configuration has them once it is known.
 ///
 /// # Errors
 ///
-/// Want of memory.
+/// Only for want of memory.
 pub fn known(alloc: Global, config: &Config, events: &[Event], r: u8) -> Result<Log, NoMemory>
     requires config { IsConfig config.now }
     requires legal { IsLegal config.now events.now }
@@ -68,12 +68,11 @@ fn both_at(first: &[u16], second: &[u16], i: usize) -> Option<(u16, u16)>
     }
 }
 
-/// What `r` and `s` know at position `i`, exactly where both know it. On condition that the list is
-/// legal.
+/// What `r` and `s` know at position `i`, exactly if both know it. This holds if the list is legal.
 ///
 /// # Errors
 ///
-/// Want of memory.
+/// Only for want of memory.
 pub fn both_know(
     alloc: Global,
     config: &Config,

@@ -12,7 +12,7 @@ use std::alloc::Global;
 ///
 /// # Errors
 ///
-/// Want of memory.
+/// Only for want of memory.
 pub fn is_legal(alloc: Global, config: &Config, events: &[Event]) -> Result<bool, NoMemory>
     requires { IsConfig config.now }
     ensures { IfOk result (λ legal. IsTrue legal ↔ IsLegal config.now events.now) }

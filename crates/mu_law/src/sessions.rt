@@ -9,12 +9,12 @@ use crate::states::replica_after;
 use mu_model::{Config, Event, NoMemory};
 use std::alloc::Global;
 
-/// How many commands of the client `r` knows: their numbers in order are 1 to this count. On
-/// condition that the list is legal and the configuration is one that a job gives.
+/// How many commands of the client `r` knows: their numbers in order are 1 to this count. This
+/// holds if the list is legal and the configuration is one that a job gives.
 ///
 /// # Errors
 ///
-/// Want of memory.
+/// Only for want of memory.
 pub fn session_of(
     alloc: Global,
     config: &Config,

@@ -27,6 +27,7 @@ mod Marks
 mod Misses
 mod NextRows
 mod NoteKinds
+pub mod Noted
 mod Numbering
 mod Offers
 mod Onwards

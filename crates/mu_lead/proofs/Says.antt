@@ -82,7 +82,7 @@ placed_at mine old values answer note (Place.Confirm round p) verb heeded s at n
 placed_at mine old values answer note place verb heeded s at notes due possible told = quiet_at is_of_no_place mine old values answer note place verb spares_no_place refl heeded s notes due possible told
 
 -- whether the values hold all commands is what is asked of the known list
-all_known : (mine : List Event) (old : Lead) (values : List ℕ) (answer : Answer) (verb : Verb) (note : Note) (all : Bool) → note ≡ Note.Working → known old.config old.id (event_by old.id verb answer ∷ mine) ≡ grown values (value_committed note)
+pub all_known : (mine : List Event) (old : Lead) (values : List ℕ) (answer : Answer) (verb : Verb) (note : Note) (all : Bool) → note ≡ Note.Working → known old.config old.id (event_by old.id verb answer ∷ mine) ≡ grown values (value_committed note)
     → holds_all old.config values ≡ all → holds_all old.config (known old.config old.id (event_by old.id verb answer ∷ mine)) ≡ all
 all_known mine old values answer verb note all is tells all_is = ap (holds_all old.config) (tells ∙ ap (λ n. grown values (value_committed n)) is) ∙ all_is
 

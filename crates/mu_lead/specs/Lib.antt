@@ -12,6 +12,7 @@ pub mod Leading
 pub mod Listing
 pub mod Losses
 pub mod Notes
+pub mod Noting
 pub mod Offering
 pub mod Onward
 pub mod Raising

@@ -21,6 +21,7 @@ ghost use Rattle.mu_lead.specs.Resigning.{IsTold};
 ghost use Rattle.mu_lead.specs.Rooms.{HasRooms, RoomsNext, gives_up};
 ghost use Rattle.mu_lead.specs.Standing.{HasHeeded, StandsFor, TakesDue, TakesNext, TellsDue, TellsFailed, TellsNext, verb_of};
 ghost use Rattle.mu_lead.specs.Going.{begins_at, going_after};
+ghost use Rattle.mu_lead.specs.Noting.{NotedNext};
 ghost use Rattle.mu_lead.specs.Saying.{NotesDue, SaysNext, is_working as is_working_note};
 ghost use Rattle.mu_lead.specs.Welcomes.{JoinsAt};
 
@@ -315,6 +316,7 @@ impl Lead {
         ensures id { self.new.id ≡ self.old.id }
         ensures named { self.new.named ≡ self.old.named }
         ensures says { SaysNext mine self.old known.now answer result }
+        ensures noted { NotedNext mine self.old known.now answer result }
         ensures going { self.new.under_way
             ≡ going_after (begins_at self.old.place || self.old.under_way) result }
     {

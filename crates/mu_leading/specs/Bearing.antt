@@ -1,4 +1,5 @@
--- Which verbs bear on what a replica does as a leader, and on what it has read of the others.
+-- verb of a leader, verb that tells of others: the events that change the state of a leadership,
+-- and those that change what was read of the others; the states skip all other events.
 use Rattle.std.specs.Prelude.{Bool, false, true}
 use Rattle.mu_model.specs.declared.event.Verb.{Verb}
 

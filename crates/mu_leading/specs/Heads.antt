@@ -1,4 +1,5 @@
--- When the state of heads stands for the events of replica r.
+-- stands for (heads): the state of the heads that r read, with its scores, stands for the events of
+-- r.
 use Rattle.std.specs.Prelude.{List, Some, ℕ, ◌<◌, ◌≡◌}
 use Rattle.std.specs.declared.option.Option.{Option}
 use Rattle.std.specs.List.{slice_get}
@@ -9,7 +10,7 @@ use Rattle.mu_detect.specs.Stands.{StandsFor}
 use Rattle.mu_leading.specs.declared.heads.Heads.{Heads}
 use Rattle.mu_leading.specs.declared.heads.Peer.{Peer}
 
--- q may be marked by r wherever the head, where there is one, lacks room
+-- r may mark q exactly if the head, if there is one, lacks room
 abbrev pub StandsForStuck : Config → ℕ → ℕ → List Event → Option ℕ → Type 0
 StandsForStuck c r q mine head =
     (limit : ℕ) → is_mark_candidate c r q limit mine ≡ lacks_room c limit head

@@ -1,4 +1,4 @@
--- When the state of a leadership stands for the events of replica r.
+-- stands for (leadership): the state of leaderships and grants stands for the events of r.
 use Rattle.std.specs.Prelude.{List, None, Some, ℕ, ◌<◌, ◌≡◌}
 use Rattle.std.specs.declared.option.Option.{Option}
 use Rattle.std.specs.List.{slice_get}
@@ -12,7 +12,7 @@ use Rattle.mu_model.specs.Leaderships.{fence_seen, grant_at_joining, has_begun, 
 use Rattle.mu_leading.specs.declared.region_notes.RegionNotes.{RegionNotes}
 use Rattle.mu_leading.specs.declared.leadership.Leadership.{Leadership}
 
--- the grant of a fence, where there is one
+-- the grant of a fence, if there is one
 abbrev pub grant_of : Option Fence → Option ℕ
 grant_of None = None
 grant_of (Some f) = Some f.grant

@@ -20,7 +20,7 @@ pub struct Peer {
     pub stuck: Option<u64>,
 }
 
-/// What a replica has read of the heads of all, and the scores by which it holds others to be
+/// What a replica has read of all replicas' heads, and the scores by which it holds others to be
 /// failed.
 #[derive(Drop)]
 pub struct Heads {
@@ -39,7 +39,7 @@ fn head_after(held: u64, r: u8, q: u8, event: &Event) -> u64
     }
 }
 
-/// The lesser of a head, where there is one, and another.
+/// The smaller of a head, if there is one, and another.
 fn least_head(held: Option<u64>, head: u64) -> u64
     ensures { (c : Config) → (limit : ℕ)
         → lacks_room c limit (Some result)
@@ -83,7 +83,7 @@ impl Peer {
         }
     }
 
-    /// Whether the head leaves room for the position `i` and for so many more.
+    /// Whether the head leaves room for the position `i` and for `free` more.
     fn leaves_room(&self, ring: u16, i: u16, free: u8) -> bool
         ensures { result ≡ nat_lt (i + free) (self.now.head + ring) }
     {
@@ -92,7 +92,7 @@ impl Peer {
     }
 }
 
-/// Whether the head, where there is one, and the ring do not reach above the limit.
+/// Whether the head, if there is one, and the ring do not reach above the limit.
 fn is_short(head: Option<u64>, ring: u16, limit: u64) -> bool
     ensures { (c : Config) → ring ≡ c.ring → result ≡ lacks_room c limit head }
 {
@@ -114,7 +114,7 @@ fn take_at_peers(peers: &mut [Peer; 7], scores: &Scores, r: u8, event: &Event)
 }
 
 impl Heads {
-    /// Nothing read by the replica `id`: all are alive.
+    /// The state of the replica `id` with nothing read: all are alive.
     pub fn new(config: &Config, id: u8) -> Heads
         requires few { config.now.replicas ≤ 7 }
         requires inside { id < config.now.replicas }
@@ -152,7 +152,7 @@ impl Heads {
         }
     }
 
-    /// Whether the head of `q` that was read last leaves room for the position `i` and for so many
+    /// Whether the head of `q` that was read last leaves room for the position `i` and for `free`
     /// more in a log of `ring` slots.
     pub fn leaves_room(&self, q: u8, ring: u16, i: u16, free: u8) -> bool
         ensures { (c : Config) → (r : ℕ) → (mine : List Event) → q < c.replicas → ring ≡ c.ring

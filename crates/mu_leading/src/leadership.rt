@@ -100,7 +100,7 @@ fn is_fence_changed(joined: Option<Option<u32>>, fence: Fence) -> bool
     }
 }
 
-/// Nothing done at any region, in each region's place.
+/// For each region, the notes on one at which nothing was done.
 fn no_notes() -> [RegionNotes; 7]
     ensures { (r : ℕ) → StandForRegionNotes r [] result }
 {
@@ -153,7 +153,7 @@ fn is_least_number(b: u32, r: u8, read: u64, put: u32) -> bool
 }
 
 impl Leadership {
-    /// No leadership of `r` yet.
+    /// The state of `r` before any leadership.
     pub fn new(r: u8) -> Leadership
         ensures { StandsForLeadership r [] result }
     {
@@ -385,7 +385,7 @@ impl Leadership {
         count
     }
 
-    /// Whether the regions that have told their minimum are a majority of `n` with the own one.
+    /// Whether the regions that have told their minimum are a majority of `n` with its own region.
     pub fn has_confirmed(&self, n: u8) -> bool
         requires { n ≤ 7 }
         ensures { (c : Config) → (r : ℕ) → (mine : List Event) → n ≡ c.replicas → r < 7

@@ -15,7 +15,7 @@ use mu_model::{Answer, Event, Fence, Target, Verb};
 pub struct RegionNotes {
     /// The grant that it noted.
     pub noted: Option<u32>,
-    /// The grant that it had noted when the region became a member, where it is one.
+    /// The grant that it had noted when the region became a member, if it is one.
     pub joined: Option<Option<u32>>,
     /// The target that it has entered with in the leadership.
     pub entered: Option<Target>,
@@ -170,8 +170,8 @@ fn shown_after(held: Option<u32>, r: u8, p: u8, event: &Event) -> Option<u32>
     }
 }
 
-/// Whether the minimum was read since the first answer with this grant: so where it is the grant
-/// that was seen last, and else the grant is new.
+/// Whether the minimum was read since the first answer with this grant. That can be so only if it
+/// is the grant that was seen last: any other grant is new.
 fn has_read_under(held: bool, shown: Option<u32>, grant: u32) -> bool
     ensures { (r p : ℕ) → (mine : List Event) → shown ≡ last_grant r p mine
         → held ≡ min_read_since r p mine (last_grant r p mine)
@@ -211,7 +211,7 @@ fn has_read_after(held: bool, shown: Option<u32>, r: u8, p: u8, event: &Event) -
 }
 
 impl RegionNotes {
-    /// Nothing done.
+    /// The notes on a region at which nothing was done.
     pub fn new() -> RegionNotes
         ensures { (r p : ℕ) → StandsForRegionNotes r p [] result }
     {

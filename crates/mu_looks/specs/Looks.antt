@@ -1,5 +1,7 @@
--- What a replica has looked at and put, with the times of it: the events of r count from 1, and 0
--- is never.
+-- stands for (looks): the state of looks, first puts and FUOs that were read stands for the events
+-- of r.
+--
+-- Times are told with it: the events of r count from 1, and 0 is never.
 use Rattle.std.specs.Prelude.{Bool, List, None, Some, [], false, if◌then◌else◌, length, nat_lt, ℕ, ◌%◌, ◌&&◌, ◌+◌, ◌==◌, ◌∷◌, ◌≡◌, ◌≤◌}
 use Rattle.std.specs.declared.option.Option.{Option}
 use Rattle.std.specs.List.{slice_get}
@@ -25,11 +27,11 @@ abbrev pub last_time : (Event → Bool) → List Event → ℕ
 last_time test [] = 0
 last_time test (e ∷ past) = if test e then length past + 1 else last_time test past
 
--- the time at which the leadership began
+-- the time when the leadership began
 abbrev pub begun_time : ℕ → List Event → ℕ
 begun_time r mine = last_time (begins_leadership r) mine
 
--- the time at which a region became a member last, or at which the leadership began
+-- the time when a region last became a member, or when the leadership began
 abbrev pub joining_time : ℕ → List Event → ℕ
 joining_time r [] = 0
 joining_time r (e ∷ past) =
@@ -39,7 +41,7 @@ joining_time r (e ∷ past) =
     then length past + 1
     else joining_time r past
 
--- the time at which p became a member, where it is one
+-- the time when p became a member, if it is one
 abbrev pub member_time : ℕ → ℕ → List Event → Option ℕ
 member_time r p [] = None
 member_time r p (e ∷ past) =
@@ -62,7 +64,7 @@ is_put_in_place r p ring s by _ = false
 abbrev pub put_time : ℕ → ℕ → ℕ → ℕ → List Event → ℕ
 put_time r p ring s mine = last_time (λ e. is_put_in_place r p ring s e.by e.verb) mine
 
--- the look at the time good came after the joining, where there was one, and after the put
+-- the look at the time `good` came after the joining, if there was one, and after the put
 abbrev pub is_good_since : Option ℕ → ℕ → ℕ → Bool
 is_good_since None put good = false
 is_good_since (Some member) put good = nat_lt member good && nat_lt put good

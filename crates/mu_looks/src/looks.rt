@@ -37,9 +37,9 @@ pub struct Looks {
     replica: u8,
     /// The time of its next event.
     time: u32,
-    /// The time at which its leadership began.
+    /// The time when its leadership began.
     begun_at: u32,
-    /// The time at which a region became a member last, or its leadership began.
+    /// The time when a region last became a member, or when its leadership began.
     joined_at: u32,
     /// The greatest FUO of its own region that it read or raised.
     own_reach: Option<u64>,
@@ -49,7 +49,7 @@ pub struct Looks {
     regions: Vec<RegionLooks>,
 }
 
-/// The time at which the leadership began, after the event.
+/// The time when the leadership began, after the event.
 fn begun_after(held: u32, r: u8, now: u32, event: &Event) -> u32
     ensures { (mine : List Event) → now ≡ length mine + 1 → held ≡ begun_time r mine
         → result ≡ begun_time r (event.now ∷ mine) }
@@ -70,8 +70,8 @@ fn joins(before: &Leadership, r: u8, event: &Event) -> bool
     }
 }
 
-/// The time at which a region joined last or the leadership began, after an event by which one
-/// `joins` or not.
+/// The time when a region last joined or the leadership began, after an event; `joins` tells
+/// whether a region joins by it.
 fn joined_after(held: u32, joins: bool, r: u8, now: u32, event: &Event) -> u32
     ensures { (mine : List Event) → now ≡ length mine + 1
         → joins ≡ is_joining r mine event.now.by event.now.verb event.now.answer
@@ -80,7 +80,7 @@ fn joined_after(held: u32, joins: bool, r: u8, now: u32, event: &Event) -> u32
     if joins || begins(r, event) { now } else { held }
 }
 
-/// The FUO of the own region that reaches farthest, after the event.
+/// The FUO of its own region that reaches farthest, after the event.
 fn own_reach_after(held: Option<u64>, r: u8, event: &Event) -> Option<u64>
     ensures { (mine : List Event) → HoldsOwnReach r mine held
         → HoldsOwnReach r (event.now ∷ mine) result }
@@ -141,7 +141,7 @@ fn take_at_each(regions: &mut [RegionLooks], r: u8, now: u32, event: &Event)
     }
 }
 
-/// Whether a FUO, where there is one, is at least `h`.
+/// Whether a FUO, if there is one, is at least `h`.
 fn reaches_to(reach: Option<u64>, h: u16) -> bool
     ensures { result ≡ reaches_head h reach }
 {
@@ -173,7 +173,7 @@ fn larger_of(x: Option<(u32, u16)>, y: Option<(u32, u16)>) -> Option<(u32, u16)>
 }
 
 impl First {
-    /// No put.
+    /// No put was made.
     fn new() -> First
         ensures { (r i : ℕ) → HoldsFirst r i [] result }
     {
@@ -185,7 +185,7 @@ impl First {
 }
 
 impl Looks {
-    /// Nothing done by `r`. Takes all memory that it ever needs.
+    /// The state of `r` before it did anything. Takes all memory that it ever needs.
     pub fn new(alloc: Global, r: u8, config: &Config) -> Result<Looks, NoMemory>
         requires { IsConfig config.now }
         ensures { IfOk result (λ state. StandsForLooks config.now r [] state) }
@@ -205,8 +205,8 @@ impl Looks {
         })
     }
 
-    /// Takes the next event of the replica, which it was allowed, where `before` stands for the
-    /// events before it. Takes no memory.
+    /// Takes the next event of the replica, which it was allowed; `before` stands for the events
+    /// before it. Takes no memory.
     pub fn take(&mut self, before: &Leadership, event: &Event)
         ensures { (c : Config) → (r : ℕ) → (mine : List Event) → IsConfig c
             → IsPossible c r (event.now ∷ mine) → StandsForLeadership r mine before.now
@@ -249,8 +249,8 @@ impl Looks {
         reaches_to(self.own_reach, h)
     }
 
-    /// Whether a look at position `i` of `p`, made since `p` joined and since the last put in that
-    /// place, came before the last `Enter` there, where `p` is entered.
+    /// Whether `p` is entered, and before the last `Enter` there came a look at position `i` of `p`
+    /// that was made since `p` joined and since the last put in that place.
     pub fn has_looked(&self, p: u8, i: u16) -> bool
         ensures { (c : Config) → (r s : ℕ) → (mine : List Event) → p < 7 → IsConfig c
             → i ≤ row_count c + reserve c → StandsForLooks c r mine self.now
@@ -383,7 +383,7 @@ impl Looks {
         all
     }
 
-    /// What the last look at position `i` of `p` showed, where `p` is a member.
+    /// What the last look at position `i` of `p` showed, if `p` is a member.
     fn entry_shown(&self, p: u8, leading: &Leadership, i: u16) -> Option<(u32, u16)>
         ensures { (c : Config) → (r : ℕ) → (mine : List Event) → p < 7 → i ≤ row_count c + reserve c
             → StandsForLeadership r mine leading.now → StandsForLooks c r mine self.now

@@ -36,7 +36,7 @@ pub struct Look {
 pub struct RegionLooks {
     /// The region.
     region: u8,
-    /// The time at which it became a member, where it is one.
+    /// The time when it became a member, if it is one.
     member_since: Option<u32>,
     /// The time of the last `Enter` there.
     entered_at: u32,
@@ -48,7 +48,7 @@ pub struct RegionLooks {
     looks: Vec<Look>,
 }
 
-/// The farther of a FUO and that one, where there is one.
+/// The farther of a FUO, if there is one, and another.
 pub fn farther(held: Option<u64>, x: u64) -> Option<u64>
     ensures ring { (i ring : ℕ)
         → is_within_ring i ring result
@@ -87,7 +87,7 @@ fn reach_after(held: Option<u64>, r: u8, p: u8, event: &Event) -> Option<u64>
     }
 }
 
-/// The time at which `p` became a member, after the event.
+/// The time when `p` became a member, after the event.
 fn member_since_after(held: Option<u32>, r: u8, p: u8, now: u32, event: &Event) -> Option<u32>
     ensures { (mine : List Event) → now ≡ length mine + 1 → held ≡ member_time r p mine
         → result ≡ member_time r p (event.now ∷ mine) }
@@ -147,7 +147,7 @@ fn past_at_after(held: u32, now: u32, answer: Answer) -> u32
     if saw_past(answer) { now } else { held }
 }
 
-/// The time of a good look after a look, where `is_good` tells whether that time still counts.
+/// The time of a good look after a look; `is_good` tells whether that time still counts.
 fn good_at_after(held: u32, is_good: bool, now: u32, answer: Answer) -> u32
     ensures { result ≡ (if is_past answer || is_good then held else now) }
 {
@@ -158,7 +158,7 @@ fn good_at_after(held: u32, is_good: bool, now: u32, answer: Answer) -> u32
     }
 }
 
-/// The looks at a position after one more, where `is_good` tells whether a good one still counts.
+/// The looks at a position after one more; `is_good` tells whether a good one still counts.
 fn look_after(held: Look, is_good: bool, now: u32, event: &Event) -> Look
     ensures { (c : Config) → (p i : ℕ) → (mine : List Event) → event.now.verb ≡ SomeVerb.Look p i
         → now ≡ length mine + 1 → is_good ≡ has_looked_since c event.now.by p i mine
@@ -173,7 +173,7 @@ fn look_after(held: Look, is_good: bool, now: u32, event: &Event) -> Look
     }
 }
 
-/// Notes a look at `p`, where `is_good` tells whether a good one was made there.
+/// Notes a look at `p`; `is_good` tells whether a good one was made there.
 fn note_look(looks: &mut [Look], is_good: bool, r: u8, p: u8, now: u32, event: &Event)
     ensures { (c : Config) → (mine : List Event) → now ≡ length mine + 1
         → ((i : ℕ) → event.now.verb ≡ SomeVerb.Look p i → i < length looks.old
@@ -189,7 +189,7 @@ fn note_look(looks: &mut [Look], is_good: bool, r: u8, p: u8, now: u32, event: &
     }
 }
 
-/// Whether a good look still counts, that came after the joining and the last put in its place.
+/// Whether a good look still counts: it came after the joining and the last put in its place.
 fn still_counts(member_since: Option<u32>, put_at: u32, good_at: u32) -> bool
     ensures { result ≡ is_good_since member_since put_at good_at }
 {
@@ -199,7 +199,7 @@ fn still_counts(member_since: Option<u32>, put_at: u32, good_at: u32) -> bool
     }
 }
 
-/// Whether a FUO, where there is one, is within a ring of position `i`.
+/// Whether a FUO, if there is one, is within a ring of position `i`.
 fn reaches(reach: Option<u64>, ring: u16, i: u16) -> bool
     ensures { result ≡ is_within_ring i ring reach }
 {
@@ -210,7 +210,7 @@ fn reaches(reach: Option<u64>, ring: u16, i: u16) -> bool
 }
 
 impl Look {
-    /// No look.
+    /// No look was made.
     pub fn new() -> Look
         ensures { (c : Config) → (r p i : ℕ) → HoldsLook c r p i [] result }
     {
@@ -224,7 +224,8 @@ impl Look {
 }
 
 impl RegionLooks {
-    /// Nothing done at `region`. Takes memory for the places and the positions.
+    /// The notes on `region` before anything was done there. Takes memory for the places and the
+    /// positions.
     pub fn new(alloc: Global, region: u8, config: &Config) -> Result<RegionLooks, NoMemory>
         requires { row_count config.now ≤ 1500 }
         ensures { IfOk result
@@ -274,7 +275,7 @@ impl RegionLooks {
         still_counts(self.member_since, self.put_at(i), self.look(i).good_at)
     }
 
-    /// Whether a look at position `i` counted at the last `Enter`, where the region is entered.
+    /// Whether a look at position `i` counted at the last `Enter`, if the region is entered.
     pub fn has_looked(&self, i: u16) -> bool
         ensures { (c : Config) → (r p s : ℕ) → (mine : List Event) → 0 < c.ring
             → i ≤ row_count c + reserve c → StandsForRegionLooks c r p mine self.now

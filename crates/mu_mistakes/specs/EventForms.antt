@@ -1,4 +1,4 @@
--- How the line of each verb's event reads after its replica.
+-- event forms: the form of the line of each verb's event, after its replica.
 use Rattle.std.specs.Prelude.{ℕ, List, codes, if◌then◌else◌, None, Some}
 use Rattle.std.specs.declared.option.Option.{Option}
 use Rattle.std.specs.Str.{bytes_eq}

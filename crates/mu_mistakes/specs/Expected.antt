@@ -1,4 +1,4 @@
--- What is expected in place of a line that leaves the grammar.
+-- expected: what is expected in place of a refused line, by its cause.
 use Rattle.std.specs.Prelude.{ℕ, zero, suc, ◌+◌, ◌-◌, ◌==◌, ◌&&◌, ◌||◌, nat_le, nat_lt, Bool, false, true, if◌then◌else◌, List, [], ◌∷◌, ◌++◌, codes, None, Some}
 use Rattle.std.specs.declared.option.Option.{Option}
 use Rattle.std.specs.Fmt.{decimal}
@@ -19,7 +19,7 @@ begins_with word line = is_first word (first_words line)
 abbrev pub one_client : List ℕ → ℕ
 one_client line = if begins_with (codes "client") line then 1 else 0
 
--- how many of so many first lines begin one
+-- how many of the first `count` lines begin one
 abbrev pub clients_in : ℕ → List (List ℕ) → ℕ
 clients_in zero lines = 0
 clients_in (suc count) [] = 0
@@ -52,7 +52,7 @@ abbrev pub below_words : Option ℕ → List ℕ
 below_words None = codes "below the number of replicas"
 below_words (Some replicas) = codes "below " ++ decimal replicas
 
--- what is expected where this is the cause, and nothing else of the input counts
+-- what is expected if this is the cause, and nothing else of the input counts
 abbrev pub cause_words : ℕ → List ℕ
 cause_words cause =
     if cause == 1
@@ -125,7 +125,7 @@ event_words replicas (by ∷ name ∷ words) =
     else replica_words replicas
 event_words replicas _ = replica_words replicas
 
--- what is expected in place of this line, where this is the cause
+-- what is expected in place of this line, if this is the cause
 abbrev pub line_words : List ℕ → ℕ → List ℕ → ℕ → List ℕ
 line_words bytes number line cause =
     if cause == CLIENT then client_words (clients_before bytes number)
@@ -138,12 +138,12 @@ line_words bytes number line cause =
 abbrev pub lacks_batch : List ℕ → ℕ → Bool
 lacks_batch bytes number = number == 5 && is_line (codes "mu 2") (slice_get (lines bytes) 0)
 
--- what is expected after the last line, which is an `end` or isn't: an `end` that ends a job alone
+-- what is expected after the last line, by whether it is an `end`, which then ends only a job
 abbrev pub ending_words : Bool → List ℕ
 ending_words true = codes "the events of a trace and another end: the job alone fits"
 ending_words false = codes "end, the last line of a job and of a trace"
 
--- what is expected where the input ends before a line: the first four lines have their numbers for
+-- what is expected if the input ends before a line: the first four lines have their numbers for
 -- causes, and a job of version 2 has a fifth
 abbrev pub missing_words : List ℕ → ℕ → List ℕ
 missing_words bytes number =
@@ -151,7 +151,7 @@ missing_words bytes number =
     else if lacks_batch bytes number then cause_words BATCH
     else ending_words (is_line (codes "end") (slice_get (lines bytes) (number - 2)))
 
--- what is expected at this place, where a line stands there or is missing
+-- what is expected at this place, if a line stands there or is missing
 abbrev pub wanted_words : List ℕ → ℕ → Option (List ℕ) → ℕ → List ℕ
 wanted_words bytes number None cause = missing_words bytes number
 wanted_words bytes number (Some line) cause = line_words bytes number line cause

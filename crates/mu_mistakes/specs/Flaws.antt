@@ -1,4 +1,5 @@
--- What the bytes of a line show that no line of an input has, and the words for it.
+-- flaw: what the bytes of a line show that no line of an input has (a tab, a carriage return, a
+-- space too many), and the words for it.
 use Rattle.std.specs.Prelude.{ℕ, ◌+◌, ◌==◌, ◌&&◌, Bool, not, if◌then◌else◌, List, [], ◌∷◌, ◌++◌, codes, length, position, slice_index, take, None, Some}
 use Rattle.std.specs.declared.option.Option.{Option}
 use Rattle.std.specs.Fmt.{decimal}
@@ -8,11 +9,11 @@ use Rattle.mu_mistakes.specs.Shown.{is_plain}
 use Rattle.mu_mistakes.specs.declared.flaw.Flaw.{Flaw}
 use Rattle.mu_mistakes.specs.declared.flaw.TheConstants.{RETURN, TAB, MARK}
 
--- where the first byte stands that is no letter, digit, sign or space
+-- the place of the first byte that is no letter, digit, sign or space
 abbrev pub bad_byte : List ℕ → Option ℕ
 bad_byte line = position (λ byte. not (is_plain byte)) line
 
--- where the first word stands that has no byte
+-- the place of the first word that has no byte
 abbrev pub empty_word : List (List ℕ) → Option ℕ
 empty_word words = position (λ word. length word == 0) words
 

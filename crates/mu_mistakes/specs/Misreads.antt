@@ -1,4 +1,4 @@
--- What there is to say of bytes that leave the grammar, as lines.
+-- misread: the refused line, its flaw and what is expected, as lines.
 use Rattle.std.specs.Prelude.{ℕ, ◌-◌, ◌≡◌, ◌≤◌, List, [], ◌∷◌, ◌++◌, codes, length, None, Some, IfSome}
 use Rattle.std.specs.declared.option.Option.{Option}
 use Rattle.std.specs.Fmt.{decimal}

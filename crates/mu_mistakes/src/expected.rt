@@ -22,8 +22,8 @@ const EVENT: u8 = 13;
 /// The commands of a batch.
 const BATCH: u8 = 15;
 
-/// What is expected in the line of this number, where this is the cause. The line stands there, or
-/// is missing.
+/// What is expected in the line of this number, if this is the cause. The line stands there, or is
+/// missing.
 pub(crate) fn expected(bytes: &[u8], number: u32, line: Option<&[u8]>, cause: u8) -> Line
     requires { length bytes.now ≤ TRACE_LIMIT }
     ensures bytes { result
@@ -39,7 +39,7 @@ pub(crate) fn expected(bytes: &[u8], number: u32, line: Option<&[u8]>, cause: u8
     out
 }
 
-/// Adds what is expected where the input ends before a line.
+/// Adds what is expected if the input ends before a line.
 fn push_missing(out: &mut Line, bytes: &[u8], number: u32)
     requires limit { length bytes.now ≤ TRACE_LIMIT }
     requires room { length out.old ≤ 10 }
@@ -105,7 +105,7 @@ fn push_expected(out: &mut Line, bytes: &[u8], number: u32, line: &[u8], cause: 
     }
 }
 
-/// What is expected where this is the cause, and nothing else of the input counts.
+/// What is expected if this is the cause, and nothing else of the input counts.
 fn words_for(cause: u8) -> &'static [u8]
     ensures words { result.now ≡ cause_words cause }
     ensures room { length result.now ≤ 100 }

@@ -52,14 +52,14 @@ pub(crate) fn flaw_of(text: &[u8]) -> Option<Flaw>
     }
 }
 
-/// Where the first byte stands that is no letter, digit, sign or space.
+/// The place of the first byte that is no letter, digit, sign or space.
 fn bad_byte(text: &[u8]) -> Option<usize>
     ensures { result ≡ bad_byte text.now }
 {
     text.iter().position(|byte| !is_plain(*byte))
 }
 
-/// Where the first word stands that has no byte.
+/// The place of the first word that has no byte.
 fn empty_word(words: &[&[u8]]) -> Option<usize>
     ensures { result ≡ empty_word (map (λ word. word.now) words.now) }
 {

@@ -21,7 +21,7 @@ pub const UNSHOWN: u8 = b'?';
 /// The first byte outside ASCII.
 pub const BEYOND_ASCII: u8 = 127;
 
-/// Each limit is this number.
+/// Each limit is the number that is stated here.
 pub fn limits_are_stated()
     ensures { (SHOWN_BYTES ≡ 64) × (UNSHOWN ≡ 63) × (BEYOND_ASCII ≡ 127) }
 {}

@@ -1,4 +1,4 @@
-//! What there is to say of bytes that leave the grammar.
+//! What is said of bytes that leave the grammar.
 ghost use Rattle.std.specs.Prelude.{◌≡◌, ◌≤◌, length, option_map, IfSome};
 ghost use Rattle.mu_input.specs.declared.TheConstants.{TRACE_LIMIT};
 ghost use Rattle.mu_mistakes.specs.Misreads.{IsMisread, shown_words, told_flaw};
@@ -9,7 +9,7 @@ use crate::flaw::{flaw_line, flaw_of};
 use crate::shown::shown;
 use mu_text::Line;
 
-/// Where bytes leave the grammar and why, in words.
+/// At which line bytes leave the grammar and why, in words.
 #[derive(Drop)]
 pub struct Misread {
     /// The first line that leaves it, counted from 1; a missing line is the one after the last.

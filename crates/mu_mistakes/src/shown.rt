@@ -19,7 +19,7 @@ fn shown_byte(byte: u8) -> u8
     if is_plain(byte) { byte } else { UNSHOWN }
 }
 
-/// The first bytes of a line between quotes, and two dots where it has more.
+/// The first bytes of a line between quotes, and two dots if it has more.
 pub(crate) fn shown(text: &[u8]) -> Line
     ensures bytes { result ≡ shown text.now }
     ensures room { length result ≤ 70 }
@@ -32,7 +32,7 @@ pub(crate) fn shown(text: &[u8]) -> Line
     line
 }
 
-/// The first bytes of a line, or all where it has few.
+/// The first bytes of a line, or all if it has few.
 fn first_bytes(text: &[u8]) -> &[u8]
     ensures first { result.now ≡ take 64 text.now }
     ensures room { length result.now ≤ 64 }
@@ -55,7 +55,7 @@ fn push_bytes(line: &mut Line, text: &[u8])
     }
 }
 
-/// Two dots where a line has more bytes than are shown.
+/// Two dots if a line has more bytes than are shown.
 fn more_mark(text: &[u8]) -> &'static [u8]
     ensures is { result.now ≡ more_mark text.now }
     ensures room { length result.now ≤ 3 }

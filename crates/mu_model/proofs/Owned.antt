@@ -1,4 +1,4 @@
--- What looks at the events of r alone says the same of the part of r.
+-- What looks only at the events of r says the same of the part of r.
 use Rattle.std.proofs.Common.{◌≡◌, ℕ, ◌+◌, Bool, true, false, cond, ◌==◌, List, [], ◌∷◌, refl, sym, ◌∙◌, ap, None, true≢false}
 use Rattle.std.specs.declared.option.Option.{Option}
 use Rattle.mu_model.specs.declared.event.Event.{Event}

@@ -1,4 +1,4 @@
--- What replica r may do next, by its own events so far.
+-- allowed: what a replica may do next, by its own events so far.
 use Rattle.std.specs.Prelude.{List, None, Some, false, if◌then◌else◌, is_some, length, not, true, ℕ, ◌%◌, ◌+◌, ◌-◌, ◌/◌, ◌<◌, ◌==◌, ◌≡◌, ◌≢◌, ◌≤◌, ◌⊎◌}
 use Rattle.std.specs.declared.option.Option.{Option}
 use Rattle.mu_model.specs.declared.config.Config.{Config}
@@ -19,7 +19,7 @@ abbrev pub last_ask : ℕ → ℕ → Verb → Option ℕ
 last_ask r by (Verb.Ask p) = if by == r then Some p else None
 last_ask r by _ = None
 
--- what the verb needs beside a step that is left and a replica that there is
+-- what the verb needs, besides a step that is left and an existing replica
 abbrev pub Needs : Config → ℕ → List Event → Verb → Type 0
 Needs c r past (Verb.Ask p) =
     (p < c.replicas)
@@ -61,7 +61,7 @@ Needs c r past (Verb.Grant w) =
     × (is_least_waiting r past w ≡ true)
 
 -- r may make the verb after its part mine (the count of events is that of the part; every other
--- word looks at the events of r alone)
+-- word looks only at the events of r)
 pub record Allowed (c : Config) (r : ℕ) (mine : List Event) (verb : Verb) : Type 0 where
   pub budget : length mine < c.budget
   pub replica : r < c.replicas

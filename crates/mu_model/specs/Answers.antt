@@ -1,4 +1,4 @@
--- What a step answers after a history.
+-- answer: what a step answers after a history.
 use Rattle.std.specs.Prelude.{Bool, List, None, Some, false, if◌then◌else◌, length, nat_lt, not, true, ℕ, ◌&&◌, ◌+◌, ◌==◌}
 use Rattle.std.specs.declared.option.Option.{Option}
 use Rattle.std.specs.List.{slice_get}

@@ -1,4 +1,4 @@
--- How many steps a stretch of a leadership may take.
+-- bound: how many steps a stretch of a leadership may take.
 use Rattle.std.specs.Prelude.{Bool, List, None, Some, [], false, if◌then◌else◌, nat_le, not, true, ℕ, ◌&&◌, ◌*◌, ◌++◌, ◌+◌, ◌==◌, ◌∷◌, ◌≡◌}
 use Rattle.std.specs.declared.option.Option.{Option}
 use Rattle.std.specs.List.{slice_get}
@@ -41,7 +41,7 @@ was_copied c r p j (e ∷ past) =
     if begins_leadership r e then false else if is_copy_of c r p j past e then true
     else was_copied c r p j past
 
--- the offset, where there is one, is at most j
+-- the offset, if there is one, is at most j
 abbrev pub is_at_most : ℕ → Option ℕ → Bool
 is_at_most j None = false
 is_at_most j (Some u) = nat_le u j
@@ -80,7 +80,7 @@ cycle c = 4 * c.replicas + 44
 abbrev pub stays : ℕ → List Event → Bool
 stays r window = not (has (begins_leadership r) window)
 
--- so many replication events follow in the same leadership, and r is named before each
+-- count replication events follow in the same leadership, and r is named before each
 pub record Follows (c : Config) (r : ℕ) (past window older : List Event) (count : ℕ) : Type 0 where
   pub stretch : IsStretch past window older
   pub count_is : replications window older ≡ count

@@ -1,4 +1,4 @@
--- Which values are chosen.
+-- chosen: a value that a majority of the regions took under one number.
 use Rattle.std.specs.Prelude.{Bool, List, false, ℕ, ◌&&◌, ◌==◌, ◌≤◌}
 use Rattle.mu_model.specs.declared.config.Config.{Config}
 use Rattle.mu_model.specs.declared.event.Answer.{Answer}

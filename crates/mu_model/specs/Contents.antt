@@ -1,5 +1,5 @@
--- The rows of a configuration, what payload numbers stand for, and which lists of entries are in
--- session.
+-- content, in session: the batch or mark that a payload number stands for; a list in which each
+-- client's commands 1, 2, .. come in order and once.
 use Rattle.std.specs.Prelude.{Bool, List, None, Some, [], false, if◌then◌else◌, length, nat_lt, slice_index, suc, true, zero, ℕ, ◌%◌, ◌&&◌, ◌++◌, ◌+◌, ◌/◌, ◌<◌, ◌==◌, ◌^◌, ◌||◌, ◌∷◌, ◌≡◌, ◌≤◌, ◌⊎◌}
 use Rattle.std.specs.declared.option.Option.{Option}
 use Rattle.std.specs.List.{slice_get}
@@ -7,7 +7,7 @@ use Rattle.mu_model.specs.declared.config.Config.{Config}
 use Rattle.mu_model.specs.declared.config.Row.{Row}
 use Rattle.mu_model.specs.Histories.{all_below}
 
--- word k of a row, where there is one
+-- word k of a row, if there is one
 abbrev pub word_of : Option Row → ℕ → ℕ
 word_of None k = 0
 word_of (Some row) k = slice_index row.words k
@@ -57,7 +57,7 @@ marked c q (v ∷ vs) = is_mark c q v || marked c q vs
 abbrev pub StandsForEntry : Config → ℕ → Type 0
 StandsForEntry c v = (is_batch c v ≡ true) ⊎ ((q : ℕ) × (is_mark c q v ≡ true))
 
--- so many rows from row j on
+-- the n rows from row j on
 abbrev pub rows_from : ℕ → ℕ → List ℕ
 rows_from zero j = []
 rows_from (suc n) j = j ∷ rows_from n (j + 1)
@@ -82,7 +82,7 @@ session c client (v ∷ vs) = numbers_in c client (rows_of c v) ++ session c cli
 abbrev pub command_count : Config → ℕ → List ℕ → ℕ
 command_count c client values = length (session c client values)
 
--- so many numbers from k on
+-- the n numbers from k on
 abbrev pub counted : ℕ → ℕ → List ℕ
 counted zero k = []
 counted (suc n) k = k ∷ counted n (k + 1)

@@ -1,4 +1,4 @@
--- When the journal of replica r is diligent: ten points, each of a pace that it keeps.
+-- diligent: the journal of replica r keeps its paces: ten points, one for each pace.
 use Rattle.std.specs.Prelude.{Bool, List, [], false, if◌then◌else◌, is_some, length, min, nat_le, not, true, ℕ, ◌%◌, ◌&&◌, ◌*◌, ◌++◌, ◌+◌, ◌<◌, ◌==◌, ◌||◌, ◌∷◌, ◌≡◌, ◌≢◌, ◌≤◌, ◌⊎◌}
 use Rattle.mu_model.specs.declared.config.Config.{Config}
 use Rattle.mu_model.specs.declared.event.Event.{Event}
@@ -34,7 +34,8 @@ pub record ReadsInTime (c : Config) (r : ℕ) (past : List Event) : Type 0 where
       → is_beat_read q later ≡ true → is_beat_read q earlier ≡ true
       → 4 * c.replicas + 43 ≤ length between
 
--- grant pace: who is left unserved is followed by a grant within a round of the cycle
+-- grant pace: a read of asks that leaves a replica unserved is followed by a grant within a round
+-- of the cycle
 abbrev pub GrantsInTime : Config → ℕ → List Event → Type 0
 GrantsInTime c r past =
     (w : ℕ) (e : Event) (window older : List Event) → IsStretch past window (e ∷ older)
@@ -45,7 +46,7 @@ GrantsInTime c r past =
 abbrev pub has_to_ask : Config → ℕ → List Event → Bool
 has_to_ask c r past = is_named c r past && (not (knows_all c r past) && not (leads r past))
 
--- election pace: who has to ask asks every region and reads every fence
+-- election pace: a replica that has to ask asks every region and reads every fence
 pub record AsksInTime (c : Config) (r : ℕ) (past : List Event) : Type 0 where
   pub asks :
       (p : ℕ) (window older : List Event) → p < c.replicas → IsStretch past window older
@@ -89,7 +90,7 @@ LooksIntoMisses c r past =
     → replications between (e ∷ older) ≡ 0 → is_replication (between ++ e ∷ older) next ≡ true
     → is_named c r (between ++ e ∷ older) ≡ true → is_fencing p next ≡ true
 
--- another was named before some replication event of the leadership
+-- another replica was named before some replication event of the leadership
 abbrev pub was_unnamed : Config → ℕ → List Event → Bool
 was_unnamed c r [] = false
 was_unnamed c r (e ∷ past) =
@@ -105,7 +106,7 @@ may_ask_anew c r past =
     || (not (has_min r past)
     && all_below c.replicas (λ p. nat_le 16 (how_many (is_fencing p) (leadership r past))))))
 
--- ask discipline: r asks only where it is named, and anew only with cause
+-- ask discipline: r asks only if it is named, and asks again only with cause
 pub record AsksWithCause (c : Config) (r : ℕ) (past : List Event) : Type 0 where
   pub named :
       (p : ℕ) (e : Event) (older : List Event) → IsStretch past (e ∷ []) older
@@ -114,15 +115,15 @@ pub record AsksWithCause (c : Config) (r : ℕ) (past : List Event) : Type 0 whe
       (e : Event) (older : List Event) → IsStretch past (e ∷ []) older → is_asking 0 e ≡ true
       → may_ask_anew c r older ≡ true
 
--- the last fences of the leadership name r, not closing, at a majority with the own region
+-- the last fences of the leadership name r, not closing, at a majority with r's own region
 abbrev pub is_confirmed : Config → ℕ → List Event → Bool
 is_confirmed c r past =
     is_some (noted_grant r r past)
     && nat_le (majority_of c.replicas)
     (count_below c.replicas (λ p. is_some (noted_grant r p past)))
 
--- confirmation: who is confirmed reads a minimum within as many replication events as there are
--- replicas
+-- confirmation: a leader that is confirmed reads a minimum within as many replication events as
+-- there are replicas
 abbrev pub BeginsInTime : Config → ℕ → List Event → Type 0
 BeginsInTime c r past =
     (e : Event) (window older : List Event) → IsStretch past window (e ∷ older)
@@ -204,7 +205,8 @@ completes_row_verb c r past now _ = false
 abbrev pub completes_row : Config → ℕ → List Event → Event → Bool
 completes_row c r past e = completes_row_verb c r past (e ∷ past) e.verb
 
--- replayer pace: who is not named reads its FUO, and learns or fetches what lies below it
+-- replayer pace: a replica that is not named reads its FUO, and learns or fetches what lies below
+-- it
 pub record Replays (c : Config) (r : ℕ) (past : List Event) : Type 0 where
   pub reads :
       (window older : List Event) → IsStretch past window older

@@ -1,4 +1,5 @@
--- How the journal of replica r ends, and when it obeys its script.
+-- end, obeys: how the journal of replica r ends, and that it ends exactly there, as its script and
+-- its budget say.
 use Rattle.std.specs.Prelude.{Bool, List, None, Some, [], false, if◌then◌else◌, length, nat_le, slice_index, take, true, ℕ, ◌&&◌, ◌++◌, ◌+◌, ◌<◌, ◌==◌, ◌||◌, ◌∷◌, ◌≡◌, ◌≢◌}
 use Rattle.std.specs.declared.option.Option.{Option}
 use Rattle.mu_model.specs.declared.config.Config.{Config}
@@ -16,7 +17,7 @@ use Rattle.mu_model.specs.Room.{head_read, last_head}
 use Rattle.mu_model.specs.Scores.{is_failed, least_below}
 use Rattle.mu_model.specs.Stretches.{steps}
 
--- the length of the shortest prefix of the log that holds every command, where there is one
+-- the length of the shortest prefix of the log that holds every command, if there is one
 abbrev pub full_length : Config → ℕ → List Event → ℕ
 full_length c r past =
     least_below (length (applied c r past) + 1) (λ k. holds_all c (take k (applied c r past)))
@@ -38,12 +39,12 @@ outrun c r [] = None
 outrun c r (e ∷ past) =
     earlier_or (outrun_by r (length (known c r past)) e.by e.verb e.answer) (outrun c r past)
 
--- the script stops r after so many steps
+-- the script stops r after this number of steps
 abbrev pub stops_at : ℕ → ℕ → List Stop → Bool
 stops_at r steps [] = false
 stops_at r steps (s ∷ ss) = ((s.replica == r) && (s.steps == steps)) || stops_at r steps ss
 
--- the answer, where there is one, is at least h
+-- the answer, if there is one, is at least h
 abbrev pub is_at_least : ℕ → Option ℕ → Bool
 is_at_least h None = false
 is_at_least h (Some x) = nat_le h x
@@ -75,7 +76,7 @@ IsSpent c script r past = (stops_at r (length past) script.stops ≡ false) × (
 abbrev pub IsGoing : Config → Script → ℕ → List Event → Type 0
 IsGoing c script r past = (stops_at r (length past) script.stops ≡ false) × (length past ≢ c.budget)
 
--- the journal ends so: by the first that holds of stopped, budget, outrun and finished
+-- the journal ends in this way: by the first that holds of stopped, budget, outrun and finished
 abbrev pub EndsBy : Config → Script → ℕ → List Event → End → Type 0
 EndsBy c script r past End.Stopped = IsStopped script r past
 EndsBy c script r past End.Budget = IsSpent c script r past

@@ -1,4 +1,4 @@
--- When r may enter a region, and when it may put its minimum.
+-- entering: when a replica may enter a region, and when it may put its minimum.
 use Rattle.std.specs.Prelude.{Bool, List, None, Some, [], false, if◌then◌else◌, is_some, nat_le, true, ℕ, ◌%◌, ◌&&◌, ◌<◌, ◌==◌, ◌||◌, ◌∷◌, ◌≡◌, ◌≤◌}
 use Rattle.std.specs.declared.option.Option.{Option}
 use Rattle.mu_model.specs.declared.config.Config.{Config}
@@ -32,7 +32,7 @@ min_read_under r p g (e ∷ past) =
     && has (λ f. grant_seen r p g f.by f.verb f.answer) past)
     || min_read_under r p g past
 
--- the same of the noted grant, where there is one; both answers may be of an earlier leadership
+-- the same of the noted grant, if there is one; both answers may be of an earlier leadership
 abbrev pub min_read_since : ℕ → ℕ → List Event → Option ℕ → Bool
 min_read_since r p past None = false
 min_read_since r p past (Some g) = min_read_under r p g past
@@ -67,8 +67,8 @@ enter_open r p by (Verb.PutSlot q i b v) _ =
     if (by == r) && (q == p) then Some Target.None else None
 enter_open r p by _ _ = None
 
--- the target of the last `Enter` of r at p in the leadership, where it was `Entered` and no put of
--- r came there since
+-- the target of the last `Enter` of r at p in the leadership, if it was `Entered` and no put of r
+-- came there since
 abbrev pub open_target : ℕ → ℕ → List Event → Option Target
 open_target r p past = newest (λ e. enter_open r p e.by e.verb e.answer) (leadership r past)
 

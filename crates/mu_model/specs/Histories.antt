@@ -1,4 +1,5 @@
--- Words on a history: a list of events with the newest first.
+-- history, part, prefix: the list with the newest event first; the events of one replica, in order;
+-- a list that begins another.
 use Rattle.std.specs.Prelude.{Bool, List, None, Some, [], false, if◌then◌else◌, max, reverse, suc, true, zero, ℕ, ◌&&◌, ◌++◌, ◌+◌, ◌==◌, ◌∷◌, ◌≡◌}
 use Rattle.std.specs.declared.option.Option.{Option}
 use Rattle.std.specs.List.{filter}
@@ -26,7 +27,7 @@ abbrev pub has : (Event → Bool) → List Event → Bool
 has test [] = false
 has test (e ∷ past) = if test e then true else has test past
 
--- the newer, where there is one, else the older
+-- the newer, if there is one, else the older
 abbrev pub newer_or : {A : Type 0} → Option A → Option A → Option A
 newer_or None other = other
 newer_or (Some x) other = Some x
@@ -36,7 +37,7 @@ abbrev pub newest : {A : Type 0} → (Event → Option A) → List Event → Opt
 newest tells [] = None
 newest tells (e ∷ past) = newer_or (tells e) (newest tells past)
 
--- the earlier, where there is one, else the later
+-- the earlier, if there is one, else the later
 abbrev pub earlier_or : {A : Type 0} → Option A → Option A → Option A
 earlier_or None earlier = earlier
 earlier_or (Some x) None = Some x
@@ -47,7 +48,7 @@ abbrev pub oldest : {A : Type 0} → (Event → Option A) → List Event → Opt
 oldest tells [] = None
 oldest tells (e ∷ past) = earlier_or (tells e) (oldest tells past)
 
--- the greater of a number, where there is one, and another
+-- the greater of a number, if there is one, and another
 abbrev pub max_with : Option ℕ → ℕ → ℕ
 max_with None x = x
 max_with (Some y) x = max y x
@@ -57,12 +58,12 @@ abbrev pub greatest : (Event → Option ℕ) → List Event → ℕ
 greatest tells [] = 0
 greatest tells (e ∷ past) = max_with (tells e) (greatest tells past)
 
--- the events after the last one that passes, or all where none does
+-- the events after the last one that passes, or all if none does
 abbrev pub since : (Event → Bool) → List Event → List Event
 since test [] = []
 since test (e ∷ past) = if test e then [] else (e ∷ since test past)
 
--- the events before the last one that passes, or none where none does
+-- the events before the last one that passes, or none if none does
 abbrev pub before : (Event → Bool) → List Event → List Event
 before test [] = []
 before test (e ∷ past) = if test e then past else before test past

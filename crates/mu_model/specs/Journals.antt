@@ -1,4 +1,4 @@
--- What a journal is seen as.
+-- record: a journal as contracts see it.
 use Rattle.std.specs.Prelude.{ℕ, List}
 use Rattle.mu_model.specs.declared.event.Event.{Event}
 

@@ -1,4 +1,6 @@
--- What replica r has learnt, written, read and applied, and where it knows that logs are filled.
+-- known, commits, filled, written, read, applied: what a replica knows to be chosen and what it
+-- committed itself; up to where it knows that logs are filled; the rows that it wrote and read; and
+-- what it applied.
 use Rattle.std.specs.Prelude.{Bool, List, None, Some, [], false, if◌then◌else◌, length, nat_lt, not, ℕ, ◌%◌, ◌&&◌, ◌++◌, ◌+◌, ◌/◌, ◌==◌, ◌||◌, ◌∷◌}
 use Rattle.std.specs.declared.option.Option.{Option}
 use Rattle.std.specs.List.{slice_get}
@@ -20,7 +22,7 @@ is_put_done r p i b v by _ _ = false
 abbrev pub lands_entry : ℕ → ℕ → ℕ → ℕ → ℕ → Event → Bool
 lands_entry r p i b v e = is_put_done r p i b v e.by e.verb e.answer
 
--- b is the number, where there is one
+-- b is the number, if there is one
 abbrev pub is_number : Option ℕ → ℕ → Bool
 is_number None b = false
 is_number (Some n) b = n == b
@@ -53,7 +55,7 @@ is_entry_seen r p i by _ _ = false
 abbrev pub entry_seen : ℕ → ℕ → ℕ → Event → Bool
 entry_seen r p i e = is_entry_seen r p i e.by e.verb e.answer
 
--- what r sees at position i of region p is decided: a FUO of p above i was read, or p is the own
+-- what r sees at position i of region p is decided: a FUO of p above i was read, or p is r's own
 -- region and its next slot was seen filled
 abbrev pub is_known_decided : ℕ → List Event → ℕ → ℕ → Bool
 is_known_decided r past p i =
@@ -67,14 +69,14 @@ learnt_by c r past known_length by (Verb.Look p i) (Answer.Entry b v) now =
     if (by == r) && ((i == known_length) && is_known_decided r past p i) then Some v else None
 learnt_by c r past known_length by _ _ now = None
 
--- the position and value that the step commits: own puts at all members have landed
+-- the position and value that the step commits: r's own puts at all members have landed
 abbrev pub committed : Config → ℕ → ℕ → ℕ → Verb → Answer → List Event → Option (ℕ × ℕ)
 committed c r known_length by (Verb.PutSlot p i b v) Answer.Done now =
     if (by == r) && ((i == known_length) && is_accepted_by_all c r now i b v) then Some (i, v)
     else None
 committed c r known_length by _ _ now = None
 
--- the list with one more value, where there is one
+-- the list with one more value, if there is one
 abbrev pub grown : {A : Type 0} → List A → Option A → List A
 grown values None = values
 grown values (Some v) = values ++ v ∷ []
@@ -93,13 +95,13 @@ commits c r (e ∷ past) =
     grown (commits c r past)
     (committed c r (length (known c r past)) e.by e.verb e.answer (e ∷ past))
 
--- the value, where there is one, is v
+-- the value, if there is one, is v
 abbrev pub is_value : Option ℕ → ℕ → Bool
 is_value None v = false
 is_value (Some w) v = w == v
 
 -- the step shows that position j of region p is filled: a FUO above it, a put of the known value, a
--- put that landed in the leadership that commits it, or the own slot learnt
+-- put that landed in the leadership that commits it, or r's own slot learnt
 abbrev pub fills : Config → ℕ → ℕ → ℕ → List Event → ℕ → Verb → Answer → List Event → Bool
 fills c r p j past by (Verb.Fuo q) (Answer.Number x) now = (by == r) && ((q == p) && nat_lt j x)
 fills c r p j past by (Verb.PutSlot q i b v) Answer.Done now =
@@ -149,7 +151,7 @@ abbrev pub wrote_batch : Config → ℕ → ℕ → List Event → Bool
 wrote_batch c r j past =
     all_below (rest_of c j + 1) (λ t. all_below 12 (λ k. wrote r (j + t) k past))
 
--- r has all rows of the entry v, of which a mark has none
+-- r has all rows of the entry v; a mark has no rows
 abbrev pub has_entry : Config → ℕ → ℕ → List Event → Bool
 has_entry c r v past =
     not (is_batch c v) || all_below (rest_of c (v % 4096) + 1) (λ t. has_row r (v + t) past)

@@ -1,5 +1,8 @@
--- The terms of a leadership of replica r. They look at the events of r alone, so they say the same
--- of the whole history and of the part of r.
+-- leadership, noted grant, member, proposal number, over, majority: the terms of a replica's
+-- leadership, by its own events.
+--
+-- They look only at the events of r, so they say the same of the whole history and of the part of
+-- r.
 use Rattle.std.specs.Prelude.{Bool, List, None, Some, [], false, if◌then◌else◌, is_some, nat_le, nat_lt, not, true, ℕ, ◌&&◌, ◌+◌, ◌/◌, ◌==◌, ◌||◌, ◌∷◌}
 use Rattle.std.specs.declared.option.Option.{Option}
 use Rattle.mu_model.specs.declared.config.Config.{Config}
@@ -18,7 +21,7 @@ is_first_ask r by _ = false
 abbrev pub begins_leadership : ℕ → Event → Bool
 begins_leadership r e = is_first_ask r e.by e.verb
 
--- the leadership under way: the events after the last `Ask(0)`, or all where there is none (then no
+-- the leadership under way: the events after the last `Ask(0)`, or all if there is none (then no
 -- verb of a leader is allowed)
 abbrev pub leadership : ℕ → List Event → List Event
 leadership r past = since (begins_leadership r) past
@@ -46,8 +49,8 @@ abbrev pub grant_for : ℕ → Option Fence → Option ℕ
 grant_for r None = None
 grant_for r (Some f) = if not f.closing && owner_is r f.owner then Some f.grant else None
 
--- the noted grant of p: that of the last `Fence(p)` answer in the leadership, where it names r and
--- is not closing
+-- the noted grant of p: that of the last `Fence(p)` answer in the leadership, if it names r and is
+-- not closing
 abbrev pub noted_grant : ℕ → ℕ → List Event → Option ℕ
 noted_grant r p past =
     grant_for r (newest (λ e. fence_seen r p e.by e.verb e.answer) (leadership r past))
@@ -66,7 +69,7 @@ abbrev pub lands_min : ℕ → ℕ → ℕ → Verb → Answer → Bool
 lands_min r p by (Verb.PutMin q b) Answer.Done = (by == r) && (q == p)
 lands_min r p by _ _ = false
 
--- the grant noted of p when it became a member (perhaps none), where it is one
+-- the grant noted of p when it became a member (perhaps none), if it is one
 abbrev pub grant_at_joining : ℕ → ℕ → List Event → Option (Option ℕ)
 grant_at_joining r p [] = None
 grant_at_joining r p (e ∷ past) =
@@ -80,13 +83,13 @@ grant_at_joining r p (e ∷ past) =
 abbrev pub is_member : ℕ → ℕ → List Event → Bool
 is_member r p past = is_some (grant_at_joining r p past)
 
--- x is above the number, where there is one
+-- x is above the number, if there is one
 abbrev pub is_above : Option ℕ → ℕ → Bool
 is_above None x = false
 is_above (Some b) x = nat_lt b x
 
--- the fence of a member is closing, or has another grant than the one noted at its joining; where
--- none was noted, any fence is
+-- the fence of a member is closing, or has another grant than the one noted at its joining; if none
+-- was noted, any fence counts as changed
 abbrev pub is_changed : Option (Option ℕ) → Fence → Bool
 is_changed None f = false
 is_changed (Some None) f = true

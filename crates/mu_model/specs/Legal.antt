@@ -1,4 +1,5 @@
--- Which lists of events are legal.
+-- legal: a list of events, each allowed by its replica's own events, and answered as the history
+-- makes it.
 use Rattle.std.specs.Prelude.{List, [], ◌∷◌, ◌≡◌}
 use Rattle.mu_model.specs.declared.config.Config.{Config}
 use Rattle.mu_model.specs.declared.event.Event.{Event}

@@ -1,4 +1,4 @@
--- The parts of a list of events, and which parts are possible.
+-- parts, possible: the events of a list by replica; a part of some legal list.
 use Rattle.std.specs.Prelude.{List, Some, false, length, nat_lt, not, ℕ, ◌<◌, ◌≡◌}
 use Rattle.std.specs.List.{slice_get}
 use Rattle.mu_model.specs.declared.config.Config.{Config}

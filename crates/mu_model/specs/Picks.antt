@@ -1,4 +1,4 @@
--- Which value r may put at a position that it does not know yet.
+-- pick: which value may be put at a position that isn't known.
 use Rattle.std.specs.Prelude.{Bool, List, None, Some, [], false, if◌then◌else◌, is_none, is_some, length, nat_lt, not, suc, true, zero, ℕ, ◌%◌, ◌&&◌, ◌+◌, ◌/◌, ◌==◌, ◌||◌, ◌∷◌}
 use Rattle.std.specs.declared.option.Option.{Option}
 use Rattle.mu_model.specs.declared.config.Config.{Config}
@@ -22,7 +22,7 @@ abbrev pub is_past : Answer → Bool
 is_past Answer.Past = true
 is_past _ = false
 
--- the look, where there is one, was `Past`
+-- the look, if there is one, was `Past`
 abbrev pub is_past_look : Option Answer → Bool
 is_past_look None = false
 is_past_look (Some a) = is_past a
@@ -63,7 +63,7 @@ highest_accepted r i past (suc p) =
     larger (highest_accepted r i past p)
     (if is_member r p past then entry_of (last_look r p i past) else None)
 
--- v is an own batch that is written in full, and the next of its client after what r knows
+-- v is a batch of r's own that is written in full, and the next of its client after what r knows
 abbrev pub is_offer : Config → ℕ → List Event → ℕ → Bool
 is_offer c r past v =
     is_batch c v
@@ -71,7 +71,7 @@ is_offer c r past v =
     && (wrote_batch c r (v % 4096) past
     && (number_of c (v % 4096) == command_count c (client_of c (v % 4096)) (known c r past) + 1)))
 
--- v is the own number of a mark of another replica that has none yet and is a candidate
+-- v is r's own payload number of a mark of another replica that has none yet and is a candidate
 abbrev pub is_mark_offer : Config → ℕ → List Event → ℕ → Bool
 is_mark_offer c r past v =
     (v / 4096 == r)
@@ -83,7 +83,7 @@ is_mark_offer c r past v =
     && (not (marked c q (known c r past))
     && is_mark_candidate c r q (length (known c r past) + reserve c) past)))))
 
--- where some look shows an entry its value alone, else an own offer or a mark
+-- if some look shows an entry, the value of that entry only; else an offer of its own, or a mark
 abbrev pub pick : Config → ℕ → List Event → ℕ → Option (ℕ × ℕ) → Bool
 pick c r past v (Some entry) = entry.1 == v
 pick c r past v None = is_offer c r past v || is_mark_offer c r past v
@@ -111,7 +111,7 @@ joined_since_first_put r i (e ∷ past) =
     then true
     else joined_since_first_put r i past
 
--- v is the value of the first put at i, and no region joined since it; where none was made, every
+-- v is the value of the first put at i, and no region joined since it; if none was made, every
 -- member was looked at since the last joining and the pick allows v
 abbrev pub may_propose : Config → ℕ → List Event → ℕ → ℕ → Option ℕ → Bool
 may_propose c r past i v (Some first) = (v == first) && not (joined_since_first_put r i past)

@@ -1,4 +1,4 @@
--- When r may put an entry into the log of a region.
+-- placing: when an entry may be put into the log of a region.
 use Rattle.std.specs.Prelude.{Bool, List, None, Some, [], false, if◌then◌else◌, length, nat_le, nat_lt, not, true, ℕ, ◌%◌, ◌&&◌, ◌+◌, ◌<◌, ◌==◌, ◌||◌, ◌∷◌, ◌≡◌, ◌⊎◌}
 use Rattle.std.specs.declared.option.Option.{Option}
 use Rattle.std.specs.List.{slice_get}
@@ -15,7 +15,7 @@ use Rattle.mu_model.specs.Leaderships.{begins_leadership, has_quorum, is_member,
 use Rattle.mu_model.specs.Picks.{first_value, is_fresh_batch, is_past, is_past_look, look_answer, may_propose}
 use Rattle.mu_model.specs.Room.{has_room, reserve}
 
--- the look, where there is one, was answered otherwise than `Past`
+-- the look, if there is one, had another answer than `Past`
 abbrev pub is_good_look : Option Answer → Bool
 is_good_look None = false
 is_good_look (Some a) = not (is_past a)
@@ -68,12 +68,12 @@ fuo_read_or_raised r p by (Verb.Fuo q) (Answer.Number x) =
 fuo_read_or_raised r p by (Verb.RaiseFuo q u) a = if (by == r) && (q == p) then Some u else None
 fuo_read_or_raised r p by _ _ = None
 
--- the FUO, where there is one, and the ring reach above i
+-- the FUO, if there is one, and the ring reach above i
 abbrev pub is_within_ring : ℕ → ℕ → Option ℕ → Bool
 is_within_ring i ring None = false
 is_within_ring i ring (Some u) = nat_lt i (u + ring)
 
--- the FUO, where there is one, is at least h
+-- the FUO, if there is one, is at least h
 abbrev pub reaches_head : ℕ → Option ℕ → Bool
 reaches_head h None = false
 reaches_head h (Some u) = nat_le h u

@@ -1,5 +1,5 @@
--- What a region holds after a history: its fence, minimum, log, FUO, head, beat and asks, and the
--- rows of a replica.
+-- region, fence: what a history leaves of a region: its fence (owner, grant, closing and target),
+-- minimum, log, first undecided offset (FUO), head, beat and asks; and the row words of a replica.
 use Rattle.std.specs.Prelude.{Bool, List, None, Some, [], false, if◌then◌else◌, length, set, ℕ, ◌%◌, ◌&&◌, ◌++◌, ◌/◌, ◌==◌, ◌∷◌}
 use Rattle.std.specs.declared.option.Option.{Option}
 use Rattle.mu_model.specs.declared.event.Answer.{Answer}
@@ -9,7 +9,7 @@ use Rattle.mu_model.specs.declared.event.Target.{Target}
 use Rattle.mu_model.specs.declared.event.Verb.{Verb}
 use Rattle.mu_model.specs.Histories.{greatest, has, how_many, newest, or_zero, since}
 
--- whom the step, where it is a `Grant` of p, grants to
+-- the replica to which the step grants, if it is a `Grant` of p
 abbrev pub granted_by : ℕ → ℕ → Verb → Option ℕ
 granted_by p by (Verb.Grant w) = if by == p then Some w else None
 granted_by p by _ = None
@@ -46,12 +46,12 @@ abbrev pub target_entered : ℕ → Verb → Answer → Option Target
 target_entered p (Verb.Enter q t) Answer.Entered = if q == p then Some t else None
 target_entered p _ _ = None
 
--- the target, where there is one
+-- the target, if there is one
 abbrev pub or_no_target : Option Target → Target
 or_no_target None = Target.None
 or_no_target (Some t) = t
 
--- the owner of p: whom its last `Grant` names
+-- the owner of p: the replica that its last `Grant` names
 abbrev pub fence_owner : ℕ → List Event → Option ℕ
 fence_owner p past = newest (λ e. granted_by p e.by e.verb) past
 
@@ -89,7 +89,7 @@ abbrev pub region_log : ℕ → List Event → List (ℕ × ℕ)
 region_log p [] = []
 region_log p (e ∷ past) = log_with p e.verb e.answer (region_log p past)
 
--- the number that the step, where it landed, puts into the minimum of p
+-- the number that the step puts into the minimum of p, if it landed
 abbrev pub min_landed : ℕ → Verb → Answer → Option ℕ
 min_landed p (Verb.PutMin q b) Answer.Done = if q == p then Some b else None
 min_landed p _ _ = None
@@ -130,7 +130,7 @@ abbrev pub is_ask_by : ℕ → ℕ → ℕ → Verb → Bool
 is_ask_by w p by (Verb.Ask q) = (by == w) && (q == p)
 is_ask_by w p by _ = false
 
--- how often w asked p
+-- how often w asked for p
 abbrev pub asks : ℕ → ℕ → List Event → ℕ
 asks w p past = how_many (λ e. is_ask_by w p e.by e.verb) past
 

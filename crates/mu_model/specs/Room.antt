@@ -1,4 +1,5 @@
--- Heads that r has read, and whether they leave room.
+-- room, reserve: whether the heads that r has read leave room for one more position; and how many
+-- places offers of a replica's own leave free for marks.
 use Rattle.std.specs.Prelude.{Bool, List, None, Some, [], false, if◌then◌else◌, nat_le, nat_lt, ℕ, ◌&&◌, ◌+◌, ◌==◌, ◌||◌, ◌∷◌}
 use Rattle.std.specs.declared.option.Option.{Option}
 use Rattle.mu_model.specs.declared.config.Config.{Config}
@@ -20,18 +21,18 @@ head_read r q by _ _ = None
 abbrev pub last_head : ℕ → ℕ → List Event → ℕ
 last_head r q past = or_zero (newest (λ e. head_read r q e.by e.verb e.answer) past)
 
--- how many places own offers leave free for marks
+-- how many places a replica's own offers leave free for marks
 abbrev pub reserve : Config → ℕ
 reserve c = if c.version == 2 then c.replicas else 0
 
--- the last head read of every replica without a known mark leaves room for position i and for so
--- many more
+-- the last head read of every replica without a known mark leaves room for position i and for
+-- `free` more
 abbrev pub has_room : Config → ℕ → List Event → ℕ → ℕ → Bool
 has_room c r past i free =
     all_below c.replicas
     (λ q. marked c q (known c r past) || nat_lt (i + free) (last_head r q past + c.ring))
 
--- the head, where there is one, and the ring do not reach above the limit
+-- the head, if there is one, and the ring do not reach above the limit
 abbrev pub lacks_room : Config → ℕ → Option ℕ → Bool
 lacks_room c limit None = false
 lacks_room c limit (Some h) = nat_le (h + c.ring) limit

@@ -1,4 +1,5 @@
--- Which replicas r holds to be failed, and whom it names leader.
+-- score, failed, leader: what the reads of heartbeats say of the other replicas, and which leader
+-- they name.
 use Rattle.std.specs.Prelude.{Bool, List, None, Some, [], false, if◌then◌else◌, min, nat_lt, not, suc, true, zero, ℕ, ◌&&◌, ◌+◌, ◌-◌, ◌==◌, ◌||◌, ◌∷◌}
 use Rattle.std.specs.declared.option.Option.{Option}
 use Rattle.mu_model.specs.declared.config.Config.{Config}
@@ -26,7 +27,7 @@ abbrev pub next_score : ℕ → Bool → Bool → ℕ × Bool
 next_score points was changed =
     (points_after points changed, alive_after (points_after points changed) was)
 
--- the score after a read of a count, where the step is one, with the count read before
+-- the score after a read of a count, if the step is one; last is the count read before
 abbrev pub score_after_read : ℕ × Bool → ℕ → Option ℕ → ℕ × Bool
 score_after_read s last None = s
 score_after_read s last (Some x) = next_score s.0 s.1 (not (x == last))
@@ -49,6 +50,6 @@ least_below zero test = 0
 least_below (suc n) test =
     if least_below n test == n then (if test n then n else n + 1) else least_below n test
 
--- whom the scores of r name: the least of r and the others that are alive
+-- the leader that the scores of r name: the least of r and the others that are alive
 abbrev pub leader : Config → ℕ → List Event → ℕ
 leader c r past = least_below c.replicas (λ q. (q == r) || not (is_failed r q past))

@@ -1,4 +1,4 @@
--- What replica r as a host has read of asks, and whom it has served.
+-- served, pending close: the asks that a host has served, and what it still has to drain.
 use Rattle.std.specs.Prelude.{Bool, List, None, Some, [], false, if◌then◌else◌, max, nat_lt, not, true, ℕ, ◌&&◌, ◌==◌, ◌∷◌}
 use Rattle.std.specs.declared.option.Option.{Option}
 use Rattle.mu_model.specs.declared.event.Answer.{Answer}
@@ -66,7 +66,7 @@ has_target Target.None = false
 has_target Target.Min = true
 has_target (Target.Place s) = true
 
--- the fence, where there is one, names a word
+-- the fence, if there is one, names a word
 abbrev pub names_target : Option Fence → Bool
 names_target None = false
 names_target (Some f) = has_target f.target

@@ -1,4 +1,4 @@
--- Which steps the pace of a journal counts.
+-- counted steps: which events the paces count.
 use Rattle.std.specs.Prelude.{Bool, List, false, length, nat_lt, not, true, ℕ, ◌&&◌, ◌+◌, ◌==◌, ◌||◌, ◌∷◌}
 use Rattle.mu_model.specs.declared.config.Config.{Config}
 use Rattle.mu_model.specs.declared.event.Answer.{Answer}
@@ -187,7 +187,7 @@ knows_more c r past e = nat_lt (length (known c r past)) (length (known c r (e �
 abbrev pub is_over_after : ℕ → List Event → Event → Bool
 is_over_after r past e = is_over r (e ∷ past)
 
--- a `Head(q)` answer that leaves no room, where no mark of q is known
+-- a `Head(q)` answer that leaves no room, if no mark of q is known
 abbrev pub is_lagging : Config → ℕ → List Event → Event → Bool
 is_lagging c r past e =
     not

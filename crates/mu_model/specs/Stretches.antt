@@ -1,4 +1,5 @@
--- Stretches of a journal: some successive events, and what came before them.
+-- stretch, replication event: some successive events, and those before them; the events at odd
+-- places of a journal.
 use Rattle.std.specs.Prelude.{Bool, List, [], false, if◌then◌else◌, length, true, ℕ, ◌%◌, ◌++◌, ◌+◌, ◌==◌, ◌∷◌, ◌≡◌}
 use Rattle.mu_model.specs.declared.event.Event.{Event}
 

@@ -9,8 +9,8 @@ use crate::config::Config;
 /// what is left of one after a division stands for a row or a mark.
 pub const PAYLOADS: u16 = 4096;
 
-/// What is left of the payload number that stands for the mark of replica 0; those of the others
-/// follow. No job has so many rows.
+/// The remainder by `PAYLOADS` of the payload number that stands for the mark of replica 0; those
+/// of the others follow. No job has this many rows.
 pub const FIRST_MARK: u16 = 4080;
 
 /// How many rows the job has.
@@ -41,7 +41,7 @@ pub fn positions_in(config: &Config) -> usize
     count_of_rows(config) + usize::from(reserve_of(config)) + 1
 }
 
-/// Word `k` of row `j`, or 0 where there is none.
+/// Word `k` of row `j`, or 0 if there is none.
 pub fn row_word(config: &Config, j: u16, k: u8) -> u64
     requires { k < 12 }
     ensures { result ≡ config_word config.now j k }
@@ -52,7 +52,7 @@ pub fn row_word(config: &Config, j: u16, k: u8) -> u64
     }
 }
 
-/// How many rows of the same batch follow row `j`, or 0 where there is none.
+/// How many rows of the same batch follow row `j`, or 0 if there is none.
 pub fn row_rest(config: &Config, j: u16) -> u8
     ensures { result ≡ rest_of config.now j }
 {
@@ -62,7 +62,7 @@ pub fn row_rest(config: &Config, j: u16) -> u8
     }
 }
 
-/// The client of row `j`, or 0 where there is none.
+/// The client of row `j`, or 0 if there is none.
 pub fn row_client(config: &Config, j: u16) -> u8
     ensures { result ≡ client_of config.now j }
 {
@@ -72,7 +72,7 @@ pub fn row_client(config: &Config, j: u16) -> u8
     }
 }
 
-/// Which command of its client row `j` is, counted from 1, or 0 where there is none.
+/// Which command of its client row `j` is, counted from 1, or 0 if there is none.
 pub fn row_number(config: &Config, j: u16) -> u16
     ensures { result ≡ number_of config.now j }
 {

@@ -3,7 +3,7 @@
 /// What a fence names to be drained before its region is granted on.
 #[derive(Clone, Copy, Debug, PartialEq, Eq)]
 pub enum Target {
-    /// Nothing.
+    /// It names nothing.
     None,
     /// The word of the minimum.
     Min,
@@ -11,8 +11,8 @@ pub enum Target {
     Place(u16),
 }
 
-/// Who may write a region. The fields stand in this order because they are laid out as they stand:
-/// 12 bytes, and an event has 40.
+/// The replica that may write a region, and what it is about to write. The fields stand in this
+/// order because they are laid out as they stand: 12 bytes, and an event has 40.
 #[derive(Clone, Copy, Debug, PartialEq, Eq)]
 pub struct Fence {
     /// How often the region was granted.
@@ -37,11 +37,12 @@ pub enum Verb {
     Min(u8),
     /// Names at the fence of a region what the replica is about to write.
     Enter(u8, Target),
-    /// Puts into the minimum of a region a proposal number.
+    /// Puts into the minimum of a region: the region, and the proposal number.
     PutMin(u8, u32),
     /// Looks at a position of the log of a region.
     Look(u8, u16),
-    /// Puts into the log of a region, at a position, under a proposal number, a payload number.
+    /// Puts an entry into the log of a region: the region, the position, the proposal number and
+    /// the payload number.
     PutSlot(u8, u16, u32, u16),
     /// Reads the first undecided offset (FUO) of a region.
     Fuo(u8),
@@ -51,23 +52,23 @@ pub enum Verb {
     Head(u8),
     /// Reads how often a replica has beaten.
     ReadBeat(u8),
-    /// Writes into one of the own rows, at a word, a value.
+    /// Writes into one of the replica's own rows: the row, the word and the value.
     WriteRow(u16, u8, u64),
-    /// Reads of the row of a payload number a word.
+    /// Reads from the row of a payload number: the payload number, and the word.
     ReadRow(u16, u8),
-    /// Raises the own head.
+    /// Raises the replica's own head.
     RaiseHead(u16),
     /// Beats.
     Beat,
-    /// Reads how often a replica asked the own region.
+    /// Reads how often a replica asked for this replica's region.
     ReadAsk(u8),
-    /// Closes the own fence, so that nobody enters any more.
+    /// Closes the fence of its own region, so that nobody enters any more.
     Close,
     /// Loads the word that the closed fence names.
     LookTarget,
     /// Puts the word just loaded again under the next stamp, so that a late put misses.
     Drain,
-    /// Grants the own region to a replica.
+    /// Grants its own region to a replica.
     Grant(u8),
 }
 

@@ -26,7 +26,7 @@ impl Model for Journal {
 impl Journal {
     ghost use Rattle.std.specs.Prelude.{◌≤◌};
 
-    /// An empty journal with room for at least so many events. Takes memory once.
+    /// An empty journal with room for at least `events` events. Takes memory once.
     pub fn with_room(alloc: Global, events: usize) -> Result<Journal, AllocError>
         ensures empty { IfOk result (λ j. j.events ≡ []) }
         ensures room { IfOk result (λ j. j.room ≡ events) }

@@ -1,7 +1,7 @@
 //! What befalls the replicas of a run, and how each ends.
 use crate::sequence::Sequence;
 
-/// A replica that stops once it has taken so many steps.
+/// A replica that stops once it has taken a number of steps.
 #[derive(Clone, Copy, Debug, PartialEq, Eq)]
 pub struct Stop {
     /// The replica.
@@ -10,7 +10,7 @@ pub struct Stop {
     pub steps: u32,
 }
 
-/// A replica that is passed over for some rounds once it has taken so many steps.
+/// A replica that is passed over for some rounds once it has taken a number of steps.
 #[derive(Clone, Copy, Debug, PartialEq, Eq)]
 pub struct Pause {
     /// The replica.
@@ -52,7 +52,7 @@ pub enum End {
     },
     /// It applied all there is to apply.
     Finished {
-        /// The heads of the replicas as it last read them, 0 where it read none.
+        /// The heads of the replicas as it last read them, 0 if it read none.
         heads: [u16; 7],
     },
 }

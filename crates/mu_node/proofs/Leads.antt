@@ -29,7 +29,12 @@ use Rattle.mu_lead.specs.declared.note.Note.{Note}
 use Rattle.mu_lead.specs.Notes.{value_committed}
 use Rattle.mu_lead.specs.Saying.{Says, SaysNext}
 use Rattle.mu_lead.specs.Standing.{HasHeeded, StandsFor, TakesNext, TellsNext, known_told, verb_of}
+use Rattle.mu_lead.proofs.Noted.{same_number_note}
 use Rattle.mu_lead.proofs.Others.{others_kept}
+use Rattle.mu_lead.specs.Lasting.{tables_of}
+use Rattle.mu_lead.specs.Noting.{NotedNext, or_idle}
+use Rattle.mu_model.specs.Contents.{holds_all}
+use Rattle.mu_node.specs.Notes.{note_at}
 use Rattle.mu_node.specs.declared.node.Node.{Node}
 use Rattle.mu_node.specs.Cycle.{other_at, read_at}
 use Rattle.mu_node.specs.Due.{FitsLead, MayBeside, lead_due, verb_or_beat}
@@ -204,6 +209,22 @@ lead_says c r mine old verb answer values note held says due possible told =
     let g = subst (λ i. values ≡ known_told old.config i mine i verb answer) (sym held.id) f in
     subst (λ k. Says k r mine old.up old.place verb answer note) held.config
     (subst (λ i. Says old.config i mine old.up old.place verb answer note) held.id (says verb e b g))
+
+-- so is which note the place gives
+pub lead_noted : (c : Config) (r : ℕ) (mine : List Event) (old : Lead) (verb : Verb) (answer : Answer) (values : List ℕ) (note : Note) → StandsForLead c r mine old → NotedNext mine old values answer note
+    → lead_due c r mine old ≡ Some verb → IsPossible c r (event_by r verb answer ∷ mine) → values ≡ known_told c r mine r verb answer → note ≡ note_at c r mine (tables_of old) old.place verb answer
+lead_noted c r mine old verb answer values note held noted due possible told =
+    let is = asks (leader c r mine == r) (verb_of old (known c r mine)) verb due in
+    let a = subst (λ k. IsPossible k r (event_by r verb answer ∷ mine)) (sym held.config) possible in
+    let b = subst (λ i. IsPossible old.config i (event_by i verb answer ∷ mine)) (sym held.id) a in
+    let d = subst (λ k. verb_of old (known k r mine) ≡ Some verb) (sym held.config) is in
+    let e = subst (λ i. verb_of old (known old.config i mine) ≡ Some verb) (sym held.id) d in
+    let f = subst (λ k. values ≡ known_told k r mine r verb answer) (sym held.config) told in
+    let g = subst (λ i. values ≡ known_told old.config i mine i verb answer) (sym held.id) f in
+    let now = event_by old.id verb answer ∷ mine in
+    subst (λ k. note ≡ note_at k r mine (tables_of old) old.place verb answer) held.config
+    (subst (λ i. note ≡ note_at old.config i mine (tables_of old) old.place verb answer) held.id
+    (noted verb e b g ∙ ap (or_idle (holds_all old.config (known old.config old.id now))) (same_number_note old.config old.id old.number mine now old.up old.reach old.written.items (tables_of old) answer old.place held.stands.at)))
 
 -- the node with another leader
 abbrev pub with_lead : Node → Lead → Node

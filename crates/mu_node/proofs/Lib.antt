@@ -1,8 +1,10 @@
 mod Answering
+pub mod Asked
 mod Bits
 mod Diligent
 pub mod Fetching
 pub mod FewRows
+pub mod HeadRaises
 mod Heads
 mod Lasts
 mod Leading

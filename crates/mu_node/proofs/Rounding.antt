@@ -163,7 +163,7 @@ asks_here c r w mine e low held at =
 abbrev pub Fails : (Verb → Bool) → Option Verb → Type 0
 Fails test due = test (verb_or_beat due) ≡ false
 
-either : (test : Verb → Bool) (t : Bool) (a b : Option Verb) → Fails test a → Fails test b → Fails test (if t then a else b)
+pub either : (test : Verb → Bool) (t : Bool) (a b : Option Verb) → Fails test a → Fails test b → Fails test (if t then a else b)
 either test true a b left right = left
 either test false a b left right = right
 

@@ -32,11 +32,12 @@ use Rattle.mu_node.specs.Answers.{HoldsAnswers}
 use Rattle.mu_node.specs.Cycle.{IsBackgroundDue, handed, handed_before, other_at, place_now, read_at}
 use Rattle.mu_node.specs.Due.{lead_due, verb_or_beat}
 use Rattle.mu_node.specs.Node.{HasHeard, HasPlanned, StandsForLead}
-use Rattle.mu_node.specs.Notes.{HasTold, MovesGoing, SaysTook, TellsNote, TellsTook, heed_note, note_before}
+use Rattle.mu_node.specs.Notes.{HasTold, MovesGoing, SaysTook, TellsNote, TellsTook, heed_note, note_before, note_at}
 use Rattle.mu_node.proofs.Leading.{odd_may}
 use Rattle.mu_node.proofs.Leads.{due_named, due_unresigned}
 use Rattle.mu_node.proofs.Pacing.{paces_odd}
 use Rattle.mu_lead.specs.Journal.{IsWhere, due_after, place_after}
+use Rattle.mu_lead.specs.Lasting.{tables_of}
 use Rattle.mu_lead.specs.Listing.{Tables}
 use Rattle.mu_node.proofs.Pacing.{due_listed}
 
@@ -203,6 +204,13 @@ note_told c r mine lead planned next leads due heeded answer note turn led befor
       (subst (λ u. Says c r mine u planned.place verb answer note) (told odd).up
       (says.says verb (turn ∙ odd) (led odd ∙ some) (before ∙ (ap (λ t. if t then heed_note c r mine lead else Note.Working) odd ∙ due_unresigned c r mine lead verb some))
       (subst (λ v. IsPossible c r (event_by r v answer ∷ mine)) (ap verb_or_beat (led odd ∙ some)) possible))));
+  noted = λ verb odd due_now.
+      let some = same ∙ due_now in
+      let stays = (told odd).place (due_named c r mine lead verb some) in
+      subst (λ t. note ≡ note_at c r mine t (place_after c r mine) verb answer) ((told odd).tables ∙ listed.tables)
+      (subst (λ p. note ≡ note_at c r mine (tables_of planned) p verb answer) (stays ∙ listed.place)
+      (says.noted verb (turn ∙ odd) (led odd ∙ some) (before ∙ (ap (λ t. if t then heed_note c r mine lead else Note.Working) odd ∙ due_unresigned c r mine lead verb some))
+      (subst (λ v. IsPossible c r (event_by r v answer ∷ mine)) (ap verb_or_beat (led odd ∙ some)) possible)));
 }
   where
     same : lead_due c r mine lead ≡ due_after c r mine

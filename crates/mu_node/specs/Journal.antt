@@ -7,9 +7,10 @@ use Rattle.mu_model.specs.Steps.{is_named}
 use Rattle.mu_model.specs.Stretches.{is_odd}
 use Rattle.mu_grant.specs.Pace.{FollowsCycle}
 use Rattle.mu_lead.specs.Beside.{leads_at}
-use Rattle.mu_lead.specs.Journal.{due_after, place_after}
+use Rattle.mu_lead.specs.Journal.{due_after, place_after, tables_at}
 use Rattle.mu_node.specs.Cycle.{IsMade}
 use Rattle.mu_node.specs.Due.{verb_or_beat}
+use Rattle.mu_node.specs.Paced.{PacesAt}
 use Rattle.mu_pace.specs.Watches.{is_named_turn}
 
 -- the last event is a turn of the leader before which the scores named r
@@ -30,12 +31,14 @@ may_lead c r mine = if is_odd (length mine) then is_named c r mine else was_name
 abbrev pub IsListed : Config → ℕ → List Event → Event → Type 0
 IsListed c r mine e = is_odd (length mine) ≡ true → e.verb ≡ verb_or_beat (due_after c r mine)
 
--- r made the event as it was due by the journal; its leader leads in the background only where it was
--- named, and no look had found a place used again that r still had to read
+-- r made the event as it was due by the journal; its leader's counts were as its place has them, it
+-- leads in the background only where it was named, and no look had found a place used again that r
+-- still had to read
 pub record WasMade (c : Config) (r : ℕ) (mine : List Event) (e : Event) : Type 0 where
   pub own : e.by ≡ r
   pub going : outrun c r mine ≡ None
   pub made : IsMade c r mine e.verb
+  pub paces : PacesAt c r mine (tables_at c r mine).written (place_after c r mine)
   pub leads :
       is_odd (length mine) ≡ false → leads_at (place_after c r mine) ≡ true
       → was_named c r mine ≡ true

@@ -5,20 +5,34 @@ use Rattle.mu_model.specs.declared.config.Config.{Config}
 use Rattle.mu_model.specs.declared.event.Answer.{Answer}
 use Rattle.mu_model.specs.declared.event.Event.{Event}
 use Rattle.mu_model.specs.declared.event.Verb.{Verb}
+use Rattle.mu_model.specs.Contents.{holds_all}
+use Rattle.mu_model.specs.Histories.{or_zero}
 use Rattle.mu_model.specs.Knowledge.{grown, known}
+use Rattle.mu_model.specs.Leaderships.{proposal_number}
 use Rattle.mu_model.specs.Parts.{IsPossible}
 use Rattle.mu_model.specs.Scores.{leader}
 use Rattle.mu_model.specs.Stretches.{is_odd}
 use Rattle.mu_lead.specs.declared.lead.Lead.{Lead}
 use Rattle.mu_lead.specs.declared.note.Note.{Note}
+use Rattle.mu_lead.specs.declared.place.Place.{Place}
 use Rattle.mu_lead.specs.Going.{begins_at, going_after}
 use Rattle.mu_lead.specs.Journal.{due_after, place_after, tables_at}
+use Rattle.mu_lead.specs.Lasting.{tables_of}
+use Rattle.mu_lead.specs.Listing.{Tables}
 use Rattle.mu_lead.specs.Notes.{value_committed}
+use Rattle.mu_lead.specs.Noting.{next_note, or_idle}
 use Rattle.mu_lead.specs.Saying.{Says}
 use Rattle.mu_lead.specs.Standing.{known_told}
 use Rattle.mu_node.specs.declared.turn.Turn.{Turn}
 use Rattle.mu_node.specs.Cycle.{IsMade}
 use Rattle.mu_node.specs.Due.{lead_due}
+
+-- what the leader notes of the verb, answered so, at this place and with these tables
+abbrev pub note_at : Config → ℕ → List Event → Tables → Place → Verb → Answer → Note
+note_at c r mine t place verb answer =
+    or_idle (holds_all c (known c r (record { by = r; verb = verb; answer = answer } ∷ mine)))
+    (next_note c r (or_zero (proposal_number r mine)) mine
+    (record { by = r; verb = verb; answer = answer } ∷ mine) t answer place)
 
 -- what the leader notes when it is told whom the scores of r name: it resigns where a leadership is
 -- under way and a lower replica is named
@@ -55,6 +69,7 @@ pub record HasTold (c : Config) (r : ℕ) (mine : List Event) (old new : Lead) :
   pub going : new.under_way ≡ going_told c r mine old
   pub place : nat_lt (leader c r mine) r ≡ false → new.place ≡ old.place
   pub up : new.up ≡ old.up
+  pub tables : tables_of new ≡ tables_of old
 
 -- what the step of a turn leaves of a leader, which had noted this before it: a verb of its own is
 -- noted as what the leader's contract says of the part, the verb and the answer, and any other step
@@ -67,6 +82,10 @@ pub record SaysTook (c : Config) (r : ℕ) (mine : List Event) (leads : Bool) (d
       (verb : Verb) → leads ≡ true → due ≡ Some verb → heeded ≡ Note.Working
       → IsPossible c r (record { by = r; verb = verb; answer = answer } ∷ mine)
       → Says c r mine lead.up lead.place verb answer note
+  pub noted :
+      (verb : Verb) → leads ≡ true → due ≡ Some verb → heeded ≡ Note.Working
+      → IsPossible c r (record { by = r; verb = verb; answer = answer } ∷ mine)
+      → note ≡ note_at c r mine (tables_of lead) lead.place verb answer
   pub going :
       (verb : Verb) → leads ≡ true → due ≡ Some verb → heeded ≡ Note.Working
       → next.under_way ≡ going_after (begins_at lead.place || lead.under_way) note
@@ -87,6 +106,9 @@ pub record TellsNote (c : Config) (r : ℕ) (mine : List Event) (lead : Lead) (a
   pub says :
       (verb : Verb) → is_odd (length mine) ≡ true → due_after c r mine ≡ Some verb
       → Says c r mine (tables_at c r mine).up (place_after c r mine) verb answer note
+  pub noted :
+      (verb : Verb) → is_odd (length mine) ≡ true → due_after c r mine ≡ Some verb
+      → note ≡ note_at c r mine (tables_at c r mine) (place_after c r mine) verb answer
 
 -- a step of r: its event comes to the part, it is the verb that was due or a beat, and the note
 -- tells of it

@@ -211,8 +211,8 @@ fn is_drained(r: u8, p: u8, events: &[Event]) -> bool
     drained
 }
 
-/// What the replica `by` is answered to `verb` after `events`, on condition that each region was
-/// granted fewer than 2^32 times. Takes no memory, and the time of a walk over the events.
+/// What the replica `by` is answered to `verb` after `events`, if each region was granted fewer
+/// than 2^32 times. Takes no memory, and the time of a walk over the events.
 pub fn answers(config: &Config, events: &[Event], by: u8, verb: &Verb) -> Answer
     requires few { (p : ℕ) → fence_grant p (history events.now) < 2 ^ 32 }
     ensures { result ≡ answer_of config.now by (history events.now) verb.now }

@@ -62,7 +62,7 @@ fn has_majority(config: &Config, r: u8, part: &[Event]) -> bool
         && majority(config.replicas) <= minimums_read(config.replicas, r, part)
 }
 
-/// Whether `r` may enter `p`.
+/// Whether `r` may enter the region `p` with the target.
 pub fn may_enter(config: &Config, r: u8, part: &[Event], p: u8, target: Target) -> bool
     ensures { IsTrue result ↔ MayEnter config.now r (history part.now) p target }
 {
@@ -203,7 +203,7 @@ fn may_take_number(r: u8, part: &[Event], b: u32) -> bool
     }
 }
 
-/// Whether `r` may put the minimum.
+/// Whether `r` may put the number `b` into the minimum of `p`.
 pub fn may_put_min(r: u8, part: &[Event], p: u8, b: u32) -> bool
     ensures { IsTrue result ↔ MayPutMin r (history part.now) p b }
 {

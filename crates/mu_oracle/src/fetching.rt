@@ -47,7 +47,7 @@ fn wrote_row(r: u8, j: u64, part: &[Event]) -> bool
     all
 }
 
-/// Whether `r` wrote or read so many words of the row of `v`.
+/// Whether `r` wrote or read the first `n` words of the row of `v`.
 fn has_words_below(n: u8, r: u8, v: u64, part: &[Event]) -> bool
     requires { n ≤ 12 }
     ensures { result
@@ -71,7 +71,7 @@ fn has_whole_row(r: u8, v: u64, part: &[Event]) -> bool
     has_words_below(12, r, v, part)
 }
 
-/// Whether `r` has so many rows from that of `v` on.
+/// Whether `r` has the `n` rows from that of `v` on.
 #[tactic(auto, using(mu_model::proofs::Scans::all_more))]
 fn has_rows(n: u64, r: u8, v: u16, part: &[Event]) -> bool
     requires { n ≤ 256 }
@@ -92,7 +92,7 @@ fn has_whole_entry(config: &Config, r: u8, v: u16, part: &[Event]) -> bool
         || has_rows(u64::from(row_rest(config, v % PAYLOADS)) + 1, r, v, part)
 }
 
-/// Whether `r` wrote so many of its rows from row `j` on.
+/// Whether `r` wrote `n` of its rows from row `j` on.
 fn wrote_rows(n: u64, r: u8, j: u16, part: &[Event]) -> bool
     requires { n ≤ 256 }
     ensures { result ≡ all_below n (λ t. all_below 12 (λ k. wrote r (j + t) k (history part.now))) }

@@ -1,4 +1,4 @@
-//! What a host has read of asks, and whom it has served.
+//! What a host has read of asks, and which replicas it has served.
 ghost use Rattle.std.specs.Prelude.{not, ◌≡◌};
 ghost use Rattle.mu_model.specs.Histories.{all_below, history, newest};
 ghost use Rattle.mu_model.specs.Regions.{fence_closing, fence_owner};
@@ -6,7 +6,7 @@ ghost use Rattle.mu_model.specs.Serving.{close_seen, drained_since_close, has_ta
 
 use mu_model::{Answer, Event, Fence, Target, Verb};
 
-/// Whom `r` granted to last.
+/// The replica to which `r` granted last.
 fn owner_of(r: u8, part: &[Event]) -> Option<u8>
     ensures { result ≡ fence_owner r (history part.now) }
 {

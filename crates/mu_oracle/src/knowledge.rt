@@ -87,7 +87,7 @@ fn trusts(r: u8, part: &[Event], p: u8, i: u16) -> bool
     u64::from(i) < fuo_read_by(r, p, part) || (p == r && has_seen(r, r, u64::from(i) + 1, part))
 }
 
-/// The value that the step teaches, of which `part` came before and `now` is with it.
+/// The value that the step teaches; `part` came before it, and `now` is with it.
 pub fn learnt(
     config: &Config,
     r: u8,

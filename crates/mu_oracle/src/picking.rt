@@ -75,7 +75,7 @@ fn larger_of(x: Option<(u32, u16)>, y: Option<(u32, u16)>) -> Option<(u32, u16)>
     }
 }
 
-/// What the last look at `p` showed, where it is a member.
+/// What the last look at `p` showed, if it is a member.
 fn entry_shown(r: u8, p: u8, i: u16, part: &[Event]) -> Option<(u32, u16)>
     ensures { result
         ≡ (if is_member r p (history part.now) then entry_of (last_look r p i (history part.now))

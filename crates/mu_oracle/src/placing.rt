@@ -32,7 +32,7 @@ fn opening(r: u8, p: u8, e: &Event) -> Option<Target>
     }
 }
 
-/// The target of the last `Enter` at `p`, where no put came since.
+/// The target of the last `Enter` at `p`, if no put came since.
 fn opened_last(r: u8, p: u8, part: &[Event]) -> Option<Target>
     ensures { result ≡ last_opened r p (history part.now) }
 {
@@ -76,7 +76,7 @@ fn is_within_reach(r: u8, p: u8, i: u16, ring: u16, part: &[Event]) -> bool
     near
 }
 
-/// Whether the event reads or raises an own FUO of at least `h`.
+/// Whether the event reads or raises a FUO of its own region of at least `h`.
 fn reaches(r: u8, h: u16, e: &Event) -> bool
     ensures { result ≡ reaches_head h (fuo_read_or_raised r r e.now.by e.now.verb e.now.answer) }
 {
@@ -87,7 +87,7 @@ fn reaches(r: u8, h: u16, e: &Event) -> bool
     }
 }
 
-/// Whether `r` read or raised an own FUO of at least `h`.
+/// Whether `r` read or raised a FUO of its own region of at least `h`.
 pub fn has_reached(r: u8, h: u16, part: &[Event]) -> bool
     ensures { result
         ≡ has (λ e. reaches_head h (fuo_read_or_raised r r e.by e.verb e.answer))
@@ -268,7 +268,7 @@ fn all_hold(write: bool, caught_up: bool, value: bool) -> bool
     write && caught_up && value
 }
 
-/// Whether `r` may put the entry.
+/// Whether `r` may put the entry: `v` under the number `b`, at position `i` of `p`.
 pub fn may_put_slot(config: &Config, r: u8, part: &[Event], p: u8, i: u16, b: u32, v: u16) -> bool
     requires short { length part.now < 2 ^ 32 }
     requires ring { 0 < config.now.ring }

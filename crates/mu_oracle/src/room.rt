@@ -74,7 +74,7 @@ fn leave_room(n: u8, config: &Config, r: u8, part: &[Event], i: u16, free: u8) -
     all
 }
 
-/// Whether the heads leave room for `i`, with so many places left free.
+/// Whether the heads leave room for `i`, with `free` places left over.
 pub fn leaves_room(config: &Config, r: u8, part: &[Event], i: u16, free: u8) -> bool
     ensures { result ≡ has_room config.now r (history part.now) i free }
 {

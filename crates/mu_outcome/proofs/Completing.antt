@@ -1,4 +1,4 @@
--- Where every command is in the longest log, and how replicas ended where one isn't.
+-- When every command is in the longest log, and how replicas ended if one isn't.
 use Rattle.std.proofs.Common.{◌≡◌, ◌∙◌, ℕ, suc, zero, ◌+◌, ◌<◌, ◌≤◌, ◌==◌, Bool, true, false, cond, List, [], ◌∷◌, ◌++◌, Some, ap, append-nil, arith, eqb-true, get_or, inl, inr, length, refl, subst, sym, take, drop, true≢false}
 use Rattle.std.specs.List.{list_any, slice_get}
 use Rattle.std.proofs.Math.Dec.{eqb}

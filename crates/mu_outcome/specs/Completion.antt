@@ -1,4 +1,4 @@
--- Which commands of its job a run told, and how its replicas ended where one is missing.
+-- completion: which commands of its job a run told, and how its replicas ended if one is missing.
 use Rattle.std.specs.Prelude.{ℕ, ◌≡◌, ◌<◌, ◌↔◌, Some, slice_get, Contains, ⊤}
 use Rattle.kv_store.specs.Commands.{Request}
 use Rattle.mu_model.specs.declared.script.End.{End}
@@ -20,8 +20,8 @@ IsCutShort End.Budget = ⊤
 IsCutShort (End.Outrun p i) = ⊤
 IsCutShort (End.Finished heads) = ⊥
 
--- the status is done exactly where every command of the job is in the longest log, and unfinished
--- exactly where some command isn't; then each replica was stopped, spent its budget or was outrun
+-- the status is done exactly if every command of the job is in the longest log, and unfinished
+-- exactly if some command isn't; then each replica was stopped, spent its budget or was outrun
 pub record Completes (o : Outcome) : Type 0 where
   pub done : (status_after o ≡ Status.Done) ↔ HasAllCommands o
   pub unfinished : (status_after o ≡ Status.Unfinished) ↔ ¬ HasAllCommands o

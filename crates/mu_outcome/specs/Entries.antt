@@ -1,4 +1,4 @@
--- What the entries of a log stand for, in a job.
+-- commands of a log: what the entries of a log stand for, in a job.
 use Rattle.std.specs.Prelude.{ℕ, ◌+◌, ◌%◌, if◌then◌else◌, List, [], ◌∷◌, ◌++◌, take, drop, length, nat_lt}
 use Rattle.kv_store.specs.Commands.{Request}
 use Rattle.mu_model.specs.Contents.{is_batch, rest_of}

@@ -1,4 +1,8 @@
--- What an outcome says.
+-- agrees: the headline: of any two logs one is a prefix of the other, each entry is a batch or a
+-- mark, each client's commands stand in order and once, commits stand in every log, and replies are
+-- those of the store.
+--
+-- run of its job: an outcome whose journals are parts of one legal list.
 use Rattle.std.specs.Prelude.{ℕ, ◌+◌, ◌≡◌, ◌<◌, ◌≤◌, ◌⊎◌, ◌==◌, if◌then◌else◌, List, [], length, slice_get, map, Some, None, All}
 use Rattle.std.specs.declared.option.Option.{Option}
 use Rattle.kv_store.specs.Tables.{replies}
@@ -21,7 +25,7 @@ use Rattle.mu_outcome.specs.Entries.{commands_in, longest}
 use Rattle.mu_outcome.specs.Statuses.{code_of}
 use Rattle.mu_outcome.specs.Turns.{IsTurns}
 
--- the list where there is one
+-- the list if there is one
 abbrev pub or_empty : {A : Type 0} → Option (List A) → List A
 or_empty None = []
 or_empty (Some xs) = xs
@@ -64,7 +68,7 @@ pub record Agrees (o : Outcome) : Type 0 where
       → slice_get (log_of o s) i ≡ Some v
   -- the replies are those of the store over the commands of the longest log
   pub answered : o.replies ≡ replies (commands_in o.job (longest o.logs))
-  -- and each replica replied so whose log is as long
+  -- and each replica whose log is as long replied the same
   pub told :
       (r : ℕ) → r < o.job.config.replicas → length (log_of o r) ≡ length (longest o.logs)
       → o.replies ≡ replies_of o r
@@ -74,9 +78,9 @@ pub record Agrees (o : Outcome) : Type 0 where
       → length (log_of o r) ≤ length (log_of o s) → IsPrefixOf (replies_of o r) (replies_of o s)
 
 -- the outcome is a run of its job: one legal list of events has the journals as its parts, in the
--- order of turns; each journal has its end there and not before; the logs, commits and ends are
--- those that the definitions give of the journals; each replica's replies are those of the store
--- over the commands of its log, and what is told are those of the longest
+-- order of turns; each journal ends exactly there; the logs, commits and ends are those that the
+-- definitions give of the journals; each replica's replies are those of the store over the commands
+-- of its log, and what is told are those of the longest
 pub record IsRun (o : Outcome) : Type 0 where
   pub order : Record
   pub given : o.order ≡ Some order
@@ -111,7 +115,7 @@ IsWithinJob o =
     × All (λ log. length log ≤ row_count o.job.config + reserve o.job.config + 1) o.logs
     × (row_count o.job.config + reserve o.job.config ≤ 1507)
 
--- done where all commands of the job are in the longest log, else unfinished
+-- done if all commands of the job are in the longest log, else unfinished
 abbrev pub status_after : Outcome → Status
 status_after o =
     if length (commands_in o.job (longest o.logs)) == length o.job.commands then Status.Done

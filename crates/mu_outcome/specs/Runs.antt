@@ -1,4 +1,4 @@
--- Runs in which no order of turns is said.
+-- run over a list: runs of which no order of turns is stated.
 use Rattle.std.specs.Prelude.{List, None, Some, length, map, ℕ, ◌<◌, ◌≡◌}
 use Rattle.std.specs.List.{slice_get}
 use Rattle.kv_store.specs.Tables.{replies}
@@ -14,9 +14,9 @@ use Rattle.mu_outcome.specs.declared.outcome.Outcome.{Outcome}
 use Rattle.mu_outcome.specs.Entries.{commands_in, longest}
 use Rattle.mu_outcome.specs.Outcomes.{commits_of, events_of, journal_of, log_of, replies_of}
 
--- the list is legal and has the journals as its parts; each journal has its end there and not
--- before; the logs, commits, ends and replies are those that the definitions give of the journals,
--- each replica's replies those over its own log
+-- the list is legal and has the journals as its parts; each journal ends exactly there; the logs,
+-- commits, ends and replies are those that the definitions give of the journals, each replica's
+-- replies those over its own log
 pub record IsRunOver (events : List Event) (o : Outcome) : Type 0 where
   pub legal : IsLegal o.job.config events
   pub parts : HasParts o.job.config events (map events_of o.journals)

@@ -1,4 +1,4 @@
--- The numbers of the statuses.
+-- status: the numbers of the statuses with which a program ends.
 use Rattle.std.specs.Prelude.{ℕ}
 use Rattle.mu_outcome.specs.declared.status.Status.{Status}
 

@@ -1,17 +1,17 @@
--- The order of turns: rounds, in which each replica in order of id takes one.
+-- turns: the order of ids in a replay, pauses included: rounds, in which each replica in order of
+-- id takes one turn.
 use Rattle.std.specs.Prelude.{ℕ, zero, suc, ◌+◌, ◌≡◌, ◌<◌, Bool, true, false, if◌then◌else◌, ◌&&◌, not, ◌==◌, nat_lt, List, [], ◌∷◌, ◌++◌, length, slice_index}
 use Rattle.mu_model.specs.declared.script.Script.{Script}
 use Rattle.mu_model.specs.declared.script.Pause.{Pause}
 
--- for how many rounds a replica is passed over once it has taken so many steps
+-- for how many rounds a replica is passed over once it has taken this number of steps
 abbrev pub rounds_paused : List Pause → ℕ → ℕ → ℕ
 rounds_paused [] r steps = 0
 rounds_paused (pause ∷ pauses) r steps =
     if (pause.replica == r) && (pause.steps == steps) then pause.rounds
     else rounds_paused pauses r steps
 
--- how far a replica is: the steps that it has taken, and the rounds since then in which it took
--- none
+-- how far a replica is: the steps that it has taken, and the rounds since then without a step
 pub record Pace : Type 0 where
   pub taken : ℕ
   pub waited : ℕ
@@ -26,7 +26,7 @@ abbrev pub pace_after : Bool → Pace → Pace
 pace_after true pace = record { taken = pace.taken + 1; waited = 0 }
 pace_after false pace = record { taken = pace.taken; waited = pace.waited + 1 }
 
--- how far a replica that takes `all` steps is after so many rounds
+-- how far a replica that takes `all` steps is after a number of rounds
 abbrev pub pace : List Pause → ℕ → ℕ → ℕ → Pace
 pace pauses r all zero = record { taken = 0; waited = 0 }
 pace pauses r all (suc round) =
@@ -41,7 +41,7 @@ ids_in_round pauses lengths round (suc n) =
     (if is_due pauses n (slice_index lengths n) (pace pauses n (slice_index lengths n) round)
     then n ∷ [] else [])
 
--- the ids of the steps of so many rounds
+-- the ids of the steps of a number of rounds
 abbrev pub ids_after : List Pause → List ℕ → ℕ → List ℕ
 ids_after pauses lengths zero = []
 ids_after pauses lengths (suc round) =

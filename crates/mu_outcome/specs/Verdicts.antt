@@ -1,4 +1,4 @@
--- What a verdict says of a list of events.
+-- verdict: what a verdict says of a list of events; no list has two.
 use Rattle.std.specs.Prelude.{List, Some, take, ℕ, ◌≡◌, ◌≢◌}
 use Rattle.std.specs.List.{slice_get}
 use Rattle.mu_model.specs.declared.config.Config.{Config}

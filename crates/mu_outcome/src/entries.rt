@@ -6,8 +6,8 @@ use kv_store::Command;
 use mu_input::Job;
 use mu_model::{PAYLOADS, row_rest, stands_for_batch};
 
-/// The commands that a payload number stands for: those of its batch, and none where it stands for
-/// no batch. Takes no memory.
+/// The commands that a payload number stands for: those of its batch, and none if it stands for no
+/// batch. Takes no memory.
 pub fn commands_of(job: &Job, value: u16) -> &[Command]
     ensures { result.now ≡ commands_of_value job.now value }
 {

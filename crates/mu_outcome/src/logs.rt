@@ -4,7 +4,7 @@ ghost use Rattle.mu_outcome.specs.Entries.{longest as longest_of};
 
 use mu_known::Log;
 
-/// The longest log, the first at a tie, and the empty one where there is none. Takes no memory.
+/// The longest log, the first at a tie, and the empty one if there is none. Takes no memory.
 pub fn longest(logs: &[Log]) -> &[u16]
     ensures { result.now ≡ longest_of logs.now }
 {

@@ -40,8 +40,8 @@ pub struct Outcome {
     pub own_replies: AllReplies,
     /// How each replica ended.
     pub ends: Ends,
-    /// All events in their order, where the run took turns on one thread.
+    /// All events in their order, if the run took turns on one thread.
     pub order: Option<Journal>,
-    /// The parts that the threads' ports had at the end, where the run was one of threads.
+    /// The parts that the threads' ports had at the end, if the run was one of threads.
     pub gathered: Option<Gathered>,
 }

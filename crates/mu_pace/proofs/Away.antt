@@ -1,4 +1,4 @@
--- While a replica doesn't lead its counts are closed, or opened by a background look alone.
+-- While a replica doesn't lead, its counts are closed, or opened only by a background look.
 use Rattle.std.proofs.Common.{◌≡◌, ℕ, ◌*◌, inl, inr, Bool, true, false, ◌&&◌, List, [], ◌∷◌, refl, sym, ap, arith, None, subst, true≢false, is_some, length}
 use Rattle.std.specs.Prelude.{not, ◌||◌}
 use Rattle.mu_model.specs.declared.config.Config.{Config}

@@ -1,4 +1,4 @@
--- A background event beside the leader leaves the room of each count.
+-- A background event alongside the leader leaves the room of each count.
 use Rattle.std.proofs.Common.{◌≡◌, ℕ, ◌*◌, Bool, true, false, ◌&&◌, List, ◌∷◌, length, refl, sym, ◌∙◌, ap, arith, Some, None, true≢false}
 use Rattle.std.specs.Prelude.{if◌then◌else◌, nat_lt, not, ◌||◌}
 use Rattle.std.proofs.lemmas.Bool.{ltb-true}

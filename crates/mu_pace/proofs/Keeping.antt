@@ -1,4 +1,4 @@
--- A journal of which each event keeps every pace is diligent.
+-- A journal in which each event keeps every pace is diligent.
 use Rattle.std.proofs.Common.{◌≡◌, ℕ, ◌+◌, ◌*◌, ◌<◌, ◌≤◌, ◌∙◌, sym, refl, subst, Bool, List, [], ◌∷◌, length, true, None, Some, arith}
 use Rattle.mu_agree.specs.Paces.{IsRecent, IsRecentStep, IsSpaced, asks_or_rests, steps_since}
 use Rattle.mu_agree.proofs.Windows.{asks_in_time, reads_in_time}

@@ -1,5 +1,5 @@
--- How much each place of a leader weighs for a late follower: the most steps from there to the next
--- read of its fence.
+-- asking weight: the most steps from a place of the leader to the next read of a late follower's
+-- fence.
 use Rattle.std.specs.Prelude.{Bool, false, if◌then◌else◌, nat_le, nat_lt, true, ℕ, ◌*◌, ◌+◌, ◌-◌, ◌<◌, ◌≡◌, ◌≤◌}
 use Rattle.mu_pace.specs.Weights.{Bringing, Copies, GoesOn, IsPlace, IsSized, Joins, Lag, Sizes, Stage, is_first, joined, most, weight}
 
@@ -7,8 +7,8 @@ use Rattle.mu_pace.specs.Weights.{Bringing, Copies, GoesOn, IsPlace, IsSized, Jo
 abbrev pub around : Sizes → ℕ → ℕ
 around s p = s.members + 4 * p + 2
 
--- the steps by which a late follower below p is brought up, where so many are left for the others
--- up to p
+-- the steps by which a late follower below p is brought up, if n steps are left for the others up
+-- to p
 abbrev pub near_bringing : ℕ → Bringing → ℕ
 near_bringing n Bringing.Widen = n + 2
 near_bringing n Bringing.Look = n + 1
@@ -48,8 +48,8 @@ is_far p (Stage.Bring (Lag.Joined q) b) = nat_le p q
 is_far p (Stage.RaiseAt k) = false
 is_far p t = true
 
--- the place that follows another by a step that nothing pays for, where p is a late follower and
--- its fence isn't read
+-- the place that follows another by a step that nothing pays for, if p is a late follower and its
+-- fence isn't read
 pub data AsksOn (s : Sizes) (p : ℕ) : Stage → Stage → Type 0 where
   far : (t u : Stage) → GoesOn s t u → is_far p t ≡ true → is_far p u ≡ true → AsksOn s p t u
   turns :
@@ -98,7 +98,7 @@ pub data AsksCopying (s : Sizes) (p : ℕ) : Stage → Stage → Type 0 where
       → AsksCopying s p (Stage.Bring (Lag.Joined q) Bringing.Put)
       (Stage.Bring (Lag.Joined q) Bringing.Raise)
 
--- and by one by which another region becomes a member
+-- and by one through which another region becomes a member
 pub data AsksJoining (s : Sizes) (p : ℕ) : Stage → Stage → Type 0 where
   far_join :
       (t u : Stage) → Joins s t u → is_far p t ≡ true → is_far p u ≡ true → AsksJoining s p t u
@@ -109,8 +109,8 @@ pub data AsksJoining (s : Sizes) (p : ℕ) : Stage → Stage → Type 0 where
       → AsksJoining s p (Stage.LatePut q) (Stage.Bring (Lag.Joined q) b)
   near_level : (q u : ℕ) → q < u → u ≤ p → AsksJoining s p (Stage.LatePut q) (Stage.LateFence u)
 
--- the late follower's weights fall too, where copies pay for sixteen and joinings for twelve, and
--- none is above twice the bound or lacks the step that is kept
+-- the late follower's weights fall too, if copies pay for sixteen and joinings for twelve, and none
+-- is above twice the bound or lacks the step that is kept
 pub record AskingFalls : Type 0 where
   pub goes_on :
       (s : Sizes) (p : ℕ) (t u : Stage) → IsSized s → AsksOn s p t u

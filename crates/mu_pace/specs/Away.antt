@@ -1,5 +1,5 @@
--- The counts of a leader while it doesn't lead: before the first `Min` of a leadership, and after
--- it is over or another is named.
+-- away, fresh: a leader's counts while it doesn't lead: before the first `Min` of a leadership, and
+-- after it is over or another replica is named.
 use Rattle.std.specs.Prelude.{List, None, [], false, is_some, true, ℕ, ◌<◌, ◌∷◌, ◌≡◌, ◌⊎◌}
 use Rattle.mu_model.specs.declared.config.Config.{Config}
 use Rattle.mu_model.specs.declared.event.Event.{Event}
@@ -26,7 +26,7 @@ pub record IsFresh (c : Config) (r : ℕ) (now : List Event) : Type 0 where
   pub asking : (p : ℕ) → p < c.replicas → IsInTime (asking_after c r p) now
   pub bringing : (p : ℕ) → steps_left (bringing_up c r p) now ≡ None
 
--- a replication event of one that doesn't lead
+-- a replication event of a replica that doesn't lead
 pub record TakesIdleStep (c : Config) (r : ℕ) (past : List Event) (e : Event) : Type 0 where
   pub turn : is_replication past e ≡ true
   pub not_led : leads r past ≡ false
@@ -34,7 +34,7 @@ pub record TakesIdleStep (c : Config) (r : ℕ) (past : List Event) (e : Event) 
   pub none_behind : (p : ℕ) → falls_behind c r p past e ≡ false
 
 -- the event ends what a background look opened: a new leadership, one that is over, or another
--- named
+-- replica named
 abbrev pub EndsStretch : Config → ℕ → List Event → Event → Type 0
 EndsStretch c r past e =
     (begins_leadership r e ≡ true) ⊎ ((is_over_after r past e ≡ true) ⊎ (is_named c r past ≡ false))
@@ -46,7 +46,7 @@ pub record LooksBeside (past : List Event) (e : Event) : Type 0 where
   pub position : ℕ
   pub verb : e.verb ≡ Verb.Look region position
 
--- who is away stays so, begins anew, and is fresh until its first `Min`
+-- a replica that is away stays so, begins again, and is fresh until its first `Min`
 pub record AwayIsInTime : Type 0 where
   pub start : (c : Config) (r : ℕ) → IsFresh c r []
   pub in_time : (c : Config) (r : ℕ) (now : List Event) → IsAway c r now → AreInTime c r now

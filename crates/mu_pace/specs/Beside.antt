@@ -1,4 +1,4 @@
--- Which background events leave every count of a leader's steps as it is.
+-- beside: background events that leave every count of a leader's steps as it is.
 use Rattle.std.specs.Prelude.{Bool, List, false, true, ℕ, ◌∷◌, ◌≡◌}
 use Rattle.mu_model.specs.declared.config.Config.{Config}
 use Rattle.mu_model.specs.declared.event.Event.{Event}
@@ -32,7 +32,7 @@ pub record KeepsRooms (c : Config) (r : ℕ) (past : List Event) (e : Event) : T
   pub joining : (p : ℕ) → Keeps (joining c r p) past e
   pub bringing_up : (p : ℕ) → Keeps (bringing_up c r p) past e
 
--- a background event beside the leader leaves them all
+-- a background event alongside the leader leaves them all
 abbrev pub BesideKeepsRooms : Type 0
 BesideKeepsRooms =
     (c : Config) (r : ℕ) (past : List Event) (e : Event) → is_replication past e ≡ false

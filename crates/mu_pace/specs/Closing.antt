@@ -1,4 +1,5 @@
--- The counts of a leader close with a replication event before which another replica is named.
+-- closed counts: a replication event before which another replica is named closes the counts of a
+-- leader.
 use Rattle.std.specs.Prelude.{List, None, false, true, ℕ, ◌*◌, ◌∷◌, ◌≡◌}
 use Rattle.mu_model.specs.declared.config.Config.{Config}
 use Rattle.mu_model.specs.declared.event.Event.{Event}
@@ -11,7 +12,7 @@ use Rattle.mu_pace.specs.Placed.{FitsSizes, IsPlacedAt}
 use Rattle.mu_pace.specs.Watches.{asking_after, bringing_up, confirming, explaining, falls_behind, is_confirming, is_welcoming, joining, limit_now, progressing, raising}
 use Rattle.mu_pace.specs.Weights.{IsPlace, IsSized, Sizes, Stage}
 
--- the event opens no count, but for the asking after others
+-- the event opens no count, except for the asking after others
 pub record OpensNone (c : Config) (r : ℕ) (past : List Event) (e : Event) : Type 0 where
   pub milestone : is_milestone c r past e ≡ false
   pub missed : (p : ℕ) → is_missed_at p e ≡ false
@@ -20,7 +21,7 @@ pub record OpensNone (c : Config) (r : ℕ) (past : List Event) (e : Event) : Ty
   pub welcoming : (p : ℕ) → is_welcoming c r p past e ≡ false
   pub behind : (p : ℕ) → falls_behind c r p past e ≡ false
 
--- no count is open, but for the asking after others, which has all the steps that it may have
+-- no count is open, except for the asking after others, which has all the steps that it may have
 pub record AreClosed (c : Config) (r : ℕ) (now : List Event) : Type 0 where
   pub progressing : steps_left (progressing c r) now ≡ None
   pub explaining : (p : ℕ) → steps_left (explaining c r p) now ≡ None
@@ -30,8 +31,8 @@ pub record AreClosed (c : Config) (r : ℕ) (now : List Event) : Type 0 where
   pub joining : (p : ℕ) → steps_left (joining c r p) now ≡ None
   pub bringing : (p : ℕ) → steps_left (bringing_up c r p) now ≡ None
 
--- an event that opens none, before which another is named, closes the counts; and then they are
--- those of one that doesn't lead, and have the room of any place
+-- an event that opens none, and before which another replica is named, closes the counts; they are
+-- then those of a replica that doesn't lead, and have the room of any place
 pub record CountsClose : Type 0 where
   pub unnamed :
       (c : Config) (r : ℕ) (past : List Event) (e : Event) → is_replication past e ≡ true

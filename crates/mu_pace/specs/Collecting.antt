@@ -1,4 +1,4 @@
--- What the machines of a node keep, and so the whole journal.
+-- keeps all: what each machine of a node keeps, and that the whole journal keeps it.
 use Rattle.std.specs.Prelude.{List, ℕ, ◌*◌, ◌-◌, ◌<◌, ◌∷◌, ◌≢◌}
 use Rattle.mu_model.specs.declared.config.Config.{Config}
 use Rattle.mu_model.specs.declared.event.Event.{Event}

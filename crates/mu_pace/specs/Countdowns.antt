@@ -1,5 +1,6 @@
--- The short counts of a leader, step by step: raised FUOs, joining, confirmation, evidence after a
--- miss, and asks.
+-- raised below, countdowns: the members whose FUOs are raised already, with the steps left for the
+-- others; and the other short counts of a leader, step by step: joining, confirmation, evidence
+-- after a miss, and asks.
 use Rattle.std.specs.Prelude.{Bool, List, None, false, true, ℕ, ◌+◌, ◌<◌, ◌∷◌, ◌≡◌, ◌≤◌}
 use Rattle.mu_agree.specs.Paces.{asks_or_rests, steps_since}
 use Rattle.mu_model.specs.declared.config.Config.{Config}
@@ -12,7 +13,7 @@ use Rattle.mu_model.specs.Stretches.{is_replication}
 use Rattle.mu_pace.specs.Counters.{HasRoom, steps_left}
 use Rattle.mu_pace.specs.Watches.{confirming, explaining, is_answer_to_welcome, is_full_raise, is_welcoming, joining, raising}
 
--- the FUOs of the members below q are raised, and so many steps are left for the others
+-- the FUOs of the members below q are raised, and `left` steps are left for the others
 pub record AreRaisedBelow (c : Config) (r q left : ℕ) (now : List Event) : Type 0 where
   pub done : (p : ℕ) → p < q → steps_left (raising c r p) now ≡ None
   pub room : (p : ℕ) → HasRoom (raising c r p) left now

@@ -1,4 +1,5 @@
--- What the machines beside the leader keep, and what comes of it in stretches.
+-- keeps beside: what the cycle, the host and the replayer keep with each event; and what reads at
+-- places of their own come to in stretches.
 use Rattle.std.specs.Prelude.{List, ◌∷◌, ℕ}
 use Rattle.mu_model.specs.declared.config.Config.{Config}
 use Rattle.mu_model.specs.declared.event.Event.{Event}
@@ -24,7 +25,7 @@ pub record KeepsBeside (c : Config) (r : ℕ) (past : List Event) (e : Event) : 
   pub grants : GrantsInTime c r (e ∷ past)
   pub replayer : ReplayerKeeps c r past e
 
--- a journal of which each event keeps this, and what the leader keeps, is diligent
+-- a journal in which each event keeps this, and what the leader keeps, is diligent
 abbrev pub MachinesAreDiligent : Type 0
 MachinesAreDiligent =
     (c : Config) (r : ℕ) (past : List Event) → AtEachStep (KeepsBeside c r) past

@@ -1,4 +1,5 @@
--- What each event has to keep, so that a journal is diligent.
+-- keeps pace, diligent at each moment: what one event has to keep, with a field for each pace; and
+-- that each event of a journal does.
 use Rattle.std.specs.Prelude.{Bool, List, None, [], length, true, ℕ, ◌*◌, ◌+◌, ◌<◌, ◌∷◌, ◌≡◌, ◌≢◌, ◌≤◌}
 use Rattle.mu_agree.specs.Paces.{asks_or_rests, steps_since}
 use Rattle.mu_model.specs.declared.config.Config.{Config}
@@ -25,7 +26,7 @@ pub record ReadsLately (c : Config) (r : ℕ) (past : List Event) (e : Event) : 
       (q : ℕ) → is_beat_read q e ≡ true → has (is_beat_read q) past ≡ true
       → 4 * c.replicas + 43 ≤ length (since (is_beat_read q) past)
 
--- election pace: who has to ask asked each region and read each fence lately
+-- election pace: a replica that has to ask asked each region and read each fence lately
 pub record AsksLately (c : Config) (r : ℕ) (past : List Event) (e : Event) : Type 0 where
   pub asks :
       (p : ℕ) → p < c.replicas
@@ -34,7 +35,7 @@ pub record AsksLately (c : Config) (r : ℕ) (past : List Event) (e : Event) : T
       (p : ℕ) → p < c.replicas
       → steps_since (asks_or_rests c r (is_fencing p)) (e ∷ past) < 17 * c.replicas + 1
 
--- ask discipline: r asks only where it is named, and anew only with cause
+-- ask discipline: r asks only if it is named, and asks again only with cause
 pub record HasCause (c : Config) (r : ℕ) (past : List Event) (e : Event) : Type 0 where
   pub named : (p : ℕ) → is_asking p e ≡ true → is_named c r past ≡ true
   pub anew : is_asking 0 e ≡ true → may_ask_anew c r past ≡ true

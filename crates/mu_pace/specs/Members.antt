@@ -1,4 +1,5 @@
--- How many members are still in turn, as the weights of a leader's places count them.
+-- members in turn: the number of members from a region on, or below it, as the weights of a
+-- leader's places count them.
 use Rattle.std.specs.Prelude.{List, false, nat_le, nat_lt, true, ℕ, ◌&&◌, ◌*◌, ◌+◌, ◌<◌, ◌∷◌, ◌≡◌, ◌≤◌}
 use Rattle.mu_model.specs.declared.config.Config.{Config}
 use Rattle.mu_model.specs.declared.event.Answer.{Answer}

@@ -1,4 +1,5 @@
--- From each moment to each stretch: the laws by which a journal that keeps its paces is diligent.
+-- paces in time: the laws that lead from each moment to each stretch: a journal that keeps its
+-- paces at each moment is diligent.
 use Rattle.std.specs.Prelude.{List, ℕ, ◌<◌, ◌≢◌, ◌*◌}
 use Rattle.mu_agree.specs.Paces.{IsRecent}
 use Rattle.mu_model.specs.declared.config.Config.{Config}
@@ -22,7 +23,7 @@ GrantsAreCounted =
     (c : Config) (r : ℕ) (past : List Event) → GrantsInTime c r past → (w : ℕ)
     → IsInTime (granting c r w) past
 
--- who is in time at each moment makes progress within the bound
+-- a leader that is in time at each moment makes progress within the bound
 abbrev pub ProgressComesInTime : Type 0
 ProgressComesInTime =
     (c : Config) (r : ℕ) (past : List Event) → AtEachMoment (IsInTime (progressing c r)) past
@@ -34,7 +35,7 @@ MissesAreExplained =
     (c : Config) (r : ℕ) (past : List Event)
     → ((p : ℕ) → AtEachMoment (IsInTime (explaining c r p)) past) → LooksIntoMisses c r past
 
--- asks that each had a cause
+-- a journal whose asks each had a cause asks with cause
 abbrev pub AsksHaveCause : Type 0
 AsksHaveCause =
     (c : Config) (r : ℕ) (past : List Event) → AtEachStep (HasCause c r) past
@@ -74,7 +75,7 @@ MembersAreBroughtUp =
     → ((p : ℕ) → p < c.replicas → AtEachMoment (IsInTime (bringing_up c r p)) past)
     → BringsUpInTime c r past
 
--- who isn't named replays
+-- a replica that isn't named replays
 abbrev pub ReplayGoesOn : Type 0
 ReplayGoesOn =
     (c : Config) (r : ℕ) (past : List Event) → AtEachMoment (IsInTime (reading_own c r)) past
@@ -87,7 +88,7 @@ HeadsAreTold =
     → ((q : ℕ) → q < c.replicas → q ≢ r → IsRecent (is_head_of q) (c.replicas * cycle c) past)
     → TellsHeads c r past
 
--- a journal of which each event keeps every pace is diligent
+-- a journal in which each event keeps every pace is diligent
 abbrev pub KeptPaceIsDiligent : Type 0
 KeptPaceIsDiligent =
     (c : Config) (r : ℕ) (past : List Event) → IsDiligentAtEachMoment c r past → IsDiligent c r past

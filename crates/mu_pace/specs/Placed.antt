@@ -1,4 +1,5 @@
--- The room that each count of a leader has at a place, and what each kind of step leaves of it.
+-- placed: every count of a leader has the room that its place's weight asks for; and what each kind
+-- of step between places leaves of it.
 use Rattle.std.specs.Prelude.{Bool, List, None, false, true, ℕ, ◌+◌, ◌<◌, ◌||◌, ◌∷◌, ◌≡◌, ◌⊎◌}
 use Rattle.mu_model.specs.declared.config.Config.{Config}
 use Rattle.mu_model.specs.declared.event.Event.{Event}
@@ -158,8 +159,8 @@ pub record AreInTime (c : Config) (r : ℕ) (now : List Event) : Type 0 where
   pub asking : (p : ℕ) → p < c.replicas → IsInTime (asking_after c r p) now
   pub bringing : (p : ℕ) → IsInTime (bringing_up c r p) now
 
--- who is at a place stays at places by every kind of step, and is in time; and so is who is over or
--- isn't named any more
+-- a leader at a place stays at places by every kind of step, and is in time; so is one whose
+-- leadership is over or that isn't named any more
 pub record PlacesLead : Type 0 where
   pub step :
       (c : Config) (r : ℕ) (s : Sizes) (t u : Stage) (past : List Event) (e : Event) → IsSized s

@@ -1,5 +1,5 @@
--- What every possible part of one replica has, beside the laws of agreement: what is read never
--- falls, and what missed shows why.
+-- laws of what is read: what a replica reads of the others never falls, numbers and positions fit,
+-- a put that missed shows why, and some client has a next batch.
 use Rattle.std.specs.Prelude.{List, Some, length, ℕ, ◌+◌, ◌∷◌, ◌≡◌, ◌≤◌}
 use Rattle.mu_model.specs.declared.config.Config.{Config}
 use Rattle.mu_model.specs.declared.event.Answer.{Answer}

@@ -1,4 +1,4 @@
--- How the room of a count changes by one step: the kinds of step of a journal that keeps its pace.
+-- kinds of step: how the room of a count changes by one step of a journal that keeps its pace.
 use Rattle.std.specs.Prelude.{List, None, Some, false, true, ℕ, ◌+◌, ◌||◌, ◌∷◌, ◌≡◌, ◌≤◌}
 use Rattle.mu_model.specs.declared.config.Config.{Config}
 use Rattle.mu_model.specs.declared.event.Event.{Event}
@@ -29,27 +29,27 @@ RoomStays =
     → w.counts past e ≡ false → next ≤ weight + w.pays past e → HasRoom w weight past
     → HasRoom w next (e ∷ past)
 
--- a step that closes the count leaves any room, where it opens none anew
+-- a step that closes the count leaves any room, if it doesn't open one again
 abbrev pub RoomCloses : Type 0
 RoomCloses =
     (w : Watch) (next : ℕ) (past : List Event) (e : Event) → w.allows (e ∷ past) ≡ None
     → w.closes past e ≡ true → HasRoom w next (e ∷ past)
 
--- a step that closes the count and opens it anew leaves what it allows
+-- a step that closes the count and opens it again leaves what it allows
 abbrev pub RoomOpensAnew : Type 0
 RoomOpensAnew =
     (w : Watch) (allowed next : ℕ) (past : List Event) (e : Event)
     → w.allows (e ∷ past) ≡ Some allowed → w.closes past e ≡ true → next ≤ allowed
     → HasRoom w next (e ∷ past)
 
--- a step that opens a count where none was open
+-- a step that opens a count if none was open
 abbrev pub RoomOpens : Type 0
 RoomOpens =
     (w : Watch) (allowed next : ℕ) (past : List Event) (e : Event)
     → w.allows (e ∷ past) ≡ Some allowed → steps_left w past ≡ None → next ≤ allowed
     → HasRoom w next (e ∷ past)
 
--- a step that opens a count where one may be open leaves the less of both
+-- a step that opens a count, if one may be open already, leaves the smaller of both
 abbrev pub RoomOpensMore : Type 0
 RoomOpensMore =
     (w : Watch) (allowed weight next : ℕ) (past : List Event) (e : Event)
@@ -63,13 +63,13 @@ RoomOpensBeside =
     → w.allows (e ∷ past) ≡ Some allowed → next ≤ allowed → w.counts past e ≡ false
     → next ≤ weight + w.pays past e → HasRoom w weight past → HasRoom w next (e ∷ past)
 
--- where no count is open none opens without a moment that allows one
+-- if no count is open, none opens without a moment that allows one
 abbrev pub StaysClosed : Type 0
 StaysClosed =
     (w : Watch) (past : List Event) (e : Event) → w.allows (e ∷ past) ≡ None
     → steps_left w past ≡ None → steps_left w (e ∷ past) ≡ None
 
--- where no count is open there is any room
+-- if no count is open, there is any room
 abbrev pub ClosedHasRoom : Type 0
 ClosedHasRoom =
     (w : Watch) (weight : ℕ) (past : List Event) → steps_left w past ≡ None → HasRoom w weight past
@@ -136,7 +136,7 @@ ProgressBeside =
     → is_milestone c r past e ≡ false → HasRoom (progressing c r) weight past
     → HasRoom (progressing c r) weight (e ∷ past)
 
--- a commit and a lagging head are milestones and progress, where they are replication events
+-- a commit and a lagging head are milestones and progress, if they are replication events
 abbrev pub CommitIsProgress : Type 0
 CommitIsProgress =
     (c : Config) (r : ℕ) (past : List Event) (e : Event) → is_replication past e ≡ true

@@ -1,4 +1,5 @@
--- What is made once in each round comes lately, and not twice in a round.
+-- made at: the event at one place of each round passes a test; then few events came since the last
+-- that passes, and what passes isn't made twice in a round.
 use Rattle.std.specs.Prelude.{Bool, List, Some, length, true, ℕ, ◌%◌, ◌*◌, ◌+◌, ◌/◌, ◌<◌, ◌∷◌, ◌≡◌, ◌≤◌, ◌⊎◌}
 use Rattle.mu_model.specs.declared.event.Event.{Event}
 use Rattle.mu_model.specs.Histories.{has, since}
@@ -22,7 +23,7 @@ IsClosedAt n k w past =
     past
 
 -- at each moment fewer than n events came since the last that passes, and between two that pass
--- there are n - 1 others; a count that allows a round is in time where each round closes it
+-- there are n - 1 others; a count that allows a round is in time if each round closes it
 pub record RoundsKeepPace : Type 0 where
   pub lately :
       (n k : ℕ) (test : Event → Bool) (past : List Event) → k < n → IsMadeAt n k test past
@@ -36,7 +37,7 @@ pub record RoundsKeepPace : Type 0 where
       → ((now : List Event) (allowed : ℕ) → w.allows now ≡ Some allowed → n ≤ allowed)
       → IsClosedAt n k w past → IsInTime w past
 
--- the m-th event is of the background at the place x of a cycle of p places, exactly where it is at
+-- the m-th event is of the background at the place x of a cycle of p places, exactly if it is at
 -- the place 2 x of a round of 2 p events
 pub record PlacesAreIndices : Type 0 where
   pub index : (p x m : ℕ) → 1 ≤ p → m % 2 ≡ 0 → m / 2 % p ≡ x → m % (2 * p) ≡ 2 * x

@@ -1,4 +1,5 @@
--- The watch of each pace: when a count of steps is opened, what closes it, and which steps count.
+-- watches of the paces: for each pace, what opens and closes its count of steps, which steps count
+-- and which pay.
 use Rattle.std.specs.Prelude.{Bool, List, false, if◌then◌else◌, is_some, length, min, nat_le, nat_lt, not, true, ℕ, ◌&&◌, ◌*◌, ◌+◌, ◌-◌, ◌==◌, ◌||◌, ◌∷◌}
 use Rattle.mu_model.specs.declared.config.Config.{Config}
 use Rattle.mu_model.specs.declared.event.Event.{Event}
@@ -23,7 +24,7 @@ every past e = true
 abbrev pub nothing : List Event → Event → ℕ
 nothing past e = 0
 
--- a replication event before which another is named, or that meets what is waited for
+-- a replication event before which another replica is named, or that meets what is waited for
 abbrev pub turns_away : Config → ℕ → (List Event → Event → Bool) → List Event → Event → Bool
 turns_away c r met past e = is_replication past e && (not (is_named c r past) || met past e)
 
@@ -31,8 +32,8 @@ turns_away c r met past e = is_replication past e && (not (is_named c r past) ||
 abbrev pub leaves : Config → ℕ → (List Event → Event → Bool) → List Event → Event → Bool
 leaves c r met past e = begins_leadership r e || turns_away c r met past e
 
--- how many steps a leadership may take from one progress to the next, with so many members, where
--- nothing is copied
+-- how many steps a leadership may take from one progress to the next, with m members, if nothing is
+-- copied
 abbrev pub limit : Config → ℕ → ℕ
 limit c m = 6 * m + 7 * c.replicas + 8 + 12 * c.width
 
@@ -40,8 +41,8 @@ limit c m = 6 * m + 7 * c.replicas + 8 + 12 * c.width
 abbrev pub limit_now : Config → ℕ → List Event → ℕ
 limit_now c r past = limit c (members c r past)
 
--- how many more steps the step gives: six for each region that becomes a member by it, eight where
--- it learns or copies an entry
+-- how many more steps the step gives: six for each region that becomes a member by it, eight if it
+-- learns or copies an entry
 abbrev pub earns : Config → ℕ → List Event → Event → ℕ
 earns c r past e =
     6 * (members c r (e ∷ past) - members c r past)
@@ -76,13 +77,13 @@ explaining c r p = record {
   pays = nothing;
 }
 
--- by the fence that was read a leadership without a `Min` is confirmed
+-- the fence that was read confirms a leadership without a `Min`
 abbrev pub is_confirming : Config → ℕ → List Event → Event → Bool
 is_confirming c r past e =
     has_begun r past && (is_any_fencing e && (not (has_min r past) && is_confirmed c r (e ∷ past)))
 
--- confirmation: such a leadership waits for its `Min`, or for a fence by which it is confirmed no
--- longer
+-- confirmation: such a leadership waits for its `Min`, or for a fence that takes the confirmation
+-- back
 abbrev pub confirming : Config → ℕ → Watch
 confirming c r = record {
   allows = allowed_after (is_confirming c r) (λ now. c.replicas);
@@ -112,8 +113,8 @@ raising c r p = record {
   pays = nothing;
 }
 
--- asking after late followers: at each moment, where p is no member, its fence is waited for while
--- r leads
+-- asking after late followers: at each moment, if p is no member, its fence is waited for while r
+-- leads
 abbrev pub asking_after : Config → ℕ → ℕ → Watch
 asking_after c r p = record {
   allows = allowed_while (λ now. not (is_member r p now)) (λ now. 2 * limit_now c r now);
@@ -172,7 +173,7 @@ bringing_up c r p = record {
 abbrev pub is_named_turn : Config → ℕ → List Event → Event → Bool
 is_named_turn c r past e = is_replication past e && is_named c r past
 
--- replayer pace: at each moment a read of the own FUO is waited for
+-- replayer pace: at each moment a read of the replica's own FUO is waited for
 abbrev pub reading_own : Config → ℕ → Watch
 reading_own c r = record {
   allows = allowed_while (λ now. true) (λ now. 8 * c.replicas + 88);
@@ -181,7 +182,7 @@ reading_own c r = record {
   pays = nothing;
 }
 
--- the own FUO was read above what is applied
+-- its own FUO was read above what is applied
 abbrev pub is_replay_due : Config → ℕ → List Event → Bool
 is_replay_due c r now = nat_lt (length (applied c r now)) (greatest_fuo_read r r now)
 
@@ -195,14 +196,14 @@ replaying c r = record {
   pays = nothing;
 }
 
--- the own head is below what is applied and within the own FUO
+-- its own head is below what is applied and within its own FUO
 abbrev pub is_head_due : Config → ℕ → List Event → Bool
 is_head_due c r now =
     nat_lt (region_head r now)
     (min (length (applied c r now))
     (greatest (λ e. fuo_read_or_raised r r e.by e.verb e.answer) now))
 
--- head pace: while that is so, a raise of the own head is waited for
+-- head pace: while that is so, a raise of its own head is waited for
 abbrev pub raising_head : Config → ℕ → Watch
 raising_head c r = record {
   allows = allowed_while (is_head_due c r) (λ now. cycle c);

@@ -1,5 +1,5 @@
--- How much each place of a leader weighs: the most steps from there to the next progress, those
--- aside that copies and joinings pay for.
+-- weight: the most steps from a place of the leader to the next progress, not counting those that
+-- copies and joinings pay for.
 use Rattle.std.specs.Prelude.{Bool, false, true, ℕ, ◌*◌, ◌+◌, ◌-◌, ◌<◌, ◌≡◌, ◌≤◌}
 
 -- how many replicas and members there are, and how many rows a batch has at most
@@ -20,8 +20,8 @@ pub data Lag : Type 0 where
   Position : ℕ → Lag
   Joined : ℕ → Lag
 
--- the steps by which one is brought up: its FUO is raised where the position lies beyond its ring,
--- then a look, an enter and a put for each entry, and at last its FUO is raised
+-- the steps by which a region is brought up: its FUO is raised if the position lies beyond its
+-- ring; then a look, an enter and a put for each entry; and at last its FUO is raised
 pub data Bringing : Type 0 where
   Widen : Bringing
   Look : Bringing
@@ -52,17 +52,18 @@ pub data Stage : Type 0 where
   RaiseAt : ℕ → Stage
   Rest : Stage
 
--- from the late follower p on, through the heads, the looks and the rows, to the last put
+-- the weight from the late follower p on: through the heads, the looks and the rows, to the last
+-- put
 abbrev pub late : Sizes → ℕ → ℕ
 late s p = 4 * (s.replicas - p) + s.replicas + 3 * s.members + 12 * s.width
 
--- where bringing up begins
+-- the weight of a place at which bringing up begins
 abbrev pub lag : Sizes → Lag → ℕ
 lag s Lag.Behind = late s 0
 lag s (Lag.Position below) = s.replicas + 12 * s.width + 3 * below
 lag s (Lag.Joined p) = late s (p + 1)
 
--- and each of its steps: a put is paid for, and so are the three before it
+-- the weight of each step of bringing up: a put is paid for, and so are the three before it
 abbrev pub bringing : ℕ → Bringing → ℕ
 bringing n Bringing.Widen = n
 bringing n Bringing.Look = n - 1
@@ -92,15 +93,15 @@ weight s (Stage.PutAt k) = 2 * k - 1
 weight s (Stage.RaiseAt k) = k + late s 0
 weight s Stage.Rest = 1
 
--- what the bound allows where nothing is copied
+-- what the bound allows if nothing is copied
 abbrev pub most : Sizes → ℕ
 most s = 6 * s.members + 7 * s.replicas + 8 + 12 * s.width
 
--- with one more member
+-- the sizes with one more member
 abbrev pub joined : Sizes → Sizes
 joined s = record { replicas = s.replicas; width = s.width; members = s.members + 1 }
 
--- bringing up one begins so
+-- bringing up a region begins with this step
 abbrev pub is_first : Bringing → Bool
 is_first Bringing.Widen = true
 is_first Bringing.Look = true

@@ -1,4 +1,6 @@
 //! How a replica keeps its paces: from counts that are right at each moment to a diligent journal.
+//! `specs/Watches.antt` says for each pace what opens its count of steps, what closes it and which
+//! steps count.
 #![tactic(auto)]
 
 ghost use Rattle.mu_pace.specs.Asking.{AskingFalls};
@@ -31,7 +33,7 @@ pub fn misses_are_explained()
     ensures { MissesAreExplained }
 {}
 
-/// Who is in time at each moment makes progress within the bound.
+/// A leader that is in time at each moment makes progress within the bound.
 pub fn progress_comes_in_time()
     ensures { ProgressComesInTime }
 {}
@@ -41,7 +43,7 @@ pub fn fuos_are_raised_in_time()
     ensures { FuosAreRaisedInTime }
 {}
 
-/// Who leads asks after the late followers.
+/// A replica that leads asks after the late followers.
 pub fn others_are_asked_after()
     ensures { OthersAreAskedAfter }
 {}
@@ -56,7 +58,7 @@ pub fn members_are_brought_up()
     ensures { MembersAreBroughtUp }
 {}
 
-/// Asks that each had a cause.
+/// A journal whose asks each had a cause asks with cause.
 pub fn asks_have_cause()
     ensures { AsksHaveCause }
 {}
@@ -66,7 +68,7 @@ pub fn confirmed_begin_in_time()
     ensures { ConfirmedBeginInTime }
 {}
 
-/// Who isn't named reads its FUO, and learns or fetches what lies below it.
+/// A replica that isn't named reads its FUO, and learns or fetches what lies below it.
 pub fn replay_goes_on()
     ensures { ReplayGoesOn }
 {}
@@ -76,7 +78,7 @@ pub fn heads_are_told()
     ensures { HeadsAreTold }
 {}
 
-/// A journal of which each event keeps every pace is diligent.
+/// A journal in which each event keeps every pace is diligent.
 pub fn kept_pace_is_diligent()
     ensures { KeptPaceIsDiligent }
 {}
@@ -121,28 +123,28 @@ pub fn heads_fit()
     ensures { HeadsFit }
 {}
 
-/// Each step of a leader leads to a lighter place, but for those that are paid for.
+/// Each step of a leader leads to a lighter place, except those that are paid for.
 pub fn weights_fall()
     ensures { WeightsFall }
 {}
 
-/// Each step of a leader leads nearer to the next read of a late follower's fence, but for those
+/// Each step of a leader leads nearer to the next read of a late follower's fence, except those
 /// that are paid for.
 pub fn asking_falls()
     ensures { AskingFalls }
 {}
 
-/// A background event beside the leader leaves the room of each count.
+/// A background event alongside the leader leaves the room of each count.
 pub fn beside_keeps_rooms()
     ensures { BesideKeepsRooms }
 {}
 
-/// How many members are still in turn.
+/// How the numbers of members in turn change from one member to the next.
 pub fn counts_of_members()
     ensures { CountsOfMembers }
 {}
 
-/// Who is at a place of the leader stays at places by every kind of step, and is in time.
+/// A leader at a place stays at places by every kind of step, and is in time.
 pub fn places_lead()
     ensures { PlacesLead }
 {}
@@ -162,7 +164,7 @@ pub fn rounds_keep_pace()
     ensures { RoundsKeepPace }
 {}
 
-/// Who doesn't lead is in time, begins anew, and is fresh until its first `Min`.
+/// A replica that doesn't lead is in time, begins again, and is fresh until its first `Min`.
 pub fn away_is_in_time()
     ensures { AwayIsInTime }
 {}
@@ -192,7 +194,7 @@ pub fn rounds_tell_heads()
     ensures { RoundsTellHeads }
 {}
 
-/// A journal of which each event keeps what the machines keep is diligent.
+/// A journal in which each event keeps what the machines keep is diligent.
 pub fn machines_are_diligent()
     ensures { MachinesAreDiligent }
 {}

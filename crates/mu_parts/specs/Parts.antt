@@ -1,4 +1,6 @@
--- When the state of the parts stands for a history.
+-- stands for (parts): the running state of a replica holds what its events make of it: grants,
+-- leadership, heads with the scores, known log, rows, puts, filled logs and looks; and the same of
+-- every replica of a history.
 use Rattle.std.specs.Prelude.{List, Some, length, ℕ, ◌≡◌}
 use Rattle.std.specs.List.{slice_get}
 use Rattle.mu_model.specs.declared.config.Config.{Config}

@@ -60,7 +60,7 @@ fn right_number(r: u8, above: u64, own: Option<u32>) -> Option<u32>
 }
 
 impl Replica {
-    /// Whether the minimums of a majority are read, where no number is put in the leadership.
+    /// Whether the minimums of a majority are read, if no number is put in the leadership.
     fn is_confirmed(&self, config: &Config) -> bool
         requires { IsConfig config.now }
         ensures { (r : ℕ) → (mine : List Event) → StandsForReplica config.now r mine self.now
@@ -71,7 +71,7 @@ impl Replica {
         self.leadership.number().is_some() || confirmed
     }
 
-    /// Whether the word that a closed fence names is drained, where it names one.
+    /// Whether the word that a closed fence names is drained, if it names one.
     fn is_drained(&self) -> bool
         ensures { (c : Config) → (r : ℕ) → (mine : List Event) → StandsForReplica c r mine self.now
             → (IsTrue result

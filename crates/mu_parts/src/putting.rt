@@ -42,7 +42,7 @@ impl Replica {
         gone || room
     }
 
-    /// Whether the heads of all replicas leave room for `i`, with so many places left free.
+    /// Whether the heads of all replicas leave room for `i`, with `free` places left over.
     fn has_room(&self, config: &Config, i: u16, free: u8) -> bool
         requires { config.now.replicas ≤ 7 }
         ensures { (r : ℕ) → (mine : List Event) → StandsForReplica config.now r mine self.now
@@ -102,7 +102,7 @@ impl Replica {
         v / PAYLOADS == u16::from(self.replica) && !nobody
     }
 
-    /// Whether `v` is an own batch, written in full, and the next of its client.
+    /// Whether `v` is a batch of its own, written in full, and the next of its client.
     fn is_own_offer(&self, config: &Config, v: u16) -> bool
         requires { IsConfig config.now }
         ensures { (r : ℕ) → (mine : List Event) → StandsForReplica config.now r mine self.now
@@ -266,7 +266,7 @@ impl Replica {
             && self.looks.has_looked(p, i)
     }
 
-    /// Whether it may put the entry.
+    /// Whether the replica may put the entry: `v` under the number `b`, at position `i` of `p`.
     pub fn may_put_slot(&self, config: &Config, p: u8, i: u16, b: u32, v: u16) -> bool
         requires { IsConfig config.now }
         ensures { (r : ℕ) → (mine : List Event) → r < 7 → p < 7

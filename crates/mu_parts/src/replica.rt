@@ -76,7 +76,7 @@ fn is_accepted(landed_puts: &LandedPuts, leadership: &Leadership, n: u8, event: 
     }
 }
 
-/// The first `n` of some values, or all where there are fewer.
+/// The first `n` of some values, or all if there are fewer.
 fn first_values(values: &[u16], n: usize) -> &[u16]
     ensures { n ≤ length values.now → result.now ≡ take n values.now }
 {

@@ -85,8 +85,8 @@ impl Replica {
             .needs(k < 12, Reason::NoWord { word: k })
     }
 
-    /// That the words of the row of a value are there, of which a head above so many applied
-    /// entries has need.
+    /// That the words of the row of a value are there. A head above the number of applied entries
+    /// needs them.
     fn why_row_not_there(
         &self,
         config: &Config,
@@ -145,7 +145,7 @@ impl Replica {
         found
     }
 
-    /// That the rows of the entry at a position are there, where it is known.
+    /// That the rows of the entry at a position are there, if it is known.
     fn why_next_not_there(&self, config: &Config, h: u16, applied: usize, found: Found) -> Found
         requires { IsConfig config.now }
         ensures { (r : ℕ) → (mine : List Event) → (reasons : List SomeReason)
@@ -162,7 +162,7 @@ impl Replica {
         }
     }
 
-    /// That so many entries are applied.
+    /// That the entries below a head are applied.
     fn why_not_applied(&self, config: &Config, h: u16, found: Found) -> Found
         requires { IsConfig config.now }
         ensures { (r : ℕ) → (mine : List Event) → (reasons : List SomeReason)

@@ -1,4 +1,5 @@
--- Why a step of a port that tells its list finds what it finds.
+-- causes of answers: why a step finds another fence, a drained region, an overwritten position or
+-- none.
 use Rattle.std.specs.Prelude.{List, Some, length, true, ℕ, ◌+◌, ◌<◌, ◌≡◌, ◌≢◌, ◌≤◌, ◌↔◌, ◌⊎◌}
 use Rattle.std.specs.declared.option.Option.{Option}
 use Rattle.mu_model.specs.declared.config.Config.{Config}
@@ -12,9 +13,9 @@ use Rattle.mu_model.specs.Leaderships.{noted_grant}
 use Rattle.mu_model.specs.Regions.{fence, region_log}
 use Rattle.mu_port.specs.Telling.{Tells}
 
--- f is the fence of p after the history, and it is closing, or has another grant than r noted
--- (where r noted none, each grant is another: a put of the minimum may land under a fence that r
--- saw closing before, and then r may enter again with no grant noted)
+-- f is the fence of p after the history, and it is closing, or has another grant than r noted (if r
+-- noted none, each grant is another: a put of the minimum may land under a fence that r saw closing
+-- before, and then r may enter again with no grant noted)
 pub record IsOtherFence (r p : ℕ) (past : List Event) (f : Fence) : Type 0 where
   pub found : f ≡ fence p past
   pub other : (f.closing ≡ true) ⊎ (noted_grant r p (part r past) ≢ Some f.grant)
@@ -40,7 +41,7 @@ abbrev pub LooksTooEarly : List Event → Verb → Type 0
 LooksTooEarly past (Verb.Look p i) = length (region_log p past) ≤ i
 LooksTooEarly past _ = ⊥
 
--- each of four answers to r after the history comes exactly where it has its cause
+-- each of four answers to r after the history comes exactly if it has its cause
 pub record HasCauses (c : Config) (r : ℕ) (past : List Event) (verb : Verb)
     (answer : Answer) : Type 0 where
   pub lost : (f : Fence) → (answer ≡ Answer.Lost f) ↔ EntersAtOtherFence r past verb f

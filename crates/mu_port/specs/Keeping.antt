@@ -1,4 +1,4 @@
--- What a memory is seen as, and what a port holds of it.
+-- kept, held: a memory that tells its list, as contracts see it; and what a port holds of it.
 use Rattle.std.specs.Prelude.{List, ℕ, ◌<◌}
 use Rattle.mu_model.specs.declared.config.Config.{Config}
 use Rattle.mu_model.specs.declared.event.Event.{Event}

@@ -1,4 +1,5 @@
--- What a port tells of the events of all replicas.
+-- told list, step: the events of all replicas, which a port tells, in a legal list; and the list
+-- after a step.
 use Rattle.std.specs.Prelude.{List, None, Some, [], ℕ, ◌++◌, ◌∷◌, ◌≡◌}
 use Rattle.std.specs.declared.option.Option.{Option}
 use Rattle.mu_model.specs.declared.config.Config.{Config}
@@ -14,7 +15,7 @@ pub record IsPartOf (c : Config) (r : ℕ) (mine events : List Event) : Type 0 w
   pub legal : IsLegal c events
   pub is : part r (history events) ≡ mine
 
--- the same of the list, where one is told
+-- the same of the list, if one is told
 abbrev pub FitsTold : Config → ℕ → List Event → Option (List Event) → Type 0
 FitsTold c r mine None = Unit {0}
 FitsTold c r mine (Some events) = IsPartOf c r mine events
@@ -27,7 +28,7 @@ pub record IsStep (c : Config) (r : ℕ) (events : List Event) (after : Option (
   pub list : after ≡ Some (events ++ (record { by = r; verb = verb; answer = answer }) ∷ [])
   pub answer_is : answer ≡ answer_of c r (history events) verb
 
--- where a list is told before the step, the list after it is told too, and where none is, none is
+-- if a list is told before the step, the list after it is told too; if none is, none is
 abbrev pub Tells : Config → ℕ → Option (List Event) → Option (List Event) → Verb → Answer → Type 0
 Tells c r None after verb answer = after ≡ None
 Tells c r (Some events) after verb answer = IsStep c r events after verb answer

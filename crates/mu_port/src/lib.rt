@@ -12,8 +12,8 @@ mod port;
 pub use memory::{Memory, MemoryPort};
 pub use port::Port;
 
-/// The step of a port that tells its list finds `Lost`, `Missed`, `Past` and `Empty` exactly where
-/// each has its cause.
+/// The step of a port that tells its list finds `Lost`, `Missed`, `Past` and `Empty` each exactly
+/// if it has its cause.
 pub fn causes_of_answers()
     ensures { CausesOfAnswers }
 {}

@@ -7,8 +7,8 @@ use std::marker::Model;
 
 /// The memory of all replicas, with the list of their events.
 ///
-/// It means what it keeps: the configuration, and the list in true order. The list is legal. Who
-/// makes a memory takes room there for the budgets of all replicas, so that no call here takes any.
+/// It means what it keeps: the configuration, and the list in true order. The list is legal. Making
+/// a memory takes room for the budgets of all replicas, so that no call here takes any.
 pub trait Memory: Drop + Sized {
     ghost use Rattle.std.specs.Prelude.{List, [], ◌++◌, ◌<◌, ◌∷◌};
     ghost use Rattle.mu_model.specs.Allowed.{Allowed};

@@ -3,9 +3,9 @@ use mu_model::{Answer, Verb};
 
 /// The access of one replica to the memory of all.
 ///
-/// It means the replica's number, the configuration, the replica's part, and, where the port tells
-/// it, the list of the events of all replicas. Two values are the same port where they are of one
-/// fabric, with one configuration and one number.
+/// It means the replica's number, the configuration, the replica's part, and, if the port tells it,
+/// the list of the events of all replicas. Two values are the same port if they are of one fabric,
+/// with one configuration and one number.
 pub trait Port {
     ghost use Rattle.std.specs.Prelude.{List, ℕ, ◌∷◌, ◌≡◌};
     ghost use Rattle.std.specs.declared.option.Option.{Option};
@@ -22,7 +22,7 @@ pub trait Port {
     // the replica's own events, newest first
     ghost part: { Self → List Event };
 
-    // the events of all replicas in true order, where the port tells them
+    // the events of all replicas in true order, if the port tells them
     ghost whole: { Self → Option (List Event) };
 
     ghost same: { Self → Self → Type 0 };

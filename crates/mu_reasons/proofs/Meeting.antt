@@ -1,4 +1,4 @@
--- A verb is allowed exactly where all of its points are met.
+-- A verb is allowed exactly if all of its points are met.
 use Rattle.std.proofs.Common.{List, [], ◌++◌, ◌∷◌, ℕ, zero, suc, ◌<◌, ◌≤◌, ◌≡◌, None, Some, Bool, true, false, refl, sym, ◌∙◌, ap, subst, inl, inr, arith}
 use Rattle.std.specs.Prelude.{not, ◌&&◌, ◌||◌, ◌==◌, ◌↔◌, ◌⊎◌, ◌+◌, ◌%◌, ◌/◌, if◌then◌else◌, nat_le, nat_lt, is_some, length}
 use Rattle.std.specs.declared.option.Option.{Option}

@@ -1,4 +1,5 @@
--- What is wrong with a list of events, and where.
+-- fault, broken, explains: what is wrong with an event; where a list breaks; that a list is legal
+-- or breaks there.
 use Rattle.std.specs.Prelude.{List, None, Some, take, ◌≡◌, ◌≢◌}
 use Rattle.std.specs.declared.option.Option.{Option}
 use Rattle.std.specs.List.{slice_get}
@@ -12,8 +13,8 @@ use Rattle.mu_reasons.specs.declared.fault.Broken.{Broken}
 use Rattle.mu_reasons.specs.declared.fault.Fault.{Fault}
 use Rattle.mu_reasons.specs.Reasons.{IsReason}
 
--- what is wrong with the event after the history: the first point that its verb doesn't meet, or
--- its answer alone, where another one is defined
+-- the fault of the event after the history: the first point that its verb doesn't meet; or, if the
+-- verb meets all, its answer, if another one is defined
 abbrev pub IsFault : Config → List Event → Event → Fault → Type 0
 IsFault c past e (Fault.NotAllowed reason) = IsReason c e.by (part e.by past) e.verb reason
 IsFault c past e (Fault.WrongAnswer expected) =

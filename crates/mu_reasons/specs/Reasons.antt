@@ -1,4 +1,5 @@
--- Why a replica may not make a verb.
+-- point, met, reason: what a verb needs, as a list in a fixed order; what each point demands; the
+-- first point that isn't met.
 use Rattle.std.specs.Prelude.{Bool, List, None, Some, [], false, if◌then◌else◌, is_some, length, max, nat_le, nat_lt, not, suc, true, zero, ⊤, ℕ, ◌%◌, ◌&&◌, ◌*◌, ◌++◌, ◌+◌, ◌-◌, ◌/◌, ◌<◌, ◌==◌, ◌^◌, ◌||◌, ◌∷◌, ◌↔◌, ◌≡◌, ◌≢◌, ◌≤◌, ◌⊎◌}
 use Rattle.std.specs.declared.option.Option.{Option}
 use Rattle.std.specs.List.{AllByRecursion, slice_get}
@@ -19,7 +20,7 @@ use Rattle.mu_model.specs.Room.{last_head, reserve}
 use Rattle.mu_model.specs.Serving.{drained_since_close, has_unserved_ask, is_least_waiting, looked_since_close, must_drain}
 use Rattle.mu_reasons.specs.declared.reason.Reason.{Reason}
 
--- what r lacks by the reason: the point of what is allowed that the reason speaks of holds
+-- r doesn't lack what the reason says: the point of what is allowed that the reason speaks of holds
 abbrev pub IsMet : Config → ℕ → List Event → Reason → Type 0
 IsMet c r past (Reason.Budget steps) = length past < c.budget
 IsMet c r past (Reason.NoReplica q) = r < c.replicas
@@ -97,7 +98,7 @@ abbrev pub each_below : ℕ → (ℕ → List Reason) → List Reason
 each_below zero of_each = []
 each_below (suc n) of_each = each_below n of_each ++ of_each n
 
--- the one that was found, or n where it passes
+-- the one that was found, or n if it passes
 abbrev pub or_last : ℕ → (ℕ → Bool) → Option ℕ → Option ℕ
 or_last n test (Some found) = Some found
 or_last n test None = if test n then Some n else None
@@ -123,7 +124,7 @@ greatest_used r past =
     max (greatest (λ e. any_min_read r e.by e.verb e.answer) (leadership r past))
     (greatest (λ e. number_put r e.by e.verb) past)
 
--- the number, where it has 32 bits
+-- the number, if it has 32 bits
 abbrev pub of_32_bits : ℕ → Option ℕ
 of_32_bits n = if nat_lt n (2 ^ 32) then Some n else None
 
@@ -132,7 +133,8 @@ abbrev pub right_number : ℕ → ℕ → Option ℕ → Option ℕ
 right_number r above (Some own) = Some own
 right_number r above None = of_32_bits (least_number r above)
 
--- the word is that of the row as the job spells it, which is so many a command of its client
+-- the word is that of the row as the job spells it; client and number of the row's command are told
+-- too
 abbrev pub spelled_word : Config → ℕ → ℕ → ℕ → Reason
 spelled_word c j k x =
     Reason.OtherWord j k x (config_word c j k) (client_of c j) (number_of c j)
@@ -141,7 +143,7 @@ spelled_word c j k x =
 abbrev pub clear_members : Config → ℕ → List Reason
 clear_members c i = each_below c.replicas (λ p. Reason.PastSeen p i ∷ [])
 
--- the words of the own row j that are to be written for the value v
+-- the words of r's own row j that are to be written for the value v
 abbrev pub row_written : ℕ → ℕ → List Reason
 row_written v j = each_below 12 (λ k. Reason.NotWritten v j k ∷ [])
 
@@ -150,25 +152,26 @@ abbrev pub batch_written : Config → ℕ → List Reason
 batch_written c v =
     each_below (rest_of c (v % 4096) + 1) (λ t. row_written v (v % 4096 + t))
 
--- the words of the row of v are there, of which a head h above so many applied entries has need
+-- the words of the row of v are there: a head h above `count` applied entries needs them
 abbrev pub row_there : ℕ → ℕ → ℕ → List Reason
 row_there h count v = each_below 12 (λ k. Reason.NoRowWord h count v k ∷ [])
 
--- the rows of the entry are there, where one is known
+-- the rows of the entry are there, if one is known
 abbrev pub entry_there : Config → ℕ → ℕ → Option ℕ → List Reason
 entry_there c h count None = []
 entry_there c h count (Some v) =
     if is_batch c v then each_below (rest_of c (v % 4096) + 1) (λ t. row_there h count (v + t))
     else []
 
--- h entries are applied; where they aren't, the first that isn't lacks a word, or isn't known
+-- h entries are applied; if they aren't, the first one that isn't applied lacks a word, or isn't
+-- known
 abbrev pub applied_to : Config → ℕ → List Event → ℕ → ℕ → List Reason
 applied_to c r past h count =
     if nat_le h count then []
     else (entry_there c h count (slice_get (known c r past) count)
     ++ Reason.NotApplied h count ∷ [])
 
--- the heads of all replicas leave room for position i and for so many more
+-- the heads of all replicas leave room for position i and for `free` more
 abbrev pub rooms : Config → ℕ → List Event → ℕ → ℕ → List Reason
 rooms c r past i free =
     each_below c.replicas (λ q. Reason.NoRoom i free q (last_head r q past) ∷ [])
@@ -178,7 +181,7 @@ abbrev pub reserved_rooms : Config → ℕ → List Event → ℕ → ℕ → Li
 reserved_rooms c r past i v =
     if is_fresh_batch c r past i v then rooms c r past i (reserve c) else []
 
--- the batch v is an own one, written in full, and the next of its client
+-- the batch v is one of r's own, written in full, and the next of its client
 abbrev pub later_points : Config → ℕ → List Event → ℕ → List Reason
 later_points c r past v =
     Reason.NotOwn v
@@ -201,8 +204,8 @@ abbrev pub picks : Config → ℕ → List Event → ℕ → ℕ → Option (ℕ
 picks c r past i v (Some entry) = Reason.OtherAccepted i v entry.0 entry.1 ∷ []
 picks c r past i v None = offers c r past v
 
--- v is the value of the first put at i, and no region joined since; where none was made, all
--- members were looked at and the pick allows v
+-- v is the value of the first put at i, and no region joined since; if none was made, all members
+-- were looked at and the pick allows v
 abbrev pub proposals : Config → ℕ → List Event → ℕ → ℕ → Option ℕ → List Reason
 proposals c r past i v (Some first) = Reason.OtherFirst i v first ∷ Reason.JoinedSince i ∷ []
 proposals c r past i v None =
@@ -313,7 +316,7 @@ Finds c r past reasons (Some reason) = FailsFirst c r past reasons reason
 abbrev pub IsReason : Config → ℕ → List Event → Verb → Reason → Type 0
 IsReason c r past verb reason = FailsFirst c r past (points c r past verb) reason
 
--- a verb is allowed exactly where it meets all of its points
+-- a verb is allowed exactly if it meets all of its points
 abbrev pub MetWhereAllowed : Type 0
 MetWhereAllowed =
     (c : Config) (r : ℕ) (past : List Event) (verb : Verb)

@@ -8,8 +8,8 @@ ghost use Rattle.mu_reasons.specs.Reasons.{AreMet, AtMostOneReason, Finds, IsMet
 use mu_model::Target;
 
 /// A point of what is allowed that a verb doesn't meet, with the numbers that it speaks of. The
-/// regions, replicas, positions and values are those of the verb; what else is told is what the
-/// events of its replica so far come to.
+/// regions, replicas, positions and values are those of the verb; the other numbers are what the
+/// events of its replica come to so far.
 #[derive(Clone, Copy, Debug)]
 pub enum Reason {
     /// All steps of the budget are made.
@@ -51,7 +51,7 @@ pub enum Reason {
         /// The region.
         region: u8,
     },
-    /// The minimums of no majority with the own region were read under the noted grants.
+    /// The minimums of no majority with the replica's own region were read under the noted grants.
     Unconfirmed,
     /// The region is no member: no number was put there in the leadership.
     NotMember {
@@ -97,12 +97,12 @@ pub enum Reason {
         /// The last position of a log.
         last: usize,
     },
-    /// The region is neither the own one nor granted.
+    /// The region is neither the replica's own nor granted to it.
     NotReadable {
         /// The region.
         region: u8,
     },
-    /// No first undecided offset of the region is known in the leadership from which the ring
+    /// In the leadership no first undecided offset of the region is known from which the ring
     /// reaches the position.
     OutOfReach {
         /// The region.
@@ -110,7 +110,7 @@ pub enum Reason {
         /// The position.
         position: u16,
     },
-    /// The members are no majority with the own region.
+    /// The members are no majority with the replica's own region.
     NoQuorum,
     /// The number isn't that of the leadership.
     OtherNumber {
@@ -189,7 +189,7 @@ pub enum Reason {
         /// The position.
         position: u16,
     },
-    /// The looks show an entry, of which the one of the largest number has another value.
+    /// The looks show entries, and the one of the largest number has another value.
     OtherAccepted {
         /// The position.
         position: u16,
@@ -228,7 +228,7 @@ pub enum Reason {
         /// How many commands of the client are known.
         known: u16,
     },
-    /// Not so many positions are known.
+    /// Not that many positions are known.
     NotKnown {
         /// The offset that would be raised to.
         fuo: u16,
@@ -284,8 +284,8 @@ pub enum Reason {
         /// The value.
         value: u16,
     },
-    /// Not so many entries are applied: of the first that isn't, a word of a row is neither read
-    /// nor written.
+    /// Not that many entries are applied: a word of a row of the first one that isn't applied is
+    /// neither read nor written.
     NoRowWord {
         /// The head that would be raised to.
         head: u16,
@@ -296,14 +296,14 @@ pub enum Reason {
         /// The word.
         word: u8,
     },
-    /// Not so many entries are applied, and no more are known.
+    /// Not that many entries are applied, and no more are known.
     NotApplied {
         /// The head that would be raised to.
         head: u16,
         /// How many entries are applied.
         applied: usize,
     },
-    /// No first undecided offset of the own region that reaches the head was read or raised.
+    /// No first undecided offset of its own region that reaches the head was read or raised.
     NotReached {
         /// The head that would be raised to.
         head: u16,
@@ -340,14 +340,14 @@ pub struct Found {
 }
 
 impl Found {
-    /// No point is gone through yet.
+    /// The state in which no point was gone through yet.
     pub fn new() -> Found
         ensures { (c : Config) → (r : ℕ) → (past : List Event) → Finds c r past [] result.reason }
     {
         Found { reason: None }
     }
 
-    /// The next point: whether it holds counts only where all before it do.
+    /// The next point: whether it holds counts only if all points before it do.
     pub fn needs(self, holds: bool, reason: Reason) -> Found
         ensures { (c : Config) → (r : ℕ) → (past : List Event) → (reasons : List SomeReason)
             → Finds c r past reasons self.reason
@@ -372,7 +372,7 @@ impl Found {
     }
 }
 
-/// A verb meets all its points exactly where it is allowed.
+/// A verb meets all its points exactly if it is allowed.
 pub fn points_are_allowance()
     ensures { MetWhereAllowed }
 {}

@@ -1,4 +1,4 @@
--- An event changes the region that it reads alone, but for the first ask of a leadership.
+-- An event changes only the region that it reads; the first ask of a leadership is the exception.
 use Rattle.std.proofs.Common.{◌≡◌, ℕ, ◌/◌, ◌==◌, Bool, true, false, List, ◌∷◌, Some, refl, sym, ap, ◌∙◌, subst}
 use Rattle.mu_model.specs.declared.config.Config.{Config}
 use Rattle.mu_model.specs.declared.event.Answer.{Answer}

@@ -1,4 +1,4 @@
--- A read changes no region, and a beat the count of beats alone.
+-- A read changes no region, and a beat changes only the count of beats.
 use Rattle.std.proofs.Common.{◌≡◌, ℕ, true, List, ◌∷◌, sym}
 use Rattle.std.proofs.lemmas.Bool.{true≢false}
 use Rattle.mu_model.specs.declared.config.Config.{Config}

@@ -1,4 +1,6 @@
--- Which steps are in range, and which region a step reads.
+-- in range, region read, first ask: the replica and all that a verb names exist; the region that
+-- the step of a verb reads; an ask that begins a leadership, which is the only ask that changes
+-- other regions.
 use Rattle.std.specs.Prelude.{ℕ, Bool, false, true, ◌==◌, ◌%◌, ◌+◌, ◌/◌, ◌<◌, ◌≤◌}
 use Rattle.mu_model.specs.declared.config.Config.{Config}
 use Rattle.mu_model.specs.declared.event.Verb.{Verb}

@@ -1,4 +1,4 @@
--- When the state of the regions stands for a history.
+-- stands for (regions): the running state holds what the history makes of the regions.
 use Rattle.std.specs.Prelude.{Bool, List, Some, length, slice_index, vec_capacity, ℕ, ◌%◌, ◌*◌, ◌+◌, ◌/◌, ◌<◌, ◌≡◌, ◌≤◌}
 use Rattle.std.specs.declared.option.Option.{Option}
 use Rattle.std.specs.List.{slice_get}

@@ -128,7 +128,7 @@ pub fn note_put(log: &mut Vec<(u32, u16)>, p: u8, event: &Event)
     }
 }
 
-/// Counts the event where it asks `p`.
+/// Counts the event if it asks `p`.
 #[tactic(auto, using(crate::proofs::Counts::few_asks))]
 pub fn note_ask(asks: &mut [u64; 7], p: u8, event: &Event)
     ensures { (past : List Event) → length past < 2 ^ 20 → CountsAsks p past asks.old
@@ -142,7 +142,7 @@ pub fn note_ask(asks: &mut [u64; 7], p: u8, event: &Event)
     }
 }
 
-/// The grant that `r` notes where it sees this fence.
+/// The grant that `r` notes if it sees this fence.
 fn grant_in(fence: Fence, r: u8) -> Option<u32>
     ensures { result ≡ grant_for r (Some fence) }
 {

@@ -1,11 +1,12 @@
 //! What one region holds.
 ghost use Rattle.std.specs.List.{slice_get};
-ghost use Rattle.std.specs.Prelude.{IfOk, if◌then◌else◌, nat_lt, ◌/◌, ◌%◌, List, [], length, vec_len, ◌+◌, ◌<◌, ◌≡◌, ◌≤◌, ◌^◌, ◌∷◌, ℕ, Some};
+ghost use Rattle.std.specs.Prelude.{IfOk, if◌then◌else◌, nat_lt, ◌/◌, ◌%◌, List, [], length, vec_capacity, vec_len, ◌+◌, ◌<◌, ◌≡◌, ◌≤◌, ◌^◌, ◌∷◌, ℕ, Some};
 ghost use Rattle.mu_model.specs.declared.config.Config.{Config};
 ghost use Rattle.mu_model.specs.declared.event.Event.{Event};
 ghost use Rattle.mu_model.specs.Answers.{answer_of, drained, entered_or_lost, put_answer, shown};
 ghost use Rattle.mu_model.specs.Contents.{row_count};
 ghost use Rattle.mu_model.specs.Leaderships.{noted_grant};
+ghost use Rattle.mu_model.specs.Room.{reserve};
 ghost use Rattle.mu_model.specs.Regions.{asks, fence, region_log, row_word};
 ghost use Rattle.mu_regions.specs.Range.{InRange, IsNear, is_read_alone, read_at};
 ghost use Rattle.mu_regions.specs.Stands.{Holds};
@@ -61,6 +62,16 @@ fn is_beat(verb: &Verb) -> bool
     }
 }
 
+/// An empty log: room for an entry at each position, and no more.
+fn empty_log(alloc: Global, config: &Config) -> Result<Vec<(u32, u16)>, NoMemory>
+    requires { row_count config.now ≤ 1500 }
+    ensures empty { IfOk result (λ log. log.items ≡ []) }
+    ensures room { IfOk result (λ log. vec_capacity log
+        ≡ row_count config.now + reserve config.now + 1) }
+{
+    Vec::with_capacity(alloc, positions_in(config))
+}
+
 impl Region {
     /// The region before any event. Takes memory for its log and for the rows of its replica.
     pub fn new(alloc: Global, id: u8, config: &Config) -> Result<Region, NoMemory>
@@ -76,7 +87,7 @@ impl Region {
                 target: Target::None,
             },
             minimum: 0,
-            log: Vec::with_capacity(alloc, positions_in(config))?,
+            log: empty_log(alloc, config)?,
             fuo: 0,
             head: 0,
             beats: 0,
@@ -99,7 +110,7 @@ impl Region {
         self.take_change(event);
     }
 
-    /// Takes an event that is no read: a beat changes the count of beats alone.
+    /// Takes an event that is no read: a beat changes only the count of beats.
     fn take_change(&mut self, event: &Event)
         ensures { (c : Config) → (p : ℕ) → (past : List Event) → length past < 2 ^ 20
             → IsNear c event.now.verb → Holds c p past self.old

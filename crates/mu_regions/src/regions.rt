@@ -83,8 +83,8 @@ impl Regions {
         })
     }
 
-    /// What `by` is answered to `verb` after the history that the state stands for, on condition
-    /// that `by` and all that the verb names are there. Takes no memory.
+    /// What `by` is answered to `verb` after the history that the state stands for, if `by` and all
+    /// that the verb names exist. Takes no memory.
     pub fn answer(&self, by: u8, verb: &Verb) -> Answer
         ensures { (c : Config) → (past : List Event) → InRange c by verb.now
             → Stands c past self.now
@@ -96,8 +96,8 @@ impl Regions {
         }
     }
 
-    /// Takes the next event of the history that the state stands for, whatever it answers, on
-    /// condition that its position, row and word are there. Takes no memory.
+    /// Takes the next event of the history that the state stands for, whatever it answers, if its
+    /// position, row and word exist. Takes no memory.
     pub fn take(&mut self, event: &Event)
         ensures { (c : Config) → (past : List Event) → length past < 2 ^ 20
             → IsNear c event.now.verb

@@ -1,3 +1,4 @@
+mod AccountLines
 mod Pushes
 mod BookLines
 mod LiveLines

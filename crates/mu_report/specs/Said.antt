@@ -1,9 +1,10 @@
 -- What the program says, as text.
-use Rattle.std.specs.Prelude.{ℕ, List, [], ◌∷◌, ⊤, codes}
+use Rattle.std.specs.Prelude.{ℕ, List, [], ◌∷◌, ◌++◌, ⊤, codes}
 use Rattle.mu_input.specs.declared.job.InputEnd.{InputEnd}
 use Rattle.mu_mistakes.specs.Misreads.{HasShortLines, misread_lines, refusal_words}
 use Rattle.mu_report.specs.declared.said.Said.{Said}
-use Rattle.mu_report.specs.declared.said.Said.TheVariants.{Usage, Refused, Ran, Traced, Summed, Booked, Lived, Judged, Explained, Misread, ReadFault, NoMemory, TooLong}
+use Rattle.mu_report.specs.declared.said.Said.TheVariants.{Usage, Refused, Ran, Traced, Summed, Booked, Lived, Judged, Explained, Told, Misread, ReadFault, NoMemory, TooLong}
+use Rattle.mu_report.specs.Accounts.{account_lines}
 use Rattle.mu_report.specs.Answers.{verdict_line}
 use Rattle.mu_report.specs.Books.{book_lines}
 use Rattle.mu_report.specs.Lives.{lived_lines, HasShortSights}
@@ -16,8 +17,9 @@ use Rattle.mu_report.specs.Trace.{trace_lines, IsCountable}
 -- what is said, as lines without their ends
 abbrev pub lines_of : Said → List (List ℕ)
 lines_of Usage =
-    codes
-    "usage: mu replay, mu run, mu check, mu why, mu trace, mu bulk N, mu live K, mu desk, mu book"
+    (codes
+    "usage: mu replay, mu run, mu check, mu why, mu tell, mu trace, mu bulk N, mu live K, "
+    ++ codes "mu desk, mu book")
     ∷ []
 lines_of (Refused line cause) = refusal_words line cause ∷ []
 lines_of (Ran o) = report_lines o
@@ -27,6 +29,7 @@ lines_of (Booked o book) = book_lines o book
 lines_of (Lived o lived) = lived_lines o lived.sights
 lines_of (Judged events verdict) = verdict_line events verdict ∷ []
 lines_of (Explained events line broken) = explained_lines events line broken
+lines_of (Told account) = account_lines account
 lines_of (Misread misread) = misread_lines misread
 lines_of ReadFault = codes "read fault" ∷ []
 lines_of NoMemory = codes "no memory" ∷ []
@@ -53,6 +56,7 @@ IsShort (Booked o book) = ⊤
 IsShort (Lived o lived) = HasShortLists o × HasShortSights lived.sights
 IsShort (Judged events verdict) = ⊤
 IsShort (Explained events line broken) = ⊤
+IsShort (Told account) = HasShortLists account.outcome
 IsShort (Misread misread) = HasShortLines misread
 IsShort ReadFault = ⊤
 IsShort NoMemory = ⊤

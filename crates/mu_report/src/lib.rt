@@ -2,6 +2,7 @@
 //! sink, and the events of a trace page by page.
 #![tactic(auto)]
 
+mod accounts;
 mod answers;
 mod book;
 mod line;

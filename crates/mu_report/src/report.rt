@@ -102,7 +102,7 @@ fn print_log<K: Sink>(
 }
 
 /// Writes the commands of all entries of a log.
-fn print_entries<K: Sink>(
+pub fn print_entries<K: Sink>(
     sink: &mut K,
     taken: usize,
     job: &Job,
@@ -184,7 +184,7 @@ fn print_commands<K: Sink>(
 }
 
 /// Writes the replies to the commands of the longest log.
-fn print_replies<K: Sink>(
+pub fn print_replies<K: Sink>(
     sink: &mut K,
     taken: usize,
     outcome: &Outcome,
@@ -307,7 +307,7 @@ fn answer_line(command: &Command, reply: &Reply) -> Line
 }
 
 /// What a replica applied, and nothing where there is no such replica.
-fn log_at(outcome: &Outcome, replica: u8) -> &[u16]
+pub fn log_at(outcome: &Outcome, replica: u8) -> &[u16]
     ensures { result.now ≡ log_of outcome.now replica }
 {
     match outcome.logs.as_slice().get(usize::from(replica)) {
@@ -317,7 +317,7 @@ fn log_at(outcome: &Outcome, replica: u8) -> &[u16]
 }
 
 /// How many entries a replica committed, and 0 where there is no such replica.
-fn commit_count(outcome: &Outcome, replica: u8) -> usize
+pub fn commit_count(outcome: &Outcome, replica: u8) -> usize
     ensures { result ≡ length (commits_of outcome.now replica) }
 {
     match outcome.commits.as_slice().get(usize::from(replica)) {

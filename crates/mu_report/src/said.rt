@@ -5,6 +5,7 @@ ghost use Rattle.mu_io.specs.Faults.{Rose};
 ghost use Rattle.mu_report.specs.Printing.{PrintsAll, PrintsPart};
 ghost use Rattle.mu_report.specs.Said.{text, lines_of, said_of_end, IsShort};
 
+use crate::accounts::print_account;
 use crate::answers::verdict_line;
 use crate::book::print_book;
 use crate::line::{print_line, print_words};
@@ -20,11 +21,13 @@ use mu_io::{Sink, WriteFault};
 use mu_mistakes::Misread;
 use mu_outcome::{Outcome, Verdict};
 use mu_reasons::Broken;
+use mu_telling::Account;
 use snap_reads::Lived;
 
 /// How the program is called.
 const USAGE: &[u8] =
-    b"usage: mu replay, mu run, mu check, mu why, mu trace, mu bulk N, mu live K, mu desk, mu book";
+    b"usage: mu replay, mu run, mu check, mu why, mu tell, mu trace, mu bulk N, mu live K, \
+    mu desk, mu book";
 
 /// What the program says at its end.
 pub enum Said {
@@ -63,6 +66,8 @@ pub enum Said {
         /// The first event that breaks the list, if there is one.
         broken: Option<Broken>,
     },
+    /// What a legal list of events comes to.
+    Told(Account),
     /// Where the input leaves the grammar and why, in words.
     Misread(Misread),
     /// The input couldn't be read.
@@ -94,6 +99,7 @@ impl Drop for Said {
                 line: _,
                 broken: _,
             } => {}
+            Said::Told(account) => let_account_go(account),
             Said::Misread(_) => {}
             Said::ReadFault => {}
             Said::NoMemory => {}
@@ -104,6 +110,9 @@ impl Drop for Said {
 
 /// Lets an outcome go.
 fn let_go(_outcome: Outcome) {}
+
+/// Lets an account go.
+fn let_account_go(_account: Account) {}
 
 impl From<InputEnd> for Said {
     ghost from_gives = { λ end said. said ≡ said_of_end end };
@@ -180,6 +189,7 @@ fn print_said<K: Sink>(sink: &mut K, said: &Said) -> Result<usize, WriteFault>
             line,
             broken,
         } => print_explained(sink, *events, *line, broken),
+        Said::Told(account) => print_account(sink, account),
         Said::Misread(misread) => print_misread(sink, misread),
         Said::ReadFault => print_words(sink, 0, b"read fault"),
         Said::NoMemory => print_words(sink, 0, b"no memory"),

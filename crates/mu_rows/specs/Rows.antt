@@ -1,4 +1,4 @@
--- How a row of twelve words spells a command.
+-- row of a command: the twelve words that spell a command, and what a request must be to have them.
 use Rattle.std.specs.Prelude.{ℕ, ◌+◌, ◌-◌, ◌*◌, List, [], ◌∷◌, length, take, drop, nat_lt, if◌then◌else◌}
 use Rattle.kv_store.specs.Commands.{Request, IsAllowed, key_of}
 use Rattle.kv_store.specs.Words.{IsKey, IsText}

@@ -1,10 +1,11 @@
--- What the words of a row say of the operation that they spell.
+-- clear, says an operation: words that are zero past their first bytes; what the words of a row say
+-- of its operation, field by field.
 use Rattle.std.specs.Prelude.{ℕ, ◌≡◌, ◌+◌, ◌-◌, ◌*◌, ◌/◌, ◌%◌, ◌<◌, ◌^◌, List, length, slice_index}
 use Rattle.kv_store.specs.Commands.{key_of}
 use Rattle.kv_store.specs.declared.command.Op.{Op}
 use Rattle.mu_rows.specs.Rows.{word_of, code_of, first_text, second_text, text_word, HasWords}
 
--- past their first so many bytes, which stand eight to a word, words have zeros alone
+-- past the first `len` bytes, of which eight stand in a word, words have only zeros
 abbrev pub AreClear : List ℕ → ℕ → Type 0
 AreClear words len = (j : ℕ) → j < length words → len - 8 * j < 8
     → slice_index words j / 2 ^ (8 * (len - 8 * j)) ≡ 0

@@ -1,10 +1,10 @@
--- The lines of a file, and the words of a line.
+-- lines, words: how bytes are cut into lines, and a line into words.
 use Rattle.std.specs.Prelude.{ℕ, Bool, false, if◌then◌else◌, ◌==◌, List, [], ◌∷◌, ◌++◌}
 use Rattle.std.specs.Str.{bytes_eq}
 use Rattle.std.specs.List.{slice_split, onto_first}
 use Rattle.mu_text.specs.declared.TheConstants.{LINE_FEED, SPACE}
 
--- the lines: each ends by a line feed, which the last may lack
+-- the lines: each ends with a line feed, which the last may lack
 abbrev pub lines : List ℕ → List (List ℕ)
 lines [] = []
 lines (byte ∷ bytes) = if byte == LINE_FEED then [] ∷ lines bytes else onto_first byte (lines bytes)

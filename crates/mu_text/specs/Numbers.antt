@@ -1,4 +1,4 @@
--- Numbers in decimal.
+-- numbers: which bytes spell a number in decimal, and the digits of a number.
 use Rattle.std.specs.Prelude.{ℕ, ◌+◌, ◌-◌, ◌*◌, ◌^◌, Bool, false, not, if◌then◌else◌, ◌&&◌, ◌==◌, nat_le, nat_lt, List, [], ◌∷◌, length, None, Some}
 use Rattle.std.specs.declared.option.Option.{Option}
 use Rattle.std.specs.List.{list_all}
@@ -8,7 +8,7 @@ use Rattle.mu_text.specs.declared.TheConstants.{ZERO, NINE, MOST_DIGITS, MOST_WI
 abbrev pub is_digit : ℕ → Bool
 is_digit byte = nat_le ZERO byte && nat_le byte NINE
 
--- what digits are worth, the first ten times what it is worth in the place after it
+-- the value of digits: each counts ten times as much as it would in the next place
 abbrev pub value_of : List ℕ → ℕ
 value_of [] = 0
 value_of (digit ∷ digits) = (digit - ZERO) * 10 ^ length digits + value_of digits
@@ -33,18 +33,18 @@ number_of word = if is_decimal MOST_DIGITS word then Some (value_of word) else N
 abbrev pub wide_number_of : List ℕ → Option ℕ
 wide_number_of word = if is_decimal MOST_WIDE_DIGITS word then Some (value_of word) else None
 
--- the number, where there is one from `low` to `high`
+-- the number, if there is one, from `low` to `high`
 abbrev pub within : ℕ → ℕ → Option ℕ → Option ℕ
 within low high None = None
 within low high (Some number) =
     if nat_le low number && nat_le number high then Some number else None
 
--- the number, where there is one below the limit
+-- the number, if there is one, below the limit
 abbrev pub below : ℕ → Option ℕ → Option ℕ
 below limit None = None
 below limit (Some number) = if nat_lt number limit then Some number else None
 
--- the number of so many bits that a word of an event spells
+-- the number of 8 (16, 32, 64) bits that a word of an event spells
 abbrev pub of_8 : List ℕ → Option ℕ
 of_8 word = below (2 ^ 8) (wide_number_of word)
 

@@ -36,7 +36,7 @@ pub const MOST_WIDE_DIGITS: usize = 20;
 /// One more than the most words of a line of a job or of an event list.
 pub const MANY_WORDS: usize = 14;
 
-/// Each byte and each limit is this number.
+/// Each byte and each limit is the number that is stated here.
 pub fn limits_are_stated()
     ensures bytes { (LINE_FEED ≡ 10) × (SPACE ≡ 32) × (ZERO ≡ 48) × (NINE ≡ 57) }
     ensures limits { (MOST_DIGITS ≡ 7) × (MOST_WIDE_DIGITS ≡ 20) × (MANY_WORDS ≡ 14)

@@ -5,7 +5,7 @@ ghost use Rattle.mu_text.specs.Lines.{lines, words};
 use crate::{LINE_FEED, SPACE};
 use memchr::memchr;
 
-/// Where the first space stands, if there is one.
+/// The place of the first space, if there is one.
 #[tactic(auto, using(crate::proofs::Places::byte_place))]
 fn word_end(line: &[u8]) -> Option<usize>
     ensures { result ≡ position (λ byte. byte == SPACE) line.now }
@@ -18,7 +18,7 @@ fn word_end(line: &[u8]) -> Option<usize>
     None
 }
 
-/// Where the first line feed stands, if there is one.
+/// The place of the first line feed, if there is one.
 #[tactic(auto, using(crate::proofs::Places::byte_place))]
 fn line_end(bytes: &[u8]) -> Option<usize>
     ensures { result ≡ position (λ byte. byte == LINE_FEED) bytes.now }
@@ -26,7 +26,7 @@ fn line_end(bytes: &[u8]) -> Option<usize>
     memchr(LINE_FEED, bytes)
 }
 
-/// The first line, without its line feed, and the bytes after it. `None` where there is no line.
+/// The first line, without its line feed, and the bytes after it. `None` if there is no line.
 pub fn next_line(bytes: &[u8]) -> Option<(&[u8], &[u8])>
     ensures lines { MatchOption result (lines bytes.now ≡ [])
         (λ r. lines bytes.now ≡ r.0.now ∷ lines r.1.now) }

@@ -13,7 +13,7 @@ use std::rt::Env;
 ///
 /// # Errors
 ///
-/// `InvalidData` where a word is no text, and another kind for want of memory.
+/// `InvalidData` if a word is no text, and another kind for want of memory.
 fn words_after_name<R: Env + AllocGlobal>(rt: &R) -> Result<Vec<String>, ErrorKind> {
     let args = env::args(rt).map_err(|error| error.kind())?;
     let mut words = Vec::new(rt.alloc());

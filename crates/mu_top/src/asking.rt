@@ -33,6 +33,8 @@ pub enum Task {
     Check,
     /// `why`: judge a trace, and tell where it breaks and why.
     Why,
+    /// `tell`: judge a trace, and report what its events come to.
+    Tell,
     /// `desk`: run a job in turns whose commands come from clients that send at once.
     Desk,
     /// `book`: run a job in turns, and tell the book of orders after its commands.
@@ -62,6 +64,7 @@ impl Task {
             Task::Trace => INPUT_LIMIT,
             Task::Check => TRACE_LIMIT,
             Task::Why => TRACE_LIMIT,
+            Task::Tell => TRACE_LIMIT,
             Task::Desk => INPUT_LIMIT,
             Task::Book => INPUT_LIMIT,
             Task::Live(_) => INPUT_LIMIT,
@@ -118,6 +121,8 @@ fn named_task(word: &[u8]) -> Option<Task>
         Some(Task::Check)
     } else if word == b"why".as_slice() {
         Some(Task::Why)
+    } else if word == b"tell".as_slice() {
+        Some(Task::Tell)
     } else if word == b"desk".as_slice() {
         Some(Task::Desk)
     } else if word == b"book".as_slice() {

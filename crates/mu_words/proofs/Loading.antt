@@ -1,4 +1,4 @@
--- While a host drains, the word that it looked at stands exactly where nothing changed it since.
+-- While a host drains, the word that it looked at stands exactly if nothing changed it since.
 use Rattle.std.proofs.Common.{◌≡◌, ℕ, ◌+◌, ◌*◌, ◌%◌, Bool, true, false, cond, ◌&&◌, not, ◌==◌, List, [], ◌∷◌, refl, sym, ◌∙◌, ap, arith, Some, None, subst, eqb-true, true≢false}
 use Rattle.std.specs.declared.option.Option.{Option}
 use Rattle.std.proofs.lemmas.Bool.{and_parts, eqb-false}

@@ -1,5 +1,6 @@
--- On which word a replica makes a step, which words its loads found, and the word that its next
--- exchange expects.
+-- name of a step, sight, kept word, expected word: the word on which a replica makes a step; its
+-- events, each with the word that its load found; the word as the replica saw or put it last, and
+-- at its last `Enter`; the word that its next exchange expects.
 use Rattle.std.specs.Prelude.{Bool, List, None, Some, [], false, if◌then◌else◌, true, ℕ, ◌%◌, ◌&&◌, ◌*◌, ◌+◌, ◌/◌, ◌==◌, ◌∷◌}
 use Rattle.std.specs.declared.option.Option.{Option}
 use Rattle.mu_model.specs.declared.config.Config.{Config}
@@ -20,7 +21,7 @@ target_name p Target.None = Name.Min p
 target_name p Target.Min = Name.Min p
 target_name p (Target.Place s) = Name.Slot p s
 
--- the word on which r makes a step, where its last `Close` found the target
+-- the word on which r makes a step, if its last `Close` found the target
 abbrev pub name_at : ℕ → ℕ → Target → Verb → Name
 name_at ring r target (Verb.Ask p) = Name.Ask p r
 name_at ring r target (Verb.Fence p) = Name.Fence p
@@ -60,15 +61,15 @@ is_load (Verb.ReadAsk w) = true
 is_load Verb.LookTarget = true
 is_load _ = false
 
--- the word w, where the step is a load that finds it, else 0
+-- the word w, if the step is a load that finds it, else 0
 abbrev pub loaded_by : Verb → ℕ → ℕ
 loaded_by v w = if is_load v then w else 0
 
--- the word that the step of r finds after the history, where it is a load, else 0
+-- the word that the step of r finds after the history, if it is a load, else 0
 abbrev pub found_word : Config → ℕ → List Event → Verb → ℕ
 found_word c r past v = loaded_by v (standing_word c past (name_of c r (part r past) v))
 
--- the own events, each beside the word that its load found
+-- the replica's events, each with the word that its load found
 abbrev pub sights : Config → ℕ → List Event → List (Event × ℕ)
 sights c r [] = []
 sights c r (e ∷ past) =
@@ -117,13 +118,13 @@ target_told r p by _ _ = None
 abbrev pub known_target : ℕ → ℕ → List Event → Target
 known_target r p mine = or_no_target (newest (λ e. target_told r p e.by e.verb e.answer) mine)
 
--- the word of an open fence of r with the grant and the target; 0, which never stands, where no
--- grant is noted
+-- the word of an open fence of r with the grant and the target; 0, which never stands, if no grant
+-- is noted
 abbrev pub open_word : ℕ → Target → Option ℕ → ℕ
 open_word r t None = 0
 open_word r t (Some g) = fence_bits g false (Some r) t
 
--- the word that the next step of r expects, where it is an exchange, else 0
+-- the word that the next step of r expects, if it is an exchange, else 0
 abbrev pub expected : Config → ℕ → List Event → List (Event × ℕ) → Verb → ℕ
 expected c r mine seen (Verb.Enter p t) = open_word r (known_target r p mine) (noted_grant r p mine)
 expected c r mine seen (Verb.PutMin p b) = (kept c p Target.Min seen).1

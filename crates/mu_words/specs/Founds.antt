@@ -1,4 +1,5 @@
--- What a replica keeps of the words that it found.
+-- found, prepared, notes: what a replica keeps of the words that it found; what a step needs of the
+-- replica's own events; what one more event makes of it.
 use Rattle.std.specs.Prelude.{List, None, Some, if◌then◌else◌, ℕ, ◌%◌, ◌*◌, ◌+◌, ◌<◌, ◌==◌, ◌∷◌, ◌≡◌}
 use Rattle.std.specs.declared.option.Option.{Option}
 use Rattle.std.specs.List.{slice_get}
@@ -19,17 +20,17 @@ abbrev pub entered_for : ℕ → Verb → Option Target
 entered_for p (Verb.Enter q t) = if q == p then Some t else None
 entered_for p _ = None
 
--- the target of the last `Enter` at p among the own events
+-- the target of the last `Enter` at p among the replica's events
 abbrev pub last_entered : ℕ → List Event → Option Target
 last_entered p mine = newest (λ e. entered_for p e.verb) mine
 
--- the word that the last `Enter` at p, where it was for the target, fixed for the put; 0 where
--- there was none
+-- the word that the last `Enter` at p, if it was for the target, fixed for the put; 0 if there was
+-- none
 abbrev pub fixed_word : Config → ℕ → Option Target → List (Event × ℕ) → ℕ
 fixed_word c p None seen = 0
 fixed_word c p (Some t) seen = (kept c p t seen).1
 
--- what is kept stands for the own events of r and for the words that its loads found
+-- what is kept stands for the events of r and for the words that its loads found
 pub record FoundIs (c : Config) (r : ℕ) (f : Found) (mine : List Event)
     (seen : List (Event × ℕ)) : Type 0 where
   pub ring : f.ring ≡ c.ring
@@ -47,7 +48,7 @@ pub record FoundIs (c : Config) (r : ℕ) (f : Found) (mine : List Event)
   pub close_target : f.close_target ≡ close_target r mine
   pub close_grant : f.close_grant ≡ close_grant r mine
 
--- the place that the target names, where it names one, is in the ring
+-- the place that the target names, if it names one, is in the ring
 abbrev pub IsInRing : ℕ → Target → Type 0
 IsInRing ring (Target.Place s) = s < ring
 IsInRing ring _ = Unit {0}
@@ -67,12 +68,12 @@ AllowedArePrepared =
     (c : Config) (r : ℕ) (past : List Event) (v : Verb) → Allowed c r (part r past) v
     → IsPrepared c (part r past) v
 
--- the event of r beside the word that its step found, where that was a load
+-- the event of r with the word that its step found, if that was a load
 abbrev pub sight : ℕ → Verb → Answer → ℕ → Event × ℕ
 sight r v a w = (record { by = r; verb = v; answer = a }, loaded_by v w)
 
--- where what was kept stood for r's own events before the step, what is kept now stands for them
--- with its event
+-- if what was kept stood for r's own events before the step, what is kept now stands for them with
+-- its event
 abbrev pub Notes : ℕ → Verb → Answer → ℕ → Found → Found → Type 0
 Notes r v a w old new =
     (c : Config) (mine : List Event) (seen : List (Event × ℕ)) → FoundIs c r old mine seen

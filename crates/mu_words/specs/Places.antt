@@ -1,6 +1,7 @@
--- Where each word stands in the list of all words: the regions in order, and after them the rows.
--- The words of a region are its fence, minimum, FUO, head, beat, an ask for each replica, and the
--- slots of the ring.
+-- name, place, layout: what a word holds, and where it stands in the list of all words.
+--
+-- First come the regions in order, then the rows. The words of a region are its fence, minimum,
+-- FUO, head, beat, an ask for each replica, and the slots of the ring.
 use Rattle.std.specs.Prelude.{ℕ, ◌*◌, ◌+◌, ◌<◌, ◌≡◌}
 use Rattle.mu_model.specs.declared.config.Config.{Config}
 use Rattle.mu_model.specs.Contents.{row_count}
@@ -11,15 +12,15 @@ use Rattle.mu_words.specs.declared.layout.Name.{Name}
 abbrev pub region_size : Layout → ℕ
 region_size l = 5 + l.replicas + l.ring
 
--- where region p begins
+-- the place at which region p begins
 abbrev pub region_start : Layout → ℕ → ℕ
 region_start l p = p * region_size l
 
--- where the rows begin
+-- the place at which the rows begin
 abbrev pub rows_start : Layout → ℕ
 rows_start l = l.replicas * region_size l
 
--- where the word of this name stands
+-- the place of the word of this name
 abbrev pub place_of : Layout → Name → ℕ
 place_of l (Name.Fence p) = region_start l p
 place_of l (Name.Min p) = region_start l p + 1

@@ -1,4 +1,5 @@
--- Which word stands under each name after a history.
+-- standing word, stamp, content: the word under a name after a history; how many drains took it,
+-- and its fields below that.
 use Rattle.std.specs.Prelude.{Bool, List, None, Some, [], false, if◌then◌else◌, length, not, suc, true, zero, ℕ, ◌%◌, ◌&&◌, ◌*◌, ◌+◌, ◌/◌, ◌==◌, ◌∷◌}
 use Rattle.std.specs.declared.option.Option.{Option}
 use Rattle.std.specs.List.{slice_get}
@@ -18,7 +19,7 @@ use Rattle.mu_words.specs.Words.{fence_bits}
 abbrev pub fields : ℕ → ℕ → ℕ → ℕ → ℕ
 fields ring i b v = i / ring * 274877906944 + b * 32768 + v
 
--- the same of an entry, where there is one
+-- the same of an entry, if there is one
 abbrev pub entry_fields : ℕ → ℕ → Option (ℕ × ℕ) → ℕ
 entry_fields ring i None = 0
 entry_fields ring i (Some entry) = fields ring i entry.0 entry.1
@@ -45,8 +46,7 @@ is_same_target Target.Min Target.Min = true
 is_same_target (Target.Place s) (Target.Place t) = s == t
 is_same_target _ _ = false
 
--- what a put that lands leaves below the stamp of the word that t names at p, where it is of this
--- word
+-- what a put that lands leaves below the stamp of the word that t names at p, if it is of this word
 abbrev pub leaves : Config → ℕ → Target → Verb → Answer → Option ℕ
 leaves c p t (Verb.PutMin q b) Answer.Done =
     if (q == p) && is_same_target t Target.Min then Some b else None
@@ -60,7 +60,7 @@ abbrev pub is_unlike : Option ℕ → ℕ → Bool
 is_unlike None x = false
 is_unlike (Some y) x = not (y == x)
 
--- the target of the fence, where there is one
+-- the target of the fence, if there is one
 abbrev pub named_target : Option Fence → Target
 named_target None = Target.None
 named_target (Some f) = f.target
@@ -69,7 +69,7 @@ named_target (Some f) = f.target
 abbrev pub close_target : ℕ → List Event → Target
 close_target p past = named_target (newest (λ e. close_seen p e.by e.verb e.answer) past)
 
--- the grant of the fence, where there is one, else 0
+-- the grant of the fence, if there is one, else 0
 abbrev pub named_grant : Option Fence → ℕ
 named_grant None = 0
 named_grant (Some f) = f.grant
@@ -78,7 +78,7 @@ named_grant (Some f) = f.grant
 abbrev pub close_grant : ℕ → List Event → ℕ
 close_grant p past = named_grant (newest (λ e. close_seen p e.by e.verb e.answer) past)
 
--- since the last `LookTarget` of p, or ever where there is none, a put landed that changed the word
+-- since the last `LookTarget` of p, or ever if there is none, a put landed that changed the word
 -- which the last `Close` names; one that leaves what stood there changes nothing
 abbrev pub changed_since_look : Config → ℕ → List Event → Bool
 changed_since_look c p [] = false

@@ -1,4 +1,5 @@
--- Words that stand for a list of events, in true order, and one step on them.
+-- stands (words), one list, steps on, table forms: words stand for a list of events; only one list
+-- of words does; a step on them; and the same step as an exchange, a fetch-or or a swap of a table.
 use Rattle.std.specs.Prelude.{List, Some, [], bit_or, if◌then◌else◌, length, slice_index, true, ℕ, ◌++◌, ◌/◌, ◌<◌, ◌==◌, ◌∷◌, ◌≡◌}
 use Rattle.std.specs.List.{slice_get}
 use Rattle.mu_model.specs.declared.config.Config.{Config}
@@ -32,7 +33,7 @@ set_word words i w j = if j == i then w else words j
 abbrev pub step_name : Config → List Event → ℕ → Verb → Name
 step_name c events r v = name_of c r (part r (history events)) v
 
--- the word that r expects there, where the step is an exchange, else 0
+-- the word that r expects there, if the step is an exchange, else 0
 abbrev pub step_expects : Config → List Event → ℕ → Verb → ℕ
 step_expects c events r v = expected c r (part r (history events)) (sights c r (history events)) v
 
@@ -88,7 +89,7 @@ OneListStands = (c : Config) (l : Layout) (events : List Event) → HasOneList c
 
 -- a step that is an exchange, a `Close` or a `Grant` in the form of one step of a table: an
 -- exchange of the expected word by one made from it, a fetch-or, and a swap by a word made from the
--- own events
+-- replica's events
 pub record TableForms (c : Config) (r : ℕ) (past : List Event) : Type 0 where
   pub exchange :
       (v : Verb) (x w : ℕ) → is_exchange v ≡ true

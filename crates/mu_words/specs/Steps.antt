@@ -1,4 +1,5 @@
--- What a step does to one word, what is read off that word, and the law of word steps.
+-- word after, answer from, law of word steps: what a step makes of the word that it finds; the
+-- answer that it reads off that word; and that both are what the history says.
 use Rattle.std.specs.Prelude.{Bool, List, false, if◌then◌else◌, max, nat_lt, true, ℕ, ◌%◌, ◌&&◌, ◌*◌, ◌+◌, ◌/◌, ◌<◌, ◌==◌, ◌∷◌, ◌≡◌, ◌≢◌}
 use Rattle.mu_model.specs.declared.config.Config.{Config}
 use Rattle.mu_model.specs.declared.event.Answer.{Answer}
@@ -24,7 +25,7 @@ slot_answer ring i w =
     then Answer.Entry (w / 32768 % 8388608) (w % 32768)
     else Answer.Empty
 
--- the answer of a step that expects the word x, where it is an exchange, and finds w
+-- the answer of a step that expects the word x, if it is an exchange, and finds w
 abbrev pub answer_from : ℕ → Verb → ℕ → ℕ → Answer
 answer_from ring (Verb.Fence p) x w = Answer.Seen (fence_in w)
 answer_from ring (Verb.Min p) x w = Answer.Number (w % 8388608)
@@ -72,7 +73,7 @@ is_exchange (Verb.PutSlot p i b v) = true
 is_exchange Verb.Drain = true
 is_exchange _ = false
 
--- the word that an exchange leaves where it takes: made from the word that it expects
+-- the word that an exchange leaves if it takes: made from the word that it expects
 abbrev pub exchanged : ℕ → Verb → ℕ → ℕ
 exchanged ring (Verb.Enter p t) x = with_target x t
 exchanged ring (Verb.PutMin p b) x = with_content x b

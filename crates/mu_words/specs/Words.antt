@@ -1,6 +1,9 @@
--- The numbers that pack the fields of words, and the fields that a number shows. From the top bit a
--- slot word has stamp 17, lap 9, proposal 23 and payload 15 bits; a minimum word stamp 17, 24 that
--- are 0, and proposal 23; a fence word 32 that are 0, grant 17, closing 1, owner 3 and target 11.
+-- packed words: the number that packs the fields of a slot, a minimum or a fence, and the fields
+-- that a number shows.
+--
+-- From the top bit a slot word has stamp 17, lap 9, proposal 23 and payload 15 bits; a minimum word
+-- stamp 17, 24 that are 0, and proposal 23; a fence word 32 that are 0, grant 17, closing 1, owner
+-- 3 and target 11.
 use Rattle.std.specs.Prelude.{Bool, None, Some, false, if◌then◌else◌, suc, true, zero, ℕ, ◌%◌, ◌*◌, ◌+◌, ◌/◌, ◌<◌, ◌==◌}
 use Rattle.std.specs.declared.option.Option.{Option}
 use Rattle.mu_model.specs.declared.event.Fence.{Fence}
@@ -75,7 +78,7 @@ abbrev pub OwnerFits : Option ℕ → Type 0
 OwnerFits None = Unit {0}
 OwnerFits (Some w) = w < 7
 
--- the place that the target names, where it names one, has a number in a fence word
+-- the place that the target names, if it names one, has a number in a fence word
 abbrev pub TargetFits : Target → Type 0
 TargetFits (Target.Place s) = s < 2046
 TargetFits _ = Unit {0}

@@ -58,7 +58,7 @@ fn open_word(id: u8, target: Target, grant: u32) -> u64
     u64::from(grant) * GRANT + u64::from(id) * OWNER + target_code(target)
 }
 
-/// Sets one item, where there is one at the place.
+/// Sets one item, if there is one at the place.
 fn put_at<T: Copy>(items: &mut [T], at: usize, item: T)
     ensures { items.new ≡ set items.old at item }
 {
@@ -78,7 +78,8 @@ fn word_at(words: &[u64], at: usize) -> u64
 }
 
 impl Found {
-    /// Room for the words of a configuration, and nothing found yet. Takes memory once.
+    /// The state before anything was found, with room for the words of a configuration. Takes
+    /// memory once.
     pub fn with_room(alloc: Global, config: &Config) -> Result<Found, NoMemory>
         requires { IsConfig config.now }
         ensures { IfOk result (λ f. (r : ℕ) → FoundIs config.now r f [] []) }
@@ -112,7 +113,7 @@ impl Found {
         self.close_grant
     }
 
-    /// The word that the next step of the replica `id` expects, 0 where it is no exchange.
+    /// The word that the next step of the replica `id` expects: 0 if it is no exchange.
     pub fn expected(&self, id: u8, verb: &Verb) -> u64
         ensures { (c : Config) (mine : List Event) (seen : List (Event × ℕ))
             → FoundIs c id self.now mine seen → IsPrepared c mine verb.now
@@ -179,7 +180,7 @@ impl Found {
         }
     }
 
-    /// The word of the fence of a region as it was noted, 0 where it wasn't.
+    /// The word of the fence of a region as it was noted, 0 if it wasn't.
     fn noted_word(&self, id: u8, p: usize) -> u64
         ensures { (n : Option ℕ) (t : Target) → slice_get self.now.noted p ≡ Some n
             → slice_get self.now.targets p ≡ Some t → result ≡ open_word id t n }
@@ -190,7 +191,7 @@ impl Found {
         }
     }
 
-    /// Where the slot at a place of a region is kept.
+    /// The place at which the slot at a place of a region is kept.
     fn place_of(&self, p: u8, place: u16) -> usize
         ensures { result ≡ p * self.now.ring + place }
     {
@@ -258,7 +259,7 @@ impl Found {
         }
     }
 
-    /// Takes a put of a minimum: where it landed, its word is the one that was seen last.
+    /// Takes a put of a minimum: if it landed, its word is the one that was seen last.
     fn note_put_min(&mut self, p: u8, number: u32, answer: &Answer)
         ensures { (r w : ℕ) → Notes r (Verb.PutMin p number) answer.now w self.old self.new }
     {

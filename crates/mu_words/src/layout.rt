@@ -1,4 +1,4 @@
-//! Where each word stands.
+//! The places of all words.
 ghost use Rattle.std.specs.Prelude.{◌%◌, ◌*◌, ◌/◌, ◌<◌, ◌≡◌, ◌≤◌};
 ghost use Rattle.mu_model.specs.Contents.{row_count};
 ghost use Rattle.mu_words.specs.Finding.{name_at};
@@ -20,15 +20,15 @@ pub enum Name {
     Head(u8),
     /// How often a replica has beaten.
     Beat(u8),
-    /// How often a region was asked by a replica.
+    /// How often a region was asked for by a replica: the region, and the replica.
     Ask(u8, u8),
-    /// In the ring of a region, the slot at a place.
+    /// A slot in the ring of a region: the region, and the place.
     Slot(u8, u16),
-    /// Of a replica, in a row, a word.
+    /// A word of a row of a replica: the replica, the row and the word.
     Row(u8, u16, u8),
 }
 
-/// Where the words of a configuration stand in one list: the regions in order, then the rows.
+/// The places of the words of a configuration in one list: the regions in order, then the rows.
 #[derive(Clone, Copy, Debug, PartialEq, Eq)]
 pub struct Layout {
     /// How many replicas there are.
@@ -99,7 +99,7 @@ impl Layout {
         self.region_start(p) + 4
     }
 
-    /// The place of the word in which `w` asks for the region `p`.
+    /// The place of the word by which `w` asks for the region `p`.
     pub fn ask_of(&self, p: u8, w: u8) -> usize
         requires { IsName self.now (Name.Ask p w) }
         ensures { result ≡ place_of self.now (Name.Ask p w) }
@@ -142,7 +142,7 @@ impl Layout {
         }
     }
 
-    /// The word on which the replica `id` makes the step, where its last `Close` found the target.
+    /// The word on which the replica `id` makes the step, if its last `Close` found the target.
     pub fn name_of(&self, id: u8, target: Target, verb: &Verb) -> Name
         requires { 0 < self.now.ring }
         ensures { result ≡ name_at self.now.ring id target verb.now }
@@ -171,7 +171,7 @@ impl Layout {
         }
     }
 
-    /// Where a region begins.
+    /// The place at which a region begins.
     fn region_start(&self, p: u8) -> usize
         requires { p ≤ self.now.replicas }
         ensures start { result ≡ region_start self.now p }
@@ -180,7 +180,7 @@ impl Layout {
         usize::from(p) * (5 + usize::from(self.replicas) + usize::from(self.ring))
     }
 
-    /// Where the rows begin.
+    /// The place at which the rows begin.
     fn rows_start(&self) -> usize
         ensures start { result ≡ rows_start self.now }
         ensures small { result ≤ 255 * 65795 }

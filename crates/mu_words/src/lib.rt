@@ -1,5 +1,5 @@
 //! The words of shared memory: how fields are packed, where each word stands, what one step does to
-//! one word, and what a replica keeps of the words that it found.
+//! one word and what a replica keeps of the words that it found.
 //!
 //! `mu_model` answers a step by the list of all events. Here the same answers come from one word,
 //! and each step changes one word: `word_steps` says so of every legal list.
@@ -57,7 +57,8 @@ pub fn one_list_stands()
 {}
 
 /// An exchange, a `Close` and a `Grant` are each one step of a table of words: an exchange by a
-/// word made from the expected one, a fetch-or, and a swap by a word made from the own events.
+/// word made from the expected one, a fetch-or, and a swap by a word made from the replica's
+/// events.
 pub fn steps_in_table_forms()
     ensures { StepsInTableForms }
 {}

@@ -28,7 +28,7 @@ impl Layout {
         }
     }
 
-    /// The answer that is read off the word that the step finds. An exchange takes exactly where it
+    /// The answer that is read off the word that the step finds. An exchange takes exactly if it
     /// finds the word that it expects; `expected` is 0 for a step that is no exchange.
     #[inline(always)]
     pub fn answer_from(&self, verb: &Verb, expected: u64, word: u64) -> Answer
@@ -102,7 +102,7 @@ impl Layout {
         (u64::from(grant) + 1) * GRANT + u64::from(owner) * OWNER
     }
 
-    /// The word that an exchange leaves where it takes, made from the word that it expects.
+    /// The word that an exchange leaves if it takes, made from the word that it expects.
     pub fn exchanged(&self, verb: &Verb, expected: u64) -> u64
         requires ring { 0 < self.now.ring }
         requires fields { VerbFits self.now.ring verb.now }

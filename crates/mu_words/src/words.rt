@@ -38,7 +38,7 @@ pub struct SlotWord {
     pub stamp: u32,
     /// Which round of the ring the entry is of.
     pub lap: u16,
-    /// The proposal number of the entry, 0 where there is no entry.
+    /// The proposal number of the entry, 0 if there is no entry.
     pub proposal: u32,
     /// The payload number of the entry.
     pub payload: u16,

@@ -1,4 +1,5 @@
--- What the answer of a port that tells no list says.
+-- answered: what the answer of a port says that tells no list: some legal list has its part, the
+-- answer is the one after that list, and it has its cause there.
 use Rattle.std.specs.Prelude.{List, ℕ, ◌∷◌, ◌≡◌}
 use Rattle.mu_model.specs.declared.config.Config.{Config}
 use Rattle.mu_model.specs.declared.event.Event.{Event}
@@ -9,7 +10,7 @@ use Rattle.mu_model.specs.Parts.{IsPossible}
 use Rattle.mu_port.specs.Causes.{HasCauses}
 
 -- some legal history has the part of r before the event; the answer is the one after that history,
--- and where it is one of four that have causes it has its cause there
+-- and if it is one of four that have causes it has its cause there
 pub record IsAnswered (c : Config) (r : ℕ) (mine : List Event) (e : Event) : Type 0 where
   pub past : List Event
   pub legal : IsLegalHistory c past

@@ -1,4 +1,5 @@
--- The fabric and its ports as contracts see them, and the parts of one legal list.
+-- fabric, value of a port, same port, of one list: the shared memory and its ports as contracts see
+-- them; when two values are one port; and that parts are of one legal list.
 use Rattle.std.specs.Prelude.{List, Some, [], length, slice_index_or, suc, zero, ℕ, ◌++◌, ◌<◌, ◌∷◌, ◌≡◌}
 use Rattle.std.specs.List.{slice_get}
 use Rattle.atomic_table.specs.Seated.{TableId}

@@ -1,4 +1,4 @@
--- What each port is made with.
+-- room of a port: the room with which each port is made.
 use Rattle.std.specs.Prelude.{[], ℕ, ◌≡◌, ◌≤◌}
 use Rattle.std.specs.Arc.{arc_value}
 use Rattle.mu_model.specs.declared.config.Config.{Config}

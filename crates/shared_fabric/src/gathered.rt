@@ -8,8 +8,8 @@ use std::marker::Model;
 /// The parts of all replicas, in the order of their numbers.
 pub type Parts = Sequence<Journal>;
 
-/// The parts of all replicas of one legal list of events. `Shared::gather` alone makes it.
-/// Contracts see the configuration and the parts, each in true order.
+/// The parts of all replicas of one legal list of events. Only `Shared::gather` makes it. Contracts
+/// see the configuration and the parts, each in true order.
 #[derive(Drop)]
 pub struct Gathered {
     pub(crate) config: Config,

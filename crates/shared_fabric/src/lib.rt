@@ -26,7 +26,7 @@ pub fn staying_is_enough()
 
 /// A port of threads tells no list, and its part is possible after each step. So some legal list
 /// has its part before the step, and the answer is the one after that list; `Lost`, `Missed`,
-/// `Past` and `Empty` come exactly where each has its cause there.
+/// `Past` and `Empty` come each exactly if it has its cause there.
 pub fn possible_are_answered()
     ensures { PossibleAreAnswered }
 {}

@@ -63,7 +63,7 @@ impl Model for PartsRoom {
 impl PartsRoom {
     ghost use Rattle.std.specs.Prelude.{[], vec_capacity};
 
-    /// Room for at least so many parts. Takes memory once.
+    /// Room for at least `parts` parts. Takes memory once.
     pub(crate) fn with_room(alloc: Global, parts: u8) -> Result<PartsRoom, NoMemory>
         ensures { IfOk result (λ r. parts ≤ r) }
     {

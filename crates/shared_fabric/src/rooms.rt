@@ -10,7 +10,7 @@ use shared_steps::Words;
 use std::alloc::Global;
 use std::sync::Arc;
 
-/// What a port needs beside its seat.
+/// What a port needs besides its seat.
 #[derive(Drop)]
 pub(crate) struct Room {
     pub(crate) words: Arc<Words, Global>,

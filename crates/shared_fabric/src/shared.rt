@@ -60,7 +60,7 @@ impl Shared {
         })
     }
 
-    /// A port for each replica, in order, each with an empty part, and the room in which `gather`
+    /// A port for each replica, in order, each with an empty part; and the room in which `gather`
     /// gives their parts. Takes all memory that their steps need.
     pub fn ports(&mut self, alloc: Global) -> Result<(SharedPorts, PartsRoom), NoMemory>
         requires { IsFresh self.old }
@@ -105,7 +105,7 @@ impl Shared {
     }
 }
 
-/// Cuts a seat off for each room.
+/// Cuts off a seat for each room.
 fn seated(
     words: &Arc<Words, Global>,
     root: &mut RootSeat,

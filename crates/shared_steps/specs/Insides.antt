@@ -1,4 +1,4 @@
--- What the words and the seats are made of.
+-- seated: a seat has the entry of its replica, and keeps what its next step needs.
 use Rattle.std.specs.Prelude.{List, [], length, ℕ, ◌+◌, ◌≡◌, ◌≤◌}
 use Rattle.atomic_table.specs.Table.{Me}
 use Rattle.mu_model.specs.declared.config.Config.{Config}

@@ -1,5 +1,6 @@
--- The rule of the table: one legal list of events has the parts of all entries, and the words stand
--- for it.
+-- rule of the table, entry, view, seat: what holds between two steps on shared words: one legal
+-- list of events has the parts of all entries, and the words stand for it; the part of a replica
+-- with the words that its loads found; what a seat knows; what a step tells it.
 use Rattle.std.specs.Prelude.{List, None, Some, [], if◌then◌else◌, length, slice_index, suc, zero, ℕ, ◌++◌, ◌==◌, ◌∷◌, ◌≡◌}
 use Rattle.std.specs.declared.option.Option.{Option}
 use mathlib.Core.Option as opt
@@ -20,7 +21,7 @@ use Rattle.mu_words.specs.Steps.{answer_from}
 use Rattle.shared_steps.specs.declared.rule.Entry.{Entry}
 use Rattle.shared_steps.specs.declared.rule.View.{View}
 
--- the entry of r with this part, and with each event of it beside the word that its load found
+-- the entry of r with this part, each of its events with the word that its load found
 abbrev pub entry : ℕ → List Event → List (Event × ℕ) → Entry
 entry r mine seen = record { id = r; part = mine; seen = seen }
 
@@ -42,7 +43,7 @@ empty_entries (suc r) = entry r [] [] ∷ empty_entries r
 abbrev pub opening_view : Config → View
 opening_view c = record { config = Some c; entries = empty_entries c.replicas }
 
--- where the words of the configuration stand
+-- the places of the words of the configuration
 abbrev pub layout_of : Config → Layout
 layout_of c = record { replicas = c.replicas; ring = c.ring; rows = row_count c }
 
@@ -74,9 +75,9 @@ HasNone views r =
 
 -- The rule, at each moment between two steps. There is one legal list of events: each view that
 -- isn't spent has the table's configuration; the entries of all views are for different replicas,
--- each of which has one view as its owner; a replica without an entry has the empty part; the list
--- has the parts of the entries, and the words stand for it; and in this list each word beside an
--- event is the one that stood before it, where that was a load
+-- and each replica has one view as its owner; a replica without an entry has the empty part; the
+-- list has the parts of the entries, and the words stand for it; and in this list the word with an
+-- event is the one that stood before it, if the event was a load
 pub record Holds (c : Config) (s : State (Unit {0}) View) : Type 0 where
   pub events : List Event
   pub owner : ℕ → Option ℕ
@@ -86,18 +87,18 @@ pub record Holds (c : Config) (s : State (Unit {0}) View) : Type 0 where
   pub idle : (r : ℕ) → HasNone s.views r → part r (history events) ≡ []
   pub fits : (id : ℕ) (v : View) → get_elem? s.views id ≡ opt.some v → Fits c events owner id v
 
--- the event of the step of r after its part, at which the word n was found
+-- the event of the step of r after its part, if the step found the word n
 abbrev pub event_at : Config → ℕ → List Event → List (Event × ℕ) → Verb → ℕ → Event
 event_at c r mine seen v n =
     record { by = r; verb = v; answer = answer_from c.ring v (expected c r mine seen v) n }
 
--- the view of the seat of r with one event more, at which the word n was found
+-- the view of the seat of r with one event more, a step that found the word n
 abbrev pub grown_view : Config → ℕ → List Event → List (Event × ℕ) → Verb → ℕ → View
 grown_view c r mine seen v n =
     single c r (event_at c r mine seen v n ∷ mine)
     ((event_at c r mine seen v n, loaded_by v n) ∷ seen)
 
--- the seat of r has one event more, at which the word n was found; its part is possible
+-- the seat of r has one event more, a step that found the word n; its part is possible
 pub record Grew (c : Config) (r : ℕ) (mine : List Event) (seen : List (Event × ℕ)) (v : Verb)
     (n : ℕ) (after : Me (Unit {0}) View) : Type 0 where
   pub is : after ≡ (grown_view c r mine seen v n, [])
@@ -119,7 +120,7 @@ abbrev pub without : ℕ → List Entry → List Entry
 without r [] = []
 without r (e ∷ es) = if e.id == r then without r es else (e ∷ without r es)
 
--- the entry, where there is one
+-- the entry, if there is one
 abbrev pub listed : Option Entry → List Entry
 listed None = []
 listed (Some e) = e ∷ []

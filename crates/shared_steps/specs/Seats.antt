@@ -1,4 +1,5 @@
--- What contracts see of the words and of the seats, and which verbs each call is for.
+-- board, port, root, kinds of steps: the words and the seats as contracts see them, and which verbs
+-- each call is for.
 use Rattle.std.specs.Prelude.{Bool, List, Some, false, true, ℕ, ◌∷◌, ◌≡◌}
 use Rattle.std.specs.declared.option.Option.{Option}
 use Rattle.atomic_table.specs.Seated.{TableId}
@@ -84,7 +85,7 @@ abbrev pub is_put_min : Verb → Bool
 is_put_min (Verb.PutMin p b) = true
 is_put_min _ = false
 
--- the step sets a bit of the own fence
+-- the step sets a bit of the replica's own fence
 abbrev pub is_close : Verb → Bool
 is_close Verb.Close = true
 is_close _ = false

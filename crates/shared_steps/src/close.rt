@@ -1,4 +1,4 @@
-//! Closing of the own fence.
+//! Closing of a replica's own fence.
 ghost use Rattle.std.specs.Prelude.{true, ◌≡◌};
 ghost use Rattle.mu_model.specs.Allowed.{Allowed};
 ghost use Rattle.mu_model.specs.Parts.{IsPossible};
@@ -15,7 +15,7 @@ use std::marker::Brand;
 const CLOSING: u64 = 16_384;
 
 impl PortSeat {
-    /// Sets the closing bit of the own fence. Takes no memory, and does not wait.
+    /// Sets the closing bit of the replica's own fence. Takes no memory, and does not wait.
     pub fn close(&mut self, words: &Words, verb: Verb) -> Answer
         requires of { IsOf words.now self.old }
         requires kind { is_close verb ≡ true }

@@ -1,4 +1,4 @@
-//! Exchanges, each of which is tried once.
+//! Exchanges; each is tried once.
 ghost use Rattle.std.specs.Prelude.{true, ◌≡◌};
 ghost use Rattle.mu_model.specs.Allowed.{Allowed};
 ghost use Rattle.mu_model.specs.Parts.{IsPossible};
@@ -14,8 +14,8 @@ use mu_model::{Answer, Verb};
 use std::marker::Brand;
 
 impl PortSeat {
-    /// Exchanges the word of the verb, where it is the one that the replica keeps, for the word
-    /// that the verb makes of it.
+    /// Exchanges the word of the verb for the word that the verb makes of it, if it still is the
+    /// one that the replica keeps.
     fn exchange(&mut self, words: &Words, verb: Verb) -> Answer
         requires of { IsOf words.now self.old }
         requires kind { is_exchange verb ≡ true }
@@ -45,7 +45,7 @@ impl PortSeat {
         )
     }
 
-    /// Names at the fence of a region what the replica is about to put there, where the fence is as
+    /// Names at the fence of a region what the replica is about to put there, if the fence is as
     /// the replica noted it. Takes no memory, and does not wait.
     pub fn enter(&mut self, words: &Words, verb: Verb) -> Answer
         requires of { IsOf words.now self.old }
@@ -57,7 +57,7 @@ impl PortSeat {
         self.exchange(words, verb)
     }
 
-    /// Puts into a minimum, where it still is the word that was seen or put last before the last
+    /// Puts into a minimum, if it still is the word that was seen or put last before the last
     /// `Enter`. Takes no memory, and does not wait.
     pub fn put_min(&mut self, words: &Words, verb: Verb) -> Answer
         requires of { IsOf words.now self.old }
@@ -69,8 +69,8 @@ impl PortSeat {
         self.exchange(words, verb)
     }
 
-    /// Puts into a slot, where it still is the word that was seen last before the last `Enter`.
-    /// Takes no memory, and does not wait.
+    /// Puts into a slot, if it still is the word that was seen last before the last `Enter`. Takes
+    /// no memory, and does not wait.
     pub fn put_slot(&mut self, words: &Words, verb: Verb) -> Answer
         requires of { IsOf words.now self.old }
         requires kind { is_slot_put_verb verb ≡ true }
@@ -81,7 +81,7 @@ impl PortSeat {
         self.exchange(words, verb)
     }
 
-    /// Raises the stamp of the word that was looked at, where no put changed it since. Takes no
+    /// Raises the stamp of the word that was looked at, if no put changed it since. Takes no
     /// memory, and does not wait.
     pub fn drain(&mut self, words: &Words, verb: Verb) -> Answer
         requires of { IsOf words.now self.old }

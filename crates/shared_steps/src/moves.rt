@@ -79,7 +79,7 @@ pub(crate) fn add<N: NamesVerb>(board: &Board, seat: &mut Place, word: usize, ve
     board.fetch_add::<VerbStep<N>>(seat, word, 1)
 }
 
-/// Exchanges the word, where it is the old one, for the new one. It is tried once.
+/// Exchanges the old word for the new one, if it still is the old one. It is tried once.
 pub(crate) fn exchange<N: NamesVerb>(
     board: &Board,
     seat: &mut Place,
@@ -137,7 +137,7 @@ pub(crate) fn swap<N: NamesVerb>(
     board.swap::<VerbStep<N>>(seat, word, new)
 }
 
-/// Cuts a seat with the entry of one replica off.
+/// Cuts off a seat with the entry of one replica.
 pub(crate) fn split<N: NamesReplica>(board: &Board, seat: &mut Place, who: u8) -> Place
     requires named { who ≡ N.who }
     requires fits { seat.old.table_id ≡ board.now.table_id }

@@ -34,7 +34,7 @@ impl Model for RootSeat {
 }
 
 impl RootSeat {
-    /// Cuts the seat of a replica off, whose entry is still empty. Takes no memory.
+    /// Cuts off the seat of a replica whose entry is still empty. Takes no memory.
     pub fn split(&mut self, words: &Words, id: u8, journal: Journal, found: Found) -> PortSeat
         requires of { IsRootOf words.now self.old }
         requires has { entry_of id self.old.entries ≡ Some (entry id [] []) }
@@ -73,8 +73,8 @@ impl RootSeat {
         journal
     }
 
-    /// One legal list of events has all parts that this seat has. Loads one word, and takes no
-    /// memory.
+    /// Learns that one legal list of events has all parts that this seat has. Loads one word, and
+    /// takes no memory.
     pub fn learn(&mut self, words: &Words)
         requires of { IsRootOf words.now self.old }
         ensures same { self.new ≡ self.old }

@@ -11,7 +11,7 @@ pub struct Entry {
     pub id: u8,
     /// Its events, newest first.
     pub part: LinkedList<Event>,
-    /// The same, each beside the word that its load found, and beside 0 where it was no load.
+    /// The same events, each with the word that its load found, or with 0 if it was no load.
     pub seen: LinkedList<(Event, u64)>,
 }
 
@@ -35,7 +35,7 @@ impl TableRule<(), View, Config> for OneListRule {
     ghost first = { opening_view };
 }
 
-/// Names the verb of a step, for the proof alone: the numbers of a step don't tell it.
+/// Names the verb of a step, only for the proof: the numbers of a step don't tell it.
 pub(crate) trait NamesVerb {
     ghost use Rattle.mu_model.specs.declared.event.Verb.{Verb};
 
@@ -59,7 +59,7 @@ impl<N: NamesVerb> Play<(), View> for VerbStep<N> {
     ghost then = { Grown N.verb };
 }
 
-/// Names a replica, for the proof alone.
+/// Names a replica, only for the proof.
 pub(crate) trait NamesReplica {
     ghost use Rattle.std.specs.Prelude.{ℕ};
 
@@ -70,7 +70,7 @@ impl NamesReplica for Brand {
     ghost who = { 0 };
 }
 
-/// Cuts the entry of one replica off.
+/// Cuts off the entry of one replica.
 pub(crate) struct Cut<N: NamesReplica> {
     who: PhantomData<N>,
 }
@@ -83,7 +83,7 @@ impl<N: NamesReplica> Split<View> for Cut<N> {
     ghost right = { only_view N.who };
 }
 
-/// Unites the entries of two seats, of which the second is spent.
+/// Unites the entries of two seats; the second is spent.
 pub(crate) struct Unite;
 
 impl Join<View> for Unite {

@@ -19,7 +19,7 @@ pub(crate) fn word_place(layout: &Layout, found: &Found, id: u8, verb: &Verb) ->
     layout.place_of(layout.name_of(id, found.close_target(), verb))
 }
 
-/// What a step has found, and what its exchange expected, 0 where it is none.
+/// What a step has found, and what its exchange expected: 0 if it is no exchange.
 #[derive(Clone, Copy)]
 pub(crate) struct Sight {
     pub(crate) expected: u64,

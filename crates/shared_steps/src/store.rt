@@ -22,7 +22,7 @@ fn content(verb: &Verb) -> u64
 }
 
 impl PortSeat {
-    /// Stores a word of an own row. Takes no memory, and does not wait.
+    /// Stores a word of one of the replica's own rows. Takes no memory, and does not wait.
     pub fn store(&mut self, words: &Words, verb: Verb) -> Answer
         requires of { IsOf words.now self.old }
         requires kind { is_store verb ≡ true }

@@ -1,4 +1,4 @@
--- Sights stay right where more commands are seen.
+-- Sights stay right if more commands are seen.
 use Rattle.std.proofs.Common.{◌≡◌, ℕ, ◌≤◌, List, [], ◌∷◌, ◌++◌, length, take, sym, ap, ◌∙◌, arith, take_all}
 use Rattle.std.proofs.lemmas.List.{take-append-le}
 use Rattle.std.specs.FinMap as map

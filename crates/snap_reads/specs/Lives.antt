@@ -1,4 +1,4 @@
--- What readers beside a writer saw.
+-- sights of readers: what each reader saw while the writer published, and what it saw at last.
 use Rattle.std.specs.Prelude.{ℕ, ◌+◌, ◌≡◌, ◌≤◌, List, [], length, map, drop, All, vec_capacity}
 use Rattle.kv_store.specs.Commands.{Request}
 use Rattle.mu_outcome.specs.declared.outcome.Outcome.{Outcome}
@@ -13,7 +13,7 @@ use Rattle.snap_reads.specs.Sights.{AreRight, NeverFall}
 abbrev pub keys_seen : List Sight → List (List ℕ)
 keys_seen sights = map (λ sight. sight.key) sights
 
--- the sights of a reader to which these commands were published, and at last told
+-- the sights of a reader while these commands were published, and after it was told of them at last
 pub record AreSights (commands : List Request) (all : List (List ℕ))
     (sights : List Sight) : Type 0 where
   -- every sight is right
@@ -29,7 +29,7 @@ pub record AreSights (commands : List Request) (all : List (List ℕ))
 abbrev pub told_commands : Outcome → List Request
 told_commands o = commands_in o.job (longest o.logs)
 
--- the sights of so many readers of the commands of an outcome's longest log
+-- the sights of this number of readers of the commands of an outcome's longest log
 pub record AreAllSights (o : Outcome) (readers : ℕ) (lists : List (List Sight)) : Type 0 where
   pub count : length lists ≡ readers
   pub each : All (AreSights (told_commands o) (keys_of (told_commands o))) lists
@@ -39,7 +39,7 @@ pub record IsReady (keys : ℕ) (w : Watcher) : Type 0 where
   pub none : w.sights.items ≡ []
   pub room : 200 + keys ≤ vec_capacity w.sights
 
--- a reader that was this one, and since then made so many gets round the keys
+-- a reader that was this one, and since then made `count` gets round the keys
 pub record HasWatched (first : Reading) (all : List (List ℕ)) (count : ℕ)
     (w : Watcher) : Type 0 where
   pub reader : w.reader ≡ record first { seen = w.reader.seen }

@@ -1,4 +1,4 @@
--- What a note is made of.
+-- note: the fields of a note, and what its model shows.
 use Rattle.std.specs.Prelude.{◌≡◌, List, [], ◌∷◌}
 use Rattle.kv_store.specs.Commands.{Request}
 use Rattle.snap_reads.specs.declared.told.Told.TheInside as told

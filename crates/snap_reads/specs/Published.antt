@@ -1,4 +1,6 @@
--- The rule of the table: one word counts the published commands, and the others have their rows.
+-- published list, view, rule of the readers' table: the list that the count counts and whose rows
+-- stand; what a seat knows of it; what holds between two steps: one word counts the published
+-- commands, and the others have their rows.
 use Rattle.std.specs.Prelude.{ℕ, suc, ◌≡◌, ◌+◌, ◌*◌, ◌<◌, ◌≤◌, true, false, List, [], ◌∷◌, ◌++◌, length, slice_index, Some, None, ⊤}
 use mathlib.Core.Option as opt
 use lib.ListN.{get_elem?}
@@ -17,11 +19,11 @@ abbrev pub AreCommands : List Request → Type 0
 AreCommands [] = ⊤
 AreCommands (command ∷ commands) = IsCommand command × AreCommands commands
 
--- where the row stands that comes after so many: word 0 is the count, and a row has twelve words
+-- the place of the row that comes after this many: word 0 is the count, and a row has twelve words
 abbrev pub row_place : ℕ → ℕ
 row_place count = suc (12 * count)
 
--- how many words a table for so many commands has
+-- how many words a table for this many commands has
 abbrev pub word_count : ℕ → ℕ
 word_count capacity = row_place capacity
 
@@ -48,7 +50,7 @@ abbrev pub fresh_view : View → View
 fresh_view v =
     record { capacity = v.capacity; writes = false; seen = []; told = []; words = []; upto = 0 }
 
--- the view of a note of what another has seen
+-- the view of a note on what another seat has seen
 abbrev pub note_view : View → View
 note_view v =
     record
@@ -66,7 +68,7 @@ abbrev pub AllBegin : List (List Request) → List Request → Type 0
 AllBegin [] published = ⊤
 AllBegin (list ∷ lists) published = IsPrefixOf list published × AllBegin lists published
 
--- a reader has words of its next row alone, and not all of them, and only below the count that it
+-- a reader has words only of its next row, and not all of them, and only below the count that it
 -- loaded
 pub record IsNextRow (v : View) : Type 0 where
   pub not_whole : length v.words < 12

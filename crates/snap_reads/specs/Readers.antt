@@ -1,4 +1,4 @@
--- What a reader is made of.
+-- reader: the fields of a reader, and what its model shows.
 use Rattle.std.specs.Prelude.{ℕ, ◌≡◌, ◌+◌, ◌≤◌, false, [], length, Some}
 use Rattle.std.specs.Arc.{arc_value}
 use Rattle.kv_store.specs.Tables as tables
@@ -29,7 +29,7 @@ pub record IsReader (r : reader.Inside) : Type 0 where
   pub room : (arc_value r.board).capacity ≤ r.store.room + length r.seat.me.0.seen
   pub few : (arc_value r.board).capacity ≤ 1500
 
--- so many commands were read since, and nothing else changed: the store is the one after them
+-- `count` commands were read since, and nothing else changed: the store is the one after them
 pub record IsUpto (before : reader.Inside) (count : ℕ) (after : reader.Inside) : Type 0 where
   pub board : after.board ≡ before.board
   pub table : after.seat.table_id ≡ before.seat.table_id

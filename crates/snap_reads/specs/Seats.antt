@@ -1,4 +1,5 @@
--- What contracts see of the table, of the writer, of the readers, of notes and of what a get saw.
+-- seats (of the table): the table, the writer, the readers, notes and what a get saw, as contracts
+-- see them.
 use Rattle.std.specs.Prelude.{ℕ, List, []}
 use Rattle.std.specs.declared.option.Option.{Option}
 use Rattle.atomic_table.specs.Seated.{TableId}

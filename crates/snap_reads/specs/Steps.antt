@@ -1,4 +1,5 @@
--- What each kind of step does to the view of its seat, and what it tells.
+-- steps of the readers' table: what a load, a store and a raising of the count do to the view of a
+-- seat, and what they tell.
 use Rattle.std.specs.Prelude.{ℕ, ◌≡◌, ◌≤◌, List, [], ◌∷◌, ◌++◌, length, take, Some, ⊤}
 use Rattle.atomic_table.specs.Table.{Me, Step}
 use Rattle.kv_store.specs.Commands.{Request}
@@ -12,7 +13,7 @@ ShortBegin [] seen = ⊤
 ShortBegin (list ∷ lists) seen =
     (length list ≤ length seen → IsPrefixOf list seen) × ShortBegin lists seen
 
--- each of these lists has at most so many commands
+-- each of these lists has at most this many commands
 abbrev pub AllWithin : List (List Request) → ℕ → Type 0
 AllWithin [] count = ⊤
 AllWithin (list ∷ lists) count = (length list ≤ count) × AllWithin lists count
@@ -38,7 +39,7 @@ pub record Ended (before : Me (Unit {0}) View) (n : ℕ) (after : Me (Unit {0}) 
       after ≡ (record before.0 { seen = before.0.seen ++ command ∷ []; words = [] }, before.1)
   pub told : ShortBegin before.0.told (before.0.seen ++ command ∷ [])
 
--- so many words of a row were loaded, or stored
+-- the first k words of a row were loaded, or stored
 abbrev pub HasPart : Me (Unit {0}) View → ℕ → List ℕ → Me (Unit {0}) View → Type 0
 HasPart before k row after =
     after ≡ (record before.0 { words = before.0.words ++ take k row }, before.1)
@@ -58,7 +59,7 @@ pub record Stored (before : Me (Unit {0}) View) (word : ℕ)
     (after : Me (Unit {0}) View) : Type 0 where
   pub after_is : after ≡ (record before.0 { words = before.0.words ++ word ∷ [] }, before.1)
 
--- a raising of the count, by which these commands are published
+-- a raising of the count that publishes these commands
 pub record Raised (commands : List Request) (before after : Me (Unit {0}) View) : Type 0 where
   pub after_is :
       after ≡ (record before.0 { seen = before.0.seen ++ commands; words = [] }, before.1)

@@ -1,4 +1,4 @@
--- What the writer is made of.
+-- writer: the fields of the writer, and what its model shows.
 use Rattle.std.specs.Prelude.{ℕ, ◌≡◌, ◌≤◌, List, [], ◌++◌, length, vec_capacity}
 use Rattle.std.specs.Arc.{arc_value}
 use Rattle.kv_store.specs.Commands.{Request}
@@ -31,7 +31,7 @@ pub record IsWriter (w : writer.Inside) : Type 0 where
   pub room : (arc_value w.board).capacity ≤ vec_capacity w.list
   pub few : (arc_value w.board).capacity ≤ 1500
 
--- so many words of a row were stored, and nothing else changed
+-- the first k words of a row were stored, and nothing else changed
 pub record IsAt (before : writer.Inside) (k : ℕ) (row : List ℕ)
     (after : writer.Inside) : Type 0 where
   pub board : after.board ≡ before.board

@@ -13,7 +13,7 @@ use std::marker::Model;
 /// How many words a row has.
 pub(crate) const ROW_WORDS: usize = 12;
 
-/// Where the row stands that comes after so many: word 0 is the count.
+/// The place of the row that comes after `rows` rows: word 0 is the count.
 pub(crate) fn row_place(rows: usize) -> usize
     requires { rows ≤ 1500 }
     ensures { result ≡ row_place rows }
@@ -39,7 +39,7 @@ impl Model for Board {
 }
 
 impl Board {
-    /// A table for so many commands, none of which is published, and the seat of its writer.
+    /// A table for this many commands, with none published, and the seat of its writer.
     pub(crate) fn start(alloc: Global, commands: usize) -> Result<(Board, Place), NoMemory>
         requires { commands ≤ 1500 }
         ensures capacity { IfOk result (λ t. t.0.capacity ≡ commands) }
@@ -102,7 +102,7 @@ impl Board {
         self.table.shared.store::<Store>(seat, place, word);
     }
 
-    /// Raises the count, by which these commands are published.
+    /// Raises the count, which publishes these commands.
     pub(crate) fn raise<N: Pending>(&self, seat: &mut Place, count: u64, pending: &[Command])
         requires named { pending.now ≡ N.commands }
         requires of { seat.old.table_id ≡ self.now.table }
@@ -117,7 +117,7 @@ impl Board {
         self.table.shared.fetch_max::<Raise<N>>(seat, 0, count);
     }
 
-    /// Cuts the seat of a new reader off.
+    /// Cuts off the seat of a new reader.
     pub(crate) fn begin(&self, seat: &mut Place) -> Place
         requires { seat.old.table_id ≡ self.now.table }
         ensures same { (seat.new.table_id ≡ seat.old.table_id) × (seat.new.me ≡ seat.old.me) }
@@ -127,7 +127,7 @@ impl Board {
         self.table.shared.split_seat::<Begin>(seat)
     }
 
-    /// Cuts a note of what the seat has seen off.
+    /// Cuts off a note of what the seat has seen.
     pub(crate) fn tell(&self, seat: &mut Place) -> Place
         requires { seat.old.table_id ≡ self.now.table }
         ensures same { (seat.new.table_id ≡ seat.old.table_id) × (seat.new.me ≡ seat.old.me) }

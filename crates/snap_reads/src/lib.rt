@@ -1,5 +1,5 @@
-//! Reads of the store beside the apply: one writer publishes the rows of commands, and each reader
-//! brings a store of its own up to the count that it loads.
+//! Reads of the store while commands are applied: one writer publishes the rows of commands, and
+//! each reader brings a store of its own up to the count that it loads.
 #![tactic(auto)]
 
 mod board;

@@ -23,7 +23,7 @@ pub type Sights = Sequence<Sight>;
 /// What each reader saw.
 pub type AllSights = Sequence<Sights>;
 
-/// What readers saw beside the writer.
+/// What readers saw alongside the writer.
 #[derive(Drop)]
 pub struct Lived {
     /// The sights of each reader.
@@ -31,19 +31,19 @@ pub struct Lived {
 }
 
 /// Reads the commands of the longest log while they are published. A writer applies and publishes
-/// them one by one, and beside it each of 1 to 4 readers makes 200 gets round their keys, in order
-/// of first use. Then each reader is told of all of them, and gets every key once. Where there is
-/// no key there are no gets.
+/// them one by one, and meanwhile each of 1 to 4 readers makes 200 gets round their keys, in order
+/// of first use. Then each reader is told of all of them, and gets every key once. If there is no
+/// key, there are no gets.
 ///
 /// `gate` is passed before each publishing, with 0 and how many there were, and before each of the
-/// 200 gets, with the reader's number, from 1, and how many it made. Where no thread can be made,
-/// the writer and the readers go on one after another.
+/// 200 gets, with the reader's number, from 1, and how many it made. If no thread can be made, the
+/// writer and the readers go on one after another.
 ///
 /// All memory is taken before the first publishing.
 ///
 /// # Errors
 ///
-/// Want of memory alone. Then nothing was published.
+/// Only for want of memory. Then nothing was published.
 pub fn live<R: Threads + Sync, G: Gate + Sync>(
     rt: &R,
     alloc: Global,
@@ -74,7 +74,7 @@ pub fn live<R: Threads + Sync, G: Gate + Sync>(
     })
 }
 
-/// Each reader is told of all that was published, and gets every key once. Takes no memory.
+/// Tells each reader of all that was published, and lets it get every key once. Takes no memory.
 fn last_reads(
     mut writer: SnapWriter,
     watchers: Vec<Watcher>,

@@ -13,11 +13,11 @@ use std::sync::Arc;
 /// The readers of one writer.
 pub type SnapReaders = Vec<SnapReader>;
 
-/// A writer for so many commands, 0 to 1,500, and its readers, 1 to 4. All memory is taken here.
+/// A writer for `commands` commands, 0 to 1,500, and its readers, 1 to 4. All memory is taken here.
 ///
 /// # Errors
 ///
-/// Want of memory alone.
+/// Only for want of memory.
 pub fn start(
     alloc: Global,
     commands: usize,

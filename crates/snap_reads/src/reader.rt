@@ -42,7 +42,7 @@ impl Model for SnapReader {
 }
 
 impl SnapReader {
-    /// Takes a note in: what a later `get` sees begins with its list. Takes no memory, and does not
+    /// Takes in a note: what a later `get` sees begins with its list. Takes no memory, and does not
     /// wait.
     pub fn learn(&mut self, told: Told)
         requires { told.table ≡ self.old.table }

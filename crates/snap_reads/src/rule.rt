@@ -7,7 +7,7 @@ use std::marker::{Brand, PhantomData};
 
 /// What a seat knows. No value of it is made.
 pub struct View {
-    /// For how many commands the table is; none where the seat is spent.
+    /// For how many commands the table is; none if the seat is spent.
     pub capacity: Option<usize>,
     /// Whether the seat stores and publishes.
     pub writes: bool,
@@ -72,7 +72,7 @@ impl Play<(), View> for Store {
     ghost then = { storing };
 }
 
-/// Names the commands that are published, for the proof alone: the numbers of a step don't tell
+/// Names the commands that are published, only for the proof: the numbers of a step don't tell
 /// them.
 pub(crate) trait Pending {
     ghost use Rattle.std.specs.Prelude.{List};
@@ -98,7 +98,7 @@ impl<N: Pending> Play<(), View> for Raise<N> {
     ghost then = { raising N.commands };
 }
 
-/// Cuts the seat of a new reader off.
+/// Cuts off the seat of a new reader.
 pub(crate) struct Begin;
 
 impl Split<View> for Begin {
@@ -109,7 +109,7 @@ impl Split<View> for Begin {
     ghost right = { fresh_view };
 }
 
-/// Cuts a note of what was published off, and takes it in.
+/// Cuts off a note of what was published, and takes it in.
 pub(crate) struct Tell;
 
 impl Split<View> for Tell {

@@ -4,7 +4,7 @@ ghost use Rattle.std.specs.Prelude.{◌≡◌};
 use kv_store::Text;
 use std::marker::Model;
 
-/// What the store held for a key after the first published commands. `SnapReader::get` alone makes
+/// What the store held for a key after the first published commands. Only `SnapReader::get` makes
 /// it. Contracts see what the key held, and after how many commands.
 #[derive(Clone, Copy, Debug, PartialEq, Eq)]
 pub struct Seen {
@@ -30,7 +30,7 @@ impl Seen {
         self.value
     }
 
-    /// After how many commands.
+    /// The number of commands after which the key had it.
     pub fn upto(&self) -> u16
         ensures { result ≡ self.now.upto }
     {

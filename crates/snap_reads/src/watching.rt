@@ -1,4 +1,4 @@
-//! Readers beside the writer, each in a thread of its own.
+//! Readers alongside the writer, each in a thread of its own.
 ghost use Rattle.std.specs.Prelude.{All, IfOk, length, map, slice_index_or, vec_len, ℕ, [], ◌<◌, ◌≡◌, ◌≤◌};
 ghost use Rattle.snap_reads.specs.Keys.{gets_beside};
 ghost use Rattle.snap_reads.specs.Lives.{HasWatched, IsReady};
@@ -15,7 +15,7 @@ use std::alloc::Global;
 use std::thread;
 use std::thread::Threads;
 
-/// How many gets a reader makes beside the writer.
+/// How many gets a reader makes alongside the writer.
 pub const GETS: usize = 200;
 
 /// A reader, by what number the gate knows it, and what it saw.
@@ -26,7 +26,7 @@ pub(crate) struct Watcher {
     pub(crate) sights: Vec<Sight>,
 }
 
-/// Readers that have noted nothing, with room for what they will see of so many keys.
+/// Readers that have noted nothing, with room for what they will see of this many keys.
 pub(crate) fn watchers(
     alloc: Global,
     readers: SnapReaders,
@@ -51,7 +51,7 @@ pub(crate) fn watchers(
     Ok(watchers)
 }
 
-/// Gets round the keys, each behind the gate; none where there is no key.
+/// Gets keys round the list, each get behind the gate; none if there is no key.
 fn watch<G: Gate>(gate: &G, watcher: &mut Watcher, keys: &[Key])
     requires { IsReady (length keys.now) watcher.old }
     ensures { HasWatched watcher.old.reader keys.now (gets_beside keys.now) watcher.new }
@@ -70,7 +70,7 @@ fn watch<G: Gate>(gate: &G, watcher: &mut Watcher, keys: &[Key])
     }
 }
 
-/// All readers get round the keys, each in a thread of its own.
+/// Lets all readers get keys round the list, each in a thread of its own.
 fn watch_all<R: Threads + Sync, G: Gate + Sync>(
     rt: &R,
     watchers: &mut [Watcher],

@@ -1,4 +1,4 @@
--- What a fabric of words keeps.
+-- kept words: what a fabric of words keeps.
 use Rattle.std.specs.Prelude.{List, Some, if◌then◌else◌, length, nat_lt, slice_index, slice_set, ℕ, ◌*◌, ◌+◌, ◌≡◌, ◌≤◌}
 use Rattle.std.specs.List.{slice_get}
 use Rattle.mu_model.specs.declared.config.Config.{Config}
@@ -51,7 +51,7 @@ abbrev pub place_at : Layout → ℕ → Found → Verb → ℕ
 place_at l r f v = place_of l (name_at l.ring r f.close_target v)
 
 -- what a step of r makes of one word and of what r keeps: it answers by the word that it finds and
--- expects the word that r kept, where the kept words stand for r's events
+-- expects the word that r kept, if the kept words stand for r's events
 pub record IsMade (l : Layout) (r : ℕ) (v : Verb) (words : List ℕ) (found : Found) (answer : Answer)
     (words_after : List ℕ) (found_after : Found) : Type 0 where
   pub answered :

@@ -34,8 +34,8 @@ impl Model for WordFabric {
 impl WordFabric {
     ghost use Rattle.mu_model.specs.Contents.{IsConfig};
 
-    /// No event yet. Takes memory for the budgets of all replicas, for the words and for what is
-    /// kept of them.
+    /// A fabric with no event yet. Takes memory for the budgets of all replicas, for the words and
+    /// for what is kept of them.
     pub fn start(alloc: Global, config: &Config) -> Result<WordFabric, NoMemory>
         requires { IsConfig config.now }
         ensures config { IfOk result (λ f. f.config ≡ config.now) }

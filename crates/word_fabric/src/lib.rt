@@ -1,7 +1,7 @@
 //! Memory as packed words: a fabric keeps one list of words, and each step changes one of them.
 //!
 //! The contract is that of `list_fabric`: the list of all events, and the answer that it gives. The
-//! answers come from the words alone, by the law of word steps of `mu_words`.
+//! answers come only from the words, by the law of word steps of `mu_words`.
 #![tactic(auto)]
 
 mod fabric;

@@ -42,7 +42,7 @@ pub(crate) fn first_founds(alloc: Global, config: &Config) -> Result<Vec<Found>,
     Ok(founds)
 }
 
-/// The place of the word on which the replica `id` makes the step, where its last `Close` found the
+/// The place of the word on which the replica `id` makes the step, if its last `Close` found the
 /// target. It is the layout's place of the step's name, by one look at the verb instead of two:
 /// every step of a replay comes through here.
 fn place_of_step(layout: &Layout, id: u8, target: Target, verb: &Verb) -> usize

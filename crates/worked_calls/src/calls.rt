@@ -26,8 +26,8 @@ status 0
 ";
 
 /// What is said where the words ask for nothing.
-const USAGE: &str =
-    "usage: mu replay, mu run, mu check, mu why, mu trace, mu bulk N, mu live K, mu desk, mu book\n";
+const USAGE: &str = "usage: mu replay, mu run, mu check, mu why, mu tell, mu trace, mu bulk N, \
+        mu live K, mu desk, mu book\n";
 
 /// The job of the lists of events below.
 const ONE_PUT: &str = "mu 1\nreplicas 3\nring 8\nbudget 100\nclient 0\nput a 5\nend\n";

@@ -45,8 +45,8 @@ status 0
 ";
 
 /// What is said where the words ask for nothing.
-const USAGE: &str =
-    "usage: mu replay, mu run, mu check, mu why, mu trace, mu bulk N, mu live K, mu desk, mu book\n";
+const USAGE: &str = "usage: mu replay, mu run, mu check, mu why, mu tell, mu trace, mu bulk N, \
+        mu live K, mu desk, mu book\n";
 
 #[test]
 fn live_readers(rt: HostRuntime) -> Result<(), Fail> {

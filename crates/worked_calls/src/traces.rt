@@ -10,7 +10,7 @@ const ONE_PUT: &str = "mu 1\nreplicas 1\nring 8\nbudget 1000\nclient 0\nput a 5\
 const EVENTS: usize = 93;
 
 /// Its events that aren't beats, by their indices.
-const STEPS: [(usize, &str); 32] = [
+const STEPS: [(usize, &str); 31] = [
     (1, "0 ask 0 = done"),
     (2, "0 readask 0 = 1"),
     (3, "0 fence 0 = fence none 0 open none"),
@@ -42,13 +42,23 @@ const STEPS: [(usize, &str); 32] = [
     (50, "0 readask 0 = 1"),
     (51, "0 raisefuo 0 1 = done"),
     (92, "0 raisehead 1 = done"),
-    (EVENTS, "end"),
 ];
 
-/// The trace: the job, and a line for each event.
-fn trace(alloc: Global) -> Result<String, AllocError> {
+/// What the events come to: all that is asked for.
+const ONE_PUT_TOLD: &str =
+    "report 1\nlog 0 entries 1 commits 1 finished\n0 0.1 put a 5\nreplies 1\n0.1 done\nstatus 0\n";
+
+/// What those up to the put come to: the head isn't raised yet.
+const PUT_TOLD: &str =
+    "report 1\nlog 0 entries 1 commits 1 running\n0 0.1 put a 5\nreplies 1\n0.1 done\nstatus 0\n";
+
+/// What those before the put come to.
+const NOTHING_TOLD: &str = "report 1\nlog 0 entries 0 commits 0 running\nreplies 0\nstatus 3\n";
+
+/// The trace of the first so many events: the job, and a line for each of them.
+fn trace(alloc: Global, events: usize) -> Result<String, AllocError> {
     let mut text = String::from_str(alloc, ONE_PUT)?;
-    for index in 0..=EVENTS {
+    for index in 0..events {
         let line = STEPS
             .iter()
             .find(|step| step.0 == index)
@@ -56,19 +66,25 @@ fn trace(alloc: Global) -> Result<String, AllocError> {
         text.push_str(line)?;
         text.push('\n')?;
     }
+    text.push_str("end\n")?;
     Ok(text)
 }
 
 #[test]
 fn traces_one_put(rt: HostRuntime) -> Result<(), Fail> {
-    let text = trace(rt.alloc())?;
+    let text = trace(rt.alloc(), EVENTS)?;
+    let put = trace(rt.alloc(), 50)?;
+    let before = trace(rt.alloc(), 49)?;
     let rows = [
-        ("trace", ONE_PUT, text.as_str()),
-        ("check", text.as_str(), "legal 93\n"),
+        ("trace", ONE_PUT, 0, text.as_str()),
+        ("check", text.as_str(), 0, "legal 93\n"),
+        ("tell", text.as_str(), 0, ONE_PUT_TOLD),
+        ("tell", put.as_str(), 0, PUT_TOLD),
+        ("tell", before.as_str(), 3, NOTHING_TOLD),
     ];
-    for (word, input, said) in rows {
+    for (word, input, status, said) in rows {
         let told = told(&rt, rt.alloc(), word, input)?;
-        assert_eq!(rt; told.status, 0, "{word}");
+        assert_eq!(rt; told.status, status, "{word}");
         assert_eq!(rt; told.sink.written(), said.as_bytes(), "{word}");
     }
     Ok(())

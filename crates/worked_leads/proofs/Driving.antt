@@ -1,4 +1,4 @@
--- How what a leader has beside it follows the events.
+-- How what a leader has with it follows the events.
 use Rattle.std.proofs.Common.{◌≡◌, ◌≢◌, ◌∙◌, ℕ, ◌==◌, Bool, ap, true, false, List, ◌∷◌, ◌++◌, [], Some, None, refl, sym, subst}
 use Rattle.std.proofs.lemmas.Bool.{ne_eqb, true≢false}
 use Rattle.std.proofs.lemmas.List.{reverse-append}

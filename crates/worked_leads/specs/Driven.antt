@@ -1,4 +1,4 @@
--- When a leader and what stands beside it stand for the events of all replicas.
+-- When a leader and what stands with it stand for the events of all replicas.
 use Rattle.std.specs.Prelude.{List, ℕ, ◌≡◌}
 use Rattle.mu_model.specs.declared.config.Config.{Config}
 use Rattle.mu_model.specs.declared.event.Event.{Event}
@@ -12,7 +12,7 @@ use Rattle.mu_parts.specs.declared.replica.Replica.{Replica}
 use Rattle.mu_parts.specs.declared.replicas.Replicas.{Replicas}
 use Rattle.worked_leads.specs.declared.driven.Driven.{Driven}
 
--- what stands beside the leader of r, one of three replicas, stands for the history
+-- what stands with the leader of r, one of three replicas, stands for the history
 pub record Beside (c : Config) (r : ℕ) (past : List Event) (own : Replica) (scores : Scores)
     (all : Replicas) : Type 0 where
   pub config : IsConfig c

@@ -22,15 +22,15 @@ use mu_parts::{Replica, Replicas};
 use mu_port::Memory;
 use std::alloc::Global;
 
-/// The leader of one of three replicas, beside what its own replica knows, whom this holds to be
-/// failed, and what each replica may do.
+/// The leader of one of three replicas, with what its own replica knows, which replicas it holds to
+/// be failed, and what each replica may do.
 #[derive(Drop)]
 pub struct Driven {
     /// The leader.
     pub lead: Lead,
     /// What the events of its replica have come to.
     pub own: Replica,
-    /// Whom its replica holds to be failed.
+    /// Which replicas its replica holds to be failed.
     pub scores: Scores,
     /// What each replica may do.
     pub all: Replicas,
@@ -56,7 +56,7 @@ fn failed_bit(scores: &Scores, q: u8) -> u8
     if scores.alive(q) { 0 } else { 1 }
 }
 
-/// Whom the scores of three replicas hold to be failed: bit q for replica q.
+/// Which replicas the scores of three replicas hold to be failed: bit q for replica q.
 fn failed_in(scores: &Scores) -> u8
     ensures { (r q : ℕ) → (mine : List SomeEvent) → q < 3 → ScoresStandFor 3 r mine scores.now
         → is_bit q result ≡ is_failed r q mine }
@@ -137,7 +137,8 @@ impl Driven {
         })
     }
 
-    /// Tells the leader whom the scores name, and whom they hold to be failed. What it notes then.
+    /// Tells the leader which leader the scores name, and which replicas they hold to be failed.
+    /// Answers what it notes then.
     fn heed(&mut self) -> Note
         ghost past: { List SomeEvent }
         requires { Drives past self.old }
@@ -150,7 +151,7 @@ impl Driven {
         self.lead.heed(leader, failed)
     }
 
-    /// The verb that is due, where a step is left.
+    /// The verb that is due, if a step is left.
     fn due(&self) -> Option<Verb>
         ghost past: { List SomeEvent }
         requires drives { Drives past self.now }
@@ -267,8 +268,8 @@ impl Driven {
         }
     }
 
-    /// One turn of the leader: what it notes when it is told whom the scores name, and the step
-    /// that is due, if one is.
+    /// One turn of the leader: what it notes when it is told which leader the scores name, and the
+    /// step that is due, if one is.
     pub fn turn<M: Memory>(&mut self, memory: &mut M) -> (Note, Option<Led>)
         requires config { M.config memory.old ≡ self.old.lead.config }
         requires drives { Drives (history (M.events memory.old)) self.old }
@@ -321,7 +322,7 @@ impl Driven {
         }
     }
 
-    /// Makes a step that isn't the leader's, where it may be made.
+    /// Makes a step that isn't the leader's, if it may be made.
     pub fn aside<M: Memory>(&mut self, memory: &mut M, by: u8, verb: Verb) -> Option<Answer>
         requires config { M.config memory.old ≡ self.old.lead.config }
         requires drives { Drives (history (M.events memory.old)) self.old }

@@ -4,8 +4,12 @@
 
 mod driven;
 #[cfg(test)]
+mod lists;
+#[cfg(test)]
 mod notes;
 #[cfg(test)]
 mod rows;
+#[cfg(test)]
+mod steps;
 
 pub use driven::{Driven, Led};

@@ -1,244 +1,329 @@
 //! Rows of the notes that the others don't show: no room, not confirmed, learnt, committed, joined,
 //! resigned and idle.
-use crate::rows::{
-    JOB, Step, asks, check_row, done, due, first_grant, granted_on, joins, made, open,
+use crate::rows::first_wrongs;
+use crate::steps::{
+    ASKS, JOB, Row, Step, asked, done, due, fence, first_grant, granted_on, idle, joins, made,
+    open, words,
 };
 use mu_lead::Note;
 use mu_model::{Answer, Target, Verb};
-use std::alloc::{AllocError, Global};
 use std::test::Fail;
 
 /// Three replicas with nine commands.
-const NINE_PUTS: &str =
-    "mu 1\nreplicas 3\nring 8\nbudget 1000\nclient 0\nput a 5\nput a 5\nput a 5\nput a 5\nput a 5\nput a 5\nput a 5\nput a 5\nput a 5\nend\n";
-
-/// A word of the row of `put a 5` of client 0 that has this index.
-fn word(index: u16, k: u8) -> u64 {
-    match k {
-        0 => 1_103_806_660_609 + 65_536 * u64::from(index),
-        1 => 97,
-        4 => 53,
-        _ => 0,
-    }
-}
-
-/// A step of the leader once all commands are known.
-fn idle(verb: Verb, answer: Answer) -> Step {
-    Step::Due(verb, answer, Note::Idle)
-}
+const NINE_PUTS: &str = "mu 1\nreplicas 3\nring 8\nbudget 1000\nclient 0\n\
+    put a 5\nput a 5\nput a 5\nput a 5\nput a 5\nput a 5\nput a 5\nput a 5\nput a 5\nend\n";
 
 /// A round of fences, of which nobody has region 2.
-fn round(owner: Option<u8>, grant: u32, note: Note) -> [Step; 3] {
-    let first = open(owner, grant, Target::None);
-    [
-        due(Verb::Fence(0), first),
-        due(Verb::Fence(1), first),
-        Step::Due(Verb::Fence(2), open(None, 0, Target::None), note),
-    ]
+macro_rules! round {
+    ($owner:expr, $grant:expr, $note:expr) => {
+        [
+            due!(Verb::Fence(0), open!($owner, $grant, Target::None)),
+            due!(Verb::Fence(1), open!($owner, $grant, Target::None)),
+            Step::Due(Verb::Fence(2), open!(None, 0, Target::None), $note),
+        ]
+    };
 }
 
-/// Replica 0 is confirmed in the regions 0 and 1, and puts its number there.
-fn begun(row: &mut Vec<Step>) -> Result<(), AllocError> {
-    row.extend_from_slice(&first_grant(0, 0))?;
-    row.extend_from_slice(&first_grant(1, 0))?;
-    row.extend_from_slice(&round(Some(0), 1, Note::Confirmed { followers: 3 }))?;
-    row.push(due(Verb::Min(0), Answer::Number(0)))?;
-    row.push(due(Verb::Min(1), Answer::Number(0)))?;
-    row.extend_from_slice(&joins(0, 8))?;
-    row.extend_from_slice(&joins(1, 8))?;
-    row.push(due(Verb::Fuo(0), Answer::Number(0)))?;
-    row.push(due(Verb::Fuo(1), Answer::Number(0)))?;
-    Ok(())
+/// The leader reads that the minima of the regions 0 and 1 are 0.
+const MINIMA: [Step; 2] = [
+    due!(Verb::Min(0), Answer::Number(0)),
+    due!(Verb::Min(1), Answer::Number(0)),
+];
+
+/// The leader reads that the FUOs of the regions 0 and 1 are 0.
+const FUOS: [Step; 2] = [
+    due!(Verb::Fuo(0), Answer::Number(0)),
+    due!(Verb::Fuo(1), Answer::Number(0)),
+];
+
+/// The leader finds that nobody has region 2, and nothing at this position of the two others.
+macro_rules! looked {
+    ($index:expr) => {
+        [
+            due!(Verb::Fence(2), open!(None, 0, Target::None)),
+            due!(Verb::Look(0, $index), Answer::Empty),
+            due!(Verb::Look(1, $index), Answer::Empty),
+        ]
+    };
 }
 
-/// Replica 0 commits the command of this index at the same position, up to the last put.
-fn committed(row: &mut Vec<Step>, index: u16) -> Result<(), AllocError> {
-    let place = Target::Place(index % 8);
-    row.push(due(Verb::Fence(2), open(None, 0, Target::None)))?;
-    row.push(due(Verb::Look(0, index), Answer::Empty))?;
-    row.push(due(Verb::Look(1, index), Answer::Empty))?;
-    for k in 0..12 {
-        row.push(made(Verb::WriteRow(index, k, word(index, k))))?;
-    }
-    row.push(due(Verb::Enter(0, place), Answer::Entered))?;
-    row.push(made(Verb::PutSlot(0, index, 8, index)))?;
-    row.push(due(Verb::Enter(1, place), Answer::Entered))?;
-    row.push(Step::Due(
-        Verb::PutSlot(1, index, 8, index),
-        Answer::Done,
-        Note::Committed {
-            position: index,
-            value: index,
-        },
-    ))?;
-    Ok(())
+/// The leader, replica 0, writes a word of its row.
+macro_rules! written {
+    ($index:expr, $k:expr, $word:expr) => {
+        made!(Verb::WriteRow($index, $k, $word))
+    };
 }
 
-/// Replica 1 reads the first of eight entries, and both raise their heads over it.
-fn applied(row: &mut Vec<Step>) -> Result<(), AllocError> {
-    let (number, value) = (8, 0);
-    row.push(done(0, Verb::RaiseHead(1)))?;
-    row.push(Step::Aside(1, Verb::Fuo(1), Answer::Number(8)))?;
-    row.push(Step::Aside(1, Verb::Look(1, 0), Answer::Entry { number, value }))?;
-    for k in 0..12 {
-        row.push(Step::Aside(1, Verb::ReadRow(0, k), Answer::Number(word(0, k))))?;
-    }
-    row.push(done(1, Verb::RaiseHead(1)))?;
-    Ok(())
+/// Replica 0 puts the command of this index at the same position of the regions 0 and 1, which
+/// commits it.
+macro_rules! committed {
+    ($index:expr) => {
+        [
+            due!(Verb::Enter(0, Target::Place($index)), Answer::Entered),
+            made!(Verb::PutSlot(0, $index, 8, $index)),
+            due!(Verb::Enter(1, Target::Place($index)), Answer::Entered),
+            Step::Due(
+                Verb::PutSlot(1, $index, 8, $index),
+                Answer::Done,
+                Note::Committed {
+                    position: $index,
+                    value: $index,
+                },
+            ),
+        ]
+    };
 }
 
-/// The ring of eight is full, and replica 2 applied nothing.
-fn full_ring(alloc: Global) -> Result<Vec<Step>, AllocError> {
-    let mut row = Vec::new(alloc);
-    row.extend_from_slice(&asks())?;
-    begun(&mut row)?;
-    for index in 0..8 {
-        committed(&mut row, index)?;
-        row.push(made(Verb::RaiseFuo(0, index + 1)))?;
-        row.push(made(Verb::RaiseFuo(1, index + 1)))?;
-    }
-    applied(&mut row)?;
-    row.push(due(Verb::Fence(2), open(None, 0, Target::None)))?;
-    row.push(due(Verb::Head(0), Answer::Number(1)))?;
-    row.push(due(Verb::Head(1), Answer::Number(1)))?;
-    row.push(Step::Due(
-        Verb::Head(2),
-        Answer::Number(0),
-        Note::NoRoom {
-            replica: 2,
-            head: 0,
-            position: 8,
-        },
-    ))?;
-    Ok(row)
+/// The leader raises the FUOs of the regions 0 and 1.
+macro_rules! raised {
+    ($fuo:expr) => {
+        [
+            made!(Verb::RaiseFuo(0, $fuo)),
+            made!(Verb::RaiseFuo(1, $fuo)),
+        ]
+    };
 }
 
-/// The head of a replica leaves no room for the ninth position.
-#[test]
-fn no_room(rt: HostRuntime) -> Result<(), Fail> {
-    let row = full_ring(rt.alloc())?;
-    check_row(&rt, rt.alloc(), NINE_PUTS, 0, row.as_slice())
+/// Replica 1 reads a word of the row of replica 0.
+macro_rules! read {
+    ($index:expr, $k:expr, $word:expr) => {
+        Step::Aside(1, Verb::ReadRow($index, $k), Answer::Number($word))
+    };
 }
 
-/// A round names replica 0 nowhere; it commits the only command, and replica 2 joins late.
-fn late_joining(alloc: Global) -> Result<Vec<Step>, AllocError> {
-    let mut row = Vec::new(alloc);
-    row.extend_from_slice(&asks())?;
-    row.extend_from_slice(&round(None, 0, Note::NotConfirmed { named: 0 }))?;
-    begun(&mut row)?;
-    committed(&mut row, 0)?;
-    row.push(idle(Verb::RaiseFuo(0, 1), Answer::Done))?;
-    row.push(idle(Verb::RaiseFuo(1, 1), Answer::Done))?;
-    row.push(idle(Verb::Fence(2), open(None, 0, Target::None)))?;
-    row.extend_from_slice(&first_grant(2, 0))?;
-    row.push(idle(Verb::Fence(2), open(Some(0), 1, Target::None)))?;
-    row.push(idle(Verb::Min(2), Answer::Number(0)))?;
-    row.push(idle(Verb::Fuo(2), Answer::Number(0)))?;
-    row.push(idle(Verb::Enter(2, Target::Min), Answer::Entered))?;
-    row.push(idle(Verb::PutMin(2, 8), Answer::Done))?;
-    row.push(idle(Verb::Look(2, 0), Answer::Empty))?;
-    row.push(idle(Verb::Enter(2, Target::Place(0)), Answer::Entered))?;
-    row.push(idle(Verb::PutSlot(2, 0, 8, 0), Answer::Done))?;
-    row.push(Step::Due(
-        Verb::RaiseFuo(2, 1),
-        Answer::Done,
-        Note::Joined { replica: 2 },
-    ))?;
-    row.push(Step::Rest(Note::Working))?;
-    Ok(row)
+/// The ring of eight is full, and replica 2 applied nothing: its head leaves no room for the ninth
+/// position. Before that replica 1 reads the first of eight entries, and both others raise their
+/// heads over it.
+const NO_ROOM: Row = (
+    "no room",
+    NINE_PUTS,
+    0,
+    &[
+        &ASKS,
+        &first_grant!(0, 0),
+        &first_grant!(1, 0),
+        &round!(Some(0), 1, Note::Confirmed { followers: 3 }),
+        &MINIMA,
+        &joins!(0, 8),
+        &joins!(1, 8),
+        &FUOS,
+        &looked!(0),
+        &words!(written, 0),
+        &committed!(0),
+        &raised!(1),
+        &looked!(1),
+        &words!(written, 1),
+        &committed!(1),
+        &raised!(2),
+        &looked!(2),
+        &words!(written, 2),
+        &committed!(2),
+        &raised!(3),
+        &looked!(3),
+        &words!(written, 3),
+        &committed!(3),
+        &raised!(4),
+        &looked!(4),
+        &words!(written, 4),
+        &committed!(4),
+        &raised!(5),
+        &looked!(5),
+        &words!(written, 5),
+        &committed!(5),
+        &raised!(6),
+        &looked!(6),
+        &words!(written, 6),
+        &committed!(6),
+        &raised!(7),
+        &looked!(7),
+        &words!(written, 7),
+        &committed!(7),
+        &raised!(8),
+        &[
+            done!(0, Verb::RaiseHead(1)),
+            Step::Aside(1, Verb::Fuo(1), Answer::Number(8)),
+            Step::Aside(
+                1,
+                Verb::Look(1, 0),
+                Answer::Entry {
+                    number: 8,
+                    value: 0,
+                },
+            ),
+        ],
+        &words!(read, 0),
+        &[
+            done!(1, Verb::RaiseHead(1)),
+            due!(Verb::Fence(2), open!(None, 0, Target::None)),
+            due!(Verb::Head(0), Answer::Number(1)),
+            due!(Verb::Head(1), Answer::Number(1)),
+            Step::Due(
+                Verb::Head(2),
+                Answer::Number(0),
+                Note::NoRoom {
+                    replica: 2,
+                    head: 0,
+                    position: 8,
+                },
+            ),
+        ],
+    ],
+);
+
+/// A round names replica 0 nowhere; then it commits the only command, and replica 2 joins late,
+/// after which nothing is due.
+const LATE_FOLLOWER: Row = (
+    "late follower",
+    JOB,
+    0,
+    &[
+        &ASKS,
+        &round!(None, 0, Note::NotConfirmed { named: 0 }),
+        &first_grant!(0, 0),
+        &first_grant!(1, 0),
+        &round!(Some(0), 1, Note::Confirmed { followers: 3 }),
+        &MINIMA,
+        &joins!(0, 8),
+        &joins!(1, 8),
+        &FUOS,
+        &looked!(0),
+        &words!(written, 0),
+        &committed!(0),
+        &[
+            idle!(Verb::RaiseFuo(0, 1), Answer::Done),
+            idle!(Verb::RaiseFuo(1, 1), Answer::Done),
+            idle!(Verb::Fence(2), open!(None, 0, Target::None)),
+        ],
+        &first_grant!(2, 0),
+        &[
+            idle!(Verb::Fence(2), open!(Some(0), 1, Target::None)),
+            idle!(Verb::Min(2), Answer::Number(0)),
+            idle!(Verb::Fuo(2), Answer::Number(0)),
+            idle!(Verb::Enter(2, Target::Min), Answer::Entered),
+            idle!(Verb::PutMin(2, 8), Answer::Done),
+            idle!(Verb::Look(2, 0), Answer::Empty),
+            idle!(Verb::Enter(2, Target::Place(0)), Answer::Entered),
+            idle!(Verb::PutSlot(2, 0, 8, 0), Answer::Done),
+            Step::Due(
+                Verb::RaiseFuo(2, 1),
+                Answer::Done,
+                Note::Joined { replica: 2 },
+            ),
+            Step::Rest(Note::Working),
+        ],
+    ],
+);
+
+/// Replica 0, which doesn't lead, writes a word of its row.
+macro_rules! written_before {
+    ($index:expr, $k:expr, $word:expr) => {
+        done!(0, Verb::WriteRow($index, $k, $word))
+    };
 }
 
-/// A follower joins late, after which nothing is due.
-#[test]
-fn late_follower(rt: HostRuntime) -> Result<(), Fail> {
-    let row = late_joining(rt.alloc())?;
-    check_row(&rt, rt.alloc(), JOB, 0, row.as_slice())
-}
+/// Replica 0, which doesn't lead, is granted the regions 0 and 1, puts its number there, and looks.
+const LOOKED_BEFORE: [Step; 10] = [
+    Step::Aside(0, Verb::Fence(0), open!(Some(0), 1, Target::None)),
+    Step::Aside(0, Verb::Min(0), Answer::Number(0)),
+    Step::Aside(0, Verb::Fence(1), open!(Some(0), 1, Target::None)),
+    Step::Aside(0, Verb::Min(1), Answer::Number(0)),
+    Step::Aside(0, Verb::Enter(0, Target::Min), Answer::Entered),
+    done!(0, Verb::PutMin(0, 8)),
+    Step::Aside(0, Verb::Enter(1, Target::Min), Answer::Entered),
+    done!(0, Verb::PutMin(1, 8)),
+    Step::Aside(0, Verb::Look(0, 0), Answer::Empty),
+    Step::Aside(0, Verb::Look(1, 0), Answer::Empty),
+];
 
-/// A step of replica 0, which isn't the leader.
-fn aside(verb: Verb, answer: Answer) -> Step {
-    Step::Aside(0, verb, answer)
-}
+/// It puts the command at the regions 0 and 1, and raises the FUO of region 1.
+const COMMITTED_BEFORE: [Step; 5] = [
+    Step::Aside(0, Verb::Enter(0, Target::Place(0)), Answer::Entered),
+    done!(0, Verb::PutSlot(0, 0, 8, 0)),
+    Step::Aside(0, Verb::Enter(1, Target::Place(0)), Answer::Entered),
+    done!(0, Verb::PutSlot(1, 0, 8, 0)),
+    done!(0, Verb::RaiseFuo(1, 1)),
+];
 
-/// Replica 0 has put the command at the regions 0 and 1, and raised the FUO of region 1.
-fn committed_before(row: &mut Vec<Step>) -> Result<(), AllocError> {
-    for p in 0..3 {
-        row.push(done(0, Verb::Ask(p)))?;
-    }
-    row.extend_from_slice(&first_grant(0, 0))?;
-    row.extend_from_slice(&first_grant(1, 0))?;
-    for p in 0..2 {
-        row.push(aside(Verb::Fence(p), open(Some(0), 1, Target::None)))?;
-        row.push(aside(Verb::Min(p), Answer::Number(0)))?;
-    }
-    for p in 0..2 {
-        row.push(aside(Verb::Enter(p, Target::Min), Answer::Entered))?;
-        row.push(done(0, Verb::PutMin(p, 8)))?;
-    }
-    for p in 0..2 {
-        row.push(aside(Verb::Look(p, 0), Answer::Empty))?;
-    }
-    for k in 0..12 {
-        row.push(done(0, Verb::WriteRow(0, k, word(0, k))))?;
-    }
-    for p in 0..2 {
-        row.push(aside(Verb::Enter(p, Target::Place(0)), Answer::Entered))?;
-        row.push(done(0, Verb::PutSlot(p, 0, 8, 0)))?;
-    }
-    row.push(done(0, Verb::RaiseFuo(1, 1)))?;
-    Ok(())
-}
-
-/// Replica 1 holds replica 0 to be failed, and leads with the regions 1 and 2.
-fn takes_over(row: &mut Vec<Step>) -> Result<(), AllocError> {
-    for _ in 0..14 {
-        row.push(Step::Aside(1, Verb::ReadBeat(0), Answer::Number(0)))?;
-    }
-    row.extend_from_slice(&asks())?;
-    row.extend_from_slice(&granted_on(1, 0, Target::Place(0), 1))?;
-    row.extend_from_slice(&first_grant(2, 1))?;
-    row.push(due(Verb::Fence(0), open(Some(0), 1, Target::Place(0))))?;
-    row.push(due(Verb::Fence(1), open(Some(1), 2, Target::None)))?;
-    row.push(Step::Due(
+/// Replica 1 is confirmed in the regions 1 and 2, and reads their minima.
+const CONFIRMED_NEXT: [Step; 5] = [
+    due!(Verb::Fence(0), open!(Some(0), 1, Target::Place(0))),
+    due!(Verb::Fence(1), open!(Some(1), 2, Target::None)),
+    Step::Due(
         Verb::Fence(2),
-        open(Some(1), 1, Target::None),
+        open!(Some(1), 1, Target::None),
         Note::Confirmed { followers: 6 },
-    ))?;
-    row.push(due(Verb::Min(1), Answer::Number(8)))?;
-    row.push(due(Verb::Min(2), Answer::Number(0)))?;
-    row.extend_from_slice(&joins(1, 9))?;
-    row.extend_from_slice(&joins(2, 9))
-}
+    ),
+    due!(Verb::Min(1), Answer::Number(8)),
+    due!(Verb::Min(2), Answer::Number(0)),
+];
 
-/// The next leader learns what was committed, and gives up for the first one.
-fn learnt_and_resigned(alloc: Global) -> Result<Vec<Step>, AllocError> {
-    let (number, value) = (8, 0);
-    let mut row = Vec::new(alloc);
-    committed_before(&mut row)?;
-    takes_over(&mut row)?;
-    row.push(due(Verb::Fuo(1), Answer::Number(1)))?;
-    row.push(due(Verb::Fuo(2), Answer::Number(0)))?;
-    row.push(Step::Due(
+/// Replica 1 learns what was committed by a look, and brings it to region 2.
+const LEARNT: [Step; 7] = [
+    due!(Verb::Fuo(1), Answer::Number(1)),
+    due!(Verb::Fuo(2), Answer::Number(0)),
+    Step::Due(
         Verb::Look(1, 0),
-        Answer::Entry { number, value },
-        Note::Learnt { position: 0, value },
-    ))?;
-    row.push(idle(Verb::Look(2, 0), Answer::Empty))?;
-    row.push(idle(Verb::Enter(2, Target::Place(0)), Answer::Entered))?;
-    row.push(idle(Verb::PutSlot(2, 0, 9, 0), Answer::Done))?;
-    row.push(idle(Verb::RaiseFuo(2, 1), Answer::Done))?;
-    for count in 1..=6 {
-        row.push(done(0, Verb::Beat))?;
-        row.push(Step::Aside(1, Verb::ReadBeat(0), Answer::Number(count)))?;
-    }
-    row.push(Step::Rest(Note::Resigned { to: 0 }))?;
-    Ok(row)
+        Answer::Entry {
+            number: 8,
+            value: 0,
+        },
+        Note::Learnt {
+            position: 0,
+            value: 0,
+        },
+    ),
+    idle!(Verb::Look(2, 0), Answer::Empty),
+    idle!(Verb::Enter(2, Target::Place(0)), Answer::Entered),
+    idle!(Verb::PutSlot(2, 0, 9, 0), Answer::Done),
+    idle!(Verb::RaiseFuo(2, 1), Answer::Done),
+];
+
+/// Replica 0 beats, and replica 1 reads that.
+macro_rules! beaten {
+    ($count:expr) => {
+        [
+            done!(0, Verb::Beat),
+            Step::Aside(1, Verb::ReadBeat(0), Answer::Number($count)),
+        ]
+    };
 }
 
-/// An entry below an FUO is learnt by a look, and a leadership is given up for the least replica
-/// that lives.
+/// The next leader learns an entry below an FUO, and gives up for the least replica that lives.
+const LEARNS_AND_RESIGNS: Row = (
+    "learns and resigns",
+    JOB,
+    1,
+    &[
+        &asked!(0),
+        &first_grant!(0, 0),
+        &first_grant!(1, 0),
+        &LOOKED_BEFORE,
+        &words!(written_before, 0),
+        &COMMITTED_BEFORE,
+        &[Step::Aside(1, Verb::ReadBeat(0), Answer::Number(0)); 14],
+        &ASKS,
+        &granted_on!(1, 0, Target::Place(0), 1),
+        &first_grant!(2, 1),
+        &CONFIRMED_NEXT,
+        &joins!(1, 9),
+        &joins!(2, 9),
+        &LEARNT,
+        &beaten!(1),
+        &beaten!(2),
+        &beaten!(3),
+        &beaten!(4),
+        &beaten!(5),
+        &beaten!(6),
+        &[Step::Rest(Note::Resigned { to: 0 })],
+    ],
+);
+
 #[test]
-fn learns_and_resigns(rt: HostRuntime) -> Result<(), Fail> {
-    let row = learnt_and_resigned(rt.alloc())?;
-    check_row(&rt, rt.alloc(), JOB, 1, row.as_slice())
+fn notes_the_rest(rt: HostRuntime) -> Result<(), Fail> {
+    for (name, job, id, pieces) in [NO_ROOM, LATE_FOLLOWER, LEARNS_AND_RESIGNS] {
+        assert!(rt; id < 3);
+        let wrong = first_wrongs(rt.alloc(), job, id, pieces)?;
+        assert_eq!(rt; wrong, [None, None], "{name}");
+    }
+    Ok(())
 }

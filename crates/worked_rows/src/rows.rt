@@ -96,7 +96,7 @@ fn spells_commands(rt: HostRuntime) {
     }
 }
 
-/// The head and the last word of a row of `put a 5`, and how many rows follow where it is one.
+/// The head and the last word of a row of `put a 5`, and how many rows follow if it is one.
 const READ: [(u64, u64, Option<u8>); 4] = [
     (1_103_806_660_609, 0, Some(0)),
     (1_103_806_660_609, 1, None),

@@ -25,7 +25,7 @@ struct Three {
     third: SharedPort,
 }
 
-/// The ports one by one, where there are three.
+/// The ports one by one, if there are three.
 fn apart(ports: SharedPorts) -> Option<Three>
     ensures { IfSome result (λ t. ports ≡ t.first ∷ t.second ∷ t.third ∷ []) }
 {
@@ -71,7 +71,7 @@ fn is_allowed(config: &Config, port: &SharedPort, verb: &Verb) -> bool
     part.len() < 1_000 && allows(config, port.id(), part, verb)
 }
 
-/// Makes a step where it is allowed.
+/// Makes a step if it is allowed.
 fn try_step(config: &Config, port: &mut SharedPort, verb: Verb) -> Option<Answer>
     requires config { port.old.config ≡ config.now }
     requires ring { 0 < config.now.ring }

@@ -35,7 +35,8 @@ fn says_short_answers(rt: HostRuntime) -> Result<(), Fail> {
     let said = text_of(rt.alloc(), &Said::Usage)?;
     assert_eq!(rt;
         said.as_slice(),
-        b"usage: mu replay, mu run, mu check, mu why, mu trace, mu bulk N, mu live K, mu desk, mu book\n".as_slice()
+        b"usage: mu replay, mu run, mu check, mu why, mu tell, mu trace, mu bulk N, \
+        mu live K, mu desk, mu book\n".as_slice()
     );
     let said = text_of(rt.alloc(), &Said::Refused { line: 5, cause: 11 })?;
     assert_eq!(rt; said.as_slice(), b"refused line 5 cause 11\n".as_slice());

@@ -1,4 +1,4 @@
-use Rattle.std.proofs.Common.{◌∙◌, ◌+◌, None, Some, ap, arith, length, map, refl, subst, sym}
+use Rattle.std.proofs.Common.{None, Some, map, refl, subst, sym}
 use Rattle.mu_model.specs.Parts.{HasParts}
 use Rattle.mu_outcome.specs.declared.outcome.Outcome.{Outcome}
 use Rattle.mu_cluster.specs.Branches.{AreLeft}

@@ -7,6 +7,7 @@ use Rattle.mu_model.specs.Contents.{IsConfig}
 use Rattle.mu_model.specs.Legal.{IsLegal}
 use Rattle.mu_outcome.proofs.Completing.{completes_over}
 use Rattle.mu_cluster.proofs.Agreeing.{agrees_of, over_order, within_of}
+use Rattle.mu_cluster.proofs.AllTold.{all_finish}
 use Rattle.mu_cluster.proofs.Lives.{lives_of}
 use Rattle.mu_cluster.proofs.Outliving.{outlives_of}
 use Rattle.mu_cluster.proofs.Outrunning.{spends_of}
@@ -58,4 +59,4 @@ returns-clause-lives g c =
     let good = subst (λ (j : Job). IsConfig j.config) (sym c.outcome.ensures.job) c.requires.config in
     let have = subst (λ (j : Job). HaveHeads j.config.width j.commands j.config.rows) (sym c.outcome.ensures.job) c.requires.heads in
     let run = c.outcome.ensures.run in
-    record { first = lives_of o good have run c.outcome.ensures.none_outrun c.outcome.ensures.applies.first; last = outlives_of o good have run c.outcome.ensures.none_outrun c.outcome.ensures.applies.last }
+    record { first = lives_of o good have run c.outcome.ensures.none_outrun c.outcome.ensures.applies.first; last = outlives_of o good have run c.outcome.ensures.none_outrun c.outcome.ensures.applies.last; each = all_finish o good have run c.outcome.ensures.applies.each }

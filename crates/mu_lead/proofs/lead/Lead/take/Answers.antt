@@ -5,6 +5,7 @@ use Rattle.mu_lead.specs.Going.{begins_at}
 use Rattle.mu_lead.specs.Saying.{is_working}
 use Rattle.mu_lead.proofs.Going.{goes_idle}
 use Rattle.mu_lead.proofs.Rows.{working_is}
+use Rattle.mu_lead.proofs.Noted.{idle_noted, note_noted}
 use Rattle.mu_lead.proofs.Says.{says_idle, says_next}
 use Rattle.mu_lead.proofs.lead.Lead.take.Goals.{else-is_working-via-then-is_working+else-knows_all, else-is_working-via-else-is_working}
 use Rattle.mu_lead.specs.Causes.{CausesAt}
@@ -107,3 +108,26 @@ returns-then-knows_all-clause-placed g c = λ counts. let took = c.take_answer-n
 
 pub returns-else-is_working-clause-placed : goal.returns-else-is_working-clause-placed
 returns-else-is_working-clause-placed g c = λ counts. let took = c.take_answer-note in where_led g.mine c.args.self.now took.new.self c.args.known.now c.args.answer took.result c.requires.0 c.requires.1 took.ensures.note took.ensures.writes (took.ensures.listed counts) took.ensures.going
+
+pub returns-then-knows_all-clause-noted : goal.returns-then-knows_all-clause-noted
+returns-then-knows_all-clause-noted g c =
+    let l = c.args.self.now in
+    let note = c.take_answer-note.result in
+    let values = c.args.known.now in
+    let same = c.take_answer-note.ensures.config in
+    idle_noted g.mine l values c.args.answer note c.requires.1 c.requires.0 c.take_answer-note.ensures.note c.take_answer-note.ensures.tells (working_is note (sym c.is_working.ensures ∙ c.if-is_working.true))
+    (λ few in_session. subst (λ k. holds_all k values ≡ true) same
+    (sym (c.knows_all.ensures few (subst IsConfig (sym same) c.requires.0.config) (subst (λ k. IsInSession k values) (sym same) in_session)) ∙ c.if-knows_all.true))
+
+pub returns-else-is_working-clause-noted : goal.returns-else-is_working-clause-noted
+returns-else-is_working-clause-noted g c =
+    let l = c.args.self.now in
+    let note = c.take_answer-note.result in
+    let values = c.args.known.now in
+    let same = c.take_answer-note.ensures.config in
+    note_noted g.mine l values c.args.answer note c.requires.1 c.requires.0 c.take_answer-note.ensures.note c.take_answer-note.ensures.tells
+    (λ is few in_session. elim c.else-is_working.branch [
+      | else-is_working-via-then-is_working+else-knows_all w ↦ subst (λ k. holds_all k values ≡ false) same
+          (sym (w.knows_all.ensures few (subst IsConfig (sym same) c.requires.0.config) (subst (λ k. IsInSession k values) (sym same) in_session)) ∙ w.if-knows_all.false)
+      | else-is_working-via-else-is_working w ↦ absurd (true≢false (sym (c.is_working.ensures ∙ ap is_working is) ∙ w.if-is_working.false))
+    ])

@@ -78,4 +78,5 @@ returns-clause-told g c =
       going = c.heed.ensures.going ∙ ap (λ t. node.lead.under_way && not t) same;
       place = λ low. c.heed.ensures.place (same ∙ low);
       up = c.heed.ensures.up;
+      tables = c.heed.ensures.told.tables;
     }

@@ -13,7 +13,10 @@ use Rattle.mu_lead.specs.Beside.{leads_at}
 use Rattle.mu_node.specs.declared.node.Node.{Node}
 use Rattle.mu_node.specs.Cycle.{IsBackgroundDue, IsMade}
 use Rattle.mu_node.specs.Due.{FitsLead, lead_due, verb_or_beat}
+use Rattle.mu_lead.specs.Journal.{tables_at}
+use Rattle.mu_lead.specs.Listing.{Tables}
 use Rattle.mu_node.specs.Journal.{FollowsTurn}
+use Rattle.mu_node.specs.Paced.{PacesAt}
 use Rattle.mu_node.specs.Node.{HasPlanned, StandsForNode}
 use Rattle.mu_node.specs.Notes.{MovesGoing, SaysTook, TellsNote, TellsTook}
 use Rattle.mu_node.proofs.Leading.{even_may}
@@ -87,6 +90,7 @@ follows_of c r mine old planned due answer good possible short going stands held
       replication = λ odd. ap verb_or_beat (led odd ∙ due_listed c r mine old.lead stands.lead stands.paces.listed);
       background = λ even. (due, subst (λ l. IsBackgroundDue c r mine l due) (ap leads_at stands.paces.listed.place) (cycle even), refl);
     };
+    paces = subst (λ p. PacesAt c r mine (tables_at c r mine).written p) stands.paces.listed.place (subst (λ (t : Tables). PacesAt c r mine t.written old.lead.place) stands.paces.listed.tables stands.paces.paces);
     leads = λ even leads. even_may c r mine even (stands.leads (ap leads_at stands.paces.listed.place ∙ leads));
   };
 }

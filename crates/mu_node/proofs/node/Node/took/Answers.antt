@@ -88,6 +88,7 @@ returns-else-plan-clause-says g c =
       idle = λ none. same;
       beside = λ off. same;
       says = λ verb on some working possible. absurd (true≢false (sym on ∙ c.if-plan.false));
+      noted = λ verb on some working possible. absurd (true≢false (sym on ∙ c.if-plan.false));
       going = λ verb on some working. absurd (true≢false (sym on ∙ c.if-plan.false));
     }
 
@@ -98,5 +99,6 @@ returns-in-None-clause-says g c =
       idle = λ none. same;
       beside = λ off. same;
       says = λ verb on some working possible. absurd (none_some verb (sym c.in-None.is ∙ some));
+      noted = λ verb on some working possible. absurd (none_some verb (sym c.in-None.is ∙ some));
       going = λ verb on some working. absurd (none_some verb (sym c.in-None.is ∙ some));
     }

@@ -16,7 +16,9 @@ use Rattle.mu_node.specs.Paced.{HasPaces, HasPlannedPaces}
 use Rattle.mu_node.specs.Cycle.{handed}
 use Rattle.mu_node.proofs.Answering.{answers_stay}
 use Rattle.mu_node.proofs.Leading.{due_leads_on}
-use Rattle.mu_node.proofs.Leads.{lead_says, lead_takes, lead_tells, led_beside, led_log, led_told}
+use Rattle.mu_lead.specs.Lasting.{tables_of}
+use Rattle.mu_node.specs.Notes.{note_at}
+use Rattle.mu_node.proofs.Leads.{lead_noted, lead_says, lead_takes, lead_tells, led_beside, led_log, led_told}
 use Rattle.mu_node.proofs.Moving.{event_by}
 use Rattle.mu_node.proofs.Pacing.{TakesPaces, kept_led, led_paces, paces_led}
 use Rattle.mu_node.proofs.node.Node.took_led.Goals as goal
@@ -117,6 +119,15 @@ returns-clause-says g c =
           (subst (λ n. Says k r mine own.up own.place c.args.verb answer n) (sym (c.told.ensures working))
           (subst (λ (l : Lead). Says k r mine l.up l.place c.args.verb answer c.take-note.result) c.note.ensures.lead
           (lead_says k r mine old c.args.verb answer values c.take-note.result lead c.take-note.ensures.says due may told)));
+      noted = λ verb on some working possible.
+          let same = same_some c.args.verb verb some in
+          let may = subst (λ v. IsPossible k r (event_by r v answer ∷ mine)) (sym same) possible in
+          let told = led_told k r mine c.args.verb answer c.note.new.self values (λ none. c.note.ensures.stands mine may held.beside none) (λ entry is. c.note.ensures.awaits mine entry may held.beside is) (λ l n h. c.known-known.ensures k r l n h) in
+          let own = c.args.self.now.lead in
+          subst (λ v. c.told.result ≡ note_at k r mine (tables_of own) own.place v answer) same
+          (c.told.ensures working
+          ∙ subst (λ (l : Lead). c.take-note.result ≡ note_at k r mine (tables_of l) l.place c.args.verb answer) c.note.ensures.lead
+          (lead_noted k r mine old c.args.verb answer values c.take-note.result lead c.take-note.ensures.noted due may told));
       going = λ verb on some working.
           ap (λ (l : Lead). l.under_way) c.learn.ensures.lead
           ∙ (c.take-note.ensures.going

@@ -1,0 +1,59 @@
+-- How soon each replica that keeps up with a leader has applied all, and raised its head to it.
+use Rattle.std.specs.Prelude.{Bool, List, false, length, take, true, ℕ, ◌*◌, ◌++◌, ◌+◌, ◌<◌, ◌∷◌, ◌≡◌, ◌≢◌, ◌≤◌}
+use Rattle.mu_model.specs.declared.config.Config.{Config}
+use Rattle.mu_model.specs.declared.event.Event.{Event}
+use Rattle.mu_model.specs.Bounds.{cycle}
+use Rattle.mu_model.specs.Contents.{IsConfig, holds_all}
+use Rattle.mu_model.specs.Diligence.{Replays, TellsHeads, has_to_ask}
+use Rattle.mu_model.specs.Histories.{has, part}
+use Rattle.mu_model.specs.Knowledge.{applied}
+use Rattle.mu_model.specs.Leaderships.{is_over}
+use Rattle.mu_model.specs.Regions.{region_head}
+use Rattle.mu_model.specs.Steps.{is_asking, is_min, is_named}
+use Rattle.mu_pace.specs.Counters.{AtEachMoment, AtEachStep}
+use Rattle.mu_alive.specs.Alone.{WritesAlone}
+use Rattle.mu_alive.specs.Bringing.{joining_steps}
+use Rattle.mu_alive.specs.Enough.{HasLargeRing, steps_enough}
+use Rattle.mu_alive.specs.Following.{RaisesToAll, following_steps}
+use Rattle.mu_alive.specs.Lone.{LeadsAlone}
+
+-- before it reads a minimum, a asks each region, if it has to ask all the while and isn't over
+abbrev pub AsksAllFirst : Config → ℕ → List Event → Type 0
+AsksAllFirst c a mine =
+    (newer older : List Event) (e : Event) (p : ℕ) → mine ≡ newer ++ e ∷ older → is_min e ≡ true
+    → AtEachMoment (λ now. has_to_ask c a now ≡ true) older
+    → AtEachMoment (λ now. is_over a now ≡ false) older
+    → p < c.replicas → has (is_asking p) older ≡ true
+
+-- each of these replicas raises its head in time and to all that it may, and each but a keeps a
+-- replayer's paces and never names itself; a asks each region
+pub record KeepUp (c : Config) (live : ℕ → Bool) (a : ℕ) (past : List Event) : Type 0 where
+  pub replays : (r : ℕ) → r < c.replicas → live r ≡ true → Replays c r (part r past)
+  pub heads : (r : ℕ) → r < c.replicas → live r ≡ true → TellsHeads c r (part r past)
+  pub raises :
+      (r : ℕ) → r < c.replicas → live r ≡ true → AtEachStep (RaisesToAll c r) (part r past)
+  pub unnamed :
+      (r : ℕ) → r < c.replicas → live r ≡ true → r ≢ a
+      → AtEachMoment (λ now. is_named c r now ≡ false) (part r past)
+  pub asked : AsksAllFirst c a (part a past)
+
+-- so many entries hold every command, and each has applied them and raised its head to them
+pub record HaveAllRaised (c : Config) (live : ℕ → Bool) (past : List Event) : Type 0 where
+  pub upto : ℕ
+  pub raised : (r : ℕ) → r < c.replicas → live r ≡ true → upto ≤ region_head r past
+  pub reached : (r : ℕ) → r < c.replicas → live r ≡ true → upto ≤ length (applied c r (part r past))
+  pub held :
+      (r : ℕ) → r < c.replicas → live r ≡ true
+      → holds_all c (take upto (applied c r (part r past))) ≡ true
+
+-- a knows all; each live host has granted to it; each region is brought up; each replica follows
+abbrev pub raising_steps : Config → ℕ
+raising_steps c =
+    steps_enough c + (2 * cycle c + 2) + joining_steps c + (following_steps c + 2)
+
+-- with so many steps of a all that keep up with it have done so
+abbrev pub LoneLeadersRaiseAll : Type 0
+LoneLeadersRaiseAll =
+    (c : Config) (live : ℕ → Bool) (a : ℕ) (past : List Event) → IsConfig c → HasLargeRing c
+    → LeadsAlone c live a past → WritesAlone a past → KeepUp c live a past
+    → raising_steps c ≤ length (part a past) → HaveAllRaised c live past

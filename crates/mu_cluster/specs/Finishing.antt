@@ -1,0 +1,55 @@
+-- Which replicas of a replay finish.
+use Rattle.std.specs.Prelude.{List, Some, [], false, length, true, ℕ, ◌*◌, ◌+◌, ◌<◌, ◌≡◌, ◌≤◌}
+use Rattle.std.specs.List.{slice_get}
+use Rattle.mu_alive.specs.Enough.{HasLargeRing}
+use Rattle.mu_alive.specs.Failing.{failing_steps}
+use Rattle.mu_alive.specs.Finishing.{raising_steps}
+use Rattle.mu_model.specs.declared.config.Config.{Config}
+use Rattle.mu_model.specs.declared.script.End.{End}
+use Rattle.mu_model.specs.Bounds.{cycle}
+use Rattle.mu_model.specs.Contents.{holds_all}
+use Rattle.mu_outcome.specs.declared.outcome.Outcome.{Outcome}
+use Rattle.mu_outcome.specs.Entries.{commands_in, longest}
+use Rattle.mu_outcome.specs.Outcomes.{journal_of, log_of, replies_of}
+use Rattle.mu_cluster.specs.Outliving.{GoesOnWith, was_stopped}
+
+-- with so many steps each replica has applied all, raised its head, and read the others' heads
+abbrev pub finishing_steps : Config → ℕ
+finishing_steps c = raising_steps c + c.replicas * cycle c
+
+-- the budget is greater than that; each replica that was stopped took at most k steps, after which
+-- there is time to hold it failed; and the ring has a place for each entry
+pub record HasTimeToFinish (o : Outcome) (k : ℕ) : Type 0 where
+  pub ended :
+      (r : ℕ) → r < o.job.config.replicas → was_stopped o r ≡ true → length (journal_of o r) ≤ k
+  pub large : HasLargeRing o.job.config
+  pub enough : finishing_steps o.job.config < o.job.config.budget
+  pub failing : k + failing_steps o.job.config < o.job.config.budget
+
+-- replica r finished, and its log holds every row
+pub record HasApplied (o : Outcome) (r : ℕ) : Type 0 where
+  pub heads : List ℕ
+  pub ended : slice_get o.ends r ≡ Some (End.Finished heads)
+  pub holds : holds_all o.job.config (log_of o r) ≡ true
+
+-- if the script has no pause, and neither replica 0 nor a majority with it was stopped, each replica
+-- that wasn't stopped finishes with every row
+abbrev pub AppliesEachInTime : Outcome → Type 0
+AppliesEachInTime o =
+    o.job.script.pauses ≡ [] → (k : ℕ) → GoesOnWith o 0 → HasTimeToFinish o k
+    → (r : ℕ) → r < o.job.config.replicas → was_stopped o r ≡ false → HasApplied o r
+
+-- replica r finished, its log tells as many commands as the job has, those of the longest log, and
+-- it replied as is told
+pub record HasFinished (o : Outcome) (r : ℕ) : Type 0 where
+  pub heads : List ℕ
+  pub ended : slice_get o.ends r ≡ Some (End.Finished heads)
+  pub all : length (commands_in o.job (log_of o r)) ≡ length o.job.commands
+  pub same : commands_in o.job (log_of o r) ≡ commands_in o.job (longest o.logs)
+  pub replied : replies_of o r ≡ o.replies
+
+-- so each of these finishes with every command, and tells the same
+abbrev pub FinishesInTime : Outcome → Type 0
+FinishesInTime o =
+    o.job.script.pauses ≡ [] → (k : ℕ) → GoesOnWith o 0 → HasTimeToFinish o k
+    → (r : ℕ) → r < o.job.config.replicas → was_stopped o r ≡ false → HasFinished o r

@@ -1,0 +1,47 @@
+//! From the bytes of a trace to the report of what its events come to.
+ghost use Rattle.std.specs.Prelude.{◌≡◌, ◌≤◌, IfOk, length};
+ghost use Rattle.mu_input.specs.Heads.{HaveHeads};
+ghost use Rattle.mu_input.specs.declared.TheConstants.{TRACE_LIMIT};
+ghost use Rattle.mu_judging.specs.Told.{TellsOf};
+ghost use Rattle.mu_model.specs.Contents.{IsConfig};
+ghost use Rattle.mu_model.specs.Legal.{IsLegal};
+ghost use Rattle.mu_report.specs.Said.{IsShort};
+
+use crate::explaining::located;
+use mu_input::{InputEnd, read_trace};
+use mu_mistakes::refused_at;
+use mu_report::Said;
+use mu_telling::account_of;
+use std::alloc::Global;
+
+/// What there is to say of what the events of a trace come to: `Told` exactly where they are legal;
+/// else what [`explain_trace`](crate::explain_trace) says. `NoMemory` for want of memory.
+pub fn tell_trace(alloc: Global, bytes: &[u8]) -> Said
+    requires { length bytes.now ≤ TRACE_LIMIT }
+    ensures says { TellsOf bytes.now result }
+    ensures short { IsShort result }
+{
+    let (job, journal) = match read_trace(alloc, bytes) {
+        Ok(read) => read,
+        Err(InputEnd::Refused { line, cause }) => {
+            return Said::Misread(refused_at(bytes, line, cause));
+        }
+        Err(InputEnd::NoMemory) => return Said::NoMemory,
+    };
+    let events = journal.as_slice();
+    let (line, broken) = match located(alloc, bytes, &job.config, events) {
+        Ok(found) => found,
+        Err(_) => return Said::NoMemory,
+    };
+    if broken.is_some() {
+        return Said::Explained {
+            events: events.len() as u32,
+            line,
+            broken,
+        };
+    }
+    match account_of(alloc, job, events) {
+        Ok(account) => Said::Told(account),
+        Err(_) => Said::NoMemory,
+    }
+}

@@ -1,0 +1,86 @@
+//! What each replica has come to, in order of id.
+ghost use Rattle.std.specs.Prelude.{IfOk, List, map, ◌≡◌};
+ghost use Rattle.mu_model.specs.declared.config.Config.{Config as Settings};
+ghost use Rattle.mu_model.specs.declared.event.Event.{Event as Made};
+ghost use Rattle.mu_model.specs.Contents.{IsConfig};
+ghost use Rattle.mu_model.specs.Histories.{part};
+ghost use Rattle.mu_model.specs.Knowledge.{applied, commits as commits_by};
+ghost use Rattle.mu_course.specs.Walks.{StandsForWalk};
+ghost use Rattle.mu_known.specs.Commits.{pair_of};
+ghost use Rattle.mu_telling.specs.Accounts.{AreEnds, each_below};
+
+use mu_course::{EndSoFar, Walk};
+use mu_model::{Config, NoMemory, Script, Sequence};
+use mu_outcome::{AllCommits, Commit, Commits, Log, Logs};
+use std::alloc::Global;
+
+/// A copy of the values.
+fn log_of(alloc: Global, values: &[u16]) -> Result<Log, NoMemory>
+    ensures { IfOk result (λ log. log ≡ values.now) }
+{
+    Ok(Sequence::from_vec(Vec::from_slice(alloc, values)?))
+}
+
+/// A copy of the commits.
+fn list_of(alloc: Global, commits: &[Commit]) -> Result<Commits, NoMemory>
+    ensures { IfOk result (λ list. list ≡ commits.now) }
+{
+    Ok(Sequence::from_vec(Vec::from_slice(alloc, commits)?))
+}
+
+/// What each of the first `n` replicas has applied.
+///
+/// # Errors
+///
+/// Want of memory alone.
+pub(crate) fn logs_of(alloc: Global, walk: &Walk, n: u8) -> Result<Logs, NoMemory>
+    ensures { (past : List Made) → (c : Settings) → n ≡ c.replicas → StandsForWalk c past walk.now
+        → IfOk result (λ logs. logs ≡ each_below n (λ r. applied c r (part r past))) }
+{
+    let mut logs = Vec::new(alloc);
+    for r in 0..n {
+        let log = log_of(alloc, walk.applied(r))?;
+        logs.push(log)?;
+    }
+    Ok(Sequence::from_vec(logs))
+}
+
+/// What each of the first `n` replicas committed.
+///
+/// # Errors
+///
+/// Want of memory alone.
+pub(crate) fn commits_of(alloc: Global, walk: &Walk, n: u8) -> Result<AllCommits, NoMemory>
+    ensures { (past : List Made) → (c : Settings) → n ≡ c.replicas → StandsForWalk c past walk.now
+        → IfOk result (λ all.
+        map (map pair_of) all ≡ each_below n (λ r. commits_by c r (part r past))) }
+{
+    let mut all = Vec::new(alloc);
+    for r in 0..n {
+        let list = list_of(alloc, walk.commits(r))?;
+        all.push(list)?;
+    }
+    Ok(Sequence::from_vec(all))
+}
+
+/// How each replica has ended so far.
+///
+/// # Errors
+///
+/// Want of memory alone.
+pub(crate) fn ends_of(
+    alloc: Global,
+    walk: &Walk,
+    config: &Config,
+    script: &Script,
+) -> Result<Sequence<EndSoFar>, NoMemory>
+    requires { IsConfig config.now }
+    ensures { (past : List Made) → StandsForWalk config.now past walk.now
+        → IfOk result (λ ends. AreEnds config.now script.now past config.now.replicas ends) }
+{
+    let mut ends = Vec::new(alloc);
+    for r in 0..config.replicas {
+        ends.push(walk.end(config, script, r))?;
+    }
+    Ok(Sequence::from_vec(ends))
+}

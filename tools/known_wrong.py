@@ -1,0 +1,164 @@
+#!/usr/bin/env python3
+"""Gives each judge of the tests something right and several things wrong: it has to tell them apart.
+
+    tools/known_wrong.py      a line for each judge that doesn't; the last line is `N passed, M failed`
+
+A judge that finds nothing wrong would pass all that is tested by it, and no other test would tell.
+`./test` calls this; it runs no program.
+"""
+import contextlib
+import io
+import os
+import runpy
+import sys
+from types import SimpleNamespace
+
+import bound_jobs
+import own_traces
+import pages
+import trying
+from judged_table import judged
+from programs import EXAMPLES, TOP
+from run_cases import contents, stored_cases, troubles, wanted_status
+from run_trials import Job, Wrong, check_report
+
+# What is printed, and the status that belongs to it.
+STATUSES = [(b"usage: mu replay\n", 1), (b"refused line 3 cause 7\n", 2), (b"illegal 4 not allowed\n", 7),
+            (b"legal 12\n", 0), (b"report 1\nreplies 0\nstatus 3\n", 3), (b"report 1\nreplies 0\nstatus 0\n", 0)]
+# A job of two clients, and a report that is right.
+JOB = "mu 2\nreplicas 2\nring 8\nbudget 500\nbatch 2\nclient 0\nput a 5\nget a\nclient 1\nswap a 7\nend\n"
+REPORT = ("report 2\n"
+          "log 0 entries 3 commits 2 finished\n0 0.1 put a 5\n0 0.2 get a\n1 gone 1\n2 1.1 swap a 7\n"
+          "log 1 entries 1 commits 0 outrun\n0 0.1 put a 5\n0 0.2 get a\n"
+          "replies 3\n0.1 done\n0.2 value 5\n1.1 value 5\nstatus 0\n")
+# What makes it wrong: a text in it and another one in its place.
+WRONG_REPORTS = [
+    ("0.2 value 5", "0.2 none"), ("replies 3", "replies 4"), ("status 0", "status 3"), ("report 2", "report 1"),
+    ("log 1 entries 1 commits 0 outrun\n0 0.1 put a 5\n0 0.2 get a\n", ""), ("entries 3", "entries 4"),
+    ("1 gone 1\n", "1 gone 1\n2 gone 1\n"), ("1 gone 1", "1 gone 2"), ("2 1.1 swap a 7", "2 1.1 swap a 8"),
+    ("2 1.1 swap a 7", "2 1.2 swap a 7"), ("0 0.1 put a 5\n0 0.2 get a\n1 gone", "0 0.2 get a\n0 0.1 put a 5\n1 gone"),
+    ("outrun\n0 0.1 put a 5\n0 0.2 get a", "outrun\n0 1.1 swap a 7"), ("outrun", "stopped"), ("outrun", "asleep"),
+    ("entries 1 commits 0 outrun", "entries 1 commits 2 finished"), ("status 0\n", "status 0"),
+]
+# The least that there is of each kind: a judge that looks at nothing finds nothing.
+LEAST_NAMED, LEAST_JUDGED, LEAST_BOUND = 1000, 200, 300
+# A line of a page, and what it names.
+PAGE_LINE = ("`crates/kv_store`, `src/no_such_file.rt`, `no_such_name`, `NoSuchName` and `mu replay < no_input`",
+             ["crates/kv_store", "src/no_such_file.rt", "no_such_name", "NoSuchName"])
+
+
+def tells_answers():
+    """An answer is right if it ended with just these bytes and this status."""
+    case = trying.Case("a case", [], b"", b"right\n", 0)
+    yield case.trouble(trying.Answer("ended", 0, b"right\n", [])) is None
+    for answer in (("ended", 0, b"wrong\n"), ("ended", 0, b""), ("ended", 0, b"right\n\n"), ("ended", 3, b"right\n"),
+                   ("fault", None, b"right\n"), ("ended by signal 11", -11, b"right\n")):
+        yield case.trouble(trying.Answer(*answer, [])) is not None
+    silent = trying.Case("one that prints nothing", [], b"", b"", 5)
+    yield silent.trouble(trying.Answer("ended", 5, b"", [])) is None
+    yield silent.trouble(trying.Answer("ended", 5, b"something", [])) is not None
+
+
+def tells_sums():
+    """Of a long output the checksum is compared, and the status."""
+    case = trying.SummedCase("a sum", [], b"", "2c26b46b68ffc68ff99b453c1d30413413422d706483bfa0f98a5e886266e7ae")
+    yield case.trouble(trying.Answer("ended", 0, b"foo", [])) is None
+    yield case.trouble(trying.Answer("ended", 0, b"fop", [])) is not None
+
+
+def tells_missing_answers():
+    """Each case has an answer."""
+    cases = [trying.Case(name, [], b"", b"x", 0) for name in ("one", "two")]
+    right = trying.Answer("ended", 0, b"x", [])
+    yield troubles(cases, [right, right]) == []
+    for answers in ([right], [], [right] * 3):
+        yield troubles(cases, answers) != []
+
+
+def tells_statuses():
+    for text, status in STATUSES:
+        yield wanted_status(text) == status
+
+
+def accepts(report, status):
+    try:
+        check_report(Job(JOB), report, status)
+    except (Wrong, ValueError, IndexError):
+        return False
+    return True
+
+
+def tells_reports():
+    yield accepts(REPORT, 0)
+    yield not accepts(REPORT, 3)
+    for old, new in WRONG_REPORTS:
+        yield old in REPORT and not accepts(REPORT.replace(old, new, 1), 0)
+
+
+def tells_bounds():
+    """At its bound a run has status 0 and a right report."""
+    case = bound_jobs.BoundCase("at the bound", ["replay"], JOB.encode(), None, 0)
+    yield case.trouble(trying.Answer("ended", 0, REPORT.encode(), [])) is None
+    yield case.trouble(trying.Answer("ended", 3, REPORT.encode(), [])) is not None
+    yield case.trouble(trying.Answer("ended", 0, REPORT.replace("value 5", "value 6").encode(), [])) is not None
+    yield len(list(bound_jobs.bound_cases())) >= LEAST_BOUND
+
+
+def tells_own_traces():
+    """Of a trace by threads it may differ where it breaks, and nothing else."""
+    text = b"illegal %d at line %d\n0 putslot 1 0 8 0 = done\nnot allowed: %s\n"
+    case = own_traces.OwnCase("own", ["why"], b"", own_traces.PLACE.sub(b"illegal I at line L", text % (4, 9, b"so")), 7)
+    yield case.trouble(trying.Answer("ended", 7, text % (41, 52, b"so"), [])) is None
+    yield case.trouble(trying.Answer("ended", 7, text % (4, 9, b"otherwise"), [])) is not None
+    yield case.trouble(trying.Answer("ended", 0, b"legal 88\n", [])) is not None
+    yield all(own_traces.RUNS.values())
+
+
+def tells_pages():
+    """What a page names is found, and each page names something."""
+    line, wanted = PAGE_LINE
+    yield [name for name, _ in pages.names_in(line)] == wanted
+    yield pages.judged()[0] >= LEAST_NAMED
+
+
+def tells_stored_inputs():
+    """Each stored input is a case, with its words and its output."""
+    for name in sorted(os.listdir(os.path.join(TOP, "cases"))):
+        folder = os.path.join(TOP, "cases", name)
+        if os.path.isdir(folder):
+            yield len(os.listdir(folder)) == 3 * len(stored_cases(folder)) > 0
+    stored = [name for name in os.listdir(EXAMPLES) if name.endswith(".stdout")]
+    yield len(stored) == len(stored_cases(EXAMPLES)) > 0
+    yield len(list(judged())) == contents(os.path.join(TOP, "cases", "judged.names")).count(b"\n") >= LEAST_JUDGED
+
+
+def tells_failures():
+    """./test counts what failed, and ends with status 1 for it."""
+    test = SimpleNamespace(**runpy.run_path(os.path.join(TOP, "test")))
+    with contextlib.redirect_stdout(io.StringIO()):
+        yield test.told_all([([test.Part("one", 2, ["it failed"]), test.Part("other", 1, [])], 0)]) == (3, 1)
+        yield test.ended(3, 1) == 1 and test.ended(3, 0) == 0 and test.ended(0, 0) == 1
+
+
+JUDGES = [tells_failures, tells_answers, tells_sums, tells_missing_answers, tells_statuses, tells_reports, tells_bounds,
+          tells_own_traces, tells_pages, tells_stored_inputs]
+
+
+def tried():
+    """How many things the judges told apart, and a line for each that one didn't."""
+    passed, wrong = 0, []
+    for judge in JUDGES:
+        told = list(judge())
+        passed += sum(told)
+        wrong += [f"{judge.__name__}: number {k} isn't told as it should be" for k, right in enumerate(told) if not right]
+    return passed, wrong
+
+
+def main():
+    passed, wrong = tried()
+    print(*wrong, f"{passed} passed, {len(wrong)} failed", sep="\n")
+    return 1 if wrong else 0
+
+
+if __name__ == "__main__":
+    sys.exit(main())

@@ -1,0 +1,79 @@
+#!/usr/bin/env python3
+"""Runs the built program within bounds of memory: a table that is taken too large doesn't fit.
+
+    tools/most_memory.py [PROGRAM]              a line for each run that wants more than its bound
+    tools/most_memory.py --measure [PROGRAM]    the least within which each ends, in kB
+
+The program is that which ./prove left in out/bin/ if none is named. A bound is one of the whole address
+space, so it counts what is taken and never touched too. Commands with threads have none: each thread
+takes an address space of its own. A proof says that a table is large enough; of most it says nothing
+about how much larger it is.
+"""
+import os
+import resource
+import subprocess
+import sys
+
+from measure_speed import ROWS, input_of
+from programs import BIN, NO_ANSWER
+
+# Of each run the words, the input (a row of tools/measure_speed.py, or none), and its bound in kB: about 4 %
+# above what it needed on 29 November 2026. A change that needs more for a reason measures anew.
+RUNS = [
+    (["replay"], "7x1500", 87_000),
+    (["replay"], "3x1500", 40_000),
+    (["bulk", "1500"], None, 39_000),
+    (["trace"], "7x400", 81_000),
+    (["check"], "check", 120_000),
+]
+KILOBYTE = 1024
+# The most that is tried, in kB.
+MOST = 1 << 20
+
+
+def ends(program, words, given, most):
+    """Whether the program ends with a report within so many kB."""
+    def limit():
+        resource.setrlimit(resource.RLIMIT_AS, (most * KILOBYTE, most * KILOBYTE))
+    done = subprocess.run([program, *words], input=given, stdout=subprocess.DEVNULL, stderr=subprocess.DEVNULL,
+                          preexec_fn=limit, check=False)
+    return done.returncode in (0, 3)
+
+
+def least(program, words, given):
+    """The least number of kB within which the program ends."""
+    low, high = 0, MOST
+    while high - low > 1:
+        middle = (low + high) // 2
+        low, high = (low, middle) if ends(program, words, given, middle) else (middle, high)
+    return high
+
+
+def given_to(row):
+    return input_of(row) if row else b""
+
+
+def troubles(program):
+    """A line for each run that wants more than its bound."""
+    return [f"{' '.join(words)} over {row}: more than {most} kB" for words, row, most in RUNS
+            if not ends(program, words, given_to(row), most)]
+
+
+def main():
+    words = sys.argv[1:]
+    measures = words[:1] == ["--measure"]
+    program = (words[measures:] or [os.path.join(BIN, "mu")])[0]
+    if not os.access(program, os.X_OK):
+        print(f"no program at {program}: ./prove builds it", file=sys.stderr)
+        return NO_ANSWER
+    if measures:
+        for command, row, most in RUNS:
+            print(f"{' '.join(command)} over {row}: {least(program, command, given_to(row))} kB, bound {most} kB")
+        return 0
+    wrong = troubles(program)
+    print(*wrong, f"{len(RUNS) - len(wrong)} passed, {len(wrong)} failed", sep="\n")
+    return 1 if wrong else 0
+
+
+if __name__ == "__main__":
+    sys.exit(main())

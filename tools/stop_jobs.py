@@ -1,0 +1,150 @@
+#!/usr/bin/env python3
+"""Runs `replay` over jobs whose leaders or hosts are stopped at each step: each has to have status 0.
+
+    tools/stop_jobs.py               the proved program, or one unproved build for all jobs
+    tools/stop_jobs.py PROGRAM       a program that is named
+    tools/stop_jobs.py --write DIR   writes the jobs there instead
+
+Each budget is exactly the bound of docs/ALIVE.md for leaders that stop. The families:
+
+* replica 0 of `examples/put-and-get.job` stops after each of 0 to 400 steps;
+* of five replicas 0 stops at each step of a short job, and 1 at a step of its taking over, which moves on
+  by two; of seven also 2;
+* of five or seven replicas 0 stops, and the last one, a host, at each step of the rounds in which it
+  closes its region, drains it and grants it to replica 1;
+* followers alone stop, and the budget is exactly the bound within which each other replica finishes: each
+  has to end so, with all commands.
+
+tools/bound_jobs.py reckons the other bounds, and the reports are judged as it does.
+"""
+import os
+import re
+import sys
+
+import trying
+from bound_jobs import BATCHES, BoundCase, MOST_BUDGET, cycle, followers_stopped, steps_after, steps_enough
+from programs import EXAMPLES
+from run_trials import Job, check_report
+
+LAST_STOP = 400
+SHORT_JOB_STEPS = 200
+# A replica is held failed between 13 and 15 rounds after its last step; a grant follows in the next one.
+ROUNDS_TO_FAIL = 13
+ROUNDS_TO_GRANT = 17
+COMMANDS = 2
+FINISHED_COMMANDS = (2, 30)
+RING = 8
+
+
+def worked_jobs():
+    """The worked job, whose replica 0 stops after each number of steps."""
+    with open(os.path.join(EXAMPLES, "put-and-get.job"), encoding="utf-8") as given:
+        text = given.read()
+    for step in range(LAST_STOP + 1):
+        bound = step + steps_after(3, 1, COMMANDS, 1)
+        bounded = re.sub(r"^budget \d+$", f"budget {bound}", text, flags=re.MULTILINE)
+        yield f"worked job, stop 0 {step}", re.sub(r"^end$", f"script\nstop 0 {step}\nend", bounded, flags=re.MULTILINE)
+
+
+def short_job(version, replicas, stops, commands=COMMANDS, batch=1, bound=None):
+    """A job with these stops: at its bound where leaders stop, if no other budget is given."""
+    reserve = replicas if version == 2 else 0
+    if bound is None:
+        least = next(q for q in range(replicas) if q not in stops)
+        bound = max(stops[q] for q in range(least)) + steps_after(replicas, 1, commands + reserve, least)
+    ring = max(RING, commands + 2 * reserve)
+    lines = [f"mu {version}", f"replicas {replicas}", f"ring {ring}", f"budget {bound}"]
+    if version == 2:
+        lines.append(f"batch {batch}")
+    lines += ["client 0", *(f"put k{k % 3} {k}" for k in range(commands))]
+    halts = [f"stop {q} {k}" for q, k in sorted(stops.items())]
+    if halts:
+        lines += ["script", *halts]
+    return f"mu {version}, replicas {replicas}, batch {batch}, {', '.join(halts)}", "\n".join([*lines, "end", ""])
+
+
+def leaders_in_turn():
+    """One leader after another stops, at each step of the first one's job."""
+    for version in (1, 2):
+        for replicas in (5, 7):
+            for step in range(SHORT_JOB_STEPS):
+                stops, last = {}, step
+                for leader in range((replicas - 1) // 2):
+                    stops[leader] = last
+                    last += ROUNDS_TO_FAIL * cycle(replicas) + 2 * step
+                yield short_job(version, replicas, stops)
+
+
+def hosts_while_granting():
+    """The leader stops, and a host at each step of the rounds in which it grants to the next."""
+    for version in (1, 2):
+        for replicas in (5, 7):
+            first, last = ROUNDS_TO_FAIL * cycle(replicas), ROUNDS_TO_GRANT * cycle(replicas)
+            for step in range(first, last):
+                yield short_job(version, replicas, {0: SHORT_JOB_STEPS // 2, replicas - 1: SHORT_JOB_STEPS // 2 + step})
+
+
+def finishing_steps(replicas, batch, positions):
+    """Where replica 0 goes on: more steps than these are enough for each that goes on to finish."""
+    bringing = 19 * replicas + 8 + 12 * batch + 8 * (replicas + 1) * positions
+    following = 3 * cycle(replicas) + ((batch + 1) * positions + 1) * 2 * cycle(replicas)
+    raising = steps_enough(replicas, batch, positions) + 2 * cycle(replicas) + 2 + 6 * bringing + 8 + following + 2
+    return raising + replicas * cycle(replicas)
+
+
+class FinishCase(BoundCase):
+    """A run in which each replica without a stop has to finish with all commands."""
+
+    def trouble(self, answer):
+        other = super().trouble(answer)
+        if other is not None:
+            return other
+        job = Job(self.given.decode())
+        for log in check_report(job, answer.output.decode(), answer.status).logs:
+            if log.replica not in job.stops and (log.end != "finished" or len(log.commands()) != job.commands()):
+                return f"replica {log.replica} is {log.end} with {len(log.commands())} commands"
+        return None
+
+
+def finishing_jobs():
+    """Followers stop, or none; the budget is one above the bound until each other has finished."""
+    for version in (1, 2):
+        for replicas in range(1, 8):
+            for batch in BATCHES if version == 2 else BATCHES[:1]:
+                for commands in FINISHED_COMMANDS:
+                    for stops in followers_stopped(replicas):
+                        reserve = replicas if version == 2 else 0
+                        last = max(stops.values(), default=0) + 15 * cycle(replicas) + 1
+                        bound = max(finishing_steps(replicas, batch, commands + reserve) + 1, last)
+                        if bound <= MOST_BUDGET:
+                            yield short_job(version, replicas, stops, commands, batch, bound)
+
+
+def stop_cases():
+    """A case for each job."""
+    for family in (worked_jobs, leaders_in_turn, hosts_while_granting):
+        for name, text in family():
+            yield BoundCase(name, ["replay"], text.encode(), None, 0)
+    for name, text in finishing_jobs():
+        yield FinishCase(f"each finishes: {name}", ["replay"], text.encode(), None, 0)
+
+
+def write(folder):
+    for number, case in enumerate(stop_cases()):
+        with open(os.path.join(folder, f"stop{number:04d}"), "wb") as out:
+            out.write(case.given)
+
+
+def main():
+    words = sys.argv[1:]
+    if len(words) == 2 and words[0] == "--write":
+        return write(words[1])
+    cases = list(stop_cases())
+    answers = trying.run_cases(words[0], cases) if words else trying.answers_of("mu", cases)
+    wrong = [f"{case.name}: {trouble}" for case, answer in zip(cases, answers) if (trouble := case.trouble(answer))]
+    print(*wrong, f"{len(cases) - len(wrong)} passed, {len(wrong)} failed", sep="\n")
+    return 1 if wrong else 0
+
+
+if __name__ == "__main__":
+    sys.exit(main())
