@@ -31,7 +31,7 @@ static const char REPORT[] =
 static const char TRACE[] = "mu 1\nreplicas 1\nring 8\nbudget 9\nend\n0 ask 0 = done\nend\n";
 static const char BROKEN[] = "mu 1\nreplicas 1\nring 8\nbudget 9\nend\n0 beat = done\n0 grant 0 = done\nend\n";
 static const char USAGE[] =
-    "usage: mu replay, mu run, mu check, mu why, mu trace, mu bulk N, mu live K, mu desk, mu book\n";
+    "usage: mu replay, mu run, mu check, mu why, mu tell, mu trace, mu bulk N, mu live K, mu desk, mu book\n";
 
 static void answers(void)
 {
@@ -63,6 +63,7 @@ static void answers(void)
     expect("no number", mu_answer(MU_BULK, "1501", 4, out, sizeof out, &taken) == MU_USAGE);
     expect("trace", mu_answer(MU_TRACE, JOB, strlen(JOB), out, sizeof out, &taken) == MU_DONE);
     expect("the job first", taken > 5 && memcmp(out, "mu 1\n", 5) == 0);
+    expect("tell", mu_answer(MU_TELL, TRACE, strlen(TRACE), out, sizeof out, &taken) == MU_DONE);
     expect("no book of orders", mu_answer(MU_BOOK, JOB, strlen(JOB), out, sizeof out, &taken) == MU_DONE);
 }
 

@@ -78,33 +78,33 @@ def try_own(tried, folder, compiler):
         tried.expect(f"replicas.py judged {word}", run.stdout, contents(os.path.join(OWN, f"replicas.py.{word}.stdout")))
 
 
-def by_lines(libmu, trace):
+def by_lines(library, trace):
     """What a judge says of a trace line by line: its words, or the line that it refuses."""
     lines = trace.split(b"\n")
     end = lines.index(b"end") + 1 if b"end" in lines else len(lines)
     try:
-        judge = libmu.Judge(b"\n".join(lines[:end]) + b"\n")
+        judge = library.Judge(b"\n".join(lines[:end]) + b"\n")
     except ValueError as refused:
         return f"{refused}\n".encode()
     with judge:
         for number, line in enumerate(lines[end:], end + 1):
             if line == b"end":
                 break
-            if judge.take(line) == libmu.REFUSED:
+            if judge.take(line) == library.REFUSED:
                 return b"refused line %d cause %s\n" % (number, NO_EVENT)
         return judge.why()[1]
 
 
-def try_traces(tried, libmu, traces):
+def try_traces(tried, library, traces):
     """A list judged event by event gets the answer of the whole trace."""
     for name, trace in traces:
-        whole = libmu.answer("why", trace)[1]
+        whole = library.answer("why", trace)[1]
         first = whole.splitlines(keepends=True)[0]
         if first.startswith(b"refused"):
             if first.split()[-1] in (NO_END, AFTER_END) and b"end" in trace.split(b"\n"):
                 continue  # that a trace has its last `end` is no matter of a judge of lines
             whole = first
-        found = by_lines(libmu, trace)
+        found = by_lines(library, trace)
         if first.startswith(b"refused") and found.startswith(b"illegal"):
             continue  # it was broken before the line that is no event
         tried.expect(name, found, whole)
@@ -126,17 +126,17 @@ def resident():
     return resource.getrusage(resource.RUSAGE_SELF).ru_maxrss
 
 
-def try_memory(libmu):
+def try_memory(mu_library):
     """Lines of a long legal list are judged as they are made, again and again up to 64 MiB."""
     made = subprocess.Popen([sys.executable, os.path.join(TOP, "tools", "long_trace.py")], stdout=subprocess.PIPE, stderr=subprocess.DEVNULL)
     taken, events, first, began = 0, 0, None, time.monotonic()
     while taken < MEMORY_BYTES:
         job = b"".join(iter_to_end(made.stdout))
-        with libmu.Judge(job) as judge:
+        with library.Judge(job) as judge:
             for line in made.stdout:
                 if line == b"end\n":
                     break
-                if judge.take(line[:-1]) != libmu.DONE:
+                if judge.take(line[:-1]) != library.DONE:
                     print(judge.why()[1].decode(), end="")
                     return 1
                 taken, events = taken + len(line), events + 1
@@ -161,14 +161,14 @@ def main():
     if not os.path.exists(ARCHIVE):
         print("try_library: there is no out/libmu.a: ./library builds it")
         return 1
-    import libmu
+    import mu_library
     if sys.argv[1:] == ["--memory"]:
-        return try_memory(libmu)
+        return try_memory(mu_library)
     compiler, tried = c_compiler(), Tried()
     with tempfile.TemporaryDirectory() as folder:
         try_calls(tried, folder, compiler)
         try_own(tried, folder, compiler)
-    try_traces(tried, libmu, stored_traces([os.path.join(TOP, "cases", "trace"), *sys.argv[1:]]))
+    try_traces(tried, mu_library, stored_traces([os.path.join(TOP, "cases", "trace"), *sys.argv[1:]]))
     for wrong in tried.wrong:
         print(wrong)
     print(f"{tried.tried - len(tried.wrong)} passed, {len(tried.wrong)} failed")

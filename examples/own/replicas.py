@@ -127,10 +127,10 @@ def follower(r):
 
 def judge():
     """What the library says of the events, taken one after the other."""
-    import libmu
-    with libmu.Judge(JOB.encode()) as it:
+    import mu_library
+    with mu_library.Judge(JOB.encode()) as it:
         for event in events:
-            if it.take(event.encode()) != libmu.DONE:
+            if it.take(event.encode()) != mu_library.DONE:
                 break
         print(it.why()[1].decode(), end="")
 

@@ -18,8 +18,8 @@ const GRANT: &str =
 const JOB: &str = "mu 1\nreplicas 1\nring 8\nbudget 9\nend\n";
 
 /// What is said where nothing is asked.
-const USAGE: &str =
-    "usage: mu replay, mu run, mu check, mu why, mu trace, mu bulk N, mu live K, mu desk, mu book\n";
+const USAGE: &str = "usage: mu replay, mu run, mu check, mu why, mu tell, mu trace, mu bulk N, \
+    mu live K, mu desk, mu book\n";
 
 /// What is asked by number, with the input, the status and the text of the answer.
 const ASKED: [(u32, &str, u8, &str); 8] = [
@@ -30,7 +30,7 @@ const ASKED: [(u32, &str, u8, &str); 8] = [
     (1, "mu 3\n", 2, "refused line 1 cause 1\n"),
     (6, "1501", 1, USAGE),
     (0, ASK, 1, USAGE),
-    (7, ASK, 1, USAGE),
+    (8, ASK, 1, USAGE),
 ];
 
 /// Whether the room begins with the text, as far as it goes, and the rest of it is untouched.
