@@ -51,8 +51,7 @@ enum mu_task {
     MU_CHECK = 3,  /* of a trace: whether it is legal */
     MU_WHY = 4,    /* of a trace: where it breaks, and why */
     MU_BOOK = 5,   /* of a job: the book of orders */
-    MU_BULK = 6,   /* of a number up to 1,500: the stated large job of so many commands */
-    MU_TELL = 7    /* of a trace: what its events come to */
+    MU_BULK = 6    /* of a number up to 1,500: the stated large job of so many commands */
 };
 
 /* The greatest step that mu_draw_answer takes. */

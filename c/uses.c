@@ -63,7 +63,6 @@ static void answers(void)
     expect("no number", mu_answer(MU_BULK, "1501", 4, out, sizeof out, &taken) == MU_USAGE);
     expect("trace", mu_answer(MU_TRACE, JOB, strlen(JOB), out, sizeof out, &taken) == MU_DONE);
     expect("the job first", taken > 5 && memcmp(out, "mu 1\n", 5) == 0);
-    expect("tell", mu_answer(MU_TELL, TRACE, strlen(TRACE), out, sizeof out, &taken) == MU_DONE);
     expect("no book of orders", mu_answer(MU_BOOK, JOB, strlen(JOB), out, sizeof out, &taken) == MU_DONE);
 }
 

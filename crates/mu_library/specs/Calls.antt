@@ -38,21 +38,18 @@ asked_at task input =
     else if task == 4 then Some (Asked.Input Task.Why)
     else if task == 5 then Some (Asked.Input Task.Book)
     else if task == 6 then of_count (within 0 MOST_COMMANDS (number_of input))
-    else if task == 7 then Some (Asked.Input Task.Tell)
     else None
 
 -- what is asked, as the program has it
 abbrev pub asked_as : Given → Option Asked
 asked_as Given.Nothing = None
 asked_as (Given.Input task) = Some (Asked.Input (task_alone task))
-asked_as Given.Tell = Some (Asked.Input Task.Tell)
 asked_as (Given.Bulk count) = Some (Asked.Bulk count)
 
 -- no more commands than a job may have
 abbrev pub HasRoom : Given → Type 0
 HasRoom Given.Nothing = ⊤
 HasRoom (Given.Input task) = ⊤
-HasRoom Given.Tell = ⊤
 HasRoom (Given.Bulk count) = count ≤ MOST_COMMANDS
 
 -- the text of what is said is put, with the status that the program ends with

@@ -3,13 +3,10 @@ ghost use Rattle.std.specs.Prelude.{◌⊎◌, Some};
 ghost use Rattle.mu_library.specs.Calls.{asked_as, asked_at, Answers, HasRoom, PutsSaid};
 ghost use Rattle.mu_report.specs.declared.said.Said.TheVariants.{NoMemory as NoMemorySaid};
 ghost use Rattle.mu_report.specs.Said.{IsShort};
-ghost use Rattle.mu_top.specs.Answers.{Tells, TellsOf};
-ghost use Rattle.mu_top.specs.declared.asking.Task.TheVariants.{Tell};
+ghost use Rattle.mu_top.specs.Answers.{Tells};
 
 use crate::front::{put_bytes, put_said};
 use crate::tasks::{Asked, asked_of};
-use mu_input::TRACE_LIMIT;
-use mu_judging::tell_trace;
 use mu_outcome::Status;
 use mu_report::Said;
 use mu_top::{status_for, told_alone, told_of_bulk};
@@ -25,9 +22,9 @@ pub struct Answered {
 }
 
 /// What the program says where it is asked this and these are the bytes of its input, and the
-/// status that it ends with. The tasks are 1 `replay`, 2 `trace`, 3 `check`, 4 `why`, 5 `book`, 7
-/// `tell`, and 6 `bulk`, whose input is its number as on the command line; of any other, and of no
-/// number, the usage is told. Want of memory can come in place of any answer.
+/// status that it ends with. The tasks are 1 `replay`, 2 `trace`, 3 `check`, 4 `why`, 5 `book` and 6
+/// `bulk`, whose input is its number as on the command line; of any other, and of no number, the
+/// usage is told. Want of memory can come in place of any answer.
 pub fn answer(alloc: Global, task: u32, input: &[u8], out: &mut [u8]) -> Answered
     ensures { Answers (asked_at task input.now) input.now out.old out.new result.status
         result.taken }
@@ -45,19 +42,7 @@ fn said_of(alloc: Global, asked: Asked, input: &[u8]) -> Said
         Asked::Nothing => Said::Usage,
         Asked::Bulk(count) => told_of_bulk(alloc, count),
         Asked::Input(task) => told_alone(alloc, task, input),
-        Asked::Tell => told(alloc, input),
     }
-}
-
-/// What the program says where it is asked what a trace comes to.
-fn told(alloc: Global, input: &[u8]) -> Said
-    ensures said { TellsOf Tell (Some input.now) (Some input.now) 0 0 result }
-    ensures short { IsShort result }
-{
-    if input.len() > TRACE_LIMIT {
-        return Said::TooLong;
-    }
-    tell_trace(alloc, input)
 }
 
 /// Puts what is said into the room, or that there was no memory for its text.

@@ -13,8 +13,6 @@ pub(crate) enum Asked {
     Nothing,
     /// Something with an input.
     Input(Alone),
-    /// What a trace comes to.
-    Tell,
     /// The stated large job of so many commands.
     Bulk(u16),
 }
@@ -34,7 +32,6 @@ pub(crate) fn asked_of(task: u32, input: &[u8]) -> Asked
             Some(count) => Asked::Bulk(count as u16),
             None => Asked::Nothing,
         },
-        7 => Asked::Tell,
         _ => Asked::Nothing,
     }
 }

@@ -30,7 +30,7 @@ const ASKED: [(u32, &str, u8, &str); 8] = [
     (1, "mu 3\n", 2, "refused line 1 cause 1\n"),
     (6, "1501", 1, USAGE),
     (0, ASK, 1, USAGE),
-    (8, ASK, 1, USAGE),
+    (7, ASK, 1, USAGE),
 ];
 
 /// Whether the room begins with the text, as far as it goes, and the rest of it is untouched.
