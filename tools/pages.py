@@ -3,8 +3,6 @@
 
     tools/pages.py        prints what is stale; the last line is `pages: N named, N stale`
 
-Besides, each file of definitions (specs/, but for the crates of tests) has a row in docs/DEFINITIONS.md.
-
 What stands between backquotes in README.md and docs/ is checked: a path from the top, from crates/, or
 from the crate named before it; a name of code or of a definition. Words of the formats (lower case,
 without `_`) and commands are no names. The status is 1 if something is stale.
@@ -71,22 +69,6 @@ def names_in(line):
                 yield from ((it, False) for it in re.split(r"[^A-Za-z0-9_]+", word) if NAME.fullmatch(it))
 
 
-def without_a_row(paths):
-    """The files of definitions that docs/DEFINITIONS.md doesn't name, by their whole path or after one."""
-    named = set()
-    with open(os.path.join(TOP, "docs", "DEFINITIONS.md"), encoding="utf-8") as text:
-        for line in text:
-            folder = None
-            for path in re.findall(r"`([^`]+\.antt)`", line):
-                if "/" in path:
-                    folder = path.rsplit("/", 1)[0]
-                named.add("crates/" + (path if "/" in path else f"{folder}/{path}"))
-    for path in sorted(paths):
-        if re.fullmatch(r"crates/(?!worked_)\w+/specs/\w+\.antt", path) and not path.endswith("/Lib.antt"):
-            if path not in named:
-                yield f"docs/DEFINITIONS.md: no row for {path}"
-
-
 def judged():
     """How many things the pages name, and where one is stale."""
     paths = list(files())
@@ -96,7 +78,7 @@ def judged():
             path = path.rsplit("/", 1)[0]
             known.add(path)
     words = words_of_sources(it for it in paths if not it.startswith("docs/"))
-    named, stale = 0, list(without_a_row(paths))
+    named, stale = 0, []
     for page in pages():
         with open(os.path.join(TOP, page), encoding="utf-8") as text:
             for number, line in enumerate(text, 1):

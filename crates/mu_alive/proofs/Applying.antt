@@ -1,4 +1,4 @@
--- Where one replica alone writes rows it applies all that it knows.
+-- If only one replica writes rows, it applies all that it knows.
 use Rattle.std.proofs.Common.{◌≡◌, ℕ, suc, ◌+◌, ◌/◌, ◌%◌, ◌<◌, ◌==◌, ◌&&◌, ◌||◌, not, Bool, true, false, cond, Some, List, [], ◌∷◌, refl, sym, ◌∙◌, ap, arith, subst, eqb-true, true≢false}
 use Rattle.std.specs.List.{slice_get}
 use Rattle.std.proofs.lemmas.Bool.{and_from, and_parts, eq-eqb}

@@ -1,4 +1,4 @@
--- Where replicas ask in turn the last one keeps the regions that are granted to it.
+-- If replicas ask in turn, the last one keeps the regions that are granted to it.
 use Rattle.std.proofs.Common.{◌≡◌, ◌⊎◌, ℕ, ◌<◌, ◌≤◌, inl, inr, Bool, true, false, cond, ◌&&◌, not, ◌==◌, List, [], ◌∷◌, refl, sym, ◌∙◌, ap, arith, Some, None, subst, eqb-true, true≢false}
 use Rattle.std.specs.declared.option.Option.{Option}
 use Rattle.std.specs.Prelude.{max, nat_lt}

@@ -1,4 +1,4 @@
--- Where replicas ask in turn no leadership ends: what they note, and what numbers they put.
+-- If replicas ask in turn, no leadership ends: what they note, and what numbers they put.
 use Rattle.std.proofs.Common.{◌≡◌, ℕ, ◌+◌, inl, inr, Bool, true, false, cond, ◌&&◌, ◌||◌, ◌==◌, List, [], ◌∷◌, refl, sym, ◌∙◌, ap, Some, None, subst, eqb-true, true≢false}
 use Rattle.std.specs.declared.option.Option.{Option}
 use Rattle.std.specs.Prelude.{is_some}

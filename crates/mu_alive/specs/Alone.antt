@@ -1,4 +1,4 @@
--- Where one replica alone asks for regions.
+-- asks alone, writes alone: no other replica asks for a region; no other replica writes rows.
 use Rattle.std.specs.Prelude.{List, [], false, ℕ, ◌∷◌, ◌≡◌}
 use Rattle.mu_model.specs.declared.config.Config.{Config}
 use Rattle.mu_model.specs.declared.event.Event.{Event}

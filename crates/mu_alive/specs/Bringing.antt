@@ -1,4 +1,6 @@
--- How soon a leader brings a region that granted to it to what it knows.
+-- leads on, is granted, bringing steps: no leadership of a replica ends, and it keeps a leader's
+-- paces; each fence of a region that it reads grants to it; the most replication events until its
+-- members are brought up, and so how soon a region that granted to it has what it knew.
 use Rattle.std.specs.Prelude.{List, false, is_some, length, true, ℕ, ◌*◌, ◌++◌, ◌+◌, ◌<◌, ◌∷◌, ◌≡◌, ◌≤◌}
 use Rattle.mu_model.specs.declared.config.Config.{Config}
 use Rattle.mu_model.specs.declared.event.Event.{Event}
@@ -26,8 +28,8 @@ pub record LeadsOn (c : Config) (a : ℕ) (mine : List Event) : Type 0 where
       mine
   pub led : AtEachStep (LeaderKeeps c a) mine
 
--- over the window one leadership is under way, with a minimum and a number, and each fence of p that
--- is read in it grants to a
+-- over the window one leadership is under way, with a minimum and a number, and each fence of p
+-- that is read in it grants to a
 pub record IsGranted (c : Config) (a p : ℕ) (window base : List Event) : Type 0 where
   pub inside : p < c.replicas
   pub read : has_min a base ≡ true
@@ -37,14 +39,14 @@ pub record IsGranted (c : Config) (a p : ℕ) (window base : List Event) : Type 
       (newer older : List Event) (e : Event) → window ≡ newer ++ e ∷ older
       → is_fencing p e ≡ true → is_some (noted_grant a p (e ∷ (older ++ base))) ≡ true
 
--- so many replication events a leadership takes at most until its members are brought up: the bound,
+-- the most replication events that a leadership takes until its members are brought up: the bound,
 -- and what is paid for each member, and for each entry that is learnt or copied
 abbrev pub bringing_steps : Config → ℕ
 bringing_steps c =
     limit c c.replicas + 6 * c.replicas
     + 8 * ((row_count c + reserve c) + c.replicas * (row_count c + reserve c))
 
--- twice as many until the fence of p is read, four until it is a member, and so many until it is
+-- twice as many until the fence of p is read, four until it is a member, and as many until it is
 -- brought up: in steps
 abbrev pub joining_steps : Config → ℕ
 joining_steps c = 6 * bringing_steps c + 8

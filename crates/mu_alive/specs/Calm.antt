@@ -1,4 +1,5 @@
--- What a leader commits that nothing interrupts.
+-- calm, calm steps: a stretch in which nothing interrupts a leadership; the most replication events
+-- that it takes to know a number of entries.
 use Rattle.std.specs.Prelude.{List, [], false, is_some, length, true, ℕ, ◌*◌, ◌++◌, ◌+◌, ◌<◌, ◌∷◌, ◌≡◌, ◌≤◌}
 use Rattle.mu_model.specs.declared.config.Config.{Config}
 use Rattle.mu_model.specs.declared.event.Event.{Event}
@@ -23,12 +24,12 @@ pub record IsCalmStep (c : Config) (r : ℕ) (past : List Event) (e : Event) : T
   pub going : is_some (outrun c r (e ∷ past)) ≡ false
   pub inside : (p i b v : ℕ) → e.verb ≡ Verb.PutSlot p i b v → p < c.replicas
 
--- no event of the stretch does
+-- no event of the stretch interrupts a leadership
 abbrev pub IsCalm : Config → ℕ → List Event → List Event → Type 0
 IsCalm c r [] older = Unit {0}
 IsCalm c r (e ∷ window) older = IsCalm c r window older × IsCalmStep c r (window ++ older) e
 
--- so many replication events such a leadership takes at most until it knows so many entries
+-- the most replication events that such a leadership takes until it knows a number of entries
 abbrev pub calm_steps : Config → ℕ → ℕ
 calm_steps c most =
     limit c c.replicas * (most + 1) + 6 * c.replicas + 8 * (c.replicas * most)

@@ -1,4 +1,5 @@
--- How many steps are enough.
+-- steps enough, large ring: the steps after which a replica that asks alone knows every command;
+-- the ring has a place for each row and for twice the reserve.
 use Rattle.std.specs.Prelude.{Bool, List, length, true, ℕ, ◌*◌, ◌+◌, ◌≡◌, ◌≤◌}
 use Rattle.mu_model.specs.declared.config.Config.{Config}
 use Rattle.mu_model.specs.declared.event.Event.{Event}
@@ -12,19 +13,19 @@ use Rattle.mu_alive.specs.Alone.{WritesAlone}
 use Rattle.mu_alive.specs.Calm.{calm_steps}
 use Rattle.mu_alive.specs.Lone.{LeadsAlone}
 
--- in so many steps a replica that has to ask asks every region
+-- the steps in which a replica that has to ask asks every region
 abbrev pub asking_steps : Config → ℕ
 asking_steps c = 2 * (17 * c.replicas + 1)
 
--- and after so many each region is granted to it
+-- the steps after which each region is granted to it
 abbrev pub granting_steps : Config → ℕ
 granting_steps c = asking_steps c + 2 * cycle c + 2
 
--- so many steps it has taken at most before it reads a minimum
+-- the most steps that it has taken before it reads a minimum
 abbrev pub beginning_steps : Config → ℕ
 beginning_steps c = granting_steps c + 2 * asking_steps c
 
--- with so many steps it knows every command
+-- the steps with which it knows every command
 abbrev pub steps_enough : Config → ℕ
 steps_enough c = beginning_steps c + 2 * calm_steps c (row_count c + reserve c)
 
@@ -32,8 +33,8 @@ steps_enough c = beginning_steps c + 2 * calm_steps c (row_count c + reserve c)
 abbrev pub HasLargeRing : Config → Type 0
 HasLargeRing c = row_count c + 2 * reserve c ≤ c.ring
 
--- a replica that asks alone, while a majority keeps up with it, knows every command after so many
--- steps
+-- a replica that asks alone, while a majority keeps up with it, knows every command after
+-- `steps_enough`
 abbrev pub LoneLeadersKnowAll : Type 0
 LoneLeadersKnowAll =
     (c : Config) (live : ℕ → Bool) (a : ℕ) (past : List Event) → IsConfig c → HasLargeRing c

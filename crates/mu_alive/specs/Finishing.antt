@@ -1,4 +1,6 @@
--- How soon each replica that keeps up with a leader has applied all, and raised its head to it.
+-- keep up, have all raised, raising steps: each replica raises its head in time and to all that it
+-- may, and only one leads; a number of entries hold every command, and each replica has applied
+-- them and raised its head to them; the steps of the leader until that holds.
 use Rattle.std.specs.Prelude.{Bool, List, false, length, take, true, ℕ, ◌*◌, ◌++◌, ◌+◌, ◌<◌, ◌∷◌, ◌≡◌, ◌≢◌, ◌≤◌}
 use Rattle.mu_model.specs.declared.config.Config.{Config}
 use Rattle.mu_model.specs.declared.event.Event.{Event}
@@ -37,7 +39,7 @@ pub record KeepUp (c : Config) (live : ℕ → Bool) (a : ℕ) (past : List Even
       → AtEachMoment (λ now. is_named c r now ≡ false) (part r past)
   pub asked : AsksAllFirst c a (part a past)
 
--- so many entries hold every command, and each has applied them and raised its head to them
+-- `upto` entries hold every command, and each has applied them and raised its head to them
 pub record HaveAllRaised (c : Config) (live : ℕ → Bool) (past : List Event) : Type 0 where
   pub upto : ℕ
   pub raised : (r : ℕ) → r < c.replicas → live r ≡ true → upto ≤ region_head r past
@@ -51,7 +53,7 @@ abbrev pub raising_steps : Config → ℕ
 raising_steps c =
     steps_enough c + (2 * cycle c + 2) + joining_steps c + (following_steps c + 2)
 
--- with so many steps of a all that keep up with it have done so
+-- after `raising_steps` of a all that keep up with it have done so
 abbrev pub LoneLeadersRaiseAll : Type 0
 LoneLeadersRaiseAll =
     (c : Config) (live : ℕ → Bool) (a : ℕ) (past : List Event) → IsConfig c → HasLargeRing c

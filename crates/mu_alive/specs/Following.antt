@@ -1,4 +1,6 @@
--- How soon a replica that doesn't lead applies what is decided, and raises its head to it.
+-- follows on, following steps: a replica that doesn't lead keeps a replayer's paces and raises its
+-- head to all that it may; the steps until it has applied what its FUO covers, and raised its head
+-- to it.
 use Rattle.std.specs.Prelude.{List, false, length, min, ℕ, ◌*◌, ◌++◌, ◌+◌, ◌<◌, ◌≡◌, ◌≤◌}
 use Rattle.mu_model.specs.declared.config.Config.{Config}
 use Rattle.mu_model.specs.declared.event.Event.{Event}
@@ -15,7 +17,7 @@ use Rattle.mu_model.specs.Room.{reserve}
 use Rattle.mu_model.specs.Steps.{is_named}
 use Rattle.mu_pace.specs.Counters.{AtEachMoment, AtEachStep}
 
--- a raise of the own head goes at least to all that is applied and within the own FUO
+-- a raise of r's own head goes at least to all that is applied and within its own FUO
 abbrev pub RaisesToAll : Config → ℕ → List Event → Event → Type 0
 RaisesToAll c r past e =
     (h : ℕ) → e.verb ≡ Verb.RaiseHead h
@@ -36,7 +38,7 @@ pub record FollowsOn (c : Config) (r : ℕ) (newer older : List Event) : Type 0 
       (λ mine. length (part r older) ≤ length mine → is_named c r mine ≡ false)
       (part r (newer ++ older))
 
--- in so many steps it learns each entry and fetches each row, one in each two rounds of the cycle
+-- the steps in which it learns each entry and fetches each row, one in each two rounds of the cycle
 abbrev pub catching_steps : Config → ℕ
 catching_steps c = ((c.width + 1) * (row_count c + reserve c) + 1) * (2 * cycle c)
 
@@ -44,7 +46,7 @@ catching_steps c = ((c.width + 1) * (row_count c + reserve c) + 1) * (2 * cycle 
 abbrev pub following_steps : Config → ℕ
 following_steps c = 2 * cycle c + catching_steps c + cycle c
 
--- so many steps after its FUO is l it has applied l entries, and its head is l
+-- `following_steps` after its FUO is l it has applied l entries, and its head is l
 abbrev pub FollowersCatchUp : Type 0
 FollowersCatchUp =
     (c : Config) (r l : ℕ) (newer older : List Event) → IsConfig c → FollowsOn c r newer older

@@ -1,4 +1,5 @@
--- A history in which replicas ask in turn, and the last of them goes on with a majority.
+-- leads last, last steps: replicas ask in turn, and the last of them goes on with a majority; the
+-- steps after which it knows every command.
 use Rattle.std.specs.Prelude.{Bool, List, None, false, length, true, ℕ, ◌*◌, ◌+◌, ◌<◌, ◌≡◌, ◌≤◌, ◌⊎◌}
 use Rattle.mu_model.specs.declared.config.Config.{Config}
 use Rattle.mu_model.specs.declared.event.Event.{Event}
@@ -20,12 +21,12 @@ use Rattle.mu_alive.specs.Enough.{HasLargeRing, asking_steps}
 use Rattle.mu_alive.specs.Lone.{IsNear}
 use Rattle.mu_alive.specs.Turns.{AreInTurn}
 
--- a names itself once it has asked, and once it has taken so many steps
+-- a names itself once it has asked, and also once it has taken `start` steps
 abbrev pub NamesItself : Config → ℕ → ℕ → List Event → Type 0
 NamesItself c a start mine =
     (start ≤ length mine) ⊎ (has_begun a mine ≡ true) → is_named c a mine ≡ true
 
--- replicas ask in turn, and none above a has asked; a names itself after so many steps; a majority
+-- replicas ask in turn, and none above a has asked; a names itself after `start` steps; a majority
 -- with a keeps up with it, and these hosts keep their paces; a keeps a leader's, and was never
 -- outrun
 pub record LeadsLast (c : Config) (live : ℕ → Bool) (a start : ℕ) (past : List Event) : Type 0 where
@@ -43,37 +44,37 @@ pub record LeadsLast (c : Config) (live : ℕ → Bool) (a start : ℕ) (past : 
   pub named : AtEachMoment (NamesItself c a start) (part a past)
   pub going : outrun c a (part a past) ≡ None
 
--- in so many steps more each region is granted to it: all hosts that may grant to another before
--- have two rounds for each
+-- the steps until each region is granted to it, from then on: all hosts that may grant to another
+-- replica before have two rounds for each
 abbrev pub last_granting_steps : Config → ℕ → ℕ
 last_granting_steps c a = asking_steps c + (a + 1) * (2 * cycle c) + 2
 
--- and with so many more it knows every command
+-- the steps until it knows every command
 abbrev pub last_steps : Config → ℕ → ℕ
 last_steps c a =
     last_granting_steps c a + 2 * asking_steps c + 2 * calm_steps c (row_count c + reserve c)
 
--- the last that asks, while a majority keeps up with it, knows every command so many steps after
--- it began to name itself
+-- the last that asks, while a majority keeps up with it, knows every command `last_steps` after it
+-- began to name itself
 abbrev pub LastLeadersKnowAll : Type 0
 LastLeadersKnowAll =
     (c : Config) (live : ℕ → Bool) (a start : ℕ) (past : List Event) → IsConfig c → HasLargeRing c
     → LeadsLast c live a start past
     → start + last_steps c a ≤ length (part a past) → knows_all c a (part a past) ≡ true
 
--- who knows an entry that it hasn't applied completes a row of one within two rounds of the cycle,
--- whether the scores name it or not
+-- a replica that knows an entry that it hasn't applied completes a row of one within two rounds of
+-- the cycle, whether the scores name it or not
 abbrev pub FetchesInTime : Config → ℕ → List Event → Type 0
 FetchesInTime c r past =
     (window older : List Event) → IsStretch past window older → length window ≡ 2 * cycle c
     → length (applied c r older) < length (known c r older)
     → some_step (completes_row c r) window older ≡ true
 
--- in so many steps more it has every row of every entry
+-- the steps more until it has every row of every entry
 abbrev pub fetching_steps : Config → ℕ
 fetching_steps c = (c.width * (row_count c + reserve c) + 1) * (2 * cycle c)
 
--- if it fetches rows in time, it has applied every command so many steps after, also those whose
+-- if it fetches rows in time, it has applied every command `fetching_steps` later, also those whose
 -- rows earlier leaders wrote
 abbrev pub LastLeadersApplyAll : Type 0
 LastLeadersApplyAll =

@@ -1,4 +1,5 @@
--- A history in which one replica alone asks, and a majority keeps up with it.
+-- near, leads alone: a replica has taken as many steps as another, or one more or less; a history
+-- in which only one replica asks, and a majority keeps up with it.
 use Rattle.std.specs.Prelude.{Bool, List, None, length, true, ℕ, ◌+◌, ◌<◌, ◌≡◌, ◌≤◌}
 use Rattle.mu_model.specs.declared.config.Config.{Config}
 use Rattle.mu_model.specs.declared.event.Event.{Event}
@@ -19,7 +20,7 @@ IsNear c live a now =
     → (length (part r now) ≤ length (part a now) + 1)
     × (length (part a now) ≤ length (part r now) + 1)
 
--- a alone asks, and names itself; a majority with a keeps up with it, and these hosts keep their
+-- only a asks, and a names itself; a majority with a keeps up with it, and these hosts keep their
 -- paces; a keeps a leader's, and was never outrun
 pub record LeadsAlone (c : Config) (live : ℕ → Bool) (a : ℕ) (past : List Event) : Type 0 where
   pub inside : a < c.replicas

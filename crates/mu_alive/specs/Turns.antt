@@ -1,4 +1,5 @@
--- Replicas that ask in turn: one asks only if all lower ones have made their last event.
+-- in turn: each event is by a replica that is below none that has asked, and finds settled asks: a
+-- replica asks only after all lower ones have made their last event.
 use Rattle.std.specs.Prelude.{Bool, List, Some, [], false, length, true, ℕ, ◌&&◌, ◌*◌, ◌++◌, ◌+◌, ◌<◌, ◌==◌, ◌∷◌, ◌≡◌, ◌≤◌}
 use Rattle.mu_model.specs.declared.config.Config.{Config}
 use Rattle.mu_model.specs.declared.event.Event.{Event}
@@ -16,9 +17,9 @@ use Rattle.mu_model.specs.Steps.{is_min}
 abbrev pub is_own_min : ℕ → Event → Bool
 is_own_min r e = is_min e && (e.by == r)
 
--- whoever makes the event is below none that has asked; if it reads the asks of a lower one than some
--- that has asked, it finds as many as before, and its region isn't closing; and it asks region 0 only
--- before it has read a minimum
+-- whoever makes the event is below none that has asked; if it reads the asks of a lower one than
+-- some that has asked, it finds as many as before, and its region isn't closing; and it asks region
+-- 0 only before it has read a minimum
 pub record IsInTurn (past : List Event) (e : Event) : Type 0 where
   pub last : (r : ℕ) → e.by < r → has_begun r past ≡ false
   pub fresh :
@@ -27,7 +28,7 @@ pub record IsInTurn (past : List Event) (e : Event) : Type 0 where
   pub resting : (w : ℕ) → e.verb ≡ Verb.ReadAsk w → fence_closing e.by past ≡ false
   pub once : e.verb ≡ Verb.Ask 0 → has (is_own_min e.by) past ≡ false
 
--- each event is
+-- each event is in turn
 abbrev pub AreInTurn : List Event → Type 0
 AreInTurn [] = Unit {0}
 AreInTurn (e ∷ past) = AreInTurn past × IsInTurn past e

@@ -1,4 +1,5 @@
--- What a leader commits that is confirmed, that nobody challenges, and that has room.
+-- hindrance, commits within: what keeps a confirmed leader from its next commit; the replication
+-- events within which it commits if nothing does.
 use Rattle.std.specs.Prelude.{Bool, List, false, is_some, not, true, ℕ, ◌+◌, ◌||◌, ◌∷◌, ◌≡◌}
 use Rattle.mu_model.specs.declared.config.Config.{Config}
 use Rattle.mu_model.specs.declared.event.Event.{Event}
@@ -19,15 +20,15 @@ is_hindrance c r past e =
     || (is_some (outrun c r (e ∷ past))
     || not (has_min r (e ∷ past) || is_confirmed c r (e ∷ past)))))
 
--- by this fence a leadership is confirmed that has read no minimum
+-- this fence confirms a leadership that has read no minimum
 pub record IsConfirming (c : Config) (r : ℕ) (older : List Event) (e : Event) : Type 0 where
   pub begun : has_begun r older ≡ true
   pub fence : is_any_fencing e ≡ true
   pub no_min : has_min r older ≡ false
   pub confirmed : is_confirmed c r (e ∷ older) ≡ true
 
--- among so many replication events of one leadership after e, before each of which r is named and
--- of which none is a hindrance, one commits
+-- one of these `count` replication events of one leadership after e commits, if r is named before
+-- each of them and none of them is a hindrance
 abbrev pub CommitsWithin : Config → ℕ → List Event → List Event → List Event → ℕ → Type 0
 CommitsWithin c r past window older count =
     Follows c r past window older count

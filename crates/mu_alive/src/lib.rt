@@ -1,4 +1,4 @@
-//! That a replica which asks alone gets its commands applied: the laws of availability.
+//! The laws of availability: a replica that asks alone gets its commands applied.
 #![tactic(auto)]
 
 ghost use Rattle.mu_alive.specs.Alone.{LoneAskersLead};
@@ -27,33 +27,36 @@ pub fn lone_leaders_know_all()
     ensures { LoneLeadersKnowAll }
 {}
 
-/// And it has applied them where no other replica wrote rows.
+/// A replica that asks alone, while a majority keeps up with it, has also applied every command if
+/// no other replica wrote rows.
 pub fn lone_leaders_apply_all()
     ensures { LoneLeadersApplyAll }
 {}
 
-/// Where replicas ask in turn no leadership ends.
+/// If replicas ask in turn, no leadership ends.
 pub fn turns_lead_on()
     ensures { TurnsLeadOn }
 {}
 
-/// And a host grants its region to the last that asked.
+/// If replicas ask in turn, a host grants its region to the last that asked.
 pub fn hosts_grant_in_turn()
     ensures { HostsGrantInTurn }
 {}
 
-/// A replica that makes no more events is held failed in time by each other that reads its count.
+/// A replica that makes no more events is held failed in time by each other replica that reads its
+/// count.
 pub fn held_failed_in_time()
     ensures { HeldFailedInTime }
 {}
 
-/// So the last of the replicas that ask in turn, while a majority keeps up with it, knows every
+/// The last of the replicas that ask in turn, while a majority keeps up with it, knows every
 /// command in time.
 pub fn last_leaders_know_all()
     ensures { LastLeadersKnowAll }
 {}
 
-/// And it has applied them if it fetches in time the rows that others wrote.
+/// The last of the replicas that ask in turn has also applied every command in time, if it fetches
+/// in time the rows that others wrote.
 pub fn last_leaders_apply_all()
     ensures { LastLeadersApplyAll }
 {}

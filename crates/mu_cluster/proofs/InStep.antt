@@ -1,4 +1,5 @@
--- Where the script has no pause, a lower replica is a step ahead of a higher one at each step of this, and a higher one is in step with a lower one.
+-- If the script has no pause, a lower replica is a step ahead of a higher one at each step of the
+-- higher one, and a higher one is in step with a lower one.
 use Rattle.std.proofs.Common.{◌≡◌, ◌∙◌, ◌≢◌, ℕ, suc, zero, ◌+◌, ◌<◌, ◌≤◌, ◌==◌, ◌&&◌, inl, inr, Bool, true, false, cond, List, [], ◌∷◌, ◌++◌, ap, append-nil, append_assoc, arith, eq-eqb, length, map, refl, subst, sym}
 use Rattle.std.specs.Prelude.{if◌then◌else◌, nat_lt, not, reverse, slice_index}
 use Rattle.std.proofs.lemmas.Bool.{cases_eq, cases_lt, le-ltb, lt-ltb, ltb-true, ne_eqb}
@@ -60,7 +61,8 @@ abbrev times : ℕ → List ℕ → ℕ
 times s [] = 0
 times s (i ∷ ids) = if i == s then times s ids + 1 else times s ids
 
--- of ids with the last one first: at each r there are as many of q as of r before it and the lead, up to all that there are
+-- of ids with the last one first: at each r there are as many of q as of r before it and the lead,
+-- up to all that there are
 abbrev AreInStep : ℕ → ℕ → ℕ → ℕ → List ℕ → Type 0
 AreInStep lead q most r [] = Unit {0}
 AreInStep lead q most r (i ∷ ids) = AreInStep lead q most r ids × (i ≡ r → IsLesser (times r ids + lead) most (times q ids))
@@ -180,7 +182,8 @@ map_reverse : {A : Type 0} {B : Type 0} (f : A → B) (xs : List A) → map f (r
 map_reverse f [] = refl
 map_reverse f (x ∷ xs) = ap (map f) (reverse-append (x ∷ []) xs) ∙ (map-append f (reverse xs) (x ∷ []) ∙ (ap (λ l. l ++ f x ∷ []) (map_reverse f xs) ∙ sym (reverse-append (f x ∷ []) (map f xs))))
 
--- q keeps step with r: at each event of r it has taken as many steps, with this event of r or without, or all
+-- q keeps step with r: at each event of r it has taken as many steps, with this event of r or
+-- without, or all
 pub record KeepsStep (q most r : ℕ) (past : List Event) : Type 0 where
   pub lead : ℕ
   pub short : lead ≤ 1

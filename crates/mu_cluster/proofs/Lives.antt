@@ -1,4 +1,4 @@
--- So a replay has every command.
+-- A replay has every command.
 use Rattle.std.proofs.Common.{◌≡◌, ◌∙◌, ◌⊎◌, inl, inr, arith, ℕ, ◌<◌, ◌==◌, ◌&&◌, ◌||◌, not, Bool, true, false, cond, Some, List, [], ◌∷◌, length, refl, subst, sym}
 use Rattle.std.proofs.lemmas.Bool.{true≢false}
 use Rattle.std.specs.List.{slice_get}

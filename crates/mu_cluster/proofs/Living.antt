@@ -1,4 +1,5 @@
--- Where its script has no pause and leaves a majority with replica 0, its ring is large and its budget enough, replica 0 has every row of a replay.
+-- If its script has no pause and leaves a majority with replica 0, its ring is large and its budget
+-- enough, replica 0 has every row of a replay.
 use Rattle.std.proofs.Common.{◌≡◌, ◌∙◌, ◌≢◌, ◌⊎◌, ℕ, ◌+◌, ◌<◌, ◌≤◌, ◌==◌, inl, inr, Bool, true, false, cond, None, Some, List, [], ◌∷◌, ◌++◌, ap, append_assoc, arith, eqb-true, length, map, refl, subst, sym}
 use Rattle.std.specs.declared.option.Option.{Option}
 use Rattle.std.specs.Prelude.{nat_lt, not, slice_index}

@@ -1,4 +1,5 @@
--- In a replay without a pause the least replica that isn't stopped leads on where the leaders below it were.
+-- In a replay without a pause, the least replica that isn't stopped leads on after the leaders
+-- below it were stopped.
 use Rattle.std.proofs.Common.{◌≡◌, ◌∙◌, ◌≢◌, ℕ, ◌+◌, ◌<◌, ◌≤◌, ◌==◌, inl, inr, Bool, true, false, cond, Some, List, [], ◌∷◌, ◌++◌, ap, append_assoc, arith, length, map, refl, subst, sym}
 use Rattle.std.specs.Prelude.{not, slice_index}
 use Rattle.std.specs.List.{slice_get}

@@ -1,4 +1,5 @@
--- Where a replica with a port of its own is.
+-- branch, driven: a replica with a port of its own: its node stands for the part of the port, which
+-- hasn't ended; and what it is at its end.
 use Rattle.std.specs.Prelude.{List, Some, [], length, reverse, ℕ, ◌≡◌}
 use Rattle.std.specs.List.{slice_get}
 use Rattle.mu_model.specs.declared.config.Config.{Config}
@@ -41,8 +42,8 @@ pub record IsFreshPort (c : Config) (r : ℕ) (p : PortValue) : Type 0 where
   pub id : p.id ≡ r
   pub empty : p.part ≡ []
 
--- the node of each replica stands for its part, which has its end there and not before; each part
--- is in true order
+-- the node of each replica stands for its part, which ends exactly there; each part is in true
+-- order
 pub record AreLeft (c : Config) (script : Script) (parts : List (List Event))
     (nodes : List Node) : Type 0 where
   pub count : length nodes ≡ c.replicas

@@ -1,4 +1,6 @@
--- Which replicas of a replay finish.
+-- finishing steps, has finished: the steps with which each replica of a replay has applied all,
+-- raised its head, and read the others' heads; it finished with every command, and replied as is
+-- told.
 use Rattle.std.specs.Prelude.{List, Some, [], false, length, true, ℕ, ◌*◌, ◌+◌, ◌<◌, ◌≡◌, ◌≤◌}
 use Rattle.std.specs.List.{slice_get}
 use Rattle.mu_alive.specs.Enough.{HasLargeRing}
@@ -13,7 +15,7 @@ use Rattle.mu_outcome.specs.Entries.{commands_in, longest}
 use Rattle.mu_outcome.specs.Outcomes.{journal_of, log_of, replies_of}
 use Rattle.mu_cluster.specs.Outliving.{GoesOnWith, was_stopped}
 
--- with so many steps each replica has applied all, raised its head, and read the others' heads
+-- the steps with which each replica has applied all, raised its head, and read the others' heads
 abbrev pub finishing_steps : Config → ℕ
 finishing_steps c = raising_steps c + c.replicas * cycle c
 
@@ -32,8 +34,8 @@ pub record HasApplied (o : Outcome) (r : ℕ) : Type 0 where
   pub ended : slice_get o.ends r ≡ Some (End.Finished heads)
   pub holds : holds_all o.job.config (log_of o r) ≡ true
 
--- if the script has no pause, and neither replica 0 nor a majority with it was stopped, each replica
--- that wasn't stopped finishes with every row
+-- if the script has no pause, and neither replica 0 nor a majority with it was stopped, each
+-- replica that wasn't stopped finishes with every row
 abbrev pub AppliesEachInTime : Outcome → Type 0
 AppliesEachInTime o =
     o.job.script.pauses ≡ [] → (k : ℕ) → GoesOnWith o 0 → HasTimeToFinish o k

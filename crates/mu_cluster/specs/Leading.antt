@@ -1,4 +1,4 @@
--- Whether leaderships end in a replay whose script has no pause.
+-- lead on: no leadership of a replay without a pause is ever over.
 use Rattle.std.specs.Prelude.{List, [], false, ℕ, ◌++◌, ◌<◌, ◌≡◌}
 use Rattle.mu_model.specs.declared.event.Event.{Event}
 use Rattle.mu_model.specs.Histories.{history}
@@ -6,7 +6,7 @@ use Rattle.mu_model.specs.Leaderships.{is_over}
 use Rattle.mu_outcome.specs.declared.outcome.Outcome.{Outcome}
 use Rattle.mu_outcome.specs.Outcomes.{journal_of}
 
--- where the script has no pause no leadership is ever over
+-- if the script has no pause, no leadership is ever over
 abbrev pub LeadOnUnpaused : Outcome → Type 0
 LeadOnUnpaused o =
     o.job.script.pauses ≡ [] → (r : ℕ) (newer older : List Event) → r < o.job.config.replicas

@@ -1,4 +1,4 @@
--- The lists of an outcome on their way.
+-- lists on their way: the lists of an outcome while it is built.
 use Rattle.std.specs.Prelude.{List, Some, [], length, map, vec_capacity, ℕ, ◌++◌, ◌<◌, ◌∷◌, ◌≡◌, ◌≤◌}
 use Rattle.std.specs.List.{slice_get}
 use Rattle.mu_model.specs.declared.config.Config.{Config}

@@ -1,4 +1,6 @@
--- What the replicas of a replay keep to where its script pauses none.
+-- names the first, spends budgets: in a replay whose script has no pause, which leader the replicas
+-- name, and that none is outrun; without a script line each spends its budget if a command is
+-- missing.
 use Rattle.std.specs.Prelude.{List, Some, [], true, ℕ, ◌++◌, ◌<◌, ◌==◌, ◌∷◌, ◌≡◌}
 use Rattle.std.specs.List.{slice_get}
 use Rattle.mu_model.specs.declared.config.Config.{Config}
@@ -34,19 +36,19 @@ pub record NamesFirst (c : Config) (events : List Event) : Type 0 where
       (earlier : List Event) (e : Event) (p : ℕ) → IsReached events earlier e
       → e.verb ≡ Verb.Ask p → e.by ≡ 0
 
--- the same of the outcome's order of events where its script has no pause, as where it has no line
+-- the same of the outcome's order of events if its script has no pause, as if it had no line
 abbrev pub NamesFirstUnpaused : Outcome → Type 0
 NamesFirstUnpaused o =
     o.job.script.pauses ≡ [] → (order : Record) → o.order ≡ Some order
     → NamesFirst o.job.config order.events
 
--- no replica was outrun where its script has no pause
+-- no replica was outrun if its script has no pause
 abbrev pub NoneOutrunUnpaused : Outcome → Type 0
 NoneOutrunUnpaused o =
     o.job.script.pauses ≡ [] → (r p i : ℕ) → r < o.job.config.replicas
     → slice_get o.ends r ≡ Some (End.Outrun p i) → ⊥
 
--- so where its script has no line and some command is missing, every replica spent its budget
+-- so if its script has no line and some command is missing, every replica spent its budget
 pub record SpendsBudgets (o : Outcome) : Type 0 where
   pub none_outrun : NoneOutrunUnpaused o
   pub spent :

@@ -1,4 +1,5 @@
--- What a replay comes to if leaders are stopped, one after another.
+-- was stopped, goes on, commits all after stops: a line of the script stopped the replica, by its
+-- end; the least replica of a majority that no line stopped; it knows every command in time.
 use Rattle.std.specs.Prelude.{Bool, Some, [], false, length, not, true, ℕ, ◌+◌, ◌<◌, ◌≡◌, ◌≤◌}
 use Rattle.std.specs.declared.option.Option.{Option}
 use Rattle.std.specs.List.{slice_get}
@@ -31,12 +32,12 @@ pub record GoesOnWith (o : Outcome) (s : ℕ) : Type 0 where
       majority_of o.job.config.replicas
       ≤ count_below o.job.config.replicas (λ r. not (was_stopped o r))
 
--- so many steps after the last one of each lower replica s has every command
+-- the steps after the last one of each lower replica until s has every command
 abbrev pub steps_after : Config → ℕ → ℕ
 steps_after c s = failing_steps c + last_steps c s + fetching_steps c
 
--- each replica below s took at most k steps, and so many more are within the budget, with a ring
--- that has a place for each entry
+-- each replica below s took at most k steps, and `steps_after` more are within the budget, with a
+-- ring that has a place for each entry
 pub record HasTimeAfter (o : Outcome) (s k : ℕ) : Type 0 where
   pub ended : (r : ℕ) → r < s → length (journal_of o r) ≤ k
   pub large : HasLargeRing o.job.config

@@ -1,4 +1,4 @@
--- How soon the replicas of an outcome did their work.
+-- are diligent: the journal of each replica of an outcome is diligent.
 use Rattle.std.specs.Prelude.{ℕ, ◌<◌}
 use Rattle.mu_model.specs.Diligence.{IsDiligent}
 use Rattle.mu_model.specs.Histories.{history}

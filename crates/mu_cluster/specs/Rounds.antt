@@ -1,4 +1,4 @@
--- Where the replicas of a replay are after so many rounds.
+-- keeps pace, played: where the replicas of a replay are after a number of rounds.
 use Rattle.std.specs.Prelude.{Bool, List, Some, [], false, if◌then◌else◌, length, map, nat_lt, not, slice_index, suc, true, ℕ, ◌*◌, ◌++◌, ◌+◌, ◌-◌, ◌<◌, ◌^◌, ◌∷◌, ◌≡◌, ◌≢◌, ◌≤◌, ◌⊎◌}
 use Rattle.std.specs.List.{slice_get}
 use Rattle.mu_model.specs.declared.config.Config.{Config}
@@ -19,8 +19,8 @@ part_of r events = part r (history events)
 abbrev pub id_of : Event → ℕ
 id_of e = e.by
 
--- a replica that took so many steps, and has waited so many rounds since, keeps the pace of one
--- that takes `all` steps: those where it has ended, and at least those else
+-- a replica that took this many steps, and has waited this many rounds since, keeps the pace of one
+-- that takes `all` steps: exactly the steps taken if it has ended, and at least those if not
 abbrev pub KeepsPace : List Pause → ℕ → Bool → ℕ → ℕ → ℕ → Type 0
 KeepsPace pauses r ended taken waited rounds =
     (all : ℕ) → taken ≤ all → (ended ≡ true → all ≡ taken)
@@ -33,7 +33,7 @@ EndsNowhereBefore c script r mine =
     (newer older : List Event) (end : End) → mine ≡ newer ++ older → newer ≢ []
     → EndsBy c script r older end → ⊥
 
--- replica r sits there after so many rounds
+-- replica r is at this point after this many rounds
 pub record Sits (c : Config) (script : Script) (r : ℕ) (mine : List Event) (seat : Seat)
     (rounds : ℕ) : Type 0 where
   pub stands : StandsForNode c r mine seat.node
@@ -42,7 +42,7 @@ pub record Sits (c : Config) (script : Script) (r : ℕ) (mine : List Event) (se
   pub ended : seat.ended ≡ true → (end : End) × EndsBy c script r mine end
   pub before : EndsNowhereBefore c script r mine
 
--- a round of replica r: it takes a step where it is due, and sits there after it
+-- a round of replica r: it takes a step if it is due, and is at this point after it
 pub record Plays (c : Config) (script : Script) (r : ℕ) (old new : List Event) (before after : Seat)
     (rounds : ℕ) : Type 0 where
   pub sits : Sits c script r (part_of r new) after (suc rounds)
@@ -69,8 +69,8 @@ abbrev pub one_if_going : Bool → ℕ
 one_if_going true = 0
 one_if_going false = 1
 
--- the replicas may take so many steps in all: those that they took where they have ended, and at
--- least those else
+-- the replicas may take this many steps in all: exactly those that they took if they have ended,
+-- and at least those if not
 pub record MayTake (events : List Event) (seats : List Seat) (lengths : List ℕ) : Type 0 where
   pub count : length lengths ≡ length seats
   pub each :
@@ -78,7 +78,7 @@ pub record MayTake (events : List Event) (seats : List Seat) (lengths : List ℕ
       → (length (part_of r events) ≤ slice_index lengths r)
       × (seat.ended ≡ true → slice_index lengths r ≡ length (part_of r events))
 
--- after so many rounds, and the turns of the first k replicas in the next one
+-- after this many rounds, and the turns of the first k replicas in the next one
 pub record Played (c : Config) (script : Script) (events : List Event) (seats : List Seat)
     (rounds k : ℕ) : Type 0 where
   pub count : length seats ≡ c.replicas

@@ -17,7 +17,7 @@ use mu_node::Node;
 use mu_outcome::Outcome;
 use shared_fabric::{Gathered, Parts};
 
-/// What a run of threads leaves in which every replica has an end. Takes no memory.
+/// What a run of threads leaves if every replica has an end. Takes no memory.
 pub(crate) fn gathered_outcome(
     room: OutcomeRoom,
     job: Job,
@@ -59,7 +59,7 @@ pub(crate) fn gathered_outcome(
     }
 }
 
-/// The lists with what each replica leaves. The job and the parts are for the clauses alone.
+/// The lists with what each replica leaves. The job and the parts are only for the clauses.
 fn left_by(mut lists: Lists, _job: &Job, _parts: &Parts, nodes: Vec<Node>) -> Lists
     requires good { IsConfig _job.now.config }
     requires room { HasRoom _job.now.config.replicas 0 lists }

@@ -43,7 +43,7 @@ pub(crate) struct OutcomeRoom {
     pub(crate) printed: Vec<Reply>,
 }
 
-/// Adds the end, where there is one.
+/// Adds the end, if there is one.
 fn add_end(ends: &mut Vec<End>, end: Option<End>)
     requires { length ends.old.items < vec_capacity ends.old }
     ensures items { (e : SomeEnd) → end ≡ Some e → ends.new.items ≡ ends.old.items ++ e ∷ [] }
@@ -54,7 +54,7 @@ fn add_end(ends: &mut Vec<End>, end: Option<End>)
     }
 }
 
-/// Adds the replies, where there is room, as there is for all.
+/// Adds the replies, if there is room: there is, for all.
 fn fill_replies(list: &mut Vec<Reply>, replies: &[Reply])
     ensures { list.old.items ≡ [] → length replies.now ≤ vec_capacity list.old
         → list.new.items ≡ replies.now }
@@ -77,7 +77,7 @@ pub(crate) fn printed(mut room: Vec<Reply>, lists: &Lists) -> Replies
 }
 
 impl Lists {
-    /// Empty lists with room for so many replicas.
+    /// Empty lists with room for this many replicas.
     fn with_room(alloc: Global, replicas: usize) -> Result<Lists, NoMemory>
         ensures { IfOk result (λ lists. HasRoom replicas 0 lists) }
     {
@@ -149,7 +149,7 @@ impl OutcomeRoom {
         })
     }
 
-    /// What a run leaves in which every replica has an end. Takes no memory.
+    /// What a run leaves if every replica has an end. Takes no memory.
     pub(crate) fn outcome(self, job: Job, order: Journal, seats: Vec<Seat>) -> Outcome
         requires good { IsConfig job.config }
         requires spelled { AreSpelled job.config job.commands }

@@ -23,7 +23,7 @@ use word_fabric::WordFabric;
 ///
 /// # Errors
 ///
-/// Want of memory alone. Then no replica has taken a turn.
+/// Only for want of memory. Then no replica has taken a turn.
 pub fn replay(alloc: Global, job: Job) -> Result<Outcome, NoMemory>
     requires config { IsConfig job.config }
     requires heads { HaveHeads job.config.width job.commands job.config.rows }
@@ -43,11 +43,11 @@ pub fn replay(alloc: Global, job: Job) -> Result<Outcome, NoMemory>
     replay_over(alloc, job, memory)
 }
 
-/// The same over any memory of the job's configuration in which no event is kept yet.
+/// The same over any memory of the job's configuration that keeps no event yet.
 ///
 /// # Errors
 ///
-/// Want of memory alone. Then no replica has taken a turn.
+/// Only for want of memory. Then no replica has taken a turn.
 pub fn replay_over<M: Memory>(alloc: Global, job: Job, memory: M) -> Result<Outcome, NoMemory>
     requires config { IsConfig job.config }
     requires heads { HaveHeads job.config.width job.commands job.config.rows }

@@ -28,7 +28,7 @@ pub(crate) struct Seat {
     ended: bool,
 }
 
-/// For how many rounds the replica is passed over once it has taken so many steps.
+/// For how many rounds the replica is passed over once it has taken this many steps.
 pub(crate) fn rounds_paused(pauses: &[Pause], replica: u8, steps: u32) -> u32
     ensures { result ≡ rounds_paused_of pauses.now replica steps }
 {

@@ -24,7 +24,7 @@ use std::thread::Threads;
 ///
 /// # Errors
 ///
-/// Want of memory alone. Then no replica has taken a turn.
+/// Only for want of memory. Then no replica has taken a turn.
 pub fn run<R: Threads + Wait + Sync, G: Gate + Sync>(
     rt: &R,
     alloc: Global,

@@ -1,4 +1,4 @@
--- What an event commits, as a commit.
+-- commit by: what an event commits, as a commit.
 use Rattle.std.specs.Prelude.{None, Some, ℕ}
 use Rattle.std.specs.declared.option.Option.{Option}
 use Rattle.mu_model.specs.declared.event.Verb.{Verb}

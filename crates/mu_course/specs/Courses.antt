@@ -1,4 +1,5 @@
--- When a course stands for the events of a replica, and what it tells of one more.
+-- course, finishes: what the events of one replica come to; the event by which a replica has
+-- finished.
 use Rattle.std.specs.Prelude.{ℕ, ◌≡◌, ◌&&◌, not, Bool, List, ◌∷◌}
 use Rattle.mu_model.specs.declared.config.Config.{Config}
 use Rattle.mu_model.specs.declared.event.Event.{Event}

@@ -1,5 +1,8 @@
--- When a replica gives up a leadership that isn't over. In a turn of replication it is told whom
--- its scores name, and does nothing but beat where that is another.
+-- yields, resigns: in a turn of replication a replica beats because another is named; it gives up a
+-- leadership by that.
+--
+-- In a turn of replication a replica is told which leader its scores name, and does nothing but
+-- beat if that is another replica.
 use Rattle.std.specs.Prelude.{ℕ, Bool, false, if◌then◌else◌, not, ◌&&◌, ◌||◌, List, [], ◌∷◌}
 use Rattle.mu_model.specs.declared.config.Config.{Config}
 use Rattle.mu_model.specs.declared.event.Event.{Event}
@@ -7,11 +10,11 @@ use Rattle.mu_model.specs.Leaderships.{begins_leadership, has_begun, is_over}
 use Rattle.mu_model.specs.Steps.{is_beat, is_named}
 use Rattle.mu_model.specs.Stretches.{is_replication}
 
--- r beats in a turn of replication, while its scores name another
+-- r beats in a turn of replication, while its scores name another replica
 abbrev pub yields : Config → ℕ → List Event → Event → Bool
 yields c r mine e = is_beat e && (is_replication mine e && not (is_named c r mine))
 
--- it did so since its last leadership began, which it gave up by that
+-- it did so since its last leadership began, and gave that up by it
 abbrev pub has_resigned : Config → ℕ → List Event → Bool
 has_resigned c r [] = false
 has_resigned c r (e ∷ mine) =

@@ -1,4 +1,4 @@
--- What a step comes to for the replica that makes it.
+-- told of a step: whether a step ends a leadership of its replica, and what it teaches.
 use Rattle.std.specs.Prelude.{ℕ, ◌≡◌, ◌+◌, ◌&&◌, Bool, not, List, ◌∷◌, length}
 use Rattle.std.specs.declared.option.Option.{Option}
 use Rattle.mu_model.specs.declared.config.Config.{Config}

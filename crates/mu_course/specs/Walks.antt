@@ -1,4 +1,4 @@
--- When the states of a walk stand for a history.
+-- walk: the courses of all replicas and the states of all regions along a list.
 use Rattle.std.specs.Prelude.{ℕ, ◌≡◌, List, None, Some, length}
 use Rattle.std.specs.declared.option.Option.{Option}
 use Rattle.std.specs.List.{slice_get}
@@ -32,7 +32,7 @@ abbrev pub fence_shown : Answer → Option Fence
 fence_shown (Answer.Seen fence) = Some fence
 fence_shown _ = None
 
--- the grant of a fence, where there is one
+-- the grant of a fence, if there is one
 abbrev pub grants_shown : Option Fence → ℕ
 grants_shown None = 0
 grants_shown (Some fence) = fence.grant

@@ -33,7 +33,7 @@ use std::alloc::Global;
 pub struct Course {
     /// What they let it do next.
     replica: Replica,
-    /// Whom it holds to be failed.
+    /// Which replicas it holds to be failed.
     scores: Scores,
     /// Whether it gave up its last leadership.
     resigned: bool,
@@ -43,7 +43,7 @@ pub struct Course {
     completion: Completion,
     /// What it committed.
     commits: Vec<Commit>,
-    /// Where it was outrun.
+    /// The region and the position at which it was outrun.
     outrun: Option<(u8, u16)>,
 }
 
@@ -52,7 +52,7 @@ pub struct Course {
 pub struct Turn {
     /// For its leadership as the verbs end it, and for what it knows.
     pub told: Told,
-    /// Whom its scores named before.
+    /// The replica that its scores named before.
     pub named: u8,
     /// Whether it gives up its leadership by it.
     pub resigns: bool,
@@ -80,21 +80,22 @@ fn begins(event: &Event, r: u8) -> bool
     }
 }
 
-/// Whether a step is odd, counted from 0, before which so many were made.
+/// Whether the next step is odd, after this many steps: steps are counted from 0.
 fn is_odd_step(steps: u32) -> bool
     ensures { result ≡ is_odd steps }
 {
     steps % 2 == 1
 }
 
-/// Whether a beat, or no beat, in a turn of replication, or in no such turn, gives way to another.
+/// Whether an event gives way to another leader: it is a beat in a turn of replication, and another
+/// replica is named.
 fn is_yield(beats: bool, replicates: bool, named: bool) -> bool
     ensures { result ≡ (beats && (replicates && not named)) }
 {
     beats && (replicates && !named)
 }
 
-/// Whether what has begun, is over or was given up, is under way.
+/// Whether a leadership is under way: it has begun, isn't over and wasn't given up.
 fn is_under_way(begun: bool, over: bool, resigned: bool) -> bool
     ensures { result ≡ (begun && (not over && not resigned)) }
 {
@@ -108,14 +109,14 @@ fn resigned_after(resigned: bool, begins: bool, yields: bool) -> bool
     if begins { false } else { yields || resigned }
 }
 
-/// The first values, or all where there are fewer.
+/// The first values, or all if there are fewer.
 fn first_of(values: &[u16], count: usize) -> &[u16]
     ensures { count ≤ length values.now → result.now ≡ take count values.now }
 {
     &values[..count.min(values.len())]
 }
 
-/// Whether a leadership is given up, which is under way, where a step gives way.
+/// Whether a leadership is given up: it is under way, and the step gives way to another.
 fn is_resigning(leading: bool, yields: bool) -> bool
     ensures { result ≡ (leading && yields) }
 {
@@ -123,7 +124,7 @@ fn is_resigning(leading: bool, yields: bool) -> bool
 }
 
 impl Course {
-    /// Before any event. Takes all memory that it ever needs.
+    /// The course of a replica before any event. Takes all memory that it ever needs.
     pub fn new(alloc: Global, config: &Config, replica: u8) -> Result<Course, NoMemory>
         requires config { IsConfig config.now }
         requires inside { replica < config.now.replicas }
@@ -154,7 +155,7 @@ impl Course {
         is_under_way(begun, over, self.resigned)
     }
 
-    /// Whom its scores name.
+    /// The replica that its scores name leader.
     pub fn named(&self) -> u8
         ensures { (c : Settings) → (r : ℕ) → (mine : List Made) → StandsForCourse c r mine self.now
             → result ≡ leader_of c r mine }
@@ -162,7 +163,7 @@ impl Course {
         self.scores.leader()
     }
 
-    /// Whether it holds `q` to be failed. Of a replica that isn't there the answer says nothing.
+    /// Whether it holds `q` to be failed. If there is no such replica, the answer says nothing.
     pub fn fails(&self, q: u8) -> bool
         ensures { (c : Settings) → (r : ℕ) → (mine : List Made) → q < c.replicas
             → StandsForCourse c r mine self.now → result ≡ is_failed_by r q mine }

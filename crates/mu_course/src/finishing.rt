@@ -13,7 +13,7 @@ ghost use Rattle.mu_follow.specs.Published.{HoldsPublished, head_heard};
 use mu_detect::Scores;
 use mu_follow::{Completion, Published};
 
-/// Whether the head, where there is one, is at least so far.
+/// Whether the head, if there is one, is at least `full`.
 fn reaches(head: Option<u64>, full: usize) -> bool
     ensures { result ≡ is_at_least full head }
 {
@@ -23,7 +23,7 @@ fn reaches(head: Option<u64>, full: usize) -> bool
     }
 }
 
-/// Whether the other replica has applied so many entries, or is held to be failed.
+/// Whether the other replica has applied `full` entries, or is held to be failed.
 fn is_done(heads: &Published, scores: &Scores, r: u8, q: u8, full: usize) -> bool
     requires { q < 7 }
     ensures { (c : Config) → (mine : List Event) → q < c.replicas
@@ -36,14 +36,14 @@ fn is_done(heads: &Published, scores: &Scores, r: u8, q: u8, full: usize) -> boo
     own || (there || failed)
 }
 
-/// Whether both are so.
+/// Whether both hold.
 fn are_both(one: bool, other: bool) -> bool
     ensures { result ≡ (one && other) }
 {
     one && other
 }
 
-/// Whether all others have applied so many entries, or are held to be failed.
+/// Whether all others have applied `full` entries, or are held to be failed.
 fn are_done(heads: &Published, scores: &Scores, r: u8, n: u8, full: usize) -> bool
     requires { n < 8 }
     ensures { (c : Config) → (mine : List Event) → n ≡ c.replicas

@@ -14,11 +14,11 @@ pub enum Halt {
     Spent,
     /// It has finished: all commands are applied, by it and by each other one that isn't failed.
     Finish,
-    /// The script passes it over for so many rounds.
+    /// The script passes it over for this many rounds.
     Pause(u32),
 }
 
-/// Whether the script stops the replica after so many steps.
+/// Whether the script stops the replica after this many steps.
 pub(crate) fn stops_at(stops: &[Stop], replica: u8, steps: u32) -> bool
     ensures { result ≡ stops_at_steps replica steps stops.now }
 {
@@ -30,7 +30,7 @@ pub(crate) fn stops_at(stops: &[Stop], replica: u8, steps: u32) -> bool
     false
 }
 
-/// For how many rounds the script passes the replica over after so many steps, if it does.
+/// For how many rounds the script passes the replica over after this many steps, if it does.
 fn pause_at(pauses: &[Pause], replica: u8, steps: u32) -> Option<Halt>
     ensures { result ≡ pause_at_steps replica steps pauses.now }
 {
@@ -42,7 +42,8 @@ fn pause_at(pauses: &[Pause], replica: u8, steps: u32) -> Option<Halt>
     None
 }
 
-/// What befalls a replica after so many steps, by the last of which it finishes or doesn't.
+/// What befalls a replica after this many steps; `finishes` says whether it finishes by the last of
+/// them.
 pub fn halt_after(
     config: &Config,
     script: &Script,

@@ -1,5 +1,5 @@
-//! What the events of a legal list come to: of each replica its leadership, what it knows, whom it
-//! names and what befalls it after a step, and the states of the regions.
+//! What the events of a legal list come to: of each replica its leadership, what it knows, which
+//! replicas it names and what befalls it after a step, and the states of the regions.
 #![tactic(auto)]
 
 mod course;

@@ -19,7 +19,7 @@ pub(crate) fn commit_in(event: &Event, taught: Option<u16>) -> Option<Commit>
     }
 }
 
-/// Adds a commit, if there is one, where there is room, as there is for each position.
+/// Adds a commit, if there is one and if there is room: there is, for each position.
 pub(crate) fn push_commit(commits: &mut Vec<Commit>, commit: Option<Commit>)
     ensures items { length (grown commits.old.items commit) ≤ vec_capacity commits.old
         → commits.new.items ≡ grown commits.old.items commit }
@@ -33,7 +33,7 @@ pub(crate) fn push_commit(commits: &mut Vec<Commit>, commit: Option<Commit>)
 }
 
 /// The region and the position of a look at what the replica still had to read that found the place
-/// used again, where so many values were known before it.
+/// used again, if `known` values were known before it.
 fn outrun_in(r: u8, known: usize, event: &Event) -> Option<(u8, u16)>
     ensures { result ≡ outrun_by r known event.now.by event.now.verb event.now.answer }
 {

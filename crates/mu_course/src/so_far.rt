@@ -18,7 +18,7 @@ pub enum EndSoFar {
     Finished,
 }
 
-/// The first that holds of stopped, budget, outrun and finished, where one does.
+/// The first that holds of stopped, budget, outrun and finished, if one does.
 pub(crate) fn first_end(
     stopped: bool,
     spent: bool,

@@ -61,7 +61,7 @@ impl Walk {
         Ok(Walk { courses, regions })
     }
 
-    /// The fence of a region. `None` where there is no such region.
+    /// The fence of a region. `None` if there is no such region.
     pub fn fence(&self, region: u8) -> Option<Fence>
         ensures { (past : List Made) → (c : Settings) → region < c.replicas
             → StandsForWalk c past self.now → result ≡ Some (fence_of region past) }
@@ -124,7 +124,7 @@ impl Walk {
         }
     }
 
-    /// Whom the scores of the replica name.
+    /// The replica that the scores of a replica name leader.
     pub fn named(&self, r: u8) -> u8
         ensures { (past : List Made) → (c : Settings) → r < c.replicas
             → StandsForWalk c past self.now → result ≡ leader c r (part r past) }
@@ -168,7 +168,7 @@ impl Walk {
 ///
 /// # Errors
 ///
-/// Want of memory alone.
+/// Only for want of memory.
 pub fn walked(
     alloc: Global,
     config: &Config,

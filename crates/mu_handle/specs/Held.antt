@@ -1,4 +1,4 @@
--- What a handle owns: the box of its judge, if it has one.
+-- held: what a handle owns: the box of its judge, if it has one.
 use Rattle.std.specs.Prelude.{None, Some, ⊤}
 use Rattle.std.specs.declared.option.Option.{Option}
 use Rattle.std.specs.Box.Ownership.{box_owns}

@@ -9,7 +9,8 @@ use mu_judging::LineJudge;
 use std::alloc::Global;
 use std::marker::Model;
 
-/// A judge that a C program holds, or none: then its pointer is null. It has the bytes of a pointer.
+/// A judge that a C program holds, or none: then its pointer is null. It has the bytes of a
+/// pointer.
 #[repr(C)]
 #[derive(Drop)]
 pub struct Handle {
@@ -23,7 +24,7 @@ impl Model for Handle {
 }
 
 impl Handle {
-    /// No judge.
+    /// A handle that holds no judge.
     pub fn none(alloc: Global) -> Handle
         ensures { result.held ≡ None }
     {

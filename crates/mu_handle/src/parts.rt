@@ -7,7 +7,7 @@ use std::marker::Model;
 
 /// What a box is made of. It owns what the box owned.
 pub struct Parts<T, A: Allocator> {
-    /// Where the value is.
+    /// The place of the value.
     pub(crate) at: *mut T,
     /// The allocator that gave its block.
     pub(crate) alloc: A,

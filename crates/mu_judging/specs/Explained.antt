@@ -1,4 +1,5 @@
--- Where the bytes of a trace break and why.
+-- line of, explains of: the line of the bytes that spells an event; the answer on where a trace
+-- breaks and why.
 use Rattle.std.specs.Prelude.{ℕ, ◌+◌, ◌-◌, ◌≡◌, ◌≤◌, List, None, Some, length, ⊤}
 use Rattle.std.specs.declared.option.Option.{Option}
 use Rattle.std.specs.List.{slice_get}
@@ -29,8 +30,8 @@ TellsLine bytes spelled line None = ⊤
 TellsLine bytes spelled line (Some broken) =
     IsLineOf bytes spelled line broken.index broken.event
 
--- the bytes spell a trace of so many events, and this is where it breaks and why, if it does, and
--- the line there
+-- the bytes spell a trace of this many events; where it breaks and why, if it does, and the line
+-- there
 pub record IsExplained (bytes : List ℕ) (events line : ℕ) (broken : Option Broken) : Type 0 where
   pub spelled : Trace
   pub fits : trace bytes ≡ Fits spelled

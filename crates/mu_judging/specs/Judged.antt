@@ -1,4 +1,4 @@
--- What there is to say of the bytes of a trace.
+-- says of: the answer on the bytes of a trace.
 use Rattle.std.specs.Prelude.{ℕ, ◌≡◌, List, Err, Ok, length, ⊤}
 use Rattle.mu_input.specs.declared.job.InputEnd.{InputEnd}
 use Rattle.mu_input.specs.Readings.{Fits, Leaves}
@@ -11,14 +11,14 @@ use Rattle.mu_report.specs.Said.{said_of_end}
 pub use Rattle.mu_judging.specs.Explained.{ExplainsOf}
 pub use Rattle.mu_judging.specs.Told.{TellsOf}
 
--- the bytes spell a trace of so many events, and this is the verdict on them
+-- the bytes spell a trace of this many events, and this is the verdict on them
 pub record IsJudged (bytes : List ℕ) (events : ℕ) (verdict : Verdict) : Type 0 where
   pub spelled : Trace
   pub fits : trace bytes ≡ Fits spelled
   pub count : events ≡ length spelled.events
   pub judges : Judges spelled.job.config spelled.events verdict
 
--- a refusal where the bytes leave the grammar, at that line with that cause, and else the verdict;
+-- a refusal if the bytes leave the grammar, at that line with that cause, and else the verdict;
 -- want of memory can come at any bytes, and nothing else is said of a trace
 abbrev pub SaysOf : List ℕ → Said → Type 0
 SaysOf bytes (Said.Refused line cause) = trace bytes ≡ Leaves line cause
@@ -32,7 +32,7 @@ abbrev pub IsEndOfTrace : List ℕ → InputEnd → Type 0
 IsEndOfTrace bytes (InputEnd.Refused line cause) = trace bytes ≡ Leaves line cause
 IsEndOfTrace bytes InputEnd.NoMemory = ⊤
 
--- what is said of so many events with this verdict, or of why no trace was judged
+-- what is said of this many events with this verdict, or of why no trace was judged
 abbrev pub said_of : Result (ℕ × Verdict) InputEnd → Said
 said_of (Ok judged) = Said.Judged judged.0 judged.1
 said_of (Err end) = said_of_end end

@@ -1,4 +1,5 @@
--- What a judge that takes lines has taken, and what it says.
+-- has taken, opens: what a judge that takes an input line by line knows of the events that it took,
+-- and what it says of them; it is one for the job that bytes spell, and has taken no event yet.
 use Rattle.std.specs.Prelude.{ℕ, ◌+◌, ◌<◌, ◌≡◌, ◌^◌, List, [], ◌∷◌, None, Some, length, ⊤}
 use Rattle.std.specs.declared.option.Option.{Option}
 use Rattle.mu_check.specs.Judges.{StandsForJudge}

@@ -1,4 +1,5 @@
--- What the events that the bytes of a trace spell come to.
+-- is told, tells of: what the events that the bytes of a trace spell come to, if they are legal;
+-- else what is said of where they break, or of where the bytes leave the grammar.
 use Rattle.std.specs.Prelude.{ℕ, ◌≡◌, List, Some, ⊤}
 use Rattle.mu_input.specs.Readings.{Fits}
 use Rattle.mu_input.specs.Traces.{Trace, trace}
@@ -19,7 +20,7 @@ pub record IsTold (bytes : List ℕ) (account : Account) : Type 0 where
   pub is : IsAccount spelled.events account
   pub agrees : Agrees account.outcome
 
--- what the events come to where they are legal, else what is said of where they break and why, or of
+-- what the events come to if they are legal, else what is said of where they break and why, or of
 -- where the bytes leave the grammar; want of memory can come at any bytes, and nothing else is said
 abbrev pub TellsOf : List ℕ → Said → Type 0
 TellsOf bytes (Said.Told account) = IsTold bytes account

@@ -16,9 +16,8 @@ use mu_report::Said;
 use mu_text::LineReader;
 use std::alloc::Global;
 
-/// What there is to say of where a trace breaks and why: `Misread` exactly where the bytes leave
-/// the grammar, with the first line that leaves it, and else `Explained`. `NoMemory` for want of
-/// memory.
+/// What is said of where a trace breaks and why: `Misread` exactly if the bytes leave the grammar,
+/// with the first line that leaves it, and else `Explained`. `NoMemory` for want of memory.
 pub fn explain_trace(alloc: Global, bytes: &[u8]) -> Said
     requires { length bytes.now ≤ TRACE_LIMIT }
     ensures says { ExplainsOf bytes.now result }
@@ -42,11 +41,11 @@ pub fn explain_trace(alloc: Global, bytes: &[u8]) -> Said
     }
 }
 
-/// Where the events of a trace break and why, and the line there, or 0 where they don't.
+/// Where the events of a trace break and why, and the line there, or 0 if they don't.
 ///
 /// # Errors
 ///
-/// Want of memory alone.
+/// Only for want of memory.
 pub(crate) fn located(
     alloc: Global,
     bytes: &[u8],
@@ -75,7 +74,7 @@ pub(crate) fn count_of_lines(bytes: &[u8]) -> u32
     rest.number() - 1
 }
 
-/// The line of the event that breaks the list, where the input has so many lines: the events stand
+/// The line of the event that breaks the list, if the input has that many lines: the events stand
 /// in the last ones, before the last `end`.
 fn line_of(lines: u32, events: u32, broken: &Option<Broken>) -> u32
     ensures { IfSome broken.now (λ broken. events ≤ lines → broken.index ≤ events

@@ -1,4 +1,4 @@
-//! From the bytes of a trace to what there is to say of it.
+//! From the bytes of a trace to what is said of it.
 ghost use Rattle.std.specs.Prelude.{◌≡◌, ◌≤◌, length, IfErr, IfOk};
 ghost use Rattle.mu_input.specs.declared.TheConstants.{TRACE_LIMIT};
 ghost use Rattle.mu_judging.specs.Judged.{said_of, IsEndOfTrace, IsJudged, SaysOf};
@@ -10,9 +10,9 @@ use mu_outcome::Verdict;
 use mu_report::Said;
 use std::alloc::Global;
 
-/// What there is to say of the bytes of a trace: `Refused` exactly where they leave the grammar,
-/// with the first line that leaves it and the cause, and else `Judged`. `NoMemory` for want of
-/// memory. Takes the memory of the trace and of the states that its events lead to.
+/// What is said of the bytes of a trace: `Refused` exactly if they leave the grammar, with the
+/// first line that leaves it and the cause, and else `Judged`. `NoMemory` for want of memory. Takes
+/// the memory of the trace and of the states that its events lead to.
 pub fn judge(alloc: Global, bytes: &[u8]) -> Said
     requires { length bytes.now ≤ TRACE_LIMIT }
     ensures says { SaysOf bytes.now result }
@@ -25,7 +25,7 @@ pub fn judge(alloc: Global, bytes: &[u8]) -> Said
 ///
 /// # Errors
 ///
-/// `Refused` exactly where the bytes leave the grammar of traces; `NoMemory` for want of memory.
+/// `Refused` exactly if the bytes leave the grammar of traces; `NoMemory` for want of memory.
 fn judged(alloc: Global, bytes: &[u8]) -> Result<(u32, Verdict), InputEnd>
     requires { length bytes.now ≤ TRACE_LIMIT }
     ensures verdict { IfOk result (λ judged. IsJudged bytes.now judged.0 judged.1) }
@@ -36,7 +36,7 @@ fn judged(alloc: Global, bytes: &[u8]) -> Result<(u32, Verdict), InputEnd>
     Ok((events.len() as u32, check(alloc, &job.config, events)?))
 }
 
-/// What is said of so many events with this verdict, or of why no trace was judged.
+/// What is said of this many events with this verdict, or of why no trace was judged.
 fn told(judged: Result<(u32, Verdict), InputEnd>) -> Said
     ensures { result ≡ said_of judged }
 {

@@ -1,4 +1,4 @@
-//! From the bytes of a trace to what there is to say of it, of a whole trace or line by line.
+//! From the bytes of a trace to what is said of it, of a whole trace or line by line.
 #![tactic(auto)]
 
 mod explaining;

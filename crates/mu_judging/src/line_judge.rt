@@ -23,8 +23,8 @@ use mu_outcome::Status;
 use mu_report::Said;
 use std::alloc::Global;
 
-/// What a judge says that took all events of a trace line by line is what there is to say of the
-/// whole trace; the first event stands in the line after those of the job.
+/// A judge that took all events of a trace line by line says what is said of the whole trace; the
+/// first event stands in the line after those of the job.
 pub fn lines_are_judged_as_a_whole()
     ensures { (bytes : List ℕ) → (spelled : Trace) → (start : ℕ) → (judge : SomeJudge)
         → length bytes ≤ TRACE_LIMIT → trace bytes ≡ Fits spelled
@@ -35,7 +35,7 @@ pub fn lines_are_judged_as_a_whole()
 {}
 
 /// A judge of the events of a job that come line by line. It keeps the states that they lead to and
-/// not the events, so its memory doesn't grow. Where an event breaks the list, it keeps that.
+/// not the events, so its memory doesn't grow. If an event breaks the list, it keeps that.
 #[derive(Drop)]
 pub struct LineJudge {
     config: Config,
@@ -51,8 +51,8 @@ impl LineJudge {
     ///
     /// # Errors
     ///
-    /// `Refused` exactly where the bytes leave the grammar of jobs, with the first line that does
-    /// and the cause; `NoMemory` for want of memory.
+    /// `Refused` exactly if the bytes leave the grammar of jobs, with the first line that does and
+    /// the cause; `NoMemory` for want of memory.
     pub fn new(alloc: Global, bytes: &[u8]) -> Result<LineJudge, InputEnd>
         requires { length bytes.now ≤ TRACE_LIMIT }
         ensures opens { IfOk result (Opens bytes.now) }
@@ -131,8 +131,8 @@ impl LineJudge {
         }
     }
 
-    /// What there is to say of the list so far, as of the whole trace: that it is legal, or which
-    /// event broke it, in which line of the trace, and why.
+    /// What is said of the list so far, as of the whole trace: that it is legal, or which event
+    /// broke it, in which line of the trace, and why.
     pub fn said(&self) -> Said
         ensures says { (c : SomeConfig) → (start : ℕ) → (past : List Made)
             → HasTaken c start past self.now → result ≡ said_by self.now }

@@ -1,4 +1,4 @@
--- What a leader read of a region and put there: where its FUO was read, and nothing was put beyond
+-- What a leader read of a region and put there: if its FUO was read, and nothing was put beyond
 -- what it has, an entry is brought to it for the first time.
 use Rattle.std.proofs.Common.{Bool, List, None, Some, [], ap, arith, cond, eq-eqb, eqb-true, false, get_or, inl, inr, refl, subst, sym, true, true≢false, ℕ, ◌&&◌, ◌+◌, ◌==◌, ◌∙◌, ◌∷◌, ◌≡◌, ◌≢◌, ◌≤◌}
 use Rattle.std.specs.Prelude.{min, nat_le, not}

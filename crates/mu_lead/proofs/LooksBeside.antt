@@ -1,4 +1,4 @@
--- What holds at the places of a leader stays, where another machine of the replica looks at another
+-- What holds at the places of a leader stays when another machine of the replica looks at another
 -- position than the first unknown one.
 use Rattle.std.proofs.Common.{Bool, List, None, Some, ap, cond, false, get_or, is_some, refl, suc, sym, subst, length, true, true≢false, zero, ℕ, ◌%◌, ◌&&◌, ◌+◌, ◌/◌, ◌<◌, ◌==◌, ◌||◌, ◌∙◌, ◌∷◌, ◌≡◌, ◌≢◌, ◌≤◌}
 use Rattle.std.specs.Prelude.{is_none, nat_lt, not}

@@ -1,4 +1,4 @@
--- Which notes the places give beside those of rounds and of puts of the offer.
+-- Which notes the places give besides those of rounds and of puts of the offer.
 use Rattle.std.proofs.Common.{Bool, List, Some, ap, false, get_or, length, min, subst, sym, true, true≢false, ℕ, ◌%◌, ◌&&◌, ◌+◌, ◌<◌, ◌==◌, ◌∙◌, ◌∷◌, ◌≡◌}
 use Rattle.std.specs.Prelude.{nat_lt, not}
 use Rattle.mu_model.specs.declared.event.Answer.{Answer}

@@ -125,7 +125,7 @@ unnamed c r mine written old new answer is turn off goes at =
       | inr anew ↦ subst (CountsAt c r (beat_of r answer ∷ mine) written) (sym anew) (counts_anew c r answer mine written was closed)
     ]
 
--- the leader that was told whom the scores name is where it was, or asks anew
+-- the leader that was told which leader the scores name is where it was, or asks anew
 told_place : (gives : Bool) (old new : Place) → new ≡ (if gives then Place.Ask 0 else old) → (new ≡ old) ⊎ (new ≡ Place.Ask 0)
 told_place true old new is = inr is
 told_place false old new is = inl is

@@ -1,4 +1,4 @@
--- Where nothing is due all commands are known, and every region is a member.
+-- If nothing is due, all commands are known, and every region is a member.
 use Rattle.std.proofs.Common.{Bool, List, arith, false, length, refl, subst, sym, true, true≢false, ℕ, ◌+◌, ◌<◌, ◌≡◌, ◌≤◌}
 use Rattle.std.specs.Prelude.{not}
 use Rattle.mu_model.specs.declared.config.Config.{Config}

@@ -1,4 +1,4 @@
--- The counts of a leader where an entry is brought to a region that lacks it.
+-- The counts of a leader when an entry is brought to a region that lacks it.
 use Rattle.std.proofs.Common.{◌≡◌, ℕ, ◌<◌, inl, inr, true, false, Some, List, ◌∷◌, ap, refl, sym, true≢false}
 use Rattle.std.specs.Prelude.{not, ◌&&◌}
 use Rattle.std.specs.List.{slice_get}

@@ -1,4 +1,4 @@
--- The counts of a leader while it asks after late followers, where it goes on to the next.
+-- The counts of a leader while it asks after late followers, when it goes on to the next.
 use Rattle.std.proofs.Common.{◌≡◌, ℕ, ◌+◌, ◌<◌, ◌≤◌, ◌⊎◌, inl, inr, true, false, ◌==◌, List, ◌∷◌, refl, sym, subst, arith, true≢false}
 use Rattle.std.proofs.lemmas.Bool.{cases_lt, le-leb, lt-ltb}
 use Rattle.mu_model.specs.declared.config.Config.{Config}

@@ -1,4 +1,4 @@
--- The counts of a leader while it looks at a new position, where the looks teach nothing.
+-- The counts of a leader while it looks at a new position, if the looks teach nothing.
 use Rattle.std.proofs.Common.{◌≡◌, ℕ, ◌*◌, ◌<◌, ◌≤◌, inl, true, false, List, ◌∷◌, refl, arith}
 use Rattle.mu_model.specs.declared.config.Config.{Config}
 use Rattle.mu_model.specs.declared.event.Answer.{Answer}

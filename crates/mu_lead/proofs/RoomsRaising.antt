@@ -1,4 +1,4 @@
--- The counts of a leader while FUOs are raised: after a commit, and where a region was brought up.
+-- The counts of a leader while FUOs are raised: after a commit, and after a region was brought up.
 use Rattle.std.proofs.Common.{◌≡◌, ℕ, ◌+◌, ◌<◌, inl, inr, true, List, ◌∷◌, refl, sym, subst, arith, true≢false}
 use Rattle.std.proofs.lemmas.Bool.{le-leb}
 use Rattle.mu_model.specs.declared.config.Config.{Config}

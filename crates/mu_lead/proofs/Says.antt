@@ -1,4 +1,4 @@
--- Each note comes exactly where its row holds.
+-- Each note comes exactly if its row holds.
 use Rattle.std.proofs.Common.{Bool, List, Some, ap, false, length, refl, subst, sym, true, ℕ, ◌+◌, ◌<◌, ◌==◌, ◌∙◌, ◌∷◌, ◌≡◌}
 use Rattle.mu_model.specs.declared.event.Answer.{Answer}
 use Rattle.mu_model.specs.declared.event.Event.{Event}

@@ -1,4 +1,4 @@
--- What the other machines of a replica do beside its leader.
+-- beside (leader): what the other machines of the replica do while it leads, and while it doesn't.
 use Rattle.std.specs.Prelude.{Bool, List, false, not, true, ℕ, ◌&&◌, ◌==◌, ◌∷◌, ◌≡◌}
 use Rattle.mu_model.specs.declared.event.Answer.{Answer}
 use Rattle.mu_model.specs.declared.event.Event.{Event}
@@ -30,8 +30,8 @@ is_beside leading (Verb.Fuo p) = not leading
 is_beside leading (Verb.Look p i) = not leading
 is_beside leading _ = true
 
--- a verb of another machine beside a leader that leads or not, and knows so many entries: while it
--- leads, no log is looked at in the first unknown position
+-- a verb of another machine, alongside a leader that leads or not and knows this many entries:
+-- while it leads, no log is looked at in the first unknown position
 abbrev pub leaves_leader : Bool → ℕ → Verb → Bool
 leaves_leader leading known (Verb.Fuo p) = true
 leaves_leader leading known (Verb.Look p i) = not (leading && (i == known))

@@ -1,5 +1,5 @@
--- The cause of each ask, at each place of a leader: a leadership begins only where there is none,
--- or the one before is over, was left, or was not confirmed in 16 rounds.
+-- causes: a leadership may begin when the first region is asked next: there is none, or the one
+-- before is over, was left, or was not confirmed in 16 rounds.
 use Rattle.std.specs.Prelude.{Bool, List, Some, true, false, ℕ, ◌+◌, ◌<◌, ◌∷◌, ◌≡◌, ◌≢◌, ◌≤◌, ◌⊎◌}
 use Rattle.mu_model.specs.declared.config.Config.{Config}
 use Rattle.mu_model.specs.declared.event.Answer.{Answer}
@@ -17,14 +17,14 @@ use Rattle.mu_lead.specs.declared.place.Place.{Place}
 use Rattle.mu_lead.specs.Beside.{is_beside, leads_at}
 use Rattle.mu_lead.specs.Standing.{verb_of}
 
--- a leadership may begin where the first region is asked next, and one that read no minimum goes on
--- where another is
+-- a leadership may begin if the first region is asked next; one that read no minimum goes on if
+-- another region is
 pub record MayAsk (c : Config) (r : ℕ) (mine : List Event) (p : ℕ) : Type 0 where
   pub first : p ≡ 0 → may_ask_anew c r mine ≡ true
   pub later : p ≢ 0 → has_min r mine ≡ false
 
--- no minimum was read, but each fence in so many rounds of the leadership, and those below p once
--- more
+-- no minimum was read; each fence was read in `round` rounds of the leadership, and those below p
+-- once more
 pub record HasReadRounds (c : Config) (r : ℕ) (mine : List Event) (round p : ℕ) : Type 0 where
   pub unread : has_min r mine ≡ false
   pub below : (q : ℕ) → q < p → round + 1 ≤ how_many (is_fencing q) (leadership r mine)
@@ -37,8 +37,8 @@ CausesAt c r mine (Place.Confirm round p) = HasReadRounds c r mine round p
 CausesAt c r mine (Place.Evidence p) = is_over r mine ≡ true
 CausesAt c r mine place = Unit {0}
 
--- what the other machines do leaves the cause of the next ask, and so it is where the replica isn't
--- named, though the leader gives up; a named leader asks with cause, and no other machine asks
+-- what the other machines do leaves the cause of the next ask; so does what a replica that isn't
+-- named does, though its leader gives up; a named leader asks with cause, and no other machine asks
 pub record LeadersAskWithCause : Type 0 where
   pub beside :
       (c : Config) (r : ℕ) (mine : List Event) (place : Place) (verb : Verb) (answer : Answer)

@@ -1,5 +1,5 @@
--- The count of steps of a confirmed leadership, at each place of a leader: it reads its first
--- minimum in time.
+-- confirms: the steps that are left, at each place of a leader, to the first minimum of a confirmed
+-- leadership: it reads one in time.
 use Rattle.std.specs.Prelude.{List, None, [], false, true, ℕ, ◌+◌, ◌-◌, ◌∷◌, ◌≡◌}
 use Rattle.mu_model.specs.declared.config.Config.{Config}
 use Rattle.mu_model.specs.declared.event.Answer.{Answer}
@@ -31,7 +31,7 @@ ConfirmsAt c r mine (Place.ReadMin p) = IsInTime (confirming c r) mine
 ConfirmsAt c r mine place = HasRead c r mine
 
 -- before any event none was confirmed; what the other machines do in the background leaves it so;
--- each first minimum is in time, and none is waited for where the next leadership begins
+-- each first minimum is in time, and none is waited for when the next leadership begins
 pub record MinimaComeInTime : Type 0 where
   pub start : (c : Config) (r : ℕ) → NoneIsAwaited c r []
   pub beside :

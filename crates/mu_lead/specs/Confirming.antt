@@ -1,4 +1,5 @@
--- What holds while a leader asks, reads fences and minima, and puts its number.
+-- fresh, telling, numbered, joined: what holds while a leader asks, reads fences and minima, and
+-- puts its number.
 use Rattle.std.specs.Prelude.{List, None, Some, false, is_some, true, ℕ, ◌++◌, ◌-◌, ◌<◌, ◌∷◌, ◌≡◌, ◌≤◌, ◌⊎◌}
 use Rattle.mu_model.specs.declared.config.Config.{Config}
 use Rattle.mu_model.specs.declared.event.Event.{Event}

@@ -1,5 +1,5 @@
--- The counts of steps since each region was asked and its fence read, at each place of a leader:
--- who has to ask does both in time.
+-- elects: the most steps since each region was asked and its fence read, at each place of a leader:
+-- a replica that has to ask does both in time.
 use Rattle.std.specs.Prelude.{List, false, true, ℕ, ◌*◌, ◌+◌, ◌<◌, ◌∷◌, ◌≡◌, ◌≤◌, ◌⊎◌}
 use Rattle.mu_agree.specs.Paces.{asks_or_rests, steps_since}
 use Rattle.mu_model.specs.declared.config.Config.{Config}
@@ -40,7 +40,7 @@ pub record FencesNext (c : Config) (r : ℕ) (mine : List Event) (round p : ℕ)
   pub fences :
       (q : ℕ) → p ≤ q → q < c.replicas → since_fence c r q mine ≤ 2 * c.replicas + p
 
--- so many steps are left at least to ask each region, and to read each fence
+-- at least `left` steps are left to ask each region, and to read each fence
 pub record HasStepsLeft (c : Config) (r : ℕ) (mine : List Event) (left : ℕ) : Type 0 where
   pub asks : (q : ℕ) → q < c.replicas → since_ask c r q mine + left ≤ 17 * c.replicas
   pub fences : (q : ℕ) → q < c.replicas → since_fence c r q mine + left ≤ 17 * c.replicas
@@ -55,7 +55,7 @@ pub record ReadsNext (c : Config) (r : ℕ) (mine : List Event) : Type 0 where
   pub first : has_min r mine ≡ false → HasStepsLeft c r mine 1
   pub later : has_min r mine ≡ true → HasStepsLeft c r mine 0
 
--- what holds of asks at a place; where a put has missed, the replica has just led
+-- what holds of asks at a place; if a put has missed, the replica has just led
 abbrev pub ElectsAt : Config → ℕ → List Event → Place → Type 0
 ElectsAt c r mine (Place.Ask p) = AsksNext c r mine p
 ElectsAt c r mine (Place.Confirm round p) = FencesNext c r mine round p
@@ -64,8 +64,8 @@ ElectsAt c r mine (Place.Evidence p) = HasStepsLeft c r mine (17 * c.replicas)
 ElectsAt c r mine place = HasLed c r mine
 
 -- what the other machines do in the background leaves the counts of asks; so do their replication
--- events where the replica isn't named, though the leader gives up, and where nothing is due; and
--- each ask and fence is in time
+-- events if the replica isn't named, though the leader gives up, and if nothing is due; and each
+-- ask and fence is in time
 pub record ElectionsComeInTime : Type 0 where
   pub beside :
       (c : Config) (r : ℕ) (mine : List Event) (place : Place) (verb : Verb) (answer : Answer)

@@ -1,5 +1,5 @@
--- The count of steps after a put that missed, at each place of a leader: the next step reads the
--- fence.
+-- explains: a put that missed waits for its fence only at the place that reads it, so the next step
+-- reads it.
 use Rattle.std.specs.Prelude.{List, None, [], false, true, ℕ, ◌∷◌, ◌≡◌, ◌≢◌}
 use Rattle.mu_model.specs.declared.config.Config.{Config}
 use Rattle.mu_model.specs.declared.event.Answer.{Answer}

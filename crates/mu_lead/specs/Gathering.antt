@@ -1,5 +1,5 @@
--- Where the listing goes on while regions are asked and fences and minima are read, and that it
--- leads from then on until the leadership is over.
+-- goes on (gathering): the place to which the listing goes on from asks, fences, minima and lost
+-- leaderships; from then on it leads until the leadership is over.
 use Rattle.std.specs.Prelude.{Bool, List, false, true, ℕ, ◌+◌, ◌<◌, ◌==◌, ◌≡◌, ◌≤◌, ◌⊎◌}
 use Rattle.mu_model.specs.declared.event.Event.{Event}
 use Rattle.mu_model.specs.Leaderships.{is_over}
@@ -16,7 +16,7 @@ reads_first place = false
 abbrev pub FollowsAsk : ℕ → ℕ → Place → Type 0
 FollowsAsk n p new = (new ≡ Place.Ask (p + 1)) ⊎ ((n ≤ p + 1) × (new ≡ Place.Confirm 0 0))
 
--- after a round come another one, after 16 the asks again, or the minima
+-- after a round comes another one, or the asks again after 16 rounds, or the minima
 abbrev pub FollowsRound : ℕ → Place → Type 0
 FollowsRound round new =
     ((round < 15) × (new ≡ Place.Confirm (round + 1) 0))
@@ -27,7 +27,7 @@ abbrev pub FollowsFence : ℕ → ℕ → ℕ → Place → Type 0
 FollowsFence n round p new =
     (new ≡ Place.Confirm round (p + 1)) ⊎ ((n ≤ p + 1) × FollowsRound round new)
 
--- the regions are asked anew, or the fence is read of a put that missed
+-- the regions are asked again, or the fence of a put that missed is read
 abbrev pub ends_at : Place → Bool
 ends_at (Place.Ask p) = p == 0
 ends_at (Place.Evidence p) = true

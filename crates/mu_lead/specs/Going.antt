@@ -1,4 +1,4 @@
--- When a leadership is under way, as the notes have it.
+-- going after: whether a leadership is under way after an answer, as the notes have it.
 use Rattle.std.specs.Prelude.{Bool, false, ◌==◌}
 use Rattle.mu_lead.specs.declared.note.Note.{Note}
 use Rattle.mu_lead.specs.declared.place.Place.{Place}

@@ -1,4 +1,5 @@
--- Where the listing of a replica stands, by its journal alone.
+-- place after, tables at, due after, is where: the place, the tables and the due verb of a leader,
+-- by its journal only; and that a leader is at that place with those tables.
 use Rattle.std.specs.Prelude.{Bool, List, None, Some, [], false, get_or, if◌then◌else◌, max, nat_le, nat_lt, replicate, set, true, ℕ, ◌*◌, ◌+◌, ◌/◌, ◌==◌, ◌||◌, ◌∷◌, ◌≡◌}
 use Rattle.std.specs.declared.option.Option.{Option}
 use Rattle.mu_model.specs.declared.config.Config.{Config}
@@ -21,14 +22,14 @@ use Rattle.mu_lead.specs.Leading.{end_of}
 use Rattle.mu_lead.specs.Listing.{Tables, next_place}
 use Rattle.mu_lead.specs.Standing.{StandsFor, known_told, verb_at, verb_of}
 
--- the table with u at each place that passes, where its first one is place k
+-- the table with u at each place that passes; its first place is place k
 abbrev pub set_where : (ℕ → Bool) → ℕ → ℕ → List ℕ → List ℕ
 set_where test u k [] = []
 set_where test u k (x ∷ xs) = (if test k then u else x) ∷ set_where test u (k + 1) xs
 
--- up to where each region has what is known, by one more step of the leader: a leadership that
--- begins knows nothing; a FUO that is read of a member, or of a region that is not ahead, tells it;
--- so does each entry that is brought there, and a commit for each member
+-- up to which position each region has what is known, by one more step of the leader: a leadership
+-- that begins knows nothing; a FUO that is read of a member, or of a region that is not ahead,
+-- tells it; so does each entry that is brought there, and a commit for each member
 abbrev pub up_with : Config → ℕ → List Event → List Event → List ℕ → Verb → Answer → List ℕ
 up_with c r past now up (Verb.Ask p) answer = if p == 0 then replicate 7 0 else up
 up_with c r past now up (Verb.Fuo p) (Answer.Number u) =
@@ -44,7 +45,7 @@ abbrev pub greater_fuo : Option ℕ → ℕ → Option ℕ
 greater_fuo None u = Some u
 greater_fuo (Some x) u = Some (max u x)
 
--- the table with a FUO at the place, where it is the greater one
+-- the table with a FUO at the place, if it is the greater one
 abbrev pub fuo_in : List (Option ℕ) → ℕ → ℕ → List (Option ℕ)
 fuo_in reach p u = set reach p (greater_fuo (get_or reach p None) u)
 
@@ -60,7 +61,7 @@ abbrev pub heads_with : List ℕ → Verb → Answer → List ℕ
 heads_with heads (Verb.Head q) (Answer.Number h) = set heads q h
 heads_with heads verb answer = heads
 
--- how many words of each own row are written
+-- how many words of each row of its own are written
 abbrev pub written_with : List ℕ → Verb → List ℕ
 written_with written (Verb.WriteRow j k x) = set written j (get_or written j 12 + 1)
 written_with written verb = written
@@ -120,8 +121,8 @@ WritesNext mine old values answer new =
     → values ≡ known_told old.config old.id mine old.id verb answer
     → WritesTo old mine verb answer new
 
--- the place of the listing, by the journal: each replication step of a replica that its scores name
--- goes on, by any other the listing begins anew, and the background leaves it
+-- the place of the listing, by the journal: with each replication step of a replica that its scores
+-- name it goes on, with any other it begins again, and the background leaves it
 abbrev pub place_after : Config → ℕ → List Event → Place
 place_after c r [] = Place.Ask 0
 place_after c r (e ∷ past) =
@@ -138,7 +139,7 @@ least_above r m =
     if nat_lt m 8 then 8 + r
     else (if nat_lt m (m / 8 * 8 + r) then m / 8 * 8 + r else m / 8 * 8 + 8 + r)
 
--- the number, where there is one, else the least of r above all that it read and put
+-- the number, if there is one, else the least of r above all that it read and put
 abbrev pub number_or : ℕ → List Event → Option ℕ → ℕ
 number_or r mine (Some b) = b
 number_or r mine None =
@@ -146,11 +147,11 @@ number_or r mine None =
     (max (greatest (λ e. any_min_read r e.by e.verb e.answer) (leadership r mine))
     (greatest (λ e. number_put r e.by e.verb) mine))
 
--- the number that r puts: that of its leadership, or the next one where it has none
+-- the number that r puts: that of its leadership, or the next one if it has none
 abbrev pub number_due : ℕ → List Event → ℕ
 number_due r mine = number_or r mine (proposal_number r mine)
 
--- the verb that is due, by the journal alone
+-- the verb that is due, by the journal only
 abbrev pub due_after : Config → ℕ → List Event → Option Verb
 due_after c r mine =
     if leader c r mine == r
@@ -158,7 +159,8 @@ due_after c r mine =
     (tables_at c r mine).written (place_after c r mine)
     else None
 
--- the leader is where the journal of r has it, and at the first ask where no leadership is under way
+-- the leader is at the place that the journal of r gives it, and at the first ask if no leadership
+-- is under way
 pub record IsWhere (c : Config) (r : ℕ) (mine : List Event) (l : Lead) : Type 0 where
   pub place : l.place ≡ place_after c r mine
   pub tables : tables_of l ≡ tables_at c r mine
@@ -175,7 +177,7 @@ PlacesNext mine old values answer new =
     → IsWhere old.config old.id (record { by = old.id; verb = verb; answer = answer } ∷ mine) new
 
 -- the leader was told that a lower replica is named: its tables are those of the journal, and it
--- asks anew next
+-- next asks again
 pub record HasLeft (c : Config) (r : ℕ) (mine : List Event) (l : Lead) : Type 0 where
   pub place : l.place ≡ Place.Ask 0
   pub tables : tables_of l ≡ tables_at c r mine

@@ -1,4 +1,5 @@
--- What holds at each place of the listing, whatever its verb was answered.
+-- follows, lasts, keeps next: the leader comes to the place that follows; what holds at a place
+-- holds again at the next one, whatever the answer; both are what a leader keeps with each event.
 use Rattle.std.specs.Prelude.{List, None, Some, true, ℕ, ◌<◌, ◌∷◌, ◌≡◌}
 use Rattle.std.specs.declared.option.Option.{Option}
 use Rattle.mu_model.specs.declared.config.Config.{Config}
@@ -15,7 +16,7 @@ use Rattle.mu_lead.specs.Leading.{end_of}
 use Rattle.mu_lead.specs.Listing.{Tables, next_place}
 use Rattle.mu_lead.specs.Standing.{At, HasHeeded, StandsFor, known_told, verb_at, verb_of}
 
--- the verb, where there is one, else a beat
+-- the verb, if there is one, else a beat
 abbrev pub verb_or : Option Verb → Verb
 verb_or None = Verb.Beat
 verb_or (Some verb) = verb
@@ -37,7 +38,7 @@ abbrev pub GoesTo : Lead → List Event → Answer → Place → Lead → Type 0
 GoesTo old now answer place new =
     new.place ≡ next_place old.config old.id old.number now (tables_of new) answer place
 
--- by the answer to the verb that was due, with these values known, it does
+-- the same by the answer to the verb that was due, with these values known
 abbrev pub Follows : List Event → Lead → List ℕ → Answer → Lead → Type 0
 Follows mine old values answer new =
     (verb : Verb) → verb_of old (known old.config old.id mine) ≡ Some verb
@@ -45,7 +46,7 @@ Follows mine old values answer new =
     → values ≡ known_told old.config old.id mine old.id verb answer
     → GoesTo old (record { by = old.id; verb = verb; answer = answer } ∷ mine) answer old.place new
 
--- from its place, by the event and with these values known, it does
+-- the same from a place, by the event and with these values known
 abbrev pub FollowsFrom : Lead → Place → List ℕ → Verb → Answer → Lead → Type 0
 FollowsFrom old place values verb answer new =
     (mine : List Event) → StandsFor mine old → old.place ≡ place
@@ -86,8 +87,8 @@ FollowsHead old q candidate values answer new =
     → GoesTo old (record { by = old.id; verb = Verb.Head q; answer = answer } ∷ mine) answer
     (Place.ReadHead q candidate) new
 
--- what holds of a replica's events at a place lasts: by each replication step of the listing it
--- comes to a place where it holds again
+-- what holds of a replica's events at a place lasts: each replication step of the listing leads to
+-- a place at which it holds again
 abbrev pub Lasts : (Config → ℕ → List Event → Place → Type 0) → Type 0
 Lasts holds =
     (c : Config) (r b : ℕ) (mine : List Event) (up : List ℕ) (reach : List (Option ℕ))
@@ -100,7 +101,7 @@ Lasts holds =
     → holds c r (step_of c r b mine up written place a ∷ mine)
     (next_place c r b (step_of c r b mine up written place a ∷ mine) t a place)
 
--- it does so by the leader's step from these events, with these values known
+-- what holds at the leader's place lasts by its step from these events, with these values known
 abbrev pub KeepsNext :
     (Config → ℕ → List Event → Place → Type 0) → List Event → Lead → List ℕ → Answer → Lead → Type 0
 KeepsNext holds mine old values answer new =

@@ -1,5 +1,5 @@
--- What holds once the number is put at a majority: what each region has, and what is brought to
--- those that are behind.
+-- tables, leads, level, behind, late: how far each region has what is known, and what holds while
+-- members and late followers are brought up.
 use Rattle.std.specs.Prelude.{Bool, List, None, Some, [], false, get_or, is_some, length, nat_lt, not, true, ℕ, ◌%◌, ◌&&◌, ◌++◌, ◌+◌, ◌<◌, ◌==◌, ◌||◌, ◌∷◌, ◌≡◌, ◌≢◌, ◌≤◌}
 use Rattle.std.specs.declared.option.Option.{Option}
 use Rattle.mu_model.specs.declared.config.Config.{Config}
@@ -29,8 +29,8 @@ pub record Brought (c : Config) (r : ℕ) (mine : List Event) (p u : ℕ) : Type
   pub caught_up : (j : ℕ) → j < u → is_caught_up_at c r p mine j ≡ true
   pub filled : (j : ℕ) → j < u → is_filled c r p mine j ≡ true
 
--- wherever the FUO, where there is one, reaches, one that was read or raised of p in the leadership
--- does
+-- whatever position the FUO, if there is one, reaches, one that was read or raised of p in the
+-- leadership reaches it too
 abbrev pub IsReached : ℕ → List Event → ℕ → Option ℕ → Type 0
 IsReached r mine p reach =
     (i ring : ℕ) → is_within_ring i ring reach ≡ true
@@ -38,8 +38,8 @@ IsReached r mine p reach =
     (leadership r mine)
     ≡ true
 
--- what a leader keeps of regions and rows: up to where each has what is known, its FUO, the heads
--- read last, and how many words of each own row are written
+-- what a leader keeps of regions and rows: up to which position each has what is known, its FUO,
+-- the heads read last, and how many words of each row of its own are written
 pub record HoldsTables (c : Config) (r : ℕ) (mine : List Event) (up : List ℕ)
     (reach : List (Option ℕ)) (heads written : List ℕ) : Type 0 where
   pub ups : length up ≡ 7
@@ -129,14 +129,15 @@ pub record Level (c : Config) (r b : ℕ) (mine : List Event) (up : List ℕ)
   pub raised : RaisedBelow r mine up reach c.replicas
   pub few : HaveAtMost c r mine up (end_of c r mine)
 
--- of the members below p the region, where there is one, has the most; else there is none
+-- among the members below p the region, if there is one, has the most; if there is none, no member
+-- is below p
 abbrev pub HasMost : ℕ → List Event → List ℕ → ℕ → Option ℕ → Type 0
 HasMost r mine up p None = (q : ℕ) → q < p → is_member r q mine ≡ false
 HasMost r mine up p (Some s) =
     (s < p)
     × ((q : ℕ) → q < p → is_member r q mine ≡ true → get_or up q 0 ≤ get_or up s 0)
 
--- the region, where there is one, is a member
+-- the region, if there is one, is a member
 abbrev pub IsMember : Config → ℕ → List Event → Option ℕ → Type 0
 IsMember c r mine None = Unit {0}
 IsMember c r mine (Some q) = (q < c.replicas) × (is_member r q mine ≡ true)
@@ -161,12 +162,12 @@ pub record AtLearn (c : Config) (r b : ℕ) (mine : List Event) (up : List ℕ)
   pub lacks : end_of c r mine < get_or up p 0
   pub few : HaveAtMost c r mine up (get_or up p 0)
 
--- the member q has what is known, where that has to be so before p is brought up
+-- the member q has what is known, if that has to be so before p is brought up
 abbrev pub IsDone : Then → ℕ → ℕ → Type 0
 IsDone Then.Joined q p = Unit {0}
 IsDone _ q p = q < p
 
--- where members are brought up at one position, q is at or after p
+-- members are brought up at one position, and q is at or after p
 abbrev pub IsLeft : Then → ℕ → ℕ → Type 0
 IsLeft Then.Position p q = p ≤ q
 IsLeft _ p q = ⊥

@@ -1,4 +1,5 @@
--- The listing of a leader: which place follows each place, by the answer to its verb.
+-- listing, next place: the place of a leader that follows each place, by the answer to its verb;
+-- and the tables that it looks at.
 use Rattle.std.specs.Prelude.{Bool, List, None, Some, false, get_or, if◌then◌else◌, is_some, nat_lt, not, true, ℕ, ◌%◌, ◌&&◌, ◌*◌, ◌+◌, ◌==◌, ◌||◌}
 use Rattle.std.specs.declared.option.Option.{Option}
 use Rattle.mu_model.specs.declared.config.Config.{Config}
@@ -19,15 +20,15 @@ use Rattle.mu_lead.specs.declared.place.Sight.{Sight}
 use Rattle.mu_lead.specs.declared.place.Then.{Then}
 use Rattle.mu_lead.specs.Leading.{end_of}
 
--- up to where each region has what is known, the greatest FUO of each that was read or raised, the
--- heads read last, and how many words of each own row are written
+-- up to which position each region has what is known, the greatest FUO of each that was read or
+-- raised, the heads read last, and how many words of each row of its own are written
 pub record Tables : Type 0 where
   pub up : List ℕ
   pub reach : List (Option ℕ)
   pub heads : List ℕ
   pub written : List ℕ
 
--- the place of the region, where there is one, else another place
+-- the place of the region, if there is one, else another place
 abbrev pub or_else : Option ℕ → (ℕ → Place) → Place → Place
 or_else None there other = other
 or_else (Some q) there other = there q
@@ -65,7 +66,7 @@ low_from c r now heads from =
     || nat_lt (end_of c r now + reserve c) (get_or heads q 0 + c.ring)))
     from c.replicas
 
--- after a round of fences: the minima where it confirms, else another round, after 16 the asks
+-- after a round of fences: the minima if it confirms, else another round, after 16 the asks
 abbrev pub after_round : Config → ℕ → List Event → ℕ → Place
 after_round c r now round =
     if is_confirmed c r now then or_else (noted_from c r now 0) Place.ReadMin Place.Rest
@@ -77,7 +78,7 @@ heads_from c r now heads q candidate =
     or_else (low_from c r now heads q) (λ k. Place.ReadHead k candidate)
     (Place.Look (first_member c r now) (end_of c r now) candidate None)
 
--- the next position; where all commands are known, the first late follower, or nothing
+-- the next position; if all commands are known, the first late follower, or nothing
 abbrev pub next_position : Config → ℕ → List Event → List ℕ → Place
 next_position c r now heads =
     if holds_all c (known c r now)
@@ -91,7 +92,7 @@ abbrev pub late_from : Config → ℕ → List Event → List ℕ → ℕ → Pl
 late_from c r now heads p =
     or_else (stranger_from c r now p) Place.LateFence (next_position c r now heads)
 
--- a region is brought up: its FUO is raised first where the ring does not reach what it lacks
+-- a region is brought up: its FUO is raised first if the ring does not reach what it lacks
 abbrev pub bring_up : Config → List ℕ → List (Option ℕ) → ℕ → Then → Place
 bring_up c up reach p on =
     if c.version == 2 && not (is_within_ring (get_or up p 0) c.ring (get_or reach p None))
@@ -142,7 +143,7 @@ abbrev pub least_candidate : Option ℕ → ℕ → Option ℕ
 least_candidate None q = Some q
 least_candidate (Some k) q = Some k
 
--- q, another replica, counts as failed, and its head h leaves room for the next position alone
+-- q, another replica, counts as failed, and its head h leaves room only for the next position
 abbrev pub may_mark : Config → ℕ → List Event → ℕ → ℕ → Bool
 may_mark c r now q h = not (q == r) && (is_failed r q now && nat_lt (end_of c r now) (h + c.ring))
 
@@ -155,7 +156,7 @@ after_head c r now heads q candidate h =
     then heads_from c r now heads (q + 1) (least_candidate candidate q)
     else late_from c r now heads 0)
 
--- the same of the client, where one is named
+-- the same of the client, if one is named
 abbrev pub batch_of_named : Config → List ℕ → Option ℕ → Option ℕ
 batch_of_named c values None = None
 batch_of_named c values (Some client) = batch_of c values client
@@ -180,14 +181,14 @@ write_from c r now written first last offer =
     or_else (first_in (λ j. nat_lt (get_or written j 12) 12) first (last + 1))
     (λ j. Place.Write j last offer) (Place.Enter (first_member c r now) offer)
 
--- the own batch is offered
+-- a batch of its own is offered
 abbrev pub offer_row : Config → ℕ → List Event → List ℕ → ℕ → Place
 offer_row c r now written j =
     write_from c r now written j (j + rest_of c j)
     (record { value = r * 4096 + j; adopted = false })
 
 -- the value is picked: the entry of the largest number, else the mark of the least candidate, else
--- an own batch
+-- a batch of its own
 abbrev pub pick : Config → ℕ → List Event → List ℕ → Option ℕ → Option Sight → Place
 pick c r now written candidate (Some s) =
     Place.Enter (first_member c r now) (record { value = s.value; adopted = true })
@@ -208,7 +209,7 @@ abbrev pub sight_of : Answer → Option Sight
 sight_of (Answer.Entry b v) = Some (record { number = b; value = v })
 sight_of answer = None
 
--- after a look at position i of p that was not past: where it made i known, members are brought up;
+-- after a look at position i of p that was not past: if it made i known, members are brought up;
 -- else the next member is looked at, and after the last one the value is picked
 abbrev pub after_look : Config → ℕ → List Event → Tables → ℕ → ℕ → Option ℕ → Option Sight → Place
 after_look c r now t p i candidate best =
@@ -230,7 +231,7 @@ abbrev pub is_missed : Answer → Bool
 is_missed Answer.Missed = true
 is_missed answer = false
 
--- the regions are asked anew after a lost `Enter`; the fence is read after a put that missed
+-- the regions are asked again after a lost `Enter`; the fence is read after a put that missed
 abbrev pub unless_lost : Answer → Place → Place
 unless_lost a on = if is_lost a then Place.Ask 0 else on
 

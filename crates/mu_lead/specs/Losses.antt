@@ -1,4 +1,5 @@
--- When the note of a lost region comes.
+-- loses, unlike: when the note of a lost region comes: the fence is closing, or has another grant
+-- than the noted one.
 use Rattle.std.specs.Prelude.{Bool, List, Some, true, ℕ, ◌≡◌, ◌⊎◌, ◌↔◌}
 use Rattle.mu_model.specs.declared.event.Answer.{Answer}
 use Rattle.mu_model.specs.declared.event.Event.{Event}
@@ -31,7 +32,7 @@ pub record LosesReading (r : ℕ) (mine : List Event) (place : Place) (verb : Ve
   pub unlike : is_unlike r p mine f ≡ true
   pub why : (place ≡ Place.Evidence p) ⊎ (is_member r p mine ≡ true)
 
--- the note of a lost region comes exactly so
+-- the note of a lost region comes exactly in these cases
 abbrev pub SaysLost : ℕ → List Event → Place → Verb → Answer → Note → Type 0
 SaysLost r mine place verb answer note =
     (p : ℕ) (f : Fence)

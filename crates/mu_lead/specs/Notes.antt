@@ -1,4 +1,4 @@
--- What the notes say.
+-- notes: what the notes of rounds, puts, minima and heads say.
 use Rattle.std.specs.Prelude.{Bool, List, None, Some, [], if◌then◌else◌, is_some, length, min, nat_lt, ℕ, ◌++◌, ◌∷◌, ◌≡◌, ◌⊎◌}
 use Rattle.std.specs.declared.option.Option.{Option}
 use Rattle.mu_model.specs.declared.config.Config.{Config}
@@ -36,7 +36,8 @@ TellsPut c r mine e values offer note =
 abbrev pub note_of_min : ℕ → ℕ → ℕ → Note
 note_of_min p b min = if nat_lt b min then Note.Aborted (AbortCause.Higher p min) else Note.Working
 
--- the note of a head of q, where it leaves room with so many places free, or may be marked
+-- the note of a head of q, if it leaves room with the places that have to stay free, or if q may be
+-- marked
 abbrev pub note_of_head : ℕ → ℕ → ℕ → Bool → Bool → Note
 note_of_head q head position room marks =
     if room then Note.Working else (if marks then Note.Working else Note.NoRoom q head position)

@@ -1,4 +1,4 @@
--- The note of each place of the listing, by the events alone.
+-- next note: the note of each place of the listing, by the events only.
 use Rattle.std.specs.Prelude.{Bool, List, Some, get_or, if◌then◌else◌, is_some, min, nat_lt, ℕ, ◌&&◌, ◌+◌, ◌∷◌, ◌≡◌}
 use Rattle.mu_model.specs.declared.config.Config.{Config}
 use Rattle.mu_model.specs.declared.event.Answer.{Answer}
@@ -31,7 +31,7 @@ abbrev pub note_of_evidence : ℕ → Answer → Note
 note_of_evidence p (Answer.Seen f) = Note.Aborted (AbortCause.Lost p f)
 note_of_evidence p answer = Note.Working
 
--- the note of the fence of p after a look that was past, where the leadership is then over or not
+-- the note of the fence of p after a look that was past, by whether the leadership is then over
 abbrev pub note_of_past : ℕ → Answer → Bool → Note
 note_of_past p (Answer.Seen f) over = note_of_fence p f over
 note_of_past p answer over = Note.Working
@@ -42,8 +42,8 @@ note_of_round c r now =
     if is_confirmed c r now then Note.Confirmed (bits (λ p. is_some (noted_grant r p now)))
     else Note.NotConfirmed (bits (λ p. is_some (noted_grant r p now)))
 
--- the note of the answer a at the place: after these past events of r, with the answer's among those
--- of now, under the number b, and with the tables before the answer
+-- the note of the answer a at the place: after these past events of r, with the answer's among
+-- those of now, under the number b, and with the tables before the answer
 abbrev pub next_note : Config → ℕ → ℕ → List Event → List Event → Tables → Answer → Place → Note
 next_note c r b past now t a (Place.Confirm round p) =
     if nat_lt (p + 1) c.replicas then Note.Working else note_of_round c r now
@@ -69,7 +69,7 @@ next_note c r b past now t a (Place.Put p offer) =
 next_note c r b past now t a (Place.Evidence p) = note_of_evidence p a
 next_note c r b past now t a place = Note.Working
 
--- `Idle` in place of `Working`, where all commands are known
+-- `Idle` in place of `Working`, if all commands are known
 abbrev pub or_idle : Bool → Note → Note
 or_idle all note = if is_working note && all then Note.Idle else note
 

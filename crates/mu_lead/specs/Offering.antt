@@ -1,5 +1,5 @@
--- What holds at a new position: its heads are read, its looks made, and its value is put at one
--- member after another.
+-- roomy, looking, writing, offering, rest, outrun: what holds at a new position, from the heads to
+-- the looks and to the last put; and when nothing is due (at rest every member is level).
 use Rattle.std.specs.Prelude.{Bool, List, None, Some, false, is_some, nat_lt, true, ℕ, ◌%◌, ◌*◌, ◌+◌, ◌<◌, ◌||◌, ◌≡◌, ◌≢◌, ◌≤◌}
 use Rattle.std.specs.declared.option.Option.{Option}
 use Rattle.mu_model.specs.declared.config.Config.{Config}
@@ -19,8 +19,8 @@ use Rattle.mu_lead.specs.declared.place.Sight.{Sight}
 use Rattle.mu_lead.specs.Confirming.{HoldsGrants, IsEnteredNow}
 use Rattle.mu_lead.specs.Leading.{HaveAtMost, HaveBelow, Level, RaisedBelow, end_of}
 
--- a mark of q is known, or the head of q that was read last leaves room for position i and for so
--- many more
+-- a mark of q is known, or the head of q that was read last leaves room for position i and for
+-- `free` more
 abbrev pub leaves_room : Config → ℕ → List Event → ℕ → ℕ → ℕ → Bool
 leaves_room c r mine i free q =
     marked c q (known c r mine) || nat_lt (i + free) (last_head r q mine + c.ring)
@@ -33,13 +33,13 @@ pub record IsCandidate (c : Config) (r : ℕ) (mine : List Event) (q : ℕ) : Ty
   pub unmarked : marked c q (known c r mine) ≡ false
   pub stuck : is_mark_candidate c r q (end_of c r mine + reserve c) mine ≡ true
 
--- the replica, where there is one, may be marked
+-- the replica, if there is one, may be marked
 abbrev pub MayBeMarked : Config → ℕ → List Event → Option ℕ → Type 0
 MayBeMarked c r mine None = Unit {0}
 MayBeMarked c r mine (Some q) = IsCandidate c r mine q
 
--- some command isn't known, and the heads below q leave room, with the reserve where nobody is to
--- be marked
+-- some command isn't known, and the heads below q leave room, with the reserve if nobody is to be
+-- marked
 pub record Roomy (c : Config) (r : ℕ) (mine : List Event) (q : ℕ)
     (candidate : Option ℕ) : Type 0 where
   pub within : end_of c r mine < row_count c + reserve c
@@ -61,11 +61,11 @@ pub record AtReadHead (c : Config) (r b : ℕ) (mine : List Event) (up : List �
 abbrev pub has_seen_past : ℕ → ℕ → ℕ → List Event → Bool
 has_seen_past r p i mine = has (λ e. is_past_look (look_answer r p i e.by e.verb e.answer)) mine
 
--- the look, where there is one, showed an entry
+-- the look, if there is one, showed an entry
 abbrev pub is_entry_look : Option Answer → Bool
 is_entry_look o = is_some (entry_of o)
 
--- the look, where there is one, was not empty
+-- the look, if there is one, was not empty
 abbrev pub is_full_look : Option Answer → Bool
 is_full_look o = is_some (entry_of o) || is_past_look o
 
@@ -89,7 +89,7 @@ abbrev pub LooksShow : Config → ℕ → List Event → ℕ → Bool → Type 0
 LooksShow c r mine i true = ShowsEntry c r mine i
 LooksShow c r mine i false = LooksEmpty c r mine i
 
--- what the looks at the member p in position i gave; where the last one is empty, each was
+-- what the looks at the member p in position i gave; if the last one is empty, all were
 pub record Looked (c : Config) (r i : ℕ) (mine : List Event) (p : ℕ) : Type 0 where
   pub good : has_looked_since c r p i mine ≡ true
   pub last : is_some (last_look r p i mine) ≡ true
@@ -125,14 +125,13 @@ pub record IsNextBatch (c : Config) (r : ℕ) (mine : List Event) (j : ℕ) : Ty
   pub row : j < row_count c
   pub next : number_of c j ≡ command_count c (client_of c j) (known c r mine) + 1
 
--- the value may be offered: it is picked, and a batch is fresh only where the heads leave the
--- reserve
+-- the value may be offered: it is picked, and a batch is fresh only if the heads leave the reserve
 pub record MayOffer (c : Config) (r : ℕ) (mine : List Event) (candidate : Option ℕ)
     (v : ℕ) : Type 0 where
   pub picked : may_pick_at c r mine (end_of c r mine) v ≡ true
   pub fresh : is_fresh_batch c r mine (end_of c r mine) v ≡ true → candidate ≡ None
 
--- the rows of the own batch that begins with row first are written below row j
+-- the rows of r's own batch that begins with row `first` are written below row j
 pub record Writing (c : Config) (r b : ℕ) (mine : List Event) (up : List ℕ)
     (reach : List (Option ℕ)) (j last : ℕ) (offer : Offer) : Type 0 where
   pub looking : Looking c r b mine up reach c.replicas None None

@@ -1,4 +1,5 @@
--- Where the listing goes on once regions were gone through, and the room that it needs there.
+-- may go on, may bring up: the counts have room wherever the listing goes after a pass over the
+-- regions, and at the first steps of bringing one up.
 use Rattle.std.specs.Prelude.{List, None, Some, get_or, nat_lt, not, true, ℕ, ◌&&◌, ◌≡◌}
 use Rattle.std.specs.declared.option.Option.{Option}
 use Rattle.mu_model.specs.declared.config.Config.{Config}
@@ -22,8 +23,7 @@ IsNextBehind c r mine up p q =
     IsFirst (λ k. is_member r k mine && nat_lt (get_or up k 0) (end_of c r mine)) p c.replicas q
 
 -- the counts have room wherever the listing goes once the regions below p were gone through: to the
--- next late follower, to the first one again where all commands are known, or to heads, looks or
--- rest
+-- next late follower, to the first one again if all commands are known, or to heads, looks or rest
 pub record MayGoOn (c : Config) (r : ℕ) (mine : List Event) (p : ℕ) : Type 0 where
   pub asks :
       (q : ℕ) → IsNextStranger c r mine p (Some q) → IsLed c r mine (Stage.LateFence q)
@@ -39,8 +39,8 @@ abbrev pub MayBringUp : Config → ℕ → List Event → ℕ → Then → Type 
 MayBringUp c r mine p then =
     (b : Bringing) → is_first b ≡ true → IsLed c r mine (Stage.Bring (lag_of c r mine p then) b)
 
--- the regions that aren't asked after once members were brought up: all of them where each member
--- was brought up at one position
+-- the regions that aren't asked after once members were brought up: all of them, if each member was
+-- brought up at one position
 abbrev pub passed_over : Config → Then → ℕ
 passed_over c Then.Late = 0
 passed_over c _ = c.replicas

@@ -1,5 +1,4 @@
--- The count of steps after a commit, at each place of a leader: each member's FUO is raised in
--- turn.
+-- raises: after a commit each member's FUO is raised in turn, with steps left at each place.
 use Rattle.std.specs.Prelude.{List, None, [], false, true, ℕ, ◌∷◌, ◌≡◌}
 use Rattle.mu_model.specs.declared.config.Config.{Config}
 use Rattle.mu_model.specs.declared.event.Answer.{Answer}

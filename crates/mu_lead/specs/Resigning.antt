@@ -1,6 +1,9 @@
--- The counts of a leader in what isn't the answer to a verb of its own: the background, and the
--- turns in which it has nothing due and beats, as where another replica is named, also right after
--- it gave up, and where it rests.
+-- counts at a place: all counts of a leader except those of asks, and what background events and
+-- beats leave of them.
+--
+-- These events aren't the answer to a verb of the leader: they are in the background, or in the
+-- turns in which it has nothing due and beats, because another replica is named, also right after
+-- it gave up, or because it rests.
 use Rattle.std.specs.Prelude.{List, None, false, if◌then◌else◌, true, ℕ, ◌∷◌, ◌≡◌, ◌⊎◌}
 use Rattle.mu_model.specs.declared.config.Config.{Config}
 use Rattle.mu_model.specs.declared.event.Answer.{Answer}
@@ -42,7 +45,7 @@ pub record CountsAt (c : Config) (r : ℕ) (mine : List Event) (written : List �
 abbrev pub HasCounts : List Event → Lead → Type 0
 HasCounts mine l = CountsAt l.config l.id mine l.written.items l.place
 
--- it is the same leader, told whom the scores name: where it gives up it asks anew next
+-- it is the same leader, told which leader the scores name: if it gives up, it next asks again
 pub record IsTold (old : Lead) (leader : ℕ) (new : Lead) : Type 0 where
   pub config : new.config ≡ old.config
   pub id : new.id ≡ old.id
@@ -50,9 +53,9 @@ pub record IsTold (old : Lead) (leader : ℕ) (new : Lead) : Type 0 where
   pub tables : tables_of new ≡ tables_of old
   pub place : new.place ≡ (if gives_up old leader then Place.Ask 0 else old.place)
 
--- a beat in a turn of the leader leaves the counts as the place has them: where another replica is
+-- a beat in a turn of the leader leaves the counts as the place has them: if another replica is
 -- named, since it closes them, so that the leader may as well have given up just before it; and at
--- rest, since all is known and every region is a member. Where the leader is outrun there is none
+-- rest, since all is known and every region is a member. If the leader is outrun, there is none
 pub record BeatsKeepCounts : Type 0 where
   pub unnamed :
       (c : Config) (r : ℕ) (mine : List Event) (written : List ℕ) (old new : Place)

@@ -1,4 +1,5 @@
--- The room that the counts of steps have at each place of a leader.
+-- rooms: a leader's counts have the room that its place needs: the place as its weight sees it,
+-- what holds of the counts there, and what a step must leave of the tables.
 use Rattle.std.specs.Prelude.{Bool, nat_lt, ◌&&◌, ◌||◌, List, Some, [], false, get_or, suc, true, zero, ℕ, ◌+◌, ◌-◌, ◌∷◌, ◌≡◌, ◌≢◌, ◌≤◌, ◌⊎◌}
 use Rattle.mu_model.specs.declared.config.Config.{Config}
 use Rattle.mu_model.specs.declared.event.Answer.{Answer}
@@ -27,7 +28,7 @@ use Rattle.mu_lead.specs.Standing.{StandsFor, known_told, verb_of}
 abbrev pub sizes_of : Config → ℕ → List Event → Sizes
 sizes_of c r mine = record { replicas = c.replicas; width = c.width; members = members c r mine }
 
--- how many words of so many rows from j on aren't written
+-- how many words of the given number of rows from j on aren't written
 abbrev pub words_left : List ℕ → ℕ → ℕ → ℕ
 words_left written j zero = 0
 words_left written j (suc rows) = (12 - get_or written j 12) + words_left written (j + 1) rows

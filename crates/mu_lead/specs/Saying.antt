@@ -1,4 +1,4 @@
--- Which note each place of the listing gives, and when each note comes.
+-- note at, says: the note of each place; each note comes exactly if its row holds.
 use Rattle.std.specs.Prelude.{Bool, List, Some, [], false, get_or, if◌then◌else◌, is_some, length, min, nat_lt, not, true, ℕ, ◌&&◌, ◌+◌, ◌-◌, ◌<◌, ◌==◌, ◌++◌, ◌∷◌, ◌≡◌, ◌≢◌, ◌≤◌, ◌⊎◌, ◌↔◌}
 use Rattle.mu_model.specs.declared.config.Config.{Config}
 use Rattle.mu_model.specs.declared.event.Answer.{Answer}
@@ -48,12 +48,12 @@ abbrev pub value_seen : Answer → ℕ
 value_seen (Answer.Entry n v) = v
 value_seen answer = 0
 
--- the note of a look at the first unknown position, with so many known after it
+-- the note of a look at the first unknown position, with n values known after it
 abbrev pub note_of_learning : ℕ → Answer → Note
 note_of_learning n (Answer.Entry b v) = Note.Learnt (n - 1) v
 note_of_learning n answer = Note.Working
 
--- the note of a look at a new position, with so many known after it
+-- the note of a look at a new position, with n values known after it
 abbrev pub note_of_look : ℕ → ℕ → Answer → Note
 note_of_look i n answer =
     if is_past answer then Note.Working
@@ -64,12 +64,12 @@ abbrev pub note_of_raise : ℕ → Then → Note
 note_of_raise p Then.Joined = Note.Joined p
 note_of_raise p on = Note.Working
 
--- the note of a late follower that became a member, and still lacks entries or not
+-- the note of a late follower that became a member, by whether it still lacks entries
 abbrev pub note_of_join : ℕ → Bool → Note
 note_of_join p true = Note.Working
 note_of_join p false = Note.Joined p
 
--- the note of a fence in a round, where it is the last one or not
+-- the note of a fence in a round, by whether it is the last one
 abbrev pub TellsAfter : Bool → Config → ℕ → List Event → Note → Type 0
 TellsAfter true c r now note = TellsRound c r now note
 TellsAfter false c r now note = note ≡ Note.Working
@@ -83,7 +83,7 @@ NotesRound old p answer note =
     → TellsAfter (p + 1 == old.config.replicas) old.config old.id
     (record { by = old.id; verb = Verb.Fence p; answer = answer } ∷ mine) note
 
--- the note of a put of the offer, with so many known before it
+-- the note of a put of the offer, with n values known before it
 abbrev pub NotesPut : ℕ → Offer → Note → Type 0
 NotesPut n offer note =
     n < 65536 → (note ≡ Note.Working) ⊎ (note ≡ note_of_commit n offer)
@@ -120,8 +120,8 @@ abbrev pub NotesEvidence : ℕ → Answer → Note → Type 0
 NotesEvidence p answer note =
     (f : Fence) → answer ≡ Answer.Seen f → note ≡ Note.Aborted (AbortCause.Lost p f)
 
--- the note of a fence of p that was read because a look was past, where the leadership is then over
--- or not
+-- the note of a fence of p that was read because a look was past, by whether the leadership is then
+-- over
 abbrev pub note_of_fence : ℕ → Fence → Bool → Note
 note_of_fence p f true = Note.Aborted (AbortCause.Lost p f)
 note_of_fence p f false = Note.Working
@@ -163,14 +163,14 @@ NotesAt old values answer note place = note ≡ Note.Working
 abbrev pub NotesDue : Lead → List ℕ → Answer → Note → Type 0
 NotesDue old values answer note = NotesAt old values answer note old.place
 
--- the answer just taken is the minimum m of the late follower p, above the own number
+-- the answer just taken is the minimum m of the late follower p, above the leader's own number
 pub record ShowsHigher (r : ℕ) (mine : List Event) (verb : Verb) (answer : Answer)
     (p m : ℕ) : Type 0 where
   pub asked : verb ≡ Verb.Min p
   pub told : answer ≡ Answer.Number m
   pub above : is_above (proposal_number r mine) m ≡ true
 
--- q, whose head is h, may be marked: another replica, failed, and room for the next position alone
+-- q, whose head is h, may be marked: another replica, failed, and room only for the next position
 pub record MayMark (c : Config) (r : ℕ) (mine : List Event) (q h : ℕ) : Type 0 where
   pub other : q ≢ r
   pub failed : is_failed r q mine ≡ true
@@ -187,8 +187,8 @@ pub record ShowsNoRoom (c : Config) (r : ℕ) (mine : List Event) (verb : Verb) 
   pub low : h + c.ring ≤ end_of c r mine + reserve c
   pub unfit : MayMark c r mine q h → ⊥
 
--- the answer just taken is of the last step for p: the FUO raised over what it lacked, or the put of
--- its minimum where it lacked nothing
+-- the answer just taken is of the last step for p: the FUO raised over what it lacked, or the put
+-- of its minimum if it lacked nothing
 abbrev pub IsLastStep : Config → ℕ → List Event → List ℕ → Place → Answer → ℕ → Type 0
 IsLastStep c r mine up place answer p =
     (place ≡ Place.RaiseBehind p Then.Joined)
@@ -230,7 +230,7 @@ pub record Commits (c : Config) (r : ℕ) (mine : List Event) (verb : Verb) (ans
   pub grew :
       known c r (record { by = r; verb = verb; answer = answer } ∷ mine) ≡ known c r mine ++ v ∷ []
 
--- the notes of rounds come exactly where their rows hold
+-- the notes of rounds come exactly if their rows hold
 pub record SaysRound (c : Config) (r : ℕ) (now : List Event) (place : Place)
     (note : Note) : Type 0 where
   pub confirmed :
@@ -238,7 +238,7 @@ pub record SaysRound (c : Config) (r : ℕ) (now : List Event) (place : Place)
   pub not_confirmed :
       (s : ℕ) → (note ≡ Note.NotConfirmed s) ↔ (EndsRound c r now place s × (Confirmed c r now → ⊥))
 
--- the notes of entries that a put made known do
+-- so do the notes of entries that a put made known
 pub record SaysCommit (c : Config) (r : ℕ) (mine : List Event) (verb : Verb) (answer : Answer)
     (note : Note) : Type 0 where
   pub committed :
@@ -249,7 +249,7 @@ pub record SaysCommit (c : Config) (r : ℕ) (mine : List Event) (verb : Verb) (
       (i v : ℕ)
       → (note ≡ Note.Adopted i v) ↔ (Commits c r mine verb answer i v × ShowsEntry c r mine i)
 
--- the notes of what was read do, and of steps for late followers
+-- so do the notes of what was read, and of steps for late followers
 pub record SaysReads (c : Config) (r : ℕ) (mine : List Event) (up : List ℕ) (place : Place)
     (verb : Verb) (answer : Answer) (note : Note) : Type 0 where
   pub higher :
@@ -258,8 +258,8 @@ pub record SaysReads (c : Config) (r : ℕ) (mine : List Event) (up : List ℕ) 
   pub learnt : (i v : ℕ) → (note ≡ Note.Learnt i v) ↔ Teaches c r mine verb answer i v
   pub joined : (p : ℕ) → (note ≡ Note.Joined p) ↔ EndsJoining c r mine up place answer p
 
--- each note comes exactly where its row holds: `Idle` where all commands are known and none of the
--- others holds, `Working` where some command isn't, and `Resigned` never
+-- each note comes exactly if its row holds: `Idle` if all commands are known and none of the others
+-- holds, `Working` if some command isn't, and `Resigned` never
 pub record Says (c : Config) (r : ℕ) (mine : List Event) (up : List ℕ) (place : Place) (verb : Verb)
     (answer : Answer) (note : Note) : Type 0 where
   pub rounds : SaysRound c r (record { by = r; verb = verb; answer = answer } ∷ mine) place note

@@ -1,4 +1,5 @@
--- When the state of a leader stands for the events of its replica, and which verb its place has.
+-- stands for (leader), place, verb of a place: a leader's state stands for its replica's events:
+-- its leaderships, its tables, and what holds at its place; and the verb of the place.
 use Rattle.std.specs.Prelude.{List, None, Some, get_or, length, ℕ, ◌%◌, ◌<◌, ◌∷◌, ◌≡◌}
 use Rattle.std.specs.declared.option.Option.{Option}
 use Rattle.mu_model.specs.declared.config.Config.{Config}
@@ -63,7 +64,7 @@ pub record StandsFor (mine : List Event) (l : Lead) : Type 0 where
   pub tables : HoldsTables l.config l.id mine l.up l.reach l.heads l.written.items
   pub at : At l.config l.id l.number mine l.up l.reach l.written.items l.place
 
--- the same but for its place, for a possible part
+-- the same except for its place, for a possible part
 pub record Stands (mine : List Event) (l : Lead) : Type 0 where
   pub possible : IsPossible l.config l.id mine
   pub config : IsConfig l.config
@@ -131,11 +132,11 @@ TakesLook old place values p i answer new =
     (record { by = old.id; verb = Verb.Look p i; answer = answer } ∷ mine)
     → StandsFor (record { by = old.id; verb = Verb.Look p i; answer = answer } ∷ mine) new
 
--- the leader has heeded whom its scores hold to be failed
+-- the leader has heeded which replicas its scores hold to be failed
 abbrev pub HasHeeded : List Event → Lead → Type 0
 HasHeeded mine l = (q : ℕ) → q < l.config.replicas → is_bit q l.failed ≡ is_failed l.id q mine
 
--- the verb of the leader's place, where these values are known
+-- the verb of the leader's place, when these values are known
 abbrev pub verb_of : Lead → List ℕ → Option Verb
 verb_of l values = verb_at l.config l.number values l.up l.written.items l.place
 
@@ -173,11 +174,11 @@ TakesNext mine old values answer new =
     → values ≡ known_told old.config old.id mine old.id verb answer
     → StandsFor (record { by = old.id; verb = verb; answer = answer } ∷ mine) new
 
--- the bits say whom the scores of r hold to be failed
+-- the bits say which replicas the scores of r hold to be failed
 abbrev pub TellsFailed : Config → ℕ → List Event → ℕ → Type 0
 TellsFailed c r mine failed = (q : ℕ) → q < c.replicas → is_bit q failed ≡ is_failed r q mine
 
--- the known list grew by a put exactly where the note says so, and by the value that it says
+-- the known list grew by a put exactly if the note says so, and by the value that it says
 abbrev pub TellsDue : Lead → List ℕ → Answer → Note → Type 0
 TellsDue old values answer note =
     (mine : List Event) (verb : Verb) → StandsFor mine old

@@ -1,5 +1,5 @@
--- The count of steps of a late follower that grants to the leader, at each place of a leader: it
--- joins within four.
+-- joins: the steps that are left, at each place of a leader, to the put at a late follower that
+-- grants, while no other waits: it joins within four.
 use Rattle.std.specs.Prelude.{List, None, [], false, true, ℕ, ◌∷◌, ◌≡◌, ◌≢◌}
 use Rattle.mu_model.specs.declared.config.Config.{Config}
 use Rattle.mu_model.specs.declared.event.Answer.{Answer}
@@ -15,12 +15,12 @@ use Rattle.mu_lead.specs.Beside.{is_beside, leads_at}
 abbrev pub NoneWaits : Config → ℕ → List Event → Type 0
 NoneWaits c r mine = (q : ℕ) → steps_left (joining c r q) mine ≡ None
 
--- the late follower p, where it waits, has so many steps left, and no other one waits
+-- the late follower p, if it waits, has `left` steps left, and no other one waits
 pub record WaitsToJoin (c : Config) (r : ℕ) (mine : List Event) (p left : ℕ) : Type 0 where
   pub here : HasRoom (joining c r p) left mine
   pub others : (q : ℕ) → q ≢ p → steps_left (joining c r q) mine ≡ None
 
--- where a leadership begins next, which ends all waiting, whoever waits is in time; between the
+-- when the next leadership begins, which ends all waiting, any that waits is in time; between the
 -- asks none waits
 pub record WaitsForAsk (c : Config) (r : ℕ) (mine : List Event) (p : ℕ) : Type 0 where
   pub first : p ≡ 0 → (q : ℕ) → IsInTime (joining c r q) mine

@@ -32,7 +32,7 @@ fn farther(held: Option<u64>, u: u64) -> Option<u64>
     }
 }
 
-/// The table with a FUO at the place, where it is the greater one.
+/// The table with a FUO at the place, if it is greater.
 pub(crate) fn with_fuo(table: [Option<u64>; 7], p: u8, u: u64) -> [Option<u64>; 7]
     ensures long { length result ≡ length table }
     ensures ring { p < length table → (i ring : ℕ)

@@ -32,7 +32,7 @@ pub(crate) fn is_marked(config: &Config, q: u8, known: &[u16]) -> bool
     found
 }
 
-/// The values, where they are no more than there are positions.
+/// The values, if they are no more than there are positions.
 fn first_values(known: &[u16]) -> &[u16]
     ensures few { length result.now < 65536 }
     ensures same { length known.now < 65536 → result.now ≡ known.now }
@@ -66,7 +66,7 @@ fn rows_held(config: &Config, known: &[u16]) -> u64
     count
 }
 
-/// Whether so many entries may have all rows: each has no more than a batch may have.
+/// Whether this many entries may have all rows: each has no more than a batch may have.
 fn may_hold_all(config: &Config, known: &[u16]) -> bool
     requires { length known.now < 65536 }
     ensures { result ≡ not (nat_lt (length known.now * config.now.width) (row_count config.now)) }
@@ -75,7 +75,7 @@ fn may_hold_all(config: &Config, known: &[u16]) -> bool
 }
 
 /// Whether the values, which are in session, hold all commands: no row is among theirs twice. Rows
-/// are counted only where there are entries enough.
+/// are counted only if there are enough entries.
 #[tactic(auto, using(crate::proofs::Held::all_held, crate::proofs::Held::lacks_some))]
 pub(crate) fn knows_all(config: &Config, known: &[u16]) -> bool
     ensures { length known.now < 65536 → IsConfig config.now → IsInSession config.now known.now
@@ -85,7 +85,7 @@ pub(crate) fn knows_all(config: &Config, known: &[u16]) -> bool
     may_hold_all(config, known) && rows_held(config, known) == count_of_rows(config) as u64
 }
 
-/// The own payload number of row `j`.
+/// The replica's own payload number of row `j`.
 pub(crate) fn own_value(id: u8, j: u16) -> u16
     ensures { id < 8 → j < 4096 → result ≡ id * 4096 + j }
 {

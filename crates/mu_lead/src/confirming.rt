@@ -124,7 +124,7 @@ impl Lead {
         }
     }
 
-    /// Whether a majority with the own region is noted.
+    /// Whether a majority with its own region is noted.
     fn is_confirmed(&self) -> bool
         ensures confirmed { (mine : List SomeEvent) → self.now.config.replicas ≤ 7
             → self.now.id < self.now.config.replicas

@@ -43,7 +43,7 @@ pub struct Lead {
     pub id: u8,
     /// Whether the scores name the replica itself.
     pub named: bool,
-    /// Whom the scores hold to be failed: bit q for replica q.
+    /// Which replicas the scores hold to be failed: bit q for replica q.
     pub failed: u8,
     /// Whether a leadership began and was neither aborted nor given up.
     pub under_way: bool,
@@ -53,13 +53,13 @@ pub struct Lead {
     pub leading: Leadership,
     /// The number of the leadership, once it is picked.
     pub number: u32,
-    /// Up to where each region has what is known.
+    /// Up to which position each region has what is known.
     pub up: [u64; 7],
     /// The greatest FUO of each region that was read or raised in the leadership.
     pub reach: [Option<u64>; 7],
     /// The head of each replica that was read last, over all leaderships.
     pub heads: [u64; 7],
-    /// How many words of each own row are written.
+    /// How many words of each row of its own are written.
     pub written: Vec<u8>,
 }
 
@@ -99,7 +99,8 @@ impl Lead {
         })
     }
 
-    /// Tells whom the scores name, and of whom they say that it is failed: bit q for replica q.
+    /// Tells the leader which leader the scores name, and which replicas they say are failed: bit q
+    /// for replica q.
     pub fn heed(&mut self, leader: u8, failed: u8) -> Note
         ghost mine: { List Event }
         requires { StandsFor mine self.old }
@@ -149,7 +150,7 @@ impl Lead {
         }
     }
 
-    /// Whether it gives up what it does where the scores name this replica.
+    /// Whether it gives up what it does if the scores name this replica.
     fn gives_up(&self, leader: u8) -> bool
         ensures { result ≡ gives_up self.now leader }
     {
@@ -166,7 +167,7 @@ impl Lead {
         }
     }
 
-    /// The verb that is due: none where another replica is named, or where the listing has none.
+    /// The verb that is due: none if another replica is named, or if the listing has none.
     #[tactic(auto, using(crate::proofs::Due::due_allowed))]
     pub fn due(&self, known: &[u16]) -> Option<Verb>
         ghost mine: { List Event }
@@ -192,7 +193,7 @@ impl Lead {
         }
     }
 
-    /// Up to where the region has what is known.
+    /// Up to which position the region has what is known.
     pub(crate) fn up_of(&self, p: u8) -> u64
         ensures { length self.now.up ≡ 7 → result ≡ get_or self.now.up p 0 }
     {

@@ -45,45 +45,44 @@ pub fn rooms_are_in_time()
     ensures { RoomsAreInTime }
 {}
 
-/// Each put that missed is explained in time, also beside what the other machines do.
+/// Each put that missed is explained in time, also alongside the other machines.
 pub fn evidence_comes_in_time()
     ensures { EvidenceComesInTime }
 {}
 
-/// After a commit each FUO is raised in time, also beside what the other machines do.
+/// After a commit each FUO is raised in time, also alongside the other machines.
 pub fn raises_come_in_time()
     ensures { RaisesComeInTime }
 {}
 
-/// A confirmed leadership reads its first minimum in time, also beside what the other machines do.
+/// A confirmed leadership reads its first minimum in time, also alongside the other machines.
 pub fn minima_come_in_time()
     ensures { MinimaComeInTime }
 {}
 
-/// A late follower that grants to the leader joins in time, also beside what the other machines do.
+/// A late follower that grants to the leader joins in time, also alongside the other machines.
 pub fn followers_join_in_time()
     ensures { FollowersJoinInTime }
 {}
 
-/// A beat in a turn of the leader leaves its counts as its place has them: where another replica is
-/// named, also right after it gave up, and where it rests.
+/// A beat in a turn of the leader leaves its counts as its place has them: if another replica is
+/// named, also right after the leader gave up, and if it rests.
 pub fn beats_keep_counts()
     ensures { BeatsKeepCounts }
 {}
 
-/// A leader whose counts are as its place has them is in time, also beside what the other machines
-/// do.
+/// A leader whose counts are as its place has them is in time, also alongside the other machines.
 pub fn counts_are_in_time()
     ensures { CountsAreInTime }
 {}
 
-/// A named leader asks with cause, also beside what the other machines do, and they never ask.
+/// A named leader asks with cause, also alongside the other machines, and these never ask.
 pub fn leaders_ask_with_cause()
     ensures { LeadersAskWithCause }
 {}
 
-/// Who has to ask asks each region and reads each fence in time, also beside what the other
-/// machines do.
+/// A replica that has to ask asks each region and reads each fence in time, also alongside the
+/// other machines.
 pub fn elections_come_in_time()
     ensures { ElectionsComeInTime }
 {}

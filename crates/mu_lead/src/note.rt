@@ -11,7 +11,7 @@ pub enum AbortCause {
         /// Its fence.
         fence: Fence,
     },
-    /// A late follower holds a minimum above the own number.
+    /// A late follower holds a minimum above the leader's own number.
     Higher {
         /// The follower.
         replica: u8,
@@ -30,7 +30,7 @@ pub enum Note {
         /// The regions.
         followers: u8,
     },
-    /// A round of fences named the replica in these regions alone.
+    /// A round of fences named the replica only in these regions.
     NotConfirmed {
         /// The regions.
         named: u8,

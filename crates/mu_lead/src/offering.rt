@@ -39,7 +39,7 @@ use mu_known::KnownLog;
 use mu_model::{Answer, Event, Verb, count_of_rows, reserve_of, row_rest};
 
 impl Lead {
-    /// Goes on with the next position, or with late followers where all commands are known.
+    /// Goes on with the next position, or with late followers if all commands are known.
     pub(crate) fn next_position(&self, known: &[u16]) -> Place
         ensures stands { (mine : List SomeEvent) → Stands mine self.now
             → known.now ≡ known_of self.now.config self.now.id mine
@@ -76,7 +76,7 @@ impl Lead {
         if q < 7 { self.heads[usize::from(q)] } else { 0 }
     }
 
-    /// Whether the head leaves room for the next position and for so many more.
+    /// Whether the head leaves room for the next position and for `free` more.
     fn leaves_room(&self, head: u64, free: u8, known: &[u16]) -> bool
         ensures { length known.now < 65536
             → result ≡ nat_lt (length known.now + free) (head + self.now.config.ring) }
@@ -274,7 +274,7 @@ impl Lead {
         }
     }
 
-    /// Picks the value: the entry of the largest number, else a mark, else an own batch.
+    /// Picks the value: the entry of the largest number, else a mark, else a batch of its own.
     fn pick(
         &self,
         candidate: Option<u8>,
@@ -310,7 +310,7 @@ impl Lead {
         }
     }
 
-    /// Begins with the next own batch, where there is one.
+    /// Begins with the next batch of its own, if there is one.
     fn offer_own(&self, known: &[u16], log: &KnownLog) -> Place
         ensures stands { HoldsValues self.now.config known.now log.now
             → (mine : List SomeEvent) → Stands mine self.now

@@ -42,7 +42,7 @@ pub enum Place {
     EnterMin(u8),
     /// Puts the number into the minimum of the region.
     PutMin(u8),
-    /// Reads the FUO of the region; beside it the region of the greatest FUO so far.
+    /// Reads the FUO of the region. Its second value is the region of the greatest FUO so far.
     ReadFuo(u8, Option<u8>),
     /// Looks at the first unknown position of the region, which has the greatest FUO.
     Learn(u8),
@@ -56,7 +56,7 @@ pub enum Place {
     PutBehind(u8, Then),
     /// Raises the FUO of the region that was brought up.
     RaiseBehind(u8, Then),
-    /// Reads the fence of the region, where what it lacks was overwritten.
+    /// Reads the fence of the region, if what it lacks was overwritten.
     FenceBehind(u8, Then),
     /// Reads the fence of the region, which isn't a member.
     LateFence(u8),
@@ -68,12 +68,14 @@ pub enum Place {
     LateEnter(u8),
     /// Puts the number into its minimum.
     LatePut(u8),
-    /// Reads the head of the replica; beside it the least replica so far that may be marked.
+    /// Reads the head of the replica. Its second value is the least replica so far that may be
+    /// marked.
     ReadHead(u8, Option<u8>),
-    /// Looks at the region in the new position; beside them who may be marked, and the entry
-    /// of the largest number so far.
+    /// Looks at the region in the new position. The next values are the replica that may be marked,
+    /// and the entry of the largest number so far.
     Look(u8, u16, Option<u8>, Option<Sight>),
-    /// Writes the next word of the own row; beside it the last row of the batch, and the offer.
+    /// Writes the next word of a row of its own. The next values are the last row of the batch, and
+    /// the offer.
     Write(u16, u16, Offer),
     /// Enters the region for the offer.
     Enter(u8, Offer),

@@ -1,7 +1,7 @@
 //! Positions as numbers of 16 bits.
 ghost use Rattle.std.specs.Prelude.{length, min, ◌<◌, ◌≡◌};
 
-/// The number in 16 bits, where it fits.
+/// The number in 16 bits, if it fits.
 pub(crate) fn narrow(x: u64) -> u16
     ensures fits { x < 65536 → result ≡ x }
     ensures least { result ≡ min x 65535 }

@@ -12,7 +12,7 @@ use crate::lead::Lead;
 use mu_leading::Leadership;
 
 impl Lead {
-    /// Up to where each region has what is known, where the members have all below `u`.
+    /// Up to which position each region has what is known, if the members have all below `u`.
     pub(crate) fn brought_to(&self, u: u64) -> [u64; 7]
         ensures long { length result ≡ length self.now.up }
         ensures members { (mine : List Event) → (p : ℕ) → p < 7 → length self.now.up ≡ 7
@@ -88,7 +88,7 @@ pub(crate) fn count_noted(leading: &Leadership, n: u8) -> u8
     count
 }
 
-/// 1 where the grant of `p` is noted, else 0.
+/// 1 if the grant of `p` is noted, else 0.
 fn bit_of(leading: &Leadership, p: u8) -> u8
     requires { p < 7 }
     ensures bit { (r : ℕ) → (mine : List Event) → StandsForLeadership r mine leading.now

@@ -1,4 +1,5 @@
--- A text in the room that a caller gives.
+-- filled with, puts: the first bytes of a text in the room that a caller gives, and how many bytes
+-- the whole text has.
 use Rattle.std.specs.Prelude.{ℕ, ◌≡◌, List, ◌++◌, length, take, drop}
 
 -- the room with the first bytes of the text at its front, as many as it has room for, and then what

@@ -1,4 +1,4 @@
--- A node leads in the background only where it was named.
+-- A node leads in the background only if it was named.
 use Rattle.std.proofs.Common.{◌≡◌, ◌∙◌, ℕ, zero, suc, ◌%◌, ◌+◌, ◌<◌, ◌≤◌, ◌==◌, ◌&&◌, ◌||◌, inl, inr, Bool, true, false, None, Some, List, ◌∷◌, ap, arith, length, refl, sym}
 use Rattle.std.specs.Prelude.{if◌then◌else◌, nat_lt, not}
 use Rattle.std.specs.declared.option.Option.{Option}

@@ -1,4 +1,5 @@
--- A leader beside the other parts of its node: what keeps what it stands for, and what the node makes.
+-- A leader with the other parts of its node: what keeps what it stands for, and what the node
+-- makes.
 use Rattle.std.proofs.Common.{◌≡◌, ◌∙◌, ◌==◌, ◌++◌, ◌+◌, ◌&&◌, ◌*◌, ◌-◌, ◌≢◌, ℕ, ◌<◌, eqb-true, Bool, true, false, List, [], ◌∷◌, ap, arith, length, refl, subst, sym, Some, None}
 use Rattle.std.specs.Prelude.{IfSome, if◌then◌else◌, nat_lt}
 use Rattle.std.proofs.Math.Bool.{and-false}

@@ -116,7 +116,7 @@ paces_led c r mine old new verb answer values held same_c same_r takes odd due p
     of_node (λ k i. is_named k i mine ≡ true → verb_of old (known k i mine) ≡ Some verb → IsPossible k i (event_by i verb answer ∷ mine) → values ≡ known_told k i mine i verb answer → HasPaces k i mine old → HasPaces k i (event_by i verb answer ∷ mine) new) c r old held.config held.id
     (own_led mine old new verb answer values same_c same_r takes odd) (is_asked (leader c r mine == r) (verb_of old (known c r mine)) verb due).0 (is_asked (leader c r mine == r) (verb_of old (known c r mine)) verb due).1 possible told paces
 
--- the leader was told whom the scores name
+-- the leader was told which leader the scores name
 pub paces_told : (c : Config) (r : ℕ) (mine : List Event) (old new : Lead) (named : ℕ) → r < c.replicas → named ≡ leader c r mine → old.id ≡ r → IsTold old named new → new.under_way ≡ (old.under_way && not (nat_lt named old.id)) → HasPaces c r mine old
     → PacesTold (not (is_named c r mine)) c r mine new
 paces_told c r mine old new named inside is same told going paces = go (is_named c r mine) refl

@@ -1,4 +1,4 @@
--- A node reads rows of known batches alone.
+-- A node reads only rows of known batches.
 use Rattle.std.proofs.Common.{◌≡◌, ◌∙◌, ℕ, ◌+◌, ◌-◌, ◌*◌, ◌/◌, ◌%◌, ◌==◌, Bool, true, false, None, Some, List, [], ◌∷◌, ap, arith, inl, inr, length, refl, subst, sym, true≢false}
 use Rattle.std.specs.Prelude.{if◌then◌else◌, min, nat_lt}
 use Rattle.std.specs.declared.option.Option.{Option}

@@ -1,4 +1,4 @@
--- What the answers of a replica are seen as.
+-- answering: the table, the replies and the room of a replica's own store.
 use Rattle.std.specs.Prelude.{List, [], refl, suc, zero, ℕ, ◌≡◌}
 use Rattle.std.specs.Coded.{Coded, code_by, coded×, coded_list, coded_ℕ}
 use Rattle.std.specs.FinMap as map

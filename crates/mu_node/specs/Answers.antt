@@ -1,4 +1,5 @@
--- The answers of a replica to the commands that it applied.
+-- answered, holds answers: commands were answered in order; the commands of these entries were
+-- answered.
 use Rattle.std.specs.Prelude.{List, length, ℕ, ◌++◌, ◌+◌, ◌<◌, ◌≡◌, ◌≤◌}
 use Rattle.kv_store.specs.Commands.{Request}
 use Rattle.kv_store.specs.Tables.{replies, replies_from, store, store_from}

@@ -1,4 +1,4 @@
--- Whether the last event is a beat.
+-- beats: whether the last event is a beat.
 use Rattle.std.specs.Prelude.{Bool, List, [], false, ◌∷◌}
 use Rattle.mu_model.specs.declared.event.Event.{Event}
 use Rattle.mu_model.specs.Steps.{is_beat_verb}

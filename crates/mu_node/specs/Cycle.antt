@@ -1,5 +1,5 @@
--- What is due at each place of the cycle, how far r has handed on what it applied, and what is made
--- in a turn.
+-- cycle: what is due at each place of the cycle, how far r has handed on what it applied, and what
+-- is made in a turn.
 use Rattle.std.specs.Prelude.{Bool, List, Some, [], false, if◌then◌else◌, length, nat_lt, not, true, ℕ, ◌%◌, ◌&&◌, ◌*◌, ◌+◌, ◌-◌, ◌/◌, ◌<◌, ◌==◌, ◌∷◌, ◌≡◌}
 use Rattle.std.specs.declared.option.Option.{Option}
 use Rattle.mu_model.specs.declared.config.Config.{Config}
@@ -28,7 +28,7 @@ handed_before c r [] = 0
 handed_before c r (e ∷ mine) =
     if hands_on c mine then length (applied c r mine) else handed_before c r mine
 
--- and has when it makes the next one
+-- how many it has handed on when it makes the next event
 abbrev pub handed : Config → ℕ → List Event → ℕ
 handed c r mine =
     if hands_on c mine then length (applied c r mine) else handed_before c r mine
@@ -57,7 +57,7 @@ abbrev pub IsBackgroundDue : Config → ℕ → List Event → Bool → Option V
 IsBackgroundDue c r mine leading due = IsDueAt c r mine leading (place_now c mine) due
 
 -- the verb that is made: what the listing has due by the journal in a turn of the leader, and what
--- the cycle has due in another, and a beat exactly where nothing is due
+-- the cycle has due in another, and a beat exactly if nothing is due
 pub record IsMade (c : Config) (r : ℕ) (mine : List Event) (verb : Verb) : Type 0 where
   pub replication : is_odd (length mine) ≡ true → verb ≡ verb_or_beat (due_after c r mine)
   pub background :

@@ -1,4 +1,4 @@
--- The step that is due in a turn.
+-- due of a turn: the step that is due in a turn.
 use Rattle.std.specs.Prelude.{Bool, List, None, Some, false, if◌then◌else◌, length, true, ℕ, ◌==◌, ◌≡◌}
 use Rattle.std.specs.declared.option.Option.{Option}
 use Rattle.mu_model.specs.declared.config.Config.{Config}
@@ -13,7 +13,7 @@ use Rattle.mu_lead.specs.Beside.{is_beside, leads_at}
 use Rattle.mu_lead.specs.Journal.{number_due, place_after, tables_at}
 use Rattle.mu_lead.specs.Standing.{HasHeeded, verb_at, verb_of}
 
--- the step that is made: a beat where nothing is due
+-- the step that is made: a beat if nothing is due
 abbrev pub verb_or_beat : Option Verb → Verb
 verb_or_beat None = Verb.Beat
 verb_or_beat (Some verb) = verb
@@ -24,11 +24,11 @@ pub record MayBeside (c : Config) (r : ℕ) (mine : List Event) (lead : Lead)
   pub allowed : Allowed c r mine verb
   pub beside : is_beside (leads_at lead.place) verb ≡ true
 
--- the verb that the leader has due, in a turn of its own: of its place where the scores name r
+-- the verb that the leader has due, in a turn of its own: of its place if the scores name r
 abbrev pub lead_due : Config → ℕ → List Event → Lead → Option Verb
 lead_due c r mine lead = if leader c r mine == r then verb_of lead (known c r mine) else None
 
--- the same by the journal, where the scores name r
+-- the same by the journal, if the scores name r
 abbrev pub listed_due : Config → ℕ → List Event → Option Verb
 listed_due c r mine =
     verb_at c (number_due r mine) (known c r mine) (tables_at c r mine).up

@@ -1,4 +1,6 @@
--- How each event of a node's journal was made.
+-- was made, may lead: how each event of a node's journal was made: it is the node's own, it was
+-- due, and it came before the node was outrun; in the background it was made by a leader that leads
+-- only if the scores named r in the leader's last turn.
 use Rattle.std.specs.Prelude.{Bool, List, None, [], false, if◌then◌else◌, length, true, ℕ, ◌||◌, ◌∷◌, ◌≡◌}
 use Rattle.mu_model.specs.declared.config.Config.{Config}
 use Rattle.mu_model.specs.declared.event.Event.{Event}
@@ -18,8 +20,8 @@ abbrev pub was_named : Config → ℕ → List Event → Bool
 was_named c r [] = false
 was_named c r (e ∷ mine) = is_named_turn c r mine e
 
--- r may lead: before a background turn where it was named in the last one of the leader, and before
--- one of the leader, in which it is told whom the scores name, in any case
+-- r may lead: before a background turn if it was named in the leader's last turn; before a turn of
+-- the leader, in which it is told which leader the scores name, in any case
 abbrev pub may_lead_before : Config → ℕ → List Event → Bool
 may_lead_before c r mine = is_odd (length mine) || was_named c r mine
 
@@ -27,12 +29,12 @@ may_lead_before c r mine = is_odd (length mine) || was_named c r mine
 abbrev pub may_lead : Config → ℕ → List Event → Bool
 may_lead c r mine = if is_odd (length mine) then is_named c r mine else was_named c r mine
 
--- in a turn of the leader the step is what its listing has due by the journal alone, else a beat
+-- in a turn of the leader the step is what its listing has due by the journal only, else a beat
 abbrev pub IsListed : Config → ℕ → List Event → Event → Type 0
 IsListed c r mine e = is_odd (length mine) ≡ true → e.verb ≡ verb_or_beat (due_after c r mine)
 
 -- r made the event as it was due by the journal; its leader's counts were as its place has them, it
--- leads in the background only where it was named, and no look had found a place used again that r
+-- leads in the background only if it was named, and no look had found a place used again that r
 -- still had to read
 pub record WasMade (c : Config) (r : ℕ) (mine : List Event) (e : Event) : Type 0 where
   pub own : e.by ≡ r

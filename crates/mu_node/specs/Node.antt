@@ -1,4 +1,4 @@
--- When a node stands for the events of replica r.
+-- stands for (node): the state of a node stands for the events of replica r.
 use Rattle.std.specs.Prelude.{Bool, List, [], length, not, take, true, vec_capacity, ℕ, ◌+◌, ◌<◌, ◌∷◌, ◌≡◌, ◌≤◌}
 use Rattle.kv_store.specs.Commands.{Request}
 use Rattle.mu_model.specs.declared.config.Config.{Config}
@@ -56,8 +56,8 @@ pub record StandsForLead (c : Config) (r : ℕ) (mine : List Event) (lead : Lead
   pub id : lead.id ≡ r
   pub stands : LeadStandsFor mine lead
 
--- the node stands for the events, with its leader, which leads only where it may, and with what is
--- said of its counts; it has handed on so many entries, answered to their commands, called the
+-- the node stands for the events, with its leader, which leads only if it may, and with what is
+-- said of its counts; it has handed on `count` entries, answered to their commands, called the
 -- places of its cycle in their order, and made each event as it was due and in time for all that a
 -- leader keeps
 pub record HoldsNode (Paces : Lead → Type 0) (c : Config) (r : ℕ) (mine : List Event) (count : ℕ)
@@ -79,7 +79,7 @@ abbrev pub StandsForNode : Config → ℕ → List Event → Node → Type 0
 StandsForNode c r mine node =
     HoldsNode (HasPaces c r mine) c r mine (handed_before c r mine) (may_lead_before c r mine) node
 
--- the same once its leader was told whom the scores name
+-- the same once its leader was told which leader the scores name
 abbrev pub HasHeard : Config → ℕ → List Event → Node → Type 0
 HasHeard c r mine node =
     HoldsNode (PacesTold (not (is_named c r mine)) c r mine) c r mine (handed_before c r mine)

@@ -1,4 +1,4 @@
--- What a turn is noted as.
+-- notes (of a turn): what a turn is noted as.
 use Rattle.std.specs.Prelude.{Bool, List, None, Some, false, if◌then◌else◌, length, nat_lt, not, true, ℕ, ◌&&◌, ◌||◌, ◌∷◌, ◌≡◌}
 use Rattle.std.specs.declared.option.Option.{Option}
 use Rattle.mu_model.specs.declared.config.Config.{Config}
@@ -34,8 +34,8 @@ note_at c r mine t place verb answer =
     (next_note c r (or_zero (proposal_number r mine)) mine
     (record { by = r; verb = verb; answer = answer } ∷ mine) t answer place)
 
--- what the leader notes when it is told whom the scores of r name: it resigns where a leadership is
--- under way and a lower replica is named
+-- what the leader notes when it is told which leader the scores of r name: it resigns if a
+-- leadership is under way and a lower replica is named
 abbrev pub heed_note : Config → ℕ → List Event → Lead → Note
 heed_note c r mine lead =
     if lead.under_way && nat_lt (leader c r mine) r then Note.Resigned (leader c r mine)
@@ -46,8 +46,8 @@ abbrev pub note_before : Config → ℕ → List Event → Lead → Note
 note_before c r mine lead =
     if is_odd (length mine) then heed_note c r mine lead else Note.Working
 
--- what a turn is noted as when its step was taken, where the leader noted this before it: the same
--- where nothing was due or the step was not of the leader, else what its answer meant
+-- what a turn is noted as when its step was taken, if the leader noted this before it: the same if
+-- nothing was due or the step was not the leader's, else what its answer meant
 pub record TellsTook (c : Config) (r : ℕ) (mine : List Event) (leads : Bool) (due : Option Verb)
     (heeded : Note) (answer : Answer) (note : Note) : Type 0 where
   pub idle : due ≡ None → note ≡ heeded
@@ -58,13 +58,13 @@ pub record TellsTook (c : Config) (r : ℕ) (mine : List Event) (leads : Bool) (
       → known c r (record { by = r; verb = verb; answer = answer } ∷ mine)
       ≡ grown (known_told c r mine r verb answer) (value_committed note)
 
--- whether a leadership is still under way when the leader was told whom the scores of r name: one
--- that was is given up where a lower replica is named
+-- whether a leadership is still under way when the leader was told which leader the scores of r
+-- name: one that was is given up if a lower replica is named
 abbrev pub going_told : Config → ℕ → List Event → Lead → Bool
 going_told c r mine lead = lead.under_way && not (nat_lt (leader c r mine) r)
 
--- the leader was told whom the scores of r name: what else the notes rest on is as it was, but that
--- it starts anew where a lower replica is named
+-- the leader was told which leader the scores of r name: what else the notes rest on is as it was,
+-- but it starts again if a lower replica is named
 pub record HasTold (c : Config) (r : ℕ) (mine : List Event) (old new : Lead) : Type 0 where
   pub going : new.under_way ≡ going_told c r mine old
   pub place : nat_lt (leader c r mine) r ≡ false → new.place ≡ old.place
@@ -91,9 +91,9 @@ pub record SaysTook (c : Config) (r : ℕ) (mine : List Event) (leads : Bool) (d
       → next.under_way ≡ going_after (begins_at lead.place || lead.under_way) note
 
 -- the note of a turn that made this event: nothing in a background turn; in one of the leader what
--- it noted when it was told whom the scores name where nothing was due, else what the answer meant,
--- which names an entry exactly where the put made it known, and each other cause exactly where the
--- leader's contract says, at the place of the listing that the journal has
+-- it noted when it was told which leader the scores name if nothing was due, else what the answer
+-- meant, which names an entry exactly if the put made it known, and each other cause exactly if the
+-- leader's contract says so, at the place of the listing that the journal has
 pub record TellsNote (c : Config) (r : ℕ) (mine : List Event) (lead : Lead) (answer : Answer)
     (note : Note) : Type 0 where
   pub background : is_odd (length mine) ≡ false → note ≡ Note.Working
@@ -126,7 +126,7 @@ TellsTurn c r mine now lead (Turn.Took note) = HasMade c r mine now lead note
 TellsTurn c r mine now lead (Turn.Ended end) = Unit {0}
 
 -- whether a leadership is under way after a turn with this note: as before it in a background turn;
--- in one of the leader as it was told where nothing was due, else as the verb began it and the note
+-- in one of the leader as it was told if nothing was due, else as the verb began it and the note
 -- ends it
 pub record MovesGoing (c : Config) (r : ℕ) (mine : List Event) (lead next : Lead)
     (note : Note) : Type 0 where
@@ -138,7 +138,7 @@ pub record MovesGoing (c : Config) (r : ℕ) (mine : List Event) (lead next : Le
       (verb : Verb) → is_odd (length mine) ≡ true → lead_due c r mine lead ≡ Some verb
       → next.under_way ≡ going_after (begins_at lead.place || lead.under_way) note
 
--- the same of a turn: where it made no step, as before it
+-- the same of a turn: if it made no step, as before it
 abbrev pub MovesTurn : Config → ℕ → List Event → Lead → Lead → Turn → Type 0
 MovesTurn c r mine lead next (Turn.Took note) = MovesGoing c r mine lead next note
 MovesTurn c r mine lead next (Turn.Ended end) = next.under_way ≡ lead.under_way

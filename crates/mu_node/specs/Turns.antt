@@ -1,4 +1,4 @@
--- What a turn of a replica does, and what it leaves.
+-- turn, result: what a turn of a replica does, and what it leaves.
 use Rattle.std.specs.Prelude.{List, None, Some, map, ℕ, ◌∷◌, ◌≡◌}
 use Rattle.std.specs.declared.option.Option.{Option}
 use Rattle.kv_store.specs.Commands.{Request}
@@ -36,7 +36,7 @@ abbrev pub TellsEnd : Config → Script → ℕ → List Event → Option End �
 TellsEnd c script r mine None = HasNoEnd c script r mine
 TellsEnd c script r mine (Some end) = EndsBy c script r mine end
 
--- what a turn did: one step where there was no end, and none at the end that it tells
+-- what a turn did: one step if there was no end, and none at the end that it tells
 abbrev pub IsTurn :
     Config → Script → ℕ → List Event → List Event → Option (List Event) → Option (List Event) → Turn
     → Type 0
@@ -46,7 +46,7 @@ IsTurn c script r mine now before after (Turn.Ended end) =
     EndsBy c script r mine end × (now ≡ mine) × (after ≡ before)
 
 -- what a replica leaves is what the definitions give of its events, which are diligent; its replies
--- are those of the store over the commands that the rows spell of what it applied
+-- are those of the store to the commands that the rows of what it applied spell
 pub record IsResult (c : Config) (r : ℕ) (mine : List Event) (result : NodeResult) : Type 0 where
   pub journal : history result.journal.events ≡ mine
   pub log : result.log ≡ applied c r mine

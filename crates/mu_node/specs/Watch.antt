@@ -1,4 +1,4 @@
--- When what a node keeps of the scores stands for the events of replica r.
+-- watch (of scores): what a node keeps of the scores stands for the events of replica r.
 use Rattle.std.specs.Prelude.{Bool, List, false, true, ℕ, ◌≡◌}
 use Rattle.mu_model.specs.declared.config.Config.{Config}
 use Rattle.mu_model.specs.declared.event.Event.{Event}

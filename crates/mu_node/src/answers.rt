@@ -50,7 +50,7 @@ impl Model for Answers {
 }
 
 impl Answers {
-    /// An empty store, with room for so many commands. Takes all memory that it ever needs.
+    /// An empty store, with room for this many commands. Takes all memory that it ever needs.
     pub fn with_room(alloc: Global, commands: usize) -> Result<Answers, NoMemory>
         ensures table { IfOk result (λ answers. answers.table ≡ empty_table) }
         ensures replies { IfOk result (λ answers. answers.replies ≡ []) }
@@ -63,7 +63,7 @@ impl Answers {
         })
     }
 
-    /// Applies a command, where there is room, and keeps its reply. Takes no memory.
+    /// Applies a command, if there is room, and keeps its reply. Takes no memory.
     fn answer(&mut self, command: &Command)
         ensures table { 0 < self.old.left
             → self.new.table ≡ table_after self.old.table command.now.op }
@@ -91,7 +91,7 @@ impl Answers {
     }
 }
 
-/// Applies the command of a row, where it is one.
+/// Applies the command of a row, if it is one.
 fn answer_row(follow: &Follow, row: u16, answers: &mut Answers)
     ensures { (command : Request)
         → ((c : Config) × (r : ℕ) × (mine : List Event) × IsHeldRow c r mine row command follow.now)

@@ -14,13 +14,13 @@ use crate::answers::apply_ready;
 use crate::node::Node;
 use mu_model::Verb;
 
-/// How many places a cycle has beside two for each replica.
+/// How many places a cycle has besides two for each replica.
 const PLACES: u32 = 22;
 
 /// How many places of the cycle are the host's.
 const HOST_PLACES: u8 = 4;
 
-/// The place at which the head is raised, beside two for each replica.
+/// The place at which the head is raised, besides two for each replica.
 const HEAD_PLACE: u8 = 20;
 
 /// A number as a place: places are few.
@@ -45,8 +45,8 @@ fn other(r: u8, place: u8) -> u8
 }
 
 impl Node {
-    /// What is due in a background turn, where something is. Before the head is raised, what is
-    /// there is applied to the own store, and handed on.
+    /// What is due in a background turn, if anything is. Before the head is raised, what is there
+    /// is applied to the replica's own store, and handed on.
     pub(crate) fn background(&mut self) -> Option<Verb>
         requires config { IsConfig self.old.follow.config }
         ensures stands { (c : Config) → (r : ℕ) → (mine : List SomeEvent)
@@ -80,7 +80,8 @@ impl Node {
         as_place(self.follow.steps() / 2 % cycle)
     }
 
-    /// Applies what is there to the own store, and hands it on, before the head is raised.
+    /// Applies what is there to the replica's own store, and hands it on, before the head is
+    /// raised.
     fn hand_on(&mut self, place: u8)
         requires config { IsConfig self.old.follow.config }
         ensures stands { (c : Config) → (r : ℕ) → (mine : List SomeEvent)

@@ -17,7 +17,7 @@ use crate::watch::Watch;
 use mu_follow::Follow;
 use mu_model::{End, Stop};
 
-/// Whether the script stops the replica after so many steps.
+/// Whether the script stops the replica after this many steps.
 pub(crate) fn is_stop(stops: &[Stop], r: u8, steps: u32) -> bool
     ensures { result ≡ stops_at r steps stops.now }
 {
@@ -29,7 +29,7 @@ pub(crate) fn is_stop(stops: &[Stop], r: u8, steps: u32) -> bool
     false
 }
 
-/// Whether the head, where there is one, is at least so far.
+/// Whether the head, if there is one, is at least `full`.
 fn reaches(head: Option<u64>, full: usize) -> bool
     ensures { result ≡ is_at_least full head }
 {
@@ -39,7 +39,7 @@ fn reaches(head: Option<u64>, full: usize) -> bool
     }
 }
 
-/// Whether the other replica has applied so many entries, or is held to be failed.
+/// Whether the other replica has applied `full` entries, or is held to be failed.
 fn is_done(follow: &Follow, watch: &Watch, r: u8, q: u8, full: usize) -> bool
     ensures { (c : Config) → (mine : List Event) → q < c.replicas
         → StandsForWatch c r mine watch.now
@@ -52,7 +52,7 @@ fn is_done(follow: &Follow, watch: &Watch, r: u8, q: u8, full: usize) -> bool
     own || (there || failed)
 }
 
-/// Whether all others have applied so many entries, or are held to be failed.
+/// Whether all others have applied `full` entries, or are held to be failed.
 #[inline(never)]
 fn are_done(follow: &Follow, watch: &Watch, r: u8, n: u8, full: usize) -> bool
     ensures { (c : Config) → (mine : List Event) → n ≡ c.replicas
@@ -93,7 +93,7 @@ pub(crate) fn as_head(head: u64) -> u16
     }
 }
 
-/// The head of `q` that is known: the own one, or the one read last.
+/// The head of `q` that is known: its own, or the one that was read last.
 fn head_known(follow: &Follow, r: u8, q: u8) -> u16
     ensures { (c : Config) → (mine : List Event) → q < 7 → IsConfig c → IsPossible c r mine
         → StandsForFollow c r mine follow.now → result ≡ head_known_of r mine q }

@@ -1,7 +1,7 @@
 //! One replica: its turns, its journal and its end.
 //!
 //! A turn makes the step that the leader, the host, the failure detector or the replayer has due,
-//! which the replica may make by its own events; where none is due it beats.
+//! which the replica may make by its own events; if none is due, it beats.
 #![tactic(auto)]
 
 mod answers;

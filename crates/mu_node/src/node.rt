@@ -46,7 +46,7 @@ pub struct Node {
     pub(crate) journal: Journal,
     /// What it does as the host of its region.
     pub(crate) grants: Grants,
-    /// Whom it holds to be failed, and whom it names leader.
+    /// Which replicas it holds to be failed, and which it names leader.
     pub(crate) watch: Watch,
     /// What it does as a leader.
     pub(crate) lead: Lead,
@@ -70,14 +70,14 @@ fn is_beat(verb: &Verb) -> bool
     }
 }
 
-/// The first values, or all where there are fewer.
+/// The first values, or all if there are fewer.
 fn first_of(values: &[u16], count: usize) -> &[u16]
     ensures { count ≤ length values.now → result.now ≡ take count values.now }
 {
     &values[..count.min(values.len())]
 }
 
-/// Adds the values, where there is room, as there is for all.
+/// Adds the values, if there is room: there is, for all.
 fn fill_log(log: &mut Vec<u16>, values: &[u16])
     ensures { log.old.items ≡ [] → length values.now ≤ vec_capacity log.old
         → log.new.items ≡ values.now }
@@ -89,7 +89,7 @@ fn fill_log(log: &mut Vec<u16>, values: &[u16])
     }
 }
 
-/// Adds the commits, where there is room, as there is for all.
+/// Adds the commits, if there is room: there is, for all.
 fn fill_commits(list: &mut Vec<Commit>, commits: &[Commit])
     ensures { list.old.items ≡ [] → length commits.now ≤ vec_capacity list.old
         → list.new.items ≡ commits.now }
@@ -155,8 +155,8 @@ impl Node {
         }
     }
 
-    /// The end of its journal, where it has one: by the script, by the budget, because it was
-    /// outrun, or because all is applied.
+    /// The end of its journal, if it has one: by the script, by the budget, because it was outrun,
+    /// or because all is applied.
     #[inline(always)]
     pub fn end(&self) -> Option<End>
         ensures { (c : Config) → (script : Script) → (r : ℕ) → (mine : List SomeEvent)
@@ -173,7 +173,7 @@ impl Node {
         }
     }
 
-    /// One turn: one step through the port, or none where the journal has an end. Takes no memory.
+    /// One turn: one step through the port, or none if the journal has an end. Takes no memory.
     pub fn turn<P: Port>(&mut self, port: &mut P) -> Turn
         requires config { IsConfig (P.config port.old) }
         requires stands { StandsForNode (P.config port.old) (P.number port.old)

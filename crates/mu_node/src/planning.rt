@@ -27,15 +27,15 @@ use mu_model::{Answer, Event, Verb};
 /// What is due in a turn.
 #[derive(Drop)]
 pub(crate) struct Plan {
-    /// The verb, where one is due.
+    /// The verb, if one is due.
     pub(crate) due: Option<Verb>,
     /// Whether it is of the leader.
     pub(crate) leads: bool,
-    /// What the leader noted when it was told whom the scores name.
+    /// What the leader noted when it was told which leader the scores name.
     pub(crate) heeded: Note,
 }
 
-/// Whether the turn after so many steps is one of the leader: turns are counted from 0, and these
+/// Whether the turn after this many steps is one of the leader: turns are counted from 0, and these
 /// are the odd ones.
 fn is_turn_of_leader(steps: u32) -> bool
     ensures { result ≡ is_odd steps }
@@ -43,7 +43,7 @@ fn is_turn_of_leader(steps: u32) -> bool
     steps % 2 == 1
 }
 
-/// The step that is made where this one is due, if any.
+/// The step that is made if this one is due, if any.
 pub(crate) fn or_beat(due: Option<Verb>) -> Verb
     ensures { result ≡ verb_or_beat due }
 {
@@ -75,8 +75,8 @@ fn told(heeded: Note, note: Note) -> Note
 }
 
 impl Node {
-    /// What is due in this turn: of the leader in odd ones, once it was told whom the scores name,
-    /// else of the cycle of the background.
+    /// What is due in this turn: of the leader in odd ones, once it was told which leader the
+    /// scores name, else of the cycle of the background.
     #[inline(always)]
     pub(crate) fn plan(&mut self) -> Plan
         ghost mine: { List SomeEvent }
@@ -173,7 +173,7 @@ impl Node {
         }
     }
 
-    /// Tells the leader whom the scores name, before a step of its own.
+    /// Tells the leader which leader the scores name, before a step of its own.
     fn heed(&mut self) -> Note
         ghost mine: { List SomeEvent }
         requires stands { StandsForNode self.old.follow.config self.old.id mine self.old }
@@ -233,7 +233,7 @@ impl Node {
         self.follow.note(&event);
     }
 
-    /// Tells the replayer the entry that a put of the leader made known, where its note says so.
+    /// Tells the replayer the entry that a put of the leader made known, if its note says so.
     fn learn(&mut self, position: usize, note: Note)
         requires config { IsConfig self.old.follow.config }
         ensures none { value_committed note ≡ None → self.new ≡ self.old }

@@ -12,8 +12,8 @@ pub struct NodeResult {
     pub log: Log,
     /// What it committed.
     pub commits: Commits,
-    /// The replies of its own store to the commands of what it applied, in order.
+    /// The replies of its own store to the commands that it applied, in order.
     pub replies: Replies,
-    /// How it ended, where it did.
+    /// How it ended, if it did.
     pub end: Option<End>,
 }

@@ -1,4 +1,4 @@
-//! Whom a replica holds to be failed, and whom it names leader.
+//! Which replicas a replica holds to be failed, and which it names leader.
 ghost use Rattle.std.specs.Prelude.{List, [], ◌<◌, ◌∷◌, ◌≡◌, ◌≤◌, ℕ};
 ghost use Rattle.mu_model.specs.declared.config.Config.{Config};
 ghost use Rattle.mu_model.specs.declared.event.Event.{Event as SomeEvent};
@@ -11,14 +11,14 @@ ghost use Rattle.mu_node.specs.Watch.{StandsForWatch, is_beat_read};
 use mu_detect::Scores;
 use mu_model::{Event, Verb};
 
-/// The scores, and what they say: this changes only where a count of beats is read.
+/// The scores, and what they say: this changes only when a count of beats is read.
 #[derive(Drop)]
 pub struct Watch {
     /// The scores of the others.
     scores: Scores,
-    /// Whom they name leader.
+    /// Which replica they name leader.
     named: u8,
-    /// Whom they hold to be failed: bit q for replica q.
+    /// Which replicas they hold to be failed: bit q for replica q.
     failed: u8,
 }
 
@@ -32,7 +32,7 @@ fn reads_beat(verb: &Verb) -> bool
     }
 }
 
-/// 1 for what is so, else 0.
+/// 1 if it is so, else 0.
 fn one_if(so: bool) -> u8
     ensures few { result ≤ 1 }
     ensures is { result ≡ bit so }
@@ -49,7 +49,7 @@ fn failed_bit(scores: &Scores, n: u8, q: u8) -> u8
     if q < n { one_if(!scores.alive(q)) } else { 0 }
 }
 
-/// Whom the scores of `n` replicas hold to be failed: bit q for replica q.
+/// Which replicas the scores of `n` replicas hold to be failed: bit q for replica q.
 fn failed_in(scores: &Scores, n: u8) -> u8
     ensures { (c : Config) → (r : ℕ) → (mine : List SomeEvent) → n ≡ c.replicas
         → StandsFor c.replicas r mine scores.now → TellsFailed c r mine result }
@@ -101,7 +101,7 @@ impl Watch {
         self.failed = failed_in(&self.scores, n);
     }
 
-    /// Whom the scores name leader.
+    /// The replica that the scores name leader.
     pub fn leader(&self) -> u8
         ensures { (c : Config) → (r : ℕ) → (mine : List SomeEvent)
             → StandsForWatch c r mine self.now
@@ -110,7 +110,7 @@ impl Watch {
         self.named
     }
 
-    /// Whom they hold to be failed: bit q for replica q.
+    /// Which replicas they hold to be failed: bit q for replica q.
     pub fn failed(&self) -> u8
         ensures { (c : Config) → (r : ℕ) → (mine : List SomeEvent)
             → StandsForWatch c r mine self.now

@@ -1,4 +1,4 @@
--- What holds before the first step of a picture.
+-- opening (of a picture): what holds in each lane before the first step of a picture.
 use Rattle.std.specs.Prelude.{ℕ, Bool, zero, suc, false, None, Some, List, [], ◌∷◌, ◌++◌}
 use Rattle.mu_model.specs.declared.event.Event.{Event}
 use Rattle.mu_model.specs.Histories.{part}

@@ -1,4 +1,5 @@
--- Which bytes are a document of XML: an element, of a name, attributes and content.
+-- document: which bytes are content, a tag or a document of XML: an element with a name, attributes
+-- and content.
 use Rattle.std.specs.Prelude.{ℕ, ◌≡◌, ◌==◌, ◌&&◌, ◌||◌, Bool, true, false, not, nat_le, List, [], ◌∷◌, ◌++◌, codes}
 use Rattle.std.specs.List.{list_all}
 use Rattle.std.specs.Str.{bytes_eq}
@@ -52,7 +53,7 @@ mutual
         {name rest : List ℕ} → is_name name ≡ true → IsTag name [] rest
         → IsContent (60 ∷ (name ++ rest))
 
-  -- what follows the name of an element: attributes beside these, no name twice, and its end; then
+  -- what follows the name of an element: attributes besides these, no name twice, and its end; then
   -- content
   pub data IsTag : List ℕ → List (List ℕ) → List ℕ → Type 0 where
     attribute :

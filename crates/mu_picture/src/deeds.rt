@@ -50,7 +50,7 @@ fn is_done(answer: &Answer) -> bool
     matches!(answer, Answer::Done)
 }
 
-/// What a look does that is drawn, where it teaches a value or not.
+/// What a look does that is drawn, by whether it teaches a value.
 fn look_deed(p: u8, i: u16, known: usize, answer: &Answer, taught: Option<u16>) -> Option<Deed>
     ensures { result ≡ look_deed_of p i known answer.now taught }
 {

@@ -1,4 +1,4 @@
--- What is said of a list of events.
+-- verdict line: what is said of a list of events, as a line.
 use Rattle.std.specs.Prelude.{ℕ, List, ◌++◌, codes}
 use Rattle.std.specs.Fmt.{decimal}
 use Rattle.mu_events.specs.Lines.{answer_words}
@@ -12,7 +12,7 @@ abbrev pub wrong_words : Wrong → List ℕ
 wrong_words NotAllowed = codes "not allowed"
 wrong_words (WrongAnswer expected) = codes "expected " ++ answer_words expected
 
--- what is said of a list of so many events
+-- what is said of a list of this many events
 abbrev pub verdict_line : ℕ → Verdict → List ℕ
 verdict_line events Legal = codes "legal " ++ decimal events
 verdict_line events (Illegal index cause) =

@@ -1,4 +1,4 @@
--- The book of orders after a run, as lines without their ends.
+-- lines of a book: the trades and the resting orders after a run, as lines without their ends.
 use Rattle.std.specs.Prelude.{List, [], ◌∷◌, ◌++◌, ℕ, length, map, codes}
 use Rattle.std.specs.Fmt.{decimal}
 use Rattle.match_book.specs.declared.order.Id.{Id}

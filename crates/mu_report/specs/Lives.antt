@@ -1,4 +1,5 @@
--- A run with what readers saw beside a writer of its longest log, as lines without their ends.
+-- lines of readers: the number of sights of each reader and the last of them, as lines without
+-- their ends.
 use Rattle.std.specs.Prelude.{ℕ, ◌+◌, ◌<◌, ◌≤◌, ◌^◌, List, [], ◌∷◌, ◌++◌, length, map, drop, All, None, Some, codes}
 use Rattle.std.specs.declared.option.Option.{Option}
 use Rattle.std.specs.Fmt.{decimal}
@@ -17,7 +18,7 @@ held_words (Some text) = codes " value " ++ text
 abbrev pub sight_line : Sight → List ℕ
 sight_line sight = sight.key ++ held_words sight.seen.value
 
--- how many sights a reader had, and its last ones: those after its gets beside the writer
+-- how many sights a reader had, and its last ones: those after its gets alongside the writer
 abbrev pub reader_lines : ℕ → List Sight → List (List ℕ)
 reader_lines reader sights =
     (codes "reader " ++ decimal reader ++ codes " sights " ++ decimal (length sights))

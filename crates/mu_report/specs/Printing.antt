@@ -1,4 +1,4 @@
--- Lines on their way to a sink.
+-- prints: a function writes lines to a sink, or stops at a fault with some of their bytes written.
 use Rattle.std.specs.Prelude.{ℕ, ◌+◌, ◌*◌, ◌≡◌, ◌<◌, ◌≤◌, List, length, take}
 use Rattle.std.specs.declared.option.Option.{Option}
 use Rattle.std.specs.Io.KnownBytes.{Appends}

@@ -1,4 +1,4 @@
--- Where a list of events breaks and why, as lines.
+-- reason words: the words of each reason, and the lines on where a list of events breaks and why.
 use Rattle.std.specs.Prelude.{ℕ, List, [], ◌∷◌, ◌++◌, None, Some, codes}
 use Rattle.std.specs.declared.option.Option.{Option}
 use Rattle.std.specs.Fmt.{decimal}
@@ -8,7 +8,7 @@ use Rattle.mu_reasons.specs.declared.fault.Broken.{Broken}
 use Rattle.mu_reasons.specs.declared.fault.Fault.{Fault}
 use Rattle.mu_reasons.specs.declared.reason.Reason.{Reason}
 
--- a number, where there is one
+-- a number, if there is one
 abbrev pub number_or_none : Option ℕ → List ℕ
 number_or_none None = codes "none"
 number_or_none (Some number) = decimal number
@@ -163,14 +163,14 @@ abbrev pub fault_words : Fault → List ℕ
 fault_words (Fault.NotAllowed reason) = codes "not allowed: " ++ reason_words reason
 fault_words (Fault.WrongAnswer expected) = codes "wrong answer: expected " ++ answer_words expected
 
--- the line of a legal list of so many events, or the first of one that breaks at an event in this
+-- the line of a legal list of this many events, or the first of one that breaks at an event in this
 -- line
 abbrev pub first_words : ℕ → ℕ → Option Broken → List ℕ
 first_words events line None = codes "legal " ++ decimal events
 first_words events line (Some broken) =
     codes "illegal " ++ decimal broken.index ++ codes " at line " ++ decimal line
 
--- what is said of a list of so many events, whose event that breaks it stands in this line
+-- what is said of a list of this many events, if the event that breaks it stands in this line
 abbrev pub explained_lines : ℕ → ℕ → Option Broken → List (List ℕ)
 explained_lines events line None = first_words events line None ∷ []
 explained_lines events line (Some broken) =

@@ -1,4 +1,4 @@
--- The report of a run, as lines without their ends.
+-- report: the report of a run, as lines without their ends.
 use Rattle.std.specs.Prelude.{ℕ, zero, suc, if◌then◌else◌, ◌+◌, ◌-◌, ◌%◌, ◌<◌, ◌^◌, List, [], ◌∷◌, ◌++◌, length, map, slice_get, codes, All}
 use Rattle.std.specs.Fmt.{decimal}
 use Rattle.kv_store.specs.Commands.{Request}
@@ -41,7 +41,7 @@ log_line o r = codes "log " ++ decimal r ++ codes " entries " ++ decimal (length
 abbrev pub log_lines : Outcome → ℕ → List (List ℕ)
 log_lines o r = log_line o r ∷ entry_lines o.job 0 (log_of o r)
 
--- the logs of so many replicas, the first of them r
+-- the logs of this many replicas, the first of them r
 abbrev pub logs_lines : Outcome → ℕ → ℕ → List (List ℕ)
 logs_lines o r zero = []
 logs_lines o r (suc replicas) = log_lines o r ++ logs_lines o (r + 1) replicas
@@ -62,7 +62,7 @@ abbrev pub replies_lines : Outcome → List (List ℕ)
 replies_lines o = let commands = commands_in o.job (longest o.logs) in
     (codes "replies " ++ decimal (length commands)) ∷ answer_lines commands o.replies
 
--- the report but for its last line
+-- the report except its last line
 abbrev pub body_lines : Outcome → List (List ℕ)
 body_lines o = (codes "report " ++ decimal o.job.config.version)
     ∷

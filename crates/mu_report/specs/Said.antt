@@ -1,4 +1,4 @@
--- What the program says, as text.
+-- text: what the program prints of each answer.
 use Rattle.std.specs.Prelude.{ℕ, List, [], ◌∷◌, ◌++◌, ⊤, codes}
 use Rattle.mu_input.specs.declared.job.InputEnd.{InputEnd}
 use Rattle.mu_mistakes.specs.Misreads.{HasShortLines, misread_lines, refusal_words}
@@ -39,7 +39,7 @@ lines_of TooLong = codes "too long" ∷ []
 abbrev pub text : Said → List ℕ
 text said = ended (lines_of said)
 
--- what is said where no job and no trace was read
+-- what is said if no job and no trace was read
 abbrev pub said_of_end : InputEnd → Said
 said_of_end (InputEnd.Refused line cause) = Refused line cause
 said_of_end InputEnd.NoMemory = NoMemory

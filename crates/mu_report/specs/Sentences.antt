@@ -1,4 +1,4 @@
--- Sentences of texts and values in turn.
+-- sentence, value: words and values in turn, and the room that they need in a line.
 use Rattle.std.specs.Prelude.{ℕ, List, ◌+◌, ◌++◌, length}
 use Rattle.std.specs.Fmt.{decimal}
 use Rattle.mu_report.specs.Reasons.{entered_words, number_or_none, number_words}

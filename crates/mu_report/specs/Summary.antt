@@ -1,4 +1,4 @@
--- The summary of a run, as lines without their ends.
+-- summary: the summary of a run, as lines without their ends.
 use Rattle.std.specs.Prelude.{ℕ, zero, suc, ◌+◌, List, [], ◌∷◌, ◌++◌, length, codes}
 use Rattle.std.specs.Fmt.{decimal}
 use Rattle.kv_store.specs.declared.store.Reply.{Reply}
@@ -41,7 +41,7 @@ counts_line replies =
     ++ codes " none " ++ decimal (count_of kind.None replies) ++ codes " kept "
     ++ decimal (count_of kind.Kept replies)
 
--- what is told of the logs of so many replicas as a whole, the first of them r
+-- what is told of the logs of this many replicas as a whole, the first of them r
 abbrev pub head_lines : Outcome → ℕ → ℕ → List (List ℕ)
 head_lines o r zero = []
 head_lines o r (suc replicas) = log_line o r ∷ head_lines o (r + 1) replicas

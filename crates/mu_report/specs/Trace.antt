@@ -1,5 +1,8 @@
--- The trace of a replay, as lines without their ends: those of its job, and its events in their
--- order.
+-- trace text: the trace of a replay, as lines without their ends: those of its job, and its events
+-- in their order.
+--
+-- short trace: a trace of few clients, commands, stops, pauses and events, so that its bytes can be
+-- counted.
 use Rattle.std.specs.Fmt.{decimal}
 use Rattle.std.specs.Prelude.{ℕ, ◌*◌, ◌≤◌, ◌<◌, ◌^◌, List, [], ◌∷◌, ◌++◌, codes, length, map, None, Some}
 use Rattle.std.specs.declared.option.Option.{Option}
@@ -23,7 +26,7 @@ abbrev pub lines_of_script : Script → List (List ℕ)
 lines_of_script script =
     codes "script" ∷ (map stop_line script.stops ++ map pause_line script.pauses)
 
--- the events in their order, where it is given
+-- the events in their order, if it is given
 abbrev pub events_of : Option Record → List Event
 events_of None = []
 events_of (Some journal) = journal.events

@@ -1,4 +1,5 @@
--- How the names of commands, replies and ends are spelled; operations are as in the input.
+-- spelled words: how the names of commands, replies and ends are spelled; operations are as in the
+-- input.
 use Rattle.std.specs.Prelude.{ℕ, List, [], ◌++◌, None, Some, codes}
 use Rattle.std.specs.declared.option.Option.{Option}
 use Rattle.std.specs.Fmt.{decimal}
@@ -20,7 +21,7 @@ reply_words (reply.Value text) = codes "value " ++ text
 reply_words reply.None = codes "none"
 reply_words (reply.Kept text) = codes "kept " ++ text
 
--- how a replica ended, and nothing where that is not told
+-- how a replica ended, and nothing if that is not told
 abbrev pub end_words : Option End → List ℕ
 end_words None = []
 end_words (Some Stopped) = codes "stopped"

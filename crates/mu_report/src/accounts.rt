@@ -26,7 +26,7 @@ pub fn print_account<K: Sink>(sink: &mut K, account: &Account) -> Result<usize, 
     print_line(sink, taken, numbered_line(b"status ", status))
 }
 
-/// Writes the report but for its last line.
+/// Writes the report except its last line.
 fn print_account_body<K: Sink>(sink: &mut K, account: &Account) -> Result<usize, WriteFault>
     requires { HasShortLists account.now.outcome }
     ensures all { IfOk result (PrintsAll (K.written sink.old) (K.written sink.new)
@@ -42,7 +42,7 @@ fn print_account_body<K: Sink>(sink: &mut K, account: &Account) -> Result<usize,
     print_replies(sink, taken, &account.outcome)
 }
 
-/// Writes the logs of the first so many replicas.
+/// Writes the logs of the first `replicas` replicas.
 fn print_account_logs<K: Sink>(
     sink: &mut K,
     taken: usize,
@@ -107,7 +107,7 @@ fn end_at(account: &Account, replica: u8) -> Option<EndSoFar>
     account.ends.as_slice().get(usize::from(replica)).copied()
 }
 
-/// Adds how a replica has ended so far, and nothing where that is not told: at most 16 bytes.
+/// Adds how a replica has ended so far, and nothing if that is not told: at most 16 bytes.
 fn push_so_far(line: &mut Line, end: Option<EndSoFar>)
     requires { length line.old + 31 ≤ LINE_BYTES }
     ensures bytes { line.new ≡ line.old ++ so_far_words end }

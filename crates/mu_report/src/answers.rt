@@ -7,7 +7,7 @@ use crate::line::Line;
 use mu_events::push_answer;
 use mu_outcome::{Verdict, Wrong};
 
-/// The line on a list of so many events.
+/// The line on a list of this many events.
 pub fn verdict_line(events: u32, verdict: &Verdict) -> Line
     ensures bytes { result ≡ verdict_line_of events verdict.now }
     ensures room { length result < LINE_BYTES }

@@ -8,12 +8,12 @@ pub use mu_text::Line;
 /// The room for a line with its end, in bytes.
 pub const LINE_BYTES: usize = mu_text::LINE_BYTES;
 
-/// Ends the line and writes it, in one call where the sink takes it whole. `taken` bytes were taken
+/// Ends the line and writes it, in one call if the sink takes it whole. `taken` bytes were taken
 /// before.
 ///
 /// # Errors
 ///
-/// `WriteFault` where the sink counted a fault, with the number of all bytes that were taken.
+/// `WriteFault` if the sink counted a fault, with the number of all bytes that were taken.
 pub fn print_line<K: Sink>(sink: &mut K, taken: usize, mut line: Line) -> Result<usize, WriteFault>
     requires room { length line < LINE_BYTES }
     requires fits { taken + LINE_BYTES < 2 ^ 64 }

@@ -1,4 +1,4 @@
-//! A run with what readers saw beside a writer of its longest log.
+//! A run with what readers saw alongside a writer of its longest log.
 ghost use Rattle.std.specs.Prelude.{◌≡◌, ◌+◌, ◌*◌, ◌<◌, ◌^◌, ◌++◌, length, map, drop, codes, IfErr, IfOk};
 ghost use Rattle.std.specs.Fmt.{decimal};
 ghost use Rattle.mu_report.specs.declared.line.TheConstants.{LINE_BYTES};
@@ -82,7 +82,7 @@ fn print_sights<K: Sink>(sink: &mut K, taken: usize, sights: &[Sight]) -> Result
     Ok(total)
 }
 
-/// The sights of a reader after its gets beside the writer.
+/// The sights of a reader after its gets alongside the writer.
 fn last_of(sights: &[Sight]) -> &[Sight]
     ensures { result.now ≡ drop GETS_BESIDE sights.now }
 {

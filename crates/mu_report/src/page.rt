@@ -14,7 +14,7 @@ use std::marker::Model;
 /// How many lines a page has at most.
 const PAGE_LINES: usize = 256;
 
-/// The room for so many lines.
+/// The room for this many lines.
 const PAGE_BYTES: usize = PAGE_LINES * LINE_BYTES;
 
 /// Lines so far, each with its end. Contracts see their bytes.
@@ -104,12 +104,12 @@ pub fn split_page(events: &[Event]) -> (&[Event], &[Event])
     events.split_at(events.len().min(PAGE_LINES))
 }
 
-/// Writes the lines of these events by this page, in one call where the sink takes them whole.
-/// `taken` bytes were taken before.
+/// Writes the lines of these events by this page, in one call if the sink takes them whole. `taken`
+/// bytes were taken before.
 ///
 /// # Errors
 ///
-/// `WriteFault` where the sink counted a fault, with the number of all bytes that were taken.
+/// `WriteFault` if the sink counted a fault, with the number of all bytes that were taken.
 pub fn print_page<K: Sink>(
     sink: &mut K,
     taken: usize,

@@ -15,8 +15,8 @@ use mu_io::{Sink, WriteFault};
 use mu_model::{End, FIRST_MARK, PAYLOADS, stands_for_mark};
 use mu_outcome::{Outcome, Status, commands_of, longest};
 
-/// The status of the program after a run: done where all commands of the job are in the longest
-/// log, else unfinished. Takes no memory.
+/// The status of the program after a run: done if all commands of the job are in the longest log,
+/// else unfinished. Takes no memory.
 pub fn status(outcome: &Outcome) -> Status
     ensures { result ≡ status_after outcome.now }
 {
@@ -47,7 +47,7 @@ pub fn print_report<K: Sink>(sink: &mut K, outcome: &Outcome) -> Result<usize, W
     print_line(sink, taken, numbered_line(b"status ", status))
 }
 
-/// Writes the report but for its last line.
+/// Writes the report except its last line.
 pub fn print_body<K: Sink>(sink: &mut K, outcome: &Outcome) -> Result<usize, WriteFault>
     requires { HasShortLists outcome.now }
     ensures all { IfOk result (PrintsAll (K.written sink.old) (K.written sink.new)
@@ -63,7 +63,7 @@ pub fn print_body<K: Sink>(sink: &mut K, outcome: &Outcome) -> Result<usize, Wri
     print_replies(sink, taken, outcome)
 }
 
-/// Writes the logs of the first so many replicas.
+/// Writes the logs of the first `replicas` replicas.
 fn print_logs<K: Sink>(
     sink: &mut K,
     taken: usize,
@@ -306,7 +306,7 @@ fn answer_line(command: &Command, reply: &Reply) -> Line
     line
 }
 
-/// What a replica applied, and nothing where there is no such replica.
+/// What a replica applied, and nothing if there is no such replica.
 pub fn log_at(outcome: &Outcome, replica: u8) -> &[u16]
     ensures { result.now ≡ log_of outcome.now replica }
 {
@@ -316,7 +316,7 @@ pub fn log_at(outcome: &Outcome, replica: u8) -> &[u16]
     }
 }
 
-/// How many entries a replica committed, and 0 where there is no such replica.
+/// How many entries a replica committed, and 0 if there is no such replica.
 pub fn commit_count(outcome: &Outcome, replica: u8) -> usize
     ensures { result ≡ length (commits_of outcome.now replica) }
 {

@@ -78,8 +78,8 @@ pub enum Said {
     TooLong,
 }
 
-/// Written by hand, so that who lets what is said go calls one function: derived, each of its
-/// variants is proved to be let go at each place where one is.
+/// Written by hand, so that whoever drops what is said calls one function: if it were derived, the
+/// drop of each variant would be proved at each place at which one is dropped.
 impl Drop for Said {
     fn drop(self) {
         match self {
@@ -108,7 +108,7 @@ impl Drop for Said {
     }
 }
 
-/// Lets an outcome go.
+/// Drops an outcome.
 fn let_go(_outcome: Outcome) {}
 
 /// Lets an account go.
@@ -117,7 +117,7 @@ fn let_account_go(_account: Account) {}
 impl From<InputEnd> for Said {
     ghost from_gives = { λ end said. said ≡ said_of_end end };
 
-    /// What is said where no job and no trace was read.
+    /// What is said if no job and no trace was read.
     fn from(end: InputEnd) -> Said {
         match end {
             InputEnd::Refused { line, cause } => Said::Refused { line, cause },
@@ -126,12 +126,12 @@ impl From<InputEnd> for Said {
     }
 }
 
-/// Writes the text of what is said, each line in one call where the sink takes it whole, and of the
+/// Writes the text of what is said, each line in one call if the sink takes it whole, and of the
 /// events of a trace up to 256 lines in one. Takes no memory.
 ///
 /// # Errors
 ///
-/// `WriteFault` where the sink counted a fault, with the number of bytes of the text that it had
+/// `WriteFault` if the sink counted a fault, with the number of bytes of the text that it had
 /// taken.
 pub fn print<K: Sink>(sink: &mut K, said: &Said) -> Result<(), WriteFault>
     requires { IsShort said.now }

@@ -42,7 +42,7 @@ pub(crate) enum Value {
 /// A sentence, by how many values it has: words and values in turn, and words at the end or none.
 #[derive(Clone, Copy)]
 pub(crate) enum Sentence {
-    /// Words alone.
+    /// Only words.
     Plain(&'static [u8]),
     /// One value, at the end.
     One(&'static [u8], Value),

@@ -42,7 +42,7 @@ pub fn print_summary<K: Sink>(sink: &mut K, outcome: &Outcome) -> Result<usize, 
     )
 }
 
-/// Writes what is told of the logs of the first so many replicas as a whole.
+/// Writes what is told of the logs of the first `replicas` replicas as a whole.
 pub fn print_heads<K: Sink>(
     sink: &mut K,
     taken: usize,

@@ -57,7 +57,7 @@ pub fn is_countable(outcome: &Outcome) -> bool
     events.len() < 4_294_967_296
 }
 
-/// The events in their order, and none where it isn't given.
+/// The events in their order, and none if it isn't given.
 fn events_of(order: &Option<Journal>) -> &[Event]
     ensures { result.now ≡ events_of_order order.now }
 {
@@ -90,7 +90,7 @@ fn print_settings<K: Sink>(sink: &mut K, taken: usize, config: &Config) -> Resul
     print_batch(sink, taken, config)
 }
 
-/// Writes how many commands a batch has at most, in version 2 alone.
+/// Writes the most commands of a batch, only in version 2.
 fn print_batch<K: Sink>(sink: &mut K, taken: usize, config: &Config) -> Result<usize, WriteFault>
     requires { taken + LINE_BYTES * length (batch_lines config.now) < 2 ^ 64 }
     ensures all { IfOk result (PrintsAll (K.written sink.old) (K.written sink.new)
@@ -109,7 +109,7 @@ fn print_batch<K: Sink>(sink: &mut K, taken: usize, config: &Config) -> Result<u
     }
 }
 
-/// One more than the greatest client of these commands, and 0 where there is none.
+/// One more than the greatest client of these commands, and 0 if there is none.
 fn count_of_clients(commands: &[Command]) -> u16
     ensures { result ≡ client_count 0 commands.now }
 {
@@ -123,7 +123,7 @@ fn count_of_clients(commands: &[Command]) -> u16
     count
 }
 
-/// Writes the first so many clients in order, each with its commands.
+/// Writes the first `clients` clients in order, each with its commands.
 fn print_clients<K: Sink>(
     sink: &mut K,
     taken: usize,
@@ -183,7 +183,7 @@ fn print_commands_of<K: Sink>(
     Ok(total)
 }
 
-/// Writes a command, where it is one of this client.
+/// Writes a command, if it is one of this client.
 fn print_command<K: Sink>(
     sink: &mut K,
     taken: usize,
@@ -214,7 +214,7 @@ fn operation_line(command: &Command) -> Line
     line
 }
 
-/// Writes the script, where it has a line.
+/// Writes the script, if it has a line.
 fn print_script<K: Sink>(sink: &mut K, taken: usize, script: &Script) -> Result<usize, WriteFault>
     requires { taken + LINE_BYTES * length (script_lines script.now) < 2 ^ 64 }
     ensures all { IfOk result (PrintsAll (K.written sink.old) (K.written sink.new)

@@ -76,7 +76,7 @@ pub fn push_reply(line: &mut Line, reply: &Reply)
     }
 }
 
-/// Adds how a replica ended, and nothing where that is not told: at most 16 bytes.
+/// Adds how a replica ended, and nothing if that is not told: at most 16 bytes.
 pub fn push_end(line: &mut Line, end: Option<End>)
     requires { length line.old + 31 ≤ LINE_BYTES }
     ensures bytes { line.new ≡ line.old ++ end_words end }

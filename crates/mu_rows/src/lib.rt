@@ -11,7 +11,7 @@ use kv_store::{Command, Key, Op};
 use mu_model::Row;
 pub use read::{decode, rows_differ};
 
-// Where the fields of the head word begin. The operation stands lowest.
+// The lowest bits of the fields of the head word. The operation stands lowest.
 const CLIENT: u64 = 256;
 
 const NUMBER: u64 = 65_536;
@@ -24,7 +24,7 @@ const SECOND_LENGTH: u64 = 281_474_976_710_656;
 
 const REST: u64 = 72_057_594_037_927_936;
 
-/// The row of a command, after which so many rows of the same batch follow: 0 to 3.
+/// The row of a command that `rest` rows of the same batch follow: 0 to 3.
 ///
 /// The head word has, from the low bits: the operation (1 put, 2 get, 3 del, 4 swap, 5 cas) 8 bits,
 /// the client 8, the number 16, the lengths of the key, the first and the second text 8 each, and

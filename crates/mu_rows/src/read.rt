@@ -19,8 +19,8 @@ const BYTES: u64 = 256;
 // How many rows of the same batch follow at most.
 const MOST_REST: u8 = 3;
 
-/// The command of a row, and how many rows of the same batch follow: 0 to 3. `None` where no
-/// command has this row. What `encode` answers is read back, and nothing else is.
+/// The command of a row, and how many rows of the same batch follow: 0 to 3. `None` if no command
+/// has this row. What `encode` answers is read back, and nothing else is.
 pub fn decode(row: &Row) -> Option<(Command, u8)>
     ensures some { IfSome result
         (λ r. IsCommand r.0 × (r.1 ≤ 3) × (row.now.words ≡ spelled r.0 r.1)) }
@@ -105,7 +105,7 @@ fn has_no_text(words: &[u64; 12]) -> bool
     are_clear(&words[4..], 0)
 }
 
-/// The text of these words, where there is one alone.
+/// The text of these words, if they have only one.
 fn only_text_in(words: &[u64; 12]) -> Option<Text>
     ensures some { IfSome result (λ text. IsText text
         × (slice_index words.now 0 / 2 ^ 40 % 256 ≡ length text)
@@ -149,7 +149,7 @@ fn second_text_in(words: &[u64; 12]) -> Option<Text>
     text_in(&words[8..], (words[0] / SECOND_LENGTH % BYTES) as usize)
 }
 
-/// The text of so many bytes that these words are, if they are one.
+/// The text of `len` bytes that these words are, if they are one.
 fn text_in(words: &[u64], len: usize) -> Option<Text>
     requires { length words.now ≤ 8 }
     ensures some { IfSome result (λ text. IsText text × (len ≡ length text)
@@ -165,7 +165,7 @@ fn text_in(words: &[u64], len: usize) -> Option<Text>
     Text::new(bytes_of(words).get(..len)?)
 }
 
-/// Whether these words have zeros alone past their first so many bytes.
+/// Whether these words have only zeros past the first `len` bytes.
 fn are_clear(words: &[u64], len: usize) -> bool
     requires { length words.now ≤ 8 }
     ensures { IsTrue result ↔ AreClear words.now len }
@@ -178,7 +178,7 @@ fn are_clear(words: &[u64], len: usize) -> bool
     true
 }
 
-/// Whether a word has zeros alone past its first so many bytes, the first in the lowest place.
+/// Whether a word has only zeros past its first `bytes` bytes; the first stands lowest.
 fn has_at_most(word: u64, bytes: usize) -> bool
     ensures { IsTrue result ↔ (bytes < 8 → word / 2 ^ (8 * bytes) ≡ 0) }
 {

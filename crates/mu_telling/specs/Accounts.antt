@@ -1,4 +1,5 @@
--- What the events of a list come to.
+-- account, reached: what the events of a list come to: its logs, commits and replies are those that
+-- the definitions give of each replica's part; and how each replica has ended so far.
 use Rattle.std.specs.Prelude.{List, Some, [], length, suc, zero, ℕ, ◌++◌, ◌<◌, ◌∷◌, ◌≡◌}
 use Rattle.std.specs.List.{slice_get}
 use Rattle.kv_store.specs.Tables.{replies}

@@ -17,8 +17,8 @@ use std::alloc::Global;
 /// What the events of a list come to.
 #[derive(Drop)]
 pub struct Account {
-    /// What the replicas applied, committed and replied. It holds no events, and of how the replicas
-    /// end it tells nothing, since they may go on.
+    /// What the replicas applied, committed and replied. It holds no events, and of how the
+    /// replicas end it tells nothing, since they may go on.
     pub outcome: Outcome,
     /// How each replica has ended so far, in order of id.
     pub ends: Sequence<EndSoFar>,
@@ -30,7 +30,7 @@ pub struct Account {
 ///
 /// # Errors
 ///
-/// Want of memory alone.
+/// Only for want of memory.
 pub fn account_of(alloc: Global, job: Job, events: &[Event]) -> Result<Account, NoMemory>
     requires config { IsConfig job.config }
     requires heads { HaveHeads job.config.width job.commands job.config.rows }

@@ -32,7 +32,7 @@ fn list_of(alloc: Global, commits: &[Commit]) -> Result<Commits, NoMemory>
 ///
 /// # Errors
 ///
-/// Want of memory alone.
+/// Only for want of memory.
 pub(crate) fn logs_of(alloc: Global, walk: &Walk, n: u8) -> Result<Logs, NoMemory>
     ensures { (past : List Made) → (c : Settings) → n ≡ c.replicas → StandsForWalk c past walk.now
         → IfOk result (λ logs. logs ≡ each_below n (λ r. applied c r (part r past))) }
@@ -49,7 +49,7 @@ pub(crate) fn logs_of(alloc: Global, walk: &Walk, n: u8) -> Result<Logs, NoMemor
 ///
 /// # Errors
 ///
-/// Want of memory alone.
+/// Only for want of memory.
 pub(crate) fn commits_of(alloc: Global, walk: &Walk, n: u8) -> Result<AllCommits, NoMemory>
     ensures { (past : List Made) → (c : Settings) → n ≡ c.replicas → StandsForWalk c past walk.now
         → IfOk result (λ all.
@@ -67,7 +67,7 @@ pub(crate) fn commits_of(alloc: Global, walk: &Walk, n: u8) -> Result<AllCommits
 ///
 /// # Errors
 ///
-/// Want of memory alone.
+/// Only for want of memory.
 pub(crate) fn ends_of(
     alloc: Global,
     walk: &Walk,

@@ -36,7 +36,7 @@ fn replies_of(alloc: Global, commands: &[Command]) -> Result<Replies, NoMemory>
 ///
 /// # Errors
 ///
-/// Want of memory alone.
+/// Only for want of memory.
 pub(crate) fn replies_over(alloc: Global, job: &Job, log: &[u16]) -> Result<Replies, NoMemory>
     ensures { IfOk result (λ replies. replies ≡ replies_to (commands_in_log job.now log.now)) }
 {
@@ -48,7 +48,7 @@ pub(crate) fn replies_over(alloc: Global, job: &Job, log: &[u16]) -> Result<Repl
 ///
 /// # Errors
 ///
-/// Want of memory alone.
+/// Only for want of memory.
 pub(crate) fn replies_over_each(
     alloc: Global,
     job: &Job,

@@ -1,4 +1,4 @@
--- What the top call answers, and when each answer comes.
+-- tells, wrote: when each answer of the top call comes, and what was written.
 use Rattle.std.specs.Prelude.{ℕ, ◌≡◌, ◌<◌, ◌≤◌, ◌==◌, ◌⊎◌, List, length, take, None, Some, IfSome, MatchBool}
 use Rattle.std.specs.declared.option.Option.{Option}
 use Rattle.std.specs.Io.KnownBytes.{Appends}
@@ -18,7 +18,7 @@ use Rattle.mu_top.specs.Words.{limit_of}
 use Rattle.mu_top.specs.declared.asking.Task.{Task}
 use Rattle.mu_top.specs.declared.asking.Asked.{Asked}
 
--- what there is to say of these bytes, by the task
+-- what is said of these bytes, by the task
 abbrev pub Does : Task → List ℕ → Said → Type 0
 Does Task.Replay bytes said = Replays bytes said
 Does Task.Run bytes said = Runs bytes said
@@ -30,18 +30,18 @@ Does Task.Desk bytes said = Desks bytes said
 Does Task.Book bytes said = Books bytes said
 Does (Task.Live readers) bytes said = Lives readers bytes said
 
--- bytes within the limit of the task were read, all that the source had left where it tells them,
--- and this is said of them
+-- bytes within the limit of the task were read, all that the source had left if it tells them, and
+-- this is said of them
 pub record SaysOfInput (task : Task) (left : Option (List ℕ)) (said : Said) : Type 0 where
   pub bytes : List ℕ
   pub within : length bytes ≤ limit_of task
   pub whole : IfSome left (λ all. all ≡ bytes)
   pub says : Does task bytes said
 
--- each thing that may be said where a task is asked for, and what it tells of the bytes that the
--- source had left and has left now, where it tells them, and of its count of faults before and
--- after: at most the limit was taken before a fault, and want of memory comes before the first read
--- or after the last of bytes within the limit
+-- each thing that may be said if a task is asked for, and what it says of the bytes that the source
+-- had left and has left now, if it tells them, and of its count of faults before and after: at most
+-- the limit was taken before a fault, and want of memory comes before the first read or after the
+-- last of bytes within the limit
 abbrev pub TellsOf : Task → Option (List ℕ) → Option (List ℕ) → ℕ → ℕ → Said → Type 0
 TellsOf task left now before after Said.ReadFault =
     Rose before after × TakesAtMost left now (limit_of task)
@@ -52,7 +52,7 @@ TellsOf task left now before after Said.NoMemory =
     × ((now ≡ left) ⊎ IfSome left (λ bytes. length bytes ≤ limit_of task))
 TellsOf task left now before after said = (after ≡ before) × SaysOfInput task left said
 
--- the usage is told exactly where the words ask for nothing; then, and for the stated large job,
+-- the usage is told exactly if the words ask for nothing; then, and for the stated large job,
 -- nothing is read
 abbrev pub Tells : Option Asked → Option (List ℕ) → Option (List ℕ) → ℕ → ℕ → Said → Type 0
 Tells None left now before after said = (said ≡ Said.Usage) × (now ≡ left) × (after ≡ before)
@@ -66,7 +66,7 @@ abbrev pub verdict_status : Verdict → Status
 verdict_status Verdict.Legal = Status.Done
 verdict_status (Verdict.Illegal index cause) = Status.Illegal
 
--- the status where this was found to break a list, if anything was
+-- the status if this was found to break a list, if anything was
 abbrev pub broken_status : Option Broken → Status
 broken_status None = Status.Done
 broken_status (Some broken) = Status.Illegal

@@ -1,4 +1,5 @@
--- What is said of each command. Nothing else is said than what a relation lists.
+-- what a command says: the answer of each command, and no other: each relation lists all that may
+-- be said.
 use Rattle.std.specs.Prelude.{ℕ, ◌≡◌, List, None, ⊤}
 use Rattle.match_book.specs.Stands.{StandsFor}
 use Rattle.mu_input.specs.Grammar.{job}
@@ -69,7 +70,8 @@ Traces bytes (Said.Traced outcome) = (job bytes ≡ Fits outcome.job) × IsRepla
 Traces bytes Said.NoMemory = ⊤
 Traces bytes _ = ⊥
 
--- `bulk`: this is the replay of the stated large job of so many commands, but for want of memory
+-- `bulk`: this is the replay of the stated large job of this many commands, except for want of
+-- memory
 abbrev pub Sums : ℕ → Said → Type 0
 Sums count (Said.Summed outcome) = (outcome.job ≡ bulk_job count) × IsReplay outcome
 Sums count Said.NoMemory = ⊤

@@ -1,4 +1,5 @@
--- What there is to say of a job at a desk.
+-- job at a desk, served: what a desk reads of bytes, or where it refuses them; what it keeps of a
+-- job, and that its commands are an arrival.
 use Rattle.std.specs.Prelude.{ℕ, ◌≡◌, List, ⊤, None, Some}
 use Rattle.std.specs.declared.option.Option.{Option}
 use Rattle.front_desk.specs.Arrivals.{IsArrival}
@@ -18,11 +19,11 @@ at_desk found (Leaves line cause) = Leaves line cause
 at_desk None (Fits given) = Fits given
 at_desk (Some line) (Fits given) = Leaves line SENDERS
 
--- the job that bytes spell at a desk, or the line where they leave what a desk serves
+-- the job that bytes spell at a desk, or the line at which they leave what a desk serves
 abbrev pub job_at_desk : List ℕ → Reading Job
 job_at_desk bytes = at_desk (desk_line bytes) (job bytes)
 
--- the job is the one that the bytes spell at a desk, but for the order in which its commands
+-- the job is the one that the bytes spell at a desk, except for the order in which its commands
 -- arrived
 pub record IsServed (bytes : List ℕ) (collected : Job) : Type 0 where
   pub given : Job

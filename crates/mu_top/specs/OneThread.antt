@@ -1,4 +1,4 @@
--- What one thread alone can be asked.
+-- task alone: the tasks that a single thread can be asked for.
 use Rattle.mu_top.specs.declared.alone.Alone.{Alone}
 use Rattle.mu_top.specs.declared.asking.Task.{Task}
 

@@ -1,4 +1,4 @@
--- What the words of the command line ask for.
+-- asked: what the words of the command line ask for.
 use Rattle.std.specs.Prelude.{ℕ, ◌≤◌, List, [], ◌∷◌, codes, string_bytes, None, Some, if◌then◌else◌, ⊤}
 use Rattle.std.specs.declared.option.Option.{Option}
 use Rattle.std.specs.declared.string.String.{String}
@@ -24,17 +24,17 @@ task_named word =
     else if bytes_eq word (codes "book") then Some Task.Book
     else None
 
--- a task with its input, where one is named
+-- a task with its input, if one is named
 abbrev pub with_input : Option Task → Option Asked
 with_input None = None
 with_input (Some task) = Some (Asked.Input task)
 
--- the stated large job of so many commands, where there is a number
+-- the stated large job of this many commands, if there is a number
 abbrev pub of_count : Option ℕ → Option Asked
 of_count None = None
 of_count (Some count) = Some (Asked.Bulk count)
 
--- so many live readers, where there is a number
+-- this many live readers, if there is a number
 abbrev pub of_readers : Option ℕ → Option Asked
 of_readers None = None
 of_readers (Some readers) = Some (Asked.Input (Task.Live readers))
@@ -59,7 +59,7 @@ abbrev pub HasReaders : Task → Type 0
 HasReaders (Task.Live readers) = (1 ≤ readers) × (readers ≤ MOST_READERS)
 HasReaders task = ⊤
 
--- no more commands than a job may have, and so many readers as there may be
+-- no more commands than a job may have, and as many readers as there may be
 abbrev pub IsInReach : Asked → Type 0
 IsInReach (Asked.Input task) = HasReaders task
 IsInReach (Asked.Bulk count) = count ≤ MOST_COMMANDS

@@ -1,4 +1,4 @@
-//! What one thread alone says of bytes in memory.
+//! What the program says of bytes in memory, with a single thread.
 ghost use Rattle.std.specs.Prelude.{◌≡◌, ◌≤◌, Some, length};
 ghost use Rattle.mu_input.specs.declared.TheConstants.{TRACE_LIMIT};
 ghost use Rattle.mu_report.specs.Said.{IsShort};
@@ -45,7 +45,7 @@ impl Alone {
     }
 }
 
-/// What the program says where it is asked this, and these are the bytes of its input.
+/// What the program says if it is asked this, and these are the bytes of its input.
 pub fn told_alone(alloc: Global, task: Alone, bytes: &[u8]) -> Said
     ensures said { TellsOf (task_alone task) (Some bytes.now) (Some bytes.now) 0 0 result }
     ensures short { IsShort result }

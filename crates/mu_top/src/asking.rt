@@ -12,7 +12,7 @@ use snap_reads::MOST_READERS;
 /// The most bytes that the input of a job may have.
 pub const INPUT_LIMIT: usize = 1_048_576;
 
-/// The limits are the numbers that are stated.
+/// The limits are the numbers that are stated here.
 pub fn limits_are_stated()
     ensures input { INPUT_LIMIT ≡ 1048576 }
     ensures trace { TRACE_LIMIT ≡ 67108864 }
@@ -39,7 +39,7 @@ pub enum Task {
     Desk,
     /// `book`: run a job in turns, and tell the book of orders after its commands.
     Book,
-    /// `live K`: run a job in turns, and publish the commands of its longest log to so many
+    /// `live K`: run a job in turns, and publish the commands of its longest log to this many
     /// readers.
     Live(u8),
 }
@@ -49,7 +49,7 @@ pub enum Task {
 pub enum Asked {
     /// Something with its input.
     Input(Task),
-    /// `bulk N`: run the stated large job of so many commands in turns.
+    /// `bulk N`: run the stated large job of this many commands in turns.
     Bulk(u16),
 }
 
@@ -85,9 +85,9 @@ pub fn asked_of(words: &[String]) -> Option<Asked>
     }
 }
 
-/// The stated large job of so many commands, if the first word is `bulk` and the second spells a
-/// number from 0 to 1,500; or so many live readers, if the first is `live` and the second spells
-/// one from 1 to 4.
+/// The stated large job, if the first word is `bulk` and the second spells a number of commands
+/// from 0 to 1,500; or live readers, if the first is `live` and the second spells a number of them
+/// from 1 to 4.
 fn asked_with(word: &[u8], number: &[u8]) -> Option<Asked>
     ensures exact { result ≡ asked_of_two word.now number.now }
     ensures reach { IfSome result IsInReach }

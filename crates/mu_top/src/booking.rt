@@ -15,7 +15,7 @@ use mu_outcome::{Outcome, commands_of, longest};
 use mu_report::Said;
 use std::alloc::Global;
 
-/// What there is to say of the book after a replay of the job of these bytes.
+/// What is said of the book after a replay of the job of these bytes.
 pub(crate) fn told_of_book(alloc: Global, bytes: &[u8]) -> Said
     ensures said { Books bytes.now result }
     ensures short { IsShort result }
@@ -30,8 +30,8 @@ pub(crate) fn told_of_book(alloc: Global, bytes: &[u8]) -> Said
 ///
 /// # Errors
 ///
-/// `Refused` exactly where the bytes leave the grammar of jobs; `NoMemory` for want of memory,
-/// before the first step.
+/// `Refused` exactly if the bytes leave the grammar of jobs; `NoMemory` for want of memory, before
+/// the first step.
 fn booked(alloc: Global, bytes: &[u8]) -> Result<(Outcome, Book), InputEnd>
     ensures job { IfOk result (λ r. job_of bytes.now ≡ Fits r.0.job) }
     ensures replay { IfOk result (λ r. IsReplay r.0) }
@@ -46,7 +46,7 @@ fn booked(alloc: Global, bytes: &[u8]) -> Result<(Outcome, Book), InputEnd>
     Ok((outcome, book))
 }
 
-/// Applies the commands of a log to a book to which none was applied. Takes no memory.
+/// Applies the commands of a log to an empty book. Takes no memory.
 fn apply_log(book: &mut Book, job: &Job, log: &[u16])
     requires empty { StandsFor [] book.old }
     requires room { length (commands_in job.now log.now) ≤ book.old.room }

@@ -17,8 +17,8 @@ use snap_reads::{Lived, live};
 use std::alloc::Global;
 use std::thread::Threads;
 
-/// What there is to say of a replay of the job of these bytes, and of what so many readers saw
-/// beside a writer of its longest log.
+/// What is said of a replay of the job of these bytes, and of what this many readers saw alongside
+/// a writer of its longest log.
 pub(crate) fn told_of_live<R: Threads + Sync, G: Gate + Sync>(
     rt: &R,
     alloc: Global,
@@ -40,8 +40,8 @@ pub(crate) fn told_of_live<R: Threads + Sync, G: Gate + Sync>(
 ///
 /// # Errors
 ///
-/// `Refused` exactly where the bytes leave the grammar of jobs; `NoMemory` for want of memory,
-/// before the first step or before the first publishing.
+/// `Refused` exactly if the bytes leave the grammar of jobs; `NoMemory` for want of memory, before
+/// the first step or before the first publishing.
 fn lived<R: Threads + Sync, G: Gate + Sync>(
     rt: &R,
     alloc: Global,

@@ -12,7 +12,7 @@ use mu_outcome::Outcome;
 use mu_report::Said;
 use std::alloc::Global;
 
-/// What there is to say of a replay of the job of these bytes.
+/// What is said of a replay of the job of these bytes.
 pub(crate) fn told_of_replay(alloc: Global, bytes: &[u8]) -> Said
     ensures said { Replays bytes.now result }
     ensures short { IsShort result }
@@ -27,8 +27,8 @@ pub(crate) fn told_of_replay(alloc: Global, bytes: &[u8]) -> Said
 ///
 /// # Errors
 ///
-/// `Refused` exactly where the bytes leave the grammar of jobs; `NoMemory` for want of memory,
-/// before the first step.
+/// `Refused` exactly if the bytes leave the grammar of jobs; `NoMemory` for want of memory, before
+/// the first step.
 pub(crate) fn replayed(alloc: Global, bytes: &[u8]) -> Result<Outcome, InputEnd>
     ensures job { IfOk result (λ outcome. job_of bytes.now ≡ Fits outcome.job) }
     ensures replay { IfOk result IsReplay }

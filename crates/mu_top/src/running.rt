@@ -14,7 +14,7 @@ use std::alloc::Global;
 use std::sync::Wait;
 use std::thread::Threads;
 
-/// What there is to say of a run by threads of the job of these bytes.
+/// What is said of a run by threads of the job of these bytes.
 pub(crate) fn told_of_run<R: Threads + Wait + Sync, G: Gate + Sync>(
     rt: &R,
     alloc: Global,
@@ -34,8 +34,8 @@ pub(crate) fn told_of_run<R: Threads + Wait + Sync, G: Gate + Sync>(
 ///
 /// # Errors
 ///
-/// `Refused` exactly where the bytes leave the grammar of jobs; `NoMemory` for want of memory,
-/// before the first step.
+/// `Refused` exactly if the bytes leave the grammar of jobs; `NoMemory` for want of memory, before
+/// the first step.
 fn ran<R: Threads + Wait + Sync, G: Gate + Sync>(
     rt: &R,
     alloc: Global,

@@ -24,8 +24,8 @@ use std::thread::Threads;
 /// Why a desk refuses a job of the grammar: its version, or one client too many.
 pub const SENDERS: u8 = 16;
 
-/// What there is to say of a replay of the job of these bytes, with its commands in the order in
-/// which they came from its clients. The gate is passed before each of them.
+/// What is said of a replay of the job of these bytes, with its commands in the order in which they
+/// came from its clients. The gate is passed before each of them.
 pub(crate) fn told_of_desk<R: Threads + Wait + Sync, G: Gate + Sync>(
     rt: &R,
     alloc: Global,
@@ -45,7 +45,7 @@ pub(crate) fn told_of_desk<R: Threads + Wait + Sync, G: Gate + Sync>(
 ///
 /// # Errors
 ///
-/// `Refused` exactly where the bytes leave the grammar of jobs, or spell a job that a desk doesn't
+/// `Refused` exactly if the bytes leave the grammar of jobs, or spell a job that a desk doesn't
 /// serve; `NoMemory` for want of memory, before the first step.
 fn served<R: Threads + Wait + Sync, G: Gate + Sync>(
     rt: &R,

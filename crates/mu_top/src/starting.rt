@@ -18,9 +18,9 @@ use std::process::ExitCode;
 use std::sync::Wait;
 use std::thread::Threads;
 
-/// Does what the words ask for, as [`mu`] does, and ends with its status. Where one of them is no
-/// text (`InvalidData`) the usage is told, since no command has such a word. Where there was no
-/// memory for them nothing is read or written, and the status is 6.
+/// Does what the words ask for, as [`mu`] does, and ends with its status. If one of them is no text
+/// (`InvalidData`), the usage is told, since no command has such a word. If there was no memory for
+/// them, nothing is read or written, and the status is 6.
 pub fn mu_from_words<R: Threads + Wait + Sync, S: Source, K: Sink, G: Gate + Sync>(
     rt: &R,
     alloc: Global,
@@ -48,7 +48,7 @@ pub fn mu_from_words<R: Threads + Wait + Sync, S: Source, K: Sink, G: Gate + Syn
     }
 }
 
-/// Ends where the words couldn't be read.
+/// Ends the program if the words couldn't be read.
 fn end_without_words<K: Sink>(kind: ErrorKind, sink: &mut K) -> ExitCode
     ensures no_text { kind ≡ InvalidData → WritesUsage
         (K.written sink.old) (K.written sink.new) (K.faults sink.old) (K.faults sink.new)

@@ -37,7 +37,7 @@ fn verdict_status(verdict: &Verdict) -> Status
     }
 }
 
-/// The status where this was found to break a list, if anything was.
+/// The status if this was found to break a list, if anything was.
 fn explained_status(broken: &Option<Broken>) -> Status
     ensures { result ≡ status_of_broken broken.now }
 {

@@ -12,7 +12,7 @@ use mu_outcome::Outcome;
 use mu_report::Said;
 use std::alloc::Global;
 
-/// What there is to say of a replay of the stated job of so many commands.
+/// What is said of a replay of the stated job of this many commands.
 pub fn told_of_bulk(alloc: Global, count: u16) -> Said
     requires { count ≤ MOST_COMMANDS }
     ensures said { Sums count result }
@@ -24,11 +24,11 @@ pub fn told_of_bulk(alloc: Global, count: u16) -> Said
     }
 }
 
-/// The replay of the stated job of so many commands.
+/// The replay of the stated job of this many commands.
 ///
 /// # Errors
 ///
-/// Want of memory alone, before the first step.
+/// Only for want of memory, before the first step.
 fn stated(alloc: Global, count: u16) -> Result<Outcome, NoMemory>
     requires { count ≤ MOST_COMMANDS }
     ensures job { IfOk result (λ outcome. outcome.job ≡ bulk_job count) }

@@ -38,7 +38,7 @@ pub struct Answered {
 }
 
 impl Answered {
-    /// What the program ends with. What was to be said is let go.
+    /// The exit code of the program. What was to be said is dropped.
     pub fn into_exit_code(self) -> ExitCode
         ensures { exit_status result ≡ self.status }
     {
@@ -46,14 +46,14 @@ impl Answered {
     }
 }
 
-/// Does what the words ask for: reads all of the source where they need input, runs the job or
-/// judges the trace, and writes what there is to say. Memory is wanted before the first step of a
-/// replica and before the first event is judged alone, and for `live` once more, after the run and
-/// before the first command is published. Before each turn of `run`, before each command that comes
-/// to a `desk`, and before each publishing and get of `live` the gate is called.
+/// Does what the words ask for: reads all of the source if they need input, runs the job or judges
+/// the trace, and writes what is said. Memory is wanted only before the first step of a replica or
+/// before the first event is judged, and for `live` once more, after the run and before the first
+/// command is published. Before each turn of `run`, before each command that comes to a `desk`, and
+/// before each publishing and get of `live` the gate is called.
 ///
-/// The words are `replay`, `run`, `trace`, `check`, `why`, `tell`, `desk` or `book`, each alone, or
-/// `bulk` or `live` with a number.
+/// The words are `replay`, `run`, `trace`, `check`, `why`, `tell`, `desk` or `book`, with nothing
+/// after it, or `bulk` or `live` with a number.
 pub fn mu<R: Threads + Wait + Sync, S: Source, K: Sink, G: Gate + Sync>(
     rt: &R,
     alloc: Global,
@@ -71,7 +71,7 @@ pub fn mu<R: Threads + Wait + Sync, S: Source, K: Sink, G: Gate + Sync>(
     answer(sink, told(rt, alloc, asked_of(words), source, gate))
 }
 
-/// Writes what there is to say, and answers how that went.
+/// Writes what is said, and answers how that went.
 pub(crate) fn answer<K: Sink>(sink: &mut K, said: Said) -> Answered
     requires { IsShort said }
     ensures said { result.said ≡ said }
@@ -93,7 +93,7 @@ pub(crate) fn answer<K: Sink>(sink: &mut K, said: Said) -> Answered
     }
 }
 
-/// What there is to say where this is asked of the source.
+/// What is said if this is asked of the source.
 fn told<R: Threads + Wait + Sync, S: Source, G: Gate + Sync>(
     rt: &R,
     alloc: Global,
@@ -113,7 +113,7 @@ fn told<R: Threads + Wait + Sync, S: Source, G: Gate + Sync>(
     }
 }
 
-/// What there is to say where this is asked of all that the source has left.
+/// What is said if this is asked of all that the source has left.
 fn told_of_input<R: Threads + Wait + Sync, S: Source, G: Gate + Sync>(
     rt: &R,
     alloc: Global,
@@ -135,7 +135,7 @@ fn told_of_input<R: Threads + Wait + Sync, S: Source, G: Gate + Sync>(
     told_of_bytes(rt, alloc, task, bytes.as_slice(), gate)
 }
 
-/// What there is to say where this is asked of these bytes.
+/// What is said if this is asked of these bytes.
 fn told_of_bytes<R: Threads + Wait + Sync, G: Gate + Sync>(
     rt: &R,
     alloc: Global,

@@ -10,8 +10,8 @@ use mu_outcome::Outcome;
 use mu_report::{Said, is_countable};
 use std::alloc::Global;
 
-/// What there is to say of the events of a replay of the job of these bytes. No job of the grammar
-/// has so many that the bytes of its trace can't be counted; such a trace would be told as want of
+/// What is said of the events of a replay of the job of these bytes. No job of the grammar has so
+/// many events that the bytes of its trace can't be counted; such a trace would be told as want of
 /// memory.
 pub(crate) fn told_of_trace(alloc: Global, bytes: &[u8]) -> Said
     ensures said { Traces bytes.now result }
@@ -23,8 +23,7 @@ pub(crate) fn told_of_trace(alloc: Global, bytes: &[u8]) -> Said
     }
 }
 
-/// What there is to say of the events of an outcome: they are told wherever their bytes can be
-/// counted.
+/// What is said of the events of an outcome: they are told if their bytes can be counted.
 fn traced(outcome: Outcome) -> Said
     ensures told { HasShortTrace outcome → result ≡ SomeSaid.Traced outcome }
     ensures answers { (result ≡ SomeSaid.Traced outcome) ⊎ (result ≡ SomeSaid.NoMemory) }

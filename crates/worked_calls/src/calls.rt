@@ -25,7 +25,7 @@ replies 2
 status 0
 ";
 
-/// What is said where the words ask for nothing.
+/// What is said if the words ask for nothing.
 const USAGE: &str = "usage: mu replay, mu run, mu check, mu why, mu tell, mu trace, mu bulk N, \
         mu live K, mu desk, mu book\n";
 
@@ -138,7 +138,7 @@ fn answers_jobs_and_refusals(rt: HostRuntime) -> Result<(), Fail> {
     Ok(())
 }
 
-/// What is said of twelve puts on a ring of eight where replica 2 never takes a step.
+/// What is said of twelve puts on a ring of eight if replica 2 never takes a step.
 const GONE_SAID: &str = "report 2
 log 0 entries 13 commits 13 finished
 0 0.1 put a 1

@@ -44,7 +44,7 @@ b value 7
 status 0
 ";
 
-/// What is said where the words ask for nothing.
+/// What is said if the words ask for nothing.
 const USAGE: &str = "usage: mu replay, mu run, mu check, mu why, mu tell, mu trace, mu bulk N, \
         mu live K, mu desk, mu book\n";
 

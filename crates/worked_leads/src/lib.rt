@@ -1,4 +1,4 @@
-//! The worked rows of the leader: it steps through a memory, event by event, beside replicas whose
+//! The worked rows of the leader: it steps through a memory, event by event, next to replicas whose
 //! steps are made by hand, and its verbs and notes are compared with those from outside.
 #![tactic(auto)]
 

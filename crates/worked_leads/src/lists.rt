@@ -163,7 +163,7 @@ const ADOPTS: [Step; 9] = [
     ),
 ];
 
-/// An entry that was put at one region alone is adopted by the next leader.
+/// An entry that was put at only one region is adopted by the next leader.
 const ADOPTED_VALUE: Row = (
     "adopted value",
     JOB,

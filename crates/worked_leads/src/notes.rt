@@ -13,7 +13,7 @@ use std::test::Fail;
 const NINE_PUTS: &str = "mu 1\nreplicas 3\nring 8\nbudget 1000\nclient 0\n\
     put a 5\nput a 5\nput a 5\nput a 5\nput a 5\nput a 5\nput a 5\nput a 5\nput a 5\nend\n";
 
-/// A round of fences, of which nobody has region 2.
+/// A round of fences: nobody has region 2.
 macro_rules! round {
     ($owner:expr, $grant:expr, $note:expr) => {
         [

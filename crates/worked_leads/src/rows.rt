@@ -15,7 +15,7 @@ use std::alloc::{AllocError, Global};
 use std::test::Fail;
 use word_fabric::WordFabric;
 
-/// The configuration, where it has three replicas.
+/// The configuration, if it has three replicas.
 fn of_three(config: Config) -> Result<Config, Fail>
     requires { IsConfig config }
     ensures { IfOk result (λ c. IsConfig c × (c.replicas ≡ 3)) }
@@ -53,7 +53,7 @@ fn is_as_told<M: Memory>(driven: &mut Driven, memory: &mut M, step: &Step) -> bo
     }
 }
 
-/// The first step that comes otherwise than the row has it.
+/// The first step that isn't the one of the row.
 fn first_wrong<M: Memory>(driven: &mut Driven, memory: &mut M, row: &[Step]) -> Option<usize>
     requires config { M.config memory.old ≡ driven.old.lead.config }
     requires drives { Drives (history (M.events memory.old)) driven.old }
@@ -123,8 +123,8 @@ fn joined_up(alloc: Global, pieces: &[&[Step]]) -> Result<Vec<Step>, AllocError>
     Ok(row)
 }
 
-/// The first step of the row of a job that comes otherwise with the leader `id`, in the lists and in
-/// the words.
+/// The first step of the row of a job that comes otherwise with the leader `id`, in the lists and
+/// in the words.
 pub(crate) fn first_wrongs(
     alloc: Global,
     job: &str,

@@ -10,7 +10,7 @@ pub(crate) const JOB: &str = "mu 1\nreplicas 3\nring 8\nbudget 100\nclient 0\npu
 pub(crate) enum Step {
     /// The leader makes what is due, is answered so, and notes so.
     Due(Verb, Answer, Note),
-    /// Nothing is due, and the leader noted so when it was told whom the scores name.
+    /// Nothing is due, and the leader noted so when it was told which leader the scores name.
     Rest(Note),
     /// A replica makes a step that isn't the leader's, and is answered so.
     Aside(u8, Verb, Answer),
@@ -38,14 +38,14 @@ macro_rules! open {
     };
 }
 
-/// A step of the leader of which there is nothing to note.
+/// A step of the leader that has nothing to note.
 macro_rules! due {
     ($verb:expr, $answer:expr) => {
         Step::Due($verb, $answer, Note::Working)
     };
 }
 
-/// The same where the step was made.
+/// The same if the step was made.
 macro_rules! made {
     ($verb:expr) => {
         due!($verb, Answer::Done)
@@ -87,7 +87,7 @@ macro_rules! asked {
     };
 }
 
-/// A region of which nobody was the owner is granted.
+/// A region that had no owner is granted.
 macro_rules! first_grant {
     ($host:expr, $to:expr) => {
         [

@@ -188,7 +188,7 @@ const NEXT_LEADER: [Step; 19] = [
     (1, Verb::PutSlot(2, 0, 9, 0), Answer::Done),
 ];
 
-/// The put comes after region 1 was taken: it misses, and what stands beside it is as it was.
+/// The put comes after region 1 was taken: it misses, and what stands next to it is as it was.
 const PUT_LOST: [Step; 6] = [
     (0, Verb::PutSlot(1, 0, 8, 0), Answer::Missed),
     (1, Verb::ReadRow(0, 4), Answer::Number(53)),
@@ -204,7 +204,7 @@ pub(crate) type Script = (&'static str, usize, &'static [&'static [Step]]);
 /// A put of a minimum that was entered for before the region was drained and granted on misses.
 pub(crate) const LATE_EXCHANGE: Script = ("late exchange", 26, &[&START, &NUMBER_LOST]);
 
-/// A value that landed at one region alone, before this was granted on, is adopted.
+/// A value that landed at only one region, before this was granted on, is adopted.
 pub(crate) const ADOPTED_VALUE: Script = (
     "adopted value",
     62,
@@ -259,7 +259,7 @@ fn is_allowed<M: Memory>(alloc: Global, memory: &M, by: u8, verb: &Verb) -> Resu
 }
 
 /// The first event of a script that isn't allowed, or that a memory answers otherwise; else the
-/// number of events, where these aren't the kept ones.
+/// number of events, if these aren't the kept ones.
 pub(crate) fn first_wrong<M: Memory>(
     alloc: Global,
     start: M,

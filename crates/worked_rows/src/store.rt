@@ -51,8 +51,8 @@ fn first_wrong(alloc: Global, run: &[(&str, &str)]) -> Result<Option<usize>, All
     Ok(None)
 }
 
-/// Commands for which a store takes about 600 MB. Of many times that no machine of today's size has
-/// room, so the test fails if a store takes more than it was asked for.
+/// Commands for which a store takes about 600 MB. No machine of today's size has room for many
+/// times that, so the test fails if a store takes more than it was asked for.
 const MANY_COMMANDS: usize = 8_000_000;
 
 #[test]

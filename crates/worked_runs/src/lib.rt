@@ -7,6 +7,8 @@ mod desks;
 #[cfg(test)]
 mod list_runs;
 #[cfg(test)]
+mod orders;
+#[cfg(test)]
 mod printing;
 #[cfg(test)]
 mod readers;

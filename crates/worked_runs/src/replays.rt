@@ -111,7 +111,7 @@ pub(crate) fn job_of(alloc: Global, text: &str) -> Result<Job, Fail>
 }
 
 /// What a job leaves.
-fn replayed(alloc: Global, job: Job) -> Result<Outcome, Fail>
+pub(crate) fn replayed(alloc: Global, job: Job) -> Result<Outcome, Fail>
     requires { IsConfig job.config × HaveHeads job.config.width job.commands job.config.rows
         × (job.config.rows ≡ rows_of job.config.width job.commands) }
 {

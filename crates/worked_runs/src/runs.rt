@@ -83,8 +83,7 @@ fn is_prefix(one: &[u16], other: &[u16]) -> bool {
     one[..both] == other[..both]
 }
 
-/// Whether these are three replicas' logs of a run on threads, of any two of which one begins the
-/// other.
+/// Whether these are three replicas' logs of a run on threads: of any two, one begins the other.
 fn are_three(outcome: &Outcome) -> bool {
     let logs = outcome.logs.as_slice();
     let agree = |one: &Log| logs

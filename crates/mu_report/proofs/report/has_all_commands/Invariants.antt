@@ -1,4 +1,4 @@
--- The missing commands are those of the entries that are left exactly where the log's are the job's.
+-- The missing commands are those of the entries that are left exactly if the log's are the job's.
 use Rattle.std.proofs.Common.{◌≡◌, ◌+◌, drop, length}
 use Rattle.mu_outcome.specs.Entries.{commands_in}
 use Rattle.mu_report.proofs.report.has_all_commands.Given as goal

@@ -1,4 +1,4 @@
--- The commands before this one were printed, where they are of this client.
+-- The commands before this one were printed, if they are of this client.
 use Rattle.std.proofs.Common.{drop}
 use Rattle.mu_report.specs.Trace.{commands_lines}
 use Rattle.mu_report.proofs.Prints.{PrintsUpTo}

@@ -1,4 +1,4 @@
--- `none` puts null beside the allocator, and owns nothing.
+-- `none` puts null next to the allocator, and owns nothing.
 use Rattle.std.proofs.Common.{None}
 use mathlib.Core.Path.{refl, sym, subst}
 use mathlib.Core.List.{List, [], ◌∷◌, ◌++◌}
