@@ -36,8 +36,7 @@ const ASKED: [(u32, &str, u8, &str); 8] = [
 /// Whether the room begins with the text, as far as it goes, and the rest of it is untouched.
 fn is_filled(room: &[u8], text: &str) -> bool {
     let front = room.len().min(text.len());
-    room[..front] == text.as_bytes()[..front]
-        && room[front..].iter().all(|byte| *byte == UNTOUCHED)
+    room[..front] == text.as_bytes()[..front] && room[front..].iter().all(|byte| *byte == UNTOUCHED)
 }
 
 /// Asks with so much room; whether the answer is as wanted.
@@ -49,9 +48,7 @@ fn is_answered(
     let (task, input, status, text) = asked;
     let mut out = vec![in alloc; UNTOUCHED; room]?;
     let answered = answer(alloc, task, input.as_bytes(), out.as_mut_slice());
-    Ok(answered.status == status
-        && answered.taken == text.len()
-        && is_filled(out.as_slice(), text))
+    Ok(answered.status == status && answered.taken == text.len() && is_filled(out.as_slice(), text))
 }
 
 #[test]
@@ -81,9 +78,11 @@ fn is_drawn(
         input.as_bytes(),
         out.as_mut_slice(),
     );
-    Ok(answered.status == status
-        && answered.taken >= begins.len()
-        && is_filled(out.as_slice(), begins))
+    Ok(
+        answered.status == status
+            && answered.taken >= begins.len()
+            && is_filled(out.as_slice(), begins),
+    )
 }
 
 #[test]
@@ -92,7 +91,12 @@ fn draws_what_is_legal(rt: HostRuntime) -> Result<(), Fail> {
         ((0, 9_999_999), ASK, 0, "<svg "),
         ((0, 3), GRANT, 7, "illegal 1 not allowed\n"),
         ((3, 1), ASK, 1, "usage: mu_draw, mu_draw FIRST LAST\n"),
-        ((0, 10_000_000), ASK, 1, "usage: mu_draw, mu_draw FIRST LAST\n"),
+        (
+            (0, 10_000_000),
+            ASK,
+            1,
+            "usage: mu_draw, mu_draw FIRST LAST\n",
+        ),
     ];
     for (steps, input, status, begins) in rows {
         let is_right = is_drawn(rt.alloc(), steps, input, status, begins)?;
@@ -129,8 +133,17 @@ fn a_judge_takes_line_after_line(rt: HostRuntime) -> Result<(), Fail> {
     ];
     let is_right = is_judged(rt.alloc(), &legal, "legal 2\n")?;
     assert_eq!(rt; is_right, true);
-    let broken = [("0 beat = done", 0), ("0 grant 0 = done", 7), ("0 beat = done", 7), ("end", 7)];
-    let is_right = is_judged(rt.alloc(), &broken, "illegal 1 at line 7\n0 grant 0 = done\n")?;
+    let broken = [
+        ("0 beat = done", 0),
+        ("0 grant 0 = done", 7),
+        ("0 beat = done", 7),
+        ("end", 7),
+    ];
+    let is_right = is_judged(
+        rt.alloc(),
+        &broken,
+        "illegal 1 at line 7\n0 grant 0 = done\n",
+    )?;
     assert_eq!(rt; is_right, true);
     Ok(())
 }
