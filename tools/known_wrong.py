@@ -121,14 +121,20 @@ def tells_pages():
     yield pages.judged()[0] >= LEAST_NAMED
 
 
+def ending(names, *ends):
+    """How many of the names end so."""
+    return sum(name.endswith(ends) for name in names)
+
+
 def tells_stored_inputs():
-    """Each stored input is a case, with its words and its output."""
+    """Each stored input is a case, with its words and its output, and so is what is told of an output."""
     for name in sorted(os.listdir(os.path.join(TOP, "cases"))):
         folder = os.path.join(TOP, "cases", name)
         if os.path.isdir(folder):
-            yield len(os.listdir(folder)) == 3 * len(stored_cases(folder)) > 0
-    stored = [name for name in os.listdir(EXAMPLES) if name.endswith(".stdout")]
-    yield len(stored) == len(stored_cases(EXAMPLES)) > 0
+            names = os.listdir(folder)
+            yield len(names) == 3 * ending(names, ".stdout") + ending(names, ".told")
+            yield len(stored_cases(folder)) == ending(names, ".stdout", ".told") > 0
+    yield len(stored_cases(EXAMPLES)) == ending(os.listdir(EXAMPLES), ".stdout", ".told") > 0
     yield len(list(judged())) == contents(os.path.join(TOP, "cases", "judged.names")).count(b"\n") >= LEAST_JUDGED
 
 

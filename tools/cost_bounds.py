@@ -1,13 +1,15 @@
 #!/usr/bin/env python3
-"""Runs the built program within bounds of memory: a table that is taken too large doesn't fit.
+"""Runs the built program within bounds of memory and of time: what a proof says nothing of.
 
-    tools/most_memory.py [PROGRAM]              a line for each run that wants more than its bound
-    tools/most_memory.py --measure [PROGRAM]    the least within which each ends, in kB
+    tools/cost_bounds.py [PROGRAM]              a line for each run that wants more than its bound
+    tools/cost_bounds.py --measure [PROGRAM]    what each run needs
 
 The program is that which ./prove left in out/bin/ if none is named. A bound is one of the whole address
 space, so it counts what is taken and never touched too. Commands with threads have none: each thread
 takes an address space of its own. A proof says that a table is large enough; of most it says nothing
-about how much larger it is.
+about how much larger it is. Nor does it say that a table is of use: one that sends a leader to the wrong
+row makes it search all rows, and it finds the right one. Times are compared with each other alone, since
+machines differ and are busy.
 """
 import os
 import resource
@@ -26,9 +28,16 @@ RUNS = [
     (["trace"], "7x400", 81_000),
     (["check"], "check", 120_000),
 ]
+# Two rows of which the first takes less time than the other, and how many times that it may take. If
+# leaders search all rows for a client's next batch, it takes about three times as many instructions.
+COMPARED = ("unequal", "7x1500", 1.5)
+# The least time of so many runs is taken.
+TIMED_RUNS = 7
 KILOBYTE = 1024
 # The most that is tried, in kB.
 MOST = 1 << 20
+# How many bounds there are.
+COUNT = len(RUNS) + 1
 
 
 def ends(program, words, given, most):
@@ -49,14 +58,29 @@ def least(program, words, given):
     return high
 
 
+def seconds(program, row):
+    """The least processor time of some runs of `replay` over a row."""
+    given, times = input_of(row), []
+    for _ in range(TIMED_RUNS):
+        before = resource.getrusage(resource.RUSAGE_CHILDREN)
+        subprocess.run([program, "replay"], input=given, stdout=subprocess.DEVNULL, check=False)
+        after = resource.getrusage(resource.RUSAGE_CHILDREN)
+        times.append(after.ru_utime + after.ru_stime - before.ru_utime - before.ru_stime)
+    return min(times)
+
+
 def given_to(row):
     return input_of(row) if row else b""
 
 
 def troubles(program):
     """A line for each run that wants more than its bound."""
-    return [f"{' '.join(words)} over {row}: more than {most} kB" for words, row, most in RUNS
-            if not ends(program, words, given_to(row), most)]
+    wrong = [f"{' '.join(words)} over {row}: more than {most} kB" for words, row, most in RUNS
+             if not ends(program, words, given_to(row), most)]
+    row, other, most = COMPARED
+    if seconds(program, row) > most * seconds(program, other):
+        wrong.append(f"replay over {row}: more than {most} times the time of {other}")
+    return wrong
 
 
 def main():
@@ -69,9 +93,10 @@ def main():
     if measures:
         for command, row, most in RUNS:
             print(f"{' '.join(command)} over {row}: {least(program, command, given_to(row))} kB, bound {most} kB")
+        print(*(f"replay over {row}: {seconds(program, row):.3f} s" for row in COMPARED[:2]), sep="\n")
         return 0
     wrong = troubles(program)
-    print(*wrong, f"{len(RUNS) - len(wrong)} passed, {len(wrong)} failed", sep="\n")
+    print(*wrong, f"{COUNT - len(wrong)} passed, {len(wrong)} failed", sep="\n")
     return 1 if wrong else 0
 
 
