@@ -6,7 +6,7 @@ import subprocess
 import sys
 import tempfile
 
-from programs import EXAMPLES
+from programs import EXAMPLES, TOP
 from run_cases import contents, wanted_status
 from trying import Case
 
@@ -28,6 +28,29 @@ class OwnCase(Case):
 def c_compiler():
     """The C compiler that the environment names, else the first that there is; else None."""
     return os.environ.get("CC") or next(filter(shutil.which, ("cc", "gcc", "clang")), None)
+
+
+def cxx_compiler():
+    """The C++ compiler that the environment names, else the first that there is; else None."""
+    return os.environ.get("CXX") or next(filter(shutil.which, ("c++", "g++", "clang++")), None)
+
+
+def header_troubles():
+    """What compilers say of c/mu.h, of its uses and of the heap, as C and as C++; and what is left out for want of one."""
+    header = os.path.join(TOP, "c")
+    uses, heap, replicas = (os.path.join(TOP, *path) for path in (("c", "uses.c"), ("c", "heap.c"), ("examples", "own", "replicas.c")))
+    wanted = [("C", c_compiler(), ["-std=c11"], [uses, heap]), ("C, threads", c_compiler(), ["-std=c11", "-DWITH_MU"], [replicas]),
+              ("C++", cxx_compiler(), ["-std=c++11", "-x", "c++"], [uses])]
+    troubles, left = [], []
+    for language, compiler, words, sources in wanted:
+        if compiler is None:
+            left.append(f"c/mu.h as {language}, since there is no compiler")
+            continue
+        run = subprocess.run([compiler, *words, "-Wall", "-Wextra", "-Werror", "-fsyntax-only", "-I", header, *sources],
+                             stdout=subprocess.PIPE, stderr=subprocess.STDOUT, check=False)
+        if run.returncode:
+            troubles.append(f"as {language}: {run.stdout.decode(errors='replace').splitlines()[0]}")
+    return len(wanted) - len(left), troubles, left
 
 
 def commands(folder):

@@ -5,6 +5,13 @@
  *     ./replicas no-enter | ./mu why    a leader puts an entry at a region that it did not enter
  *     ./replicas no-drain | ./mu why    the host of region 1 grants on without the drain
  *
+ * With the library each step is judged as it is made, in this process; what the judge says is printed
+ * in place of the trace, and a legal run is drawn into the file that the last word names:
+ *
+ *     cc -std=c11 -O2 -pthread -DWITH_MU -Ic examples/own/replicas.c out/libmu.a -o judged
+ *     ./judged right run.svg            legal 177, and its picture
+ *     ./judged no-drain run.svg         the event that breaks the list, and why
+ *
  * Replica 0 leads and commits the first command. In the midst of the second it is slow: it has
  * entered region 1, and puts its entry only once the region is granted on. Replica 1 takes over.
  * The ring is larger than the job, so no place is used twice here. docs/TRACING.md says what the
@@ -62,6 +69,25 @@ static atomic_flag stepping = ATOMIC_FLAG_INIT;
 static char events[MOST_EVENTS][80];
 static int event_count; /* the counter that each step takes its place from */
 
+#ifdef WITH_MU
+#include "mu.h"
+
+/* The judge takes each line in the step that makes it, so it knows of a mistake at once. */
+static mu_judge judge = MU_NO_JUDGE;
+
+static void begin_judging(void)
+{
+    char why[64];
+    size_t taken;
+    if (mu_judge_new(&judge, JOB, strlen(JOB), why, sizeof why, &taken) != MU_DONE) abort();
+}
+
+static void judge_line(const char *line) { mu_judge_take(&judge, line, strlen(line)); }
+#else
+static void begin_judging(void) {}
+static void judge_line(const char *line) { (void)line; }
+#endif
+
 static void begin_step(void) { while (atomic_flag_test_and_set(&stepping)) ; }
 static void end_step(void) { atomic_flag_clear(&stepping); }
 
@@ -70,8 +96,9 @@ static void say(const char *form, ...)
     va_list words;
     if (event_count == MOST_EVENTS) abort();
     va_start(words, form);
-    vsnprintf(events[event_count++], sizeof events[0], form, words);
+    vsnprintf(events[event_count], sizeof events[0], form, words);
     va_end(words);
+    judge_line(events[event_count++]);
 }
 
 #define STEP(made, ...) (begin_step(), (void)(made), say(__VA_ARGS__), end_step())
@@ -312,12 +339,61 @@ static void *run(void *given)
     return NULL;
 }
 
+static void print_trace(FILE *out)
+{
+    fputs(JOB, out);
+    for (int k = 0; k < event_count; k++) fprintf(out, "%s\n", events[k]);
+    fputs("end\n", out);
+}
+
+#ifdef WITH_MU
+/* The picture of the trace that this file holds, into one of that name. */
+static void draw(FILE *trace, const char *name)
+{
+    enum { ROOM = 1 << 20 };
+    static char input[ROOM], picture[ROOM];
+    size_t length, taken;
+    FILE *out = fopen(name, "w");
+    rewind(trace);
+    length = fread(input, 1, ROOM, trace);
+    if (!out || mu_draw_answer(0, MU_LAST_STEP, input, length, picture, ROOM, &taken) != MU_DONE
+        || taken > ROOM)
+        abort();
+    fwrite(picture, 1, taken, out);
+    fclose(out);
+}
+
+/* What the judge says, and the picture of a legal run. */
+static void tell(const char *name)
+{
+    char why[1024];
+    size_t taken;
+    uint32_t status = mu_judge_why(&judge, why, sizeof why, &taken);
+    fwrite(why, 1, taken < sizeof why ? taken : sizeof why, stdout);
+    if (status == MU_DONE && name) {
+        FILE *trace = tmpfile();
+        if (!trace) abort();
+        print_trace(trace);
+        draw(trace, name);
+        fclose(trace);
+    }
+    mu_judge_free(&judge);
+}
+#else
+static void tell(const char *name)
+{
+    (void)name;
+    print_trace(stdout);
+}
+#endif
+
 int main(int count, char **words)
 {
     pthread_t threads[REPLICAS];
     skips_enter = count > 1 && !strcmp(words[1], "no-enter");
     skips_drain = count > 1 && !strcmp(words[1], "no-drain");
     is_slow = !skips_enter;
+    begin_judging();
     for (int r = 0; r < REPLICAS; r++) {
         atomic_store(&regions[r].fence, fence_of(NOBODY, 0, 0, NO_TARGET));
         replicas[r].id = r;
@@ -326,8 +402,6 @@ int main(int count, char **words)
         if (pthread_create(&threads[r], NULL, run, &replicas[r])) abort();
     for (int r = 0; r < REPLICAS; r++) pthread_join(threads[r], NULL);
 
-    fputs(JOB, stdout);
-    for (int k = 0; k < event_count; k++) puts(events[k]);
-    puts("end");
+    tell(count > 2 ? words[2] : NULL);
     return fflush(stdout) ? 1 : 0;
 }

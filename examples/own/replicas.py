@@ -3,6 +3,8 @@
 
     examples/own/replicas.py | ./mu why          a run as it should be
     examples/own/replicas.py early | ./mu why    a leader that counts a majority of puts as a commit
+    examples/own/replicas.py judged              the same runs, judged in this process by the library
+    examples/own/replicas.py judged early        that ./library builds, event by event
 
 Each replica is a few generators that make one step at a time; a seeded dice says whose turn it is.
 docs/TRACING.md says what the lines of a trace mean.
@@ -123,14 +125,28 @@ def follower(r):
         tell(r, f"raisehead {mine.head}")
 
 
+def judge():
+    """What the library says of the events, taken one after the other."""
+    import mu_library
+    with mu_library.Judge(JOB.encode()) as it:
+        for event in events:
+            if it.take(event.encode()) != mu_library.DONE:
+                break
+        print(it.why()[1].decode(), end="")
+
+
 def main():
+    words = sys.argv[1:]
     dice = random.Random(1)
-    turns = [host(r) for r in REPLICAS] + [leader(0, "early" in sys.argv[1:]), follower(1), follower(2)]
+    turns = [host(r) for r in REPLICAS] + [leader(0, "early" in words), follower(1), follower(2)]
     for _ in range(4000):
         turn = dice.choice(turns)
         if next(turn, "ended") == "ended":
             turns.remove(turn)
-    print(JOB + "\n".join(events) + "\nend")
+    if "judged" in words:
+        judge()
+    else:
+        print(JOB + "\n".join(events) + "\nend")
 
 
 if __name__ == "__main__":

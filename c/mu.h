@@ -1,0 +1,96 @@
+/* mu.h: the proved judge, and what the program `mu` says, in your own process.
+ *
+ * `./library` builds out/libmu.a and out/libmu.so. A C program uses them as
+ *
+ *     cc -std=c11 -Ic yours.c out/libmu.a -o yours
+ *
+ * The calls print nothing, make no thread, and keep nothing between calls but the judges that they
+ * hand out. Want of memory is an answer, MU_NO_MEMORY.
+ *
+ * A text goes to the room that you give: its first `room` bytes stand in `out`, and `*taken` is how
+ * many bytes the whole text has. If that is more than `room`, give more room and call again. No text
+ * ends with a zero byte. `room` may be 0.
+ *
+ * What you owe, and nobody checks:
+ * - No pointer is null, not even beside a length of 0. `input`, `job` and `line` have `length` bytes,
+ *   `out` has `room` bytes, and nothing that a call writes overlaps with anything else that it got.
+ * - A `mu_judge` is MU_NO_JUDGE, or as the last call left it. It isn't copied. mu_judge_take,
+ *   mu_judge_why and mu_judge_free get one that mu_judge_new made with MU_DONE and that wasn't freed
+ *   since.
+ * - One call at a time uses a judge. It may go from thread to thread, if a lock, a thread's start or
+ *   join, or a sequentially consistent atomic orders the calls. Calls on other judges, and mu_answer
+ *   and mu_draw_answer, may go on beside it.
+ * - malloc, realloc and free are those of one allocator, and give blocks that are aligned to 16
+ *   bytes, or to the largest power of two that divides their size. No call is made in a signal
+ *   handler, or in the child of a process that had threads. */
+#ifndef MU_H
+#define MU_H
+
+#include <stddef.h>
+#include <stdint.h>
+
+#ifdef __cplusplus
+extern "C" {
+#endif
+
+/* How a call ends: the statuses of the programs. */
+enum mu_status {
+    MU_DONE = 0,       /* all commands are in the longest log, the list is legal, or it is drawn */
+    MU_USAGE = 1,      /* no such task, no such number, or no such steps */
+    MU_REFUSED = 2,    /* the input isn't in the grammar */
+    MU_UNFINISHED = 3, /* some command isn't in the longest log */
+    MU_NO_MEMORY = 6,
+    MU_ILLEGAL = 7,    /* the list of events isn't legal */
+    MU_TOO_LONG = 8    /* a job of more than 1,048,576 bytes, or a trace of more than 67,108,864 */
+};
+
+/* What can be asked of an input. */
+enum mu_task {
+    MU_REPLAY = 1, /* of a job: its report */
+    MU_TRACE = 2,  /* of a job: its events */
+    MU_CHECK = 3,  /* of a trace: whether it is legal */
+    MU_WHY = 4,    /* of a trace: where it breaks, and why */
+    MU_BOOK = 5,   /* of a job: the book of orders */
+    MU_BULK = 6    /* of a number up to 1,500: the stated large job of so many commands */
+};
+
+/* The greatest step that mu_draw_answer takes. */
+#define MU_LAST_STEP UINT32_C(9999999)
+
+/* What `mu` says where it is asked this and reads this input, and the status that it ends with. */
+uint32_t mu_answer(uint32_t task, const void *input, size_t length, void *out, size_t room,
+                   size_t *taken);
+
+/* What `mu_draw FIRST LAST` says where it reads this trace: with MU_DONE, its picture, of the steps
+ * from `first` to `last` (all: from 0 to MU_LAST_STEP). */
+uint32_t mu_draw_answer(uint32_t first, uint32_t last, const void *input, size_t length, void *out,
+                        size_t room, size_t *taken);
+
+/* A judge of a list of events that comes line by line. Its memory doesn't grow with the list. */
+typedef struct mu_judge {
+    void *at; /* the library's */
+} mu_judge;
+#define MU_NO_JUDGE { NULL }
+
+/* Makes a judge of a job: its text up to the first `end`. With MU_DONE it is there and `*taken` is 0;
+ * else (MU_REFUSED, MU_NO_MEMORY, MU_TOO_LONG) there is none, and the text says why. */
+uint32_t mu_judge_new(mu_judge *judge, const void *job, size_t length, void *out, size_t room,
+                      size_t *taken);
+
+/* Takes the next line of events, without its line feed. MU_DONE if the list is legal so far,
+ * MU_ILLEGAL once an event broke it, and MU_REFUSED if the line is no event of the job's replicas:
+ * then it isn't taken. Wants no memory. */
+uint32_t mu_judge_take(mu_judge *judge, const void *line, size_t length);
+
+/* What `mu why` says of the trace so far: `legal N` with MU_DONE, or with MU_ILLEGAL which event broke
+ * it, in which line of the trace, and why. */
+uint32_t mu_judge_why(mu_judge *judge, void *out, size_t room, size_t *taken);
+
+/* Lets a judge go, with its memory. It is MU_NO_JUDGE then. */
+void mu_judge_free(mu_judge *judge);
+
+#ifdef __cplusplus
+}
+#endif
+
+#endif

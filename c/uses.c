@@ -1,0 +1,117 @@
+/* Uses each call of mu.h once, as C and as C++:
+ *
+ *     cc -std=c11 -Ic c/uses.c out/libmu.a -o uses && ./uses
+ *     c++ -std=c++11 -x c++ -Ic c/uses.c -x none out/libmu.a -o uses && ./uses
+ *
+ * What is wanted stands here; it isn't what the library answered. */
+#include "mu.h"
+
+#include <stdio.h>
+#include <string.h>
+
+static int wrong;
+
+static void expect(const char *what, int holds)
+{
+    if (!holds) {
+        printf("wrong: %s\n", what);
+        wrong++;
+    }
+}
+
+/* Whether the room begins with this text, and this is its length. */
+static int has(const char *room, size_t taken, const char *text)
+{
+    return taken == strlen(text) && memcmp(room, text, taken) == 0;
+}
+
+static const char JOB[] = "mu 1\nreplicas 1\nring 8\nbudget 99\nclient 0\nput a 5\nend\n";
+static const char REPORT[] =
+    "report 1\nlog 0 entries 1 commits 1 finished\n0 0.1 put a 5\nreplies 1\n0.1 done\nstatus 0\n";
+static const char TRACE[] = "mu 1\nreplicas 1\nring 8\nbudget 9\nend\n0 ask 0 = done\nend\n";
+static const char BROKEN[] = "mu 1\nreplicas 1\nring 8\nbudget 9\nend\n0 beat = done\n0 grant 0 = done\nend\n";
+static const char USAGE[] =
+    "usage: mu replay, mu run, mu check, mu why, mu tell, mu trace, mu bulk N, mu live K, mu desk, mu book\n";
+
+static void answers(void)
+{
+    static char out[4096];
+    char few[8] = "-------";
+    size_t taken = 0;
+
+    expect("replay", mu_answer(MU_REPLAY, JOB, strlen(JOB), out, sizeof out, &taken) == MU_DONE);
+    expect("its report", has(out, taken, REPORT));
+    expect("replay with little room", mu_answer(MU_REPLAY, JOB, strlen(JOB), few, 6, &taken) == MU_DONE);
+    expect("the first bytes alone", memcmp(few, "report-", 8) == 0 && taken == strlen(REPORT));
+    expect("replay with no room", mu_answer(MU_REPLAY, JOB, strlen(JOB), few, 0, &taken) == MU_DONE);
+    expect("no byte", memcmp(few, "report-", 8) == 0 && taken == strlen(REPORT));
+
+    expect("check", mu_answer(MU_CHECK, TRACE, strlen(TRACE), out, sizeof out, &taken) == MU_DONE);
+    expect("legal", has(out, taken, "legal 1\n"));
+    expect("check of a broken list",
+           mu_answer(MU_CHECK, BROKEN, strlen(BROKEN), out, sizeof out, &taken) == MU_ILLEGAL);
+    expect("illegal", has(out, taken, "illegal 1 not allowed\n"));
+    expect("why", mu_answer(MU_WHY, BROKEN, strlen(BROKEN), out, sizeof out, &taken) == MU_ILLEGAL);
+    expect("its line", taken > 20 && memcmp(out, "illegal 1 at line 7\n", 20) == 0);
+    expect("what is no trace", mu_answer(MU_CHECK, "", 0, out, sizeof out, &taken) == MU_REFUSED);
+    expect("refused", has(out, taken, "refused line 1 cause 11\n"));
+
+    expect("no task", mu_answer(0, JOB, strlen(JOB), out, sizeof out, &taken) == MU_USAGE);
+    expect("usage", has(out, taken, USAGE));
+    expect("bulk", mu_answer(MU_BULK, "10", 2, out, sizeof out, &taken) == MU_DONE);
+    expect("its sum", taken > 8 && memcmp(out, "bulk 10\n", 8) == 0);
+    expect("no number", mu_answer(MU_BULK, "1501", 4, out, sizeof out, &taken) == MU_USAGE);
+    expect("trace", mu_answer(MU_TRACE, JOB, strlen(JOB), out, sizeof out, &taken) == MU_DONE);
+    expect("the job first", taken > 5 && memcmp(out, "mu 1\n", 5) == 0);
+    expect("no book of orders", mu_answer(MU_BOOK, JOB, strlen(JOB), out, sizeof out, &taken) == MU_DONE);
+}
+
+static void pictures(void)
+{
+    static char out[65536];
+    size_t taken = 0;
+
+    expect("picture",
+           mu_draw_answer(0, MU_LAST_STEP, TRACE, strlen(TRACE), out, sizeof out, &taken) == MU_DONE);
+    expect("SVG", taken > 4 && memcmp(out, "<svg", 4) == 0);
+    expect("picture of a broken list",
+           mu_draw_answer(0, 3, BROKEN, strlen(BROKEN), out, sizeof out, &taken) == MU_ILLEGAL);
+    expect("its verdict", has(out, taken, "illegal 1 not allowed\n"));
+    expect("no steps", mu_draw_answer(3, 1, TRACE, strlen(TRACE), out, sizeof out, &taken) == MU_USAGE);
+}
+
+static uint32_t take(mu_judge *judge, const char *line)
+{
+    return mu_judge_take(judge, line, strlen(line));
+}
+
+static void judges(void)
+{
+    static char out[4096];
+    size_t taken = 99;
+    mu_judge judge = MU_NO_JUDGE;
+
+    expect("a job that isn't one", mu_judge_new(&judge, "mu 3\n", 5, out, sizeof out, &taken) == MU_REFUSED);
+    expect("its line", has(out, taken, "refused line 1 cause 1\n") && judge.at == NULL);
+    expect("a judge", mu_judge_new(&judge, JOB, strlen(JOB), out, sizeof out, &taken) == MU_DONE);
+    expect("nothing is said", taken == 0 && judge.at != NULL);
+    expect("an ask", take(&judge, "0 ask 0 = done") == MU_DONE);
+    expect("no event", take(&judge, "0 asks 0 = done") == MU_REFUSED);
+    expect("a read", take(&judge, "0 readask 0 = 1") == MU_DONE);
+    expect("two are legal", mu_judge_why(&judge, out, sizeof out, &taken) == MU_DONE);
+    expect("legal 2", has(out, taken, "legal 2\n"));
+    expect("a grant without the close", take(&judge, "0 grant 0 = done") == MU_ILLEGAL);
+    expect("it stays broken", take(&judge, "0 beat = done") == MU_ILLEGAL);
+    expect("why", mu_judge_why(&judge, out, sizeof out, &taken) == MU_ILLEGAL);
+    expect("its line", taken > 38 && memcmp(out, "illegal 2 at line 10\n0 grant 0 = done\n", 38) == 0);
+    mu_judge_free(&judge);
+}
+
+int main(void)
+{
+    answers();
+    pictures();
+    judges();
+    puts(wrong ? "mu.h is not as it says" : "mu.h is as it says");
+    return wrong ? 1 : 0;
+}

@@ -1,0 +1,51 @@
+-- What was put is the answer of a call, also where there was no memory for its text.
+use Rattle.std.proofs.Common.{◌≡◌, ◌⊎◌, inl, inr, ℕ, List, Option, Some, refl, sym, subst}
+use Rattle.mu_drawing.specs.Answers as drawing
+use Rattle.mu_drawing.specs.declared.asking.Asked.{Asked as Steps}
+use Rattle.mu_drawing.specs.declared.drawing.Told.{Told}
+use Rattle.mu_input.specs.declared.job.InputEnd.{InputEnd}
+use Rattle.mu_judging.specs.LineJudges.{said_by, HasTaken, IsEndOfJob, Opens}
+use Rattle.mu_judging.specs.declared.line_judge.LineJudge.{LineJudge}
+use Rattle.mu_library.specs.Calls.{Answers, Draws, EndsJob, HasNew, OpensJudge, PutsSaid, PutsTold, SaysOfJudge, TakesLine, TakesNext}
+use Rattle.mu_model.specs.declared.config.Config.{Config}
+use Rattle.mu_model.specs.declared.event.Event.{Event}
+use Rattle.mu_report.specs.Said.{said_of_end}
+use Rattle.mu_report.specs.declared.said.Said.{Said}
+use Rattle.mu_top.specs.Answers.{Tells}
+use Rattle.mu_top.specs.declared.asking.Asked.{Asked}
+
+pub answered : (asked : Option Asked) (said : Said) (input before after : List ℕ) (status taken : ℕ) → Tells asked (Some input) (Some input) 0 0 said
+    → PutsSaid said before after status taken ⊎ PutsSaid Said.NoMemory before after status taken → Answers asked input before after status taken
+answered asked said input before after status taken tells (inl puts) = record { said = said; tells = inr tells; puts = puts }
+answered asked said input before after status taken tells (inr puts) = record { said = Said.NoMemory; tells = inl refl; puts = puts }
+
+pub drawn : (asked : Option Steps) (told : Told) (input before after : List ℕ) (status taken : ℕ) → drawing.Tells asked (Some input) (Some input) 0 0 told
+    → PutsTold told before after status taken ⊎ PutsTold (Told.Said Said.NoMemory) before after status taken → Draws asked input before after status taken
+drawn asked told input before after status taken tells (inl puts) = record { told = told; tells = inr tells; puts = puts }
+drawn asked told input before after status taken tells (inr puts) = record { told = Told.Said Said.NoMemory; tells = inl refl; puts = puts }
+
+-- why no judge was made
+pub ends_job : (bytes : List ℕ) (end : InputEnd) → IsEndOfJob bytes end → EndsJob bytes (said_of_end end)
+ends_job bytes (InputEnd.Refused line cause) leaves = leaves
+ends_job bytes InputEnd.NoMemory any = tt
+
+pub not_opened : (bytes : List ℕ) (said : Said) (held : Option LineJudge) (before after : List ℕ) (status taken : ℕ) → EndsJob bytes said
+    → PutsSaid said before after status taken ⊎ PutsSaid Said.NoMemory before after status taken → OpensJudge bytes held held before after status taken
+not_opened bytes said held before after status taken ends (inl puts) = inr (refl, record { said = said; ends = ends; puts = puts })
+not_opened bytes said held before after status taken ends (inr puts) = inr (refl, record { said = Said.NoMemory; ends = tt; puts = puts })
+
+pub opened : (bytes : List ℕ) (judge : LineJudge) (old new : Option LineJudge) (before after : List ℕ) (status taken : ℕ) → Opens bytes judge
+    → ((status ≡ 0) × (new ≡ Some judge) × (taken ≡ 0) × (after ≡ before)) ⊎ ((new ≡ old) × PutsSaid Said.NoMemory before after status taken)
+    → OpensJudge bytes old new before after status taken
+opened bytes judge old new before after status taken opens (inl (done, has, none, same)) = inl (done, subst (HasNew bytes) (sym has) opens, none, same)
+opened bytes judge old new before after status taken opens (inr (same, puts)) = inr (same, record { said = Said.NoMemory; ends = tt; puts = puts })
+
+-- the judge that was there took the line, and is there again
+pub takes_line : (old new : Option LineJudge) (line : List ℕ) (before after : LineJudge) (status : ℕ) → old ≡ Some before → new ≡ Some after → TakesNext before line after status → TakesLine old line new status
+takes_line old new line before after status was is takes = subst (λ o. TakesLine o line new status) (sym was) (subst (λ n. TakesLine (Some before) line n status) (sym is) takes)
+
+pub says_so_far : (old : Option LineJudge) (judge : LineJudge) (said : Said) (before after : List ℕ) (status taken : ℕ) → old ≡ Some judge
+    → ((c : Config) (start : ℕ) (past : List Event) → HasTaken c start past judge → said ≡ said_by judge)
+    → PutsSaid said before after status taken ⊎ PutsSaid Said.NoMemory before after status taken → SaysOfJudge old before after status taken
+says_so_far old judge said before after status taken was says (inl puts) = subst (λ o. SaysOfJudge o before after status taken) (sym was) (record { said = said; says = inr says; puts = puts })
+says_so_far old judge said before after status taken was says (inr puts) = subst (λ o. SaysOfJudge o before after status taken) (sym was) (record { said = Said.NoMemory; says = inl refl; puts = puts })

@@ -1,0 +1,142 @@
+-- asked at, answers, draws, opens judge, takes line: what the number of a task asks for; what each call
+-- of the library for C puts into the room, and with which status.
+use Rattle.std.specs.Prelude.{ℕ, ◌≡◌, ◌<◌, ◌≤◌, ◌==◌, ◌⊎◌, List, ◌++◌, length, None, Some, if◌then◌else◌, ⊤}
+use Rattle.std.specs.declared.option.Option.{Option}
+use Rattle.mu_drawing.specs.Answers.{text_of}
+use Rattle.mu_drawing.specs.Answers as drawing
+use Rattle.mu_drawing.specs.declared.asking.Asked.{Asked as Steps}
+use Rattle.mu_drawing.specs.declared.drawing.Told.{Told}
+use Rattle.mu_events.specs.Events.{event_of}
+use Rattle.mu_input.specs.Grammar.{job}
+use Rattle.mu_input.specs.Readings.{Leaves}
+use Rattle.mu_input.specs.declared.TheConstants.{MOST_COMMANDS}
+use Rattle.mu_judging.specs.LineJudges.{event_in, said_by, status_with, HasTaken, Opens}
+use Rattle.mu_judging.specs.declared.line_judge.LineJudge.{LineJudge}
+use Rattle.mu_library.specs.Front.{Puts}
+use Rattle.mu_library.specs.declared.tasks.Asked.{Asked as Given}
+use Rattle.mu_model.specs.Contents.{IsConfig}
+use Rattle.mu_model.specs.declared.config.Config.{Config}
+use Rattle.mu_model.specs.declared.event.Event.{Event}
+use Rattle.mu_outcome.specs.Statuses.{code_of}
+use Rattle.mu_report.specs.Said.{text}
+use Rattle.mu_report.specs.declared.said.Said.{Said}
+use Rattle.mu_text.specs.Lines.{words}
+use Rattle.mu_text.specs.Numbers.{number_of, within}
+use Rattle.mu_top.specs.Answers.{status_for, Tells}
+use Rattle.mu_top.specs.OneThread.{task_alone}
+use Rattle.mu_top.specs.Words.{of_count}
+use Rattle.mu_top.specs.declared.asking.Asked.{Asked}
+use Rattle.mu_top.specs.declared.asking.Task.{Task}
+use Rattle.mu_top.specs.declared.asking.TheConstants.{INPUT_LIMIT}
+
+-- what the number of a task asks of the program; the input of the stated large job is the number of
+-- its commands
+abbrev pub asked_at : ℕ → List ℕ → Option Asked
+asked_at task input =
+    if task == 1 then Some (Asked.Input Task.Replay)
+    else if task == 2 then Some (Asked.Input Task.Trace)
+    else if task == 3 then Some (Asked.Input Task.Check)
+    else if task == 4 then Some (Asked.Input Task.Why)
+    else if task == 5 then Some (Asked.Input Task.Book)
+    else if task == 6 then of_count (within 0 MOST_COMMANDS (number_of input))
+    else None
+
+-- what is asked, as the program has it
+abbrev pub asked_as : Given → Option Asked
+asked_as Given.Nothing = None
+asked_as (Given.Input task) = Some (Asked.Input (task_alone task))
+asked_as (Given.Bulk count) = Some (Asked.Bulk count)
+
+-- no more commands than a job may have
+abbrev pub HasRoom : Given → Type 0
+HasRoom Given.Nothing = ⊤
+HasRoom (Given.Input task) = ⊤
+HasRoom (Given.Bulk count) = count ≤ MOST_COMMANDS
+
+-- the text of what is said is put, with the status that the program ends with
+abbrev pub PutsSaid : Said → List ℕ → List ℕ → ℕ → ℕ → Type 0
+PutsSaid said before after status taken =
+    Puts (text said) (code_of (status_for said)) before after status taken
+
+-- the same of what is told of a picture
+abbrev pub PutsTold : Told → List ℕ → List ℕ → ℕ → ℕ → Type 0
+PutsTold told before after status taken =
+    Puts (text_of told) (code_of (drawing.status_for told)) before after status taken
+
+-- what the program says where it is asked this and its source has these bytes is put, or that there
+-- was no memory
+pub record Answers (asked : Option Asked) (input before after : List ℕ)
+    (status taken : ℕ) : Type 0 where
+  pub said : Said
+  pub tells : (said ≡ Said.NoMemory) ⊎ Tells asked (Some input) (Some input) 0 0 said
+  pub puts : PutsSaid said before after status taken
+
+-- the same of the program that draws
+pub record Draws (asked : Option Steps) (input before after : List ℕ)
+    (status taken : ℕ) : Type 0 where
+  pub told : Told
+  pub tells :
+      (told ≡ Told.Said Said.NoMemory) ⊎ drawing.Tells asked (Some input) (Some input) 0 0 told
+  pub puts : PutsTold told before after status taken
+
+-- why bytes spell no job that can be judged: they leave the grammar of jobs first at this line, or
+-- are too many; want of memory can come at any bytes
+abbrev pub EndsJob : List ℕ → Said → Type 0
+EndsJob bytes (Said.Refused line cause) = job bytes ≡ Leaves line cause
+EndsJob bytes Said.TooLong = INPUT_LIMIT < length bytes
+EndsJob bytes Said.NoMemory = ⊤
+EndsJob bytes _ = ⊥
+
+-- it is said why no judge was made
+pub record SaysWhyNot (bytes before after : List ℕ) (status taken : ℕ) : Type 0 where
+  pub said : Said
+  pub ends : EndsJob bytes said
+  pub puts : PutsSaid said before after status taken
+
+-- there is a judge of the job that the bytes spell, that has taken no event
+abbrev pub HasNew : List ℕ → Option LineJudge → Type 0
+HasNew bytes None = ⊥
+HasNew bytes (Some judge) = Opens bytes judge
+
+-- a new judge is there and nothing is said, with status 0; or the handle is as it was, and it is
+-- said why
+abbrev pub OpensJudge :
+    List ℕ → Option LineJudge → Option LineJudge → List ℕ → List ℕ → ℕ → ℕ → Type 0
+OpensJudge bytes old new before after status taken =
+    ((status ≡ 0) × HasNew bytes new × (taken ≡ 0) × (after ≡ before))
+    ⊎ ((new ≡ old) × SaysWhyNot bytes before after status taken)
+
+-- there is a judge, of a job that the grammar allows
+abbrev pub CanTake : Option LineJudge → Type 0
+CanTake None = ⊥
+CanTake (Some judge) = IsConfig judge.config
+
+-- what a judge knows after a line, of whatever it knew before, and the status that is told
+pub record TakesNext (old : LineJudge) (line : List ℕ) (new : LineJudge)
+    (status : ℕ) : Type 0 where
+  pub config : new.config ≡ old.config
+  pub taken :
+      (c : Config) (start : ℕ) (past : List Event) → HasTaken c start past old
+      → HasTaken c start (past ++ event_in c.replicas line) new
+  pub status_is :
+      (c : Config) (start : ℕ) (past : List Event) → HasTaken c start past old
+      → status ≡ code_of (status_with (event_of c.replicas (words line)) new.broken)
+
+-- the judge took the line
+abbrev pub TakesLine : Option LineJudge → List ℕ → Option LineJudge → ℕ → Type 0
+TakesLine (Some old) line (Some new) status = TakesNext old line new status
+TakesLine (Some old) line None status = ⊥
+TakesLine None line new status = ⊥
+
+-- what is said of the lines that a judge took is put
+pub record SaysSoFar (judge : LineJudge) (before after : List ℕ) (status taken : ℕ) : Type 0 where
+  pub said : Said
+  pub says :
+      (said ≡ Said.NoMemory)
+      ⊎ ((c : Config) (start : ℕ) (past : List Event) → HasTaken c start past judge
+      → said ≡ said_by judge)
+  pub puts : PutsSaid said before after status taken
+
+abbrev pub SaysOfJudge : Option LineJudge → List ℕ → List ℕ → ℕ → ℕ → Type 0
+SaysOfJudge None before after status taken = ⊥
+SaysOfJudge (Some judge) before after status taken = SaysSoFar judge before after status taken

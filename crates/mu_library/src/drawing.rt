@@ -1,0 +1,51 @@
+//! The picture of a trace in memory.
+ghost use Rattle.mu_drawing.specs.Answers.{IsSayable};
+ghost use Rattle.mu_drawing.specs.Words.{asked_steps};
+ghost use Rattle.mu_library.specs.Calls.{Draws, PutsTold};
+ghost use Rattle.std.specs.Prelude.{◌⊎◌};
+ghost use Rattle.mu_drawing.specs.declared.drawing.Told.TheVariants.{Said as SaidOf};
+ghost use Rattle.mu_report.specs.declared.said.Said.TheVariants.{NoMemory as NoMemorySaid};
+
+use crate::answering::{Answered, no_memory};
+use crate::front::{put_bytes, put_said};
+use mu_drawing::{Told, asked_between, status_of, told_in_memory};
+use std::alloc::Global;
+
+/// How the program is called.
+const USAGE: &[u8] = b"usage: mu_draw, mu_draw FIRST LAST\n";
+
+/// What `mu_draw FIRST LAST` says where these are the bytes of its input, and the status that it
+/// ends with. Want of memory can come in place of any answer.
+pub fn draw(alloc: Global, first: u32, last: u32, input: &[u8], out: &mut [u8]) -> Answered
+    ensures { Draws (asked_steps first last) input.now out.old out.new result.status
+        result.taken }
+{
+    tell(
+        alloc,
+        told_in_memory(alloc, asked_between(first, last), input),
+        out,
+    )
+}
+
+/// Puts what is told into the room, or that there was no memory for its text.
+fn tell(alloc: Global, told: Told, out: &mut [u8]) -> Answered
+    requires { IsSayable told }
+    ensures { PutsTold told out.old out.new result.status result.taken
+        ⊎ PutsTold (SaidOf NoMemorySaid) out.old out.new result.status result.taken }
+{
+    let status = status_of(&told).code();
+    match told {
+        Told::Usage => Answered {
+            status,
+            taken: put_bytes(USAGE, out),
+        },
+        Told::Said(said) => match put_said(alloc, &said, out) {
+            Ok(taken) => Answered { status, taken },
+            Err(_) => no_memory(out),
+        },
+        Told::Drawn(sheet) => Answered {
+            status,
+            taken: put_bytes(sheet.as_slice(), out),
+        },
+    }
+}

@@ -1,0 +1,179 @@
+#!/usr/bin/env python3
+"""Tries the library for C, out/libmu.a and out/libmu.so, as ./library leaves them.
+
+    tools/try_library.py                 each call from C, C++ and Python; the implementations of
+                                         examples/own, judged in their process; and that a list judged
+                                         event by event gets the answer of the whole trace, over the
+                                         judged traces and the stored ones
+    tools/try_library.py FOLDER..        the same also over the traces of these folders of cases
+    tools/try_library.py --memory        how much memory a judge takes over a list of 64 MiB
+
+It needs a C compiler, and for C++ one that takes it.
+"""
+import os
+import pathlib
+import resource
+import subprocess
+import sys
+import tempfile
+import time
+
+sys.path.insert(0, os.path.dirname(os.path.realpath(__file__)))
+from judged_table import judged
+from own_traces import OWN, PLACE, RUNS, c_compiler, cxx_compiler
+from programs import TOP
+from run_cases import contents
+
+sys.path.insert(0, OWN)
+HEADER, ARCHIVE = os.path.join(TOP, "c"), os.path.join(TOP, "out", "libmu.a")
+# The causes of a line after the job: it is no event, the last `end` is missing, or lines follow it.
+NO_EVENT, NO_END, AFTER_END = b"13", b"11", b"12"
+MEMORY_BYTES = 64 << 20
+
+
+class Tried:
+    """How much was tried, and what was wrong."""
+
+    def __init__(self):
+        self.tried, self.wrong = 0, []
+
+    def expect(self, what, found, wanted):
+        self.tried += 1
+        if found != wanted:
+            self.wrong.append(f"{what}: {found!r}, not {wanted!r}")
+
+
+def built(compiler, folder, name, *words):
+    """A C program with the library."""
+    path = os.path.join(folder, name)
+    subprocess.run([compiler, "-O2", "-Wall", "-Wextra", "-Werror", "-I", HEADER, *words, ARCHIVE, "-o", path], check=True)
+    return path
+
+
+def try_calls(tried, folder, compiler):
+    """Each call from C and from C++."""
+    uses = os.path.join(HEADER, "uses.c")
+    plus = cxx_compiler()
+    programs = [("C", built(compiler, folder, "uses", "-std=c11", uses))]
+    if plus:
+        programs.append(("C++", built(plus, folder, "uses_plus", "-std=c++11", "-x", "c++", uses, "-x", "none")))
+    for language, program in programs:
+        run = subprocess.run([program], stdout=subprocess.PIPE, check=False)
+        tried.expect(f"c/uses.c as {language}", run.stdout, b"mu.h is as it says\n")
+
+
+def try_own(tried, folder, compiler):
+    """The implementations of examples/own, right and wrong, judged in their own process."""
+    program = built(compiler, folder, "judged", "-std=c11", "-pthread", "-DWITH_MU", os.path.join(OWN, "replicas.c"))
+    for word in RUNS["c"]:
+        picture = os.path.join(folder, f"{word}.svg")
+        run = subprocess.run([program, word, picture], stdout=subprocess.PIPE, timeout=120, check=False)
+        wanted = contents(os.path.join(OWN, f"replicas.c.{word}.stdout"))
+        tried.expect(f"replicas.c {word}", [PLACE.sub(b"", line) for line in run.stdout.splitlines()],
+                     [PLACE.sub(b"", line) for line in wanted.splitlines()])
+        tried.expect(f"the picture of {word}", os.path.exists(picture), word == "right")
+    for word in RUNS["py"]:
+        run = subprocess.run([sys.executable, os.path.join(OWN, "replicas.py"), "judged", word], stdout=subprocess.PIPE,
+                             timeout=120, check=False)
+        tried.expect(f"replicas.py judged {word}", run.stdout, contents(os.path.join(OWN, f"replicas.py.{word}.stdout")))
+
+
+def by_lines(library, trace):
+    """What a judge says of a trace line by line: its words, or the line that it refuses."""
+    lines = trace.split(b"\n")
+    end = lines.index(b"end") + 1 if b"end" in lines else len(lines)
+    try:
+        judge = library.Judge(b"\n".join(lines[:end]) + b"\n")
+    except ValueError as refused:
+        return f"{refused}\n".encode()
+    with judge:
+        for number, line in enumerate(lines[end:], end + 1):
+            if line == b"end":
+                break
+            if judge.take(line) == library.REFUSED:
+                return b"refused line %d cause %s\n" % (number, NO_EVENT)
+        return judge.why()[1]
+
+
+def try_traces(tried, library, traces):
+    """A list judged event by event gets the answer of the whole trace."""
+    for name, trace in traces:
+        whole = library.answer("why", trace)[1]
+        first = whole.splitlines(keepends=True)[0]
+        if first.startswith(b"refused"):
+            if first.split()[-1] in (NO_END, AFTER_END) and b"end" in trace.split(b"\n"):
+                continue  # that a trace has its last `end` is no matter of a judge of lines
+            whole = first
+        found = by_lines(library, trace)
+        if first.startswith(b"refused") and found.startswith(b"illegal"):
+            continue  # it was broken before the line that is no event
+        tried.expect(name, found, whole)
+
+
+def stored_traces(folders):
+    """The judged traces, and those of folders of cases: the inputs, and what `trace` answers."""
+    yield from ((name, trace) for name, trace, _ in judged())
+    for folder in map(pathlib.Path, folders):
+        for args in sorted(folder.glob("*.args")):
+            task = args.read_bytes().split()
+            trace = args.with_suffix(".stdout" if task == [b"trace"] else "")
+            if task in ([b"trace"], [b"check"], [b"why"]):
+                yield f"{folder.name}/{args.stem}", trace.read_bytes()
+
+
+def resident():
+    """The most memory that this process had so far, in KiB."""
+    return resource.getrusage(resource.RUSAGE_SELF).ru_maxrss
+
+
+def try_memory(mu_library):
+    """Lines of a long legal list are judged as they are made, again and again up to 64 MiB."""
+    made = subprocess.Popen([sys.executable, os.path.join(TOP, "tools", "long_trace.py")], stdout=subprocess.PIPE, stderr=subprocess.DEVNULL)
+    taken, events, first, began = 0, 0, None, time.monotonic()
+    while taken < MEMORY_BYTES:
+        job = b"".join(iter_to_end(made.stdout))
+        with library.Judge(job) as judge:
+            for line in made.stdout:
+                if line == b"end\n":
+                    break
+                if judge.take(line[:-1]) != library.DONE:
+                    print(judge.why()[1].decode(), end="")
+                    return 1
+                taken, events = taken + len(line), events + 1
+                first = first or resident()
+            print(f"{events} events, {taken} bytes: {resident()} KiB, {first} after the first event", flush=True)
+        made.wait()
+        made = subprocess.Popen(made.args, stdout=subprocess.PIPE, stderr=subprocess.DEVNULL)
+    made.kill()
+    print(f"{time.monotonic() - began:.0f} s, most of them Python's")
+    return 0 if resident() - first < 4096 else 1
+
+
+def iter_to_end(lines):
+    """The lines up to the first `end`."""
+    for line in lines:
+        yield line
+        if line == b"end\n":
+            return
+
+
+def main():
+    if not os.path.exists(ARCHIVE):
+        print("try_library: there is no out/libmu.a: ./library builds it")
+        return 1
+    import mu_library
+    if sys.argv[1:] == ["--memory"]:
+        return try_memory(mu_library)
+    compiler, tried = c_compiler(), Tried()
+    with tempfile.TemporaryDirectory() as folder:
+        try_calls(tried, folder, compiler)
+        try_own(tried, folder, compiler)
+    try_traces(tried, mu_library, stored_traces([os.path.join(TOP, "cases", "trace"), *sys.argv[1:]]))
+    for wrong in tried.wrong:
+        print(wrong)
+    print(f"{tried.tried - len(tried.wrong)} passed, {len(tried.wrong)} failed")
+    return 1 if tried.wrong else 0
+
+
+if __name__ == "__main__":
+    sys.exit(main())
