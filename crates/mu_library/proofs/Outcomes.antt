@@ -1,7 +1,7 @@
 -- What was put is the answer of a call, also where there was no memory for its text.
 use Rattle.std.proofs.Common.{◌≡◌, ◌⊎◌, inl, inr, ℕ, List, Option, Some, refl, sym, subst}
 use Rattle.mu_drawing.specs.Answers as drawing
-use Rattle.mu_drawing.specs.declared.asking.Asked.{Asked as Steps}
+use Rattle.mu_picture.specs.declared.pictures.Extent.{Extent}
 use Rattle.mu_drawing.specs.declared.drawing.Told.{Told}
 use Rattle.mu_input.specs.declared.job.InputEnd.{InputEnd}
 use Rattle.mu_judging.specs.LineJudges.{said_by, HasTaken, IsEndOfJob, Opens}
@@ -19,7 +19,7 @@ pub answered : (asked : Option Asked) (said : Said) (input before after : List �
 answered asked said input before after status taken tells (inl puts) = record { said = said; tells = inr tells; puts = puts }
 answered asked said input before after status taken tells (inr puts) = record { said = Said.NoMemory; tells = inl refl; puts = puts }
 
-pub drawn : (asked : Option Steps) (told : Told) (input before after : List ℕ) (status taken : ℕ) → drawing.Tells asked (Some input) (Some input) 0 0 told
+pub drawn : (asked : Option Extent) (told : Told) (input before after : List ℕ) (status taken : ℕ) → drawing.Tells asked (Some input) (Some input) 0 0 told
     → PutsTold told before after status taken ⊎ PutsTold (Told.Said Said.NoMemory) before after status taken → Draws asked input before after status taken
 drawn asked told input before after status taken tells (inl puts) = record { told = told; tells = inr tells; puts = puts }
 drawn asked told input before after status taken tells (inr puts) = record { told = Told.Said Said.NoMemory; tells = inl refl; puts = puts }

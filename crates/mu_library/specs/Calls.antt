@@ -4,7 +4,7 @@ use Rattle.std.specs.Prelude.{ℕ, ◌≡◌, ◌<◌, ◌≤◌, ◌==◌, ◌�
 use Rattle.std.specs.declared.option.Option.{Option}
 use Rattle.mu_drawing.specs.Answers.{text_of}
 use Rattle.mu_drawing.specs.Answers as drawing
-use Rattle.mu_drawing.specs.declared.asking.Asked.{Asked as Steps}
+use Rattle.mu_picture.specs.declared.pictures.Extent.{Extent}
 use Rattle.mu_drawing.specs.declared.drawing.Told.{Told}
 use Rattle.mu_events.specs.Events.{event_of}
 use Rattle.mu_input.specs.Grammar.{job}
@@ -72,7 +72,7 @@ pub record Answers (asked : Option Asked) (input before after : List ℕ)
   pub puts : PutsSaid said before after status taken
 
 -- the same of the program that draws
-pub record Draws (asked : Option Steps) (input before after : List ℕ)
+pub record Draws (asked : Option Extent) (input before after : List ℕ)
     (status taken : ℕ) : Type 0 where
   pub told : Told
   pub tells :

@@ -12,7 +12,8 @@ use mu_drawing::{Told, asked_between, status_of, told_in_memory};
 use std::alloc::Global;
 
 /// How the program is called.
-const USAGE: &[u8] = b"usage: mu_draw, mu_draw FIRST LAST\n";
+const USAGE: &[u8] =
+    b"usage: mu_draw, mu_draw FIRST LAST, mu_draw brief, mu_draw brief FIRST LAST\n";
 
 /// What `mu_draw FIRST LAST` says where these are the bytes of its input, and the status that it
 /// ends with. Want of memory can come in place of any answer.
@@ -44,6 +45,10 @@ fn tell(alloc: Global, told: Told, out: &mut [u8]) -> Answered
             Err(_) => no_memory(out),
         },
         Told::Drawn(sheet) => Answered {
+            status,
+            taken: put_bytes(sheet.as_slice(), out),
+        },
+        Told::Broken(sheet) => Answered {
             status,
             taken: put_bytes(sheet.as_slice(), out),
         },

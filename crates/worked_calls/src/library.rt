@@ -90,12 +90,17 @@ fn draws_what_is_legal(rt: HostRuntime) -> Result<(), Fail> {
     let rows = [
         ((0, 9_999_999), ASK, 0, "<svg "),
         ((0, 3), GRANT, 7, "illegal 1 not allowed\n"),
-        ((3, 1), ASK, 1, "usage: mu_draw, mu_draw FIRST LAST\n"),
+        (
+            (3, 1),
+            ASK,
+            1,
+            "usage: mu_draw, mu_draw FIRST LAST, mu_draw brief, mu_draw brief FIRST LAST\n",
+        ),
         (
             (0, 10_000_000),
             ASK,
             1,
-            "usage: mu_draw, mu_draw FIRST LAST\n",
+            "usage: mu_draw, mu_draw FIRST LAST, mu_draw brief, mu_draw brief FIRST LAST\n",
         ),
     ];
     for (steps, input, status, begins) in rows {
@@ -120,7 +125,8 @@ fn is_judged(alloc: Global, lines: &[(&str, u8)], text: &str) -> Result<bool, Al
     }
     let Answered { status: _, taken } = told_by(alloc, &mut handle, out.as_mut_slice());
     let_go(alloc, &mut handle);
-    Ok(is_right && out.as_slice()[..taken.min(text.len())] == *text.as_bytes())
+    let told = taken >= text.len() && out.as_slice().starts_with(text.as_bytes());
+    Ok(is_right && told)
 }
 
 #[test]
