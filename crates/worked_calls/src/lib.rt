@@ -13,8 +13,6 @@ mod calls;
 #[cfg(test)]
 mod desks;
 #[cfg(test)]
-mod library;
-#[cfg(test)]
 mod lives;
 #[cfg(test)]
 mod refusals;
