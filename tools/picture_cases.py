@@ -592,9 +592,9 @@ def parts_of(text):
 
 
 def breach_of(answer):
-    """The index of the event that breaks a trace, and what is wrong, from what `mu check` says of it."""
-    _, index, fault = answer.rstrip("\n").split(" ", 2)
-    return int(index), fault
+    """The index of the event that breaks a trace, and what is wrong, from what `mu why` says of it."""
+    first, _, fault = answer.rstrip("\n").split("\n")
+    return int(first.split()[1]), fault
 
 
 def differs(program, text):

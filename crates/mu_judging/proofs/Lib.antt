@@ -1,2 +1,2 @@
-mod EventLines
+pub mod EventLines
 mod TakenEvents
