@@ -89,7 +89,8 @@ fn says_how_it_is_called(rt: HostRuntime) -> Result<(), Fail> {
         assert_eq!(rt; called.status, 1);
         assert_eq!(rt;
             called.sink.written(),
-            b"usage: mu_draw, mu_draw FIRST LAST, mu_draw brief, mu_draw brief FIRST LAST\n".as_slice()
+            b"usage: mu_draw, mu_draw FIRST LAST, mu_draw brief, \
+                mu_draw brief FIRST LAST\n".as_slice()
         );
     }
     Ok(())

@@ -31,7 +31,7 @@ pub struct Picture {
 }
 
 /// Which steps of a run are asked for, and how.
-#[derive(Clone, Copy, Debug, PartialEq, Eq)]
+#[derive(Clone, Copy, PartialEq, Eq)]
 pub struct Extent {
     /// The first step, counted from 0.
     pub first: u32,

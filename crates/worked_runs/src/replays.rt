@@ -169,7 +169,7 @@ pub(crate) fn replayed(alloc: Global, job: Job) -> Result<Outcome, Fail>
 }
 
 /// What the job of a text leaves.
-fn outcome_of(alloc: Global, text: &str) -> Result<Outcome, Fail> {
+pub(crate) fn outcome_of(alloc: Global, text: &str) -> Result<Outcome, Fail> {
     let job = job_of(alloc, text)?;
     replayed(alloc, job)
 }
