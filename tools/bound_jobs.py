@@ -10,11 +10,9 @@ stopped as leave a majority: followers at their first step, while they grant, an
 one after the other. Nothing of the program is used for this but its output: the bounds are reckoned
 here, and each report is judged as tools/run_trials.py does.
 """
-import os
 import sys
 
 import trying
-from run_cases import troubles
 from run_trials import Job, Wrong, check_report
 
 LEAST_RING = 8
@@ -112,22 +110,5 @@ def bound_cases():
                             yield BoundCase(f"{name}, stops {number}", ["replay"], text.encode(), None, 0)
 
 
-def write(folder):
-    for number, case in enumerate(bound_cases()):
-        with open(os.path.join(folder, f"bound{number:03d}"), "wb") as out:
-            out.write(case.given)
-
-
-def main():
-    words = sys.argv[1:]
-    if len(words) == 2 and words[0] == "--write":
-        return write(words[1])
-    cases = list(bound_cases())
-    answers = trying.run_cases(words[0], cases) if words else trying.answers_of("mu", cases)
-    wrong = troubles(cases, answers)
-    print(*wrong, f"{len(cases) - len(wrong)} passed, {len(wrong)} failed", sep="\n")
-    return 1 if wrong else 0
-
-
 if __name__ == "__main__":
-    sys.exit(main())
+    sys.exit(trying.run_or_write(sys.argv[1:], list(bound_cases()), "bound"))

@@ -129,22 +129,5 @@ def stop_cases():
         yield FinishCase(f"each finishes: {name}", ["replay"], text.encode(), None, 0)
 
 
-def write(folder):
-    for number, case in enumerate(stop_cases()):
-        with open(os.path.join(folder, f"stop{number:04d}"), "wb") as out:
-            out.write(case.given)
-
-
-def main():
-    words = sys.argv[1:]
-    if len(words) == 2 and words[0] == "--write":
-        return write(words[1])
-    cases = list(stop_cases())
-    answers = trying.run_cases(words[0], cases) if words else trying.answers_of("mu", cases)
-    wrong = [f"{case.name}: {trouble}" for case, answer in zip(cases, answers) if (trouble := case.trouble(answer))]
-    print(*wrong, f"{len(cases) - len(wrong)} passed, {len(wrong)} failed", sep="\n")
-    return 1 if wrong else 0
-
-
 if __name__ == "__main__":
-    sys.exit(main())
+    sys.exit(trying.run_or_write(sys.argv[1:], list(stop_cases()), "stop"))
