@@ -1,8 +1,7 @@
 -- A replica that asks alone, and that all others keep up with, commits again in time though heads lag.
-use Rattle.std.proofs.Common.{◌≡◌, ◌≢◌, ◌⊎◌, ℕ, zero, suc, ◌+◌, ◌-◌, ◌*◌, ◌/◌, ◌%◌, ◌<◌, ◌≤◌, ◌==◌, ◌&&◌, ◌||◌, not, inl, inr, Bool, true, false, cond, Some, None, List, [], ◌∷◌, ◌++◌, length, refl, sym, ◌∙◌, ap, arith, subst, true≢false, append_assoc, eqb-true, is_some}
-use Rattle.std.specs.declared.option.Option.{Option}
-use Rattle.std.specs.Prelude.{if◌then◌else◌, nat_le}
-use Rattle.std.proofs.lemmas.Bool.{and_from, and_parts, cases_lt, lt-leb}
+use Rattle.std.proofs.Common.{◌≡◌, ℕ, zero, suc, ◌+◌, ◌*◌, ◌/◌, ◌%◌, ◌<◌, ◌≤◌, ◌==◌, ◌&&◌, ◌||◌, not, inl, inr, Bool, true, false, cond, Some, None, List, [], ◌∷◌, ◌++◌, length, refl, sym, ◌∙◌, ap, arith, subst, true≢false, append_assoc, is_some}
+use Rattle.std.specs.Prelude.{if◌then◌else◌}
+use Rattle.std.proofs.lemmas.Bool.{cases_lt, lt-leb}
 use Rattle.std.proofs.lemmas.List.{length-append}
 use Rattle.std.proofs.lemmas.Nat.{div-add-mod'}
 use Rattle.std.proofs.Math.Nat.{mod-lt}
@@ -17,14 +16,14 @@ use Rattle.mu_model.specs.Contents.{IsConfig, holds_all, marked, row_count}
 use Rattle.mu_model.specs.Diligence.{is_milestone, is_progress}
 use Rattle.mu_model.specs.Ends.{outrun}
 use Rattle.mu_model.specs.Histories.{has, part}
-use Rattle.mu_model.specs.Knowledge.{applied, known}
-use Rattle.mu_model.specs.Leaderships.{begins_leadership, is_over, leadership}
+use Rattle.mu_model.specs.Knowledge.{known}
+use Rattle.mu_model.specs.Leaderships.{begins_leadership, leadership}
 use Rattle.mu_model.specs.Legal.{IsLegalHistory}
 use Rattle.mu_model.specs.Parts.{IsPossible}
 use Rattle.mu_model.specs.Regions.{head_raised, region_head}
 use Rattle.mu_model.specs.Room.{head_read, lacks_room, reserve}
 use Rattle.mu_model.specs.Steps.{commits_more, has_min, is_lagging, is_min, is_named, is_over_after, knows_all}
-use Rattle.mu_model.specs.Stretches.{is_replication, replications}
+use Rattle.mu_model.specs.Stretches.{is_replication}
 use Rattle.mu_model.proofs.Parts.{filter-append, part_is_possible}
 use Rattle.mu_agree.proofs.Fitting.{parts_fit_law}
 use Rattle.mu_agree.proofs.Legal.{legal_older}
@@ -33,20 +32,24 @@ use Rattle.mu_agree.proofs.Prefixes.{greatest_along}
 use Rattle.mu_pace.specs.Counters.{AtEachMoment, AtEachStep, IsInTime}
 use Rattle.mu_pace.specs.Watches.{limit, limit_now, progressing}
 use Rattle.mu_pace.proofs.Counting.{allowed_here, last_moment, moments_before, steps_before}
-use Rattle.mu_pace.proofs.Growing.{known_grows, stays_less}
+use Rattle.mu_pace.proofs.Growing.{known_grows}
 use Rattle.mu_pace.proofs.Leading.{commit_known}
 use Rattle.mu_alive.specs.Alone.{WritesAlone}
 use Rattle.mu_alive.specs.Bringing.{bringing_steps}
 use Rattle.mu_alive.specs.Enough.{beginning_steps}
 use Rattle.mu_alive.specs.Finishing.{KeepUp, lagging_steps}
-use Rattle.mu_alive.specs.Lagging.{LoneLeadersApplyAllInAnyRing, LoneLeadersFillTheRing, filling_steps, free_places, steps_in_any_ring}
+use Rattle.mu_alive.specs.Lagging.{LoneLeadersApplyAllInAnyRing, LoneLeadersFillTheRing, filling_steps, free_places}
 use Rattle.mu_alive.specs.Lone.{LeadsAlone}
 use Rattle.mu_alive.proofs.Applying.{applied_is_known}
 use Rattle.mu_alive.proofs.Beginning.{CutAt, begins_in_time, cut_at}
-use Rattle.mu_alive.proofs.Bringing.{Closed, Pending, away_by, closed_or, limit_fits, open_short, paid_at_most, pending_on, stays_both}
+use Rattle.mu_alive.proofs.Bringing.{paid_at_most}
+use Rattle.mu_alive.proofs.Calm.{limit_fits}
+use Rattle.mu_alive.proofs.Steady.{away_by}
+use Rattle.mu_alive.proofs.Waiting.{Closed, Pending, closed_or, open_short, pending_on, stays_both}
 use Rattle.mu_alive.proofs.Cutting.{Cut, Located, cut, located}
-use Rattle.mu_alive.proofs.Enough.{FirstMin, IsFine, Leads, fine_moments, first_has_min, first_is_milestone, holds_more, lacks_moments, lone_before, lone_leads, lone_on, min_on, min_or_none, progress_moments, roomy}
-use Rattle.mu_alive.proofs.Finishing.{Started, keep_before, raised_after, started, writes_before}
+use Rattle.mu_alive.proofs.Enough.{IsFine, Leads, fine_moments, first_has_min, first_is_milestone, holds_more, lacks_moments, lone_before, lone_leads, lone_on, min_on, min_or_none, progress_moments, roomy}
+use Rattle.mu_alive.proofs.Finishing.{keep_before, raised_after, writes_before}
+use Rattle.mu_alive.proofs.Started.{started}
 use Rattle.mu_alive.proofs.Moments.{halves}
 
 -- since the first minimum the progress bound is open while a command is missing

@@ -9,16 +9,22 @@ pub mod Failing
 pub mod Fetching
 pub mod Finishing
 mod Following
+mod Gaining
 mod Granting
+mod KnowsMost
 pub mod Lagging
 mod LastNoting
 mod Lasting
 mod Moments
 mod Noting
 mod OwnNumbers
+mod Settled
+mod Started
+mod Steady
 pub mod TurnFences
 pub mod TurnGrants
 mod TurnNumbers
 pub mod TurnOwners
 pub mod Turns
 mod Unhindered
+mod Waiting

@@ -17,7 +17,6 @@ mod published;
 pub use completion::Completion;
 pub use follow::Follow;
 pub use groups::Ready;
-pub use mu_known::Commit;
 pub use noting::count_applied;
 pub use published::Published;
 
