@@ -8,6 +8,7 @@ use Rattle.mu_model.specs.declared.config.Config.{Config}
 use Rattle.mu_model.specs.declared.event.Event.{Event}
 use Rattle.mu_model.specs.declared.script.Script.{Script}
 use Rattle.mu_model.specs.Histories.{history}
+use Rattle.mu_course.specs.declared.halts.Halt.{Halt}
 use Rattle.mu_picture.specs.Marks.{IsPictureOf, is_kept, kept, made_of, mark_of, marks_of, with_mark}
 use Rattle.mu_picture.specs.declared.deeds.Deed.{Deed}
 use Rattle.mu_picture.specs.declared.marks.Mark.{Mark}
