@@ -1,5 +1,5 @@
 -- A replica that finished with every row tells the commands of the longest log, and replied to them.
-use Rattle.std.proofs.Common.{◌≡◌, ◌∙◌, ◌⊎◌, ℕ, suc, zero, ◌+◌, ◌%◌, ◌<◌, ◌≤◌, ◌==◌, inl, inr, Bool, true, false, cond, Some, List, [], ◌∷◌, ◌++◌, ap, append-nil, arith, eqb-true, get_or, length, refl, subst, sym, take, drop, true≢false}
+use Rattle.std.proofs.Common.{◌≡◌, ◌∙◌, ◌⊎◌, ℕ, suc, ◌+◌, ◌%◌, ◌<◌, ◌≤◌, ◌==◌, inl, inr, Bool, true, false, cond, Some, List, [], ◌∷◌, ◌++◌, ap, append-nil, arith, eqb-true, get_or, length, refl, sym, take, drop, true≢false}
 use Rattle.std.specs.List.{list_any, slice_get}
 use Rattle.std.proofs.Math.Dec.{eqb}
 use Rattle.std.proofs.lemmas.List.{length-append, length-drop, length-take}
@@ -10,13 +10,12 @@ use Rattle.mu_agree.proofs.Sessions.{batch_within, row_within}
 use Rattle.mu_input.specs.Heads.{HaveHeads}
 use Rattle.mu_input.specs.declared.job.Job.{Job}
 use Rattle.mu_input.proofs.JobConfigs.{as_many}
-use Rattle.mu_model.specs.declared.config.Config.{Config}
-use Rattle.mu_model.specs.Contents.{IsConfig, holds_all, includes, is_batch, rest_of, row_count, rows_from, rows_in, rows_of}
+use Rattle.mu_model.specs.Contents.{IsConfig, includes, is_batch, rest_of, row_count, rows_from, rows_in, rows_of}
 use Rattle.mu_model.specs.Histories.{IsPrefixOf}
 use Rattle.mu_model.proofs.Scans.{all_at}
 use Rattle.mu_outcome.specs.declared.outcome.Outcome.{Outcome}
 use Rattle.mu_outcome.specs.Entries.{commands_in, commands_of, longest}
-use Rattle.mu_outcome.specs.Outcomes.{Agrees, IsRun, log_of, or_empty, replies_of}
+use Rattle.mu_outcome.specs.Outcomes.{Agrees, IsRun, log_of, or_empty}
 use Rattle.mu_outcome.proofs.Completing.{few_told}
 use Rattle.mu_outcome.proofs.LongestLogs.{longest_is, longest_most}
 use Rattle.mu_rows.proofs.RowsOnce.{at_least, length-from, place_of, stands_at}

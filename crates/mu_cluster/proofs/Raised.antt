@@ -24,7 +24,6 @@ use Rattle.mu_model.specs.Regions.{head_raised, region_head}
 use Rattle.mu_model.specs.Room.{head_read}
 use Rattle.mu_model.specs.Scores.{is_failed, least_below}
 use Rattle.mu_model.specs.Steps.{is_named}
-use Rattle.mu_model.specs.Stretches.{IsStretch}
 use Rattle.mu_model.proofs.Owned.{greatest-part}
 use Rattle.mu_model.proofs.Parts.{filter-append, part_is_possible}
 use Rattle.mu_model.proofs.Scans.{all_at, least_below_fits}

@@ -1,4 +1,5 @@
--- What a replay comes to if its budget is enough.
+-- is stopped, leaves a majority, has all in time: a line of the script stops the replica; no line stops
+-- replica 0, nor a majority with it; a replay with enough budget has every command.
 use Rattle.std.specs.Prelude.{Bool, List, Some, [], false, not, true, ℕ, ◌<◌, ◌==◌, ◌||◌, ◌∷◌, ◌≡◌, ◌≤◌}
 use Rattle.std.specs.List.{slice_get}
 use Rattle.mu_alive.specs.Enough.{HasLargeRing, steps_enough}

@@ -22,7 +22,7 @@ pub struct Picture {
     pub first: u32,
     /// The step after the last one.
     pub end: u32,
-    /// The step after the last one that is asked for: above `end` where there are too many rows.
+    /// The step after the last one that is asked for: above `end` if there are too many rows.
     pub asked: u32,
     /// What holds in each lane before the first step.
     pub openings: Vec<Opening>,
@@ -37,7 +37,7 @@ pub struct Extent {
     pub first: u32,
     /// The last step.
     pub last: u32,
-    /// Whether they are drawn in brief: asks, grants, commits and ends alone.
+    /// Whether they are drawn in brief: only asks, grants, commits and ends.
     pub brief: bool,
 }
 
