@@ -21,7 +21,7 @@ use Rattle.mu_model.specs.Parts.{IsPossible}
 use Rattle.mu_model.specs.Placing.{fuo_read_or_raised, reaches_head}
 use Rattle.mu_model.specs.Regions.{fence, fence_owner, head_raised, region_fuo, region_head}
 use Rattle.mu_model.specs.Stretches.{IsStretch}
-use Rattle.mu_model.specs.Steps.{has_min, is_asking, is_fencing, is_fencing_verb, is_named}
+use Rattle.mu_model.specs.Steps.{has_min, is_asking, is_fencing, is_fencing_verb, is_named, knows_all}
 use Rattle.mu_model.proofs.Lists.{get_front}
 use Rattle.mu_model.proofs.Owned.{IsOwn, greatest-part}
 use Rattle.mu_model.proofs.Parts.{filter-append, part_is_possible}
@@ -315,42 +315,33 @@ raised_after c live a l newer older good lone writes keep begun knows many r low
     which (inl same) = subst (λ x. (l ≤ length (applied c x (part x past))) × (l ≤ region_head x past)) (sym same) leader
     which (inr other) = follower other
 
-pub raise_all : LoneLeadersRaiseAll
-raise_all c live a past good large lone writes keep many = go (holds_all c []) refl
+-- once it knows every command, all have applied them so many steps later, and raised their heads to them
+pub raised_from : (c : Config) (live : ℕ → Bool) (a : ℕ) (newer older : List Event) → IsConfig c → LeadsAlone c live a (newer ++ older) → WritesAlone a (newer ++ older) → KeepUp c live a (newer ++ older) → knows_all c a (part a older) ≡ true → lagging_steps c ≤ length (part a newer) → HaveAllRaised c live (newer ++ older)
+raised_from c live a newer older good lone writes keep knows many = go (holds_all c []) refl
   where
-    first : CutAt a (steps_enough c) past
-    first = cut_at a (steps_enough c) past (omega (arith, many))
+    past : List Event
+    past = newer ++ older
 
     -- all commands
     all : List ℕ
-    all = known c a (part a first.rest)
+    all = known c a (part a older)
 
-    mine : part a past ≡ part a first.newer ++ part a first.rest
-    mine = ap (part a) first.is ∙ filter-append (λ e. e.by == a) first.newer first.rest
+    mine : part a past ≡ part a newer ++ part a older
+    mine = filter-append (λ e. e.by == a) newer older
 
-    first_alone : LeadsAlone c live a first.rest
-    first_alone = lone_before c live a first.newer first.rest (subst (LeadsAlone c live a) first.is lone)
-
-    knows : holds_all c all ≡ true
-    knows = let count = first.count in knows_all_in_time c live a first.rest good large first_alone (omega (arith, count))
-
-    begun : holds_all c [] ≡ false → Started c a first.rest
+    begun : holds_all c [] ≡ false → Started c a older
     begun lacks =
-        started c live a first.rest first_alone
-        (λ above below e p cuts min waits on low. keep.asked (part a first.newer ++ above) below e p (mine ∙ ap (λ x. part a first.newer ++ x) cuts ∙ sym (append_assoc (part a first.newer) above (e ∷ below))) min waits on low) lacks (λ none. true≢false (sym knows ∙ (ap (holds_all c) none ∙ lacks)))
+        started c live a older (lone_before c live a newer older lone)
+        (λ above below e p cuts min waits on low. keep.asked (part a newer ++ above) below e p (mine ∙ ap (λ x. part a newer ++ x) cuts ∙ sym (append_assoc (part a newer) above (e ∷ below))) min waits on low) lacks (λ none. true≢false (sym knows ∙ (ap (holds_all c) none ∙ lacks)))
 
     there : holds_all c [] ≡ false → (r : ℕ) → r < c.replicas → live r ≡ true → (length all ≤ length (applied c r (part r past))) × (length all ≤ region_head r past)
-    there lacks r low lives =
-        let count = first.count in
-        let sum = ap length mine ∙ length-append (part a first.newer) (part a first.rest) in
-        subst (λ x. (length all ≤ length (applied c r (part r x))) × (length all ≤ region_head r x)) (sym first.is)
-        (raised_after c live a (length all) first.newer first.rest good (subst (LeadsAlone c live a) first.is lone) (subst (WritesAlone a) first.is writes) (subst (KeepUp c live a) first.is keep) (begun lacks) (omega arith) (omega (arith, count, sum, many)) r low lives)
+    there lacks r low lives = raised_after c live a (length all) newer older good lone writes keep (begun lacks) (omega arith) many r low lives
 
     holds : holds_all c [] ≡ false → (r : ℕ) → r < c.replicas → live r ≡ true → holds_all c (take (length all) (applied c r (part r past))) ≡ true
     holds lacks r low lives = ap (holds_all c) (same_lists (take (length all) (applied c r (part r past))) all (let long = (there lacks r low lives).0 in let taken = length-take (length all) (applied c r (part r past)) in omega (arith, long, taken)) agree) ∙ knows
       where
         more : IsPrefixOf all (known c a (part a past))
-        more = subst (λ x. IsPrefixOf all (known c a x)) (sym mine) (known_stays c a (part a first.newer) (part a first.rest))
+        more = subst (λ x. IsPrefixOf all (known c a x)) (sym mine) (known_stays c a (part a newer) (part a older))
 
         agree : (i v w : ℕ) → slice_get (take (length all) (applied c r (part r past))) i ≡ Some v → slice_get all i ≡ Some w → v ≡ w
         agree i v w at held =
@@ -360,3 +351,23 @@ raise_all c live a past good large lone writes keep many = go (holds_all c []) r
     go : (t : Bool) → holds_all c [] ≡ t → HaveAllRaised c live past
     go true none = record { upto = 0; raised = λ r low lives. omega arith; reached = λ r low lives. omega arith; held = λ r low lives. none }
     go false lacks = record { upto = length all; raised = λ r low lives. (there lacks r low lives).1; reached = λ r low lives. (there lacks r low lives).0; held = λ r low lives. holds lacks r low lives }
+
+-- if it knows every command after so many steps
+pub raised_with : (c : Config) (live : ℕ → Bool) (a most : ℕ) (past : List Event) → IsConfig c → LeadsAlone c live a past → WritesAlone a past → KeepUp c live a past
+    → ((newer older : List Event) → past ≡ newer ++ older → most ≤ length (part a older) → knows_all c a (part a older) ≡ true) → most + lagging_steps c ≤ length (part a past) → HaveAllRaised c live past
+raised_with c live a most past good lone writes keep knows many =
+    subst (HaveAllRaised c live) (sym first.is)
+    (raised_from c live a first.newer first.rest good (subst (LeadsAlone c live a) first.is lone) (subst (WritesAlone a) first.is writes) (subst (KeepUp c live a) first.is keep) (knows first.newer first.rest first.is (let count = first.count in omega (arith, count)))
+    (let sum = ap (λ x. length (part a x)) first.is ∙ ap length (filter-append (λ e. e.by == a) first.newer first.rest) ∙ length-append (part a first.newer) (part a first.rest) in let count = first.count in rest_of_it most (lagging_steps c) (length (part a past)) (length (part a first.newer)) (length (part a first.rest)) sum count many))
+  where
+    rest_of_it : (x y n m k : ℕ) → n ≡ m + k → k ≡ x → x + y ≤ n → y ≤ m
+    rest_of_it x y n m k sum is long = omega (arith, sum, is, long)
+
+    fewer : (x y n : ℕ) → x + y ≤ n → x ≤ n
+    fewer x y n long = omega (arith, long)
+
+    first : CutAt a most past
+    first = cut_at a most past (fewer most (lagging_steps c) (length (part a past)) many)
+
+pub raise_all : LoneLeadersRaiseAll
+raise_all c live a past good large lone writes keep many = raised_with c live a (steps_enough c) past good lone writes keep (λ newer older is enough. knows_all_in_time c live a older good large (lone_before c live a newer older (subst (LeadsAlone c live a) is lone)) enough) many

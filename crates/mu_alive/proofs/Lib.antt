@@ -3,6 +3,7 @@ pub mod Applying
 pub mod Beginning
 mod Bringing
 mod Calm
+mod Catching
 pub mod Cutting
 pub mod Enough
 pub mod Failing
@@ -17,7 +18,9 @@ mod LastNoting
 mod Lasting
 mod Moments
 mod Noting
+mod Opening
 mod OwnNumbers
+mod Rising
 mod Settled
 mod Started
 mod Steady

@@ -18,6 +18,7 @@ pub use completion::Completion;
 pub use follow::Follow;
 pub use groups::Ready;
 pub use noting::count_applied;
+pub use outrunning::outrun_after;
 pub use published::Published;
 
 /// A replica that raises its head at one place of the round, if it may be raised, raises it in

@@ -17,11 +17,9 @@ ghost use Rattle.mu_known.specs.Offers.{IsFirst};
 ghost use Rattle.mu_lead.specs.Journal.{WritesFrom};
 ghost use Rattle.mu_lead.specs.Lasting.{FollowsFrom, FollowsLook, tables_of};
 ghost use Rattle.mu_lead.specs.Listing.{after_copy, after_fuo, after_members, bring_up, bring_up_from, farther, learn_from};
-ghost use Rattle.mu_lead.specs.Notes.{value_committed};
 ghost use Rattle.mu_lead.specs.Standing.{HoldsAt, Stands, StandsFor, Takes, TakesLook};
-ghost use Rattle.mu_lead.specs.Saying.{is_working_or_lost, note_of_fence, note_of_learning, note_of_raise, value_seen};
+ghost use Rattle.mu_lead.specs.Saying.{note_of_fence, note_of_learning, note_of_raise, value_seen};
 ghost use Rattle.mu_lead.specs.declared.note.Note.{Note as SomeNote};
-ghost use Rattle.mu_lead.specs.Going.{going_after};
 
 use crate::arrays::{with_fuo, with_number};
 use crate::lead::Lead;
@@ -52,14 +50,12 @@ impl Lead {
     pub(crate) fn took_fuo(&mut self, p: u8, source: Option<u8>, u: u64, known: &[u16]) -> Note
         ensures stands { Takes self.old (SomePlace.ReadFuo p source) known.now (SomeVerb.Fuo p)
             (SomeAnswer.Number u) self.new }
-        ensures quiet { value_committed result ≡ None }
         ensures config { self.new.config ≡ self.old.config }
         ensures id { self.new.id ≡ self.old.id }
         ensures named { self.new.named ≡ self.old.named }
         ensures writes { WritesFrom self.old (SomePlace.ReadFuo p source) known.now (SomeVerb.Fuo p)
             (SomeAnswer.Number u) self.new }
         ensures note { result ≡ SomeNote.Working }
-        ensures going { self.new.under_way ≡ going_after self.old.under_way result }
         ensures listed { FollowsFrom self.old (SomePlace.ReadFuo p source) known.now
             (SomeVerb.Fuo p)
             (SomeAnswer.Number u) self.new }
@@ -118,14 +114,12 @@ impl Lead {
     pub(crate) fn took_learning(&mut self, source: u8, answer: Answer, known: &[u16]) -> Note
         ensures stands { (i : ℕ)
             → TakesLook self.old (SomePlace.Learn source) known.now source i answer self.new }
-        ensures quiet { value_committed result ≡ None }
         ensures config { self.new.config ≡ self.old.config }
         ensures id { self.new.id ≡ self.old.id }
         ensures named { self.new.named ≡ self.old.named }
         ensures tables { tables_of self.new ≡ tables_of self.old }
         ensures note { length known.now < 65536
             → result ≡ note_of_learning (length known.now) answer }
-        ensures going { self.new.under_way ≡ going_after self.old.under_way result }
         ensures listed { (i : ℕ)
             → FollowsLook self.old (SomePlace.Learn source) known.now source i answer self.new }
     {
@@ -237,7 +231,6 @@ impl Lead {
         ensures stands { (values : List ℕ)
             → Takes self.old (SomePlace.WidenBehind p then) values
             (SomeVerb.RaiseFuo p (get_or self.old.up p 0)) SomeAnswer.Done self.new }
-        ensures quiet { value_committed result ≡ None }
         ensures config { self.new.config ≡ self.old.config }
         ensures id { self.new.id ≡ self.old.id }
         ensures named { self.new.named ≡ self.old.named }
@@ -245,7 +238,6 @@ impl Lead {
             → WritesFrom self.old (SomePlace.WidenBehind p then) values
             (SomeVerb.RaiseFuo p (get_or self.old.up p 0)) SomeAnswer.Done self.new }
         ensures note { result ≡ SomeNote.Working }
-        ensures going { self.new.under_way ≡ going_after self.old.under_way result }
         ensures listed { (values : List ℕ)
             → FollowsFrom self.old (SomePlace.WidenBehind p then) values
             (SomeVerb.RaiseFuo p (get_or self.old.up p 0))
@@ -261,13 +253,11 @@ impl Lead {
         ensures stands { (values : List ℕ)
             → Takes self.old (SomePlace.LookBehind p then) values
             (SomeVerb.Look p (get_or self.old.up p 0)) answer self.new }
-        ensures quiet { value_committed result ≡ None }
         ensures config { self.new.config ≡ self.old.config }
         ensures id { self.new.id ≡ self.old.id }
         ensures named { self.new.named ≡ self.old.named }
         ensures tables { tables_of self.new ≡ tables_of self.old }
         ensures note { result ≡ SomeNote.Working }
-        ensures going { self.new.under_way ≡ going_after self.old.under_way result }
         ensures listed { (values : List ℕ)
             → FollowsFrom self.old (SomePlace.LookBehind p then) values
             (SomeVerb.Look p (get_or self.old.up p 0))
@@ -289,13 +279,11 @@ impl Lead {
             (SomeVerb.Enter p
             (SomeTarget.Place (get_or self.old.up p 0 % self.old.config.ring)))
             SomeAnswer.Entered self.new }
-        ensures quiet { value_committed result ≡ None }
         ensures config { self.new.config ≡ self.old.config }
         ensures id { self.new.id ≡ self.old.id }
         ensures named { self.new.named ≡ self.old.named }
         ensures tables { tables_of self.new ≡ tables_of self.old }
         ensures note { result ≡ SomeNote.Working }
-        ensures going { self.new.under_way ≡ going_after self.old.under_way result }
         ensures listed { (values : List ℕ)
             → FollowsFrom self.old (SomePlace.EnterBehind p then) values
             (SomeVerb.Enter p (SomeTarget.Place (get_or self.old.up p 0 % self.old.config.ring)))
@@ -317,7 +305,6 @@ impl Lead {
             (SomeVerb.PutSlot p (get_or self.old.up p 0) self.old.number
             (get_or known.now (get_or self.old.up p 0) 0))
             SomeAnswer.Done self.new }
-        ensures quiet { value_committed result ≡ None }
         ensures config { self.new.config ≡ self.old.config }
         ensures id { self.new.id ≡ self.old.id }
         ensures named { self.new.named ≡ self.old.named }
@@ -326,7 +313,6 @@ impl Lead {
             (get_or known.now (get_or self.old.up p 0) 0))
             SomeAnswer.Done self.new }
         ensures note { result ≡ SomeNote.Working }
-        ensures going { self.new.under_way ≡ going_after self.old.under_way result }
         ensures listed { FollowsFrom self.old (SomePlace.PutBehind p then) known.now
             (SomeVerb.PutSlot p (get_or self.old.up p 0) self.old.number
             (get_or known.now (get_or self.old.up p 0) 0))
@@ -369,14 +355,12 @@ impl Lead {
     pub(crate) fn took_raise_behind(&mut self, p: u8, then: Then, known: &[u16]) -> Note
         ensures stands { Takes self.old (SomePlace.RaiseBehind p then) known.now
             (SomeVerb.RaiseFuo p (get_or self.old.up p 0)) SomeAnswer.Done self.new }
-        ensures quiet { value_committed result ≡ None }
         ensures config { self.new.config ≡ self.old.config }
         ensures id { self.new.id ≡ self.old.id }
         ensures named { self.new.named ≡ self.old.named }
         ensures writes { WritesFrom self.old (SomePlace.RaiseBehind p then) known.now
             (SomeVerb.RaiseFuo p (get_or self.old.up p 0)) SomeAnswer.Done self.new }
         ensures note { result ≡ note_of_raise p then }
-        ensures going { self.new.under_way ≡ going_after self.old.under_way result }
         ensures listed { FollowsFrom self.old (SomePlace.RaiseBehind p then) known.now
             (SomeVerb.RaiseFuo p (get_or self.old.up p 0))
             SomeAnswer.Done self.new }
@@ -399,13 +383,10 @@ impl Lead {
         ensures stands { (values : List ℕ)
             → Takes self.old (SomePlace.FenceBehind p then) values (SomeVerb.Fence p)
             (SomeAnswer.Seen fence) self.new }
-        ensures quiet { value_committed result ≡ None }
         ensures config { self.new.config ≡ self.old.config }
         ensures id { self.new.id ≡ self.old.id }
         ensures named { self.new.named ≡ self.old.named }
         ensures tables { tables_of self.new ≡ tables_of self.old }
-        ensures note { is_working_or_lost result ≡ true }
-        ensures going { self.new.under_way ≡ going_after self.old.under_way result }
         ensures over { (mine : List SomeEvent) → StandsFor mine self.old
             → IsPossible self.old.config self.old.id
             (record
@@ -432,7 +413,6 @@ impl Lead {
         };
         self.leading.take(self.id, &event);
         if self.leading.is_over() {
-            self.under_way = false;
             self.place = Place::Ask(0);
             Note::Aborted(AbortCause::Lost { replica: p, fence })
         } else {
@@ -464,9 +444,7 @@ pub(crate) fn value_in(answer: Answer) -> u16
 
 /// The note of a look at the first unknown position.
 fn learnt(answer: Answer, known: &[u16]) -> Note
-    ensures quiet { value_committed result ≡ None }
     ensures note { length known.now < 65536 → result ≡ note_of_learning (length known.now) answer }
-    ensures going { (was : Bool) → going_after was result ≡ was }
 {
     match answer {
         Answer::Entry { number: _, value } => Note::Learnt {

@@ -10,12 +10,10 @@ ghost use Rattle.mu_lead.specs.Confirming.{AtAsk, Confirmed, Fresh, Numbered, Te
 ghost use Rattle.mu_model.specs.Leaderships.{is_member};
 ghost use Rattle.mu_known.specs.Offers.{IsFirst};
 ghost use Rattle.mu_model.specs.Parts.{IsPossible};
-ghost use Rattle.mu_lead.specs.Notes.{TellsRound, value_committed};
+ghost use Rattle.mu_lead.specs.Noting.{note_in_round, note_of_round};
 ghost use Rattle.mu_lead.specs.Standing.{At, StandsFor, Takes};
 ghost use Rattle.mu_leading.specs.Leadership.{StandsForLeadership};
-ghost use Rattle.mu_lead.specs.Saying.{TellsAfter};
 ghost use Rattle.mu_lead.specs.declared.note.Note.{Note as SomeNote};
-ghost use Rattle.mu_lead.specs.Going.{going_after};
 ghost use Rattle.mu_model.specs.Diligence.{is_confirmed as is_confirmed_by};
 ghost use Rattle.mu_lead.specs.Journal.{WritesFrom};
 ghost use Rattle.mu_lead.specs.Lasting.{FollowsFrom, tables_of};
@@ -55,7 +53,6 @@ impl Lead {
     pub(crate) fn took_ask(&mut self, p: u8) -> Note
         ensures stands { (values : List ℕ)
             → Takes self.old (SomePlace.Ask p) values (SomeVerb.Ask p) SomeAnswer.Done self.new }
-        ensures quiet { value_committed result ≡ None }
         ensures config { self.new.config ≡ self.old.config }
         ensures id { self.new.id ≡ self.old.id }
         ensures named { self.new.named ≡ self.old.named }
@@ -63,7 +60,6 @@ impl Lead {
             → WritesFrom self.old (SomePlace.Ask p) values (SomeVerb.Ask p) SomeAnswer.Done
             self.new }
         ensures note { result ≡ SomeNote.Working }
-        ensures going { self.new.under_way ≡ (p == 0 || self.old.under_way) }
         ensures listed { (values : List ℕ)
             → FollowsFrom self.old (SomePlace.Ask p) values (SomeVerb.Ask p)
             SomeAnswer.Done self.new }
@@ -75,7 +71,6 @@ impl Lead {
         };
         self.leading.take(self.id, &event);
         if p == 0 {
-            self.under_way = true;
             self.up = [0; 7];
             self.reach = [None; 7];
             self.place = self.after_ask(p);
@@ -90,20 +85,18 @@ impl Lead {
         ensures stands { (values : List ℕ)
             → Takes self.old (SomePlace.Confirm round p) values (SomeVerb.Fence p)
             (SomeAnswer.Seen fence) self.new }
-        ensures quiet { value_committed result ≡ None }
         ensures config { self.new.config ≡ self.old.config }
         ensures id { self.new.id ≡ self.old.id }
         ensures named { self.new.named ≡ self.old.named }
         ensures tables { tables_of self.new ≡ tables_of self.old }
         ensures note { (mine : List SomeEvent) → StandsFor mine self.old
-            → p < self.old.config.replicas
             → IsPossible self.old.config self.old.id
             (record { by = self.old.id; verb = SomeVerb.Fence p; answer = SomeAnswer.Seen fence }
             ∷ mine)
-            → TellsAfter (p + 1 == self.old.config.replicas) self.old.config self.old.id
+            → result
+            ≡ note_in_round self.old.config self.old.id
             (record { by = self.old.id; verb = SomeVerb.Fence p; answer = SomeAnswer.Seen fence }
-            ∷ mine) result }
-        ensures going { self.new.under_way ≡ going_after self.old.under_way result }
+            ∷ mine) p }
         ensures listed { (values : List ℕ)
             → FollowsFrom self.old (SomePlace.Confirm round p) values (SomeVerb.Fence p)
             (SomeAnswer.Seen fence) self.new }
@@ -163,12 +156,10 @@ impl Lead {
 
     /// The note of a round of fences.
     fn note_of_round(&self) -> Note
-        ensures quiet { value_committed result ≡ None }
-        ensures tells { (mine : List SomeEvent) → self.now.config.replicas ≤ 7
+        ensures { (mine : List SomeEvent) → self.now.config.replicas ≤ 7
             → self.now.id < self.now.config.replicas
             → StandsForLeadership self.now.id mine self.now.leading
-            → TellsRound self.now.config self.now.id mine result }
-        ensures going { (was : Bool) → going_after was result ≡ was }
+            → result ≡ note_of_round self.now.config self.now.id mine }
     {
         let named = noted_bits(&self.leading);
         if self.is_confirmed() {
@@ -204,13 +195,11 @@ impl Lead {
         ensures stands { (values : List ℕ)
             → Takes self.old (SomePlace.ReadMin p) values (SomeVerb.Min p) (SomeAnswer.Number min)
             self.new }
-        ensures quiet { value_committed result ≡ None }
         ensures config { self.new.config ≡ self.old.config }
         ensures id { self.new.id ≡ self.old.id }
         ensures named { self.new.named ≡ self.old.named }
         ensures tables { tables_of self.new ≡ tables_of self.old }
         ensures note { result ≡ SomeNote.Working }
-        ensures going { self.new.under_way ≡ going_after self.old.under_way result }
         ensures listed { (values : List ℕ)
             → FollowsFrom self.old (SomePlace.ReadMin p) values (SomeVerb.Min p)
             (SomeAnswer.Number min) self.new }
@@ -260,13 +249,11 @@ impl Lead {
         ensures stands { (values : List ℕ)
             → Takes self.old (SomePlace.EnterMin p) values (SomeVerb.Enter p SomeTarget.Min)
             SomeAnswer.Entered self.new }
-        ensures quiet { value_committed result ≡ None }
         ensures config { self.new.config ≡ self.old.config }
         ensures id { self.new.id ≡ self.old.id }
         ensures named { self.new.named ≡ self.old.named }
         ensures tables { tables_of self.new ≡ tables_of self.old }
         ensures note { result ≡ SomeNote.Working }
-        ensures going { self.new.under_way ≡ going_after self.old.under_way result }
         ensures listed { (values : List ℕ)
             → FollowsFrom self.old (SomePlace.EnterMin p) values (SomeVerb.Enter p SomeTarget.Min)
             SomeAnswer.Entered self.new }
@@ -286,13 +273,11 @@ impl Lead {
         ensures stands { (values : List ℕ)
             → Takes self.old (SomePlace.PutMin p) values (SomeVerb.PutMin p self.old.number)
             SomeAnswer.Done self.new }
-        ensures quiet { value_committed result ≡ None }
         ensures config { self.new.config ≡ self.old.config }
         ensures id { self.new.id ≡ self.old.id }
         ensures named { self.new.named ≡ self.old.named }
         ensures tables { tables_of self.new ≡ tables_of self.old }
         ensures note { result ≡ SomeNote.Working }
-        ensures going { self.new.under_way ≡ going_after self.old.under_way result }
         ensures listed { (values : List ℕ)
             → FollowsFrom self.old (SomePlace.PutMin p) values (SomeVerb.PutMin p self.old.number)
             SomeAnswer.Done self.new }

@@ -18,13 +18,12 @@ ghost use Rattle.mu_lead.specs.Leading.{Level, end_of as end_of_known};
 ghost use Rattle.mu_lead.specs.Journal.{WritesFrom};
 ghost use Rattle.mu_lead.specs.Lasting.{FollowsFrom, FollowsHead, FollowsLook, tables_of};
 ghost use Rattle.mu_lead.specs.Listing.{first_member, heads_from, least_candidate, member_from, next_position, offer_row, or_else, own_offer, pick};
-ghost use Rattle.mu_lead.specs.Notes.{TellsPut, note_of_commit, note_of_head, value_committed};
+ghost use Rattle.mu_lead.specs.Notes.{TellsPut, note_of_commit, note_of_head};
 ghost use Rattle.mu_lead.specs.Offering.{Looking, LooksShow, MayBeMarked, MayOffer, Roomy};
 ghost use Rattle.mu_lead.specs.Sets.{is_bit};
 ghost use Rattle.mu_lead.specs.Standing.{HasHeeded, HoldsAt, Stands, StandsFor, Takes, TakesLook};
-ghost use Rattle.mu_lead.specs.Saying.{NotesPut, note_of_look};
+ghost use Rattle.mu_lead.specs.Saying.{note_of_look};
 ghost use Rattle.mu_lead.specs.declared.note.Note.{Note as SomeNote};
-ghost use Rattle.mu_lead.specs.Going.{going_after};
 
 use crate::arrays::{with_fuo, with_number};
 use crate::batches::{is_marked, knows_all, next_offer, own_value};
@@ -146,14 +145,6 @@ impl Lead {
             (record { by = self.old.id; verb = SomeVerb.Head q; answer = SomeAnswer.Number head }
             ∷ mine)
             self.new }
-        ensures tells { length known.now < 65536 → head < 65536 → result
-            ≡ note_of_head q head (length known.now)
-            (nat_lt (length known.now + reserve self.old.config)
-            (head + self.old.config.ring))
-            (not (q == self.old.id)
-            && (is_bit q self.old.failed
-            && nat_lt (length known.now + 0) (head + self.old.config.ring))) }
-        ensures quiet { value_committed result ≡ None }
         ensures config { self.new.config ≡ self.old.config }
         ensures id { self.new.id ≡ self.old.id }
         ensures named { self.new.named ≡ self.old.named }
@@ -166,7 +157,6 @@ impl Lead {
             (not (q == self.old.id)
             && (is_bit q self.old.failed
             && nat_lt (length known.now + 0) (head + self.old.config.ring))) }
-        ensures going { self.new.under_way ≡ going_after self.old.under_way result }
         ensures listed { FollowsHead self.old q candidate known.now (SomeAnswer.Number head)
             self.new }
         ensures kept { length self.old.heads ≡ 7 → q < 7 → get_or self.new.heads q 0 ≡ head }
@@ -216,13 +206,11 @@ impl Lead {
             → TakesLook self.old
             (SomePlace.Look p position candidate best) known.now p position
             answer self.new }
-        ensures quiet { value_committed result ≡ None }
         ensures config { self.new.config ≡ self.old.config }
         ensures id { self.new.id ≡ self.old.id }
         ensures named { self.new.named ≡ self.old.named }
         ensures tables { tables_of self.new ≡ tables_of self.old }
         ensures note { result ≡ note_of_look position (length known.now) answer }
-        ensures going { self.new.under_way ≡ going_after self.old.under_way result }
         ensures listed { HoldsValues self.old.config known.now log.now
             → FollowsLook self.old (SomePlace.Look p position candidate best) known.now p
             position answer self.new }
@@ -361,13 +349,11 @@ impl Lead {
         ensures stands { Takes self.old (SomePlace.Enter p offer) known.now
             (SomeVerb.Enter p (SomeTarget.Place (length known.now % self.old.config.ring)))
             SomeAnswer.Entered self.new }
-        ensures quiet { value_committed result ≡ None }
         ensures config { self.new.config ≡ self.old.config }
         ensures id { self.new.id ≡ self.old.id }
         ensures named { self.new.named ≡ self.old.named }
         ensures tables { tables_of self.new ≡ tables_of self.old }
         ensures note { result ≡ SomeNote.Working }
-        ensures going { self.new.under_way ≡ going_after self.old.under_way result }
         ensures listed { FollowsFrom self.old (SomePlace.Enter p offer) known.now
             (SomeVerb.Enter p (SomeTarget.Place (length known.now % self.old.config.ring)))
             SomeAnswer.Entered self.new }
@@ -412,8 +398,6 @@ impl Lead {
         ensures writes { WritesFrom self.old (SomePlace.Put p offer) known.now
             (SomeVerb.PutSlot p (length known.now) self.old.number offer.value) SomeAnswer.Done
             self.new }
-        ensures note { NotesPut (length known.now) offer result }
-        ensures going { self.new.under_way ≡ going_after self.old.under_way result }
         ensures listed { FollowsFrom self.old (SomePlace.Put p offer) known.now
             (SomeVerb.PutSlot p (length known.now) self.old.number offer.value)
             SomeAnswer.Done self.new }
@@ -443,14 +427,12 @@ impl Lead {
         ensures stands { Takes self.old (SomePlace.Raise p) known.now
             (SomeVerb.RaiseFuo p (length known.now))
             SomeAnswer.Done self.new }
-        ensures quiet { value_committed result ≡ None }
         ensures config { self.new.config ≡ self.old.config }
         ensures id { self.new.id ≡ self.old.id }
         ensures named { self.new.named ≡ self.old.named }
         ensures writes { WritesFrom self.old (SomePlace.Raise p) known.now
             (SomeVerb.RaiseFuo p (length known.now)) SomeAnswer.Done self.new }
         ensures note { result ≡ SomeNote.Working }
-        ensures going { self.new.under_way ≡ going_after self.old.under_way result }
         ensures listed { FollowsFrom self.old (SomePlace.Raise p) known.now
             (SomeVerb.RaiseFuo p (length known.now))
             SomeAnswer.Done self.new }

@@ -45,9 +45,6 @@ returns-else-is_past-clause-stands c = λ i mine s is position possible told.
       at = c.learn_from-self.ensures.stands (e ∷ mine) (record { possible = possible; config = s.config; inside = s.inside; leading = leading; tables = tables }) told leads here.raised here.unput (here.region, here.member) here.few;
     }
 
-pub returns-else-is_past-clause-going : goal.returns-else-is_past-clause-going
-returns-else-is_past-clause-going c = sym (c.learnt.ensures.going c.args.self.now.under_way)
-
 pub returns-then-is_past-clause-listed : goal.returns-then-is_past-clause-listed
 returns-then-is_past-clause-listed c = λ i mine s is position possible told.
     let l = c.args.self.now in

@@ -1,31 +1,29 @@
-use Rattle.mu_lead.proofs.Firsts.{found_place}
-use Rattle.mu_lead.specs.declared.place.Place.{Place}
-use Rattle.std.proofs.Common.{None, Some, ap, ◌+◌, ◌∙◌}
-use Rattle.mu_lead.specs.Listing.{first_member}
-use Rattle.mu_model.specs.Parts.{IsPossible}
-use Rattle.mu_leading.specs.Leadership.{StandsForLeadership}
-use Rattle.mu_lead.specs.Leading.{AtRaise, HoldsTables, end_of}
-use Rattle.mu_model.specs.Contents.{row_count}
-use Rattle.mu_model.specs.Room.{reserve}
 use Rattle.mu_agree.proofs.Possible.{parts_shorten_law}
-use Rattle.std.proofs.Common.{ap, arith, get_or, inl, length, refl, subst, sym, ℕ, ◌+◌, ◌<◌, ◌≤◌, ◌∙◌, ◌∷◌, ◌≡◌}
 use Rattle.mu_agree.proofs.Readings.{known_within}
-use Rattle.mu_model.specs.Knowledge.{known}
-use Rattle.mu_leading.proofs.Within.{known_few}
 use Rattle.mu_lead.proofs.Bringing.{put_event}
+use Rattle.mu_lead.proofs.Commits.{working_commits}
+use Rattle.mu_lead.proofs.Firsts.{found_place}
+use Rattle.mu_lead.proofs.Puts.{brought_committed, brought_less, enters_next, known_more, known_same, member_within, raises_first, tables_committed, took_all}
+use Rattle.mu_lead.proofs.Writes.{put_commits}
+use Rattle.mu_lead.proofs.Sights.{shows_kept}
 use Rattle.mu_lead.proofs.Tables.{tables_kept}
-use Rattle.std.proofs.Common.{inr}
+use Rattle.mu_lead.proofs.Writes.{put_alone}
+use Rattle.mu_lead.specs.Journal.{set_where}
+use Rattle.mu_lead.specs.Leading.{AtRaise, HoldsTables, end_of}
+use Rattle.mu_lead.specs.Listing.{first_member}
 use Rattle.mu_lead.specs.Notes.{note_of_commit}
-use Rattle.mu_lead.proofs.Puts.{known_same, brought_committed, brought_less, enters_next, member_within, known_more, raises_first, tables_committed, took_all}
+use Rattle.mu_lead.specs.Offering.{AtEnter, LooksShow}
+use Rattle.mu_lead.specs.declared.place.Place.{Place}
+use Rattle.mu_leading.proofs.Within.{known_few}
+use Rattle.mu_leading.specs.Leadership.{StandsForLeadership}
+use Rattle.mu_model.specs.Contents.{row_count}
+use Rattle.mu_model.specs.Knowledge.{known}
+use Rattle.mu_model.specs.Leaderships.{is_member}
+use Rattle.mu_model.specs.Parts.{IsPossible}
+use Rattle.mu_model.specs.Room.{reserve}
 use Rattle.mu_model.specs.declared.event.Answer.{Answer}
 use Rattle.mu_model.specs.declared.event.Verb.{Verb}
-use Rattle.mu_lead.proofs.Sights.{shows_kept}
-use Rattle.mu_lead.specs.Offering.{AtEnter, LooksShow}
-use Rattle.std.proofs.Common.{[], length-append, true, ◌++◌}
-use Rattle.mu_model.specs.Leaderships.{is_member}
-use Rattle.mu_lead.proofs.Writes.{put_alone, put_commits}
-use Rattle.mu_lead.specs.Journal.{set_where}
-use Rattle.mu_lead.proofs.Commits.{working_commits}
+use Rattle.std.proofs.Common.{None, Some, [], ap, arith, get_or, inl, inr, length, length-append, refl, subst, sym, true, ℕ, ◌++◌, ◌+◌, ◌<◌, ◌∙◌, ◌∷◌, ◌≡◌, ◌≤◌}
 use Rattle.mu_lead.proofs.lead.Lead.took_put.Goals as goal
 
 pub returns-in-Some-clause-stands : goal.returns-in-Some-clause-stands
@@ -144,12 +142,6 @@ returns-in-None-clause-tells c = λ mine s is possible told.
     let all = took_all l.config l.id b v p c.saturating_add.result mine l.up l.reach here.0 next (c.in-None.ensures l.id (put_event l.id p (end_of l.config l.id mine) b v ∷ mine) few leading) in
     let grows = known_more l.config l.id b v p mine l.up l.reach here.0.entering.offering all in
     inr (c.committed.ensures.is ∙ ap (λ i. note_of_commit i c.args.offer) short, subst (λ values. known l.config l.id (put_event l.id p (length values) b v ∷ mine) ≡ values ++ v ∷ []) (sym told) grows)
-
-pub returns-in-Some-clause-note : goal.returns-in-Some-clause-note
-returns-in-Some-clause-note c = λ small. inl refl
-
-pub returns-in-None-clause-note : goal.returns-in-None-clause-note
-returns-in-None-clause-note c = λ small. inr (c.committed.ensures.is ∙ ap (λ i. note_of_commit i c.args.offer) (c.end_of-position.ensures small))
 
 pub returns-in-Some-clause-listed : goal.returns-in-Some-clause-listed
 returns-in-Some-clause-listed c = λ mine s is possible told.
