@@ -7,12 +7,14 @@
 Each list goes on behind the step that breaks the rule, until two values are chosen at one position, two replicas
 know different values there, they have read different words of a command, or one lacks an entry for good. An account
 of docs/PROTOCOL.md of its own (tools/second_judge.py) makes the answers. It says that the list is
-allowed without the rule, that it has two answers then, and that it breaks at that step with the rule.
+allowed without the rule, that it has two answers then, and that it breaks at that step with the rule. The pictures
+are those of tools/picture_cases.py, up to that step.
 `docs/SCENES.md` tells the stories.
 """
 import os
 import sys
 
+import picture_cases
 from account import MIN, Job
 from programs import EXAMPLES, tell
 from run_cases import contents
@@ -367,7 +369,8 @@ class Rule:
         """The files of examples/rules, by name."""
         run = self.run()
         return {f"{self.name}.trace": run.trace(), f"{self.name}.trace.args": "why\n",
-                f"{self.name}.trace.stdout": self.told(run)}
+                f"{self.name}.trace.stdout": self.told(run),
+                f"{self.name}.svg": picture_cases.drawn(run.trace(), broken=(run.breaks, self.says))}
 
 
 def two_chosen(run):
