@@ -58,19 +58,18 @@ kept_there events brief (Some mark) is = by_test (is_kept brief mark)
 of_history : (c : Config) (script : Script) (brief : Bool) (first : ℕ) (past : List Event) → AreOfTheirSteps (reverse past) (marks_of c script brief first past)
 of_history c script brief first [] = tt
 of_history c script brief first (e ∷ past) =
-    subst (λ l. AreOfTheirSteps l (marks_of c script brief first (e ∷ past))) (sym (reverse-append (e ∷ []) past)) (by_test (nat_le first (length past)))
+    subst (λ l. AreOfTheirSteps l (marks_of c script brief first (e ∷ past))) (sym (reverse-append (e ∷ []) past))
+    (by_test (in_front (reverse past) (e ∷ []) (marks_of c script brief first past) (of_history c script brief first past)) (nat_le first (length past)))
   where
-    before : AreOfTheirSteps (reverse past ++ e ∷ []) (marks_of c script brief first past)
-    before = in_front (reverse past) (e ∷ []) (marks_of c script brief first past) (of_history c script brief first past)
-
     there : slice_get (reverse past ++ e ∷ []) (length past) ≡ Some e
     there = subst (λ n. slice_get (reverse past ++ e ∷ []) n ≡ Some e) (length-reverse past) (get_last (reverse past) e)
 
-    by_test : (t : Bool) → AreOfTheirSteps (reverse past ++ e ∷ []) (if t then with_mark (marks_of c script brief first past) (kept brief (mark_of c script past e)) else marks_of c script brief first past)
-    by_test true =
+    by_test : AreOfTheirSteps (reverse past ++ e ∷ []) (marks_of c script brief first past) → (t : Bool)
+        → AreOfTheirSteps (reverse past ++ e ∷ []) (if t then with_mark (marks_of c script brief first past) (kept brief (mark_of c script past e)) else marks_of c script brief first past)
+    by_test before true =
         with_more (reverse past ++ e ∷ []) _ (kept brief (mark_of c script past e))
         (kept_there (reverse past ++ e ∷ []) brief (mark_of c script past e) (made_there (reverse past ++ e ∷ []) (length past) e _ _ _ there)) before
-    by_test false = before
+    by_test before false = before
 
 -- what holds of the first events holds of all
 pub of_first : (n : ℕ) (events : List Event) (marks : List Mark) → AreOfTheirSteps (take n events) marks → AreOfTheirSteps events marks
