@@ -35,7 +35,7 @@ use Rattle.std.specs.Prelude.{if◌then◌else◌, nat_lt, set}
 use Rattle.std.specs.declared.option.Option.{Option}
 
 -- of two regions the one that has more is a member, and has the most
-farther_member : (c : Config) (r p : ℕ) (mine : List Event) (up : List ℕ) (source : Option ℕ) → IsMember c r mine source → p < c.replicas → is_member r p mine ≡ true → IsMember c r mine (Some (farther up source p))
+pub farther_member : (c : Config) (r p : ℕ) (mine : List Event) (up : List ℕ) (source : Option ℕ) → IsMember c r mine source → p < c.replicas → is_member r p mine ≡ true → IsMember c r mine (Some (farther up source p))
 farther_member c r p mine up None from region member = (region, member)
 farther_member c r p mine up (Some q) from region member = go (nat_lt (get_or up q 0) (get_or up p 0))
   where
@@ -43,7 +43,7 @@ farther_member c r p mine up (Some q) from region member = go (nat_lt (get_or up
     go true = (region, member)
     go false = from
 
-farther_most : (r p : ℕ) (mine : List Event) (up : List ℕ) (source : Option ℕ) → HasMost r mine up p source → HasMost r mine up (p + 1) (Some (farther up source p))
+pub farther_most : (r p : ℕ) (mine : List Event) (up : List ℕ) (source : Option ℕ) → HasMost r mine up p source → HasMost r mine up (p + 1) (Some (farther up source p))
 farther_most r p mine up None few = (
   (omega arith),
   λ q low member. elim (cases_eq q p) [
@@ -70,7 +70,7 @@ farther_most r p mine up (Some s) few = go (nat_lt (get_or up s 0) (get_or up p 
     )
 
 -- the next FUO is read, or what is known elsewhere is learnt
-fuos_stand : (c : Config) (r b p source : ℕ) (now : List Event) (t : Tables) → Ready c r now t → Leads c r b now → RaisedBelow r now t.up t.reach (p + 1) → HasPutNone r now → IsMember c r now (Some source) → HasMost r now t.up (p + 1) (Some source)
+pub fuos_stand : (c : Config) (r b p source : ℕ) (now : List Event) (t : Tables) → Ready c r now t → Leads c r b now → RaisedBelow r now t.up t.reach (p + 1) → HasPutNone r now → IsMember c r now (Some source) → HasMost r now t.up (p + 1) (Some source)
     → StandsAt c r b now t (after_fuo c r now t p source)
 fuos_stand c r b p source now t x leads raised unput from most = go (member_from c r now (p + 1)) (first_in_is (λ k. is_member r k now) (p + 1) c.replicas)
   where
@@ -153,6 +153,14 @@ missed_slot_stands c r b p i v mine t s region begun under possible = record {
   at = record { region = region; begun = begun; missed = record { since = []; put = event_by r (Verb.PutSlot p i b v) Answer.Missed; before = mine; is = refl; missed = same_number p; under = under } };
 }
 
+-- the next entry is put, or the FUO is raised
+pub after_copy_stands : (c : Config) (r b p : ℕ) (on : Then) (now : List Event) (t : Tables) → Behind c r b now t.up t.reach p on → get_or t.up p 0 ≤ end_of c r now → StandsAt c r b now t (after_copy c r now t.up t.reach p on)
+after_copy_stands c r b p on now t behind low = go (nat_lt (get_or t.up p 0) (end_of c r now)) refl
+  where
+    go : (x : Bool) → nat_lt (get_or t.up p 0) (end_of c r now) ≡ x → StandsAt c r b now t (if x then bring_up c t.up t.reach p on else Place.RaiseBehind p on)
+    go true more = bring_stands c r b p now t on (record { behind = behind; lacks = ltb-true (get_or t.up p 0) (end_of c r now) more })
+    go false less = record { behind = behind; done = (let high = ltb-false (get_or t.up p 0) (end_of c r now) less in omega (arith, low, high)) }
+
 -- an entry was put there
 pub copied_stands : (c : Config) (r b p : ℕ) (on : Then) (mine : List Event) (old : Tables) → Stand c r mine old → AtPutBehind c r b mine old.up old.reach p on → IsPossible c r (put_event r p (get_or old.up p 0) b (get_or (known c r mine) (get_or old.up p 0) 0) ∷ mine)
     → Stood c r b (put_event r p (get_or old.up p 0) b (get_or (known c r mine) (get_or old.up p 0) 0) ∷ mine) (four (set old.up p (get_or old.up p 0 + 1)) old.reach old.heads old.written)
@@ -173,13 +181,6 @@ copied_stands c r b p on mine old s at possible =
       tables = copy_tables c r b p u v mine old possible (omega (arith, region, few)) lacks (slice_get-get_or (known c r mine) u 0 lacks) refl s.tables;
       at = after_copy_stands c r b p on now (four up old.reach old.heads old.written) (behind_put c r b v p u mine old.up up old.reach on lacks (up_others old.up p (u + 1)) refl here behind) (omega (arith, here, lacks, same));
     }
-  where
-    after_copy_stands : (c : Config) (r b p : ℕ) (on : Then) (now : List Event) (t : Tables) → Behind c r b now t.up t.reach p on → get_or t.up p 0 ≤ end_of c r now → StandsAt c r b now t (after_copy c r now t.up t.reach p on)
-    after_copy_stands c r b p on now t behind low = go (nat_lt (get_or t.up p 0) (end_of c r now)) refl
-      where
-        go : (x : Bool) → nat_lt (get_or t.up p 0) (end_of c r now) ≡ x → StandsAt c r b now t (if x then bring_up c t.up t.reach p on else Place.RaiseBehind p on)
-        go true more = bring_stands c r b p now t on (record { behind = behind; lacks = ltb-true (get_or t.up p 0) (end_of c r now) more })
-        go false less = record { behind = behind; done = (let high = ltb-false (get_or t.up p 0) (end_of c r now) less in omega (arith, low, high)) }
 
 -- it has all that is known
 pub raised_behind_stands : (c : Config) (r b p : ℕ) (on : Then) (mine : List Event) (old : Tables) → Stand c r mine old → AtRaiseBehind c r b mine old.up old.reach p on → IsPossible c r (raise_event r p (get_or old.up p 0) ∷ mine)

@@ -39,7 +39,7 @@ use Rattle.std.specs.Prelude.{if◌then◌else◌, nat_lt, not, set}
 use Rattle.std.specs.declared.option.Option.{Option}
 
 -- what may be marked, when q and maybe an earlier one may
-marks_least : (c : Config) (r q : ℕ) (now : List Event) (candidate : Option ℕ) → MayBeMarked c r now candidate → MayBeMarked c r now (Some q) → MayBeMarked c r now (least_candidate candidate q)
+pub marks_least : (c : Config) (r q : ℕ) (now : List Event) (candidate : Option ℕ) → MayBeMarked c r now candidate → MayBeMarked c r now (Some q) → MayBeMarked c r now (least_candidate candidate q)
 marks_least c r q now None old new = new
 marks_least c r q now (Some k) old new = old
 
@@ -95,7 +95,7 @@ entry_sight Answer.Empty = refl
 entry_sight Answer.Past = refl
 
 -- the next member is looked at, or the value is picked
-looks_stand : (c : Config) (r b p : ℕ) (now : List Event) (t : Tables) (candidate : Option ℕ) (best : Option Sight) → Ready c r now t → p < c.replicas → Looking c r b now t.up t.reach (p + 1) candidate best
+pub looks_stand : (c : Config) (r b p : ℕ) (now : List Event) (t : Tables) (candidate : Option ℕ) (best : Option Sight) → Ready c r now t → p < c.replicas → Looking c r b now t.up t.reach (p + 1) candidate best
     → StandsAt c r b now t (or_else (member_from c r now (p + 1)) (λ q. Place.Look q (end_of c r now) candidate best) (pick c r now t.written candidate best))
 looks_stand c r b p now t candidate best x region looking = go (member_from c r now (p + 1)) (first_in_is (λ k. is_member r k now) (p + 1) c.replicas)
   where

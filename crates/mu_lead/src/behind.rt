@@ -32,13 +32,7 @@ use mu_model::{Answer, Event, Fence, Verb};
 impl Lead {
     /// The region of the greater FUO, the first at a tie.
     fn farther(&self, source: Option<u8>, p: u8) -> u8
-        ensures member { (mine : List SomeEvent) → IsMember self.now.config self.now.id mine source
-            → p < self.now.config.replicas → is_member self.now.id p mine ≡ true
-            → IsMember self.now.config self.now.id mine (Some result) }
-        ensures most { (mine : List SomeEvent) → length self.now.up ≡ 7
-            → HasMost self.now.id mine self.now.up p source
-            → HasMost self.now.id mine self.now.up (p + 1) (Some result) }
-        ensures is { length self.now.up ≡ 7 → result ≡ farther self.now.up source p }
+        ensures { length self.now.up ≡ 7 → result ≡ farther self.now.up source p }
     {
         match source {
             Some(q) => { if self.up_of(q) < self.up_of(p) { p } else { q } }
@@ -68,15 +62,7 @@ impl Lead {
 
     /// The place after the FUO of `p` was read.
     fn after_fuo(&self, p: u8, source: Option<u8>, known: &[u16]) -> Place
-        ensures stands { (mine : List SomeEvent) → Stands mine self.now
-            → known.now ≡ known_of self.now.config self.now.id mine → p < self.now.config.replicas
-            → is_member self.now.id p mine ≡ true
-            → Leads self.now.config self.now.id self.now.number mine
-            → RaisedBelow self.now.id mine self.now.up self.now.reach (p + 1)
-            → HasPutNone self.now.id mine
-            → IsMember self.now.config self.now.id mine source
-            → HasMost self.now.id mine self.now.up p source → HoldsAt mine self.now result }
-        ensures listed { (mine : List SomeEvent) → Stands mine self.now
+        ensures { (mine : List SomeEvent) → Stands mine self.now
             → known.now ≡ known_of self.now.config self.now.id mine
             → p < self.now.config.replicas
             → result ≡ after_fuo self.now.config self.now.id mine (tables_of self.now) p
@@ -91,15 +77,7 @@ impl Lead {
 
     /// Learns on from the region, or goes on to bring up the members.
     fn learn_from(&self, source: u8, known: &[u16]) -> Place
-        ensures stands { (mine : List SomeEvent) → Stands mine self.now
-            → known.now ≡ known_of self.now.config self.now.id mine
-            → Leads self.now.config self.now.id self.now.number mine
-            → RaisedBelow self.now.id mine self.now.up self.now.reach self.now.config.replicas
-            → HasPutNone self.now.id mine
-            → IsMember self.now.config self.now.id mine (Some source)
-            → HaveAtMost self.now.config self.now.id mine self.now.up (get_or self.now.up source 0)
-            → HoldsAt mine self.now result }
-        ensures listed { (mine : List SomeEvent) → Stands mine self.now
+        ensures { (mine : List SomeEvent) → Stands mine self.now
             → known.now ≡ known_of self.now.config self.now.id mine
             → result ≡ learn_from self.now.config self.now.id mine (tables_of self.now) source }
     {
@@ -151,17 +129,7 @@ impl Lead {
 
     /// Brings up the next member from `p` on that is behind, or goes on.
     pub(crate) fn bring_up_from(&self, p: u8, then: Then, known: &[u16]) -> Place
-        ensures stands { (mine : List SomeEvent) → Stands mine self.now
-            → known.now ≡ known_of self.now.config self.now.id mine
-            → Leads self.now.config self.now.id self.now.number mine
-            → RaisedBelow self.now.id mine self.now.up self.now.reach self.now.config.replicas
-            → IsClear self.now.id mine self.now.up
-            → ((k : ℕ) → k < self.now.config.replicas → is_member self.now.id k mine ≡ true
-            → IsDone then k p
-            → end_of_known self.now.config self.now.id mine ≤ get_or self.now.up k 0)
-            → HaveFew self.now.config self.now.id mine self.now.up then p
-            → then ≢ SomeThen.Joined → HoldsAt mine self.now result }
-        ensures listed { (mine : List SomeEvent) → Stands mine self.now
+        ensures { (mine : List SomeEvent) → Stands mine self.now
             → known.now ≡ known_of self.now.config self.now.id mine
             → result ≡ bring_up_from self.now.config self.now.id mine (tables_of self.now) p then }
     {
@@ -173,11 +141,7 @@ impl Lead {
 
     /// The place after all members were brought up.
     fn after_all(&self, then: Then, known: &[u16]) -> Place
-        ensures stands { (mine : List SomeEvent) → Stands mine self.now
-            → known.now ≡ known_of self.now.config self.now.id mine
-            → Level self.now.config self.now.id self.now.number mine self.now.up self.now.reach
-            → HoldsAt mine self.now result }
-        ensures listed { (mine : List SomeEvent) → Stands mine self.now
+        ensures { (mine : List SomeEvent) → Stands mine self.now
             → known.now ≡ known_of self.now.config self.now.id mine
             → result ≡ after_members self.now.config self.now.id mine self.now.heads then }
     {
@@ -211,11 +175,7 @@ impl Lead {
 
     /// The first step towards what `p` lacks.
     pub(crate) fn bring_up(&self, p: u8, then: Then) -> Place
-        ensures stands { (mine : List SomeEvent) → Stands mine self.now
-            → AtWiden self.now.config self.now.id self.now.number mine self.now.up self.now.reach p
-            then
-            → HoldsAt mine self.now result }
-        ensures listed { (mine : List SomeEvent) → Stands mine self.now
+        ensures { (mine : List SomeEvent) → Stands mine self.now
             → p < self.now.config.replicas
             → result ≡ bring_up self.now.config self.now.up self.now.reach p then }
     {
@@ -332,13 +292,7 @@ impl Lead {
 
     /// The place after what `p` lacked was put.
     fn after_put_behind(&self, p: u8, then: Then, known: &[u16]) -> Place
-        ensures stands { (mine : List SomeEvent) → Stands mine self.now
-            → known.now ≡ known_of self.now.config self.now.id mine
-            → Behind self.now.config self.now.id self.now.number mine self.now.up self.now.reach p
-            then
-            → get_or self.now.up p 0 ≤ end_of_known self.now.config self.now.id mine
-            → HoldsAt mine self.now result }
-        ensures listed { (mine : List SomeEvent) → Stands mine self.now
+        ensures { (mine : List SomeEvent) → Stands mine self.now
             → known.now ≡ known_of self.now.config self.now.id mine
             → p < self.now.config.replicas
             → result

@@ -27,16 +27,8 @@ use mu_model::{Answer, Event, Fence, Target, Verb, majority};
 
 impl Lead {
     /// The place after the region `p` was asked.
-    #[tactic(auto, using(crate::proofs::Asking::asked_on, crate::proofs::Asking::asked_all))]
     fn after_ask(&self, p: u8) -> Place
-        ensures stands { (b : ℕ) → (mine : List SomeEvent) → (up : List ℕ)
-            → (reach : List (Option ℕ))
-            → (written : List ℕ) → AtAsk self.now.config self.now.id mine p
-            → At self.now.config self.now.id b
-            (record { by = self.now.id; verb = SomeVerb.Ask p; answer = SomeAnswer.Done }
-            ∷ mine)
-            up reach written result }
-        ensures listed { self.now.config.replicas ≤ 7
+        ensures { self.now.config.replicas ≤ 7
             → result
             ≡ (if nat_lt (p + 1) self.now.config.replicas then SomePlace.Ask (p + 1)
             else SomePlace.Confirm 0 0) }
@@ -119,11 +111,7 @@ impl Lead {
 
     /// Whether a majority with its own region is noted.
     fn is_confirmed(&self) -> bool
-        ensures confirmed { (mine : List SomeEvent) → self.now.config.replicas ≤ 7
-            → self.now.id < self.now.config.replicas
-            → StandsForLeadership self.now.id mine self.now.leading
-            → (IsTrue result ↔ Confirmed self.now.config self.now.id mine) }
-        ensures listed { (mine : List SomeEvent) → self.now.config.replicas ≤ 7
+        ensures { (mine : List SomeEvent) → self.now.config.replicas ≤ 7
             → self.now.id < self.now.config.replicas
             → StandsForLeadership self.now.id mine self.now.leading
             → result ≡ is_confirmed_by self.now.config self.now.id mine }
@@ -134,13 +122,7 @@ impl Lead {
 
     /// The place after a round of fences.
     fn after_round(&self, round: u8) -> Place
-        ensures stands { (b : ℕ) → (mine : List SomeEvent) → (up : List ℕ)
-            → (reach : List (Option ℕ))
-            → (written : List ℕ) → self.now.config.replicas ≤ 7
-            → self.now.id < self.now.config.replicas → round < 16
-            → StandsForLeadership self.now.id mine self.now.leading → Fresh self.now.id mine
-            → At self.now.config self.now.id b mine up reach written result }
-        ensures listed { (mine : List SomeEvent) → self.now.config.replicas ≤ 7
+        ensures { (mine : List SomeEvent) → self.now.config.replicas ≤ 7
             → self.now.id < self.now.config.replicas
             → StandsForLeadership self.now.id mine self.now.leading
             → result ≡ after_round self.now.config self.now.id mine round }
@@ -171,14 +153,7 @@ impl Lead {
 
     /// Begins to read the minima.
     fn first_to_read(&self) -> Place
-        ensures stands { (b : ℕ) → (mine : List SomeEvent) → (up : List ℕ)
-            → (reach : List (Option ℕ))
-            → (written : List ℕ) → self.now.config.replicas ≤ 7
-            → self.now.id < self.now.config.replicas
-            → StandsForLeadership self.now.id mine self.now.leading → Fresh self.now.id mine
-            → Confirmed self.now.config self.now.id mine
-            → At self.now.config self.now.id b mine up reach written result }
-        ensures listed { (mine : List SomeEvent) → self.now.config.replicas ≤ 7
+        ensures { (mine : List SomeEvent) → self.now.config.replicas ≤ 7
             → self.now.id < self.now.config.replicas
             → StandsForLeadership self.now.id mine self.now.leading
             → result ≡ or_else (noted_from self.now.config self.now.id mine 0) SomePlace.ReadMin
@@ -225,14 +200,7 @@ impl Lead {
 
     /// Begins to put the number.
     fn first_to_enter(&self) -> Place
-        ensures stands { (mine : List SomeEvent) → (up : List ℕ) → (reach : List (Option ℕ))
-            → (written : List ℕ)
-            → self.now.config.replicas ≤ 7 → self.now.id < self.now.config.replicas
-            → StandsForLeadership self.now.id mine self.now.leading
-            → Telling self.now.config self.now.id mine self.now.config.replicas
-            → Numbered self.now.config self.now.id self.now.number mine
-            → At self.now.config self.now.id self.now.number mine up reach written result }
-        ensures listed { (mine : List SomeEvent) → self.now.config.replicas ≤ 7
+        ensures { (mine : List SomeEvent) → self.now.config.replicas ≤ 7
             → self.now.id < self.now.config.replicas
             → StandsForLeadership self.now.id mine self.now.leading
             → result ≡ or_else (noted_from self.now.config self.now.id mine 0) SomePlace.EnterMin
@@ -302,11 +270,7 @@ impl Lead {
 
     /// The first member, which there is.
     pub(crate) fn first_member(&self) -> u8
-        ensures first { (mine : List SomeEvent) → (k : ℕ) → self.now.config.replicas ≤ 7
-            → StandsForLeadership self.now.id mine self.now.leading → k < self.now.config.replicas
-            → is_member self.now.id k mine ≡ true
-            → IsFirst (λ p. is_member self.now.id p mine) 0 self.now.config.replicas (Some result) }
-        ensures listed { (mine : List SomeEvent) → self.now.config.replicas ≤ 7
+        ensures { (mine : List SomeEvent) → self.now.config.replicas ≤ 7
             → self.now.id < self.now.config.replicas
             → StandsForLeadership self.now.id mine self.now.leading
             → result ≡ first_member self.now.config self.now.id mine }

@@ -25,11 +25,7 @@ use mu_model::{Answer, Event, Fence, Target, Verb};
 impl Lead {
     /// Goes on with the late followers from `p` on.
     pub(crate) fn late_from(&self, p: u8, known: &[u16]) -> Place
-        ensures stands { (mine : List SomeEvent) → Stands mine self.now
-            → known.now ≡ known_of self.now.config self.now.id mine
-            → Level self.now.config self.now.id self.now.number mine self.now.up self.now.reach
-            → HoldsAt mine self.now result }
-        ensures listed { (mine : List SomeEvent) → Stands mine self.now
+        ensures { (mine : List SomeEvent) → Stands mine self.now
             → known.now ≡ known_of self.now.config self.now.id mine
             → result ≡ late_from self.now.config self.now.id mine self.now.heads p }
     {

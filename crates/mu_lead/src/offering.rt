@@ -40,11 +40,7 @@ use mu_model::{Answer, Event, Verb, count_of_rows, reserve_of, row_rest};
 impl Lead {
     /// Goes on with the next position, or with late followers if all commands are known.
     pub(crate) fn next_position(&self, known: &[u16]) -> Place
-        ensures stands { (mine : List SomeEvent) → Stands mine self.now
-            → known.now ≡ known_of self.now.config self.now.id mine
-            → Level self.now.config self.now.id self.now.number mine self.now.up self.now.reach
-            → HoldsAt mine self.now result }
-        ensures listed { (mine : List SomeEvent) → Stands mine self.now
+        ensures { (mine : List SomeEvent) → Stands mine self.now
             → known.now ≡ known_of self.now.config self.now.id mine
             → result ≡ next_position self.now.config self.now.id mine self.now.heads }
     {
@@ -106,11 +102,7 @@ impl Lead {
 
     /// Reads the next head from `q` on that is too low, or goes on with the looks.
     fn heads_from(&self, q: u8, candidate: Option<u8>, known: &[u16]) -> Place
-        ensures stands { (mine : List SomeEvent) → Stands mine self.now
-            → known.now ≡ known_of self.now.config self.now.id mine
-            → Level self.now.config self.now.id self.now.number mine self.now.up self.now.reach
-            → Roomy self.now.config self.now.id mine q candidate → HoldsAt mine self.now result }
-        ensures listed { (mine : List SomeEvent) → Stands mine self.now
+        ensures { (mine : List SomeEvent) → Stands mine self.now
             → known.now ≡ known_of self.now.config self.now.id mine
             → result ≡ heads_from self.now.config self.now.id mine self.now.heads q candidate }
     {
@@ -180,10 +172,7 @@ impl Lead {
 
     /// Whether `q`, whose head leaves too little room, may be marked.
     fn may_mark(&self, q: u8, head: u64, known: &[u16]) -> bool
-        ensures may { length known.now < 65536 → (IsTrue result
-            ↔ ((q ≢ self.now.id) × (is_bit q self.now.failed ≡ true)
-            × (nat_lt (length known.now + 0) (head + self.now.config.ring) ≡ true))) }
-        ensures is { length known.now < 65536 → result
+        ensures { length known.now < 65536 → result
             ≡ (not (q == self.now.id)
             && (is_bit q self.now.failed
             && nat_lt (length known.now + 0) (head + self.now.config.ring))) }
@@ -240,13 +229,7 @@ impl Lead {
         known: &[u16],
         log: &KnownLog,
     ) -> Place
-        ensures stands { HoldsValues self.now.config known.now log.now
-            → (mine : List SomeEvent) → Stands mine self.now
-            → known.now ≡ known_of self.now.config self.now.id mine → p < self.now.config.replicas
-            → Looking self.now.config self.now.id self.now.number mine self.now.up self.now.reach
-            (p + 1) candidate best
-            → HoldsAt mine self.now result }
-        ensures listed { HoldsValues self.now.config known.now log.now
+        ensures { HoldsValues self.now.config known.now log.now
             → (mine : List SomeEvent) → Stands mine self.now
             → known.now ≡ known_of self.now.config self.now.id mine
             → p < self.now.config.replicas
@@ -270,13 +253,7 @@ impl Lead {
         known: &[u16],
         log: &KnownLog,
     ) -> Place
-        ensures stands { HoldsValues self.now.config known.now log.now
-            → (mine : List SomeEvent) → Stands mine self.now
-            → known.now ≡ known_of self.now.config self.now.id mine
-            → Looking self.now.config self.now.id self.now.number mine self.now.up self.now.reach
-            self.now.config.replicas candidate best
-            → HoldsAt mine self.now result }
-        ensures listed { HoldsValues self.now.config known.now log.now
+        ensures { HoldsValues self.now.config known.now log.now
             → (mine : List SomeEvent) → Stands mine self.now
             → known.now ≡ known_of self.now.config self.now.id mine
             → Looking self.now.config self.now.id self.now.number mine self.now.up self.now.reach
@@ -300,13 +277,7 @@ impl Lead {
 
     /// Begins with the next batch of its own, if there is one.
     fn offer_own(&self, known: &[u16], log: &KnownLog) -> Place
-        ensures stands { HoldsValues self.now.config known.now log.now
-            → (mine : List SomeEvent) → Stands mine self.now
-            → known.now ≡ known_of self.now.config self.now.id mine
-            → Looking self.now.config self.now.id self.now.number mine self.now.up self.now.reach
-            self.now.config.replicas None None
-            → HoldsAt mine self.now result }
-        ensures listed { HoldsValues self.now.config known.now log.now
+        ensures { HoldsValues self.now.config known.now log.now
             → (mine : List SomeEvent) → Stands mine self.now
             → known.now ≡ known_of self.now.config self.now.id mine
             → result ≡ or_else (own_offer self.now.config self.now.id
@@ -329,16 +300,7 @@ impl Lead {
 
     /// Begins to put the value.
     pub(crate) fn offer(&self, offer: Offer) -> Place
-        ensures stands { (mine : List SomeEvent) → (candidate : Option ℕ)
-            → (best : Option SomeSight)
-            → Stands mine self.now
-            → Looking self.now.config self.now.id self.now.number mine self.now.up self.now.reach
-            self.now.config.replicas candidate best
-            → MayOffer self.now.config self.now.id mine candidate offer.value
-            → LooksShow self.now.config self.now.id mine
-            (end_of_known self.now.config self.now.id mine) offer.adopted
-            → HoldsAt mine self.now result }
-        ensures listed { (mine : List SomeEvent) → Stands mine self.now
+        ensures { (mine : List SomeEvent) → Stands mine self.now
             → result ≡ SomePlace.Enter (first_member self.now.config self.now.id mine) offer }
     {
         Place::Enter(self.first_member(), offer)
@@ -464,9 +426,7 @@ fn has_bit(set: u8, q: u8) -> bool
 
 /// The first of the replicas that may be marked.
 fn first_of(candidate: Option<u8>, q: u8) -> u8
-    ensures may { (c : Config) → (r : ℕ) → (mine : List SomeEvent) → MayBeMarked c r mine candidate
-        → MayBeMarked c r mine (Some q) → MayBeMarked c r mine (Some result) }
-    ensures is { Some result ≡ least_candidate candidate q }
+    ensures { Some result ≡ least_candidate candidate q }
 {
     match candidate {
         Some(k) => k,

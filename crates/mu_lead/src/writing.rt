@@ -36,11 +36,7 @@ impl Lead {
 
     /// Writes what isn't written yet of the rows up to the last one, or begins to put.
     pub(crate) fn write_from(&self, first: u16, last: u16, offer: Offer) -> Place
-        ensures stands { (mine : List SomeEvent) → Stands mine self.now
-            → Writing self.now.config self.now.id self.now.number mine self.now.up self.now.reach
-            first last offer
-            → HoldsAt mine self.now result }
-        ensures listed { (mine : List SomeEvent) → Stands mine self.now
+        ensures { (mine : List SomeEvent) → Stands mine self.now
             → last < 65535
             → result
             ≡ write_from self.now.config self.now.id mine self.now.written.items first last

@@ -1,14 +1,17 @@
-use Rattle.std.specs.Prelude.{if◌then◌else◌}
-use Rattle.mu_lead.specs.declared.note.Note.{Note}
-use Rattle.mu_lead.specs.Noting.{note_of_round}
 use Rattle.mu_lead.proofs.Asking.{fresh_fenced}
+use Rattle.mu_lead.proofs.StandsFirsts.{round_stands}
+use Rattle.mu_lead.proofs.StandsOnward.{stands_there}
 use Rattle.mu_lead.proofs.Tables.{tables_kept}
+use Rattle.mu_lead.specs.Lasting.{tables_of}
+use Rattle.mu_lead.specs.Noting.{note_of_round}
+use Rattle.mu_lead.specs.declared.note.Note.{Note}
 use Rattle.mu_lead.specs.declared.place.Place.{Place}
 use Rattle.mu_model.proofs.Basics.{event_by}
 use Rattle.mu_model.specs.declared.event.Answer.{Answer}
 use Rattle.mu_model.specs.declared.event.Verb.{Verb}
 use Rattle.std.proofs.Common.{ap, arith, refl, sym, ◌+◌, ◌∙◌, ◌∷◌}
 use Rattle.std.proofs.lemmas.Bool.{le-ltb, lt-ltb}
+use Rattle.std.specs.Prelude.{if◌then◌else◌}
 use Rattle.mu_lead.proofs.lead.Lead.took_fence.Goals as goal
 
 pub returns-then-next-self-clause-stands : goal.returns-then-next-self-clause-stands
@@ -34,7 +37,7 @@ returns-else-next-self-clause-stands c = λ values mine s is possible told.
       inside = s.inside;
       leading = leading;
       tables = tables_kept l.config l.id _ mine l.up l.reach l.heads l.written.items possible refl refl s.tables;
-      at = c.after_round-self.ensures.stands l.number _ l.up l.reach l.written.items s.config.replicas.1 s.inside here.0 leading (fresh_fenced l.id c.args.p c.args.fence mine here.1.fresh);
+      at = stands_there l.config l.id l.number _ (tables_of l) _ _ (c.after_round-self.ensures (event_by l.id (Verb.Fence c.args.p) (Answer.Seen c.args.fence) ∷ mine) s.config.replicas.1 s.inside leading) (round_stands l.config l.id l.number c.args.round _ (tables_of l) s.inside here.0 (fresh_fenced l.id c.args.p c.args.fence mine here.1.fresh));
     }
 
 pub returns-then-next-self-clause-listed : goal.returns-then-next-self-clause-listed
@@ -50,7 +53,7 @@ returns-else-next-self-clause-listed c = λ values mine s is possible told.
     let next = c.saturating_add-next.ensures in
     let high = c.if-next-self.false in
     rw (le-ltb (c.args.p + 1) c.args.self.now.config.replicas (omega (arith, next, high, few)))
-    (c.after_round-self.ensures.listed (event_by c.args.self.now.id (Verb.Fence c.args.p) (Answer.Seen c.args.fence) ∷ mine) few s.inside (c.take.ensures c.args.self.now.config mine few possible s.leading))
+    (c.after_round-self.ensures (event_by c.args.self.now.id (Verb.Fence c.args.p) (Answer.Seen c.args.fence) ∷ mine) few s.inside (c.take.ensures c.args.self.now.config mine few possible s.leading))
 
 pub returns-then-next-self-clause-note : goal.returns-then-next-self-clause-note
 returns-then-next-self-clause-note c = λ mine s possible.

@@ -6,6 +6,7 @@ use Rattle.mu_lead.proofs.Firsts.{found_place}
 use Rattle.mu_lead.proofs.Puts.{brought_committed, brought_less, enters_next, known_more, known_same, member_within, raises_first, tables_committed, took_all}
 use Rattle.mu_lead.proofs.Writes.{put_commits}
 use Rattle.mu_lead.proofs.Sights.{shows_kept}
+use Rattle.mu_lead.proofs.StandsOnward.{first_is}
 use Rattle.mu_lead.proofs.Tables.{tables_kept}
 use Rattle.mu_lead.proofs.Writes.{put_alone}
 use Rattle.mu_lead.specs.Journal.{set_where}
@@ -100,7 +101,7 @@ returns-in-None-clause-stands c = λ mine s is possible told.
       tables = subst (λ values. HoldsTables l.config l.id (put_event l.id p (length values) b v ∷ mine) c.brought_to-self.result l.reach l.heads l.written.items) (sym told) (tables_committed l.config l.id (end + 1) now l.up c.brought_to-self.result l.reach l.heads l.written.items now_kept (c.brought_to-self.ensures.long ∙ ups) (λ q stranger. c.brought_to-self.ensures.others now q now_leading stranger)
           (λ q member. (let low_q = member_within l.config l.id q now now_possible member in
           (here_up q low_q member, brought_committed l.config l.id b v p q mine grows (brought_less l.config l.id q end (get_or l.up q 0) mine (o.have q low_q member) (s.tables.brought q)) (all q low_q member)))) low);
-      at = subst (λ values. AtRaise l.config l.id b (put_event l.id p (length values) b v ∷ mine) c.brought_to-self.result l.reach c.first_member.result) (sym told) (raises_first l.config l.id b v p c.first_member.result mine l.up c.brought_to-self.result l.reach here.0 grows here_up (c.first_member.ensures.first now p few now_leading region here.0.entering.member));
+      at = subst (λ values. AtRaise l.config l.id b (put_event l.id p (length values) b v ∷ mine) c.brought_to-self.result l.reach c.first_member.result) (sym told) (subst (AtRaise l.config l.id b now c.brought_to-self.result l.reach) (sym (c.first_member.ensures now few s.inside now_leading)) (raises_first l.config l.id b v p (first_member l.config l.id now) mine l.up c.brought_to-self.result l.reach here.0 grows here_up (first_is l.config l.id p now region here.0.entering.member)));
     }
 
 pub returns-in-Some-clause-tells : goal.returns-in-Some-clause-tells
@@ -161,7 +162,7 @@ returns-in-None-clause-listed c = λ mine s is possible told.
     let region = (rw is at s.at).0.entering.region in
     let more = c.saturating_add.ensures in
     let after = put_event l.id c.args.p (length c.args.known.now) l.number c.args.offer.value ∷ mine in
-    ap Place.Raise (c.first_member.ensures.listed after few s.inside now.leading)
+    ap Place.Raise (c.first_member.ensures after few s.inside now.leading)
     ∙ found_place (λ k. is_member l.id k after) (c.args.p + 1) c.saturating_add.result l.config.replicas None (λ q. Place.Enter q c.args.offer) (Place.Raise (first_member l.config l.id after)) (omega (arith, more, region, few)) (c.in-None.ensures l.id after few now.leading)
 
 pub returns-in-Some-clause-writes : goal.returns-in-Some-clause-writes
