@@ -51,15 +51,21 @@ enum mu_task {
     MU_CHECK = 3,  /* of a trace: whether it is legal */
     MU_WHY = 4,    /* of a trace: where it breaks, and why */
     MU_BOOK = 5,   /* of a job: the book of orders */
-    MU_BULK = 6    /* of a number up to 1,500: the stated large job of so many commands */
+    MU_BULK = 6,   /* of a number up to 1,500: the stated large job of so many commands */
+    MU_TELL = 7    /* of a trace: the report of what its events come to */
 };
 
-/* The greatest step that mu_draw_answer takes. */
+/* The greatest step that mu_draw_answer takes, and number of events that mu_show_answer takes. */
 #define MU_LAST_STEP UINT32_C(9999999)
 
 /* What `mu` says where it is asked this and reads this input, and the status that it ends with. */
 uint32_t mu_answer(uint32_t task, const void *input, size_t length, void *out, size_t room,
                    size_t *taken);
+
+/* What `mu show EVENTS` says where it reads this trace: what holds after so many events, at most
+ * MU_LAST_STEP. With MU_DONE the text is that; with MU_ILLEGAL one of these events breaks the list. */
+uint32_t mu_show_answer(uint32_t events, const void *input, size_t length, void *out, size_t room,
+                        size_t *taken);
 
 /* What `mu_draw FIRST LAST` says where it reads this trace: with MU_DONE, its picture, of the steps
  * from `first` to `last` (all: from 0 to MU_LAST_STEP). */
@@ -83,7 +89,7 @@ uint32_t mu_judge_new(mu_judge *judge, const void *job, size_t length, void *out
 uint32_t mu_judge_take(mu_judge *judge, const void *line, size_t length);
 
 /* What `mu why` says of the trace so far: `legal N` with MU_DONE, or with MU_ILLEGAL which event broke
- * it, in which line of the trace, and why. */
+ * it, in which line of the trace, and why. A judge keeps no script: it notes no stop that isn't heeded. */
 uint32_t mu_judge_why(mu_judge *judge, void *out, size_t room, size_t *taken);
 
 /* Lets a judge go, with its memory. It is MU_NO_JUDGE then. */
