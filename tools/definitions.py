@@ -18,8 +18,9 @@ import os
 import re
 import sys
 
-TOP = os.path.dirname(os.path.dirname(os.path.realpath(__file__)))
-CRATES = os.path.join(TOP, "crates")
+import programs
+from programs import CRATES, TOP
+
 PAGE = os.path.join(TOP, "docs", "DEFINITIONS.md")
 # The crates of tests, whose definitions serve only them.
 TESTS = "worked_"
@@ -113,10 +114,7 @@ def main():
         with open(PAGE, "w", encoding="utf-8") as out:
             out.write(page(rows()))
     count, stale = judged()
-    for line in stale:
-        print(line)
-    print(f"definitions: {count} rows, {len(stale)} stale")
-    return 1 if stale else 0
+    return programs.tell(stale, f"definitions: {count} rows, {len(stale)} stale")
 
 
 if __name__ == "__main__":

@@ -19,8 +19,9 @@ import pages
 import trying
 from judged_table import judged
 from programs import EXAMPLES, TOP
-from run_cases import contents, stored_cases, troubles, wanted_status
+from run_cases import contents, stored_cases, wanted_status
 from run_trials import Job, Wrong, check_report
+from trying import troubles
 
 # What is printed, and the status that belongs to it.
 STATUSES = [(b"usage: mu replay\n", 1), (b"refused line 3 cause 7\n", 2), (b"illegal 4 not allowed\n", 7),

@@ -234,7 +234,7 @@ def main():
         raise SystemExit(__doc__)
     cases = moments_of(paths, count)
     programs.need_toolchain("moments.py")
-    wrong = run_cases.troubles(cases, trying.answers_of("mu", cases))
+    wrong = trying.troubles(cases, trying.answers_of("mu", cases))
     for trouble in wrong:
         print(trouble)
     print(f"{len(cases) - len(wrong)} of {len(cases)} right: each moment is told and shown")

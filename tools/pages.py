@@ -11,7 +11,9 @@ import os
 import re
 import sys
 
-TOP = os.path.dirname(os.path.dirname(os.path.realpath(__file__)))
+import programs
+from programs import TOP
+
 ENDINGS = (".rt", ".antt", ".md", ".py", ".job", ".trace", ".svg", ".table", ".edit", ".txt", ".h", ".c")
 FOLDERS = ("crates", "examples", "cases", "tools", "docs")
 SKIPPED = {"out", ".git"}
@@ -94,10 +96,7 @@ def judged():
 
 def main():
     named, stale = judged()
-    for line in stale:
-        print(line)
-    print(f"pages: {named} named, {len(stale)} stale")
-    return 1 if stale else 0
+    return programs.tell(stale, f"pages: {named} named, {len(stale)} stale")
 
 
 if __name__ == "__main__":

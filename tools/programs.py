@@ -85,6 +85,12 @@ def proved_program(name):
     return path
 
 
+def tell(wrong, last):
+    """Prints what is wrong, each in a line, and a last line; the status of the program that did."""
+    print(*wrong, last, sep="\n")
+    return 1 if wrong else 0
+
+
 def forget_proved():
     """From now on no program is run as proved."""
     if os.path.exists(MARK):

@@ -69,15 +69,6 @@ def cases_at(path):
     return table_cases(path) if path.endswith(".table") else stored_cases(path)
 
 
-def troubles(cases, answers):
-    """What is wrong with the answers, a line for each case that isn't right; each case has to have one."""
-    found = [(case, case.trouble(answer)) for case, answer in zip(cases, answers)]
-    wrong = [f"{case.name}: {trouble}" for case, trouble in found if trouble]
-    if len(answers) != len(cases):
-        wrong.append(f"{len(cases)} cases have {len(answers)} answers")
-    return wrong
-
-
 def main():
     given = sys.argv[1:]
     is_program = given and not os.path.isdir(given[0]) and not given[0].endswith(".table")
@@ -93,11 +84,8 @@ def main():
     except (OSError, trying.NotBuilt) as cause:
         print(f"run_cases.py: {cause}", file=sys.stderr)
         return programs.NO_ANSWER
-    wrong = troubles(cases, answers)
-    for line in wrong:
-        print(line)
-    print(f"{len(cases) - len(wrong)} passed, {len(wrong)} failed")
-    return 1 if wrong else 0
+    wrong = trying.troubles(cases, answers)
+    return programs.tell(wrong, f"{len(cases) - len(wrong)} passed, {len(wrong)} failed")
 
 
 if __name__ == "__main__":

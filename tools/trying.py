@@ -6,7 +6,7 @@ import shutil
 import subprocess
 import tempfile
 
-from programs import CRATE_OF, CRATES, TOP, proved_program
+from programs import CRATE_OF, CRATES, TOP, proved_program, tell
 
 # The crate in which the tests of several crates are built.
 MERGED = "merged_tests"
@@ -198,3 +198,27 @@ def answers_of(name, cases):
     """The answers of a program: the proved one where ./prove left it, else one unproved build."""
     path = proved_program(name)
     return run_cases(path, cases) if path else try_cases(CRATE_OF[name], cases)
+
+
+def troubles(cases, answers):
+    """What is wrong with the answers, a line for each case that isn't right; each case has to have one."""
+    found = [(case, case.trouble(answer)) for case, answer in zip(cases, answers)]
+    wrong = [f"{case.name}: {trouble}" for case, trouble in found if trouble]
+    if len(answers) != len(cases):
+        wrong.append(f"{len(cases)} cases have {len(answers)} answers")
+    return wrong
+
+
+def run_or_write(words, cases, name):
+    """What a tool does with cases of `mu`, as its words ask: the status of the tool.
+
+    With none it runs the proved program or an unproved build, with a path that program, and tells what
+    is wrong. With `--write FOLDER` it writes the inputs as NAME0000, NAME0001, ..
+    """
+    if len(words) == 2 and words[0] == "--write":
+        for number, case in enumerate(cases):
+            with open(os.path.join(words[1], f"{name}{number:04d}"), "wb") as out:
+                out.write(case.given)
+        return 0
+    wrong = troubles(cases, run_cases(words[0], cases) if words else answers_of("mu", cases))
+    return tell(wrong, f"{len(cases) - len(wrong)} passed, {len(wrong)} failed")

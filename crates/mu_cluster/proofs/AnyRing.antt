@@ -1,5 +1,5 @@
 -- In a replay whose script has no line replica 0 has every row in time, in any ring.
-use Rattle.std.proofs.Common.{◌≡◌, ◌∙◌, ◌⊎◌, ℕ, zero, suc, ◌+◌, ◌/◌, ◌<◌, ◌≤◌, ◌==◌, inl, inr, Bool, true, false, Some, List, [], ◌++◌, ap, arith, length, map, refl, subst, sym}
+use Rattle.std.proofs.Common.{◌≡◌, ◌∙◌, ℕ, zero, suc, ◌<◌, ◌≤◌, ◌==◌, inl, inr, true, Some, List, ap, arith, length, map, refl, subst, sym}
 use Rattle.std.specs.Prelude.{slice_index}
 use Rattle.std.specs.List.{slice_get}
 use Rattle.mu_input.specs.Heads.{HaveHeads}
@@ -12,11 +12,9 @@ use Rattle.mu_model.specs.Ends.{EndsBy}
 use Rattle.mu_model.specs.Histories.{count_below, history, part}
 use Rattle.mu_model.specs.Journals.{Record}
 use Rattle.mu_model.specs.Knowledge.{applied}
-use Rattle.mu_model.specs.Leaderships.{majority_of}
 use Rattle.mu_model.proofs.Basics.{same_some}
 use Rattle.mu_model.proofs.Parts.{filter-append}
 use Rattle.mu_outcome.specs.declared.outcome.Outcome.{Outcome}
-use Rattle.mu_outcome.specs.declared.status.Status.{Status}
 use Rattle.mu_outcome.specs.Completion.{Completes}
 use Rattle.mu_outcome.specs.Entries.{commands_in, longest}
 use Rattle.mu_outcome.specs.Outcomes.{IsRun, events_of, journal_of}

@@ -1,5 +1,5 @@
 //! A walk over a legal list of events, with the states of all replicas and regions.
-ghost use Rattle.std.specs.Prelude.{IfOk, List, [], MatchOption, Some, length, map, take, ◌∷◌, ◌<◌, ◌≡◌, ◌≤◌};
+ghost use Rattle.std.specs.Prelude.{IfOk, List, [], MatchOption, Some, length, map, take, vec_capacity, ◌∷◌, ◌<◌, ◌≡◌, ◌≤◌};
 ghost use Rattle.mu_model.specs.declared.event.Event.{Event as Made};
 ghost use Rattle.mu_model.specs.Answers.{answer_of};
 ghost use Rattle.mu_model.specs.Contents.{IsConfig};
@@ -54,7 +54,8 @@ impl Walk {
     /// The states before any event. Takes all memory that it ever needs.
     pub fn new(alloc: Global, config: &Config) -> Result<Walk, NoMemory>
         requires { IsConfig config.now }
-        ensures { IfOk result (λ walk. StandsForWalk config.now [] walk) }
+        ensures stands { IfOk result (λ walk. StandsForWalk config.now [] walk) }
+        ensures room { IfOk result (λ walk. vec_capacity walk.courses ≡ config.now.replicas) }
     {
         let mut courses = Vec::with_capacity(alloc, usize::from(config.replicas))?;
         for replica in 0..config.replicas {

@@ -2,11 +2,11 @@
 //!
 //! A trace comes on standard input, as `mu trace` prints it and `mu check` reads it. Its picture
 //! goes to standard output, as one document of SVG. Two words, `mu_draw FIRST LAST`, say which
-//! steps are drawn, by their indices from 0; without, all are. With the word `brief` before them only
-//! asks, grants, commits and ends are. A trace that isn't legal is drawn up to the event that breaks
-//! it, and that event in red.
+//! steps are drawn, by their indices from 0; without, all are. With the word `brief` before them
+//! only asks, grants, commits and ends are. A trace that isn't legal is drawn up to the event that
+//! breaks it, and that event in red.
 //!
-//! Where there is no picture, one line says why, as `mu check` prints it: `refused line L cause C`,
+//! If there is no picture, one line says why, as `mu check` prints it: `refused line L cause C`,
 //! `read fault`, `no memory` or `too long`; or how the program is called.
 #![tactic(auto)]
 
@@ -24,7 +24,7 @@ use std::rt::Env;
 ///
 /// # Errors
 ///
-/// `InvalidData` where a word is no text, and another kind for want of memory.
+/// `InvalidData` if a word is no text, and another kind for want of memory.
 fn words_after_name<R: Env + AllocGlobal>(rt: &R) -> Result<Vec<String>, ErrorKind> {
     let args = env::args(rt).map_err(|error| error.kind())?;
     let mut words = Vec::new(rt.alloc());

@@ -1,4 +1,4 @@
-//! What the call answers where there is no picture, and at faults, over a source and a sink in
+//! What the call answers if there is no picture, and at faults, over a source and a sink in
 //! memory. A whole picture is the program's own run: its wanted output is drawn by
 //! `tools/picture_cases.py`.
 use super::*;
@@ -89,7 +89,9 @@ fn says_how_it_is_called(rt: HostRuntime) -> Result<(), Fail> {
         assert_eq!(rt; called.status, 1);
         assert_eq!(rt;
             called.sink.written(),
-            b"usage: mu_draw, mu_draw FIRST LAST, mu_draw brief, mu_draw brief FIRST LAST\n".as_slice()
+            b"usage: mu_draw, mu_draw FIRST LAST, mu_draw brief, \
+                mu_draw brief FIRST LAST\n"
+                .as_slice()
         );
     }
     Ok(())

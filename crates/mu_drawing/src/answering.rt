@@ -25,7 +25,7 @@ pub struct Answered {
     pub status: u8,
     /// What there was to tell.
     pub told: Told,
-    /// How many bytes of it were written where the status is 5.
+    /// How many bytes of it were written if the status is 5.
     pub taken: usize,
 }
 
@@ -54,7 +54,7 @@ pub fn draw<S: Source, K: Sink>(
     answer(sink, told(alloc, asked_of(words), source))
 }
 
-/// What there is to tell where this is asked of the source.
+/// What is told if this is asked of the source.
 fn told<S: Source>(alloc: Global, asked: Option<Extent>, source: &mut S) -> Told
     ensures told { Tells asked (S.left source.old) (S.left source.new)
         (S.faults source.old) (S.faults source.new) result }
@@ -105,7 +105,7 @@ pub fn answer<K: Sink>(sink: &mut K, told: Told) -> Answered
 ///
 /// # Errors
 ///
-/// `WriteFault` where the sink counted a fault, with the number of bytes that it had taken.
+/// `WriteFault` if the sink counted a fault, with the number of bytes that it had taken.
 fn tell<K: Sink>(sink: &mut K, told: &Told) -> Result<(), WriteFault>
     requires { IsSayable told.now }
     ensures whole { OnOk result

@@ -40,7 +40,7 @@ fn all(brief: bool) -> Extent
 }
 
 /// What the words ask for, if they ask for anything: all steps, or those from one to another, each
-/// a number of at most 7 digits; in brief where the first word says so.
+/// a number of at most 7 digits; in brief if the first word says so.
 pub fn asked_of(words: &[String]) -> Option<Extent>
     ensures { result ≡ asked_of_words words.now }
 {
@@ -77,7 +77,7 @@ fn asked_by_three(word: &[u8], first: &[u8], last: &[u8]) -> Option<Extent>
     }
 }
 
-/// The steps from one to another, where both words are numbers in order.
+/// The steps from one to another, if both words are numbers in order.
 fn asked_with(brief: bool, first: &[u8], last: &[u8]) -> Option<Extent>
     ensures { result ≡ asked_of_two brief first.now last.now }
 {
@@ -86,7 +86,7 @@ fn asked_with(brief: bool, first: &[u8], last: &[u8]) -> Option<Extent>
     Some(Extent { first, last, brief })
 }
 
-/// What is told where the words couldn't be read: the usage where one of them is no text, since no
+/// What is told if the words couldn't be read: the usage if one of them is no text, since no
 /// call has such a word, else want of memory.
 pub fn unread(kind: ErrorKind) -> Told
     ensures no_text { kind ≡ InvalidData → result ≡ Usage }

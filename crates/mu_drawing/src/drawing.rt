@@ -32,8 +32,8 @@ pub enum Told {
     Broken(Sheet),
 }
 
-/// What there is to tell of the bytes of a trace: `Refused` exactly where they leave the grammar,
-/// with the first line that leaves it and the cause; `Broken` exactly where its events aren't
+/// What is told of the bytes of a trace: `Refused` exactly if they leave the grammar,
+/// with the first line that leaves it and the cause; `Broken` exactly if its events aren't
 /// legal, with the first that breaks them and why; else its picture, of the steps that are asked
 /// for. `NoMemory` for want of memory.
 pub fn told_of(alloc: Global, bytes: &[u8], asked: Extent) -> Told
@@ -167,7 +167,7 @@ fn breach_of(events: &[Event], index: u32, cause: &Wrong) -> Option<Breach>
     }
 }
 
-/// The first events of a list, so many.
+/// The first events of a list, this many.
 fn front(events: &[Event], count: u32) -> &[Event]
     requires { count ≤ length events.now }
     ensures is { result.now ≡ take count events.now }

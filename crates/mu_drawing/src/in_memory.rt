@@ -10,7 +10,7 @@ use mu_picture::Extent;
 use mu_report::Said;
 use std::alloc::Global;
 
-/// The steps from one to another, where they are in order and the last is one that can be named.
+/// The steps from one to another, if they are in order and the last is one that can be named.
 pub fn asked_between(first: u32, last: u32) -> Option<Extent>
     ensures { result ≡ asked_steps first last }
 {
@@ -25,7 +25,7 @@ pub fn asked_between(first: u32, last: u32) -> Option<Extent>
     }
 }
 
-/// What the program tells where it is asked this, and these are the bytes of its input.
+/// What the program tells if it is asked this, and these are the bytes of its input.
 pub fn told_in_memory(alloc: Global, asked: Option<Extent>, bytes: &[u8]) -> Told
     ensures told { Tells asked (Some bytes.now) (Some bytes.now) 0 0 result }
     ensures sayable { IsSayable result }
@@ -36,7 +36,7 @@ pub fn told_in_memory(alloc: Global, asked: Option<Extent>, bytes: &[u8]) -> Tol
     }
 }
 
-/// The same where steps are asked for.
+/// The same if steps are asked for.
 fn told_of_bytes(alloc: Global, asked: Extent, bytes: &[u8]) -> Told
     ensures told { TellsOfSource (Some bytes.now) (Some bytes.now) 0 0 asked result }
     ensures sayable { IsSayable result }

@@ -1,7 +1,7 @@
 //! How far the logs of the regions are known to be filled, and how far they have what a replica
 //! knows.
 ghost use Rattle.std.specs.List.{slice_get};
-ghost use Rattle.std.specs.Prelude.{IfOk, IsTrue, List, None, Some, [], false, if◌then◌else◌, length, nat_lt, true, ℕ, ◌&&◌, ◌+◌, ◌<◌, ◌==◌, ◌||◌, ◌∷◌, ◌≡◌, ◌≤◌, ◌↔◌};
+ghost use Rattle.std.specs.Prelude.{IfOk, IsTrue, List, None, Some, [], false, if◌then◌else◌, length, nat_lt, true, vec_capacity, ℕ, ◌&&◌, ◌+◌, ◌<◌, ◌==◌, ◌||◌, ◌∷◌, ◌≡◌, ◌≤◌, ◌↔◌};
 ghost use Rattle.mu_model.specs.declared.config.Config.{Config};
 ghost use Rattle.mu_model.specs.declared.event.Event.{Event};
 ghost use Rattle.mu_model.specs.Contents.{IsConfig, row_count};
@@ -240,7 +240,9 @@ impl FilledLogs {
     /// A state in which nothing is known yet. Takes all memory that it ever needs.
     pub fn new(alloc: Global, config: &Config) -> Result<FilledLogs, NoMemory>
         requires { row_count config.now ≤ 1500 }
-        ensures { IfOk result (λ state. (r : ℕ) → StandsForFilledLogs config.now r [] state) }
+        ensures stands { IfOk result
+            (λ state. (r : ℕ) → StandsForFilledLogs config.now r [] state) }
+        ensures room { IfOk result (λ state. vec_capacity state.regions ≡ 7) }
     {
         let mut regions = Vec::with_capacity(alloc, 7)?;
         for id in 0..7u8 {

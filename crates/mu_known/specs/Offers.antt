@@ -1,6 +1,6 @@
 -- batch of a client, clients below: the row of a client's next batch, given the known values; one
 -- more than the greatest client.
-use Rattle.std.specs.Prelude.{Bool, List, None, Some, false, if◌then◌else◌, max, nat_lt, suc, true, zero, ℕ, ◌&&◌, ◌+◌, ◌-◌, ◌<◌, ◌==◌, ◌≡◌, ◌≤◌}
+use Rattle.std.specs.Prelude.{Bool, List, None, Some, false, if◌then◌else◌, length, max, nat_lt, suc, true, zero, ℕ, ◌&&◌, ◌+◌, ◌-◌, ◌<◌, ◌==◌, ◌≡◌, ◌≤◌}
 use Rattle.std.specs.declared.option.Option.{Option}
 use Rattle.std.specs.List.{slice_get}
 use Rattle.mu_model.specs.declared.config.Config.{Config}
@@ -67,8 +67,11 @@ abbrev pub HaveLasts : Config → ℕ → List ℕ → Type 0
 HaveLasts c n lasts =
     (client : ℕ) → client < 256 → slice_get lasts client ≡ Some (last_below c client n)
 
--- what is kept of the rows of each client is that of the job's rows
+-- what is kept of the rows of each client is that of the job's rows, and no more
 pub record StandsForClientRows (c : Config) (state : ClientRows) : Type 0 where
   pub clients : state.clients ≡ clients_below c (row_count c)
   pub few : state.clients ≤ 256
   pub lasts : HaveLasts c (row_count c) state.lasts.items
+  pub one_each : length state.lasts.items ≡ 256
+  pub bounds : length state.starts.items ≡ 257
+  pub places : length state.rows.items ≡ row_count c

@@ -1,6 +1,6 @@
 //! What a replica has learnt.
 ghost use Rattle.std.specs.List.{slice_get};
-ghost use Rattle.std.specs.Prelude.{IfOk, None, if◌then◌else◌, List, Some, [], length, vec_capacity, ℕ, ◌%◌, ◌++◌, ◌+◌, ◌<◌, ◌==◌, ◌||◌, ◌∷◌, ◌≡◌, ◌≤◌};
+ghost use Rattle.std.specs.Prelude.{IfOk, None, if◌then◌else◌, List, Some, [], length, replicate, vec_capacity, ℕ, ◌%◌, ◌++◌, ◌+◌, ◌<◌, ◌==◌, ◌||◌, ◌∷◌, ◌≡◌, ◌≤◌};
 ghost use Rattle.mu_model.specs.declared.config.Config.{Config};
 ghost use Rattle.mu_model.specs.declared.event.Event.{Event};
 ghost use Rattle.mu_model.specs.Contents.{IsConfig, client_of, command_count, is_batch, marked, rest_of, row_count};
@@ -131,6 +131,13 @@ fn no_values(alloc: Global, config: &Config) -> Result<Vec<u16>, NoMemory>
     Vec::with_capacity(alloc, positions_in(config))
 }
 
+/// No command counted: a count for each client that a byte names, and no more.
+fn no_counts(alloc: Global) -> Result<Vec<u16>, NoMemory>
+    ensures { IfOk result (λ counts. counts.items ≡ replicate 256 0) }
+{
+    vec![in alloc; 0; 256]
+}
+
 impl KnownLog {
     /// A state in which nothing is learnt. Takes all memory that it ever needs.
     pub fn new(alloc: Global, config: &Config) -> Result<KnownLog, NoMemory>
@@ -141,7 +148,7 @@ impl KnownLog {
         Ok(KnownLog {
             values: no_values(alloc, config)?,
             marks: [false; 7],
-            counts: vec![in alloc; 0; 256]?,
+            counts: no_counts(alloc)?,
             rows: ClientRows::new(alloc, config)?,
             fuos: [0; 7],
             seen: vec![in alloc; false; positions]?,

@@ -18,7 +18,7 @@ use Rattle.mu_model.specs.Stretches.{is_replication}
 use Rattle.mu_lead.specs.declared.lead.Lead.{Lead}
 use Rattle.mu_lead.specs.declared.place.Place.{Place}
 use Rattle.mu_lead.specs.Lasting.{tables_of}
-use Rattle.mu_lead.specs.Leading.{end_of}
+use Rattle.mu_lead.specs.Leading.{end_of, most_replicas}
 use Rattle.mu_lead.specs.Listing.{Tables, next_place}
 use Rattle.mu_lead.specs.Standing.{StandsFor, known_told, verb_at, verb_of}
 
@@ -31,7 +31,7 @@ set_where test u k (x ∷ xs) = (if test k then u else x) ∷ set_where test u (
 -- that begins knows nothing; a FUO that is read of a member, or of a region that is not ahead,
 -- tells it; so does each entry that is brought there, and a commit for each member
 abbrev pub up_with : Config → ℕ → List Event → List Event → List ℕ → Verb → Answer → List ℕ
-up_with c r past now up (Verb.Ask p) answer = if p == 0 then replicate 7 0 else up
+up_with c r past now up (Verb.Ask p) answer = if p == 0 then replicate most_replicas 0 else up
 up_with c r past now up (Verb.Fuo p) (Answer.Number u) =
     if is_member r p past || nat_le u (end_of c r past) then set up p u else up
 up_with c r past now up (Verb.PutSlot p i b v) Answer.Done =
@@ -51,7 +51,7 @@ fuo_in reach p u = set reach p (greater_fuo (get_or reach p None) u)
 
 -- the greatest FUO of each region that the leader read or raised in its leadership
 abbrev pub reach_with : List (Option ℕ) → Verb → Answer → List (Option ℕ)
-reach_with reach (Verb.Ask p) answer = if p == 0 then replicate 7 None else reach
+reach_with reach (Verb.Ask p) answer = if p == 0 then replicate most_replicas None else reach
 reach_with reach (Verb.Fuo p) (Answer.Number u) = fuo_in reach p u
 reach_with reach (Verb.RaiseFuo p u) answer = fuo_in reach p u
 reach_with reach verb answer = reach
@@ -78,9 +78,9 @@ tables_with c r past now t verb answer = record {
 -- the tables of the leader, by the journal
 abbrev pub tables_at : Config → ℕ → List Event → Tables
 tables_at c r [] = record {
-  up = replicate 7 0;
-  reach = replicate 7 None;
-  heads = replicate 7 0;
+  up = replicate most_replicas 0;
+  reach = replicate most_replicas None;
+  heads = replicate most_replicas 0;
   written = replicate (row_count c) 0;
 }
 tables_at c r (e ∷ past) =

@@ -20,6 +20,10 @@ use Rattle.mu_agree.specs.Agreement.{fuo_under, put_end}
 use Rattle.mu_lead.specs.declared.place.Then.{Then}
 use Rattle.mu_lead.specs.Confirming.{HoldsGrants, IsEnteredNow, last_min}
 
+-- the greatest number of replicas: each table of regions has as many places
+abbrev pub most_replicas : ℕ
+most_replicas = 7
+
 -- the first position that r does not know
 abbrev pub end_of : Config → ℕ → List Event → ℕ
 end_of c r mine = length (known c r mine)
@@ -42,9 +46,9 @@ IsReached r mine p reach =
 -- the heads read last, and how many words of each row of its own are written
 pub record HoldsTables (c : Config) (r : ℕ) (mine : List Event) (up : List ℕ)
     (reach : List (Option ℕ)) (heads written : List ℕ) : Type 0 where
-  pub ups : length up ≡ 7
-  pub reaches : length reach ≡ 7
-  pub all_heads : length heads ≡ 7
+  pub ups : length up ≡ most_replicas
+  pub reaches : length reach ≡ most_replicas
+  pub all_heads : length heads ≡ most_replicas
   pub rows : length written ≡ row_count c
   pub brought : (p : ℕ) → Brought c r mine p (get_or up p 0)
   pub within : (p : ℕ) → get_or up p 0 ≤ row_count c + reserve c + 1

@@ -1,5 +1,5 @@
 //! What a replica has looked at and put, as far as it decides what it may put next.
-ghost use Rattle.std.specs.Prelude.{IfOk, List, None, Some, [], if◌then◌else◌, is_some, length, nat_lt, not, ◌&&◌, ◌+◌, ◌<◌, ◌||◌, ◌∷◌, ◌≡◌, ◌≤◌, ℕ};
+ghost use Rattle.std.specs.Prelude.{IfOk, List, None, Some, [], if◌then◌else◌, is_some, length, nat_lt, not, vec_capacity, ◌&&◌, ◌+◌, ◌<◌, ◌||◌, ◌∷◌, ◌≡◌, ◌≤◌, ℕ};
 ghost use Rattle.mu_model.specs.declared.config.Config.{Config};
 ghost use Rattle.mu_model.specs.declared.event.Event.{Event};
 ghost use Rattle.mu_model.specs.declared.event.Target.{Target as SomeTarget};
@@ -188,7 +188,8 @@ impl Looks {
     /// The state of `r` before it did anything. Takes all memory that it ever needs.
     pub fn new(alloc: Global, r: u8, config: &Config) -> Result<Looks, NoMemory>
         requires { IsConfig config.now }
-        ensures { IfOk result (λ state. StandsForLooks config.now r [] state) }
+        ensures stands { IfOk result (λ state. StandsForLooks config.now r [] state) }
+        ensures room { IfOk result (λ state. vec_capacity state.regions ≡ 7) }
     {
         let mut regions = Vec::with_capacity(alloc, 7)?;
         for p in 0..7u8 {

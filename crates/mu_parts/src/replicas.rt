@@ -1,5 +1,5 @@
 //! All replicas.
-ghost use Rattle.std.specs.Prelude.{IfOk, IsTrue, List, [], length, ◌<◌, ◌∷◌, ◌≡◌, ◌↔◌};
+ghost use Rattle.std.specs.Prelude.{IfOk, IsTrue, List, [], length, vec_capacity, ◌<◌, ◌∷◌, ◌≡◌, ◌↔◌};
 ghost use Rattle.mu_model.specs.declared.event.Event.{Event};
 ghost use Rattle.mu_model.specs.Allowed.{Allowed};
 ghost use Rattle.mu_model.specs.Contents.{IsConfig};
@@ -24,7 +24,9 @@ impl Replicas {
     /// The state before any event. Takes all memory that it ever needs.
     pub fn new(alloc: Global, config: &Config) -> Result<Replicas, NoMemory>
         requires { IsConfig config.now }
-        ensures { IfOk result (λ states. StandsForReplicas config.now [] states) }
+        ensures stands { IfOk result (λ states. StandsForReplicas config.now [] states) }
+        ensures room { IfOk result
+            (λ states. vec_capacity states.replicas ≡ config.now.replicas) }
     {
         let mut replicas = Vec::with_capacity(alloc, usize::from(config.replicas))?;
         for replica in 0..config.replicas {

@@ -14,7 +14,7 @@ use mu_course::Told;
 use mu_model::{Answer, Event, Verb};
 
 /// What a step does that is drawn. Regions and replicas are ids from 0, positions count from 0.
-#[derive(Clone, Copy, Debug, PartialEq, Eq)]
+#[derive(Clone, Copy)]
 pub enum Deed {
     /// Asks a region for permission to write; a leadership begins with the ask of region 0.
     Ask(u8),

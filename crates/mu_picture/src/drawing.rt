@@ -117,7 +117,7 @@ fn push_breach_figure(sheet: &mut Sheet, n: u64, r: u8, y: u64) -> Result<(), No
     push_shape(sheet, breach_cross(r, y + 22))
 }
 
-/// Adds words on an event that breaks the list, beside `n` lanes.
+/// Adds words on an event that breaks the list, to the right of `n` lanes.
 fn push_fault(sheet: &mut Sheet, n: u64, y: u64, words: &[u8]) -> Result<(), NoMemory>
     requires { n < 2 ^ 16 }
     ensures { OnOk result (sheet.new ≡ sheet.old ++ fault_piece n y words.now) }
@@ -161,7 +161,7 @@ fn push_breach(
     }
 }
 
-/// Adds what stands below the rows, where the next row would go at the cursor.
+/// Adds what stands below the rows; the next row would go at the cursor.
 fn push_foot(
     sheet: &mut Sheet,
     alloc: Global,
@@ -273,7 +273,7 @@ fn breach_bytes(breach: &Option<Breach>) -> u64
     }
 }
 
-/// How wide a picture of `n` lanes is, where the longest words beside them have so many bytes.
+/// How wide a picture of `n` lanes is, if the longest words next to them have this many bytes.
 fn width(n: u64, longest: u64) -> u64
     requires { n < 256 }
     ensures { result ≡ max 580 (lane_of n + 24 + 6 * min 5000 longest) }

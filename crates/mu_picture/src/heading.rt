@@ -96,7 +96,7 @@ fn cross(x: u64, y: u64) -> Shape
     }
 }
 
-/// The end of a lane in the legend, where its replica has finished.
+/// The end of a lane in the legend, whose replica has finished.
 fn level(x: u64, y: u64) -> Shape
     ensures { result ≡ sample_level x y }
 {

@@ -165,7 +165,7 @@ fn push_two(sheet: &mut Sheet, one: Shape, other: Shape) -> Result<(), NoMemory>
     push_shape(sheet, other)
 }
 
-/// Adds a put: where it missed, it ends a leadership.
+/// Adds a put: if it missed, it ends a leadership.
 fn push_put(sheet: &mut Sheet, landed: bool, r: u8, y: u64, p: u8) -> Result<(), NoMemory>
     ensures { OnOk result (sheet.new ≡ sheet.old ++ shape_pieces (put_shapes landed r y p)) }
 {
@@ -203,7 +203,7 @@ fn push_ended(sheet: &mut Sheet, r: u8, y: u64) -> Result<(), NoMemory>
     push_two(sheet, bare(r, y + 6), cross)
 }
 
-/// Adds the end of the lane of `r` below `y`, where it has finished.
+/// Adds the end of the lane of `r` below `y`, if it has finished.
 fn push_finished(sheet: &mut Sheet, r: u8, y: u64) -> Result<(), NoMemory>
     requires { y < 2 ^ 60 }
     ensures { OnOk result (sheet.new ≡ sheet.old ++ shape_pieces (finished_shapes r y)) }
@@ -271,7 +271,7 @@ pub fn push_halt(sheet: &mut Sheet, r: u8, y: u64, halt: Option<Halt>) -> Result
     }
 }
 
-/// Adds the lane of `r` from `y` on, where it leads or not and names a replica.
+/// Adds the lane of `r` from `y` on: whether it leads, and whom it names.
 pub fn push_lane(sheet: &mut Sheet, r: u8, y: u64, leads: bool, named: u8) -> Result<(), NoMemory>
     ensures { OnOk result (sheet.new ≡ sheet.old ++ shape_pieces (lane_shapes r y leads named)) }
 {

@@ -20,7 +20,7 @@ pub const FOLD: u64 = 16;
 /// The height of a row.
 const ROW: u64 = 12;
 
-/// After so many rows the titles stand again.
+/// After this many rows the titles stand again.
 const ROWS_BETWEEN_TITLES: u64 = 48;
 
 /// No row begins below this.
@@ -36,14 +36,14 @@ pub fn lane(r: u64) -> u64
     LEFT + LANE * r
 }
 
-/// Whether a stretch of so many steps without a mark is folded.
+/// Whether a stretch of this many steps without a mark is folded.
 pub fn is_folded(steps: u64) -> bool
     ensures { result ≡ nat_lt 31 steps }
 {
     steps > MOST_SHOWN
 }
 
-/// The height of a stretch of so many steps without a mark.
+/// The height of a stretch of this many steps without a mark.
 pub fn stretch(steps: u64) -> u64
     ensures is { result ≡ stretch_of steps }
     ensures low { result ≤ 31 }

@@ -9,7 +9,7 @@ use mu_model::Event;
 
 /// A drawn event: what a step does, and what befalls its replica before and after it. At least one
 /// of the three is there.
-#[derive(Clone, Copy, Debug, PartialEq, Eq)]
+#[derive(Clone, Copy)]
 pub struct Mark {
     /// The index of the step in the list of events, counted from 0: its row.
     pub step: u32,

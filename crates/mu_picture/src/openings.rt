@@ -15,7 +15,7 @@ use mu_model::{Config, Event, Fence, NoMemory, Script};
 use std::alloc::Global;
 
 /// What holds in the lane of a replica before the first step of a picture.
-#[derive(Clone, Copy, Debug, PartialEq, Eq)]
+#[derive(Clone, Copy, PartialEq, Eq)]
 pub struct Opening {
     /// Who owns its region, if anybody.
     pub owner: Option<u8>,

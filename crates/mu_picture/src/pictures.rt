@@ -22,7 +22,7 @@ pub struct Picture {
     pub first: u32,
     /// The step after the last one.
     pub end: u32,
-    /// The step after the last one that is asked for: above `end` where there are too many rows.
+    /// The step after the last one that is asked for: above `end` if there are too many rows.
     pub asked: u32,
     /// What holds in each lane before the first step.
     pub openings: Vec<Opening>,
@@ -31,13 +31,13 @@ pub struct Picture {
 }
 
 /// Which steps of a run are asked for, and how.
-#[derive(Clone, Copy, Debug, PartialEq, Eq)]
+#[derive(Clone, Copy, PartialEq, Eq)]
 pub struct Extent {
     /// The first step, counted from 0.
     pub first: u32,
     /// The last step.
     pub last: u32,
-    /// Whether they are drawn in brief: asks, grants, commits and ends alone.
+    /// Whether they are drawn in brief: only asks, grants, commits and ends.
     pub brief: bool,
 }
 

@@ -37,7 +37,7 @@ pub fn push_step(sheet: &mut Sheet, y: u64, step: u32) -> Result<(), NoMemory>
     push_axis(sheet, y, line.as_slice())
 }
 
-/// Adds what is said of a mark of `r` beside `n` lanes, with a dot in the colour of `r`.
+/// Adds what is said of a mark of `r` to the right of `n` lanes, with a dot in the colour of `r`.
 fn push_note(sheet: &mut Sheet, n: u64, r: u8, y: u64, words: &[u8]) -> Result<(), NoMemory>
     requires lanes { n < 2 ^ 16 }
     requires low { y < 2 ^ 60 }
@@ -58,7 +58,7 @@ fn push_note(sheet: &mut Sheet, n: u64, r: u8, y: u64, words: &[u8]) -> Result<(
     push_text(sheet, Look::Note, x + 12, y + 3, words)
 }
 
-/// Adds words in the lane of `r`, where there are any.
+/// Adds words in the lane of `r`, if there are any.
 fn push_label(sheet: &mut Sheet, r: u8, y: u64, words: &[u8]) -> Result<(), NoMemory>
     requires { y < 2 ^ 60 }
     ensures { OnOk result (sheet.new
@@ -109,7 +109,7 @@ pub fn push_event(
     push_tooltip(sheet, words.as_slice())
 }
 
-/// Adds a mark, in the row at `y`, beside `n` lanes: its lane, its step and what is said of it.
+/// Adds a mark, in the row at `y` of `n` lanes: its lane, its step and what is said of it.
 fn push_mark(
     sheet: &mut Sheet,
     alloc: Global,
@@ -165,7 +165,7 @@ fn push_titles(sheet: &mut Sheet, n: u64, y: u64) -> Result<(), NoMemory>
     Ok(())
 }
 
-/// Adds the titles again, where they stand above the next row.
+/// Adds the titles again, if they stand above the next row.
 fn push_titles_again(sheet: &mut Sheet, n: u64, cursor: Cursor) -> Result<(), NoMemory>
     requires lanes { n < 2 ^ 16 }
     requires low { cursor.y < 2 ^ 50 }
@@ -178,7 +178,7 @@ fn push_titles_again(sheet: &mut Sheet, n: u64, cursor: Cursor) -> Result<(), No
     }
 }
 
-/// Adds a folded stretch, where it is folded: it breaks the bars, and says how many steps it hides.
+/// Adds a stretch, if it is folded: it breaks the bars, and says how many steps it hides.
 pub fn push_fold(sheet: &mut Sheet, n: u64, y: u64, steps: u64) -> Result<(), NoMemory>
     requires lanes { n < 2 ^ 16 }
     requires low { y < 2 ^ 60 }
@@ -229,7 +229,7 @@ fn push_row(
     push_mark(sheet, alloc, job, line, n, cursor.row(step) + 6, mark)
 }
 
-/// Adds the rows of marks, and tells where the next row would go.
+/// Adds the rows of marks, and tells at which height the next row would go.
 pub fn push_rows(
     sheet: &mut Sheet,
     alloc: Global,

@@ -35,7 +35,7 @@ pub enum Look {
     Label,
     /// Words of the axis.
     Axis,
-    /// Words beside the lanes.
+    /// Words to the right of the lanes.
     Note,
     /// Words on the event that breaks the list.
     Fault,

@@ -10,7 +10,7 @@ use crate::deeds::Deed;
 use mu_course::Halt;
 
 /// How a lane stands after the last step of its replica.
-#[derive(Clone, Copy, Debug, PartialEq, Eq)]
+#[derive(Clone, Copy, PartialEq, Eq)]
 pub enum Standing {
     /// It goes on.
     Going,
@@ -21,7 +21,7 @@ pub enum Standing {
 }
 
 /// What holds of a replica that goes on after a pause, or after an end.
-#[derive(Clone, Copy, Debug, PartialEq, Eq)]
+#[derive(Clone, Copy, PartialEq, Eq)]
 pub struct Resumed {
     /// Whether a leadership of it is under way.
     pub leads: bool,

@@ -1,4 +1,4 @@
-//! What is said in a lane and beside the lanes.
+//! What is said in a lane and to the right of the lanes.
 ghost use Rattle.std.specs.Prelude.{◌≡◌, ◌+◌, ◌<◌, ◌≤◌, ◌^◌, ◌++◌, codes, length, IfOk, OnOk};
 ghost use Rattle.std.specs.Fmt.{decimal};
 ghost use Rattle.std.specs.Prelude.{Some};
@@ -146,7 +146,7 @@ fn push_held(sheet: &mut Sheet, q: u8, how: &[u8], named: u8) -> Result<(), NoMe
     )
 }
 
-/// Adds where a replica is outrun.
+/// Adds at which position a replica is outrun.
 fn push_outrun(sheet: &mut Sheet, p: u8, i: u16) -> Result<(), NoMemory>
     ensures { OnOk result (sheet.new ≡ sheet.old ++ outrun_words p i) }
 {
@@ -244,7 +244,7 @@ fn push_resumed(sheet: &mut Sheet, resumed: Option<Resumed>, words: &[u8]) -> Re
     sheet.push(words)
 }
 
-/// What is said of a step, where there are words for it.
+/// What is said of a step, if there are words for it.
 fn note_of(alloc: Global, step: u32, r: u8, words: &[u8]) -> Result<Sheet, NoMemory>
     ensures { IfOk result (λ note. note ≡ note_with step r words.now) }
 {
@@ -259,7 +259,7 @@ fn note_of(alloc: Global, step: u32, r: u8, words: &[u8]) -> Result<Sheet, NoMem
     Ok(note)
 }
 
-/// What is said of a mark beside the lanes.
+/// What is said of a mark to the right of the lanes.
 pub fn note(alloc: Global, job: &Job, mark: &Mark) -> Result<Sheet, NoMemory>
     ensures { IfOk result (λ note. note ≡ note_words job.now mark.now) }
 {
@@ -293,7 +293,7 @@ fn counted(number: u8, words: &[u8]) -> Line
     line
 }
 
-/// Words alone.
+/// Only words.
 fn plain(words: &[u8]) -> Line
     requires { length words.now < 100 }
     ensures { result ≡ words.now }

@@ -3,7 +3,7 @@ use crate::reason::Reason;
 use mu_model::{Answer, Event};
 
 /// What is wrong with an event.
-#[derive(Clone, Copy, Debug)]
+#[derive(Clone, Copy)]
 pub enum Fault {
     /// Its replica may not make the step.
     NotAllowed(Reason),
@@ -15,7 +15,7 @@ pub enum Fault {
 }
 
 /// The first event that breaks a list.
-#[derive(Clone, Copy, Debug)]
+#[derive(Clone, Copy)]
 pub struct Broken {
     /// Its place, counted from 0.
     pub index: u32,

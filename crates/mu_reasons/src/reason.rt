@@ -10,7 +10,7 @@ use mu_model::Target;
 /// A point of what is allowed that a verb doesn't meet, with the numbers that it speaks of. The
 /// regions, replicas, positions and values are those of the verb; the other numbers are what the
 /// events of its replica come to so far.
-#[derive(Clone, Copy, Debug)]
+#[derive(Clone, Copy)]
 pub enum Reason {
     /// All steps of the budget are made.
     Budget {
@@ -334,7 +334,7 @@ pub enum Reason {
 }
 
 /// The first point that isn't met, while points are gone through in their order.
-#[derive(Clone, Copy, Debug)]
+#[derive(Clone, Copy)]
 pub struct Found {
     reason: Option<Reason>,
 }

@@ -1,5 +1,5 @@
 //! The state of all regions.
-ghost use Rattle.std.specs.Prelude.{IfOk, List, [], length, ◌<◌, ◌^◌, ◌∷◌, ◌≡◌};
+ghost use Rattle.std.specs.Prelude.{IfOk, List, [], length, vec_capacity, ◌<◌, ◌^◌, ◌∷◌, ◌≡◌};
 ghost use Rattle.mu_model.specs.declared.config.Config.{Config};
 ghost use Rattle.mu_model.specs.declared.event.Event.{Event};
 ghost use Rattle.mu_model.specs.Answers.{answer_of};
@@ -71,7 +71,9 @@ impl Regions {
     /// The state before any event. Takes all memory that it ever needs.
     pub fn new(alloc: Global, config: &Config) -> Result<Regions, NoMemory>
         requires { IsConfig config.now }
-        ensures { IfOk result (λ state. Stands config.now [] state) }
+        ensures stands { IfOk result (λ state. Stands config.now [] state) }
+        ensures room { IfOk result
+            (λ state. vec_capacity state.regions ≡ config.now.replicas) }
     {
         let mut regions = Vec::with_capacity(alloc, usize::from(config.replicas))?;
         for id in 0..config.replicas {

@@ -8,7 +8,7 @@ ghost use Rattle.mu_words.specs.declared.layout.Name.{Name};
 use mu_model::{Config, Target, Verb};
 
 /// A word by what it holds.
-#[derive(Clone, Copy, Debug, PartialEq, Eq)]
+#[derive(Clone, Copy)]
 pub enum Name {
     /// The fence of a region.
     Fence(u8),
@@ -29,7 +29,7 @@ pub enum Name {
 }
 
 /// The places of the words of a configuration in one list: the regions in order, then the rows.
-#[derive(Clone, Copy, Debug, PartialEq, Eq)]
+#[derive(Clone, Copy)]
 pub struct Layout {
     /// How many replicas there are.
     pub(crate) replicas: u8,

@@ -32,7 +32,7 @@ const PROPOSALS: u64 = 8_388_608;
 const GRANTS: u64 = 131_072;
 
 /// What a slot word shows.
-#[derive(Clone, Copy, Debug, PartialEq, Eq)]
+#[derive(Clone, Copy, PartialEq, Eq)]
 pub struct SlotWord {
     /// How often the word was drained.
     pub stamp: u32,
@@ -45,7 +45,7 @@ pub struct SlotWord {
 }
 
 /// What a minimum word shows.
-#[derive(Clone, Copy, Debug, PartialEq, Eq)]
+#[derive(Clone, Copy, PartialEq, Eq)]
 pub struct MinWord {
     /// How often the word was drained.
     pub stamp: u32,
@@ -54,7 +54,7 @@ pub struct MinWord {
 }
 
 /// What a fence word shows.
-#[derive(Clone, Copy, Debug, PartialEq, Eq)]
+#[derive(Clone, Copy, PartialEq, Eq)]
 pub struct FenceWord {
     /// How often the region was granted.
     pub grant: u32,

@@ -2,7 +2,7 @@
 use crate::calling::answers;
 use std::test::Fail;
 
-/// Two clients' orders in one symbol: two buys, of which one is cancelled too late, and two sells.
+/// Two clients' orders in one symbol: two buys, one of them cancelled too late, and two sells.
 const ORDER_BOOK: &str =
     "mu 1\nreplicas 3\nring 8\nbudget 20000\nclient 0\nput X B100x5\nput X B101x2\nput X C1\n\
         client 1\nput X S102x4\nput X S100x6\nget X\nend\n";

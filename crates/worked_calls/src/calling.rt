@@ -102,7 +102,7 @@ pub(crate) fn answers<R: Threads + Wait + Sync>(
     Ok(says(&call, status, text.as_slice()))
 }
 
-/// Calls the top call with one word over the input, where one read and one write fail (0 for none).
+/// Calls the top call with one word over the input; one read and one write fail (0 for none).
 pub(crate) fn told_with_faults<R: Threads + Wait + Sync>(
     rt: &R,
     alloc: Global,

@@ -75,7 +75,7 @@ fn refuses_with_line_and_cause(rt: HostRuntime) -> Result<(), Fail> {
     Ok(())
 }
 
-/// Whether the top call over so many line feeds ends with this status and says this text.
+/// Whether the top call over this many line feeds ends with this status and says this text.
 fn answers_line_feeds<R: Threads + Wait + Sync>(
     rt: &R,
     alloc: Global,

@@ -70,7 +70,7 @@ fn counted(alloc: Global, commands: &[Command]) -> Result<[u64; 4], AllocError> 
     Ok(counts)
 }
 
-/// The same of the stated job of so many commands.
+/// The same for the stated job with this many commands.
 fn counted_of(alloc: Global, count: u16) -> Result<[u64; 4], Fail>
     requires { count ≤ 1500 }
 {

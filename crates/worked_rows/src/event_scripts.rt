@@ -30,7 +30,7 @@ pub(crate) fn config_of(alloc: Global, job: &str) -> Result<Config, Fail>
     }
 }
 
-/// The configuration, where it has three replicas.
+/// The configuration, if it has three replicas.
 fn of_three(config: Config) -> Result<Config, Fail>
     requires { IsConfig config }
     ensures { IfOk result (λ c. IsConfig c × (c.replicas ≡ 3)) }

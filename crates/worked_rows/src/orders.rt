@@ -60,7 +60,7 @@ const WORKED: [Case; 5] = [
 /// The most commands of a book.
 const MOST: usize = 65_535;
 
-/// The commands of these lines, where each spells one.
+/// The commands of these lines, if each spells one.
 fn commands_of(alloc: Global, lines: &[(u8, u16, &str)]) -> Result<Vec<Command>, Fail> {
     let mut commands = Vec::new(alloc);
     for &(client, number, line) in lines {

@@ -37,7 +37,7 @@ fn ends_so(
     })
 }
 
-/// How the reading ends whose so many reads take the text and see its end.
+/// How a reading ends that takes the text and sees its end in this many reads.
 fn wanted_end(fails: u32, reads: u32) -> Option<ReadEnd> {
     if fails == 0 || fails > reads {
         None
@@ -125,7 +125,7 @@ const WRITES: [(usize, usize, [usize; 4]); 5] = [
     (4, 0, [0, 0, 0, 0]),
 ];
 
-/// What the writing answers where so many bytes of the text are taken.
+/// What the writing answers if this many bytes of the text are taken.
 fn told_of(count: usize) -> Result<(), WriteFault> {
     if count == TEXT.len() {
         Ok(())

@@ -21,7 +21,7 @@ struct Crossed {
 }
 
 impl Crossed {
-    /// Waits until the other was called, for so many turns.
+    /// Waits until the other was called, for this many turns at most.
     fn hold(&self, until: &AtomicU64) {
         for _ in 0..100_000_000u64 {
             if until.load(Ordering::SeqCst) > 0 {

@@ -5,6 +5,8 @@
 #[cfg(test)]
 mod desks;
 #[cfg(test)]
+mod largest;
+#[cfg(test)]
 mod list_runs;
 #[cfg(test)]
 mod orders;

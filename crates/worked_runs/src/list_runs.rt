@@ -14,7 +14,7 @@ use mu_report::Said;
 use std::alloc::{AllocError, Global};
 use std::test::Fail;
 
-/// What there is to say of a job over these lists, before any event.
+/// What is said of a job over these lists, before any event.
 fn said_over(alloc: Global, job: Job, memory: ListFabric) -> Said
     requires job { IsConfig job.config × HaveHeads job.config.width job.commands job.config.rows
         × (job.config.rows ≡ rows_of job.config.width job.commands) }
@@ -29,7 +29,7 @@ fn said_over(alloc: Global, job: Job, memory: ListFabric) -> Said
     }
 }
 
-/// What there is to say of a job over plain lists.
+/// What is said of a job over plain lists.
 fn said_over_lists(alloc: Global, job: Job) -> Said
     requires { IsConfig job.config × HaveHeads job.config.width job.commands job.config.rows
         × (job.config.rows ≡ rows_of job.config.width job.commands) }
@@ -41,7 +41,7 @@ fn said_over_lists(alloc: Global, job: Job) -> Said
     }
 }
 
-/// What there is to say of the job of a text over plain lists.
+/// What is said of the job of a text over plain lists.
 fn said_of(alloc: Global, text: &str) -> Said
     ensures { IsShort result }
 {

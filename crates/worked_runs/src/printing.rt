@@ -9,7 +9,7 @@ use std::alloc::{AllocError, Global};
 /// The most bytes that a row prints.
 const ROOM: usize = 8192;
 
-/// A sink whose writes take at most `piece` bytes and of which one fails (0 for none).
+/// A sink whose writes take at most `piece` bytes; one write fails (0 for none).
 fn sink_of(alloc: Global, piece: usize, fails: u32) -> Result<MemSink, AllocError>
     requires { 0 < piece }
 {
@@ -17,7 +17,7 @@ fn sink_of(alloc: Global, piece: usize, fails: u32) -> Result<MemSink, AllocErro
     Ok(MemSink::new(vec![in alloc; 0; ROOM]?, piece, fails))
 }
 
-/// Whether printing ends so and leaves this text, where a write takes at most `piece` bytes and one
+/// Whether printing ends so and leaves this text, if a write takes at most `piece` bytes and one
 /// write fails (0 for none).
 pub(crate) fn prints_so_far(
     alloc: Global,
@@ -34,7 +34,7 @@ pub(crate) fn prints_so_far(
     Ok(print(&mut sink, said) == end && sink.written() == text)
 }
 
-/// Whether this text is printed where no write fails.
+/// Whether this text is printed if no write fails.
 pub(crate) fn prints(alloc: Global, said: &Said, text: &str) -> Result<bool, AllocError>
     requires { IsShort said.now }
 {

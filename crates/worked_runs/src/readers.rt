@@ -1,4 +1,4 @@
-//! One writer and one reader call by call, and readers beside the writer of a whole job.
+//! One writer and one reader call by call, and readers while the writer publishes a whole job.
 ghost use Rattle.std.specs.Prelude.{IfOk, length, ◌≤◌};
 ghost use Rattle.snap_reads.specs.Lives.{told_commands};
 
@@ -67,7 +67,7 @@ struct Crossed {
 }
 
 impl Crossed {
-    /// Marks that one was called, and waits until the other was, for so many turns.
+    /// Marks that one was called, and waits until the other was, for this many turns at most.
     fn meet(&self, mine: &AtomicU64, other: &AtomicU64) {
         mine.store(1, Ordering::SeqCst);
         for _ in 0..100_000_000u64 {

@@ -109,7 +109,7 @@ pub(crate) fn read_job(alloc: Global, text: &str) -> Result<Job, InputEnd>
     Ok(job)
 }
 
-/// What there is to say of a replay of a job.
+/// What is said of a replay of a job.
 fn said_of_job(alloc: Global, job: Job) -> Said
     requires { IsConfig job.config × HaveHeads job.config.width job.commands job.config.rows
         × (job.config.rows ≡ rows_of job.config.width job.commands) }
@@ -122,7 +122,7 @@ fn said_of_job(alloc: Global, job: Job) -> Said
     }
 }
 
-/// What there is to say of a replay of the job of a text.
+/// What is said of a replay of the job of a text.
 pub(crate) fn said_of(alloc: Global, text: &str) -> Said
     ensures { IsShort result }
 {
@@ -169,7 +169,7 @@ pub(crate) fn replayed(alloc: Global, job: Job) -> Result<Outcome, Fail>
 }
 
 /// What the job of a text leaves.
-fn outcome_of(alloc: Global, text: &str) -> Result<Outcome, Fail> {
+pub(crate) fn outcome_of(alloc: Global, text: &str) -> Result<Outcome, Fail> {
     let job = job_of(alloc, text)?;
     replayed(alloc, job)
 }
@@ -221,7 +221,7 @@ fn own_replies(outcome: &Outcome, replica: u8) -> &[Reply] {
         .map_or(&[], |replies| replies.as_slice())
 }
 
-/// The replies to the six commands of two clients, where nobody stops.
+/// The replies to the six commands of two clients, if nobody stops.
 fn six_replies() -> Option<[Reply; 6]> {
     let five = Text::new(b"5")?;
     let nine = Text::new(b"9")?;
@@ -247,7 +247,7 @@ fn agree(outcome: &Outcome, one: u8, other: u8) -> bool {
     other.starts_with(one) || one.starts_with(other)
 }
 
-/// Whether these are 93 events, of which the 49th writes an entry and the last the head.
+/// Whether these are 93 events, and the 49th writes an entry, the last one the head.
 fn are_of_one_put(outcome: &Outcome) -> bool {
     let Some(journal) = outcome.journals.as_slice().first() else {
         return false;
@@ -345,8 +345,8 @@ fn leader_stops_anywhere(rt: HostRuntime) -> Result<(), Fail> {
     Ok(())
 }
 
-/// Jobs of three replicas, and how many commands each replica applied: all where each finished, and
-/// none where it was stopped at once or outrun at position 1. One job has batches, and in one a mark
+/// Jobs of three replicas, and how many commands each replica applied: all if each finished, and
+/// none if it was stopped at once or outrun at position 1. One job has batches, and in one a mark
 /// stands between the commands.
 const APPLIED: [(&str, [usize; 3]); 4] = [
     ("two_clients", [6, 6, 6]),
@@ -362,7 +362,7 @@ fn named(name: &str) -> &'static str {
         .map_or("", |row| row.1)
 }
 
-/// Whether each replica replied to so many commands, with the replies that are printed.
+/// Whether each replica replied to this many commands, with the replies that are printed.
 fn replied_to(outcome: &Outcome, counts: [usize; 3]) -> bool {
     let lists = [0, 1, 2].map(|replica| own_replies(outcome, replica));
     lists.map(|replies| replies.len()) == counts
@@ -385,7 +385,7 @@ fn each_replica_replies(rt: HostRuntime) -> Result<(), Fail> {
     Ok(())
 }
 
-/// The leader is outside for so many rounds.
+/// The leader is passed over for this many rounds.
 const PAUSE: Pause = Pause {
     replica: 0,
     steps: 40,

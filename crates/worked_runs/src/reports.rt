@@ -31,7 +31,7 @@ replies 2
 status 0
 ";
 
-/// What is said where the words ask for nothing.
+/// What is said if the words ask for nothing.
 const USAGE: &str = "usage: mu replay, mu run, mu check, mu why, mu tell, mu show N, mu trace, \
     mu bulk N, mu live K, mu desk, mu book\n";
 
@@ -53,7 +53,7 @@ fn says_short_answers(rt: HostRuntime) -> Result<(), Fail> {
     Ok(())
 }
 
-/// Whether printing whose third write fails, where a write takes at most so many bytes, ends with so
+/// Whether printing whose third write fails, if a write takes at most this many bytes, ends with so
 /// many bytes taken, and leaves just these.
 fn is_cut(alloc: Global, piece: usize, taken: usize) -> Result<bool, AllocError>
     requires { 0 < piece }
@@ -80,7 +80,7 @@ const OF_NOBODY: Fence = Fence {
     target: Target::None,
 };
 
-/// A fence that is closing, of which the owner has entered the last place.
+/// A fence that is closing; its owner has entered the last place.
 const AT_LAST_PLACE: Fence = Fence {
     owner: Some(0),
     grant: 1,

@@ -12,7 +12,7 @@ loop-id-preserved c = record {
       rw c.push_reserved.ensures.items (each_pushed (λ p region. HoldsCoverage c.args.config.now r p [] region) c.loop-id.regions.items c.in_ok-new.field-0 (c.loop-id.invariant.each r) last);
 }
 
-pub returns : goal.returns
-returns c r =
+pub returns-clause-stands : goal.returns-clause-stands
+returns-clause-stands c r =
     let ended : c.loop-id.id ≡ 7 = omega (arith, c.loop-id-test.false, c.loop-id.auto.id-end) in
     record { count = c.loop-id.invariant.count ∙ ended; each = c.loop-id.invariant.each r }

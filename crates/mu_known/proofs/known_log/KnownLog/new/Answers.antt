@@ -6,8 +6,8 @@ use Rattle.mu_known.proofs.known_log.KnownLog.new.Goals as goal
 
 pub returns : goal.returns
 returns c r =
-    let zeros : c.in_ok-vec.field-0.items ≡ replicate 256 0 = search (rules, c.in_ok-vec.ensures.items_if_clones_equal) in
-    let unset : c.in_ok-vec-2.field-0.items ≡ replicate c.positions_in-positions.result false = search (rules, c.in_ok-vec-2.ensures.items_if_clones_equal) in
+    let zeros : c.in_ok-no_counts.field-0.items ≡ replicate 256 0 = c.in_ok-no_counts.ensures in
+    let unset : c.in_ok-vec.field-0.items ≡ replicate c.positions_in-positions.result false = search (rules, c.in_ok-vec.ensures.items_if_clones_equal) in
     record {
       values = record {
         are = search rules;

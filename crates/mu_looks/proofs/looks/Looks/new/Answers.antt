@@ -13,8 +13,8 @@ loop-p-preserved c = record {
       rw c.push_reserved.ensures.items (each_pushed (λ p looks. StandsForRegionLooks c.args.config.now c.args.r p [] looks) c.loop-p.regions.items c.in_ok-new.field-0 c.loop-p.invariant.each last);
 }
 
-pub returns : goal.returns
-returns c =
+pub returns-clause-stands : goal.returns-clause-stands
+returns-clause-stands c =
     let blanks : c.in_ok-vec.field-0.items ≡ replicate c.positions_in.result c.new-2.result = c.in_ok-vec.ensures.items_if_clones_equal (λ y is. is) in
     record {
       replica = refl;

@@ -11,6 +11,6 @@ returns c = record {
   known_log = c.in_ok-new.ensures c.args.replica;
   held_rows = c.in_ok-new-2.ensures c.args.replica;
   landed_puts = c.in_ok-new-3.ensures c.args.replica;
-  filled_logs = c.in_ok-new-4.ensures c.args.replica;
-  looks = c.in_ok-new-5.ensures;
+  filled_logs = c.in_ok-new-4.ensures.stands c.args.replica;
+  looks = c.in_ok-new-5.ensures.stands;
 }
