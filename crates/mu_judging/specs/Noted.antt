@@ -1,5 +1,5 @@
--- notes of: what `why` says of a trace: of a legal one also after which stops of the script replicas
--- go on.
+-- notes of: what `why` says of a trace: of a legal one also after which stops of the script
+-- replicas go on.
 use Rattle.std.specs.Prelude.{ℕ, ◌<◌, ◌==◌, ◌≡◌, List, None, Some, [], if◌then◌else◌, length, ◌⊎◌, ⊤}
 use Rattle.mu_input.specs.Readings.{Fits}
 use Rattle.mu_input.specs.declared.job.Job.{Job}

@@ -1,5 +1,5 @@
--- is shown, shows of: what holds after the first events that the bytes of a trace spell, if these are
--- legal; else what is said of where they break, or of where the bytes leave the grammar.
+-- is shown, shows of: what holds after the first events that the bytes of a trace spell, if these
+-- are legal; else what is said of where they break, or of where the bytes leave the grammar.
 use Rattle.std.specs.Prelude.{ℕ, ◌<◌, ◌≡◌, Bool, List, None, Some, false, length, min, nat_lt, take, ⊤}
 use Rattle.std.specs.declared.option.Option.{Option}
 use Rattle.mu_input.specs.Readings.{Fits}

@@ -85,7 +85,8 @@ pub fn strays_of(
     stops: &[Stop],
     events: &[Event],
 ) -> Result<Sequence<Stop>, NoMemory>
-    ensures are { IfOk result (λ strays. strays ≡ strays_of_these n stops.now (history events.now)) }
+    ensures are { IfOk result (λ strays.
+        strays ≡ strays_of_these n stops.now (history events.now)) }
     ensures few { IfOk result (λ strays. length strays < 2 ^ 8) }
 {
     let mut strays = Vec::new(alloc);

@@ -169,7 +169,12 @@ const ROWS: [(&[&str], &[&str], u8, &[&str]); 11] = [
     (&["show", "50"], &TRACE, 0, &[PUT_SHOWN]),
     (&["show", "1"], &[GRANT], 0, &[BEFORE_GRANT_SHOWN]),
     (&["show", "2"], &[GRANT], 7, &[GRANT_TOLD]),
-    (&["why"], &[STRAY], 0, &["legal 2\nreplica 0 goes on after its stop at 1\n"]),
+    (
+        &["why"],
+        &[STRAY],
+        0,
+        &["legal 2\nreplica 0 goes on after its stop at 1\n"],
+    ),
     (&["check"], &[STRAY], 0, &["legal 2\n"]),
     (&["why"], &[HEEDED], 0, &["legal 2\n"]),
 ];
