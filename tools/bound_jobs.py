@@ -5,9 +5,9 @@
     tools/bound_jobs.py PROGRAM       a program that is named
     tools/bound_jobs.py --write DIR   writes the jobs there instead
 
-Each number of replicas and both versions, with a ring of the least size, and with as many replicas
-stopped as leave a majority: followers at their first step, while they grant, and later, or the leaders
-one after the other. Nothing of the program is used for this but its output: the bounds are reckoned
+Each number of replicas and both versions: with a ring of 8, if nobody stops; and with the least ring
+that holds all entries, and as many replicas stopped as leave a majority: followers at their first
+step, while they grant, and later, or the leaders one after the other. Nothing of the program is used for this but its output: the bounds are reckoned
 here, and each report is judged as tools/run_trials.py does.
 """
 import sys
@@ -45,6 +45,16 @@ def steps_after(replicas, batch, positions, least):
     return 15 * cycle(replicas) + last + (batch * positions + 1) * 2 * cycle(replicas)
 
 
+def steps_in_any_ring(replicas, batch, positions):
+    """If nobody stops, whatever the ring."""
+    limit = 13 * replicas + 8 + 12 * batch
+    paid = 6 * replicas + 8 * (replicas + 1) * positions
+    gain = 2 * cycle(replicas) + 2
+    settling = 110 * replicas + 96 + gain + 6 * (limit + paid) + 8 + 2 * (limit + paid)
+    commit = 2 * replicas + gain + cycle(replicas) + 2 + 2 * limit
+    return settling + positions * commit + (batch + 1) * positions * gain
+
+
 def followers_stopped(replicas):
     """The last replicas, as many as leave a majority: at which steps they stop."""
     last = range(replicas - (replicas - 1) // 2, replicas)
@@ -62,18 +72,11 @@ def leaders_stopped(replicas):
     return ways if first else []
 
 
-def job(version, replicas, batch, commands, stops):
-    """The text of a job at its bound; None where no budget is as large."""
-    reserve = replicas if version == 2 else 0
-    least = next(q for q in range(replicas) if q not in stops)
-    if least == 0:
-        budget = steps_enough(replicas, batch, commands + reserve)
-    else:
-        budget = max(stops[q] for q in range(least)) + steps_after(replicas, batch, commands + reserve, least)
+def written(version, replicas, batch, ring, budget, commands, stops):
+    """The text of a job; None where no budget is as large."""
     if budget > MOST_BUDGET:
         return None
-    lines = [f"mu {version}", f"replicas {replicas}", f"ring {max(LEAST_RING, commands + 2 * reserve)}",
-             f"budget {budget}"]
+    lines = [f"mu {version}", f"replicas {replicas}", f"ring {ring}", f"budget {budget}"]
     if version == 2:
         lines.append(f"batch {batch}")
     for client in range(CLIENTS):
@@ -82,6 +85,24 @@ def job(version, replicas, batch, commands, stops):
     if stops:
         lines += ["script", *(f"stop {q} {k}" for q, k in sorted(stops.items()))]
     return "\n".join([*lines, "end", ""])
+
+
+def job(version, replicas, batch, commands, stops):
+    """A job with a large ring, at its bound."""
+    reserve = replicas if version == 2 else 0
+    least = next(q for q in range(replicas) if q not in stops)
+    if least == 0:
+        budget = steps_enough(replicas, batch, commands + reserve)
+    else:
+        budget = max(stops[q] for q in range(least)) + steps_after(replicas, batch, commands + reserve, least)
+    return written(version, replicas, batch, max(LEAST_RING, commands + 2 * reserve), budget, commands, stops)
+
+
+def small_ring_job(version, replicas, batch, commands):
+    """A job with the least ring, that nothing stops, at its bound."""
+    reserve = replicas if version == 2 else 0
+    budget = steps_in_any_ring(replicas, batch, commands + reserve)
+    return written(version, replicas, batch, LEAST_RING, budget, commands, {})
 
 
 class BoundCase(trying.Case):
@@ -103,10 +124,13 @@ def bound_cases():
         for replicas in range(1, 8):
             for batch in BATCHES if version == 2 else BATCHES[:1]:
                 for commands in COMMANDS:
+                    name = f"at the bound: mu {version}, replicas {replicas}, batch {batch}, {commands} commands"
+                    text = small_ring_job(version, replicas, batch, commands)
+                    if text:
+                        yield BoundCase(f"{name}, ring {LEAST_RING}", ["replay"], text.encode(), None, 0)
                     for number, stops in enumerate(followers_stopped(replicas) + leaders_stopped(replicas)):
                         text = job(version, replicas, batch, commands, stops)
                         if text:
-                            name = f"at the bound: mu {version}, replicas {replicas}, batch {batch}, {commands} commands"
                             yield BoundCase(f"{name}, stops {number}", ["replay"], text.encode(), None, 0)
 
 

@@ -1,8 +1,8 @@
 -- A region that grants to a leader becomes a member in time, and is brought to what the leader knows.
-use Rattle.std.proofs.Common.{◌≡◌, ◌⊎◌, ℕ, ◌+◌, ◌*◌, ◌<◌, ◌≤◌, ◌==◌, ◌&&◌, ◌||◌, not, inl, inr, Bool, true, false, cond, Some, None, List, [], ◌∷◌, ◌++◌, length, refl, sym, ◌∙◌, ap, arith, subst, eqb-true, true≢false, append-nil, append_assoc, is_some}
+use Rattle.std.proofs.Common.{◌≡◌, ◌⊎◌, ℕ, ◌+◌, ◌*◌, ◌<◌, ◌≤◌, ◌==◌, ◌&&◌, ◌||◌, not, inl, inr, Bool, true, false, cond, Some, None, List, [], ◌∷◌, ◌++◌, length, refl, sym, ◌∙◌, ap, arith, subst, true≢false, append-nil, append_assoc, is_some}
 use Rattle.std.specs.declared.option.Option.{Option}
-use Rattle.std.specs.Prelude.{if◌then◌else◌, nat_le, nat_lt}
-use Rattle.std.proofs.lemmas.Bool.{and_from, and_parts, eq-eqb, le-leb, leb-false, leb-true, ltb-false}
+use Rattle.std.specs.Prelude.{if◌then◌else◌, nat_le}
+use Rattle.std.proofs.lemmas.Bool.{and_from, and_parts, eq-eqb, le-leb, leb-false, leb-true}
 use Rattle.std.proofs.lemmas.List.{length-append}
 use Rattle.mu_model.specs.declared.config.Config.{Config}
 use Rattle.mu_model.specs.declared.event.Answer.{Answer}
@@ -12,216 +12,33 @@ use Rattle.mu_model.specs.Answers.{answer_of, drained, put_answer}
 use Rattle.mu_model.specs.Bounds.{is_at_most, is_learning, members, stays}
 use Rattle.mu_model.specs.Contents.{IsConfig, row_count}
 use Rattle.mu_model.specs.Diligence.{is_fuo_above, is_joining_step}
-use Rattle.mu_model.specs.Histories.{earlier_or, greatest, has, max_with, newer_or, oldest}
-use Rattle.mu_model.specs.Knowledge.{commits, grown, is_accepted_by_all, known}
-use Rattle.mu_model.specs.Leaderships.{begins_leadership, grant_at_joining, is_member, is_over, lands_min, leadership, noted_grant, number_put, proposal_number}
+use Rattle.mu_model.specs.Histories.{greatest, max_with, newer_or}
+use Rattle.mu_model.specs.Knowledge.{commits, known}
+use Rattle.mu_model.specs.Leaderships.{begins_leadership, grant_at_joining, is_member, is_over, lands_min, leadership, noted_grant, proposal_number}
 use Rattle.mu_model.specs.Legal.{IsLegalHistory}
 use Rattle.mu_model.specs.Parts.{IsPossible}
-use Rattle.mu_model.specs.Picks.{is_joining}
 use Rattle.mu_model.specs.Placing.{fuo_read_or_raised}
 use Rattle.mu_model.specs.Room.{reserve}
 use Rattle.mu_model.specs.Steps.{commits_more, has_min, is_fencing, is_min_put, is_min_put_verb, is_named, is_over_after, leads}
-use Rattle.mu_model.specs.Stretches.{each_step, is_replication, replications, steps}
+use Rattle.mu_model.specs.Stretches.{is_replication, replications}
 use Rattle.mu_model.proofs.Basics.{event_by}
 use Rattle.mu_agree.proofs.Landings.{greatest_since}
 use Rattle.mu_agree.proofs.Legal.{legal_older}
 use Rattle.mu_agree.proofs.Possible.{parts_shorten_law}
 use Rattle.mu_agree.proofs.Prefixes.{greatest_along}
 use Rattle.mu_pace.specs.Collecting.{LeaderKeeps}
-use Rattle.mu_pace.specs.Counters.{AtEachMoment, AtEachStep, IsInTime, Watch, paid}
-use Rattle.mu_pace.specs.Watches.{asking_after, bringing_up, earns, falls_behind, is_answer_to_welcome, is_brought_up, is_full_raise, is_raise_to_verb, is_welcoming, joining, leaves, limit, limit_now, nothing, raising}
-use Rattle.mu_pace.proofs.Counting.{allowed_here, allowed_now, last_moment, moments_before, shorter, steps_before}
+use Rattle.mu_pace.specs.Counters.{AtEachMoment, AtEachStep, IsInTime, paid}
+use Rattle.mu_pace.specs.Watches.{asking_after, bringing_up, earns, falls_behind, is_answer_to_welcome, is_brought_up, is_full_raise, is_welcoming, joining, leaves, limit, limit_now, raising}
+use Rattle.mu_pace.proofs.Counting.{allowed_here, allowed_now, last_moment, moments_before, steps_before}
 use Rattle.mu_pace.proofs.Growing.{greatest_on, known_grows, member_on, member_stays, stays_less, twice_paid}
 use Rattle.mu_pace.proofs.Positions.{known_fits}
 use Rattle.mu_alive.specs.Bringing.{FollowersAreBroughtUp, IsGranted, LeadsOn, bringing_steps}
-use Rattle.mu_alive.proofs.Calm.{PutsInside, count_few, paid_few}
+use Rattle.mu_alive.proofs.Calm.{PutsInside, count_few, limit_fits, paid_few}
 use Rattle.mu_alive.proofs.Cutting.{Cut, Located, cut, located}
-use Rattle.mu_alive.proofs.Enough.{min_on, puts_inside}
-use Rattle.mu_alive.proofs.Moments.{halves}
-
--- what each step of two stretches passes, each of both does; and what passes in both is added up
-each_both : (test : List Event → Event → Bool) (xs ys base : List Event) → each_step test xs (ys ++ base) ≡ true → each_step test ys base ≡ true → each_step test (xs ++ ys) base ≡ true
-each_both test [] ys base x y = y
-each_both test (e ∷ xs) ys base x y = go (test (xs ++ (ys ++ base)) e) (test ((xs ++ ys) ++ base) e) (ap (λ l. test l e) (append_assoc xs ys base)) x (λ rest. each_both test xs ys base rest y)
-  where
-    go : (t u : Bool) → u ≡ t → (if t then each_step test xs (ys ++ base) else false) ≡ true → (each_step test xs (ys ++ base) ≡ true → each_step test (xs ++ ys) base ≡ true) → (if u then each_step test (xs ++ ys) base else false) ≡ true
-    go true true is x ih = ih x
-    go false false is x ih = absurd (true≢false (sym x))
-    go true false is x ih = absurd (true≢false (sym is))
-    go false true is x ih = absurd (true≢false is)
-
-more_steps : (test : List Event → Event → Bool) (xs ys base : List Event) → steps test xs (ys ++ base) ≤ steps test (xs ++ ys) base
-more_steps test [] ys base = omega arith
-more_steps test (e ∷ xs) ys base = go (test (xs ++ (ys ++ base)) e) (test ((xs ++ ys) ++ base) e) (ap (λ l. test l e) (append_assoc xs ys base)) (more_steps test xs ys base)
-  where
-    go : (t u : Bool) → u ≡ t → steps test xs (ys ++ base) ≤ steps test (xs ++ ys) base → (if t then steps test xs (ys ++ base) + 1 else steps test xs (ys ++ base)) ≤ (if u then steps test (xs ++ ys) base + 1 else steps test (xs ++ ys) base)
-    go true true is ih = omega (arith, ih)
-    go false false is ih = ih
-    go true false is ih = absurd (true≢false (sym is))
-    go false true is ih = absurd (true≢false is)
-
-pub stays_both : (r : ℕ) (xs ys : List Event) → stays r xs ≡ true → stays r ys ≡ true → stays r (xs ++ ys) ≡ true
-stays_both r [] ys x y = y
-stays_both r (e ∷ xs) ys x y = let less = stays_less r e xs x in ap (λ t. not (if t then true else has (begins_leadership r) (xs ++ ys))) less.0 ∙ stays_both r xs ys less.1 y
-
-stays_newer : (r : ℕ) (xs ys : List Event) → stays r (xs ++ ys) ≡ true → stays r xs ≡ true
-stays_newer r [] ys all = refl
-stays_newer r (e ∷ xs) ys all = let less = stays_less r e (xs ++ ys) all in ap (λ t. not (if t then true else has (begins_leadership r) xs)) less.0 ∙ stays_newer r xs ys less.1
-
-stays_older : (r : ℕ) (xs ys : List Event) → stays r (xs ++ ys) ≡ true → stays r ys ≡ true
-stays_older r [] ys all = all
-stays_older r (e ∷ xs) ys all = stays_older r xs ys (stays_less r e (xs ++ ys) all).1
-
--- a count was opened in the leadership, with at most so many steps, and isn't closed yet
-pub record Pending (r : ℕ) (w : Watch) (most : ℕ) (now : List Event) : Type 0 where
-  pub window : List Event
-  pub opened : List Event
-  pub amount : ℕ
-  pub is : now ≡ window ++ opened
-  pub same : stays r window ≡ true
-  pub allows : w.allows opened ≡ Some amount
-  pub few : amount ≤ most
-  pub unclosed : each_step (λ past e. not (w.closes past e)) window opened ≡ true
-
-pub pending_on : (r : ℕ) (w : Watch) (most : ℕ) (e : Event) (past : List Event) → begins_leadership r e ≡ false → w.closes past e ≡ false → Pending r w most past → Pending r w most (e ∷ past)
-pending_on r w most e past same open_yet k = record {
-  window = e ∷ k.window;
-  opened = k.opened;
-  amount = k.amount;
-  is = ap (λ l. e ∷ l) k.is;
-  same = ap (λ t. not (if t then true else has (begins_leadership r) k.window)) same ∙ k.same;
-  allows = k.allows;
-  few = k.few;
-  unclosed = ap (λ t. if not t then each_step (λ past e. not (w.closes past e)) k.window k.opened else false) (ap (λ l. w.closes l e) (sym k.is) ∙ open_yet) ∙ k.unclosed;
-}
-
--- a stretch closes a count or leaves it open
-pub record Closed (w : Watch) (window base : List Event) : Type 0 where
-  pub newer : List Event
-  pub event : Event
-  pub older : List Event
-  pub is : window ≡ newer ++ event ∷ older
-  pub closes : w.closes (older ++ base) event ≡ true
-
-pub closed_or : (w : Watch) (window base : List Event) → Closed w window base ⊎ (each_step (λ past e. not (w.closes past e)) window base ≡ true)
-closed_or w [] base = inr refl
-closed_or w (e ∷ window) base = elim (closed_or w window base) [
-  | inl k ↦ inl (record { newer = e ∷ k.newer; event = k.event; older = k.older; is = ap (λ l. e ∷ l) k.is; closes = k.closes })
-  | inr open_yet ↦ go (w.closes (window ++ base) e) refl open_yet
-]
-  where
-    go : (t : Bool) → w.closes (window ++ base) e ≡ t → each_step (λ past e. not (w.closes past e)) window base ≡ true → Closed w (e ∷ window) base ⊎ (each_step (λ past e. not (w.closes past e)) (e ∷ window) base ≡ true)
-    go true is rest = inl (record { newer = []; event = e; older = window; is = refl; closes = is })
-    go false is rest = inr (ap (λ t. if not t then each_step (λ past e. not (w.closes past e)) window base else false) is ∙ rest)
-
--- if it leaves it open, it is shorter than what was allowed and paid
-pub open_short : (r : ℕ) (w : Watch) (most : ℕ) (window base : List Event) → AtEachMoment (IsInTime w) (window ++ base) → (k : Pending r w most base) → each_step (λ past e. not (w.closes past e)) window base ≡ true
-    → steps w.counts window base < most + paid w.pays (window ++ k.window) k.opened
-open_short r w most window base held k open_yet =
-    let rest = subst (λ l. each_step (λ past e. not (w.closes past e)) window l ≡ true) k.is open_yet in
-    let all = each_both (λ past e. not (w.closes past e)) window k.window k.opened rest k.unclosed in
-    let whole : window ++ base ≡ (window ++ k.window) ++ k.opened = ap (λ l. window ++ l) k.is ∙ sym (append_assoc window k.window k.opened) in
-    let less = shorter w k.amount (window ++ base) (window ++ k.window) k.opened held (record { newer = []; is = whole }) k.allows all in
-    let more = more_steps w.counts window k.window k.opened in
-    let same = ap (steps w.counts window) k.is in
-    let few = k.few in
-    omega (arith, less, more, same, few)
-
-unpaid : (window older : List Event) → paid nothing window older ≡ 0
-unpaid [] older = refl
-unpaid (e ∷ window) older = let ih = unpaid window older in omega (arith, ih)
-
--- a member has its number
-pub numbered_on : (a : ℕ) (e : Event) (past : List Event) → begins_leadership a e ≡ false → is_some (proposal_number a past) ≡ true → is_some (proposal_number a (e ∷ past)) ≡ true
-numbered_on a e past same some = ap (λ t. is_some (oldest (λ f. number_put a f.by f.verb) (cond t [] (e ∷ leadership a past)))) same ∙ go (number_put a e.by e.verb) (proposal_number a past) some
-  where
-    go : (o n : Option ℕ) → is_some n ≡ true → is_some (earlier_or o n) ≡ true
-    go None (Some x) s = refl
-    go (Some y) (Some x) s = refl
-    go None None s = absurd (true≢false (sym s))
-    go (Some y) None s = absurd (true≢false (sym s))
-
-pub numbered_stays : (a : ℕ) (window base : List Event) → stays a window ≡ true → is_some (proposal_number a base) ≡ true → is_some (proposal_number a (window ++ base)) ≡ true
-numbered_stays a [] base same some = some
-numbered_stays a (e ∷ window) base same some = let less = stays_less a e window same in numbered_on a e (window ++ base) less.0 (numbered_stays a window base less.1 some)
-
-min_stays : (a : ℕ) (window base : List Event) → stays a window ≡ true → has_min a base ≡ true → has_min a (window ++ base) ≡ true
-min_stays a [] base same some = some
-min_stays a (e ∷ window) base same some = let less = stays_less a e window same in min_on a e (window ++ base) less.0 (min_stays a window base less.1 some)
-
-lands_number : (a p by : ℕ) (verb : Verb) (answer : Answer) (n : Option ℕ) → lands_min a p by verb answer ≡ true → is_some (earlier_or (number_put a by verb) n) ≡ true
-lands_number a p by (Verb.PutMin q b) Answer.Done n lands = go (by == a) (and_parts (by == a) (q == p) lands).0 n
-  where
-    go : (t : Bool) → t ≡ true → (n : Option ℕ) → is_some (earlier_or (cond t (Some b) None) n) ≡ true
-    go true is None = refl
-    go true is (Some x) = refl
-    go false is n = absurd (true≢false (sym is))
-lands_number a p by verb answer n lands = absurd (true≢false (sym lands))
-
-pub member_numbered : (a p : ℕ) (past : List Event) → is_member a p past ≡ true → is_some (proposal_number a past) ≡ true
-member_numbered a p [] member = absurd (true≢false (sym member))
-member_numbered a p (e ∷ past) member = go (begins_leadership a e) refl (lands_min a p e.by e.verb e.answer) refl member (member_numbered a p past)
-  where
-    go : (b : Bool) → begins_leadership a e ≡ b → (t : Bool) → lands_min a p e.by e.verb e.answer ≡ t → is_some (if b then None else if t then newer_or (grant_at_joining a p past) (Some (noted_grant a p past)) else grant_at_joining a p past) ≡ true
-        → (is_member a p past ≡ true → is_some (proposal_number a past) ≡ true) → is_some (proposal_number a (e ∷ past)) ≡ true
-    go true begins t lands member ih = absurd (true≢false (sym member))
-    go false same true lands member ih = ap (λ t. is_some (oldest (λ f. number_put a f.by f.verb) (cond t [] (e ∷ leadership a past)))) same ∙ lands_number a p e.by e.verb e.answer (proposal_number a past) lands
-    go false same false lands member ih = numbered_on a e past same (ih member)
-
--- the put by which a region becomes one
-joins_here : (a p by : ℕ) (verb : Verb) (answer : Answer) (past : List Event) → lands_min a p by verb answer ≡ true → is_member a p past ≡ false → is_joining a past by verb answer ≡ true
-joins_here a p by (Verb.PutMin q b) Answer.Done past lands none =
-    let both = and_parts (by == a) (q == p) lands in
-    and_from (by == a) (not (is_member a q past)) both.0 (ap not (subst (λ x. is_member a x past ≡ false) (sym (eqb-true q p both.1)) none))
-joins_here a p by verb answer past lands none = absurd (true≢false (sym lands))
-
--- what is known grows by commits and by looks alone
-same_known : (c : Config) (a by : ℕ) (verb : Verb) (answer : Answer) (past : List Event) → commits_more c a past (event_by by verb answer) ≡ false → is_learning c a past (event_by by verb answer) ≡ false → length (known c a (event_by by verb answer ∷ past)) ≤ length (known c a past)
-same_known c a by (Verb.PutSlot p i b v) Answer.Done past none learns = go ((by == a) && ((i == length (known c a past)) && is_accepted_by_all c a (event_by by (Verb.PutSlot p i b v) Answer.Done ∷ past) i b v)) none
-  where
-    go : (t : Bool) → nat_lt (length (commits c a past)) (length (grown (commits c a past) (if t then Some (i, v) else None))) ≡ false → length (grown (known c a past) (if t then Some v else None)) ≤ length (known c a past)
-    go true none = absurd (let long = length-append (commits c a past) ((i, v) ∷ []) in let few = ltb-false (length (commits c a past)) (length (commits c a past ++ (i, v) ∷ [])) none in omega (arith, long, few))
-    go false none = omega arith
-same_known c a by (Verb.Look p i) answer past none learns = ltb-false (length (known c a past)) (length (known c a (event_by by (Verb.Look p i) answer ∷ past))) learns
-same_known c a by verb answer past none learns = omega arith
-
--- a raise to all that is known
-raises_brought : (c : Config) (a p by : ℕ) (verb : Verb) (answer : Answer) (past : List Event) → by ≡ a → is_raise_to_verb p (length (known c a past)) verb ≡ true → is_brought_up c a p (event_by by verb answer ∷ past) ≡ true
-raises_brought c a p by (Verb.RaiseFuo q x) answer past own is =
-    let both = and_parts (q == p) (nat_le (length (known c a past)) x) is in
-    go ((by == a) && (q == p)) (and_from (by == a) (q == p) (eq-eqb by a own) both.0) (leb-true (length (known c a past)) x both.1)
-  where
-    go : (t : Bool) → t ≡ true → length (known c a past) ≤ x → nat_le (length (known c a past)) (max_with (cond t (Some x) None) (greatest (λ e. fuo_read_or_raised a p e.by e.verb e.answer) (leadership a past))) ≡ true
-    go true is low = le-leb (length (known c a past)) (max_with (Some x) (greatest (λ e. fuo_read_or_raised a p e.by e.verb e.answer) (leadership a past))) (omega (arith, low))
-    go false is low = absurd (true≢false (sym is))
-raises_brought c a p by verb answer past own is = absurd (true≢false (sym is))
-
--- what holds of each event of a leader that leads on
-record Steady (c : Config) (a : ℕ) (past : List Event) (e : Event) : Type 0 where
-  own : e.by ≡ a
-  on : is_over_after a past e ≡ false
-  named : is_some (proposal_number a past) ≡ true → is_named c a past ≡ true
-
-steady_steps : (c : Config) (a : ℕ) (mine : List Event) → IsPossible c a mine → AtEachMoment (λ now. is_over a now ≡ false) mine → AtEachMoment (λ now. is_some (proposal_number a now) ≡ true → is_named c a now ≡ true) mine → AtEachStep (Steady c a) mine
-steady_steps c a [] possible on named = tt
-steady_steps c a (e ∷ mine) possible on named =
-    let came = parts_shorten_law c a mine e possible in (
-      steady_steps c a mine came.before on.0 named.0,
-      record { own = came.by_own; on = on.1; named = last_moment (λ now. is_some (proposal_number a now) ≡ true → is_named c a now ≡ true) mine named.0 },
-    )
-
--- a step of it is away by no more than what is waited for
-not_away : (b t n m : Bool) → b ≡ false → n ≡ true → m ≡ false → (b || (t && (not n || m))) ≡ false
-not_away b t n m hb hn hm = rw (hb, hn, hm) (go t)
-  where
-    go : (t : Bool) → (t && false) ≡ false
-    go true = refl
-    go false = refl
-
-pub away_by : (b t n m : Bool) → b ≡ false → n ≡ true → (b || (t && (not n || m))) ≡ true → (t ≡ true) × (m ≡ true)
-away_by false t true m hb hn is = and_parts t m is
-away_by true t n m hb hn is = absurd (true≢false hb)
-away_by false t false m hb hn is = absurd (true≢false (sym hn))
+use Rattle.mu_alive.proofs.Enough.{puts_inside}
+use Rattle.mu_alive.proofs.Moments.{at_least_halves, halves}
+use Rattle.mu_alive.proofs.Waiting.{Closed, Pending, closed_or, more_steps, open_short, pending_on, stays_both, stays_newer, stays_older, unpaid}
+use Rattle.mu_alive.proofs.Steady.{Steady, away_by, joins_here, member_numbered, min_stays, not_away, numbered_on, numbered_stays, raises_brought, same_known, steady_steps}
 
 -- a member is brought up, or a count waits for it
 abbrev Brought : Config → ℕ → ℕ → List Event → Type 0
@@ -229,9 +46,6 @@ Brought c a p now = (is_brought_up c a p now ≡ true) ⊎ (Pending a (bringing_
 
 abbrev HasBrought : Config → ℕ → ℕ → List Event → Type 0
 HasBrought c a p now = is_member a p now ≡ true → Brought c a p now
-
-pub limit_fits : (c : Config) (r : ℕ) (now : List Event) → limit_now c r now ≤ limit c c.replicas
-limit_fits c r now = let l = count_few c.replicas (λ p. is_member r p now) in omega (arith, l)
 
 members_fit : (c : Config) (r : ℕ) (now : List Event) → members c r now ≤ limit c c.replicas
 members_fit c r now = let l = count_few c.replicas (λ p. is_member r p now) in omega (arith, l)
@@ -324,7 +138,7 @@ bringing_moments : (c : Config) (a p : ℕ) (mine : List Event) → p < c.replic
 bringing_moments c a p [] low kept = λ left is. absurd (let k = is in cc)
 bringing_moments c a p (e ∷ mine) low kept = (bringing_moments c a p mine low kept.0, kept.1.places.bringing p)
 
-raising_moments : (c : Config) (a p : ℕ) (mine : List Event) → p < c.replicas → AtEachStep (LeaderKeeps c a) mine → AtEachMoment (IsInTime (raising c a p)) mine
+pub raising_moments : (c : Config) (a p : ℕ) (mine : List Event) → p < c.replicas → AtEachStep (LeaderKeeps c a) mine → AtEachMoment (IsInTime (raising c a p)) mine
 raising_moments c a p [] low kept = λ left is. absurd (let k = is in cc)
 raising_moments c a p (e ∷ mine) low kept = (raising_moments c a p mine low kept.0, kept.1.raises p low)
 
@@ -344,7 +158,7 @@ asking_moments c a p [] wide low kept = λ left is. some left is
 asking_moments c a p (e ∷ mine) wide low kept = (asking_moments c a p mine wide low kept.0, kept.1.places.asking p low)
 
 -- a member is brought up in time
-member_in_time : (c : Config) (a p l : ℕ) (window base : List Event) → IsConfig c → LeadsOn c a (window ++ base) → p < c.replicas → stays a window ≡ true → is_member a p base ≡ true → l ≤ length (known c a base) → bringing_steps c ≤ replications window base
+pub member_in_time : (c : Config) (a p l : ℕ) (window base : List Event) → IsConfig c → LeadsOn c a (window ++ base) → p < c.replicas → stays a window ≡ true → is_member a p base ≡ true → l ≤ length (known c a base) → bringing_steps c ≤ replications window base
     → l ≤ greatest (λ e. fuo_read_or_raised a p e.by e.verb e.answer) (window ++ base)
 member_in_time c a p l window base good leads low same member knows long = go (has_brought c a p base (steps_before (Steady c a) window base steady) member)
   where
@@ -400,13 +214,22 @@ member_in_time c a p l window base good leads low same member knows long = go (h
           absurd (omega (arith, less, none, long))
     ]
 
+-- a FUO of p was read that was above what was known, and that was l or more
+pub record Ahead (c : Config) (a p l : ℕ) (now : List Event) : Type 0 where
+  pub newer : List Event
+  pub event : Event
+  pub older : List Event
+  pub is : now ≡ newer ++ event ∷ older
+  pub above : is_fuo_above a p (length (known c a older)) event ≡ true
+  pub least : l ≤ length (known c a older)
+
 -- where a stretch comes to
-abbrev Joins : Config → ℕ → ℕ → ℕ → List Event → Type 0
-Joins c a p l now = (is_member a p now ≡ true) ⊎ (l ≤ greatest (λ e. fuo_read_or_raised a p e.by e.verb e.answer) now)
+abbrev pub Joins : Config → ℕ → ℕ → ℕ → List Event → Type 0
+Joins c a p l now = (is_member a p now ≡ true) ⊎ Ahead c a p l now
 
 joins_stays : (c : Config) (a p l : ℕ) (window base : List Event) → stays a window ≡ true → Joins c a p l base → Joins c a p l (window ++ base)
 joins_stays c a p l window base same (inl member) = inl (member_stays a p window base same member)
-joins_stays c a p l window base same (inr covers) = inr (let along = greatest_along (λ f. fuo_read_or_raised a p f.by f.verb f.answer) window base in omega (arith, covers, along))
+joins_stays c a p l window base same (inr k) = inr (record { newer = window ++ k.newer; event = k.event; older = k.older; is = ap (λ x. window ++ x) k.is ∙ sym (append_assoc window k.newer (k.event ∷ k.older)); above = k.above; least = k.least })
 
 -- a put of the number that doesn't end the leadership lands
 lands_there : (c : Config) (a p : ℕ) (e : Event) (past : List Event) → IsPossible c a (e ∷ past) → e.by ≡ a → is_min_put p e ≡ true → is_over_after a past e ≡ false → lands_min a p e.by e.verb e.answer ≡ true
@@ -476,7 +299,7 @@ joins_in_time c a p l later first base good goes granted late knows long enough 
       where
         by_kind : Steady c a past e → (m : Bool) → is_min_put p e ≡ m → (o : Bool) → o ≡ false → (m || (o || is_fuo_above a p (length (known c a past)) e)) ≡ true → Joins c a p l (e ∷ past)
         by_kind s true put o off is = inl (landing_joins a p e past same (lands_there c a p e past (possible_older c a newer (e ∷ past) (subst (IsPossible c a) whole goes.possible)) s.own put s.on))
-        by_kind s false put false off is = inr (let high = above_read a p (length (known c a past)) e.by (greatest (λ f. fuo_read_or_raised a p f.by f.verb f.answer) past) e.verb e.answer is in omega (arith, high, knew))
+        by_kind s false put false off is = inr (record { newer = []; event = e; older = past; is = refl; above = is; least = knew })
         by_kind s false put true off is = absurd (true≢false off)
 
     -- the fence of a late follower
@@ -569,65 +392,67 @@ joins_in_time c a p l later first base good goes granted late knows long enough 
     go true member = inl (member_stays a p later (first ++ base) late (member_stays a p first base granted.same member))
     go false out = asked out
 
-pub brought_up : FollowersAreBroughtUp
-brought_up c a p l window base good leads granted knows long = done joined
+-- what is so over a stretch is so over its older part
+granted_first : (c : Config) (a p : ℕ) (newer first base : List Event) → IsGranted c a p (newer ++ first) base → IsGranted c a p first base
+granted_first c a p newer first base granted = record {
+  inside = granted.inside;
+  read = granted.read;
+  numbered = granted.numbered;
+  same = stays_older a newer first granted.same;
+  notes = λ above below e is fence. granted.notes (newer ++ above) below e (ap (λ z. newer ++ z) is ∙ sym (append_assoc newer above (e ∷ below))) fence;
+}
+
+-- the same in steps
+pub joins_up : (c : Config) (a p l : ℕ) (window base : List Event) → IsConfig c → LeadsOn c a (window ++ base) → IsGranted c a p window base → l ≤ length (known c a base) → 4 * bringing_steps c + 8 ≤ length window → Joins c a p l (window ++ base)
+joins_up c a p l window base good leads granted knows long =
+    subst (Joins c a p l) (sym split)
+    (joins_in_time c a p l first.newer first.rest base good (subst (LeadsOn c a) split leads) (granted_first c a p first.newer first.rest base (subst (λ x. IsGranted c a p x base) first.is granted)) stayed knows
+    (let half = halves (2 * bringing_steps c) first.rest base (let count = first.count in omega (arith, count)) in omega (arith, half))
+    (let half = at_least_halves first.newer (first.rest ++ base) in let sum = ap length first.is ∙ length-append first.newer first.rest in let count = first.count in omega (arith, half, sum, count, long)))
   where
     first : Cut (4 * bringing_steps c) window
     first = cut (4 * bringing_steps c) window (omega (arith, long))
 
-    second : Cut 8 first.newer
-    second = cut 8 first.newer (let sum = ap length first.is ∙ length-append first.newer first.rest in let count = first.count in omega (arith, sum, count, long))
+    split : window ++ base ≡ first.newer ++ (first.rest ++ base)
+    split = ap (λ z. z ++ base) first.is ∙ append_assoc first.newer first.rest base
 
-    third : Cut (2 * bringing_steps c) second.newer
-    third = cut (2 * bringing_steps c) second.newer (let sum = ap length first.is ∙ length-append first.newer first.rest in let sums = ap length second.is ∙ length-append second.newer second.rest in let count = first.count in let counts = second.count in omega (arith, sum, sums, count, counts, long))
+    stayed : stays a first.newer ≡ true
+    stayed = stays_newer a first.newer first.rest (subst (λ z. stays a z ≡ true) first.is granted.same)
+
+ahead_covers : (c : Config) (a p l : ℕ) (now : List Event) → Ahead c a p l now → l ≤ greatest (λ e. fuo_read_or_raised a p e.by e.verb e.answer) now
+ahead_covers c a p l now k =
+    let high = above_read a p (length (known c a k.older)) k.event.by (greatest (λ f. fuo_read_or_raised a p f.by f.verb f.answer) k.older) k.event.verb k.event.answer k.above in
+    let along = greatest_along (λ f. fuo_read_or_raised a p f.by f.verb f.answer) k.newer (k.event ∷ k.older) in
+    let same = ap (greatest (λ f. fuo_read_or_raised a p f.by f.verb f.answer)) k.is in
+    let least = k.least in
+    omega (arith, high, along, same, least)
+
+pub brought_up : FollowersAreBroughtUp
+brought_up c a p l window base good leads granted knows long = done (joins_up c a p l lower.rest base good (leads_older c a lower.newer middle goes) (granted_first c a p lower.newer lower.rest base (subst (λ x. IsGranted c a p x base) lower.is granted)) knows (let count = lower.count in omega (arith, count)))
+  where
+    lower : Cut (4 * bringing_steps c + 8) window
+    lower = cut (4 * bringing_steps c + 8) window (omega (arith, long))
 
     middle : List Event
-    middle = second.rest ++ (first.rest ++ base)
+    middle = lower.rest ++ base
 
-    split : window ++ base ≡ third.newer ++ (third.rest ++ middle)
-    split =
-        ap (λ z. z ++ base) first.is ∙ append_assoc first.newer first.rest base ∙ ap (λ z. z ++ (first.rest ++ base)) second.is ∙ append_assoc second.newer second.rest (first.rest ++ base) ∙ ap (λ z. z ++ middle) third.is ∙ append_assoc third.newer third.rest middle
+    split : window ++ base ≡ lower.newer ++ middle
+    split = ap (λ z. z ++ base) lower.is ∙ append_assoc lower.newer lower.rest base
 
-    stayed : stays a window ≡ true
-    stayed = granted.same
-
-    stayed_first : stays a first.rest ≡ true
-    stayed_first = stays_older a first.newer first.rest (subst (λ z. stays a z ≡ true) first.is stayed)
-
-    stayed_later : stays a first.newer ≡ true
-    stayed_later = stays_newer a first.newer first.rest (subst (λ z. stays a z ≡ true) first.is stayed)
-
-    stayed_second : stays a second.rest ≡ true
-    stayed_second = stays_older a second.newer second.rest (subst (λ z. stays a z ≡ true) second.is stayed_later)
-
-    stayed_third : stays a third.rest ≡ true
-    stayed_third = stays_older a third.newer third.rest (subst (λ z. stays a z ≡ true) third.is (stays_newer a second.newer second.rest (subst (λ z. stays a z ≡ true) second.is stayed_later)))
-
-    upto : LeadsOn c a (third.rest ++ middle)
-    upto = leads_older c a third.newer (third.rest ++ middle) (subst (LeadsOn c a) split leads)
-
-    joined : Joins c a p l middle
-    joined =
-        joins_in_time c a p l second.rest first.rest base good (leads_older c a third.rest middle upto)
-        (record {
-          inside = granted.inside;
-          read = granted.read;
-          numbered = granted.numbered;
-          same = stayed_first;
-          notes = λ newer older e is fence. granted.notes (first.newer ++ newer) older e (first.is ∙ ap (λ z. first.newer ++ z) is ∙ sym (append_assoc first.newer newer (e ∷ older))) fence;
-        }) stayed_second knows (let half = halves (2 * bringing_steps c) first.rest base (let count = first.count in omega (arith, count)) in omega (arith, half)) (let half = halves 4 second.rest (first.rest ++ base) second.count in omega (arith, half))
+    goes : LeadsOn c a (lower.newer ++ middle)
+    goes = subst (LeadsOn c a) split leads
 
     done : Joins c a p l middle → l ≤ greatest (λ e. fuo_read_or_raised a p e.by e.verb e.answer) (window ++ base)
-    done (inr covers) =
-        let along = greatest_along (λ e. fuo_read_or_raised a p e.by e.verb e.answer) third.rest middle in
-        let more = greatest_along (λ e. fuo_read_or_raised a p e.by e.verb e.answer) third.newer (third.rest ++ middle) in
+    done (inr ahead) =
+        let covers = ahead_covers c a p l middle ahead in
+        let more = greatest_along (λ e. fuo_read_or_raised a p e.by e.verb e.answer) lower.newer middle in
         let same = ap (greatest (λ e. fuo_read_or_raised a p e.by e.verb e.answer)) split in
-        omega (arith, covers, along, more, same)
+        omega (arith, covers, more, same)
     done (inl member) =
-        let grows = known_grows c a (second.rest ++ first.rest) base in
-        let flat = ap (λ z. length (known c a z)) (append_assoc second.rest first.rest base) in
-        let half = halves (bringing_steps c) third.rest middle third.count in
-        let there = member_in_time c a p l third.rest middle good upto granted.inside stayed_third member (omega (arith, grows, flat, knows)) (omega (arith, half)) in
-        let more = greatest_along (λ e. fuo_read_or_raised a p e.by e.verb e.answer) third.newer (third.rest ++ middle) in
+        let grows = known_grows c a lower.rest base in
+        let half = at_least_halves lower.newer middle in
+        let sum = ap length lower.is ∙ length-append lower.newer lower.rest in
+        let count = lower.count in
+        let there = member_in_time c a p l lower.newer middle good goes granted.inside (stays_newer a lower.newer lower.rest (subst (λ z. stays a z ≡ true) lower.is granted.same)) member (omega (arith, grows, knows)) (omega (arith, half, sum, count, long)) in
         let same = ap (greatest (λ e. fuo_read_or_raised a p e.by e.verb e.answer)) split in
-        omega (arith, there, more, same)
+        omega (arith, there, same)

@@ -197,7 +197,7 @@ closing b n o l k x t m hb hn ho hl hk hx = rw (hb, hn, ho, hl, hk, hx) (go t m)
 closes_at : (c : Config) (r : ℕ) (past : List Event) (e : Event) → IsCalmStep c r past e → leaves c r (is_progress c r) past e ≡ (is_replication past e && commits_more c r past e)
 closes_at c r past e calm = closing (begins_leadership r e) (is_named c r past) (is_over_after r past e) (is_lagging c r past e) (knows_all c r past) (is_some (outrun c r (e ∷ past))) (is_replication past e) (commits_more c r past e) calm.same calm.named calm.leads_on calm.has_room calm.lacks calm.going
 
-limit_fits : (c : Config) (r : ℕ) (now : List Event) → limit_now c r now ≤ limit c c.replicas
+pub limit_fits : (c : Config) (r : ℕ) (now : List Event) → limit_now c r now ≤ limit c c.replicas
 limit_fits c r now = let l = count_few c.replicas (λ p. is_member r p now) in omega (arith, l)
 
 -- what is left of the progress bound, and what is spent

@@ -1,8 +1,7 @@
 -- A replica that doesn't lead applies what is decided in time, and raises its head to it.
-use Rattle.std.proofs.Common.{◌≡◌, ℕ, ◌+◌, ◌*◌, ◌<◌, ◌≤◌, ◌==◌, ◌&&◌, ◌||◌, not, inl, inr, Bool, true, false, cond, Some, None, List, [], ◌∷◌, ◌++◌, length, refl, sym, ◌∙◌, ap, arith, subst, eqb-true, true≢false, append_assoc}
+use Rattle.std.proofs.Common.{◌≡◌, ℕ, ◌+◌, ◌*◌, ◌<◌, ◌≤◌, ◌==◌, ◌&&◌, not, inl, inr, Bool, true, false, cond, Some, None, List, [], ◌∷◌, ◌++◌, length, refl, sym, ◌∙◌, ap, arith, subst, eqb-true, true≢false, append_assoc}
 use Rattle.std.specs.Prelude.{min}
-use Rattle.std.proofs.Math.Nat.{mul-le-mul_left}
-use Rattle.std.proofs.lemmas.Bool.{and_from, cases_lt, eq-eqb, ltb-true}
+use Rattle.std.proofs.lemmas.Bool.{and_from, cases_lt, eq-eqb}
 use Rattle.std.proofs.lemmas.List.{length-append}
 use Rattle.mu_model.specs.declared.config.Config.{Config}
 use Rattle.mu_model.specs.declared.event.Answer.{Answer}
@@ -11,15 +10,15 @@ use Rattle.mu_model.specs.declared.event.Verb.{Verb}
 use Rattle.mu_model.specs.Answers.{answer_of}
 use Rattle.mu_model.specs.Bounds.{cycle}
 use Rattle.mu_model.specs.Contents.{IsConfig, row_count}
-use Rattle.mu_model.specs.Diligence.{TellsHeads, completes_row}
+use Rattle.mu_model.specs.Diligence.{TellsHeads}
 use Rattle.mu_model.specs.Histories.{greatest, max_with, part}
-use Rattle.mu_model.specs.Knowledge.{applied, fuo_read, greatest_fuo_read, known}
+use Rattle.mu_model.specs.Knowledge.{applied, fuo_read, greatest_fuo_read}
 use Rattle.mu_model.specs.Legal.{IsLegalHistory}
 use Rattle.mu_model.specs.Parts.{IsPossible}
 use Rattle.mu_model.specs.Placing.{fuo_read_or_raised}
 use Rattle.mu_model.specs.Regions.{fuo_raised, head_raised, region_fuo, region_head}
 use Rattle.mu_model.specs.Room.{reserve}
-use Rattle.mu_model.specs.Steps.{is_fuo_of, is_fuo_of_verb, is_head_raise, is_head_raise_verb, is_named, knows_more, unnamed_throughout}
+use Rattle.mu_model.specs.Steps.{is_fuo_of, is_fuo_of_verb, is_head_raise, is_head_raise_verb, is_named, unnamed_throughout}
 use Rattle.mu_model.specs.Stretches.{IsStretch, is_replication, some_step}
 use Rattle.mu_model.proofs.Counts.{max_with_grows}
 use Rattle.mu_model.proofs.Owned.{IsOwn, greatest-part}
@@ -27,52 +26,13 @@ use Rattle.mu_model.proofs.Parts.{filter-append, part_is_possible}
 use Rattle.mu_agree.proofs.Legal.{legal_older}
 use Rattle.mu_agree.proofs.Possible.{parts_shorten_law}
 use Rattle.mu_agree.proofs.Prefixes.{greatest_along}
-use Rattle.mu_agree.proofs.Tame.{known_longer}
 use Rattle.mu_pace.specs.Counters.{AtEachMoment, AtEachStep}
 use Rattle.mu_pace.proofs.Counting.{moments_before, steps_before}
-use Rattle.mu_pace.proofs.Growing.{known_grows}
-use Rattle.mu_pace.proofs.Positions.{known_fits}
-use Rattle.mu_alive.specs.Following.{FollowersCatchUp, RaisesToAll, catching_steps}
+use Rattle.mu_alive.specs.Following.{FollowersCatchUp, FollowsOn, RaisesToAll, catching_steps}
 use Rattle.mu_alive.proofs.Cutting.{Cut, Located, Met, cut, located, met}
-use Rattle.mu_alive.proofs.Fetching.{applied_grows, completes_one, few_rows, got_now, got_stays}
+use Rattle.mu_alive.proofs.Fetching.{applied_grows}
+use Rattle.mu_alive.proofs.Gaining.{gain, gain_few, gain_some, gain_stays, gains}
 use Rattle.mu_alive.proofs.Moments.{From, adds_up, each_before}
-
--- how many entries r knows, and rows of these it has
-abbrev gain : Config → ℕ → List Event → ℕ
-gain c r past = length (known c r past) + got_now c r past
-
-abbrev gains : Config → ℕ → List Event → Event → Bool
-gains c r past e = knows_more c r past e || completes_row c r past e
-
-gain_stays : (c : Config) (r : ℕ) (newer older : List Event) → gain c r older ≤ gain c r (newer ++ older)
-gain_stays c r newer older = let k = known_grows c r newer older in let g = got_stays c r newer older in omega (arith, k, g)
-
-gain_few : (c : Config) (r : ℕ) (past : List Event) → IsConfig c → IsPossible c r past → gain c r past ≤ (c.width + 1) * (row_count c + reserve c)
-gain_few c r past good possible =
-    let fits = known_fits c r past good possible in
-    let rows = few_rows c r past (known c r past) good in
-    let most : c.width * length (known c r past) ≤ c.width * (row_count c + reserve c) = mul-le-mul_left c.width fits in
-    let all : (c.width + 1) * (row_count c + reserve c) ≡ c.width * (row_count c + reserve c) + (row_count c + reserve c) = omega arith in
-    omega (arith, fits, rows, most, all)
-
--- an entry that is learnt, and a row that is completed, is one more
-gain_one : (c : Config) (r : ℕ) (e : Event) (past : List Event) → gains c r past e ≡ true → gain c r past + 1 ≤ gain c r (e ∷ past)
-gain_one c r e past is = go (knows_more c r past e) refl is
-  where
-    go : (t : Bool) → knows_more c r past e ≡ t → (t || completes_row c r past e) ≡ true → gain c r past + 1 ≤ gain c r (e ∷ past)
-    go true more is =
-        let l = ltb-true (length (known c r past)) (length (known c r (e ∷ past))) more in
-        let g = got_stays c r (e ∷ []) past in
-        omega (arith, l, g)
-    go false more is = let k = known_longer c r e past in let g = completes_one c r e past is in omega (arith, k, g)
-
-gain_some : (c : Config) (r : ℕ) (window older : List Event) → some_step (gains c r) window older ≡ true → gain c r older + 1 ≤ gain c r (window ++ older)
-gain_some c r [] older some = absurd (true≢false (sym some))
-gain_some c r (e ∷ window) older some = go (gains c r (window ++ older) e) refl some (gain_some c r window older)
-  where
-    go : (t : Bool) → gains c r (window ++ older) e ≡ t → cond t true (some_step (gains c r) window older) ≡ true → (some_step (gains c r) window older ≡ true → gain c r older + 1 ≤ gain c r (window ++ older)) → gain c r older + 1 ≤ gain c r (e ∷ (window ++ older))
-    go true is some ih = let one = gain_one c r e (window ++ older) is in let stays = gain_stays c r window older in omega (arith, one, stays)
-    go false is some ih = let more = ih some in let stays = gain_stays c r (e ∷ []) (window ++ older) in omega (arith, more, stays)
 
 -- who gains in each two rounds while it has applied less than l entries has applied l in time
 pub catches_up : (c : Config) (r l : ℕ) (window base : List Event) → IsConfig c → IsPossible c r (window ++ base)
@@ -93,7 +53,7 @@ catches_up c r l window base good possible moves long = elim (cases_lt (length (
         omega (arith, grows, same, short)
 
 -- the greatest FUO of its own region that r read or raised
-abbrev own_fuo : ℕ → List Event → ℕ
+abbrev pub own_fuo : ℕ → List Event → ℕ
 own_fuo r past = greatest (λ f. fuo_read_or_raised r r f.by f.verb f.answer) past
 
 raise_verb : (verb : Verb) → is_head_raise_verb verb ≡ true → (h : ℕ) × (verb ≡ Verb.RaiseHead h)
@@ -147,7 +107,7 @@ head_follows c r l window base possible heads raises held decided long = elim (c
         both a f x y = omega (arith, x, y)
 
 -- a FUO that is read is one that is read or raised
-read_is_less : (r : ℕ) (past : List Event) → greatest_fuo_read r r past ≤ own_fuo r past
+pub read_is_less : (r : ℕ) (past : List Event) → greatest_fuo_read r r past ≤ own_fuo r past
 read_is_less r [] = omega arith
 read_is_less r (e ∷ past) = go e.by e.verb e.answer (read_is_less r past)
   where
@@ -180,6 +140,45 @@ reads_fuo r by x old verb answer own is tells =
     go true is = omega arith
     go false is = absurd (true≢false (sym is))
 
+-- it doesn't name itself in a stretch
+away : (c : Config) (r : ℕ) (newer older : List Event) → FollowsOn c r newer older → (top w base : List Event) → part r (newer ++ older) ≡ top ++ (w ++ base) → length (part r older) ≤ length base → unnamed_throughout c r w base ≡ true
+away c r newer older follows top w base is late =
+    each_before (length (part r older)) (λ now. not (is_named c r now)) is_replication w base late
+    (not_named (w ++ base) (moments_before (λ now. length (part r older) ≤ length now → is_named c r now ≡ false) top (w ++ base) (subst (AtEachMoment (λ now. length (part r older) ≤ length now → is_named c r now ≡ false)) is follows.unnamed)))
+  where
+    not_named : (past : List Event) → AtEachMoment (λ now. length (part r older) ≤ length now → is_named c r now ≡ false) past → AtEachMoment (From (length (part r older)) (λ now. not (is_named c r now) ≡ true)) past
+    not_named [] held = λ late. ap not (held late)
+    not_named (e ∷ past) held = (not_named past held.0, λ late. ap not (held.1 late))
+
+-- its FUO is read in two rounds
+pub fuo_read_in_time : (c : Config) (r l : ℕ) (newer older : List Event) → FollowsOn c r newer older → l ≤ region_fuo r older → (top window : List Event) → part r newer ≡ top ++ window → length window ≡ 2 * cycle c → l ≤ greatest_fuo_read r r (window ++ part r older)
+fuo_read_in_time c r l newer older follows fuo top window is two = at (located r newer (top ++ read.newer) read.older read.event (is ∙ ap (λ x. top ++ x) read.is ∙ sym (append_assoc top read.newer (read.event ∷ read.older))))
+  where
+    base : List Event
+    base = part r older
+
+    mine : part r (newer ++ older) ≡ top ++ (window ++ base)
+    mine = filter-append (λ e. e.by == r) newer older ∙ ap (λ x. x ++ base) is ∙ append_assoc top window base
+
+    read : Met (is_fuo_of r) window
+    read = met (is_fuo_of r) window (follows.replays.reads window base (record { newer = top; is = mine }) (omega (arith, two)) (away c r newer older follows top window base mine (omega arith)))
+
+    at : Located r newer read.event read.older → l ≤ greatest_fuo_read r r (window ++ base)
+    at place =
+        let whole : newer ++ older ≡ place.newer ++ read.event ∷ (place.older ++ older) = ap (λ x. x ++ older) place.is ∙ append_assoc place.newer (read.event ∷ place.older) older in
+        let legal = (legal_older c place.newer (read.event ∷ (place.older ++ older)) (subst (IsLegalHistory c) whole follows.legal)).1 in
+        let verb = fuo_verb r read.event.verb read.passes in
+        let answer : read.event.answer ≡ Answer.Number (region_fuo r (place.older ++ older)) = legal.answer ∙ ap (answer_of c read.event.by (place.older ++ older)) verb in
+        let higher : region_fuo r older ≤ region_fuo r (place.older ++ older) = greatest_along (λ e. fuo_raised r e.verb) place.older older in
+        let seen = reads_fuo r read.event.by (region_fuo r (place.older ++ older)) (greatest_fuo_read r r (read.older ++ base)) read.event.verb read.event.answer place.own verb answer in
+        let up = greatest_along (λ e. fuo_read r r e.by e.verb e.answer) read.newer (read.event ∷ (read.older ++ base)) in
+        let same = ap (greatest_fuo_read r r) (ap (λ x. x ++ base) read.is ∙ append_assoc read.newer (read.event ∷ read.older) base) in
+        omega (arith, fuo, higher, seen, up, same)
+
+-- and it gains in two rounds while that is above what it has applied
+pub gains_in_time : (c : Config) (r : ℕ) (newer older : List Event) → FollowsOn c r newer older → (top w base : List Event) → part r (newer ++ older) ≡ top ++ (w ++ base) → length (part r older) ≤ length base → length w ≡ 2 * cycle c → length (applied c r base) < greatest_fuo_read r r base → some_step (gains c r) w base ≡ true
+gains_in_time c r newer older follows top w base is late two low = follows.replays.learns w base (record { newer = top; is = is }) (omega (arith, two)) (away c r newer older follows top w base is late) low
+
 pub follows_up : FollowersCatchUp
 follows_up c r l newer older good follows fuo long = (there.0, subst (λ x. l ≤ x) (greatest-part (λ e. head_raised r e.by e.verb) r heads-own (newer ++ older)) there.1)
   where
@@ -211,46 +210,15 @@ follows_up c r l newer older good follows fuo long = (there.0, subst (λ x. l �
     possible : IsPossible c r (part r (newer ++ older))
     possible = part_is_possible c r (newer ++ older) follows.legal
 
-    -- it doesn't name itself in a stretch
-    away : (w rest : List Event) → IsStretch (part r (newer ++ older)) w (rest ++ base) → unnamed_throughout c r w (rest ++ base) ≡ true
-    away w rest s =
-        each_before (length base) (λ now. not (is_named c r now)) is_replication w (rest ++ base) (let sum = length-append rest base in omega (arith, sum))
-        (not_named (w ++ (rest ++ base)) (moments_before (λ now. length base ≤ length now → is_named c r now ≡ false) s.newer (w ++ (rest ++ base)) (subst (AtEachMoment (λ now. length base ≤ length now → is_named c r now ≡ false)) s.is follows.unnamed)))
-      where
-        not_named : (past : List Event) → AtEachMoment (λ now. length base ≤ length now → is_named c r now ≡ false) past → AtEachMoment (From (length base) (λ now. not (is_named c r now) ≡ true)) past
-        not_named [] held = λ late. ap not (held late)
-        not_named (e ∷ past) held = (not_named past held.0, λ late. ap not (held.1 late))
-
-    -- its FUO is read in the first two rounds
-    read : Met (is_fuo_of r) first.rest
-    read = met (is_fuo_of r) first.rest (follows.replays.reads first.rest base (record { newer = first.newer; is = lower }) (let count = first.count in omega (arith, count)) (away first.rest [] (record { newer = first.newer; is = lower })))
-
     knows : l ≤ greatest_fuo_read r r (first.rest ++ base)
-    knows =
-        let whole : part r newer ≡ (first.newer ++ read.newer) ++ read.event ∷ read.older = first.is ∙ ap (λ x. first.newer ++ x) read.is ∙ sym (append_assoc first.newer read.newer (read.event ∷ read.older)) in
-        let place = located r newer (first.newer ++ read.newer) read.older read.event whole in
-        at place
-      where
-        at : Located r newer read.event read.older → l ≤ greatest_fuo_read r r (first.rest ++ base)
-        at place =
-            let whole : newer ++ older ≡ place.newer ++ read.event ∷ (place.older ++ older) = ap (λ x. x ++ older) place.is ∙ append_assoc place.newer (read.event ∷ place.older) older in
-            let legal = (legal_older c place.newer (read.event ∷ (place.older ++ older)) (subst (IsLegalHistory c) whole follows.legal)).1 in
-            let verb = fuo_verb r read.event.verb read.passes in
-            let answer : read.event.answer ≡ Answer.Number (region_fuo r (place.older ++ older)) = legal.answer ∙ ap (answer_of c read.event.by (place.older ++ older)) verb in
-            let higher : region_fuo r older ≤ region_fuo r (place.older ++ older) = greatest_along (λ e. fuo_raised r e.verb) place.older older in
-            let seen = reads_fuo r read.event.by (region_fuo r (place.older ++ older)) (greatest_fuo_read r r (read.older ++ base)) read.event.verb read.event.answer place.own verb answer in
-            let up = greatest_along (λ e. fuo_read r r e.by e.verb e.answer) read.newer (read.event ∷ (read.older ++ base)) in
-            let same = ap (greatest_fuo_read r r) (ap (λ x. x ++ base) read.is ∙ append_assoc read.newer (read.event ∷ read.older) base) in
-            omega (arith, fuo, higher, seen, up, same)
+    knows = fuo_read_in_time c r l newer older follows fuo first.newer first.rest first.is first.count
 
     -- then it gains in each two rounds
     moves : (w rest : List Event) → IsStretch (second.rest ++ (first.rest ++ base)) w (rest ++ (first.rest ++ base)) → length w ≡ 2 * cycle c → length (applied c r (rest ++ (first.rest ++ base))) < l → some_step (gains c r) w (rest ++ (first.rest ++ base)) ≡ true
     moves w rest s two low =
-        let there : IsStretch (part r (newer ++ older)) w (rest ++ (first.rest ++ base)) = record { newer = second.newer ++ s.newer; is = upper ∙ ap (λ x. second.newer ++ x) s.is ∙ sym (append_assoc second.newer s.newer (w ++ (rest ++ (first.rest ++ base)))) } in
         let higher = greatest_along (λ e. fuo_read r r e.by e.verb e.answer) rest (first.rest ++ base) in
-        let off : unnamed_throughout c r w (rest ++ (first.rest ++ base)) ≡ true = subst (λ x. unnamed_throughout c r w x ≡ true) (append_assoc rest first.rest base) (away w (rest ++ first.rest) (subst (IsStretch (part r (newer ++ older)) w) (sym (append_assoc rest first.rest base)) there)) in
         let some = knows in
-        follows.replays.learns w (rest ++ (first.rest ++ base)) there (omega (arith, two)) off (omega (arith, low, higher, some))
+        gains_in_time c r newer older follows (second.newer ++ s.newer) w (rest ++ (first.rest ++ base)) (upper ∙ ap (λ x. second.newer ++ x) s.is ∙ sym (append_assoc second.newer s.newer (w ++ (rest ++ (first.rest ++ base))))) (let sum = length-append rest (first.rest ++ base) in let more = length-append first.rest base in omega (arith, sum, more)) two (omega (arith, low, higher, some))
 
     held : l ≤ length (applied c r (second.rest ++ (first.rest ++ base)))
     held = catches_up c r l second.rest (first.rest ++ base) good (older_possible second.newer (second.rest ++ (first.rest ++ base)) (subst (IsPossible c r) upper possible)) moves (let count = second.count in omega (arith, count))

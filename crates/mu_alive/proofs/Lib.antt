@@ -3,22 +3,31 @@ pub mod Applying
 pub mod Beginning
 mod Bringing
 mod Calm
+mod Catching
 pub mod Cutting
 pub mod Enough
 pub mod Failing
 pub mod Fetching
 pub mod Finishing
 mod Following
+mod Gaining
 mod Granting
+mod KnowsMost
 pub mod Lagging
 mod LastNoting
 mod Lasting
 mod Moments
 mod Noting
+mod Opening
 mod OwnNumbers
+mod Rising
+mod Settled
+mod Started
+mod Steady
 pub mod TurnFences
 pub mod TurnGrants
 mod TurnNumbers
 pub mod TurnOwners
 pub mod Turns
 mod Unhindered
+mod Waiting

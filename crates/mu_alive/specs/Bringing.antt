@@ -1,6 +1,6 @@
--- leads on, is granted, bringing steps: no leadership of a replica ends, and it keeps a leader's
--- paces; each fence of a region that it reads grants to it; the most replication events until its
--- members are brought up, and so how soon a region that granted to it has what it knew.
+-- leads on, is granted, most paid, bringing steps: no leadership of a replica ends, and it keeps a
+-- leader's paces; each fence of a region that it reads grants to it; what it is paid at most; and so
+-- the most replication events until its members are brought up.
 use Rattle.std.specs.Prelude.{List, false, is_some, length, true, ℕ, ◌*◌, ◌++◌, ◌+◌, ◌<◌, ◌∷◌, ◌≡◌, ◌≤◌}
 use Rattle.mu_model.specs.declared.config.Config.{Config}
 use Rattle.mu_model.specs.declared.event.Event.{Event}
@@ -39,12 +39,15 @@ pub record IsGranted (c : Config) (a p : ℕ) (window base : List Event) : Type 
       (newer older : List Event) (e : Event) → window ≡ newer ++ e ∷ older
       → is_fencing p e ≡ true → is_some (noted_grant a p (e ∷ (older ++ base))) ≡ true
 
+-- what a leadership is paid at most: for each member, and for each entry that is learnt or copied
+abbrev pub most_paid : Config → ℕ
+most_paid c =
+    6 * c.replicas + 8 * ((row_count c + reserve c) + c.replicas * (row_count c + reserve c))
+
 -- the most replication events that a leadership takes until its members are brought up: the bound,
--- and what is paid for each member, and for each entry that is learnt or copied
+-- and what is paid
 abbrev pub bringing_steps : Config → ℕ
-bringing_steps c =
-    limit c c.replicas + 6 * c.replicas
-    + 8 * ((row_count c + reserve c) + c.replicas * (row_count c + reserve c))
+bringing_steps c = limit c c.replicas + most_paid c
 
 -- twice as many until the fence of p is read, four until it is a member, and as many until it is
 -- brought up: in steps

@@ -1,45 +1,44 @@
--- free places, filling steps, steps in any ring: the places of a ring that aren't kept for marks;
--- the steps within which a leader fills them though heads lag; and knows every command.
-use Rattle.std.specs.Prelude.{Bool, List, false, length, true, ℕ, ◌*◌, ◌++◌, ◌+◌, ◌-◌, ◌/◌, ◌<◌, ◌≡◌, ◌≤◌}
+-- gain steps, commit steps, steps in any ring: the steps within which each replica that lags gains an
+-- entry or a row; those for each entry besides; and within which a leader has committed every
+-- command, whatever the ring.
+use Rattle.std.specs.Prelude.{Bool, List, length, true, ℕ, ◌*◌, ◌+◌, ◌<◌, ◌≡◌, ◌≤◌}
 use Rattle.mu_model.specs.declared.config.Config.{Config}
 use Rattle.mu_model.specs.declared.event.Event.{Event}
+use Rattle.mu_model.specs.Bounds.{cycle}
 use Rattle.mu_model.specs.Contents.{IsConfig, holds_all, row_count}
 use Rattle.mu_model.specs.Histories.{part}
-use Rattle.mu_model.specs.Knowledge.{applied, known}
+use Rattle.mu_model.specs.Knowledge.{applied}
 use Rattle.mu_model.specs.Room.{reserve}
-use Rattle.mu_model.specs.Steps.{knows_all}
+use Rattle.mu_pace.specs.Watches.{limit}
 use Rattle.mu_alive.specs.Alone.{WritesAlone}
-use Rattle.mu_alive.specs.Bringing.{bringing_steps}
+use Rattle.mu_alive.specs.Bringing.{bringing_steps, joining_steps}
 use Rattle.mu_alive.specs.Enough.{beginning_steps}
-use Rattle.mu_alive.specs.Finishing.{KeepUp, lagging_steps}
+use Rattle.mu_alive.specs.Finishing.{HaveAllRaised, KeepUp, lagging_steps}
 use Rattle.mu_alive.specs.Lone.{LeadsAlone}
 
--- the places of a ring that aren't kept for marks
-abbrev pub free_places : Config → ℕ
-free_places c = c.ring - reserve c
+-- in so many steps of the leader each replica that lags gains an entry or a row, all at once
+abbrev pub gain_steps : Config → ℕ
+gain_steps c = 2 * cycle c + 2
 
--- in so many steps the heads of all have come to what it knew, and then it fills these places
-abbrev pub filling_steps : Config → ℕ
-filling_steps c = lagging_steps c + free_places c * (2 * bringing_steps c)
+-- for each entry besides: its FUOs are raised and read, then the heads are, and the next entry is
+-- committed
+abbrev pub commit_steps : Config → ℕ
+commit_steps c =
+    2 * c.replicas + gain_steps c + (cycle c + 2) + 2 * limit c c.replicas
 
--- a replica that asks alone, and that all others keep up with, knows as many entries more so many
--- steps later, while some command is missing
-abbrev pub LoneLeadersFillTheRing : Type 0
-LoneLeadersFillTheRing =
-    (c : Config) (live : ℕ → Bool) (a : ℕ) (newer older : List Event) → IsConfig c
-    → ((r : ℕ) → r < c.replicas → live r ≡ true) → LeadsAlone c live a (newer ++ older)
-    → WritesAlone a (newer ++ older) → KeepUp c live a (newer ++ older)
-    → knows_all c a (part a (newer ++ older)) ≡ false → beginning_steps c ≤ length (part a older)
-    → filling_steps c ≤ length (part a newer)
-    → length (known c a (part a older)) + free_places c
-    ≤ length (known c a (part a (newer ++ older)))
+-- all regions are granted, become members, and are brought up; and what the leadership is paid
+abbrev pub settling_steps : Config → ℕ
+settling_steps c =
+    beginning_steps c + (2 * cycle c + 2) + joining_steps c + 2 * bringing_steps c
 
--- so many steps are enough in any ring
+-- so many steps are enough in any ring: each entry is committed once, and learnt and fetched once by
+-- the replica that is last
 abbrev pub steps_in_any_ring : Config → ℕ
 steps_in_any_ring c =
-    beginning_steps c + ((row_count c + reserve c) / free_places c + 1) * filling_steps c
+    settling_steps c + (row_count c + reserve c) * commit_steps c
+    + (c.width + 1) * (row_count c + reserve c) * gain_steps c
 
--- so it has applied every command then
+-- a replica that asks alone, and that all others keep up with, has applied every command then
 abbrev pub LoneLeadersApplyAllInAnyRing : Type 0
 LoneLeadersApplyAllInAnyRing =
     (c : Config) (live : ℕ → Bool) (a : ℕ) (past : List Event) → IsConfig c
@@ -47,3 +46,14 @@ LoneLeadersApplyAllInAnyRing =
     → WritesAlone a past → KeepUp c live a past
     → steps_in_any_ring c ≤ length (part a past)
     → holds_all c (applied c a (part a past)) ≡ true
+
+-- and so many more until all others have too, and have raised their heads to it
+abbrev pub raising_in_any_ring : Config → ℕ
+raising_in_any_ring c = steps_in_any_ring c + lagging_steps c
+
+abbrev pub LoneLeadersRaiseAllInAnyRing : Type 0
+LoneLeadersRaiseAllInAnyRing =
+    (c : Config) (live : ℕ → Bool) (a : ℕ) (past : List Event) → IsConfig c
+    → ((r : ℕ) → r < c.replicas → live r ≡ true) → LeadsAlone c live a past
+    → WritesAlone a past → KeepUp c live a past
+    → raising_in_any_ring c ≤ length (part a past) → HaveAllRaised c live past

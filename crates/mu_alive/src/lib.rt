@@ -8,7 +8,7 @@ ghost use Rattle.mu_alive.specs.Enough.{LoneLeadersApplyAll, LoneLeadersKnowAll}
 ghost use Rattle.mu_alive.specs.Failing.{HeldFailedInTime};
 ghost use Rattle.mu_alive.specs.Finishing.{LoneLeadersRaiseAll};
 ghost use Rattle.mu_alive.specs.Following.{FollowersCatchUp};
-ghost use Rattle.mu_alive.specs.Lagging.{LoneLeadersApplyAllInAnyRing, LoneLeadersFillTheRing};
+ghost use Rattle.mu_alive.specs.Lagging.{LoneLeadersApplyAllInAnyRing, LoneLeadersRaiseAllInAnyRing};
 ghost use Rattle.mu_alive.specs.Last.{LastLeadersApplyAll, LastLeadersKnowAll};
 ghost use Rattle.mu_alive.specs.Turns.{HostsGrantInTurn, TurnsLeadOn};
 ghost use Rattle.mu_alive.specs.Unhindered.{UnhinderedCommit};
@@ -82,12 +82,13 @@ pub fn lone_leaders_raise_all()
     ensures { LoneLeadersRaiseAll }
 {}
 
-/// A replica that asks alone, and that all others keep up with, fills the ring in time.
-pub fn lone_leaders_fill_the_ring()
-    ensures { LoneLeadersFillTheRing }
-{}
-
-/// So it has applied every command in time, in any ring.
+/// A replica that asks alone, and that all others keep up with, has applied every command in time,
+/// in any ring.
 pub fn lone_leaders_apply_all_in_any_ring()
     ensures { LoneLeadersApplyAllInAnyRing }
+{}
+
+/// And all that keep up with it have applied all, and raised their heads to it.
+pub fn lone_leaders_raise_all_in_any_ring()
+    ensures { LoneLeadersRaiseAllInAnyRing }
 {}

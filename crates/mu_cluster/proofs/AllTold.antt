@@ -1,5 +1,5 @@
 -- A replica that finished with every row tells the commands of the longest log, and replied to them.
-use Rattle.std.proofs.Common.{◌≡◌, ◌∙◌, ◌⊎◌, ℕ, suc, zero, ◌+◌, ◌%◌, ◌<◌, ◌≤◌, ◌==◌, inl, inr, Bool, true, false, cond, Some, List, [], ◌∷◌, ◌++◌, ap, append-nil, arith, eqb-true, get_or, length, refl, subst, sym, take, drop, true≢false}
+use Rattle.std.proofs.Common.{◌≡◌, ◌∙◌, ◌⊎◌, ℕ, suc, ◌+◌, ◌%◌, ◌<◌, ◌≤◌, ◌==◌, inl, inr, Bool, true, false, cond, Some, List, [], ◌∷◌, ◌++◌, ap, append-nil, arith, eqb-true, get_or, length, refl, sym, take, drop, true≢false}
 use Rattle.std.specs.List.{list_any, slice_get}
 use Rattle.std.proofs.Math.Dec.{eqb}
 use Rattle.std.proofs.lemmas.List.{length-append, length-drop, length-take}
@@ -10,17 +10,16 @@ use Rattle.mu_agree.proofs.Sessions.{batch_within, row_within}
 use Rattle.mu_input.specs.Heads.{HaveHeads}
 use Rattle.mu_input.specs.declared.job.Job.{Job}
 use Rattle.mu_input.proofs.JobConfigs.{as_many}
-use Rattle.mu_model.specs.declared.config.Config.{Config}
-use Rattle.mu_model.specs.Contents.{IsConfig, holds_all, includes, is_batch, rest_of, row_count, rows_from, rows_in, rows_of}
+use Rattle.mu_model.specs.Contents.{IsConfig, includes, is_batch, rest_of, row_count, rows_from, rows_in, rows_of}
 use Rattle.mu_model.specs.Histories.{IsPrefixOf}
 use Rattle.mu_model.proofs.Scans.{all_at}
 use Rattle.mu_outcome.specs.declared.outcome.Outcome.{Outcome}
 use Rattle.mu_outcome.specs.Entries.{commands_in, commands_of, longest}
-use Rattle.mu_outcome.specs.Outcomes.{Agrees, IsRun, log_of, or_empty, replies_of}
+use Rattle.mu_outcome.specs.Outcomes.{Agrees, IsRun, log_of, or_empty}
 use Rattle.mu_outcome.proofs.Completing.{few_told}
 use Rattle.mu_outcome.proofs.LongestLogs.{longest_is, longest_most}
 use Rattle.mu_rows.proofs.RowsOnce.{at_least, length-from, place_of, stands_at}
-use Rattle.mu_cluster.specs.Finishing.{AppliesEachInTime, FinishesInTime, HasApplied}
+use Rattle.mu_cluster.specs.Finishing.{HasApplied, HasFinished}
 use Rattle.mu_cluster.proofs.Agreeing.{agrees_of, over_order}
 use Rattle.mu_cluster.proofs.LogCommands.{commands_in-append}
 
@@ -89,8 +88,8 @@ begins o r agrees count low = go (longest_is o.logs)
         ]
 
 -- so it tells all commands
-pub all_finish : (o : Outcome) → IsConfig o.job.config → HaveHeads o.job.config.width o.job.commands o.job.config.rows → IsRun o → AppliesEachInTime o → FinishesInTime o
-all_finish o good have run applies unpaused k on time r low there = record {
+pub finished_with : (o : Outcome) (r : ℕ) → IsConfig o.job.config → HaveHeads o.job.config.width o.job.commands o.job.config.rows → IsRun o → r < o.job.config.replicas → HasApplied o r → HasFinished o r
+finished_with o r good have run low done = record {
   heads = done.heads;
   ended = done.ended;
   all = (let f = few in let m = enough in let w = ap length whole in omega (arith, f, m, w));
@@ -98,9 +97,6 @@ all_finish o good have run applies unpaused k on time r low there = record {
   replied = run.own_replies r low ∙ ap replies (sym whole) ∙ sym run.replies;
 }
   where
-    done : HasApplied o r
-    done = applies unpaused k on time r low there
-
     front : IsPrefixOf (log_of o r) (longest o.logs)
     front = begins o r (agrees_of o good have run) run.counts.0 low
 

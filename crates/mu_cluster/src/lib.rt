@@ -10,9 +10,7 @@ mod running;
 mod spelling;
 
 pub use mu_gate::{Gate, OpenGate};
-pub use mu_outcome::{
-    AllCommits, Commit, Commits, Ends, Journals, Log, Logs, Outcome, Replies, commands_of,
-};
+pub use mu_outcome::Outcome;
 pub use playing::{replay, replay_over};
 pub use running::run;
 pub use spelling::rows_spell_commands;

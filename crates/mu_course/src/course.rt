@@ -18,11 +18,11 @@ ghost use Rattle.mu_known.specs.Commits.{pair_of};
 
 use crate::finishing::is_finished;
 use crate::halts::stops_at;
-use crate::noting::{commit_in, outrun_after, push_commit};
+use crate::noting::{commit_in, push_commit};
 use crate::so_far::{EndSoFar, first_end};
 use crate::told::{Told, is_end, told_by};
 use mu_detect::Scores;
-use mu_follow::{Completion, Published, count_applied};
+use mu_follow::{Completion, Published, count_applied, outrun_after};
 use mu_known::Commit;
 use mu_model::{Config, Event, NoMemory, Script, Verb, positions_in};
 use mu_parts::Replica;

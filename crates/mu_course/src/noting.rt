@@ -1,13 +1,10 @@
-//! What a replica commits, and where it is outrun, event by event.
-ghost use Rattle.std.specs.Prelude.{List, length, vec_capacity, ℕ, ◌∷◌, ◌≡◌, ◌≤◌};
-ghost use Rattle.mu_model.specs.declared.config.Config.{Config};
-ghost use Rattle.mu_model.specs.declared.event.Event.{Event as Made};
-ghost use Rattle.mu_model.specs.Ends.{outrun, outrun_by};
-ghost use Rattle.mu_model.specs.Knowledge.{grown, known as known_of};
+//! What a replica commits, event by event.
+ghost use Rattle.std.specs.Prelude.{length, vec_capacity, ◌≡◌, ◌≤◌};
+ghost use Rattle.mu_model.specs.Knowledge.{grown};
 ghost use Rattle.mu_course.specs.Committing.{commit_by};
 
 use mu_known::Commit;
-use mu_model::{Answer, Event, Verb};
+use mu_model::{Event, Verb};
 
 /// The commit that an event makes, which teaches a value or doesn't.
 pub(crate) fn commit_in(event: &Event, taught: Option<u16>) -> Option<Commit>
@@ -29,38 +26,5 @@ pub(crate) fn push_commit(commits: &mut Vec<Commit>, commit: Option<Commit>)
         if commits.len() < commits.capacity() {
             commits.push_reserved(commit);
         }
-    }
-}
-
-/// The region and the position of a look at what the replica still had to read that found the place
-/// used again, if `known` values were known before it.
-fn outrun_in(r: u8, known: usize, event: &Event) -> Option<(u8, u16)>
-    ensures { result ≡ outrun_by r known event.now.by event.now.verb event.now.answer }
-{
-    match (event.verb, event.answer) {
-        (Verb::Look(p, i), Answer::Past) => {
-            if event.by == r && known <= usize::from(i) {
-                Some((p, i))
-            } else {
-                None
-            }
-        }
-        _ => None,
-    }
-}
-
-/// The first such look, after the event.
-pub(crate) fn outrun_after(
-    held: Option<(u8, u16)>,
-    r: u8,
-    known: usize,
-    event: &Event,
-) -> Option<(u8, u16)>
-    ensures { (c : Config) → (mine : List Made) → known ≡ length (known_of c r mine)
-        → held ≡ outrun c r mine → result ≡ outrun c r (event.now ∷ mine) }
-{
-    match held {
-        Some(look) => Some(look),
-        None => outrun_in(r, known, event),
     }
 }

@@ -17,8 +17,8 @@ mod published;
 pub use completion::Completion;
 pub use follow::Follow;
 pub use groups::Ready;
-pub use mu_known::Commit;
 pub use noting::count_applied;
+pub use outrunning::outrun_after;
 pub use published::Published;
 
 /// A replica that raises its head at one place of the round, if it may be raised, raises it in

@@ -24,8 +24,10 @@ fn outrun_in(r: u8, known: usize, event: &Event) -> Option<(u8, u16)>
     }
 }
 
-/// The first such look, after the event.
-pub(crate) fn outrun_after(
+/// The region and the position of the first look of `r` that found a place used again which it still
+/// had to read, after the event. Before it `known` values were known, and `held` is that of the
+/// events so far.
+pub fn outrun_after(
     held: Option<(u8, u16)>,
     r: u8,
     known: usize,

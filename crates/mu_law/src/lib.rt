@@ -15,5 +15,4 @@ pub use choosing::{chosen_at, marked};
 pub use keeping::kept;
 pub use knowing::{Log, both_know, known};
 pub use legality::is_legal;
-pub use mu_model::NoMemory;
 pub use sessions::session_of;

@@ -1,24 +1,24 @@
 -- When the notes of entries that a put made known come.
-use Rattle.std.proofs.Common.{Bool, List, None, Some, [], ap, cond, false, inl, inr, length, refl, subst, sym, true, true≢false, ℕ, ◌++◌, ◌∙◌, ◌∷◌, ◌≡◌}
-use Rattle.std.specs.Prelude.{if◌then◌else◌, ◌⊎◌}
-use Rattle.mu_model.specs.declared.config.Config.{Config}
-use Rattle.mu_model.specs.declared.event.Answer.{Answer}
-use Rattle.mu_model.specs.declared.event.Event.{Event}
-use Rattle.mu_model.specs.declared.event.Verb.{Verb}
-use Rattle.mu_model.specs.Histories.{has}
-use Rattle.mu_model.specs.Knowledge.{grown, known}
-use Rattle.mu_model.specs.Leaderships.{leadership}
-use Rattle.mu_model.specs.Picks.{look_answer}
-use Rattle.mu_model.proofs.Basics.{event_by}
-use Rattle.mu_lead.specs.declared.note.Note.{Note}
-use Rattle.mu_lead.specs.declared.place.Offer.{Offer}
+use Rattle.mu_lead.proofs.NoteKinds.{differs_by_test}
+use Rattle.mu_lead.proofs.Rows.{grows_not, same_last}
 use Rattle.mu_lead.specs.Leading.{end_of}
 use Rattle.mu_lead.specs.Notes.{note_of_commit, value_committed}
 use Rattle.mu_lead.specs.Offering.{LooksEmpty, LooksShow, ShowsEntry, is_entry_look, is_full_look}
 use Rattle.mu_lead.specs.Saying.{Commits, SaysCommit}
 use Rattle.mu_lead.specs.Standing.{known_told}
-use Rattle.mu_lead.proofs.NoteKinds.{differs_by_test}
-use Rattle.mu_lead.proofs.Rows.{grows_not, same_last}
+use Rattle.mu_lead.specs.declared.note.Note.{Note}
+use Rattle.mu_lead.specs.declared.place.Offer.{Offer}
+use Rattle.mu_model.proofs.Basics.{event_by}
+use Rattle.mu_model.specs.Histories.{has}
+use Rattle.mu_model.specs.Knowledge.{grown, known}
+use Rattle.mu_model.specs.Leaderships.{leadership}
+use Rattle.mu_model.specs.Picks.{look_answer}
+use Rattle.mu_model.specs.declared.config.Config.{Config}
+use Rattle.mu_model.specs.declared.event.Answer.{Answer}
+use Rattle.mu_model.specs.declared.event.Event.{Event}
+use Rattle.mu_model.specs.declared.event.Verb.{Verb}
+use Rattle.std.proofs.Common.{Bool, List, None, Some, [], ap, cond, false, inl, inr, length, refl, subst, sym, true, true≢false, ℕ, ◌++◌, ◌∙◌, ◌∷◌, ◌≡◌}
+use Rattle.std.specs.Prelude.{if◌then◌else◌, ◌⊎◌}
 
 abbrev pub is_committed : Note → Bool
 is_committed (Note.Committed i v) = true

@@ -1,14 +1,21 @@
 -- The leader's place, tables and number are those of its journal.
-use Rattle.std.proofs.Common.{◌≡◌, ℕ, ◌+◌, ◌*◌, ◌/◌, ◌%◌, ◌<◌, ◌≤◌, List, ◌∷◌, Bool, true, false, None, Some, get_or, inl, inr, ap, arith, max, refl, subst, sym, ◌∙◌, true≢false, ◌&&◌, ◌||◌}
-use Rattle.std.specs.Prelude.{if◌then◌else◌, nat_lt, not, ◌==◌, ◌⊎◌}
-use Rattle.std.specs.declared.option.Option.{Option}
-use Rattle.std.proofs.lemmas.Bool.{ltb-false, ltb-true}
-use Rattle.mu_model.specs.declared.config.Config.{Config}
-use Rattle.mu_model.specs.declared.event.Answer.{Answer}
-use Rattle.mu_model.specs.declared.event.Event.{Event}
-use Rattle.mu_model.specs.declared.event.Fence.{Fence}
-use Rattle.mu_model.specs.declared.event.Target.{Target}
-use Rattle.mu_model.specs.declared.event.Verb.{Verb}
+use Rattle.mu_lead.proofs.Lates.{fence_ends}
+use Rattle.mu_lead.proofs.Says.{said_next}
+use Rattle.mu_lead.specs.Beside.{leads_at}
+use Rattle.mu_lead.specs.Going.{begins_at, going_after}
+use Rattle.mu_lead.specs.Journal.{HasLeft, IsWhere, PlacesNext, WritesDue, due_after, least_above, number_due, number_or, place_after, tables_at, tables_with}
+use Rattle.mu_lead.specs.Lasting.{FollowsDue, tables_of}
+use Rattle.mu_lead.specs.Listing.{Tables, next_place}
+use Rattle.mu_lead.specs.Losses.{LosesEntering, LosesReading}
+use Rattle.mu_lead.specs.Noting.{NotedDue}
+use Rattle.mu_lead.specs.Resigning.{IsTold, beat_of}
+use Rattle.mu_lead.specs.Saying.{ShowsHigher}
+use Rattle.mu_lead.specs.Standing.{At, HasHeeded, StandsFor, known_told, verb_at, verb_of}
+use Rattle.mu_lead.specs.declared.lead.Lead.{Lead}
+use Rattle.mu_lead.specs.declared.note.AbortCause.{AbortCause}
+use Rattle.mu_lead.specs.declared.note.Note.{Note}
+use Rattle.mu_lead.specs.declared.place.Place.{Place}
+use Rattle.mu_model.proofs.Basics.{event_by, same_some}
 use Rattle.mu_model.specs.Entering.{any_min_read, number_allowed}
 use Rattle.mu_model.specs.Histories.{greatest, or_zero}
 use Rattle.mu_model.specs.Knowledge.{known}
@@ -17,23 +24,16 @@ use Rattle.mu_model.specs.Parts.{IsPossible}
 use Rattle.mu_model.specs.Scores.{leader}
 use Rattle.mu_model.specs.Steps.{is_named}
 use Rattle.mu_model.specs.Stretches.{is_replication}
-use Rattle.mu_model.proofs.Basics.{event_by, same_some}
-use Rattle.mu_lead.specs.declared.lead.Lead.{Lead}
-use Rattle.mu_lead.specs.declared.note.AbortCause.{AbortCause}
-use Rattle.mu_lead.specs.declared.note.Note.{Note}
-use Rattle.mu_lead.specs.declared.place.Place.{Place}
-use Rattle.mu_lead.specs.Beside.{leads_at}
-use Rattle.mu_lead.specs.Going.{begins_at, going_after}
-use Rattle.mu_lead.specs.Journal.{HasLeft, IsWhere, PlacesNext, WritesDue, due_after, least_above, number_due, number_or, place_after, tables_at, tables_with}
-use Rattle.mu_lead.specs.Lasting.{FollowsDue, tables_of}
-use Rattle.mu_lead.specs.Listing.{Tables, next_place}
-use Rattle.mu_lead.specs.Losses.{LosesEntering, LosesReading}
-use Rattle.mu_lead.specs.Resigning.{IsTold, beat_of}
-use Rattle.mu_lead.specs.Saying.{NotesDue, ShowsHigher}
-use Rattle.mu_lead.specs.Standing.{At, HasHeeded, StandsFor, known_told, verb_at, verb_of}
-use Rattle.mu_lead.proofs.Lates.{fence_ends}
-use Rattle.mu_lead.proofs.Losses.{lost_next}
-use Rattle.mu_lead.proofs.Rows.{reads_next}
+use Rattle.mu_model.specs.declared.config.Config.{Config}
+use Rattle.mu_model.specs.declared.event.Answer.{Answer}
+use Rattle.mu_model.specs.declared.event.Event.{Event}
+use Rattle.mu_model.specs.declared.event.Fence.{Fence}
+use Rattle.mu_model.specs.declared.event.Target.{Target}
+use Rattle.mu_model.specs.declared.event.Verb.{Verb}
+use Rattle.std.proofs.Common.{Bool, List, None, Some, ap, arith, false, get_or, inl, inr, max, refl, subst, sym, true, true≢false, ℕ, ◌%◌, ◌&&◌, ◌*◌, ◌+◌, ◌/◌, ◌<◌, ◌==◌, ◌||◌, ◌∙◌, ◌∷◌, ◌≡◌, ◌≤◌}
+use Rattle.std.proofs.lemmas.Bool.{ltb-false, ltb-true}
+use Rattle.std.specs.Prelude.{if◌then◌else◌, nat_lt, not, ◌⊎◌}
+use Rattle.std.specs.declared.option.Option.{Option}
 
 -- a number that is allowed is the journal's
 least_is : (r x y b : ℕ) → r < 8 → b % 8 ≡ r → 8 ≤ b → x < b → y < b → ((n : ℕ) → n % 8 ≡ r → 8 ≤ n → x < n → y < n → b ≤ n) → b ≡ least_above r (max x y)
@@ -139,9 +139,9 @@ goes_off was (Note.Aborted cause) off = inl refl
 goes_off was note off = inr off
 
 -- where it does, the leader asks anew
-aborts_anew : (mine : List Event) (old : Lead) (values : List ℕ) (answer : Answer) (note : Note) (verb : Verb) (t : Tables) → HasHeeded mine old → StandsFor mine old → NotesDue old values answer note → verb_of old (known old.config old.id mine) ≡ Some verb
+aborts_anew : (mine : List Event) (old : Lead) (values : List ℕ) (answer : Answer) (note : Note) (verb : Verb) (t : Tables) → HasHeeded mine old → StandsFor mine old → NotedDue old values answer note → verb_of old (known old.config old.id mine) ≡ Some verb
     → IsPossible old.config old.id (event_by old.id verb answer ∷ mine) → values ≡ known_told old.config old.id mine old.id verb answer → is_aborted note ≡ true → next_place old.config old.id old.number (event_by old.id verb answer ∷ mine) t answer old.place ≡ Place.Ask 0
-aborts_anew mine old values answer note verb t heeded s notes due possible told aborted = go note refl aborted
+aborts_anew mine old values answer note verb t heeded s noted due possible told aborted = go note refl aborted
   where
     Anew : Verb → Answer → Type 0
     Anew w a = next_place old.config old.id old.number (event_by old.id w a ∷ mine) t a old.place ≡ Place.Ask 0
@@ -159,14 +159,14 @@ aborts_anew mine old values answer note verb t heeded s notes due possible told 
     told_higher p m l = subst (λ a. Anew verb a) (sym l.told) (min_anew old.config old.id old.number p m mine old.up old.reach old.written.items (event_by old.id verb (Answer.Number m) ∷ mine) t old.place s.at (due ∙ ap (λ v. Some v) l.asked) l.above)
 
     go : (n : Note) → note ≡ n → is_aborted n ≡ true → Anew verb answer
-    go (Note.Aborted (AbortCause.Lost p f)) is aborted = elim ((lost_next mine old values answer note verb heeded s notes due possible told p f).0 is) [ inl l ↦ entering p f l | inr l ↦ reading p f l ]
-    go (Note.Aborted (AbortCause.Higher p m)) is aborted = told_higher p m (((reads_next mine old values answer note verb heeded s notes due possible told).higher p m).0 is)
+    go (Note.Aborted (AbortCause.Lost p f)) is aborted = elim (((said_next mine old values answer note verb heeded s noted due possible told).lost p f).0 is) [ inl l ↦ entering p f l | inr l ↦ reading p f l ]
+    go (Note.Aborted (AbortCause.Higher p m)) is aborted = told_higher p m (((said_next mine old values answer note verb heeded s noted due possible told).reads.higher p m).0 is)
     go n is aborted = absurd (true≢false (sym aborted))
 
 -- a step of the leader, in a turn in which r is named
-pub where_led : (mine : List Event) (old new : Lead) (values : List ℕ) (answer : Answer) (note : Note) → StandsFor mine old → HasHeeded mine old → NotesDue old values answer note → WritesDue old values answer new → FollowsDue old values answer new
+pub where_led : (mine : List Event) (old new : Lead) (values : List ℕ) (answer : Answer) (note : Note) → StandsFor mine old → HasHeeded mine old → NotedDue old values answer note → WritesDue old values answer new → FollowsDue old values answer new
     → new.under_way ≡ going_after (begins_at old.place || old.under_way) note → PlacesNext mine old values answer new
-where_led mine old new values answer note s heeded notes writes follows going verb due possible told turn named at =
+where_led mine old new values answer note s heeded noted writes follows going verb due possible told turn named at =
     let c = old.config in
     let r = old.id in
     let e = event_by r verb answer in
@@ -181,7 +181,7 @@ where_led mine old new values answer note s heeded notes writes follows going ve
           ∙ sym (led_place c r mine e turn named);
       tables = tables;
       idle = λ off. elim (goes_off (begins_at old.place || old.under_way) note (sym going ∙ off)) [
-        | inl aborted ↦ place ∙ aborts_anew mine old values answer note verb (tables_of new) heeded s notes due possible told aborted
+        | inl aborted ↦ place ∙ aborts_anew mine old values answer note verb (tables_of new) heeded s noted due possible told aborted
         | inr none ↦ absurd (begun old.place old.under_way none at.idle)
       ];
     }

@@ -64,10 +64,15 @@ mod RoomsReading
 mod RoomsWriting
 mod Rounds
 mod Rows
-mod Saying
 mod Says
 mod Sights
+mod StandsBringing
 mod StandsFirsts
+mod StandsLasting
+mod StandsLate
+mod StandsOnward
+mod StandsPutting
+mod StandsTables
 mod Tables
 mod Taking
 mod Telling

@@ -1,40 +1,42 @@
 -- When a lost region is noted, place by place.
-use Rattle.std.proofs.Common.{Bool, List, None, Some, ap, arith, false, get_or, inl, inr, length, min, ne_eqb, refl, subst, sym, true, true≢false, ℕ, ◌%◌, ◌&&◌, ◌+◌, ◌<◌, ◌==◌, ◌||◌, ◌∙◌, ◌∷◌, ◌≡◌}
-use Rattle.std.specs.Prelude.{if◌then◌else◌, nat_lt, not, ◌⊎◌, ◌↔◌}
-use Rattle.std.specs.declared.option.Option.{Option}
 use Rattle.mu_agree.proofs.Evidence.{parts_show_misses_law}
-use Rattle.mu_agree.proofs.Possible.{at_event, parts_shorten_law, same_fence}
-use Rattle.mu_leading.proofs.Within.{known_few}
-use Rattle.mu_model.specs.declared.config.Config.{Config}
-use Rattle.mu_model.specs.declared.event.Answer.{Answer}
-use Rattle.mu_model.specs.declared.event.Event.{Event}
-use Rattle.mu_model.specs.declared.event.Fence.{Fence}
-use Rattle.mu_model.specs.declared.event.Target.{Target}
-use Rattle.mu_model.specs.declared.event.Verb.{Verb}
+use Rattle.mu_agree.proofs.Possible.{at_event, same_fence}
+use Rattle.mu_lead.proofs.NoteKinds.{differs_by_test, head_quiet, join_quiet, learning_quiet, look_quiet, min_quiet, put_quiet, round_quiet}
+use Rattle.mu_lead.proofs.Replies.{enters_or, sees_fence}
+use Rattle.mu_model.specs.Diligence.{is_confirmed}
+use Rattle.mu_lead.specs.Confirming.{HasGrant, Missed}
+use Rattle.mu_lead.specs.Lasting.{step_of, verb_or}
+use Rattle.mu_lead.specs.Leading.{end_of}
+use Rattle.mu_lead.specs.Listing.{Tables, is_missed, may_mark, number_told}
+use Rattle.mu_lead.specs.Losses.{LosesEntering, LosesReading, SaysLost, is_unlike}
+use Rattle.mu_lead.specs.Notes.{note_of_commit, note_of_head, note_of_min}
+use Rattle.mu_lead.specs.Noting.{next_note, note_of_enter, note_of_evidence, note_of_past, note_of_round}
+use Rattle.mu_lead.specs.Saying.{note_of_fence, note_of_join, note_of_learning, note_of_look, value_seen}
+use Rattle.mu_lead.specs.Sets.{bits}
+use Rattle.mu_lead.specs.Standing.{At, verb_at}
+use Rattle.mu_lead.specs.declared.note.AbortCause.{AbortCause}
+use Rattle.mu_lead.specs.declared.note.Note.{Note}
+use Rattle.mu_lead.specs.declared.place.Place.{Place}
+use Rattle.mu_lead.specs.declared.place.Then.{Then}
+use Rattle.mu_model.proofs.Basics.{event_by, same_number}
+use Rattle.mu_model.proofs.Owned.{noted-part}
 use Rattle.mu_model.specs.Answers.{entered_or_lost}
-use Rattle.mu_model.specs.Contents.{config_word}
 use Rattle.mu_model.specs.Knowledge.{known}
 use Rattle.mu_model.specs.Leaderships.{is_changed, is_member, is_over, noted_grant}
 use Rattle.mu_model.specs.Parts.{IsPossible}
 use Rattle.mu_model.specs.Picks.{is_past}
 use Rattle.mu_model.specs.Regions.{fence}
 use Rattle.mu_model.specs.Room.{reserve}
-use Rattle.mu_model.proofs.Basics.{event_by, same_number, same_some}
-use Rattle.mu_model.proofs.Owned.{noted-part}
-use Rattle.mu_lead.specs.declared.lead.Lead.{Lead}
-use Rattle.mu_lead.specs.declared.note.AbortCause.{AbortCause}
-use Rattle.mu_lead.specs.declared.note.Note.{Note}
-use Rattle.mu_lead.specs.declared.place.Place.{Place}
-use Rattle.mu_lead.specs.declared.place.Then.{Then}
-use Rattle.mu_lead.specs.Confirming.{HasGrant, Missed}
-use Rattle.mu_lead.specs.Leading.{end_of}
-use Rattle.mu_lead.specs.Losses.{LosesEntering, LosesReading, SaysLost, is_unlike}
-use Rattle.mu_lead.specs.Saying.{NotesAt, NotesDue, note_of_fence, value_seen}
-use Rattle.mu_lead.specs.Sets.{is_bit}
-use Rattle.mu_lead.specs.Standing.{HasHeeded, HoldsAt, StandsFor, known_told, verb_at, verb_of}
-use Rattle.mu_lead.proofs.Replies.{enters_or, puts_min_or, sees_fence, tells_head, tells_min}
-use Rattle.mu_lead.proofs.NoteKinds.{differs_by_test, head_quiet, join_quiet, learning_quiet, look_quiet, min_quiet, put_quiet, round_quiet}
-use Rattle.mu_lead.proofs.Rows.{min_small}
+use Rattle.mu_model.specs.declared.config.Config.{Config}
+use Rattle.mu_model.specs.declared.event.Answer.{Answer}
+use Rattle.mu_model.specs.declared.event.Event.{Event}
+use Rattle.mu_model.specs.declared.event.Fence.{Fence}
+use Rattle.mu_model.specs.declared.event.Target.{Target}
+use Rattle.mu_model.specs.declared.event.Verb.{Verb}
+use Rattle.std.proofs.Common.{Bool, List, None, Some, ap, arith, false, get_or, inl, inr, is_some, refl, subst, sym, true, true≢false, ℕ, ◌%◌, ◌&&◌, ◌+◌, ◌==◌, ◌||◌, ◌∙◌, ◌∷◌, ◌≡◌}
+use Rattle.std.proofs.lemmas.Bool.{ne_eqb}
+use Rattle.std.specs.Prelude.{if◌then◌else◌, min, nat_lt, not, ◌↔◌, ◌⊎◌}
+use Rattle.std.specs.declared.option.Option.{Option}
 
 abbrev pub is_lost : Note → Bool
 is_lost (Note.Aborted (AbortCause.Lost p f)) = true
@@ -181,50 +183,45 @@ behind_says r q g mine on answer note seen member h goes_on notes p f = go (is_u
         )
     go false like = ((λ is. absurd (differs_by_test is_lost note (Note.Aborted (AbortCause.Lost p f)) (ap is_lost (notes ∙ ap (note_of_fence q g) (over ∙ like))) refl is)), (λ loses. absurd (why like loses)))
 
--- each place
-lost_at : (mine : List Event) (old : Lead) (values : List ℕ) (answer : Answer) (note : Note) (place : Place) (verb : Verb) → HasHeeded mine old → StandsFor mine old → HoldsAt mine old place → NotesAt old values answer note place
-    → verb_at old.config old.number (known old.config old.id mine) old.up old.written.items place ≡ Some verb → IsPossible old.config old.id (event_by old.id verb answer ∷ mine) → values ≡ known_told old.config old.id mine old.id verb answer
-    → SaysLost old.id mine place verb answer note
-lost_at mine old values answer note place verb heeded s at notes due = go place at notes due
-  where
-    Tells : Place → Verb → Type 0
-    Tells place verb = IsPossible old.config old.id (event_by old.id verb answer ∷ mine) → values ≡ known_told old.config old.id mine old.id verb answer → SaysLost old.id mine place verb answer note
+-- an `Enter` at any place
+entering_loses : (c : Config) (r p : ℕ) (t : Target) (mine : List Event) (place : Place) (a : Answer) → IsPossible c r (event_by r (Verb.Enter p t) a ∷ mine) → SaysLost r mine place (Verb.Enter p t) a (note_of_enter p a)
+entering_loses c r p t mine place a possible = enter_says c r p t mine place a (note_of_enter p a) possible (ap (note_of_enter p), λ f. ap (note_of_enter p))
 
-    turn : (place : Place) (w : Verb) → Some w ≡ Some verb → Tells place w → Tells place verb
-    turn place w is tells = subst (Tells place) (same_some w verb is) tells
-
-    go : (place : Place) → HoldsAt mine old place → NotesAt old values answer note place → verb_at old.config old.number (known old.config old.id mine) old.up old.written.items place ≡ Some verb → Tells place verb
-    go (Place.Ask p) at is due = turn (Place.Ask p) (Verb.Ask p) due (λ possible told. loses_none old.id mine (Place.Ask p) (Verb.Ask p) answer note (ap is_lost is) refl refl)
-    go (Place.Confirm round p) at is due = turn (Place.Confirm round p) (Verb.Fence p) due (λ possible told. fence_quiet old.id p mine (Place.Confirm round p) answer note (round_quiet is_lost (p + 1 == old.config.replicas) old.config old.id (event_by old.id (Verb.Fence p) answer ∷ mine) note refl (λ s. refl) (λ s. refl) (is mine s at.1.region possible)) refl (at.1.fresh.alone p))
-    go (Place.ReadMin p) at is due = turn (Place.ReadMin p) (Verb.Min p) due (λ possible told. loses_none old.id mine (Place.ReadMin p) (Verb.Min p) answer note (ap is_lost is) refl refl)
-    go (Place.EnterMin p) at is due = turn (Place.EnterMin p) (Verb.Enter p Target.Min) due (λ possible told. enter_says old.config old.id p Target.Min mine (Place.EnterMin p) answer note possible is)
-    go (Place.PutMin p) at is due = turn (Place.PutMin p) (Verb.PutMin p old.number) due (λ possible told. loses_none old.id mine (Place.PutMin p) (Verb.PutMin p old.number) answer note (ap is_lost is) refl refl)
-    go (Place.ReadFuo p source) at is due = turn (Place.ReadFuo p source) (Verb.Fuo p) due (λ possible told. loses_none old.id mine (Place.ReadFuo p source) (Verb.Fuo p) answer note (ap is_lost is) refl refl)
-    go (Place.Learn p) at is due = turn (Place.Learn p) (Verb.Look p (end_of old.config old.id mine)) due (λ possible told. loses_none old.id mine (Place.Learn p) (Verb.Look p (end_of old.config old.id mine)) answer note (ap is_lost (is (subst (λ xs. length xs < 65536) (sym told) (known_few old.config old.id _ s.config possible))) ∙ learning_quiet is_lost (length values) answer refl (λ i v. refl)) refl refl)
-    go (Place.WidenBehind p on) at is due = turn (Place.WidenBehind p on) (Verb.RaiseFuo p (get_or old.up p 0)) due (λ possible told. loses_none old.id mine (Place.WidenBehind p on) (Verb.RaiseFuo p (get_or old.up p 0)) answer note (ap is_lost is) refl refl)
-    go (Place.LookBehind p on) at is due = turn (Place.LookBehind p on) (Verb.Look p (get_or old.up p 0)) due (λ possible told. loses_none old.id mine (Place.LookBehind p on) (Verb.Look p (get_or old.up p 0)) answer note (ap is_lost is) refl refl)
-    go (Place.EnterBehind p on) at is due = turn (Place.EnterBehind p on) (Verb.Enter p (Target.Place (get_or old.up p 0 % old.config.ring))) due (λ possible told. enter_says old.config old.id p (Target.Place (get_or old.up p 0 % old.config.ring)) mine (Place.EnterBehind p on) answer note possible is)
-    go (Place.PutBehind p on) at is due = turn (Place.PutBehind p on) (Verb.PutSlot p (get_or old.up p 0) old.number (get_or (known old.config old.id mine) (get_or old.up p 0) 0)) due (λ possible told. loses_none old.id mine (Place.PutBehind p on) (Verb.PutSlot p (get_or old.up p 0) old.number (get_or (known old.config old.id mine) (get_or old.up p 0) 0)) answer note (ap is_lost is) refl refl)
-    go (Place.RaiseBehind p Then.Joined) at is due = turn (Place.RaiseBehind p Then.Joined) (Verb.RaiseFuo p (get_or old.up p 0)) due (λ possible told. loses_none old.id mine (Place.RaiseBehind p Then.Joined) (Verb.RaiseFuo p (get_or old.up p 0)) answer note (ap is_lost is) refl refl)
-    go (Place.RaiseBehind p Then.Late) at is due = turn (Place.RaiseBehind p Then.Late) (Verb.RaiseFuo p (get_or old.up p 0)) due (λ possible told. loses_none old.id mine (Place.RaiseBehind p Then.Late) (Verb.RaiseFuo p (get_or old.up p 0)) answer note (ap is_lost is) refl refl)
-    go (Place.RaiseBehind p Then.Position) at is due = turn (Place.RaiseBehind p Then.Position) (Verb.RaiseFuo p (get_or old.up p 0)) due (λ possible told. loses_none old.id mine (Place.RaiseBehind p Then.Position) (Verb.RaiseFuo p (get_or old.up p 0)) answer note (ap is_lost is) refl refl)
-    go (Place.FenceBehind p on) at is due = turn (Place.FenceBehind p on) (Verb.Fence p) due (λ possible told. let x = sees_fence old.config old.id p answer mine possible in behind_says old.id p x.0 mine on answer note x.1 at.near.behind.member (at.near.behind.leads.held p at.near.behind.region at.near.behind.member) at.near.behind.leads.goes_on (subst (λ a. note ≡ note_of_fence p x.0 (is_over old.id (event_by old.id (Verb.Fence p) a ∷ mine))) x.1 (is.1 mine x.0 s possible x.1)))
-    go (Place.LateFence p) at is due = turn (Place.LateFence p) (Verb.Fence p) due (λ possible told. fence_quiet old.id p mine (Place.LateFence p) answer note (ap is_lost is) refl at.stranger)
-    go (Place.LateMin p) at is due = turn (Place.LateMin p) (Verb.Min p) due (λ possible told. let x = tells_min old.config old.id p answer mine possible in let small = min_small old.config old.id p x.0 mine s.config (subst (λ a. IsPossible old.config old.id (event_by old.id (Verb.Min p) a ∷ mine)) x.1 possible) in loses_none old.id mine (Place.LateMin p) (Verb.Min p) answer note (ap is_lost (is x.0 x.1 small) ∙ min_quiet is_lost p x.0 (nat_lt old.number x.0) refl (λ p m. refl)) refl refl)
-    go (Place.LateFuo p) at is due = turn (Place.LateFuo p) (Verb.Fuo p) due (λ possible told. loses_none old.id mine (Place.LateFuo p) (Verb.Fuo p) answer note (ap is_lost is) refl refl)
-    go (Place.LateEnter p) at is due = turn (Place.LateEnter p) (Verb.Enter p Target.Min) due (λ possible told. enter_says old.config old.id p Target.Min mine (Place.LateEnter p) answer note possible is)
-    go (Place.LatePut p) at is due = turn (Place.LatePut p) (Verb.PutMin p old.number) due (λ possible told. loses_none old.id mine (Place.LatePut p) (Verb.PutMin p old.number) answer note (join_quiet is_lost p answer note (nat_lt (get_or old.up p 0) (length values)) (puts_min_or old.config old.id p old.number answer mine possible) (is s.tables.ups) refl (λ p. refl)) refl refl)
-    go (Place.ReadHead q candidate) at is due = turn (Place.ReadHead q candidate) (Verb.Head q) due (λ possible told. let x = tells_head old.config old.id q answer mine possible in loses_none old.id mine (Place.ReadHead q candidate) (Verb.Head q) answer note (ap is_lost (is x.0 x.1 (subst (λ xs. length xs < 65536) (sym told) (known_few old.config old.id _ s.config possible))) ∙ head_quiet is_lost q (min x.0 65535) (length values) (nat_lt (length values + reserve old.config) (x.0 + old.config.ring)) (not (q == old.id) && (is_bit q old.failed && nat_lt (length values + 0) (x.0 + old.config.ring))) refl (λ q h i. refl)) refl refl)
-    go (Place.Look p i candidate best) at is due = turn (Place.Look p i candidate best) (Verb.Look p i) due (λ possible told. loses_none old.id mine (Place.Look p i candidate best) (Verb.Look p i) answer note (ap is_lost is ∙ look_quiet is_lost i (is_past answer) (nat_lt i (length values)) (value_seen answer) refl (λ i v. refl)) refl refl)
-    go (Place.Write j last offer) at is due = turn (Place.Write j last offer) (Verb.WriteRow j (get_or old.written.items j 12) (config_word old.config j (get_or old.written.items j 12))) due (λ possible told. loses_none old.id mine (Place.Write j last offer) (Verb.WriteRow j (get_or old.written.items j 12) (config_word old.config j (get_or old.written.items j 12))) answer note (ap is_lost is) refl refl)
-    go (Place.Enter p offer) at is due = turn (Place.Enter p offer) (Verb.Enter p (Target.Place (end_of old.config old.id mine % old.config.ring))) due (λ possible told. enter_says old.config old.id p (Target.Place (end_of old.config old.id mine % old.config.ring)) mine (Place.Enter p offer) answer note possible is)
-    go (Place.Put p offer) at is due = turn (Place.Put p offer) (Verb.PutSlot p (end_of old.config old.id mine) old.number offer.value) due (λ possible told. loses_none old.id mine (Place.Put p offer) (Verb.PutSlot p (end_of old.config old.id mine) old.number offer.value) answer note (let known_is : values ≡ known old.config old.id mine = told in put_quiet is_lost (length values) offer note refl (λ i v. refl) (λ i v. refl) (is (subst (λ xs. length xs < 65536) (sym known_is) (known_few old.config old.id mine s.config (parts_shorten_law old.config old.id mine _ possible).before)))) refl refl)
-    go (Place.Raise p) at is due = turn (Place.Raise p) (Verb.RaiseFuo p (end_of old.config old.id mine)) due (λ possible told. loses_none old.id mine (Place.Raise p) (Verb.RaiseFuo p (end_of old.config old.id mine)) answer note (ap is_lost is) refl refl)
-    go (Place.Evidence p) at is due = turn (Place.Evidence p) (Verb.Fence p) due (λ possible told. let x = sees_fence old.config old.id p answer mine possible in evidence_says old.id p x.0 mine answer note x.1 (missed_unlike old.config old.id p x.0 mine (subst (λ a. IsPossible old.config old.id (event_by old.id (Verb.Fence p) a ∷ mine)) x.1 possible) at.missed) (is x.0 x.1))
-    go Place.Outrun at is due = cc
-    go Place.Rest at is due = cc
-
--- the note of `take_answer` of a lost region comes exactly where it is lost
-pub lost_next : (mine : List Event) (old : Lead) (values : List ℕ) (answer : Answer) (note : Note) (verb : Verb) → HasHeeded mine old → StandsFor mine old → NotesDue old values answer note
-    → verb_of old (known old.config old.id mine) ≡ Some verb → IsPossible old.config old.id (event_by old.id verb answer ∷ mine) → values ≡ known_told old.config old.id mine old.id verb answer → SaysLost old.id mine old.place verb answer note
-lost_next mine old values answer note verb heeded s notes due possible told = lost_at mine old values answer note old.place verb heeded s s.at notes due possible told
+-- the note of a lost region comes exactly where it is lost
+pub losses_say : (c : Config) (r b : ℕ) (mine : List Event) (old : Tables) (a : Answer) (place : Place) → At c r b mine old.up old.reach old.written place → IsPossible c r (step_of c r b mine old.up old.written place a ∷ mine)
+    → SaysLost r mine place (verb_or (verb_at c b (known c r mine) old.up old.written place)) a (next_note c r b mine (step_of c r b mine old.up old.written place a ∷ mine) old a place)
+losses_say c r b mine old a (Place.Confirm round p) at possible =
+    let now = event_by r (Verb.Fence p) a ∷ mine in
+    fence_quiet r p mine (Place.Confirm round p) a (if nat_lt (p + 1) c.replicas then Note.Working else note_of_round c r now) (round_quiet is_lost (nat_lt (p + 1) c.replicas) (is_confirmed c r now) (bits (λ q. is_some (noted_grant r q now))) (bits (λ q. is_some (noted_grant r q now))) refl (λ s. refl) (λ s. refl)) refl (at.1.fresh.alone p)
+losses_say c r b mine old a (Place.EnterMin p) at possible = entering_loses c r p Target.Min mine (Place.EnterMin p) a possible
+losses_say c r b mine old a (Place.Learn p) at possible =
+    let now = event_by r (Verb.Look p (end_of c r mine)) a ∷ mine in
+    loses_none r mine (Place.Learn p) (Verb.Look p (end_of c r mine)) a (note_of_learning (end_of c r now) a) (learning_quiet is_lost (end_of c r now) a refl (λ i v. refl)) refl refl
+losses_say c r b mine old a (Place.EnterBehind p on) at possible = entering_loses c r p (Target.Place (get_or old.up p 0 % c.ring)) mine (Place.EnterBehind p on) a possible
+losses_say c r b mine old a (Place.RaiseBehind p Then.Joined) at possible = loses_none r mine (Place.RaiseBehind p Then.Joined) (Verb.RaiseFuo p (get_or old.up p 0)) a (Note.Joined p) refl refl refl
+losses_say c r b mine old a (Place.FenceBehind p on) at possible =
+    let x = sees_fence c r p a mine possible in
+    let behind = at.near.behind in
+    behind_says r p x.0 mine on a (note_of_past p a (is_over r (event_by r (Verb.Fence p) a ∷ mine))) x.1 behind.member (behind.leads.held p behind.region behind.member) behind.leads.goes_on (ap (λ y. note_of_past p y (is_over r (event_by r (Verb.Fence p) y ∷ mine))) x.1)
+losses_say c r b mine old a (Place.LateFence p) at possible = fence_quiet r p mine (Place.LateFence p) a Note.Working refl refl at.stranger
+losses_say c r b mine old a (Place.LateMin p) at possible = loses_none r mine (Place.LateMin p) (Verb.Min p) a (note_of_min p b (number_told a)) (min_quiet is_lost p (number_told a) (nat_lt b (number_told a)) refl (λ p m. refl)) refl refl
+losses_say c r b mine old a (Place.LateEnter p) at possible = entering_loses c r p Target.Min mine (Place.LateEnter p) a possible
+losses_say c r b mine old a (Place.LatePut p) at possible =
+    let lacks = nat_lt (get_or old.up p 0) (end_of c r mine) in
+    loses_none r mine (Place.LatePut p) (Verb.PutMin p b) a (if is_missed a then Note.Working else note_of_join p lacks) (join_quiet is_lost p (is_missed a) lacks refl (λ p. refl)) refl refl
+losses_say c r b mine old a (Place.ReadHead q candidate) at possible =
+    let end = end_of c r mine in
+    let room = nat_lt (end + reserve c) (number_told a + c.ring) in
+    let marks = may_mark c r mine q (number_told a) in
+    loses_none r mine (Place.ReadHead q candidate) (Verb.Head q) a (note_of_head q (min (number_told a) 65535) end room marks) (head_quiet is_lost q (min (number_told a) 65535) end room marks refl (λ q h i. refl)) refl refl
+losses_say c r b mine old a (Place.Look p i candidate best) at possible =
+    let end = end_of c r (event_by r (Verb.Look p i) a ∷ mine) in
+    loses_none r mine (Place.Look p i candidate best) (Verb.Look p i) a (note_of_look i end a) (look_quiet is_lost i (is_past a) (nat_lt i end) (value_seen a) refl (λ i v. refl)) refl refl
+losses_say c r b mine old a (Place.Enter p offer) at possible = entering_loses c r p (Target.Place (end_of c r mine % c.ring)) mine (Place.Enter p offer) a possible
+losses_say c r b mine old a (Place.Put p offer) at possible =
+    let grew = nat_lt (end_of c r mine) (end_of c r (event_by r (Verb.PutSlot p (end_of c r mine) b offer.value) a ∷ mine)) in
+    loses_none r mine (Place.Put p offer) (Verb.PutSlot p (end_of c r mine) b offer.value) a (if grew then note_of_commit (end_of c r mine) offer else Note.Working) (put_quiet is_lost (end_of c r mine) offer grew refl (λ i v. refl) (λ i v. refl)) refl refl
+losses_say c r b mine old a (Place.Evidence p) at possible =
+    let x = sees_fence c r p a mine possible in
+    evidence_says r p x.0 mine a (note_of_evidence p a) x.1 (missed_unlike c r p x.0 mine (subst (λ a. IsPossible c r (event_by r (Verb.Fence p) a ∷ mine)) x.1 possible) at.missed) (ap (note_of_evidence p) x.1)
+losses_say c r b mine old a place at possible = loses_none r mine place (verb_or (verb_at c b (known c r mine) old.up old.written place)) a Note.Working refl refl refl

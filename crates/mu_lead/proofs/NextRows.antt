@@ -1,15 +1,16 @@
 -- Which batch is offered, as the listing has it.
-use Rattle.std.proofs.Common.{◌≡◌, ℕ, ◌+◌, ◌<◌, ◌≤◌, Bool, true, false, List, None, Some, inl, inr, is_some, ap, refl, sym, ◌∙◌, arith, true≢false}
+use Rattle.std.proofs.Common.{◌≡◌, ◌%◌, ℕ, ◌+◌, ◌<◌, ◌≤◌, Bool, true, false, List, None, Some, inl, inr, is_some, ap, refl, sym, ◌∙◌, arith, true≢false}
 use Rattle.std.specs.Prelude.{if◌then◌else◌}
 use Rattle.std.specs.declared.option.Option.{Option}
-use Rattle.std.proofs.lemmas.Bool.{cases_eq, false_from_ne_true}
+use Rattle.std.proofs.lemmas.Bool.{cases_eq, cases_lt, false_from_ne_true}
 use Rattle.mu_model.specs.declared.config.Config.{Config}
 use Rattle.mu_model.specs.Contents.{client_of, command_count, row_count}
 use Rattle.mu_known.specs.Offers.{IsFirst, IsNextRow, batch_of, begins_after, clients_below, first_in}
-use Rattle.mu_lead.specs.Listing.{batch_of_named, client_round}
+use Rattle.mu_lead.specs.Listing.{batch_of_named, client_round, own_offer}
 use Rattle.mu_known.proofs.Firsts.{first_in_is, found_is}
 use Rattle.mu_known.proofs.Lasts.{below_clients}
-use Rattle.mu_known.proofs.NextRows.{after_passes}
+use Rattle.mu_known.proofs.NextRows.{after_passes, next_row, no_next_row}
+use Rattle.mu_model.proofs.Basics.{none_some}
 
 -- where the client has no next batch
 some_row : (c : Config) (values : List ℕ) (client : ℕ) (o : Option ℕ) → IsFirst (begins_after c client (command_count c client values)) 0 (row_count c) o → is_some o ≡ true → (j : ℕ) × ((client_of c j ≡ client) × IsNextRow c values j)
@@ -65,3 +66,30 @@ no_rows c none = elim (cases_eq (row_count c) 0) [
   | inl empty ↦ empty
   | inr some ↦ absurd (let below = below_clients c (row_count c) 0 (omega (arith, some)) in omega (arith, below, none))
 ]
+
+-- the row of the batch that is offered begins the next batch of its client
+pub offered_row : (c : Config) (r i j : ℕ) (values : List ℕ) → own_offer c r values i ≡ Some j → IsNextRow c values j
+offered_row c r i j values is = go (client_round c values ((r + i) % clients_below c (row_count c)) (clients_below c (row_count c))) is
+  where
+    go : (o : Option ℕ) → batch_of_named c values o ≡ Some j → IsNextRow c values j
+    go None is = absurd (none_some j is)
+    go (Some w) is = next_row c values w j (sym is)
+
+none_there : (o : Option ℕ) → is_some o ≡ false → None ≡ o
+none_there None is = refl
+none_there (Some x) is = absurd (true≢false is)
+
+-- if none is offered, no row does
+pub offered_none : (c : Config) (r i : ℕ) (values : List ℕ) → own_offer c r values i ≡ None → (j : ℕ) → IsNextRow c values j → ⊥
+offered_none c r i values is j row =
+    let n = clients_below c (row_count c) in
+    let k = (r + i) % n in
+    go k n (first_in (λ w. is_some (batch_of c values w)) k n) (first_in (λ w. is_some (batch_of c values w)) 0 k) (below_clients c (row_count c) j row.row) (first_in_is (λ w. is_some (batch_of c values w)) k n) (first_in_is (λ w. is_some (batch_of c values w)) 0 k) is
+  where
+    go : (k n : ℕ) (x y : Option ℕ) → client_of c j < n → IsFirst (λ w. is_some (batch_of c values w)) k n x → IsFirst (λ w. is_some (batch_of c values w)) 0 k y → batch_of_named c values (if is_some x then x else y) ≡ None → ⊥
+    go k n (Some w) y below first round is = true≢false (sym first.2 ∙ ap is_some is)
+    go k n None (Some w) below first round is = true≢false (sym round.2 ∙ ap is_some is)
+    go k n None None below first round is = elim (cases_lt (client_of c j) k) [
+      | inl less ↦ no_next_row c values (client_of c j) (none_there (batch_of c values (client_of c j)) (round (client_of c j) (omega arith) less)) j refl row
+      | inr more ↦ no_next_row c values (client_of c j) (none_there (batch_of c values (client_of c j)) (first (client_of c j) more below)) j refl row
+    ]

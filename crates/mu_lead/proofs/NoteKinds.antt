@@ -1,18 +1,19 @@
 -- What kind a note is of, and what a verb or a place rules out.
-use Rattle.std.proofs.Common.{Bool, List, ap, false, inl, inr, refl, sym, true, true≢false, ℕ, ◌-◌, ◌∙◌, ◌≡◌}
-use Rattle.std.specs.Prelude.{if◌then◌else◌, ◌⊎◌, ◌↔◌}
-use Rattle.mu_model.specs.declared.config.Config.{Config}
-use Rattle.mu_model.specs.declared.event.Answer.{Answer}
-use Rattle.mu_model.specs.declared.event.Event.{Event}
-use Rattle.mu_model.specs.declared.event.Fence.{Fence}
-use Rattle.mu_model.specs.declared.event.Verb.{Verb}
+use Rattle.mu_lead.specs.Notes.{note_of_commit, note_of_head}
+use Rattle.mu_lead.specs.Noting.{note_of_enter, note_of_evidence, note_of_past}
+use Rattle.mu_lead.specs.Saying.{EndsJoining, IsLastStep, SaysReads, ShowsHigher, ShowsNoRoom, Teaches, is_working_or_lost, note_of_join, note_of_learning}
 use Rattle.mu_lead.specs.declared.note.AbortCause.{AbortCause}
 use Rattle.mu_lead.specs.declared.note.Note.{Note}
 use Rattle.mu_lead.specs.declared.place.Offer.{Offer}
 use Rattle.mu_lead.specs.declared.place.Place.{Place}
 use Rattle.mu_lead.specs.declared.place.Then.{Then}
-use Rattle.mu_lead.specs.Notes.{note_of_commit, note_of_head}
-use Rattle.mu_lead.specs.Saying.{EndsJoining, IsLastStep, NotesJoin, SaysReads, ShowsHigher, ShowsNoRoom, Teaches, TellsAfter, is_working_or_lost, note_of_learning}
+use Rattle.mu_model.specs.declared.config.Config.{Config}
+use Rattle.mu_model.specs.declared.event.Answer.{Answer}
+use Rattle.mu_model.specs.declared.event.Event.{Event}
+use Rattle.mu_model.specs.declared.event.Fence.{Fence}
+use Rattle.mu_model.specs.declared.event.Verb.{Verb}
+use Rattle.std.proofs.Common.{Bool, List, ap, false, inl, inr, refl, sym, true, true≢false, ℕ, ◌-◌, ◌∙◌, ◌≡◌}
+use Rattle.std.specs.Prelude.{if◌then◌else◌, ◌↔◌}
 
 -- what kind a note is of
 abbrev pub is_higher : Note → Bool
@@ -96,17 +97,16 @@ says_none c r mine up place verb answer note h n j l min head look join = record
 pub says_working : (c : Config) (r : ℕ) (mine : List Event) (up : List ℕ) (place : Place) (verb : Verb) (answer : Answer) (note : Note) → note ≡ Note.Working → is_min verb ≡ false → is_head verb ≡ false → is_look verb ≡ false → may_join place ≡ false → SaysReads c r mine up place verb answer note
 says_working c r mine up place verb answer note is min head look join = says_none c r mine up place verb answer note (ap is_higher is) (ap is_no_room is) (ap is_joined is) (ap is_learnt is) min head look join
 
--- a note of a fence in a round is of no kind that these aren't of
-pub round_quiet : (test : Note → Bool) (t : Bool) (c : Config) (r : ℕ) (now : List Event) (note : Note) → test Note.Working ≡ false → ((s : ℕ) → test (Note.Confirmed s) ≡ false) → ((s : ℕ) → test (Note.NotConfirmed s) ≡ false) → TellsAfter t c r now note → test note ≡ false
-round_quiet test false c r now note working confirmed unconfirmed is = ap test is ∙ working
-round_quiet test true c r now (Note.Confirmed s) working confirmed unconfirmed is = confirmed s
-round_quiet test true c r now (Note.NotConfirmed s) working confirmed unconfirmed is = unconfirmed s
-round_quiet test true c r now note working confirmed unconfirmed is = absurd is
+-- the note of a round, or none yet, is of no kind that these aren't of
+pub round_quiet : (test : Note → Bool) (x y : Bool) (s t : ℕ) → test Note.Working ≡ false → ((s : ℕ) → test (Note.Confirmed s) ≡ false) → ((s : ℕ) → test (Note.NotConfirmed s) ≡ false) → test (if x then Note.Working else (if y then Note.Confirmed s else Note.NotConfirmed t)) ≡ false
+round_quiet test true y s t working confirmed unconfirmed = working
+round_quiet test false true s t working confirmed unconfirmed = confirmed s
+round_quiet test false false s t working confirmed unconfirmed = unconfirmed t
 
 -- nor is one of a put of the offer
-pub put_quiet : (test : Note → Bool) (n : ℕ) (offer : Offer) (note : Note) → test Note.Working ≡ false → ((i v : ℕ) → test (Note.Committed i v) ≡ false) → ((i v : ℕ) → test (Note.Adopted i v) ≡ false) → (note ≡ Note.Working) ⊎ (note ≡ note_of_commit n offer) → test note ≡ false
-put_quiet test n offer note working committed adopted (inl is) = ap test is ∙ working
-put_quiet test n offer note working committed adopted (inr is) = ap test is ∙ go offer.adopted
+pub put_quiet : (test : Note → Bool) (n : ℕ) (offer : Offer) (x : Bool) → test Note.Working ≡ false → ((i v : ℕ) → test (Note.Committed i v) ≡ false) → ((i v : ℕ) → test (Note.Adopted i v) ≡ false) → test (if x then note_of_commit n offer else Note.Working) ≡ false
+put_quiet test n offer false working committed adopted = working
+put_quiet test n offer true working committed adopted = go offer.adopted
   where
     go : (t : Bool) → test (if t then Note.Adopted n offer.value else Note.Committed n offer.value) ≡ false
     go true = adopted n offer.value
@@ -116,20 +116,20 @@ put_quiet test n offer note working committed adopted (inr is) = ap test is ∙ 
 abbrev pub AreApart : Note → Type 0
 AreApart note = (is_higher note ≡ false) × (is_no_room note ≡ false) × (is_joined note ≡ false) × (is_learnt note ≡ false)
 
-pub round_apart : (t : Bool) (c : Config) (r : ℕ) (now : List Event) (note : Note) → TellsAfter t c r now note → AreApart note
-round_apart t c r now note is = (
-  round_quiet is_higher t c r now note refl (λ s. refl) (λ s. refl) is,
-  round_quiet is_no_room t c r now note refl (λ s. refl) (λ s. refl) is,
-  round_quiet is_joined t c r now note refl (λ s. refl) (λ s. refl) is,
-  round_quiet is_learnt t c r now note refl (λ s. refl) (λ s. refl) is,
+pub round_apart : (x y : Bool) (s t : ℕ) → AreApart (if x then Note.Working else (if y then Note.Confirmed s else Note.NotConfirmed t))
+round_apart x y s t = (
+  round_quiet is_higher x y s t refl (λ s. refl) (λ s. refl),
+  round_quiet is_no_room x y s t refl (λ s. refl) (λ s. refl),
+  round_quiet is_joined x y s t refl (λ s. refl) (λ s. refl),
+  round_quiet is_learnt x y s t refl (λ s. refl) (λ s. refl),
 )
 
-pub put_apart : (n : ℕ) (offer : Offer) (note : Note) → (note ≡ Note.Working) ⊎ (note ≡ note_of_commit n offer) → AreApart note
-put_apart n offer note is = (
-  put_quiet is_higher n offer note refl (λ i v. refl) (λ i v. refl) is,
-  put_quiet is_no_room n offer note refl (λ i v. refl) (λ i v. refl) is,
-  put_quiet is_joined n offer note refl (λ i v. refl) (λ i v. refl) is,
-  put_quiet is_learnt n offer note refl (λ i v. refl) (λ i v. refl) is,
+pub put_apart : (n : ℕ) (offer : Offer) (x : Bool) → AreApart (if x then note_of_commit n offer else Note.Working)
+put_apart n offer x = (
+  put_quiet is_higher n offer x refl (λ i v. refl) (λ i v. refl),
+  put_quiet is_no_room n offer x refl (λ i v. refl) (λ i v. refl),
+  put_quiet is_joined n offer x refl (λ i v. refl) (λ i v. refl),
+  put_quiet is_learnt n offer x refl (λ i v. refl) (λ i v. refl),
 )
 
 -- nor one of a look at the first unknown position
@@ -162,10 +162,10 @@ head_quiet test q h i false true working room = working
 head_quiet test q h i false false working room = room q h i
 
 -- nor one of a put that makes a member
-pub join_quiet : (test : Note → Bool) (p : ℕ) (answer : Answer) (note : Note) (t : Bool) → ((answer ≡ Answer.Done) ⊎ (answer ≡ Answer.Missed)) → NotesJoin p t answer note → test Note.Working ≡ false → ((p : ℕ) → test (Note.Joined p) ≡ false) → test note ≡ false
-join_quiet test p answer note true (inl done) notes working joined = ap test (notes.0 done) ∙ working
-join_quiet test p answer note false (inl done) notes working joined = ap test (notes.0 done) ∙ joined p
-join_quiet test p answer note t (inr missed) notes working joined = ap test (notes.1 missed) ∙ working
+pub join_quiet : (test : Note → Bool) (p : ℕ) (x y : Bool) → test Note.Working ≡ false → ((p : ℕ) → test (Note.Joined p) ≡ false) → test (if x then Note.Working else note_of_join p y) ≡ false
+join_quiet test p true y working joined = working
+join_quiet test p false true working joined = working
+join_quiet test p false false working joined = joined p
 
 -- nor one of a fence or an `Enter`
 pub loss_quiet : (test : Note → Bool) (note : Note) → is_working_or_lost note ≡ true → test Note.Working ≡ false → ((p : ℕ) (f : Fence) → test (Note.Aborted (AbortCause.Lost p f)) ≡ false) → test note ≡ false
@@ -173,6 +173,20 @@ loss_quiet test Note.Working is working lost = working
 loss_quiet test (Note.Aborted (AbortCause.Lost p f)) is working lost = lost p f
 loss_quiet test (Note.Aborted (AbortCause.Higher p m)) is working lost = absurd (true≢false (sym is))
 loss_quiet test note is working lost = absurd (true≢false (sym is))
+
+-- these are the notes of an `Enter`, and of a fence after a put that missed or a look that was past
+pub enter_loses : (p : ℕ) (a : Answer) → is_working_or_lost (note_of_enter p a) ≡ true
+enter_loses p (Answer.Lost f) = refl
+enter_loses p a = refl
+
+pub evidence_loses : (p : ℕ) (a : Answer) → is_working_or_lost (note_of_evidence p a) ≡ true
+evidence_loses p (Answer.Seen f) = refl
+evidence_loses p a = refl
+
+pub past_loses : (p : ℕ) (a : Answer) (over : Bool) → is_working_or_lost (note_of_past p a over) ≡ true
+past_loses p (Answer.Seen f) true = refl
+past_loses p (Answer.Seen f) false = refl
+past_loses p a over = refl
 
 pub lost_apart : (note : Note) → is_working_or_lost note ≡ true → AreApart note
 lost_apart note is = (

@@ -1,54 +1,47 @@
 -- When each note comes, place by place.
-use Rattle.std.proofs.Common.{Bool, List, None, Some, [], ap, arith, false, get_or, inl, cond, inr, length, length-append, min, refl, subst, sym, true, true≢false, ℕ, ◌%◌, ◌&&◌, ◌++◌, ◌+◌, ◌-◌, ◌<◌, ◌==◌, ◌∙◌, ◌∷◌, ◌≡◌, ◌≤◌}
-use Rattle.std.specs.Prelude.{if◌then◌else◌, nat_lt, not, ◌⊎◌}
-use Rattle.std.specs.declared.option.Option.{Option}
-use Rattle.std.proofs.lemmas.Bool.{eqb-true, le-ltb, lt-ltb, ltb-false, ltb-true}
-use Rattle.std.proofs.lemmas.Option.{slice_get_past}
-use Rattle.std.specs.List.{slice_get}
 use Rattle.mu_agree.proofs.Landings.{greatest_since}
-use Rattle.mu_agree.proofs.Readings.{parts_count_law, number_is}
-use Rattle.mu_model.specs.declared.config.Config.{Config}
-use Rattle.mu_model.specs.declared.event.Answer.{Answer}
-use Rattle.mu_model.specs.declared.event.Event.{Event}
-use Rattle.mu_model.specs.declared.event.Fence.{Fence}
-use Rattle.mu_model.specs.declared.event.Target.{Target}
-use Rattle.mu_model.specs.declared.event.Verb.{Verb}
-use Rattle.mu_model.specs.Contents.{IsConfig, config_word, marked, row_count}
+use Rattle.mu_agree.proofs.Possible.{parts_find_law}
+use Rattle.mu_agree.proofs.Readings.{number_is, parts_count_law}
+use Rattle.mu_lead.proofs.Bringing.{look_event, look_known}
+use Rattle.mu_lead.proofs.NoteKinds.{AreApart, differs_by_test, enter_loses, evidence_loses, is_head, is_higher, is_joined, is_learnt, is_look, is_min, is_no_room, lost_apart, may_join, none_higher, none_joined, none_learnt, none_room, not_head, not_join, not_look, not_min, past_loses, put_apart, round_apart, says_none, says_working}
+use Rattle.mu_lead.proofs.Replies.{puts_min_or, tells_head, tells_min}
+use Rattle.mu_model.specs.Diligence.{is_confirmed}
+use Rattle.mu_lead.proofs.Sights.{empty_is}
+use Rattle.mu_lead.specs.Lasting.{step_of, verb_or}
+use Rattle.mu_lead.specs.Leading.{HoldsTables, came_late, end_of}
+use Rattle.mu_lead.specs.Listing.{Tables, is_missed, may_mark, number_told}
+use Rattle.mu_lead.specs.Notes.{note_of_commit, note_of_head, note_of_min}
+use Rattle.mu_lead.specs.Noting.{next_note, note_of_enter, note_of_evidence, note_of_past, note_of_round}
+use Rattle.mu_lead.specs.Saying.{IsLastStep, MayMark, SaysReads, Teaches, is_working, note_of_join, note_of_learning, note_of_look, value_seen}
+use Rattle.mu_lead.specs.Sets.{bits}
+use Rattle.mu_lead.specs.Standing.{At, verb_at}
+use Rattle.mu_lead.specs.declared.note.AbortCause.{AbortCause}
+use Rattle.mu_lead.specs.declared.note.Note.{Note}
+use Rattle.mu_lead.specs.declared.place.Place.{Place}
+use Rattle.mu_lead.specs.declared.place.Then.{Then}
+use Rattle.mu_model.proofs.Basics.{event_by, none_some, same_number, same_some, true_or}
+use Rattle.mu_model.proofs.Lists.{get_push_here}
+use Rattle.mu_model.specs.Contents.{IsConfig, marked, row_count}
 use Rattle.mu_model.specs.Histories.{has}
 use Rattle.mu_model.specs.Knowledge.{entry_seen, fuo_read, greatest_fuo_read, grown, is_known_decided, known, learnt_by}
-use Rattle.mu_model.specs.Leaderships.{begins_leadership, is_above, leadership, proposal_number}
+use Rattle.mu_model.specs.Leaderships.{begins_leadership, is_above, is_over, leadership, noted_grant, proposal_number}
 use Rattle.mu_model.specs.Parts.{IsPossible}
 use Rattle.mu_model.specs.Picks.{is_past}
 use Rattle.mu_model.specs.Placing.{is_caught_up_at, is_known_put}
 use Rattle.mu_model.specs.Room.{reserve}
 use Rattle.mu_model.specs.Scores.{is_failed}
 use Rattle.mu_model.specs.Steps.{knows_more}
-use Rattle.mu_model.proofs.Basics.{event_by, none_some, same_number, same_some, true_or}
-use Rattle.mu_model.proofs.Lists.{get_push_here}
-use Rattle.mu_lead.specs.declared.lead.Lead.{Lead}
-use Rattle.mu_lead.specs.declared.note.AbortCause.{AbortCause}
-use Rattle.mu_lead.specs.declared.note.Note.{Note}
-use Rattle.mu_lead.specs.declared.place.Place.{Place}
-use Rattle.mu_lead.specs.declared.place.Then.{Then}
-use Rattle.mu_lead.specs.Leading.{came_late, end_of}
-use Rattle.mu_lead.specs.Notes.{note_of_head}
-use Rattle.mu_lead.specs.Saying.{IsLastStep, MayMark, NotesAt, NotesDue, NotesHead, NotesJoin, SaysReads, Teaches, is_working, is_working_or_lost, note_of_learning, note_of_look, value_seen}
-use Rattle.mu_lead.specs.Sets.{is_bit}
-use Rattle.mu_lead.specs.Standing.{HasHeeded, HoldsAt, StandsFor, known_told, verb_at, verb_of}
-use Rattle.mu_leading.proofs.Within.{known_few}
-use Rattle.mu_agree.proofs.Possible.{parts_find_law, parts_shorten_law}
-use Rattle.mu_lead.proofs.Bringing.{config_small, look_event, look_known}
-use Rattle.mu_lead.proofs.NoteKinds.{differs_by_test, is_head, is_higher, is_joined, is_learnt, is_look, is_min, is_no_room, lost_apart, may_join, none_higher, none_joined, none_learnt, none_room, not_head, not_join, not_look, not_min, put_apart, round_apart, says_none, says_working}
-use Rattle.mu_lead.proofs.Sights.{empty_is}
-use Rattle.mu_lead.proofs.Replies.{enters_or, puts_min_or, sees_fence, tells_head, tells_min}
-
--- an `Enter` is noted as a lost region at most
-pub enter_apart : (c : Config) (r p : ℕ) (t : Target) (answer : Answer) (mine : List Event) (note : Note) → IsPossible c r (event_by r (Verb.Enter p t) answer ∷ mine) → (answer ≡ Answer.Entered → note ≡ Note.Working) × ((f : Fence) → answer ≡ Answer.Lost f → note ≡ Note.Aborted (AbortCause.Lost p f))
-    → is_working_or_lost note ≡ true
-enter_apart c r p t answer mine note possible notes = elim (enters_or c r p t answer mine possible) [
-  | inl entered ↦ ap is_working_or_lost (notes.0 entered)
-  | inr lost ↦ ap is_working_or_lost (notes.1 lost.0 lost.1)
-]
+use Rattle.mu_model.specs.declared.config.Config.{Config}
+use Rattle.mu_model.specs.declared.event.Answer.{Answer}
+use Rattle.mu_model.specs.declared.event.Event.{Event}
+use Rattle.mu_model.specs.declared.event.Target.{Target}
+use Rattle.mu_model.specs.declared.event.Verb.{Verb}
+use Rattle.std.proofs.Common.{Bool, List, None, Some, [], ap, arith, cond, eqb-true, false, get_or, inl, inr, is_some, length, length-append, min, refl, subst, sym, true, true≢false, ℕ, ◌%◌, ◌&&◌, ◌++◌, ◌+◌, ◌-◌, ◌<◌, ◌==◌, ◌∙◌, ◌∷◌, ◌≡◌, ◌≤◌}
+use Rattle.std.proofs.lemmas.Bool.{le-ltb, lt-ltb, ltb-false, ltb-true}
+use Rattle.std.proofs.lemmas.Option.{slice_get_past}
+use Rattle.std.specs.List.{slice_get}
+use Rattle.std.specs.Prelude.{if◌then◌else◌, nat_lt, not, ◌⊎◌}
+use Rattle.std.specs.declared.option.Option.{Option}
 
 -- a minimum that is read is small
 pub min_small : (c : Config) (r p x : ℕ) (mine : List Event) → IsConfig c → IsPossible c r (event_by r (Verb.Min p) (Answer.Number x) ∷ mine) → x < 4294967296
@@ -184,7 +177,7 @@ is_done Answer.Done = true
 is_done answer = false
 
 -- the put that makes a late follower a member
-says_put : (c : Config) (r q b : ℕ) (mine : List Event) (up : List ℕ) (answer : Answer) (note : Note) → came_late r q mine ≡ true → ((answer ≡ Answer.Done) ⊎ (answer ≡ Answer.Missed)) → (t : Bool) → nat_lt (get_or up q 0) (end_of c r mine) ≡ t → NotesJoin q t answer note → SaysReads c r mine up (Place.LatePut q) (Verb.PutMin q b) answer note
+says_put : (c : Config) (r q b : ℕ) (mine : List Event) (up : List ℕ) (answer : Answer) (note : Note) → came_late r q mine ≡ true → ((answer ≡ Answer.Done) ⊎ (answer ≡ Answer.Missed)) → (t : Bool) → nat_lt (get_or up q 0) (end_of c r mine) ≡ t → (answer ≡ Answer.Done → note ≡ note_of_join q t) × (answer ≡ Answer.Missed → note ≡ Note.Working) → SaysReads c r mine up (Place.LatePut q) (Verb.PutMin q b) answer note
 says_put c r q b mine up answer note late (inr missed) t lacks notes =
     let is = notes.1 missed in
     record {
@@ -221,11 +214,6 @@ says_put c r q b mine up answer note late (inl done) false lacks notes =
     go : (p : ℕ) → IsLastStep c r mine up (Place.LatePut q) answer p → q ≡ p
     go p (inl raised) = absurd (differs_by_test is_put (Place.RaiseBehind p Then.Joined) (Place.LatePut q) refl refl (sym raised))
     go p (inr put) = same_put q p put.0
-
--- an `Enter` says nothing of these
-says_enter : (c : Config) (r p : ℕ) (t : Target) (mine : List Event) (up : List ℕ) (place : Place) (answer : Answer) (note : Note) → IsPossible c r (event_by r (Verb.Enter p t) answer ∷ mine) → (answer ≡ Answer.Entered → note ≡ Note.Working) × ((f : Fence) → answer ≡ Answer.Lost f → note ≡ Note.Aborted (AbortCause.Lost p f))
-    → may_join place ≡ false → SaysReads c r mine up place (Verb.Enter p t) answer note
-says_enter c r p t mine up place answer note possible notes join = let a = lost_apart note (enter_apart c r p t answer mine note possible notes) in says_none c r mine up place (Verb.Enter p t) answer note a.0 a.1 a.2 a.3 refl refl refl join
 
 -- positions with the reserve fit 16 bits
 pub spare : (c : Config) (r : ℕ) (mine : List Event) → IsConfig c → end_of c r mine < row_count c + reserve c → end_of c r mine + reserve c < 65536
@@ -358,65 +346,47 @@ looking c r p i mine up place values answer note join here told is = go (learnt_
         shown false true out high is = is
         shown false false out high is = absurd (true≢false (sym high))
 
--- each place
-says_at : (mine : List Event) (old : Lead) (values : List ℕ) (answer : Answer) (note : Note) (place : Place) (verb : Verb) → HasHeeded mine old → StandsFor mine old → HoldsAt mine old place → NotesAt old values answer note place
-    → verb_at old.config old.number (known old.config old.id mine) old.up old.written.items place ≡ Some verb → IsPossible old.config old.id (event_by old.id verb answer ∷ mine) → values ≡ known_told old.config old.id mine old.id verb answer
-    → SaysReads old.config old.id mine old.up place verb answer note
-says_at mine old values answer note place verb heeded s at notes due = go place at notes due
-  where
-    Tells : Place → Verb → Type 0
-    Tells place verb = IsPossible old.config old.id (event_by old.id verb answer ∷ mine) → values ≡ known_told old.config old.id mine old.id verb answer → SaysReads old.config old.id mine old.up place verb answer note
+-- notes that are of none of these kinds
+apart_says : (c : Config) (r : ℕ) (mine : List Event) (up : List ℕ) (place : Place) (verb : Verb) (answer : Answer) (note : Note) → AreApart note → is_min verb ≡ false → is_head verb ≡ false → is_look verb ≡ false → may_join place ≡ false → SaysReads c r mine up place verb answer note
+apart_says c r mine up place verb answer note a min head look join = says_none c r mine up place verb answer note a.0 a.1 a.2 a.3 min head look join
 
-    turn : (place : Place) (w : Verb) → Some w ≡ Some verb → Tells place w → Tells place verb
-    turn place w is tells = subst (Tells place) (same_some w verb is) tells
-
-    none : (place : Place) (w : Verb) → note ≡ Note.Working → is_min w ≡ false → is_head w ≡ false → is_look w ≡ false → may_join place ≡ false → Tells place w
-    none place w is min head look join = λ possible told. says_working old.config old.id mine old.up place w answer note is min head look join
-
-    go : (place : Place) → HoldsAt mine old place → NotesAt old values answer note place → verb_at old.config old.number (known old.config old.id mine) old.up old.written.items place ≡ Some verb → Tells place verb
-    go (Place.Ask p) at is due = turn (Place.Ask p) (Verb.Ask p) due (none (Place.Ask p) (Verb.Ask p) is refl refl refl refl)
-    go (Place.Confirm round p) at is due = turn (Place.Confirm round p) (Verb.Fence p) due (λ possible told. let a = round_apart (p + 1 == old.config.replicas) old.config old.id (event_by old.id (Verb.Fence p) answer ∷ mine) note (is mine s at.1.region possible) in says_none old.config old.id mine old.up (Place.Confirm round p) (Verb.Fence p) answer note a.0 a.1 a.2 a.3 refl refl refl refl)
-    go (Place.ReadMin p) at is due = turn (Place.ReadMin p) (Verb.Min p) due (λ possible told. says_first_min old.config old.id p mine old.up (Place.ReadMin p) answer note at.telling.fresh.unnumbered refl is)
-    go (Place.EnterMin p) at is due = turn (Place.EnterMin p) (Verb.Enter p Target.Min) due (λ possible told. says_enter old.config old.id p Target.Min mine old.up (Place.EnterMin p) answer note possible is refl)
-    go (Place.PutMin p) at is due = turn (Place.PutMin p) (Verb.PutMin p old.number) due (none (Place.PutMin p) (Verb.PutMin p old.number) is refl refl refl refl)
-    go (Place.ReadFuo p source) at is due = turn (Place.ReadFuo p source) (Verb.Fuo p) due (none (Place.ReadFuo p source) (Verb.Fuo p) is refl refl refl refl)
-    go (Place.Learn p) at is due = turn (Place.Learn p) (Verb.Look p (end_of old.config old.id mine)) due (λ possible told. learning old.config old.id p mine old.up values answer note ((s.tables.brought p).caught_up (end_of old.config old.id mine) at.lacks) told (is (subst (λ xs. length xs < 65536) (sym told) (known_few old.config old.id _ s.config possible))))
-    go (Place.WidenBehind p on) at is due = turn (Place.WidenBehind p on) (Verb.RaiseFuo p (get_or old.up p 0)) due (none (Place.WidenBehind p on) (Verb.RaiseFuo p (get_or old.up p 0)) is refl refl refl refl)
-    go (Place.LookBehind p on) at is due = turn (Place.LookBehind p on) (Verb.Look p (get_or old.up p 0)) due (λ possible told. look_idle old.config old.id p (get_or old.up p 0) mine old.up (Place.LookBehind p on) answer note refl is (look_known old.config old.id p (get_or old.up p 0) answer mine (λ same. let low = at.lacks in omega (arith, low, same))))
-    go (Place.EnterBehind p on) at is due = turn (Place.EnterBehind p on) (Verb.Enter p (Target.Place (get_or old.up p 0 % old.config.ring))) due (λ possible told. says_enter old.config old.id p (Target.Place (get_or old.up p 0 % old.config.ring)) mine old.up (Place.EnterBehind p on) answer note possible is refl)
-    go (Place.PutBehind p on) at is due = turn (Place.PutBehind p on) (Verb.PutSlot p (get_or old.up p 0) old.number (get_or (known old.config old.id mine) (get_or old.up p 0) 0)) due (none (Place.PutBehind p on) (Verb.PutSlot p (get_or old.up p 0) old.number (get_or (known old.config old.id mine) (get_or old.up p 0) 0)) is refl refl refl refl)
-    go (Place.RaiseBehind p Then.Joined) at is due = turn (Place.RaiseBehind p Then.Joined) (Verb.RaiseFuo p (get_or old.up p 0)) due (λ possible told. says_raised old.config old.id p (get_or old.up p 0) mine old.up answer note (at.behind.late refl) is)
-    go (Place.RaiseBehind p Then.Late) at is due = turn (Place.RaiseBehind p Then.Late) (Verb.RaiseFuo p (get_or old.up p 0)) due (none (Place.RaiseBehind p Then.Late) (Verb.RaiseFuo p (get_or old.up p 0)) is refl refl refl refl)
-    go (Place.RaiseBehind p Then.Position) at is due = turn (Place.RaiseBehind p Then.Position) (Verb.RaiseFuo p (get_or old.up p 0)) due (none (Place.RaiseBehind p Then.Position) (Verb.RaiseFuo p (get_or old.up p 0)) is refl refl refl refl)
-    go (Place.FenceBehind p on) at is due = turn (Place.FenceBehind p on) (Verb.Fence p) due (λ possible told. let a = lost_apart note is.0 in says_none old.config old.id mine old.up (Place.FenceBehind p on) (Verb.Fence p) answer note a.0 a.1 a.2 a.3 refl refl refl refl)
-    go (Place.LateFence p) at is due = turn (Place.LateFence p) (Verb.Fence p) due (none (Place.LateFence p) (Verb.Fence p) is refl refl refl refl)
-    go (Place.LateMin p) at is due = turn (Place.LateMin p) (Verb.Min p) due (λ possible told. let x = tells_min old.config old.id p answer mine possible in
-        let small = min_small old.config old.id p x.0 mine s.config (subst (λ a. IsPossible old.config old.id (event_by old.id (Verb.Min p) a ∷ mine)) x.1 possible) in
-        says_late_min old.config old.id old.number p x.0 mine old.up (Place.LateMin p) answer note x.1 at.late.level.leads.numbered refl (nat_lt old.number x.0) refl (is x.0 x.1 small))
-    go (Place.LateFuo p) at is due = turn (Place.LateFuo p) (Verb.Fuo p) due (none (Place.LateFuo p) (Verb.Fuo p) is refl refl refl refl)
-    go (Place.LateEnter p) at is due = turn (Place.LateEnter p) (Verb.Enter p Target.Min) due (λ possible told. says_enter old.config old.id p Target.Min mine old.up (Place.LateEnter p) answer note possible is refl)
-    go (Place.LatePut p) at is due = turn (Place.LatePut p) (Verb.PutMin p old.number) due (λ possible told. says_put old.config old.id p old.number mine old.up answer note at.entering.late (puts_min_or old.config old.id p old.number answer mine possible) (nat_lt (get_or old.up p 0) (end_of old.config old.id mine)) refl (subst (λ xs. NotesJoin p (nat_lt (get_or old.up p 0) (length xs)) answer note) told (is s.tables.ups)))
-    go (Place.ReadHead q candidate) at is due = turn (Place.ReadHead q candidate) (Verb.Head q) due (λ possible told. let x = tells_head old.config old.id q answer mine possible in
-        let small = config_small old.config s.config in let within = at.roomy.within in
-        let known_is : values ≡ known old.config old.id mine = told in
-        let notes = subst (λ xs. NotesHead old q xs answer note) known_is is in
-        says_head old.config old.id q x.0 mine old.up (Place.ReadHead q candidate) answer note (is_bit q old.failed) x.1 (heeded q at.region) at.unmarked (spare old.config old.id mine s.config within) refl
-        (nat_lt (end_of old.config old.id mine + reserve old.config) (x.0 + old.config.ring)) (not (q == old.id) && (is_bit q old.failed && nat_lt (end_of old.config old.id mine + 0) (x.0 + old.config.ring))) refl refl
-        (notes x.0 x.1 (omega (arith, small, within))))
-    go (Place.Look p i candidate best) at is due = turn (Place.Look p i candidate best) (Verb.Look p i) due (λ possible told. looking old.config old.id p i mine old.up (Place.Look p i candidate best) values answer note refl at.position told is)
-    go (Place.Write j last offer) at is due = turn (Place.Write j last offer) (Verb.WriteRow j (get_or old.written.items j 12) (config_word old.config j (get_or old.written.items j 12))) due (none (Place.Write j last offer) (Verb.WriteRow j (get_or old.written.items j 12) (config_word old.config j (get_or old.written.items j 12))) is refl refl refl refl)
-    go (Place.Enter p offer) at is due = turn (Place.Enter p offer) (Verb.Enter p (Target.Place (end_of old.config old.id mine % old.config.ring))) due (λ possible told. says_enter old.config old.id p (Target.Place (end_of old.config old.id mine % old.config.ring)) mine old.up (Place.Enter p offer) answer note possible is refl)
-    go (Place.Put p offer) at is due = turn (Place.Put p offer) (Verb.PutSlot p (end_of old.config old.id mine) old.number offer.value) due (λ possible told. let known_is : values ≡ known old.config old.id mine = told in let a = put_apart (length values) offer note (is (subst (λ xs. length xs < 65536) (sym known_is) (known_few old.config old.id mine s.config (parts_shorten_law old.config old.id mine _ possible).before))) in says_none old.config old.id mine old.up (Place.Put p offer) (Verb.PutSlot p (end_of old.config old.id mine) old.number offer.value) answer note a.0 a.1 a.2 a.3 refl refl refl refl)
-    go (Place.Raise p) at is due = turn (Place.Raise p) (Verb.RaiseFuo p (end_of old.config old.id mine)) due (none (Place.Raise p) (Verb.RaiseFuo p (end_of old.config old.id mine)) is refl refl refl refl)
-    go (Place.Evidence p) at is due = turn (Place.Evidence p) (Verb.Fence p) due (λ possible told. let x = sees_fence old.config old.id p answer mine possible in let a = lost_apart note (ap is_working_or_lost (is x.0 x.1)) in says_none old.config old.id mine old.up (Place.Evidence p) (Verb.Fence p) answer note a.0 a.1 a.2 a.3 refl refl refl refl)
-    go Place.Outrun at is due = cc
-    go Place.Rest at is due = cc
-
--- of what was read, the note of `take_answer` comes exactly where its row holds
-pub reads_next : (mine : List Event) (old : Lead) (values : List ℕ) (answer : Answer) (note : Note) (verb : Verb) → HasHeeded mine old → StandsFor mine old → NotesDue old values answer note
-    → verb_of old (known old.config old.id mine) ≡ Some verb → IsPossible old.config old.id (event_by old.id verb answer ∷ mine) → values ≡ known_told old.config old.id mine old.id verb answer
-    → SaysReads old.config old.id mine old.up old.place verb answer note
-reads_next mine old values answer note verb heeded s notes due possible told = says_at mine old values answer note old.place verb heeded s s.at notes due possible told
+-- the notes of what was read, and of steps for late followers, come exactly where their rows hold
+pub reads_say : (c : Config) (r b : ℕ) (mine : List Event) (old : Tables) (a : Answer) (place : Place) → IsConfig c → HoldsTables c r mine old.up old.reach old.heads old.written → At c r b mine old.up old.reach old.written place → IsPossible c r (step_of c r b mine old.up old.written place a ∷ mine)
+    → SaysReads c r mine old.up place (verb_or (verb_at c b (known c r mine) old.up old.written place)) a (next_note c r b mine (step_of c r b mine old.up old.written place a ∷ mine) old a place)
+reads_say c r b mine old a (Place.Confirm round p) is h at possible =
+    let now = event_by r (Verb.Fence p) a ∷ mine in
+    apart_says c r mine old.up (Place.Confirm round p) (Verb.Fence p) a (if nat_lt (p + 1) c.replicas then Note.Working else note_of_round c r now) (round_apart (nat_lt (p + 1) c.replicas) (is_confirmed c r now) (bits (λ q. is_some (noted_grant r q now))) (bits (λ q. is_some (noted_grant r q now)))) refl refl refl refl
+reads_say c r b mine old a (Place.ReadMin p) is h at possible = says_first_min c r p mine old.up (Place.ReadMin p) a Note.Working at.telling.fresh.unnumbered refl refl
+reads_say c r b mine old a (Place.EnterMin p) is h at possible = apart_says c r mine old.up (Place.EnterMin p) (Verb.Enter p Target.Min) a (note_of_enter p a) (lost_apart (note_of_enter p a) (enter_loses p a)) refl refl refl refl
+reads_say c r b mine old a (Place.Learn p) is h at possible = learning c r p mine old.up (known c r (look_event r p (end_of c r mine) a ∷ mine)) a (note_of_learning (end_of c r (look_event r p (end_of c r mine) a ∷ mine)) a) ((h.brought p).caught_up (end_of c r mine) at.lacks) refl refl
+reads_say c r b mine old a (Place.LookBehind p on) is h at possible = look_idle c r p (get_or old.up p 0) mine old.up (Place.LookBehind p on) a Note.Working refl refl (look_known c r p (get_or old.up p 0) a mine (λ same. let low = at.lacks in omega (arith, low, same)))
+reads_say c r b mine old a (Place.EnterBehind p on) is h at possible = apart_says c r mine old.up (Place.EnterBehind p on) (Verb.Enter p (Target.Place (get_or old.up p 0 % c.ring))) a (note_of_enter p a) (lost_apart (note_of_enter p a) (enter_loses p a)) refl refl refl refl
+reads_say c r b mine old a (Place.RaiseBehind p Then.Joined) is h at possible = says_raised c r p (get_or old.up p 0) mine old.up a (Note.Joined p) (at.behind.late refl) refl
+reads_say c r b mine old a (Place.FenceBehind p on) is h at possible =
+    let over = is_over r (event_by r (Verb.Fence p) a ∷ mine) in
+    apart_says c r mine old.up (Place.FenceBehind p on) (Verb.Fence p) a (note_of_past p a over) (lost_apart (note_of_past p a over) (past_loses p a over)) refl refl refl refl
+reads_say c r b mine old a (Place.LateMin p) is h at possible =
+    let x = tells_min c r p a mine possible in
+    says_late_min c r b p x.0 mine old.up (Place.LateMin p) a (note_of_min p b (number_told a)) x.1 at.late.level.leads.numbered refl (nat_lt b x.0) refl (ap (λ y. note_of_min p b (number_told y)) x.1)
+reads_say c r b mine old a (Place.LateEnter p) is h at possible = apart_says c r mine old.up (Place.LateEnter p) (Verb.Enter p Target.Min) a (note_of_enter p a) (lost_apart (note_of_enter p a) (enter_loses p a)) refl refl refl refl
+reads_say c r b mine old a (Place.LatePut p) is h at possible =
+    let lacks = nat_lt (get_or old.up p 0) (end_of c r mine) in
+    let joins : Answer → Note = λ y. if is_missed y then Note.Working else note_of_join p lacks in
+    says_put c r p b mine old.up a (joins a) at.entering.late (puts_min_or c r p b a mine possible) lacks refl (ap joins, ap joins)
+reads_say c r b mine old a (Place.ReadHead q candidate) is h at possible =
+    let x = tells_head c r q a mine possible in
+    let end = end_of c r mine in
+    let told : Answer → Note = λ y. note_of_head q (min (number_told y) 65535) end (nat_lt (end + reserve c) (number_told y + c.ring)) (may_mark c r mine q (number_told y)) in
+    says_head c r q x.0 mine old.up (Place.ReadHead q candidate) a (told a) (is_failed r q mine) x.1 refl at.unmarked (spare c r mine is at.roomy.within) refl
+    (nat_lt (end + reserve c) (x.0 + c.ring)) (not (q == r) && (is_failed r q mine && nat_lt (end + 0) (x.0 + c.ring))) refl refl
+    (ap told x.1 ∙ ap (λ n. note_of_head q (min x.0 65535) end (nat_lt (end + reserve c) (x.0 + c.ring)) (not (q == r) && (is_failed r q mine && nat_lt n (x.0 + c.ring)))) (let none : end ≡ end + 0 = omega arith in none))
+reads_say c r b mine old a (Place.Look p i candidate best) is h at possible = looking c r p i mine old.up (Place.Look p i candidate best) (known c r (look_event r p i a ∷ mine)) a (note_of_look i (end_of c r (look_event r p i a ∷ mine)) a) refl at.position refl refl
+reads_say c r b mine old a (Place.Enter p offer) is h at possible = apart_says c r mine old.up (Place.Enter p offer) (Verb.Enter p (Target.Place (end_of c r mine % c.ring))) a (note_of_enter p a) (lost_apart (note_of_enter p a) (enter_loses p a)) refl refl refl refl
+reads_say c r b mine old a (Place.Put p offer) is h at possible =
+    let grew = nat_lt (end_of c r mine) (end_of c r (event_by r (Verb.PutSlot p (end_of c r mine) b offer.value) a ∷ mine)) in
+    apart_says c r mine old.up (Place.Put p offer) (Verb.PutSlot p (end_of c r mine) b offer.value) a (if grew then note_of_commit (end_of c r mine) offer else Note.Working) (put_apart (end_of c r mine) offer grew) refl refl refl refl
+reads_say c r b mine old a (Place.Evidence p) is h at possible = apart_says c r mine old.up (Place.Evidence p) (Verb.Fence p) a (note_of_evidence p a) (lost_apart (note_of_evidence p a) (evidence_loses p a)) refl refl refl refl
+reads_say c r b mine old a place is h at possible = says_working c r mine old.up place (verb_or (verb_at c b (known c r mine) old.up old.written place)) a Note.Working refl refl refl refl refl
 
 -- the note that says nothing is `Working`
 pub working_is : (note : Note) → is_working note ≡ true → note ≡ Note.Working

@@ -1,27 +1,39 @@
 -- Each note comes exactly if its row holds.
-use Rattle.std.proofs.Common.{Bool, List, Some, ap, false, length, refl, subst, sym, true, ℕ, ◌+◌, ◌<◌, ◌==◌, ◌∙◌, ◌∷◌, ◌≡◌}
-use Rattle.mu_model.specs.declared.event.Answer.{Answer}
-use Rattle.mu_model.specs.declared.event.Event.{Event}
-use Rattle.mu_model.specs.declared.event.Verb.{Verb}
-use Rattle.mu_model.specs.Contents.{IsInSession, holds_all}
-use Rattle.mu_model.specs.Knowledge.{grown, known}
-use Rattle.mu_model.specs.Parts.{IsPossible}
-use Rattle.mu_model.proofs.Basics.{event_by, same_some}
-use Rattle.mu_agree.proofs.Possible.{parts_in_session_law, parts_shorten_law}
-use Rattle.mu_leading.proofs.Within.{known_few}
+use Rattle.mu_agree.proofs.Possible.{parts_in_session_law}
+use Rattle.mu_lead.proofs.Commits.{commit_none, commit_says, is_adopted, is_committed}
+use Rattle.mu_lead.proofs.Listed.{due_step}
+use Rattle.mu_lead.proofs.Losses.{is_lost, losses_say}
+use Rattle.mu_lead.proofs.NoteKinds.{differs_by_test, is_higher, is_joined, is_learnt, is_no_room, put_quiet, round_quiet}
+use Rattle.mu_lead.proofs.Quiet.{Spares, spared}
+use Rattle.mu_lead.proofs.Rounds.{is_confirmed, is_not_confirmed, round_none, round_says}
+use Rattle.mu_lead.proofs.Rows.{reads_say}
+use Rattle.mu_lead.proofs.Telling.{spares_adopted, spares_committed, tells_say}
+use Rattle.mu_lead.specs.Lasting.{step_of, tables_of, verb_or}
+use Rattle.mu_lead.specs.Leading.{HoldsTables, end_of}
+use Rattle.mu_lead.specs.Listing.{Tables}
+use Rattle.mu_lead.specs.Losses.{SaysLost}
+use Rattle.mu_lead.specs.Notes.{note_of_commit, value_committed}
+use Rattle.mu_lead.specs.Noting.{NotedDue, next_note, note_of_round}
+use Rattle.mu_lead.specs.Saying.{SaysCommit, SaysNext, SaysReads, SaysRound, is_of_no_place}
+use Rattle.mu_lead.specs.Sets.{bits}
+use Rattle.mu_lead.specs.Standing.{At, HasHeeded, StandsFor, known_told, verb_at, verb_of}
 use Rattle.mu_lead.specs.declared.lead.Lead.{Lead}
 use Rattle.mu_lead.specs.declared.note.AbortCause.{AbortCause}
 use Rattle.mu_lead.specs.declared.note.Note.{Note}
 use Rattle.mu_lead.specs.declared.place.Place.{Place}
-use Rattle.mu_lead.specs.Notes.{value_committed}
-use Rattle.mu_lead.specs.Saying.{NotesAt, NotesDue, SaysCommit, SaysNext, SaysRound, is_of_no_place}
-use Rattle.mu_lead.specs.Standing.{HasHeeded, HoldsAt, StandsFor, TellsDue, known_told, verb_at}
-use Rattle.mu_lead.proofs.Commits.{commit_none, commit_says, is_adopted, is_committed}
-use Rattle.mu_lead.proofs.NoteKinds.{differs_by_test, is_higher, is_joined, is_learnt, is_no_room, put_quiet, round_quiet}
-use Rattle.mu_lead.proofs.Losses.{is_lost, lost_next}
-use Rattle.mu_lead.proofs.Quiet.{Spares, quiet_at}
-use Rattle.mu_lead.proofs.Rounds.{is_confirmed, is_not_confirmed, round_none, round_says}
-use Rattle.mu_lead.proofs.Rows.{reads_next}
+use Rattle.mu_leading.proofs.Within.{known_few}
+use Rattle.mu_model.proofs.Basics.{event_by}
+use Rattle.mu_model.specs.Contents.{IsConfig, IsInSession, holds_all}
+use Rattle.mu_model.specs.Diligence.{is_confirmed as is_confirmed_by}
+use Rattle.mu_model.specs.Knowledge.{grown, known}
+use Rattle.mu_model.specs.Leaderships.{noted_grant}
+use Rattle.mu_model.specs.Parts.{IsPossible}
+use Rattle.mu_model.specs.declared.config.Config.{Config}
+use Rattle.mu_model.specs.declared.event.Answer.{Answer}
+use Rattle.mu_model.specs.declared.event.Event.{Event}
+use Rattle.mu_model.specs.declared.event.Verb.{Verb}
+use Rattle.std.proofs.Common.{Bool, List, Some, ap, false, inl, inr, is_some, length, refl, subst, sym, true, ℕ, ◌+◌, ◌<◌, ◌∙◌, ◌∷◌, ◌≡◌}
+use Rattle.std.specs.Prelude.{if◌then◌else◌, nat_lt, ◌⊎◌}
 
 spares_confirmed : Spares is_confirmed
 spares_confirmed = record { working = refl; learnt = λ i v. refl; joined = λ p. refl; lost = λ p f. refl; higher = λ p m. refl; room = λ q h i. refl }
@@ -29,57 +41,83 @@ spares_confirmed = record { working = refl; learnt = λ i v. refl; joined = λ p
 spares_not_confirmed : Spares is_not_confirmed
 spares_not_confirmed = record { working = refl; learnt = λ i v. refl; joined = λ p. refl; lost = λ p f. refl; higher = λ p m. refl; room = λ q h i. refl }
 
-spares_committed : Spares is_committed
-spares_committed = record { working = refl; learnt = λ i v. refl; joined = λ p. refl; lost = λ p f. refl; higher = λ p m. refl; room = λ q h i. refl }
-
-spares_adopted : Spares is_adopted
-spares_adopted = record { working = refl; learnt = λ i v. refl; joined = λ p. refl; lost = λ p f. refl; higher = λ p m. refl; room = λ q h i. refl }
-
 spares_no_place : Spares is_of_no_place
 spares_no_place = record { working = refl; learnt = λ i v. refl; joined = λ p. refl; lost = λ p f. refl; higher = λ p m. refl; room = λ q h i. refl }
 
--- what the values are before the put of the offer
-put_few : (mine : List Event) (old : Lead) (verb : Verb) (answer : Answer) (values : List ℕ) → StandsFor mine old → IsPossible old.config old.id (event_by old.id verb answer ∷ mine) → values ≡ known old.config old.id mine → length values < 65536
-put_few mine old verb answer values s possible same = subst (λ xs. length xs < 65536) (sym same) (known_few old.config old.id mine s.config (parts_shorten_law old.config old.id mine (event_by old.id verb answer) possible).before)
+-- the notes of rounds
+rounds_say : (c : Config) (r b : ℕ) (mine : List Event) (old : Tables) (a : Answer) (place : Place) → At c r b mine old.up old.reach old.written place → SaysRound c r (step_of c r b mine old.up old.written place a ∷ mine) place (next_note c r b mine (step_of c r b mine old.up old.written place a ∷ mine) old a place)
+rounds_say c r b mine old a (Place.Confirm round p) at = round_says c r round p (event_by r (Verb.Fence p) a ∷ mine) at.1.region
+rounds_say c r b mine old a (Place.Put p offer) at =
+    let now = event_by r (Verb.PutSlot p (end_of c r mine) b offer.value) a ∷ mine in
+    let grew = nat_lt (end_of c r mine) (end_of c r now) in
+    round_none c r now (Place.Put p offer) (if grew then note_of_commit (end_of c r mine) offer else Note.Working) (put_quiet is_confirmed (end_of c r mine) offer grew refl (λ i v. refl) (λ i v. refl)) (put_quiet is_not_confirmed (end_of c r mine) offer grew refl (λ i v. refl) (λ i v. refl)) refl
+rounds_say c r b mine old a place at =
+    let now = step_of c r b mine old.up old.written place a ∷ mine in
+    round_none c r now place (next_note c r b mine now old a place) (spared is_confirmed c r b mine now old a place spares_confirmed refl) (spared is_not_confirmed c r b mine now old a place spares_not_confirmed refl) refl
 
-told_put : (mine : List Event) (old : Lead) (p i b v : ℕ) (verb : Verb) (answer : Answer) (values : List ℕ) → Some (Verb.PutSlot p i b v) ≡ Some verb → values ≡ known_told old.config old.id mine old.id verb answer → values ≡ known old.config old.id mine
-told_put mine old p i b v verb answer values due told = subst (λ w. values ≡ known_told old.config old.id mine old.id w answer) (sym (same_some (Verb.PutSlot p i b v) verb due)) told
+-- the notes of entries that a put made known
+commits_say : (c : Config) (r b : ℕ) (mine : List Event) (old : Tables) (a : Answer) (place : Place) → At c r b mine old.up old.reach old.written place → IsPossible c r (step_of c r b mine old.up old.written place a ∷ mine)
+    → SaysCommit c r mine (verb_or (verb_at c b (known c r mine) old.up old.written place)) a (next_note c r b mine (step_of c r b mine old.up old.written place a ∷ mine) old a place)
+commits_say c r b mine old a (Place.Put p offer) at possible =
+    let now = event_by r (Verb.PutSlot p (end_of c r mine) b offer.value) a ∷ mine in
+    commit_says c r p b mine a (known c r mine) offer (if nat_lt (end_of c r mine) (end_of c r now) then note_of_commit (end_of c r mine) offer else Note.Working) at.1 (either (nat_lt (end_of c r mine) (end_of c r now))) (tells_say c r b mine old a (Place.Put p offer) at possible) refl
+  where
+    either : (x : Bool) → ((if x then note_of_commit (end_of c r mine) offer else Note.Working) ≡ Note.Working) ⊎ ((if x then note_of_commit (end_of c r mine) offer else Note.Working) ≡ note_of_commit (end_of c r mine) offer)
+    either true = inr refl
+    either false = inl refl
+commits_say c r b mine old a (Place.Confirm round p) at possible =
+    let now = event_by r (Verb.Fence p) a ∷ mine in
+    let named = bits (λ q. is_some (noted_grant r q now)) in
+    commit_none c r mine (Verb.Fence p) a (known c r now) (if nat_lt (p + 1) c.replicas then Note.Working else note_of_round c r now) (round_quiet is_committed (nat_lt (p + 1) c.replicas) (is_confirmed_by c r now) named named refl (λ s. refl) (λ s. refl)) (round_quiet is_adopted (nat_lt (p + 1) c.replicas) (is_confirmed_by c r now) named named refl (λ s. refl) (λ s. refl))
+    (tells_say c r b mine old a (Place.Confirm round p) at possible) refl
+commits_say c r b mine old a place at possible =
+    let now = step_of c r b mine old.up old.written place a ∷ mine in
+    let verb = verb_or (verb_at c b (known c r mine) old.up old.written place) in
+    commit_none c r mine verb a (known_told c r mine r verb a) (next_note c r b mine now old a place) (spared is_committed c r b mine now old a place spares_committed refl) (spared is_adopted c r b mine now old a place spares_adopted refl) (tells_say c r b mine old a place at possible) refl
 
-rounds_at : (mine : List Event) (old : Lead) (values : List ℕ) (answer : Answer) (note : Note) (place : Place) (verb : Verb) → HasHeeded mine old → StandsFor mine old → HoldsAt mine old place → NotesAt old values answer note place
-    → verb_at old.config old.number (known old.config old.id mine) old.up old.written.items place ≡ Some verb → IsPossible old.config old.id (event_by old.id verb answer ∷ mine) → values ≡ known_told old.config old.id mine old.id verb answer
-    → SaysRound old.config old.id (event_by old.id verb answer ∷ mine) place note
-rounds_at mine old values answer note (Place.Confirm round p) verb heeded s at notes due possible told =
-    subst (λ w. IsPossible old.config old.id (event_by old.id w answer ∷ mine) → SaysRound old.config old.id (event_by old.id w answer ∷ mine) (Place.Confirm round p) note) (same_some (Verb.Fence p) verb due)
-    (λ may. round_says old.config old.id round p (event_by old.id (Verb.Fence p) answer ∷ mine) note (p + 1 == old.config.replicas) refl (notes mine s at.1.region may)) possible
-rounds_at mine old values answer note (Place.Put p offer) verb heeded s at notes due possible told =
-    let is = notes (put_few mine old verb answer values s possible (told_put mine old p (length (known old.config old.id mine)) old.number offer.value verb answer values due told)) in
-    round_none old.config old.id (event_by old.id verb answer ∷ mine) (Place.Put p offer) note (put_quiet is_confirmed (length values) offer note refl (λ i v. refl) (λ i v. refl) is) (put_quiet is_not_confirmed (length values) offer note refl (λ i v. refl) (λ i v. refl) is) refl
-rounds_at mine old values answer note place verb heeded s at notes due possible told =
-    round_none old.config old.id (event_by old.id verb answer ∷ mine) place note (quiet_at is_confirmed mine old values answer note place verb spares_confirmed refl heeded s notes due possible told) (quiet_at is_not_confirmed mine old values answer note place verb spares_not_confirmed refl heeded s notes due possible told) refl
+-- no place notes a resignation, or that all is known
+places_say : (c : Config) (r b : ℕ) (mine now : List Event) (old : Tables) (a : Answer) (place : Place) → is_of_no_place (next_note c r b mine now old a place) ≡ false
+places_say c r b mine now old a (Place.Put p offer) = put_quiet is_of_no_place (end_of c r mine) offer (nat_lt (end_of c r mine) (end_of c r now)) refl (λ i v. refl) (λ i v. refl)
+places_say c r b mine now old a (Place.Confirm round p) =
+    let named = bits (λ q. is_some (noted_grant r q now)) in
+    round_quiet is_of_no_place (nat_lt (p + 1) c.replicas) (is_confirmed_by c r now) named named refl (λ s. refl) (λ s. refl)
+places_say c r b mine now old a place = spared is_of_no_place c r b mine now old a place spares_no_place refl
 
-commits_at : (mine : List Event) (old : Lead) (values : List ℕ) (answer : Answer) (note : Note) (place : Place) (verb : Verb) → HasHeeded mine old → StandsFor mine old → HoldsAt mine old place → NotesAt old values answer note place
-    → verb_at old.config old.number (known old.config old.id mine) old.up old.written.items place ≡ Some verb → IsPossible old.config old.id (event_by old.id verb answer ∷ mine) → values ≡ known_told old.config old.id mine old.id verb answer
-    → known old.config old.id (event_by old.id verb answer ∷ mine) ≡ grown values (value_committed note) → SaysCommit old.config old.id mine verb answer note
-commits_at mine old values answer note (Place.Put p offer) verb heeded s at notes due possible told tells =
-    let same = told_put mine old p (length (known old.config old.id mine)) old.number offer.value verb answer values due told in
-    let is = notes (put_few mine old verb answer values s possible same) in
-    subst (λ w. known old.config old.id (event_by old.id w answer ∷ mine) ≡ grown values (value_committed note) → SaysCommit old.config old.id mine w answer note) (same_some (Verb.PutSlot p (length (known old.config old.id mine)) old.number offer.value) verb due)
-    (λ grew. commit_says old.config old.id p old.number mine answer values offer note at.1 is grew same) tells
-commits_at mine old values answer note (Place.Confirm round p) verb heeded s at notes due possible told tells =
-    let is = subst (λ w. IsPossible old.config old.id (event_by old.id w answer ∷ mine)) (sym (same_some (Verb.Fence p) verb due)) possible in
-    let tells_round = notes mine s at.1.region is in
-    commit_none old.config old.id mine verb answer values note (round_quiet is_committed (p + 1 == old.config.replicas) old.config old.id (event_by old.id (Verb.Fence p) answer ∷ mine) note refl (λ u. refl) (λ u. refl) tells_round) (round_quiet is_adopted (p + 1 == old.config.replicas) old.config old.id (event_by old.id (Verb.Fence p) answer ∷ mine) note refl (λ u. refl) (λ u. refl) tells_round) tells told
-commits_at mine old values answer note place verb heeded s at notes due possible told tells =
-    commit_none old.config old.id mine verb answer values note (quiet_at is_committed mine old values answer note place verb spares_committed refl heeded s notes due possible told) (quiet_at is_adopted mine old values answer note place verb spares_adopted refl heeded s notes due possible told) tells told
+-- the rows of a note, before `Idle` takes the place of `Working`
+pub record IsSaid (c : Config) (r : ℕ) (mine : List Event) (up : List ℕ) (place : Place) (verb : Verb) (answer : Answer) (note : Note) : Type 0 where
+  pub rounds : SaysRound c r (event_by r verb answer ∷ mine) place note
+  pub commits : SaysCommit c r mine verb answer note
+  pub lost : SaysLost r mine place verb answer note
+  pub reads : SaysReads c r mine up place verb answer note
+  pub placed : is_of_no_place note ≡ false
+  pub grew : known c r (event_by r verb answer ∷ mine) ≡ grown (known_told c r mine r verb answer) (value_committed note)
 
-placed_at : (mine : List Event) (old : Lead) (values : List ℕ) (answer : Answer) (note : Note) (place : Place) (verb : Verb) → HasHeeded mine old → StandsFor mine old → HoldsAt mine old place → NotesAt old values answer note place
-    → verb_at old.config old.number (known old.config old.id mine) old.up old.written.items place ≡ Some verb → IsPossible old.config old.id (event_by old.id verb answer ∷ mine) → values ≡ known_told old.config old.id mine old.id verb answer → is_of_no_place note ≡ false
-placed_at mine old values answer note (Place.Put p offer) verb heeded s at notes due possible told =
-    put_quiet is_of_no_place (length values) offer note refl (λ i v. refl) (λ i v. refl) (notes (put_few mine old verb answer values s possible (told_put mine old p (length (known old.config old.id mine)) old.number offer.value verb answer values due told)))
-placed_at mine old values answer note (Place.Confirm round p) verb heeded s at notes due possible told =
-    round_quiet is_of_no_place (p + 1 == old.config.replicas) old.config old.id (event_by old.id (Verb.Fence p) answer ∷ mine) note refl (λ u. refl) (λ u. refl)
-    (notes mine s at.1.region (subst (λ w. IsPossible old.config old.id (event_by old.id w answer ∷ mine)) (sym (same_some (Verb.Fence p) verb due)) possible))
-placed_at mine old values answer note place verb heeded s at notes due possible told = quiet_at is_of_no_place mine old values answer note place verb spares_no_place refl heeded s notes due possible told
+-- the note of each place has them
+notes_say : (c : Config) (r b : ℕ) (mine : List Event) (old : Tables) (a : Answer) (place : Place) → IsConfig c → HoldsTables c r mine old.up old.reach old.heads old.written → At c r b mine old.up old.reach old.written place → IsPossible c r (step_of c r b mine old.up old.written place a ∷ mine)
+    → IsSaid c r mine old.up place (verb_or (verb_at c b (known c r mine) old.up old.written place)) a (next_note c r b mine (step_of c r b mine old.up old.written place a ∷ mine) old a place)
+notes_say c r b mine old a place is held at possible = record {
+  rounds = rounds_say c r b mine old a place at;
+  commits = commits_say c r b mine old a place at possible;
+  lost = losses_say c r b mine old a place at possible;
+  reads = reads_say c r b mine old a place is held at possible;
+  placed = places_say c r b mine (step_of c r b mine old.up old.written place a ∷ mine) old a place;
+  grew = tells_say c r b mine old a place at possible;
+}
+
+-- so has the leader's
+pub said_next : (mine : List Event) (old : Lead) (values : List ℕ) (answer : Answer) (note : Note) (verb : Verb) → HasHeeded mine old → StandsFor mine old → NotedDue old values answer note
+    → verb_of old (known old.config old.id mine) ≡ Some verb → IsPossible old.config old.id (event_by old.id verb answer ∷ mine) → values ≡ known_told old.config old.id mine old.id verb answer → IsSaid old.config old.id mine old.up old.place verb answer note
+said_next mine old values answer note verb heeded s noted due possible told =
+    let is = due_step old mine verb due in
+    subst (IsSaid old.config old.id mine old.up old.place verb answer) (sym (noted mine verb heeded s due possible told))
+    (subst (λ w. IsSaid old.config old.id mine old.up old.place w answer (next_note old.config old.id old.number mine (event_by old.id w answer ∷ mine) (tables_of old) answer old.place)) is
+    (notes_say old.config old.id old.number mine (tables_of old) answer old.place s.config s.tables s.at (subst (λ w. IsPossible old.config old.id (event_by old.id w answer ∷ mine)) (sym is) possible)))
+
+-- and what is known grew as it tells
+pub grew_next : (mine : List Event) (old : Lead) (values : List ℕ) (answer : Answer) (note : Note) (verb : Verb) → HasHeeded mine old → StandsFor mine old → NotedDue old values answer note
+    → verb_of old (known old.config old.id mine) ≡ Some verb → IsPossible old.config old.id (event_by old.id verb answer ∷ mine) → values ≡ known_told old.config old.id mine old.id verb answer
+    → known old.config old.id (event_by old.id verb answer ∷ mine) ≡ grown values (value_committed note)
+grew_next mine old values answer note verb heeded s noted due possible told = (said_next mine old values answer note verb heeded s noted due possible told).grew ∙ ap (λ xs. grown xs (value_committed note)) (sym told)
 
 -- whether the values hold all commands is what is asked of the known list
 pub all_known : (mine : List Event) (old : Lead) (values : List ℕ) (answer : Answer) (verb : Verb) (note : Note) (all : Bool) → note ≡ Note.Working → known old.config old.id (event_by old.id verb answer ∷ mine) ≡ grown values (value_committed note)
@@ -94,16 +132,17 @@ values_in_session mine old values answer verb note s possible is tells =
     (subst (IsInSession old.config) same (parts_in_session_law old.config old.id (event_by old.id verb answer ∷ mine) s.config possible), subst (λ xs. length xs < 65536) same (known_few old.config old.id (event_by old.id verb answer ∷ mine) s.config possible))
 
 -- the note of `take_answer`, where it is told apart from `Idle`
-pub says_next : (mine : List Event) (old : Lead) (values : List ℕ) (answer : Answer) (note : Note) → HasHeeded mine old → StandsFor mine old → NotesDue old values answer note → TellsDue old values answer note
+pub says_next : (mine : List Event) (old : Lead) (values : List ℕ) (answer : Answer) (note : Note) → HasHeeded mine old → StandsFor mine old → NotedDue old values answer note
     → (note ≡ Note.Working → length values < 65536 → IsInSession old.config values → holds_all old.config values ≡ false) → SaysNext mine old values answer note
-says_next mine old values answer note heeded s notes tells lacks verb due possible told =
-    let grew = tells mine verb s due possible told in
-    let reads = reads_next mine old values answer note verb heeded s notes due possible told in
-    let placed = placed_at mine old values answer note old.place verb heeded s s.at notes due possible told in
+says_next mine old values answer note heeded s noted lacks verb due possible told =
+    let grew = grew_next mine old values answer note verb heeded s noted due possible told in
+    let said = said_next mine old values answer note verb heeded s noted due possible told in
+    let reads = said.reads in
+    let placed = said.placed in
     record {
-      rounds = rounds_at mine old values answer note old.place verb heeded s s.at notes due possible told;
-      commits = commits_at mine old values answer note old.place verb heeded s s.at notes due possible told grew;
-      lost = lost_next mine old values answer note verb heeded s notes due possible told;
+      rounds = said.rounds;
+      commits = said.commits;
+      lost = said.lost;
       higher = reads.higher;
       no_room = reads.no_room;
       learnt = reads.learnt;
@@ -114,15 +153,16 @@ says_next mine old values answer note heeded s notes tells lacks verb due possib
     }
 
 -- `Idle` in place of `Working`, where all commands are known
-pub says_idle : (mine : List Event) (old : Lead) (values : List ℕ) (answer : Answer) (note : Note) → HasHeeded mine old → StandsFor mine old → NotesDue old values answer note → TellsDue old values answer note → note ≡ Note.Working
+pub says_idle : (mine : List Event) (old : Lead) (values : List ℕ) (answer : Answer) (note : Note) → HasHeeded mine old → StandsFor mine old → NotedDue old values answer note → note ≡ Note.Working
     → (length values < 65536 → IsInSession old.config values → holds_all old.config values ≡ true) → SaysNext mine old values answer Note.Idle
-says_idle mine old values answer note heeded s notes tells is all verb due possible told =
-    let grew = tells mine verb s due possible told in
+says_idle mine old values answer note heeded s noted is all verb due possible told =
+    let grew = grew_next mine old values answer note verb heeded s noted due possible told in
+    let said = said_next mine old values answer note verb heeded s noted due possible told in
     let in_session = values_in_session mine old values answer verb note s possible is grew in
-    let reads = reads_next mine old values answer note verb heeded s notes due possible told in
-    let rounds = rounds_at mine old values answer note old.place verb heeded s s.at notes due possible told in
-    let commits = commits_at mine old values answer note old.place verb heeded s s.at notes due possible told grew in
-    let lost = lost_next mine old values answer note verb heeded s notes due possible told in
+    let reads = said.reads in
+    let rounds = said.rounds in
+    let commits = said.commits in
+    let lost = said.lost in
     record {
       rounds = record {
         confirmed = λ u. ((λ same. absurd (differs_by_test is_confirmed Note.Idle (Note.Confirmed u) refl refl same)), (λ row. absurd (differs_by_test is_confirmed note (Note.Confirmed u) (ap is_confirmed is) refl ((rounds.confirmed u).1 row))));

@@ -15,7 +15,7 @@ use Rattle.mu_model.specs.Leaderships.{is_member, noted_grant}
 use Rattle.mu_model.specs.Parts.{IsPossible}
 use Rattle.mu_model.proofs.Basics.{event_by, same_number}
 use Rattle.mu_lead.specs.declared.place.Place.{Place}
-use Rattle.mu_lead.specs.Confirming.{AtPutMin, AtReadMin, Fresh}
+use Rattle.mu_lead.specs.Confirming.{AtAsk, AtPutMin, AtReadMin, Fresh, Numbered, Telling}
 use Rattle.mu_lead.specs.Lasting.{step_of}
 use Rattle.mu_lead.specs.Listing.{Tables, after_round, member_from, next_place, noted_from, or_else, or_own}
 use Rattle.mu_known.specs.Offers.{IsFirst}
@@ -31,7 +31,7 @@ use Rattle.mu_lead.proofs.RoomsFirsts.{is_first_place}
 asks_anew : (c : Config) (r : ℕ) (b : ℕ) (now : List Event) (up : List ℕ) (reach : List (Option ℕ)) (written : List ℕ) → r < c.replicas → At c r b now up reach written (Place.Ask 0)
 asks_anew c r b now up reach written inside = record { region = omega (arith, inside); asked = inl refl }
 
-round_stands : (c : Config) (r b round : ℕ) (now : List Event) (t : Tables) → r < c.replicas → round < 16 → Fresh r now → At c r b now t.up t.reach t.written (after_round c r now round)
+pub round_stands : (c : Config) (r b round : ℕ) (now : List Event) (t : Tables) → r < c.replicas → round < 16 → Fresh r now → At c r b now t.up t.reach t.written (after_round c r now round)
 round_stands c r b round now t inside low fresh = go (is_confirmed c r now) refl
   where
     reads : is_confirmed c r now ≡ true → (o : Option ℕ) → IsFirst (λ k. is_some (noted_grant r k now)) 0 c.replicas o → At c r b now t.up t.reach t.written (or_else o Place.ReadMin Place.Rest)
@@ -45,6 +45,22 @@ round_stands c r b round now t inside low fresh = go (is_confirmed c r now) refl
     go : (x : Bool) → is_confirmed c r now ≡ x → At c r b now t.up t.reach t.written (if x then or_else (noted_from c r now 0) Place.ReadMin Place.Rest else (if nat_lt round 15 then Place.Confirm (round + 1) 0 else Place.Ask 0))
     go true confirmed = reads confirmed (noted_from c r now 0) (first_in_is (λ k. is_some (noted_grant r k now)) 0 c.replicas)
     go false unconfirmed = again (nat_lt round 15) refl
+
+-- the next region is asked, or the fences are read
+pub asks_stand : (c : Config) (r b p : ℕ) (a : Answer) (mine : List Event) (up : List ℕ) (reach : List (Option ℕ)) (written : List ℕ) (place : Place) → place ≡ (if nat_lt (p + 1) c.replicas then Place.Ask (p + 1) else Place.Confirm 0 0) → AtAsk c r mine p → At c r b (event_by r (Verb.Ask p) a ∷ mine) up reach written place
+asks_stand c r b p a mine up reach written place is at = subst (At c r b (event_by r (Verb.Ask p) a ∷ mine) up reach written) (sym is) (go (nat_lt (p + 1) c.replicas) refl)
+  where
+    go : (x : Bool) → nat_lt (p + 1) c.replicas ≡ x → At c r b (event_by r (Verb.Ask p) a ∷ mine) up reach written (if x then Place.Ask (p + 1) else Place.Confirm 0 0)
+    go true more = asked_on c r p (p + 1) a mine at refl (ltb-true (p + 1) c.replicas more)
+    go false last = (omega arith, asked_all c r p a mine at)
+
+-- the first noted region is entered
+pub entering_min_stands : (c : Config) (r b : ℕ) (now : List Event) (t : Tables) → r < c.replicas → Telling c r now c.replicas → Numbered c r b now → At c r b now t.up t.reach t.written (or_else (noted_from c r now 0) Place.EnterMin Place.Rest)
+entering_min_stands c r b now t inside telling numbered = go (noted_from c r now 0) (first_in_is (λ k. is_some (noted_grant r k now)) 0 c.replicas)
+  where
+    go : (o : Option ℕ) → IsFirst (λ k. is_some (noted_grant r k now)) 0 c.replicas o → At c r b now t.up t.reach t.written (or_else o Place.EnterMin Place.Rest)
+    go (Some q) first = enters_first c r b q now telling numbered first
+    go None none = absurd (true≢false (sym telling.confirmed.own ∙ none r (omega arith) inside))
 
 min_stands : (c : Config) (r b p x : ℕ) (mine : List Event) (t : Tables) (o f : Option ℕ) → r < c.replicas → AtReadMin c r mine p → (o ≡ None → number_allowed r (event_by r (Verb.Min p) (Answer.Number x) ∷ mine) b None) → IsFirst (λ k. is_some (noted_grant r k mine)) (p + 1) c.replicas o
     → IsFirst (λ k. is_some (noted_grant r k mine)) 0 c.replicas f → At c r b (event_by r (Verb.Min p) (Answer.Number x) ∷ mine) t.up t.reach t.written (or_else o Place.ReadMin (or_else f Place.EnterMin Place.Rest))
@@ -73,11 +89,7 @@ pub record NumberAfter (c : Config) (r b d : ℕ) (now : List Event) (place : Pl
 pub stands_last : (c : Config) (r b d : ℕ) (mine : List Event) (up : List ℕ) (reach : List (Option ℕ)) (written : List ℕ) (t : Tables) (place : Place) (a : Answer) → is_first_place place ≡ true → IsConfig c → r < c.replicas → At c r b mine up reach written place
     → IsPossible c r (step_of c r b mine up written place a ∷ mine) → NumberAfter c r b d (step_of c r b mine up written place a ∷ mine) place
     → At c r d (step_of c r b mine up written place a ∷ mine) t.up t.reach t.written (next_place c r b (step_of c r b mine up written place a ∷ mine) t a place)
-stands_last c r b d mine up reach written t (Place.Ask p) a one is inside at possible number = go (nat_lt (p + 1) c.replicas) refl
-  where
-    go : (x : Bool) → nat_lt (p + 1) c.replicas ≡ x → At c r d (event_by r (Verb.Ask p) a ∷ mine) t.up t.reach t.written (if x then Place.Ask (p + 1) else Place.Confirm 0 0)
-    go true more = asked_on c r p (p + 1) a mine at refl (ltb-true (p + 1) c.replicas more)
-    go false last = (omega arith, asked_all c r p a mine at)
+stands_last c r b d mine up reach written t (Place.Ask p) a one is inside at possible number = asks_stand c r d p a mine t.up t.reach t.written (next_place c r b (event_by r (Verb.Ask p) a ∷ mine) t a (Place.Ask p)) refl at
 stands_last c r b d mine up reach written t (Place.Confirm round p) a one is inside at possible number =
     let seen = sees_fence c r p a mine possible in
     go (nat_lt (p + 1) c.replicas) refl (subst (λ y. Fresh r (event_by r (Verb.Fence p) y ∷ mine)) (sym seen.1) (fresh_fenced r p seen.0 mine at.1.fresh))

@@ -84,11 +84,11 @@ same_lists [] (y ∷ ys) long at = absurd (omega (arith, long))
 same_lists (x ∷ xs) [] long at = absurd (omega (arith, long))
 same_lists (x ∷ xs) (y ∷ ys) long at = ap (λ z. z ∷ xs) (at 0 (omega arith)) ∙ ap (λ zs. y ∷ zs) (same_lists xs ys (omega (arith, long)) (λ q low. at (suc q) (omega (arith, low))))
 
-length_where : (test : ℕ → Bool) (u k : ℕ) (xs : List ℕ) → length (set_where test u k xs) ≡ length xs
+pub length_where : (test : ℕ → Bool) (u k : ℕ) (xs : List ℕ) → length (set_where test u k xs) ≡ length xs
 length_where test u k [] = refl
 length_where test u k (x ∷ xs) = ap suc (length_where test u (k + 1) xs)
 
-at_where : (test : ℕ → Bool) (u k q : ℕ) (xs : List ℕ) → q < length xs → get_or (set_where test u k xs) q 0 ≡ cond (test (k + q)) u (get_or xs q 0)
+pub at_where : (test : ℕ → Bool) (u k q : ℕ) (xs : List ℕ) → q < length xs → get_or (set_where test u k xs) q 0 ≡ cond (test (k + q)) u (get_or xs q 0)
 at_where test u k q [] low = absurd (omega (arith, low))
 at_where test u k zero (x ∷ xs) low = subst (λ n. cond (test k) u x ≡ cond (test n) u x) (let same : k ≡ k + 0 = omega arith in same) refl
 at_where test u k (suc q) (x ∷ xs) low = subst (λ n. get_or (set_where test u (k + 1) xs) q 0 ≡ cond (test n) u (get_or xs q 0)) (let same : k + 1 + q ≡ k + suc q = omega arith in same) (at_where test u (k + 1) q xs (omega (arith, low)))

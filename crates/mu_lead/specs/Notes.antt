@@ -1,23 +1,12 @@
--- notes: what the notes of rounds, puts, minima and heads say.
-use Rattle.std.specs.Prelude.{Bool, List, None, Some, [], if◌then◌else◌, is_some, length, min, nat_lt, ℕ, ◌++◌, ◌∷◌, ◌≡◌, ◌⊎◌}
+-- notes: what the notes of puts, minima and heads say.
+use Rattle.std.specs.Prelude.{Bool, List, None, Some, [], if◌then◌else◌, length, min, nat_lt, ℕ, ◌++◌, ◌∷◌, ◌≡◌, ◌⊎◌}
 use Rattle.std.specs.declared.option.Option.{Option}
 use Rattle.mu_model.specs.declared.config.Config.{Config}
 use Rattle.mu_model.specs.declared.event.Event.{Event}
 use Rattle.mu_model.specs.Knowledge.{known}
-use Rattle.mu_model.specs.Leaderships.{noted_grant}
 use Rattle.mu_lead.specs.declared.note.AbortCause.{AbortCause}
 use Rattle.mu_lead.specs.declared.note.Note.{Note}
 use Rattle.mu_lead.specs.declared.place.Offer.{Offer}
-use Rattle.mu_lead.specs.Confirming.{Confirmed}
-use Rattle.mu_lead.specs.Sets.{bits}
-
--- a round of fences that just ended named r in these regions: a majority with its own, or not
-abbrev pub TellsRound : Config → ℕ → List Event → Note → Type 0
-TellsRound c r mine (Note.Confirmed followers) =
-    Confirmed c r mine × (followers ≡ bits (λ p. is_some (noted_grant r p mine)))
-TellsRound c r mine (Note.NotConfirmed named) =
-    (Confirmed c r mine → ⊥) × (named ≡ bits (λ p. is_some (noted_grant r p mine)))
-TellsRound c r mine note = ⊥
 
 -- the note of an entry that the put made known: a look had shown it, or none had
 abbrev pub note_of_commit : ℕ → Offer → Note

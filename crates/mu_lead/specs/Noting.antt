@@ -13,6 +13,7 @@ use Rattle.mu_model.specs.Room.{reserve}
 use Rattle.mu_lead.specs.declared.lead.Lead.{Lead}
 use Rattle.mu_lead.specs.declared.note.AbortCause.{AbortCause}
 use Rattle.mu_lead.specs.declared.note.Note.{Note}
+use Rattle.mu_lead.specs.declared.place.Offer.{Offer}
 use Rattle.mu_lead.specs.declared.place.Place.{Place}
 use Rattle.mu_lead.specs.Lasting.{tables_of}
 use Rattle.mu_lead.specs.Leading.{end_of}
@@ -20,7 +21,7 @@ use Rattle.mu_lead.specs.Listing.{Tables, is_missed, may_mark, number_told}
 use Rattle.mu_lead.specs.Notes.{note_of_commit, note_of_head, note_of_min}
 use Rattle.mu_lead.specs.Saying.{is_working, note_of_fence, note_of_join, note_of_learning, note_of_look, note_of_raise}
 use Rattle.mu_lead.specs.Sets.{bits}
-use Rattle.mu_lead.specs.Standing.{known_told, verb_of}
+use Rattle.mu_lead.specs.Standing.{HasHeeded, StandsFor, known_told, verb_of}
 
 -- the note of an `Enter` of p, and of the fence that is read after a put at p that missed
 abbrev pub note_of_enter : ℕ → Answer → Note
@@ -42,11 +43,25 @@ note_of_round c r now =
     if is_confirmed c r now then Note.Confirmed (bits (λ p. is_some (noted_grant r p now)))
     else Note.NotConfirmed (bits (λ p. is_some (noted_grant r p now)))
 
+-- the note of the fence of p in a round: nothing but after the last one
+abbrev pub note_in_round : Config → ℕ → List Event → ℕ → Note
+note_in_round c r now p =
+    if nat_lt (p + 1) c.replicas then Note.Working else note_of_round c r now
+
+-- the note of the put of the number at the late follower p, by whether p lacks entries
+abbrev pub note_of_number : ℕ → Answer → Bool → Note
+note_of_number p a lacks = if is_missed a then Note.Working else note_of_join p lacks
+
+-- the note of a put of the offer, if it made the entry known
+abbrev pub note_of_put : Config → ℕ → List Event → List Event → Offer → Note
+note_of_put c r past now offer =
+    if nat_lt (end_of c r past) (end_of c r now) then note_of_commit (end_of c r past) offer
+    else Note.Working
+
 -- the note of the answer a at the place: after these past events of r, with the answer's among
 -- those of now, under the number b, and with the tables before the answer
 abbrev pub next_note : Config → ℕ → ℕ → List Event → List Event → Tables → Answer → Place → Note
-next_note c r b past now t a (Place.Confirm round p) =
-    if nat_lt (p + 1) c.replicas then Note.Working else note_of_round c r now
+next_note c r b past now t a (Place.Confirm round p) = note_in_round c r now p
 next_note c r b past now t a (Place.EnterMin p) = note_of_enter p a
 next_note c r b past now t a (Place.Learn p) = note_of_learning (end_of c r now) a
 next_note c r b past now t a (Place.EnterBehind p on) = note_of_enter p a
@@ -55,25 +70,35 @@ next_note c r b past now t a (Place.FenceBehind p on) = note_of_past p a (is_ove
 next_note c r b past now t a (Place.LateMin p) = note_of_min p b (number_told a)
 next_note c r b past now t a (Place.LateEnter p) = note_of_enter p a
 next_note c r b past now t a (Place.LatePut p) =
-    if is_missed a then Note.Working
-    else note_of_join p (nat_lt (get_or t.up p 0) (end_of c r now))
+    note_of_number p a (nat_lt (get_or t.up p 0) (end_of c r now))
 next_note c r b past now t a (Place.ReadHead q candidate) =
     note_of_head q (min (number_told a) 65535) (end_of c r now)
     (nat_lt (end_of c r now + reserve c) (number_told a + c.ring))
     (may_mark c r now q (number_told a))
 next_note c r b past now t a (Place.Look p i candidate best) = note_of_look i (end_of c r now) a
 next_note c r b past now t a (Place.Enter p offer) = note_of_enter p a
-next_note c r b past now t a (Place.Put p offer) =
-    if nat_lt (end_of c r past) (end_of c r now) then note_of_commit (end_of c r past) offer
-    else Note.Working
+next_note c r b past now t a (Place.Put p offer) = note_of_put c r past now offer
 next_note c r b past now t a (Place.Evidence p) = note_of_evidence p a
 next_note c r b past now t a place = Note.Working
+
+-- by the answer to the verb that was due the leader gives the note of its place, before it tells
+-- that all is known
+abbrev pub NotedDue : Lead → List ℕ → Answer → Note → Type 0
+NotedDue old values answer note =
+    (mine : List Event) (verb : Verb) → HasHeeded mine old → StandsFor mine old
+    → verb_of old (known old.config old.id mine) ≡ Some verb
+    → IsPossible old.config old.id (record { by = old.id; verb = verb; answer = answer } ∷ mine)
+    → values ≡ known_told old.config old.id mine old.id verb answer
+    → note
+    ≡ next_note old.config old.id old.number mine
+    (record { by = old.id; verb = verb; answer = answer } ∷ mine)
+    (tables_of old) answer old.place
 
 -- `Idle` in place of `Working`, if all commands are known
 abbrev pub or_idle : Bool → Note → Note
 or_idle all note = if is_working note && all then Note.Idle else note
 
--- by the answer to the verb that was due the leader gives the note of its place
+-- by the answer to the verb that was due it gives this note
 abbrev pub NotedNext : List Event → Lead → List ℕ → Answer → Note → Type 0
 NotedNext mine old values answer note =
     (verb : Verb) → verb_of old (known old.config old.id mine) ≡ Some verb

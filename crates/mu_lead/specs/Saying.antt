@@ -1,5 +1,5 @@
--- note at, says: the note of each place; each note comes exactly if its row holds.
-use Rattle.std.specs.Prelude.{Bool, List, Some, [], false, get_or, if◌then◌else◌, is_some, length, min, nat_lt, not, true, ℕ, ◌&&◌, ◌+◌, ◌-◌, ◌<◌, ◌==◌, ◌++◌, ◌∷◌, ◌≡◌, ◌≢◌, ◌≤◌, ◌⊎◌, ◌↔◌}
+-- says: each note comes exactly if its row holds.
+use Rattle.std.specs.Prelude.{Bool, List, Some, [], false, get_or, if◌then◌else◌, is_some, nat_lt, true, ℕ, ◌+◌, ◌-◌, ◌<◌, ◌==◌, ◌++◌, ◌∷◌, ◌≡◌, ◌≢◌, ◌≤◌, ◌⊎◌, ◌↔◌}
 use Rattle.mu_model.specs.declared.config.Config.{Config}
 use Rattle.mu_model.specs.declared.event.Answer.{Answer}
 use Rattle.mu_model.specs.declared.event.Event.{Event}
@@ -7,7 +7,7 @@ use Rattle.mu_model.specs.declared.event.Fence.{Fence}
 use Rattle.mu_model.specs.declared.event.Verb.{Verb}
 use Rattle.mu_model.specs.Contents.{holds_all, marked}
 use Rattle.mu_model.specs.Knowledge.{known}
-use Rattle.mu_model.specs.Leaderships.{is_above, is_over, noted_grant, proposal_number}
+use Rattle.mu_model.specs.Leaderships.{is_above, noted_grant, proposal_number}
 use Rattle.mu_model.specs.Parts.{IsPossible}
 use Rattle.mu_model.specs.Picks.{is_past}
 use Rattle.mu_model.specs.Room.{reserve}
@@ -15,16 +15,14 @@ use Rattle.mu_model.specs.Scores.{is_failed}
 use Rattle.mu_lead.specs.declared.lead.Lead.{Lead}
 use Rattle.mu_lead.specs.declared.note.AbortCause.{AbortCause}
 use Rattle.mu_lead.specs.declared.note.Note.{Note}
-use Rattle.mu_lead.specs.declared.place.Offer.{Offer}
 use Rattle.mu_lead.specs.declared.place.Place.{Place}
 use Rattle.mu_lead.specs.declared.place.Then.{Then}
 use Rattle.mu_lead.specs.Leading.{came_late, end_of}
 use Rattle.mu_lead.specs.Confirming.{Confirmed}
 use Rattle.mu_lead.specs.Losses.{SaysLost}
-use Rattle.mu_lead.specs.Notes.{TellsRound, note_of_commit, note_of_head, note_of_min}
 use Rattle.mu_lead.specs.Offering.{LooksEmpty, ShowsEntry}
-use Rattle.mu_lead.specs.Sets.{bits, is_bit}
-use Rattle.mu_lead.specs.Standing.{StandsFor, known_told, verb_of}
+use Rattle.mu_lead.specs.Sets.{bits}
+use Rattle.mu_lead.specs.Standing.{known_told, verb_of}
 
 -- the note says nothing
 abbrev pub is_working : Note → Bool
@@ -69,99 +67,11 @@ abbrev pub note_of_join : ℕ → Bool → Note
 note_of_join p true = Note.Working
 note_of_join p false = Note.Joined p
 
--- the note of a fence in a round, by whether it is the last one
-abbrev pub TellsAfter : Bool → Config → ℕ → List Event → Note → Type 0
-TellsAfter true c r now note = TellsRound c r now note
-TellsAfter false c r now note = note ≡ Note.Working
-
--- the note of the fence of p in a round
-abbrev pub NotesRound : Lead → ℕ → Answer → Note → Type 0
-NotesRound old p answer note =
-    (mine : List Event) → StandsFor mine old → p < old.config.replicas
-    → IsPossible old.config old.id
-    (record { by = old.id; verb = Verb.Fence p; answer = answer } ∷ mine)
-    → TellsAfter (p + 1 == old.config.replicas) old.config old.id
-    (record { by = old.id; verb = Verb.Fence p; answer = answer } ∷ mine) note
-
--- the note of a put of the offer, with n values known before it
-abbrev pub NotesPut : ℕ → Offer → Note → Type 0
-NotesPut n offer note =
-    n < 65536 → (note ≡ Note.Working) ⊎ (note ≡ note_of_commit n offer)
-
--- the note of an `Enter`
-abbrev pub NotesEnter : ℕ → Answer → Note → Type 0
-NotesEnter p answer note =
-    (answer ≡ Answer.Entered → note ≡ Note.Working)
-    × ((f : Fence) → answer ≡ Answer.Lost f → note ≡ Note.Aborted (AbortCause.Lost p f))
-
--- the note of a late follower's minimum, under the number b
-abbrev pub NotesMin : ℕ → ℕ → Answer → Note → Type 0
-NotesMin p b answer note =
-    (x : ℕ) → answer ≡ Answer.Number x → x < 4294967296 → note ≡ note_of_min p b x
-
--- the note of the put that makes a late follower a member
-abbrev pub NotesJoin : ℕ → Bool → Answer → Note → Type 0
-NotesJoin p lacks answer note =
-    (answer ≡ Answer.Done → note ≡ note_of_join p lacks)
-    × (answer ≡ Answer.Missed → note ≡ Note.Working)
-
--- the note of a head of q
-abbrev pub NotesHead : Lead → ℕ → List ℕ → Answer → Note → Type 0
-NotesHead old q values answer note =
-    (x : ℕ) → answer ≡ Answer.Number x → length values < 65536
-    → note
-    ≡ note_of_head q (min x 65535) (length values)
-    (nat_lt (length values + reserve old.config) (x + old.config.ring))
-    (not (q == old.id)
-    && (is_bit q old.failed && nat_lt (length values + 0) (x + old.config.ring)))
-
--- the note of the fence after a put that missed
-abbrev pub NotesEvidence : ℕ → Answer → Note → Type 0
-NotesEvidence p answer note =
-    (f : Fence) → answer ≡ Answer.Seen f → note ≡ Note.Aborted (AbortCause.Lost p f)
-
 -- the note of a fence of p that was read because a look was past, by whether the leadership is then
 -- over
 abbrev pub note_of_fence : ℕ → Fence → Bool → Note
 note_of_fence p f true = Note.Aborted (AbortCause.Lost p f)
 note_of_fence p f false = Note.Working
-
--- the note of such a fence
-abbrev pub NotesOver : Lead → ℕ → Answer → Note → Type 0
-NotesOver old p answer note =
-    (mine : List Event) (f : Fence) → StandsFor mine old
-    → IsPossible old.config old.id
-    (record { by = old.id; verb = Verb.Fence p; answer = answer } ∷ mine)
-    → answer ≡ Answer.Seen f
-    → note
-    ≡ note_of_fence p f
-    (is_over old.id (record { by = old.id; verb = Verb.Fence p; answer = answer } ∷ mine))
-
--- the note that a place gives
-abbrev pub NotesAt : Lead → List ℕ → Answer → Note → Place → Type 0
-NotesAt old values answer note (Place.Confirm round p) = NotesRound old p answer note
-NotesAt old values answer note (Place.EnterMin p) = NotesEnter p answer note
-NotesAt old values answer note (Place.Learn p) =
-    length values < 65536 → note ≡ note_of_learning (length values) answer
-NotesAt old values answer note (Place.EnterBehind p on) = NotesEnter p answer note
-NotesAt old values answer note (Place.RaiseBehind p on) = note ≡ note_of_raise p on
-NotesAt old values answer note (Place.FenceBehind p on) =
-    (is_working_or_lost note ≡ true) × NotesOver old p answer note
-NotesAt old values answer note (Place.LateMin p) = NotesMin p old.number answer note
-NotesAt old values answer note (Place.LateEnter p) = NotesEnter p answer note
-NotesAt old values answer note (Place.LatePut p) =
-    length old.up ≡ 7 → NotesJoin p (nat_lt (get_or old.up p 0) (length values)) answer note
-NotesAt old values answer note (Place.ReadHead q candidate) = NotesHead old q values answer note
-NotesAt old values answer note (Place.Look p i candidate best) =
-    note ≡ note_of_look i (length values) answer
-NotesAt old values answer note (Place.Enter p offer) = NotesEnter p answer note
-NotesAt old values answer note (Place.Put p offer) = NotesPut (length values) offer note
-NotesAt old values answer note (Place.Evidence p) = NotesEvidence p answer note
-NotesAt old values answer note place = note ≡ Note.Working
-
--- the note of the leader's place
-abbrev pub NotesDue : Lead → List ℕ → Answer → Note → Type 0
-NotesDue old values answer note = NotesAt old values answer note old.place
 
 -- the answer just taken is the minimum m of the late follower p, above the leader's own number
 pub record ShowsHigher (r : ℕ) (mine : List Event) (verb : Verb) (answer : Answer)

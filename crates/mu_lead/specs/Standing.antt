@@ -179,18 +179,6 @@ abbrev pub TellsFailed : Config → ℕ → List Event → ℕ → Type 0
 TellsFailed c r mine failed = (q : ℕ) → q < c.replicas → is_bit q failed ≡ is_failed r q mine
 
 -- the known list grew by a put exactly if the note says so, and by the value that it says
-abbrev pub TellsDue : Lead → List ℕ → Answer → Note → Type 0
-TellsDue old values answer note =
-    (mine : List Event) (verb : Verb) → StandsFor mine old
-    → verb_at old.config old.number (known old.config old.id mine) old.up old.written.items
-    old.place
-    ≡ Some verb
-    → IsPossible old.config old.id (record { by = old.id; verb = verb; answer = answer } ∷ mine)
-    → values ≡ known_told old.config old.id mine old.id verb answer
-    → known old.config old.id (record { by = old.id; verb = verb; answer = answer } ∷ mine)
-    ≡ grown values (value_committed note)
-
--- the same after these events
 abbrev pub TellsNext : List Event → Lead → List ℕ → Answer → Note → Type 0
 TellsNext mine old values answer note =
     (verb : Verb) → verb_of old (known old.config old.id mine) ≡ Some verb

@@ -1,17 +1,19 @@
 //! The answers that each place may get.
-ghost use Rattle.std.specs.Prelude.{None, List, get_or, length, nat_lt, true, ℕ, ◌%◌, ◌∷◌, ◌≡◌};
+ghost use Rattle.std.specs.Prelude.{List, get_or, length, min, nat_lt, not, ℕ, ◌%◌, ◌&&◌, ◌+◌, ◌<◌, ◌==◌, ◌^◌, ◌∷◌, ◌≡◌};
+ghost use Rattle.mu_model.specs.declared.event.Answer.{Answer as SomeAnswer};
 ghost use Rattle.mu_model.specs.declared.event.Event.{Event as SomeEvent};
 ghost use Rattle.mu_model.specs.declared.event.Target.{Target as SomeTarget};
 ghost use Rattle.mu_model.specs.declared.event.Verb.{Verb as SomeVerb};
-ghost use Rattle.mu_model.specs.Knowledge.{grown, known as known_of};
+ghost use Rattle.mu_model.specs.Knowledge.{known as known_of};
+ghost use Rattle.mu_model.specs.Leaderships.{is_over};
 ghost use Rattle.mu_model.specs.Parts.{IsPossible};
+ghost use Rattle.mu_model.specs.Room.{reserve};
 ghost use Rattle.mu_lead.specs.declared.place.Place.{Place as SomePlace};
-ghost use Rattle.mu_lead.specs.Sets.{NamesFence, NamesLost, NamesNumber};
-ghost use Rattle.mu_lead.specs.Notes.{value_committed};
+ghost use Rattle.mu_lead.specs.Sets.{NamesFence, NamesLost, NamesNumber, is_bit};
+ghost use Rattle.mu_lead.specs.Notes.{note_of_head, note_of_min};
+ghost use Rattle.mu_lead.specs.Noting.{note_in_round, note_of_enter, note_of_evidence, note_of_number, note_of_past, note_of_put};
 ghost use Rattle.mu_lead.specs.Standing.{HasHeeded, StandsFor, Takes};
-ghost use Rattle.mu_lead.specs.Saying.{NotesEnter, NotesEvidence, NotesHead, NotesJoin, NotesMin, NotesOver, NotesPut, NotesRound, is_working_or_lost};
 ghost use Rattle.mu_lead.specs.declared.note.Note.{Note as SomeNote};
-ghost use Rattle.mu_lead.specs.Going.{going_after};
 ghost use Rattle.mu_lead.specs.Journal.{WritesFrom};
 ghost use Rattle.mu_lead.specs.Lasting.{FollowsFrom, FollowsHead, tables_of};
 
@@ -56,13 +58,17 @@ impl Lead {
     pub(crate) fn at_confirm(&mut self, round: u8, p: u8, answer: Answer) -> Note
         ensures stands { (values : List ℕ)
             → Takes self.old (SomePlace.Confirm round p) values (SomeVerb.Fence p) answer self.new }
-        ensures quiet { value_committed result ≡ None }
         ensures config { self.new.config ≡ self.old.config }
         ensures id { self.new.id ≡ self.old.id }
         ensures named { self.new.named ≡ self.old.named }
         ensures tables { tables_of self.new ≡ tables_of self.old }
-        ensures note { NotesRound self.old p answer result }
-        ensures going { self.new.under_way ≡ going_after self.old.under_way result }
+        ensures note { (mine : List SomeEvent) → StandsFor mine self.old
+            → IsPossible self.old.config self.old.id
+            (record { by = self.old.id; verb = SomeVerb.Fence p; answer = answer }
+            ∷ mine)
+            → result
+            ≡ note_in_round self.old.config self.old.id
+            (record { by = self.old.id; verb = SomeVerb.Fence p; answer = answer } ∷ mine) p }
         ensures listed { (values : List ℕ)
             → FollowsFrom self.old (SomePlace.Confirm round p) values (SomeVerb.Fence p)
             answer self.new }
@@ -77,13 +83,11 @@ impl Lead {
     pub(crate) fn at_read_min(&mut self, p: u8, answer: Answer) -> Note
         ensures stands { (values : List ℕ)
             → Takes self.old (SomePlace.ReadMin p) values (SomeVerb.Min p) answer self.new }
-        ensures quiet { value_committed result ≡ None }
         ensures config { self.new.config ≡ self.old.config }
         ensures id { self.new.id ≡ self.old.id }
         ensures named { self.new.named ≡ self.old.named }
         ensures tables { tables_of self.new ≡ tables_of self.old }
         ensures note { result ≡ SomeNote.Working }
-        ensures going { self.new.under_way ≡ going_after self.old.under_way result }
         ensures listed { (values : List ℕ)
             → FollowsFrom self.old (SomePlace.ReadMin p) values (SomeVerb.Min p)
             answer self.new }
@@ -99,13 +103,11 @@ impl Lead {
         ensures stands { (values : List ℕ)
             → Takes self.old (SomePlace.EnterMin p) values (SomeVerb.Enter p SomeTarget.Min) answer
             self.new }
-        ensures quiet { value_committed result ≡ None }
         ensures config { self.new.config ≡ self.old.config }
         ensures id { self.new.id ≡ self.old.id }
         ensures named { self.new.named ≡ self.old.named }
         ensures tables { tables_of self.new ≡ tables_of self.old }
-        ensures note { NotesEnter p answer result }
-        ensures going { self.new.under_way ≡ going_after self.old.under_way result }
+        ensures note { result ≡ note_of_enter p answer }
         ensures listed { (values : List ℕ)
             → FollowsFrom self.old (SomePlace.EnterMin p) values (SomeVerb.Enter p SomeTarget.Min)
             answer self.new }
@@ -121,13 +123,11 @@ impl Lead {
         ensures stands { (values : List ℕ)
             → Takes self.old (SomePlace.PutMin p) values (SomeVerb.PutMin p self.old.number) answer
             self.new }
-        ensures quiet { value_committed result ≡ None }
         ensures config { self.new.config ≡ self.old.config }
         ensures id { self.new.id ≡ self.old.id }
         ensures named { self.new.named ≡ self.old.named }
         ensures tables { tables_of self.new ≡ tables_of self.old }
         ensures note { result ≡ SomeNote.Working }
-        ensures going { self.new.under_way ≡ going_after self.old.under_way result }
         ensures listed { (values : List ℕ)
             → FollowsFrom self.old (SomePlace.PutMin p) values (SomeVerb.PutMin p self.old.number)
             answer self.new }
@@ -148,14 +148,12 @@ impl Lead {
     ) -> Note
         ensures stands { Takes self.old (SomePlace.ReadFuo p source) known.now
             (SomeVerb.Fuo p) answer self.new }
-        ensures quiet { value_committed result ≡ None }
         ensures config { self.new.config ≡ self.old.config }
         ensures id { self.new.id ≡ self.old.id }
         ensures named { self.new.named ≡ self.old.named }
         ensures writes { WritesFrom self.old (SomePlace.ReadFuo p source) known.now (SomeVerb.Fuo p)
             answer self.new }
         ensures note { result ≡ SomeNote.Working }
-        ensures going { self.new.under_way ≡ going_after self.old.under_way result }
         ensures listed { FollowsFrom self.old (SomePlace.ReadFuo p source) known.now
             (SomeVerb.Fuo p)
             answer self.new }
@@ -173,13 +171,11 @@ impl Lead {
             (SomeVerb.Enter p
             (SomeTarget.Place (get_or self.old.up p 0 % self.old.config.ring)))
             answer self.new }
-        ensures quiet { value_committed result ≡ None }
         ensures config { self.new.config ≡ self.old.config }
         ensures id { self.new.id ≡ self.old.id }
         ensures named { self.new.named ≡ self.old.named }
         ensures tables { tables_of self.new ≡ tables_of self.old }
-        ensures note { NotesEnter p answer result }
-        ensures going { self.new.under_way ≡ going_after self.old.under_way result }
+        ensures note { result ≡ note_of_enter p answer }
         ensures listed { (values : List ℕ)
             → FollowsFrom self.old (SomePlace.EnterBehind p then) values
             (SomeVerb.Enter p (SomeTarget.Place (get_or self.old.up p 0 % self.old.config.ring)))
@@ -197,7 +193,6 @@ impl Lead {
             (SomeVerb.PutSlot p (get_or self.old.up p 0) self.old.number
             (get_or known.now (get_or self.old.up p 0) 0))
             answer self.new }
-        ensures quiet { value_committed result ≡ None }
         ensures config { self.new.config ≡ self.old.config }
         ensures id { self.new.id ≡ self.old.id }
         ensures named { self.new.named ≡ self.old.named }
@@ -206,7 +201,6 @@ impl Lead {
             (get_or known.now (get_or self.old.up p 0) 0))
             answer self.new }
         ensures note { result ≡ SomeNote.Working }
-        ensures going { self.new.under_way ≡ going_after self.old.under_way result }
         ensures listed { FollowsFrom self.old (SomePlace.PutBehind p then) known.now
             (SomeVerb.PutSlot p (get_or self.old.up p 0) self.old.number
             (get_or known.now (get_or self.old.up p 0) 0))
@@ -223,13 +217,17 @@ impl Lead {
         ensures stands { (values : List ℕ)
             → Takes self.old (SomePlace.FenceBehind p then) values (SomeVerb.Fence p) answer
             self.new }
-        ensures quiet { value_committed result ≡ None }
         ensures config { self.new.config ≡ self.old.config }
         ensures id { self.new.id ≡ self.old.id }
         ensures named { self.new.named ≡ self.old.named }
         ensures tables { tables_of self.new ≡ tables_of self.old }
-        ensures note { (is_working_or_lost result ≡ true) × NotesOver self.old p answer result }
-        ensures going { self.new.under_way ≡ going_after self.old.under_way result }
+        ensures note { (mine : List SomeEvent) → StandsFor mine self.old
+            → IsPossible self.old.config self.old.id
+            (record { by = self.old.id; verb = SomeVerb.Fence p; answer = answer } ∷ mine)
+            → result
+            ≡ note_of_past p answer
+            (is_over self.old.id
+            (record { by = self.old.id; verb = SomeVerb.Fence p; answer = answer } ∷ mine)) }
         ensures listed { (values : List ℕ)
             → FollowsFrom self.old (SomePlace.FenceBehind p then) values (SomeVerb.Fence p)
             answer self.new }
@@ -244,13 +242,11 @@ impl Lead {
     pub(crate) fn at_late_fence(&mut self, p: u8, answer: Answer, known: &[u16]) -> Note
         ensures stands { Takes self.old (SomePlace.LateFence p) known.now
             (SomeVerb.Fence p) answer self.new }
-        ensures quiet { value_committed result ≡ None }
         ensures config { self.new.config ≡ self.old.config }
         ensures id { self.new.id ≡ self.old.id }
         ensures named { self.new.named ≡ self.old.named }
         ensures tables { tables_of self.new ≡ tables_of self.old }
         ensures note { result ≡ SomeNote.Working }
-        ensures going { self.new.under_way ≡ going_after self.old.under_way result }
         ensures listed { FollowsFrom self.old (SomePlace.LateFence p) known.now (SomeVerb.Fence p)
             answer self.new }
     {
@@ -264,13 +260,12 @@ impl Lead {
     pub(crate) fn at_late_min(&mut self, p: u8, answer: Answer) -> Note
         ensures stands { (values : List ℕ)
             → Takes self.old (SomePlace.LateMin p) values (SomeVerb.Min p) answer self.new }
-        ensures quiet { value_committed result ≡ None }
         ensures config { self.new.config ≡ self.old.config }
         ensures id { self.new.id ≡ self.old.id }
         ensures named { self.new.named ≡ self.old.named }
         ensures tables { tables_of self.new ≡ tables_of self.old }
-        ensures note { NotesMin p self.old.number answer result }
-        ensures going { self.new.under_way ≡ going_after self.old.under_way result }
+        ensures note { (x : ℕ) → answer ≡ SomeAnswer.Number x → x < 2 ^ 32
+            → result ≡ note_of_min p self.old.number x }
         ensures listed { (values : List ℕ)
             → FollowsFrom self.old (SomePlace.LateMin p) values (SomeVerb.Min p)
             answer self.new }
@@ -285,14 +280,12 @@ impl Lead {
     pub(crate) fn at_late_fuo(&mut self, p: u8, answer: Answer, known: &[u16]) -> Note
         ensures stands { Takes self.old (SomePlace.LateFuo p) known.now
             (SomeVerb.Fuo p) answer self.new }
-        ensures quiet { value_committed result ≡ None }
         ensures config { self.new.config ≡ self.old.config }
         ensures id { self.new.id ≡ self.old.id }
         ensures named { self.new.named ≡ self.old.named }
         ensures writes { WritesFrom self.old (SomePlace.LateFuo p) known.now (SomeVerb.Fuo p) answer
             self.new }
         ensures note { result ≡ SomeNote.Working }
-        ensures going { self.new.under_way ≡ going_after self.old.under_way result }
         ensures listed { FollowsFrom self.old (SomePlace.LateFuo p) known.now (SomeVerb.Fuo p)
             answer self.new }
     {
@@ -307,13 +300,11 @@ impl Lead {
         ensures stands { (values : List ℕ)
             → Takes self.old (SomePlace.LateEnter p) values (SomeVerb.Enter p SomeTarget.Min) answer
             self.new }
-        ensures quiet { value_committed result ≡ None }
         ensures config { self.new.config ≡ self.old.config }
         ensures id { self.new.id ≡ self.old.id }
         ensures named { self.new.named ≡ self.old.named }
         ensures tables { tables_of self.new ≡ tables_of self.old }
-        ensures note { NotesEnter p answer result }
-        ensures going { self.new.under_way ≡ going_after self.old.under_way result }
+        ensures note { result ≡ note_of_enter p answer }
         ensures listed { (values : List ℕ)
             → FollowsFrom self.old (SomePlace.LateEnter p) values (SomeVerb.Enter p SomeTarget.Min)
             answer self.new }
@@ -329,14 +320,13 @@ impl Lead {
         ensures stands { Takes self.old (SomePlace.LatePut p) known.now
             (SomeVerb.PutMin p self.old.number)
             answer self.new }
-        ensures quiet { value_committed result ≡ None }
         ensures config { self.new.config ≡ self.old.config }
         ensures id { self.new.id ≡ self.old.id }
         ensures named { self.new.named ≡ self.old.named }
         ensures tables { tables_of self.new ≡ tables_of self.old }
         ensures note { length self.old.up ≡ 7
-            → NotesJoin p (nat_lt (get_or self.old.up p 0) (length known.now)) answer result }
-        ensures going { self.new.under_way ≡ going_after self.old.under_way result }
+            → result
+            ≡ note_of_number p answer (nat_lt (get_or self.old.up p 0) (length known.now)) }
         ensures listed { FollowsFrom self.old (SomePlace.LatePut p) known.now
             (SomeVerb.PutMin p self.old.number)
             answer self.new }
@@ -363,14 +353,18 @@ impl Lead {
             → StandsFor
             (record { by = self.old.id; verb = SomeVerb.Head q; answer = answer } ∷ mine)
             self.new }
-        ensures quiet { value_committed result ≡ None }
         ensures config { self.new.config ≡ self.old.config }
         ensures id { self.new.id ≡ self.old.id }
         ensures named { self.new.named ≡ self.old.named }
         ensures writes { WritesFrom self.old (SomePlace.ReadHead q candidate) known.now
             (SomeVerb.Head q) answer self.new }
-        ensures note { NotesHead self.old q known.now answer result }
-        ensures going { self.new.under_way ≡ going_after self.old.under_way result }
+        ensures note { (x : ℕ) → answer ≡ SomeAnswer.Number x → length known.now < 65536
+            → result
+            ≡ note_of_head q (min x 65535) (length known.now)
+            (nat_lt (length known.now + reserve self.old.config) (x + self.old.config.ring))
+            (not (q == self.old.id)
+            && (is_bit q self.old.failed
+            && nat_lt (length known.now + 0) (x + self.old.config.ring))) }
         ensures listed { FollowsHead self.old q candidate known.now answer self.new }
     {
         match number_in(answer) {
@@ -384,13 +378,11 @@ impl Lead {
         ensures stands { Takes self.old (SomePlace.Enter p offer) known.now
             (SomeVerb.Enter p (SomeTarget.Place (length known.now % self.old.config.ring))) answer
             self.new }
-        ensures quiet { value_committed result ≡ None }
         ensures config { self.new.config ≡ self.old.config }
         ensures id { self.new.id ≡ self.old.id }
         ensures named { self.new.named ≡ self.old.named }
         ensures tables { tables_of self.new ≡ tables_of self.old }
-        ensures note { NotesEnter p answer result }
-        ensures going { self.new.under_way ≡ going_after self.old.under_way result }
+        ensures note { result ≡ note_of_enter p answer }
         ensures listed { FollowsFrom self.old (SomePlace.Enter p offer) known.now
             (SomeVerb.Enter p (SomeTarget.Place (length known.now % self.old.config.ring)))
             answer self.new }
@@ -405,7 +397,7 @@ impl Lead {
     pub(crate) fn at_put(&mut self, p: u8, offer: Offer, answer: Answer, known: &[u16]) -> Note
         ensures stands { Takes self.old (SomePlace.Put p offer) known.now
             (SomeVerb.PutSlot p (length known.now) self.old.number offer.value) answer self.new }
-        ensures tells { (mine : List SomeEvent) → StandsFor mine self.old
+        ensures note { (mine : List SomeEvent) → StandsFor mine self.old
             → self.old.place ≡ SomePlace.Put p offer
             → IsPossible self.old.config self.old.id
             (record {
@@ -416,22 +408,20 @@ impl Lead {
             }
             ∷ mine)
             → known.now ≡ known_of self.old.config self.old.id mine
-            → known_of self.old.config self.old.id
+            → result
+            ≡ note_of_put self.old.config self.old.id mine
             (record {
               by = self.old.id;
               verb = SomeVerb.PutSlot p (length known.now) self.old.number
                   offer.value;
               answer = answer;
             }
-            ∷ mine)
-            ≡ grown known.now (value_committed result) }
+            ∷ mine) offer }
         ensures config { self.new.config ≡ self.old.config }
         ensures id { self.new.id ≡ self.old.id }
         ensures named { self.new.named ≡ self.old.named }
         ensures writes { WritesFrom self.old (SomePlace.Put p offer) known.now
             (SomeVerb.PutSlot p (length known.now) self.old.number offer.value) answer self.new }
-        ensures note { NotesPut (length known.now) offer result }
-        ensures going { self.new.under_way ≡ going_after self.old.under_way result }
         ensures listed { FollowsFrom self.old (SomePlace.Put p offer) known.now
             (SomeVerb.PutSlot p (length known.now) self.old.number offer.value)
             answer self.new }
@@ -446,13 +436,11 @@ impl Lead {
     pub(crate) fn at_evidence(&mut self, p: u8, answer: Answer) -> Note
         ensures stands { (values : List ℕ)
             → Takes self.old (SomePlace.Evidence p) values (SomeVerb.Fence p) answer self.new }
-        ensures quiet { value_committed result ≡ None }
         ensures config { self.new.config ≡ self.old.config }
         ensures id { self.new.id ≡ self.old.id }
         ensures named { self.new.named ≡ self.old.named }
         ensures tables { tables_of self.new ≡ tables_of self.old }
-        ensures note { NotesEvidence p answer result }
-        ensures going { self.new.under_way ≡ going_after self.old.under_way result }
+        ensures note { result ≡ note_of_evidence p answer }
         ensures listed { (values : List ℕ)
             → FollowsFrom self.old (SomePlace.Evidence p) values (SomeVerb.Fence p)
             answer self.new }

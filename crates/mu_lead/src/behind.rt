@@ -17,11 +17,9 @@ ghost use Rattle.mu_known.specs.Offers.{IsFirst};
 ghost use Rattle.mu_lead.specs.Journal.{WritesFrom};
 ghost use Rattle.mu_lead.specs.Lasting.{FollowsFrom, FollowsLook, tables_of};
 ghost use Rattle.mu_lead.specs.Listing.{after_copy, after_fuo, after_members, bring_up, bring_up_from, farther, learn_from};
-ghost use Rattle.mu_lead.specs.Notes.{value_committed};
 ghost use Rattle.mu_lead.specs.Standing.{HoldsAt, Stands, StandsFor, Takes, TakesLook};
-ghost use Rattle.mu_lead.specs.Saying.{is_working_or_lost, note_of_fence, note_of_learning, note_of_raise, value_seen};
+ghost use Rattle.mu_lead.specs.Saying.{note_of_fence, note_of_learning, note_of_raise, value_seen};
 ghost use Rattle.mu_lead.specs.declared.note.Note.{Note as SomeNote};
-ghost use Rattle.mu_lead.specs.Going.{going_after};
 
 use crate::arrays::{with_fuo, with_number};
 use crate::lead::Lead;
@@ -34,13 +32,7 @@ use mu_model::{Answer, Event, Fence, Verb};
 impl Lead {
     /// The region of the greater FUO, the first at a tie.
     fn farther(&self, source: Option<u8>, p: u8) -> u8
-        ensures member { (mine : List SomeEvent) → IsMember self.now.config self.now.id mine source
-            → p < self.now.config.replicas → is_member self.now.id p mine ≡ true
-            → IsMember self.now.config self.now.id mine (Some result) }
-        ensures most { (mine : List SomeEvent) → length self.now.up ≡ 7
-            → HasMost self.now.id mine self.now.up p source
-            → HasMost self.now.id mine self.now.up (p + 1) (Some result) }
-        ensures is { length self.now.up ≡ 7 → result ≡ farther self.now.up source p }
+        ensures { length self.now.up ≡ 7 → result ≡ farther self.now.up source p }
     {
         match source {
             Some(q) => { if self.up_of(q) < self.up_of(p) { p } else { q } }
@@ -52,14 +44,12 @@ impl Lead {
     pub(crate) fn took_fuo(&mut self, p: u8, source: Option<u8>, u: u64, known: &[u16]) -> Note
         ensures stands { Takes self.old (SomePlace.ReadFuo p source) known.now (SomeVerb.Fuo p)
             (SomeAnswer.Number u) self.new }
-        ensures quiet { value_committed result ≡ None }
         ensures config { self.new.config ≡ self.old.config }
         ensures id { self.new.id ≡ self.old.id }
         ensures named { self.new.named ≡ self.old.named }
         ensures writes { WritesFrom self.old (SomePlace.ReadFuo p source) known.now (SomeVerb.Fuo p)
             (SomeAnswer.Number u) self.new }
         ensures note { result ≡ SomeNote.Working }
-        ensures going { self.new.under_way ≡ going_after self.old.under_way result }
         ensures listed { FollowsFrom self.old (SomePlace.ReadFuo p source) known.now
             (SomeVerb.Fuo p)
             (SomeAnswer.Number u) self.new }
@@ -72,15 +62,7 @@ impl Lead {
 
     /// The place after the FUO of `p` was read.
     fn after_fuo(&self, p: u8, source: Option<u8>, known: &[u16]) -> Place
-        ensures stands { (mine : List SomeEvent) → Stands mine self.now
-            → known.now ≡ known_of self.now.config self.now.id mine → p < self.now.config.replicas
-            → is_member self.now.id p mine ≡ true
-            → Leads self.now.config self.now.id self.now.number mine
-            → RaisedBelow self.now.id mine self.now.up self.now.reach (p + 1)
-            → HasPutNone self.now.id mine
-            → IsMember self.now.config self.now.id mine source
-            → HasMost self.now.id mine self.now.up p source → HoldsAt mine self.now result }
-        ensures listed { (mine : List SomeEvent) → Stands mine self.now
+        ensures { (mine : List SomeEvent) → Stands mine self.now
             → known.now ≡ known_of self.now.config self.now.id mine
             → p < self.now.config.replicas
             → result ≡ after_fuo self.now.config self.now.id mine (tables_of self.now) p
@@ -95,15 +77,7 @@ impl Lead {
 
     /// Learns on from the region, or goes on to bring up the members.
     fn learn_from(&self, source: u8, known: &[u16]) -> Place
-        ensures stands { (mine : List SomeEvent) → Stands mine self.now
-            → known.now ≡ known_of self.now.config self.now.id mine
-            → Leads self.now.config self.now.id self.now.number mine
-            → RaisedBelow self.now.id mine self.now.up self.now.reach self.now.config.replicas
-            → HasPutNone self.now.id mine
-            → IsMember self.now.config self.now.id mine (Some source)
-            → HaveAtMost self.now.config self.now.id mine self.now.up (get_or self.now.up source 0)
-            → HoldsAt mine self.now result }
-        ensures listed { (mine : List SomeEvent) → Stands mine self.now
+        ensures { (mine : List SomeEvent) → Stands mine self.now
             → known.now ≡ known_of self.now.config self.now.id mine
             → result ≡ learn_from self.now.config self.now.id mine (tables_of self.now) source }
     {
@@ -118,14 +92,12 @@ impl Lead {
     pub(crate) fn took_learning(&mut self, source: u8, answer: Answer, known: &[u16]) -> Note
         ensures stands { (i : ℕ)
             → TakesLook self.old (SomePlace.Learn source) known.now source i answer self.new }
-        ensures quiet { value_committed result ≡ None }
         ensures config { self.new.config ≡ self.old.config }
         ensures id { self.new.id ≡ self.old.id }
         ensures named { self.new.named ≡ self.old.named }
         ensures tables { tables_of self.new ≡ tables_of self.old }
         ensures note { length known.now < 65536
             → result ≡ note_of_learning (length known.now) answer }
-        ensures going { self.new.under_way ≡ going_after self.old.under_way result }
         ensures listed { (i : ℕ)
             → FollowsLook self.old (SomePlace.Learn source) known.now source i answer self.new }
     {
@@ -157,17 +129,7 @@ impl Lead {
 
     /// Brings up the next member from `p` on that is behind, or goes on.
     pub(crate) fn bring_up_from(&self, p: u8, then: Then, known: &[u16]) -> Place
-        ensures stands { (mine : List SomeEvent) → Stands mine self.now
-            → known.now ≡ known_of self.now.config self.now.id mine
-            → Leads self.now.config self.now.id self.now.number mine
-            → RaisedBelow self.now.id mine self.now.up self.now.reach self.now.config.replicas
-            → IsClear self.now.id mine self.now.up
-            → ((k : ℕ) → k < self.now.config.replicas → is_member self.now.id k mine ≡ true
-            → IsDone then k p
-            → end_of_known self.now.config self.now.id mine ≤ get_or self.now.up k 0)
-            → HaveFew self.now.config self.now.id mine self.now.up then p
-            → then ≢ SomeThen.Joined → HoldsAt mine self.now result }
-        ensures listed { (mine : List SomeEvent) → Stands mine self.now
+        ensures { (mine : List SomeEvent) → Stands mine self.now
             → known.now ≡ known_of self.now.config self.now.id mine
             → result ≡ bring_up_from self.now.config self.now.id mine (tables_of self.now) p then }
     {
@@ -179,11 +141,7 @@ impl Lead {
 
     /// The place after all members were brought up.
     fn after_all(&self, then: Then, known: &[u16]) -> Place
-        ensures stands { (mine : List SomeEvent) → Stands mine self.now
-            → known.now ≡ known_of self.now.config self.now.id mine
-            → Level self.now.config self.now.id self.now.number mine self.now.up self.now.reach
-            → HoldsAt mine self.now result }
-        ensures listed { (mine : List SomeEvent) → Stands mine self.now
+        ensures { (mine : List SomeEvent) → Stands mine self.now
             → known.now ≡ known_of self.now.config self.now.id mine
             → result ≡ after_members self.now.config self.now.id mine self.now.heads then }
     {
@@ -217,11 +175,7 @@ impl Lead {
 
     /// The first step towards what `p` lacks.
     pub(crate) fn bring_up(&self, p: u8, then: Then) -> Place
-        ensures stands { (mine : List SomeEvent) → Stands mine self.now
-            → AtWiden self.now.config self.now.id self.now.number mine self.now.up self.now.reach p
-            then
-            → HoldsAt mine self.now result }
-        ensures listed { (mine : List SomeEvent) → Stands mine self.now
+        ensures { (mine : List SomeEvent) → Stands mine self.now
             → p < self.now.config.replicas
             → result ≡ bring_up self.now.config self.now.up self.now.reach p then }
     {
@@ -237,7 +191,6 @@ impl Lead {
         ensures stands { (values : List ℕ)
             → Takes self.old (SomePlace.WidenBehind p then) values
             (SomeVerb.RaiseFuo p (get_or self.old.up p 0)) SomeAnswer.Done self.new }
-        ensures quiet { value_committed result ≡ None }
         ensures config { self.new.config ≡ self.old.config }
         ensures id { self.new.id ≡ self.old.id }
         ensures named { self.new.named ≡ self.old.named }
@@ -245,7 +198,6 @@ impl Lead {
             → WritesFrom self.old (SomePlace.WidenBehind p then) values
             (SomeVerb.RaiseFuo p (get_or self.old.up p 0)) SomeAnswer.Done self.new }
         ensures note { result ≡ SomeNote.Working }
-        ensures going { self.new.under_way ≡ going_after self.old.under_way result }
         ensures listed { (values : List ℕ)
             → FollowsFrom self.old (SomePlace.WidenBehind p then) values
             (SomeVerb.RaiseFuo p (get_or self.old.up p 0))
@@ -261,13 +213,11 @@ impl Lead {
         ensures stands { (values : List ℕ)
             → Takes self.old (SomePlace.LookBehind p then) values
             (SomeVerb.Look p (get_or self.old.up p 0)) answer self.new }
-        ensures quiet { value_committed result ≡ None }
         ensures config { self.new.config ≡ self.old.config }
         ensures id { self.new.id ≡ self.old.id }
         ensures named { self.new.named ≡ self.old.named }
         ensures tables { tables_of self.new ≡ tables_of self.old }
         ensures note { result ≡ SomeNote.Working }
-        ensures going { self.new.under_way ≡ going_after self.old.under_way result }
         ensures listed { (values : List ℕ)
             → FollowsFrom self.old (SomePlace.LookBehind p then) values
             (SomeVerb.Look p (get_or self.old.up p 0))
@@ -289,13 +239,11 @@ impl Lead {
             (SomeVerb.Enter p
             (SomeTarget.Place (get_or self.old.up p 0 % self.old.config.ring)))
             SomeAnswer.Entered self.new }
-        ensures quiet { value_committed result ≡ None }
         ensures config { self.new.config ≡ self.old.config }
         ensures id { self.new.id ≡ self.old.id }
         ensures named { self.new.named ≡ self.old.named }
         ensures tables { tables_of self.new ≡ tables_of self.old }
         ensures note { result ≡ SomeNote.Working }
-        ensures going { self.new.under_way ≡ going_after self.old.under_way result }
         ensures listed { (values : List ℕ)
             → FollowsFrom self.old (SomePlace.EnterBehind p then) values
             (SomeVerb.Enter p (SomeTarget.Place (get_or self.old.up p 0 % self.old.config.ring)))
@@ -317,7 +265,6 @@ impl Lead {
             (SomeVerb.PutSlot p (get_or self.old.up p 0) self.old.number
             (get_or known.now (get_or self.old.up p 0) 0))
             SomeAnswer.Done self.new }
-        ensures quiet { value_committed result ≡ None }
         ensures config { self.new.config ≡ self.old.config }
         ensures id { self.new.id ≡ self.old.id }
         ensures named { self.new.named ≡ self.old.named }
@@ -326,7 +273,6 @@ impl Lead {
             (get_or known.now (get_or self.old.up p 0) 0))
             SomeAnswer.Done self.new }
         ensures note { result ≡ SomeNote.Working }
-        ensures going { self.new.under_way ≡ going_after self.old.under_way result }
         ensures listed { FollowsFrom self.old (SomePlace.PutBehind p then) known.now
             (SomeVerb.PutSlot p (get_or self.old.up p 0) self.old.number
             (get_or known.now (get_or self.old.up p 0) 0))
@@ -346,13 +292,7 @@ impl Lead {
 
     /// The place after what `p` lacked was put.
     fn after_put_behind(&self, p: u8, then: Then, known: &[u16]) -> Place
-        ensures stands { (mine : List SomeEvent) → Stands mine self.now
-            → known.now ≡ known_of self.now.config self.now.id mine
-            → Behind self.now.config self.now.id self.now.number mine self.now.up self.now.reach p
-            then
-            → get_or self.now.up p 0 ≤ end_of_known self.now.config self.now.id mine
-            → HoldsAt mine self.now result }
-        ensures listed { (mine : List SomeEvent) → Stands mine self.now
+        ensures { (mine : List SomeEvent) → Stands mine self.now
             → known.now ≡ known_of self.now.config self.now.id mine
             → p < self.now.config.replicas
             → result
@@ -369,14 +309,12 @@ impl Lead {
     pub(crate) fn took_raise_behind(&mut self, p: u8, then: Then, known: &[u16]) -> Note
         ensures stands { Takes self.old (SomePlace.RaiseBehind p then) known.now
             (SomeVerb.RaiseFuo p (get_or self.old.up p 0)) SomeAnswer.Done self.new }
-        ensures quiet { value_committed result ≡ None }
         ensures config { self.new.config ≡ self.old.config }
         ensures id { self.new.id ≡ self.old.id }
         ensures named { self.new.named ≡ self.old.named }
         ensures writes { WritesFrom self.old (SomePlace.RaiseBehind p then) known.now
             (SomeVerb.RaiseFuo p (get_or self.old.up p 0)) SomeAnswer.Done self.new }
         ensures note { result ≡ note_of_raise p then }
-        ensures going { self.new.under_way ≡ going_after self.old.under_way result }
         ensures listed { FollowsFrom self.old (SomePlace.RaiseBehind p then) known.now
             (SomeVerb.RaiseFuo p (get_or self.old.up p 0))
             SomeAnswer.Done self.new }
@@ -399,13 +337,10 @@ impl Lead {
         ensures stands { (values : List ℕ)
             → Takes self.old (SomePlace.FenceBehind p then) values (SomeVerb.Fence p)
             (SomeAnswer.Seen fence) self.new }
-        ensures quiet { value_committed result ≡ None }
         ensures config { self.new.config ≡ self.old.config }
         ensures id { self.new.id ≡ self.old.id }
         ensures named { self.new.named ≡ self.old.named }
         ensures tables { tables_of self.new ≡ tables_of self.old }
-        ensures note { is_working_or_lost result ≡ true }
-        ensures going { self.new.under_way ≡ going_after self.old.under_way result }
         ensures over { (mine : List SomeEvent) → StandsFor mine self.old
             → IsPossible self.old.config self.old.id
             (record
@@ -432,7 +367,6 @@ impl Lead {
         };
         self.leading.take(self.id, &event);
         if self.leading.is_over() {
-            self.under_way = false;
             self.place = Place::Ask(0);
             Note::Aborted(AbortCause::Lost { replica: p, fence })
         } else {
@@ -464,9 +398,7 @@ pub(crate) fn value_in(answer: Answer) -> u16
 
 /// The note of a look at the first unknown position.
 fn learnt(answer: Answer, known: &[u16]) -> Note
-    ensures quiet { value_committed result ≡ None }
     ensures note { length known.now < 65536 → result ≡ note_of_learning (length known.now) answer }
-    ensures going { (was : Bool) → going_after was result ≡ was }
 {
     match answer {
         Answer::Entry { number: _, value } => Note::Learnt {

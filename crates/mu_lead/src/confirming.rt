@@ -10,12 +10,10 @@ ghost use Rattle.mu_lead.specs.Confirming.{AtAsk, Confirmed, Fresh, Numbered, Te
 ghost use Rattle.mu_model.specs.Leaderships.{is_member};
 ghost use Rattle.mu_known.specs.Offers.{IsFirst};
 ghost use Rattle.mu_model.specs.Parts.{IsPossible};
-ghost use Rattle.mu_lead.specs.Notes.{TellsRound, value_committed};
+ghost use Rattle.mu_lead.specs.Noting.{note_in_round, note_of_round};
 ghost use Rattle.mu_lead.specs.Standing.{At, StandsFor, Takes};
 ghost use Rattle.mu_leading.specs.Leadership.{StandsForLeadership};
-ghost use Rattle.mu_lead.specs.Saying.{TellsAfter};
 ghost use Rattle.mu_lead.specs.declared.note.Note.{Note as SomeNote};
-ghost use Rattle.mu_lead.specs.Going.{going_after};
 ghost use Rattle.mu_model.specs.Diligence.{is_confirmed as is_confirmed_by};
 ghost use Rattle.mu_lead.specs.Journal.{WritesFrom};
 ghost use Rattle.mu_lead.specs.Lasting.{FollowsFrom, tables_of};
@@ -29,16 +27,8 @@ use mu_model::{Answer, Event, Fence, Target, Verb, majority};
 
 impl Lead {
     /// The place after the region `p` was asked.
-    #[tactic(auto, using(crate::proofs::Asking::asked_on, crate::proofs::Asking::asked_all))]
     fn after_ask(&self, p: u8) -> Place
-        ensures stands { (b : ℕ) → (mine : List SomeEvent) → (up : List ℕ)
-            → (reach : List (Option ℕ))
-            → (written : List ℕ) → AtAsk self.now.config self.now.id mine p
-            → At self.now.config self.now.id b
-            (record { by = self.now.id; verb = SomeVerb.Ask p; answer = SomeAnswer.Done }
-            ∷ mine)
-            up reach written result }
-        ensures listed { self.now.config.replicas ≤ 7
+        ensures { self.now.config.replicas ≤ 7
             → result
             ≡ (if nat_lt (p + 1) self.now.config.replicas then SomePlace.Ask (p + 1)
             else SomePlace.Confirm 0 0) }
@@ -55,7 +45,6 @@ impl Lead {
     pub(crate) fn took_ask(&mut self, p: u8) -> Note
         ensures stands { (values : List ℕ)
             → Takes self.old (SomePlace.Ask p) values (SomeVerb.Ask p) SomeAnswer.Done self.new }
-        ensures quiet { value_committed result ≡ None }
         ensures config { self.new.config ≡ self.old.config }
         ensures id { self.new.id ≡ self.old.id }
         ensures named { self.new.named ≡ self.old.named }
@@ -63,7 +52,6 @@ impl Lead {
             → WritesFrom self.old (SomePlace.Ask p) values (SomeVerb.Ask p) SomeAnswer.Done
             self.new }
         ensures note { result ≡ SomeNote.Working }
-        ensures going { self.new.under_way ≡ (p == 0 || self.old.under_way) }
         ensures listed { (values : List ℕ)
             → FollowsFrom self.old (SomePlace.Ask p) values (SomeVerb.Ask p)
             SomeAnswer.Done self.new }
@@ -75,7 +63,6 @@ impl Lead {
         };
         self.leading.take(self.id, &event);
         if p == 0 {
-            self.under_way = true;
             self.up = [0; 7];
             self.reach = [None; 7];
             self.place = self.after_ask(p);
@@ -90,20 +77,18 @@ impl Lead {
         ensures stands { (values : List ℕ)
             → Takes self.old (SomePlace.Confirm round p) values (SomeVerb.Fence p)
             (SomeAnswer.Seen fence) self.new }
-        ensures quiet { value_committed result ≡ None }
         ensures config { self.new.config ≡ self.old.config }
         ensures id { self.new.id ≡ self.old.id }
         ensures named { self.new.named ≡ self.old.named }
         ensures tables { tables_of self.new ≡ tables_of self.old }
         ensures note { (mine : List SomeEvent) → StandsFor mine self.old
-            → p < self.old.config.replicas
             → IsPossible self.old.config self.old.id
             (record { by = self.old.id; verb = SomeVerb.Fence p; answer = SomeAnswer.Seen fence }
             ∷ mine)
-            → TellsAfter (p + 1 == self.old.config.replicas) self.old.config self.old.id
+            → result
+            ≡ note_in_round self.old.config self.old.id
             (record { by = self.old.id; verb = SomeVerb.Fence p; answer = SomeAnswer.Seen fence }
-            ∷ mine) result }
-        ensures going { self.new.under_way ≡ going_after self.old.under_way result }
+            ∷ mine) p }
         ensures listed { (values : List ℕ)
             → FollowsFrom self.old (SomePlace.Confirm round p) values (SomeVerb.Fence p)
             (SomeAnswer.Seen fence) self.new }
@@ -126,11 +111,7 @@ impl Lead {
 
     /// Whether a majority with its own region is noted.
     fn is_confirmed(&self) -> bool
-        ensures confirmed { (mine : List SomeEvent) → self.now.config.replicas ≤ 7
-            → self.now.id < self.now.config.replicas
-            → StandsForLeadership self.now.id mine self.now.leading
-            → (IsTrue result ↔ Confirmed self.now.config self.now.id mine) }
-        ensures listed { (mine : List SomeEvent) → self.now.config.replicas ≤ 7
+        ensures { (mine : List SomeEvent) → self.now.config.replicas ≤ 7
             → self.now.id < self.now.config.replicas
             → StandsForLeadership self.now.id mine self.now.leading
             → result ≡ is_confirmed_by self.now.config self.now.id mine }
@@ -141,13 +122,7 @@ impl Lead {
 
     /// The place after a round of fences.
     fn after_round(&self, round: u8) -> Place
-        ensures stands { (b : ℕ) → (mine : List SomeEvent) → (up : List ℕ)
-            → (reach : List (Option ℕ))
-            → (written : List ℕ) → self.now.config.replicas ≤ 7
-            → self.now.id < self.now.config.replicas → round < 16
-            → StandsForLeadership self.now.id mine self.now.leading → Fresh self.now.id mine
-            → At self.now.config self.now.id b mine up reach written result }
-        ensures listed { (mine : List SomeEvent) → self.now.config.replicas ≤ 7
+        ensures { (mine : List SomeEvent) → self.now.config.replicas ≤ 7
             → self.now.id < self.now.config.replicas
             → StandsForLeadership self.now.id mine self.now.leading
             → result ≡ after_round self.now.config self.now.id mine round }
@@ -163,12 +138,10 @@ impl Lead {
 
     /// The note of a round of fences.
     fn note_of_round(&self) -> Note
-        ensures quiet { value_committed result ≡ None }
-        ensures tells { (mine : List SomeEvent) → self.now.config.replicas ≤ 7
+        ensures { (mine : List SomeEvent) → self.now.config.replicas ≤ 7
             → self.now.id < self.now.config.replicas
             → StandsForLeadership self.now.id mine self.now.leading
-            → TellsRound self.now.config self.now.id mine result }
-        ensures going { (was : Bool) → going_after was result ≡ was }
+            → result ≡ note_of_round self.now.config self.now.id mine }
     {
         let named = noted_bits(&self.leading);
         if self.is_confirmed() {
@@ -180,14 +153,7 @@ impl Lead {
 
     /// Begins to read the minima.
     fn first_to_read(&self) -> Place
-        ensures stands { (b : ℕ) → (mine : List SomeEvent) → (up : List ℕ)
-            → (reach : List (Option ℕ))
-            → (written : List ℕ) → self.now.config.replicas ≤ 7
-            → self.now.id < self.now.config.replicas
-            → StandsForLeadership self.now.id mine self.now.leading → Fresh self.now.id mine
-            → Confirmed self.now.config self.now.id mine
-            → At self.now.config self.now.id b mine up reach written result }
-        ensures listed { (mine : List SomeEvent) → self.now.config.replicas ≤ 7
+        ensures { (mine : List SomeEvent) → self.now.config.replicas ≤ 7
             → self.now.id < self.now.config.replicas
             → StandsForLeadership self.now.id mine self.now.leading
             → result ≡ or_else (noted_from self.now.config self.now.id mine 0) SomePlace.ReadMin
@@ -204,13 +170,11 @@ impl Lead {
         ensures stands { (values : List ℕ)
             → Takes self.old (SomePlace.ReadMin p) values (SomeVerb.Min p) (SomeAnswer.Number min)
             self.new }
-        ensures quiet { value_committed result ≡ None }
         ensures config { self.new.config ≡ self.old.config }
         ensures id { self.new.id ≡ self.old.id }
         ensures named { self.new.named ≡ self.old.named }
         ensures tables { tables_of self.new ≡ tables_of self.old }
         ensures note { result ≡ SomeNote.Working }
-        ensures going { self.new.under_way ≡ going_after self.old.under_way result }
         ensures listed { (values : List ℕ)
             → FollowsFrom self.old (SomePlace.ReadMin p) values (SomeVerb.Min p)
             (SomeAnswer.Number min) self.new }
@@ -236,14 +200,7 @@ impl Lead {
 
     /// Begins to put the number.
     fn first_to_enter(&self) -> Place
-        ensures stands { (mine : List SomeEvent) → (up : List ℕ) → (reach : List (Option ℕ))
-            → (written : List ℕ)
-            → self.now.config.replicas ≤ 7 → self.now.id < self.now.config.replicas
-            → StandsForLeadership self.now.id mine self.now.leading
-            → Telling self.now.config self.now.id mine self.now.config.replicas
-            → Numbered self.now.config self.now.id self.now.number mine
-            → At self.now.config self.now.id self.now.number mine up reach written result }
-        ensures listed { (mine : List SomeEvent) → self.now.config.replicas ≤ 7
+        ensures { (mine : List SomeEvent) → self.now.config.replicas ≤ 7
             → self.now.id < self.now.config.replicas
             → StandsForLeadership self.now.id mine self.now.leading
             → result ≡ or_else (noted_from self.now.config self.now.id mine 0) SomePlace.EnterMin
@@ -260,13 +217,11 @@ impl Lead {
         ensures stands { (values : List ℕ)
             → Takes self.old (SomePlace.EnterMin p) values (SomeVerb.Enter p SomeTarget.Min)
             SomeAnswer.Entered self.new }
-        ensures quiet { value_committed result ≡ None }
         ensures config { self.new.config ≡ self.old.config }
         ensures id { self.new.id ≡ self.old.id }
         ensures named { self.new.named ≡ self.old.named }
         ensures tables { tables_of self.new ≡ tables_of self.old }
         ensures note { result ≡ SomeNote.Working }
-        ensures going { self.new.under_way ≡ going_after self.old.under_way result }
         ensures listed { (values : List ℕ)
             → FollowsFrom self.old (SomePlace.EnterMin p) values (SomeVerb.Enter p SomeTarget.Min)
             SomeAnswer.Entered self.new }
@@ -286,13 +241,11 @@ impl Lead {
         ensures stands { (values : List ℕ)
             → Takes self.old (SomePlace.PutMin p) values (SomeVerb.PutMin p self.old.number)
             SomeAnswer.Done self.new }
-        ensures quiet { value_committed result ≡ None }
         ensures config { self.new.config ≡ self.old.config }
         ensures id { self.new.id ≡ self.old.id }
         ensures named { self.new.named ≡ self.old.named }
         ensures tables { tables_of self.new ≡ tables_of self.old }
         ensures note { result ≡ SomeNote.Working }
-        ensures going { self.new.under_way ≡ going_after self.old.under_way result }
         ensures listed { (values : List ℕ)
             → FollowsFrom self.old (SomePlace.PutMin p) values (SomeVerb.PutMin p self.old.number)
             SomeAnswer.Done self.new }
@@ -317,11 +270,7 @@ impl Lead {
 
     /// The first member, which there is.
     pub(crate) fn first_member(&self) -> u8
-        ensures first { (mine : List SomeEvent) → (k : ℕ) → self.now.config.replicas ≤ 7
-            → StandsForLeadership self.now.id mine self.now.leading → k < self.now.config.replicas
-            → is_member self.now.id k mine ≡ true
-            → IsFirst (λ p. is_member self.now.id p mine) 0 self.now.config.replicas (Some result) }
-        ensures listed { (mine : List SomeEvent) → self.now.config.replicas ≤ 7
+        ensures { (mine : List SomeEvent) → self.now.config.replicas ≤ 7
             → self.now.id < self.now.config.replicas
             → StandsForLeadership self.now.id mine self.now.leading
             → result ≡ first_member self.now.config self.now.id mine }

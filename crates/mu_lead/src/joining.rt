@@ -10,11 +10,10 @@ ghost use Rattle.mu_lead.specs.Leading.{Level};
 ghost use Rattle.mu_lead.specs.Journal.{WritesFrom};
 ghost use Rattle.mu_lead.specs.Lasting.{FollowsFrom, tables_of};
 ghost use Rattle.mu_lead.specs.Listing.{late_from};
-ghost use Rattle.mu_lead.specs.Notes.{note_of_min, value_committed};
+ghost use Rattle.mu_lead.specs.Notes.{note_of_min};
 ghost use Rattle.mu_lead.specs.Standing.{HoldsAt, Stands, Takes};
 ghost use Rattle.mu_lead.specs.Saying.{note_of_join};
 ghost use Rattle.mu_lead.specs.declared.note.Note.{Note as SomeNote};
-ghost use Rattle.mu_lead.specs.Going.{going_after};
 
 use crate::arrays::{with_fuo, with_number};
 use crate::lead::Lead;
@@ -26,11 +25,7 @@ use mu_model::{Answer, Event, Fence, Target, Verb};
 impl Lead {
     /// Goes on with the late followers from `p` on.
     pub(crate) fn late_from(&self, p: u8, known: &[u16]) -> Place
-        ensures stands { (mine : List SomeEvent) → Stands mine self.now
-            → known.now ≡ known_of self.now.config self.now.id mine
-            → Level self.now.config self.now.id self.now.number mine self.now.up self.now.reach
-            → HoldsAt mine self.now result }
-        ensures listed { (mine : List SomeEvent) → Stands mine self.now
+        ensures { (mine : List SomeEvent) → Stands mine self.now
             → known.now ≡ known_of self.now.config self.now.id mine
             → result ≡ late_from self.now.config self.now.id mine self.now.heads p }
     {
@@ -44,13 +39,11 @@ impl Lead {
     pub(crate) fn took_late_fence(&mut self, p: u8, fence: Fence, known: &[u16]) -> Note
         ensures stands { Takes self.old (SomePlace.LateFence p) known.now (SomeVerb.Fence p)
             (SomeAnswer.Seen fence) self.new }
-        ensures quiet { value_committed result ≡ None }
         ensures config { self.new.config ≡ self.old.config }
         ensures id { self.new.id ≡ self.old.id }
         ensures named { self.new.named ≡ self.old.named }
         ensures tables { tables_of self.new ≡ tables_of self.old }
         ensures note { result ≡ SomeNote.Working }
-        ensures going { self.new.under_way ≡ going_after self.old.under_way result }
         ensures listed { FollowsFrom self.old (SomePlace.LateFence p) known.now (SomeVerb.Fence p)
             (SomeAnswer.Seen fence) self.new }
     {
@@ -75,12 +68,10 @@ impl Lead {
             → Takes self.old (SomePlace.LateMin p) values (SomeVerb.Min p) (SomeAnswer.Number min)
             self.new }
         ensures tells { min < 2 ^ 32 → result ≡ note_of_min p self.old.number min }
-        ensures quiet { value_committed result ≡ None }
         ensures config { self.new.config ≡ self.old.config }
         ensures id { self.new.id ≡ self.old.id }
         ensures named { self.new.named ≡ self.old.named }
         ensures tables { tables_of self.new ≡ tables_of self.old }
-        ensures going { self.new.under_way ≡ going_after self.old.under_way result }
         ensures listed { (values : List ℕ)
             → FollowsFrom self.old (SomePlace.LateMin p) values (SomeVerb.Min p)
             (SomeAnswer.Number min) self.new }
@@ -92,7 +83,6 @@ impl Lead {
         };
         self.leading.take(self.id, &event);
         if u64::from(self.number) < min {
-            self.under_way = false;
             self.place = Place::Ask(0);
             Note::Aborted(AbortCause::Higher {
                 replica: p,
@@ -109,14 +99,12 @@ impl Lead {
         ensures stands { Takes self.old (SomePlace.LateFuo p) known.now (SomeVerb.Fuo p)
             (SomeAnswer.Number u)
             self.new }
-        ensures quiet { value_committed result ≡ None }
         ensures config { self.new.config ≡ self.old.config }
         ensures id { self.new.id ≡ self.old.id }
         ensures named { self.new.named ≡ self.old.named }
         ensures writes { WritesFrom self.old (SomePlace.LateFuo p) known.now (SomeVerb.Fuo p)
             (SomeAnswer.Number u) self.new }
         ensures note { result ≡ SomeNote.Working }
-        ensures going { self.new.under_way ≡ going_after self.old.under_way result }
         ensures listed { FollowsFrom self.old (SomePlace.LateFuo p) known.now (SomeVerb.Fuo p)
             (SomeAnswer.Number u) self.new }
     {
@@ -136,13 +124,11 @@ impl Lead {
         ensures stands { (values : List ℕ)
             → Takes self.old (SomePlace.LateEnter p) values (SomeVerb.Enter p SomeTarget.Min)
             SomeAnswer.Entered self.new }
-        ensures quiet { value_committed result ≡ None }
         ensures config { self.new.config ≡ self.old.config }
         ensures id { self.new.id ≡ self.old.id }
         ensures named { self.new.named ≡ self.old.named }
         ensures tables { tables_of self.new ≡ tables_of self.old }
         ensures note { result ≡ SomeNote.Working }
-        ensures going { self.new.under_way ≡ going_after self.old.under_way result }
         ensures listed { (values : List ℕ)
             → FollowsFrom self.old (SomePlace.LateEnter p) values (SomeVerb.Enter p SomeTarget.Min)
             SomeAnswer.Entered self.new }
@@ -162,14 +148,12 @@ impl Lead {
         ensures stands { Takes self.old (SomePlace.LatePut p) known.now
             (SomeVerb.PutMin p self.old.number)
             SomeAnswer.Done self.new }
-        ensures quiet { value_committed result ≡ None }
         ensures config { self.new.config ≡ self.old.config }
         ensures id { self.new.id ≡ self.old.id }
         ensures named { self.new.named ≡ self.old.named }
         ensures tables { tables_of self.new ≡ tables_of self.old }
         ensures note { length self.old.up ≡ 7
             → result ≡ note_of_join p (nat_lt (get_or self.old.up p 0) (length known.now)) }
-        ensures going { self.new.under_way ≡ going_after self.old.under_way result }
         ensures listed { FollowsFrom self.old (SomePlace.LatePut p) known.now
             (SomeVerb.PutMin p self.old.number)
             SomeAnswer.Done self.new }

@@ -19,10 +19,10 @@ ghost use Rattle.mu_lead.specs.Lasting.{Follows, FollowsDue, KeepsNext};
 ghost use Rattle.mu_lead.specs.Raising.{RaisesAt};
 ghost use Rattle.mu_lead.specs.Resigning.{IsTold};
 ghost use Rattle.mu_lead.specs.Rooms.{HasRooms, RoomsNext, gives_up};
-ghost use Rattle.mu_lead.specs.Standing.{HasHeeded, StandsFor, TakesDue, TakesNext, TellsDue, TellsFailed, TellsNext, verb_of};
+ghost use Rattle.mu_lead.specs.Standing.{HasHeeded, StandsFor, TakesDue, TakesNext, TellsFailed, TellsNext, verb_of};
 ghost use Rattle.mu_lead.specs.Going.{begins_at, going_after};
-ghost use Rattle.mu_lead.specs.Noting.{NotedNext};
-ghost use Rattle.mu_lead.specs.Saying.{NotesDue, SaysNext, is_working as is_working_note};
+ghost use Rattle.mu_lead.specs.Noting.{NotedDue, NotedNext};
+ghost use Rattle.mu_lead.specs.Saying.{SaysNext, is_working as is_working_note};
 ghost use Rattle.mu_lead.specs.Welcomes.{JoinsAt};
 
 use crate::batches::knows_all;
@@ -286,7 +286,6 @@ impl Lead {
 
     /// Takes the answer of the verb that was due. `log` is what the replica
     /// knows, `known` its values.
-    #[tactic(auto, using(crate::proofs::Says::says_next, crate::proofs::Says::says_idle))]
     pub fn take(&mut self, answer: Answer, known: &[u16], log: &KnownLog) -> Note
         ghost mine: { List Event }
         requires stands { StandsFor mine self.old }
@@ -329,19 +328,36 @@ impl Lead {
         }
     }
 
-    /// Takes the answer, by the place that asked.
-    #[tactic(auto, using(crate::proofs::Taking::takes_head))]
+    /// Takes the answer, and notes whether the leadership goes on.
     fn take_answer(&mut self, answer: Answer, known: &[u16], log: &KnownLog) -> Note
         ensures stands { HoldsValues self.old.config known.now log.now
             → TakesDue self.old known.now answer self.new }
         ensures writes { WritesDue self.old known.now answer self.new }
-        ensures tells { TellsDue self.old known.now answer result }
         ensures config { self.new.config ≡ self.old.config }
         ensures id { self.new.id ≡ self.old.id }
         ensures named { self.new.named ≡ self.old.named }
-        ensures note { NotesDue self.old known.now answer result }
+        ensures noted { NotedDue self.old known.now answer result }
         ensures going { self.new.under_way
             ≡ going_after (begins_at self.old.place || self.old.under_way) result }
+        ensures listed { HoldsValues self.old.config known.now log.now
+            → FollowsDue self.old known.now answer self.new }
+    {
+        let was = begins(self.place, self.under_way);
+        let note = self.go_on(answer, known, log);
+        self.under_way = goes_on(was, note);
+        note
+    }
+
+    /// Goes on by the answer, from the place that asked.
+    #[tactic(auto, using(crate::proofs::Taking::takes_head))]
+    fn go_on(&mut self, answer: Answer, known: &[u16], log: &KnownLog) -> Note
+        ensures stands { HoldsValues self.old.config known.now log.now
+            → TakesDue self.old known.now answer self.new }
+        ensures writes { WritesDue self.old known.now answer self.new }
+        ensures config { self.new.config ≡ self.old.config }
+        ensures id { self.new.id ≡ self.old.id }
+        ensures named { self.new.named ≡ self.old.named }
+        ensures noted { NotedDue self.old known.now answer result }
         ensures listed { HoldsValues self.old.config known.now log.now
             → FollowsDue self.old known.now answer self.new }
     {
@@ -385,5 +401,25 @@ fn is_working(note: Note) -> bool
     match note {
         Note::Working => true,
         _ => false,
+    }
+}
+
+/// Whether a leadership that was under way, or not, is after the verb of the place.
+fn begins(place: Place, was: bool) -> bool
+    ensures { result ≡ (begins_at place || was) }
+{
+    match place {
+        Place::Ask(p) => p == 0 || was,
+        _ => was,
+    }
+}
+
+/// Whether a leadership that was under way, or not, still is after the note.
+fn goes_on(was: bool, note: Note) -> bool
+    ensures { result ≡ going_after was note }
+{
+    match note {
+        Note::Aborted(_) => false,
+        _ => was,
     }
 }

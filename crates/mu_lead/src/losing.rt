@@ -8,9 +8,7 @@ ghost use Rattle.mu_model.specs.Leaderships.{has_begun};
 ghost use Rattle.mu_lead.specs.declared.note.AbortCause.{AbortCause as SomeCause};
 ghost use Rattle.mu_lead.specs.declared.note.Note.{Note as SomeNote};
 ghost use Rattle.mu_lead.specs.Confirming.{IsEnteredNow};
-ghost use Rattle.mu_lead.specs.Notes.{value_committed};
 ghost use Rattle.mu_lead.specs.Standing.{TakesAt, TakesFrom};
-ghost use Rattle.mu_lead.specs.Going.{going_after};
 ghost use Rattle.mu_lead.specs.Lasting.{tables_of};
 ghost use Rattle.mu_lead.specs.declared.place.Place.{Place as SomePlace};
 
@@ -25,12 +23,10 @@ impl Lead {
         ensures stands { TakesFrom self.old (SomeVerb.Fence p) (SomeAnswer.Seen fence) self.new }
         ensures ended { self.new.place ≡ SomePlace.Ask 0 }
         ensures tells { result ≡ SomeNote.Aborted (SomeCause.Lost p fence) }
-        ensures quiet { value_committed result ≡ None }
         ensures config { self.new.config ≡ self.old.config }
         ensures id { self.new.id ≡ self.old.id }
         ensures named { self.new.named ≡ self.old.named }
         ensures tables { tables_of self.new ≡ tables_of self.old }
-        ensures going { self.new.under_way ≡ going_after self.old.under_way result }
     {
         let event = Event {
             by: self.id,
@@ -38,7 +34,6 @@ impl Lead {
             answer: Answer::Seen(fence),
         };
         self.leading.take(self.id, &event);
-        self.under_way = false;
         self.place = Place::Ask(0);
         lost_by(p, fence)
     }
@@ -48,12 +43,10 @@ impl Lead {
         ensures stands { TakesFrom self.old (SomeVerb.Enter p target)
             (SomeAnswer.Lost fence) self.new }
         ensures tells { result ≡ SomeNote.Aborted (SomeCause.Lost p fence) }
-        ensures quiet { value_committed result ≡ None }
         ensures config { self.new.config ≡ self.old.config }
         ensures id { self.new.id ≡ self.old.id }
         ensures named { self.new.named ≡ self.old.named }
         ensures tables { tables_of self.new ≡ tables_of self.old }
-        ensures going { self.new.under_way ≡ going_after self.old.under_way result }
         ensures ended { self.new.place ≡ SomePlace.Ask 0 }
     {
         let event = Event {
@@ -62,7 +55,6 @@ impl Lead {
             answer: Answer::Lost(fence),
         };
         self.leading.take(self.id, &event);
-        self.under_way = false;
         self.place = Place::Ask(0);
         lost_by(p, fence)
     }
@@ -71,13 +63,11 @@ impl Lead {
     pub(crate) fn lost_min(&mut self, p: u8, fence: Fence) -> Note
         ensures stands { TakesFrom self.old (SomeVerb.Enter p SomeTarget.Min)
             (SomeAnswer.Lost fence) self.new }
-        ensures quiet { value_committed result ≡ None }
         ensures config { self.new.config ≡ self.old.config }
         ensures id { self.new.id ≡ self.old.id }
         ensures named { self.new.named ≡ self.old.named }
         ensures tables { tables_of self.new ≡ tables_of self.old }
         ensures note { result ≡ SomeNote.Aborted (SomeCause.Lost p fence) }
-        ensures going { self.new.under_way ≡ going_after self.old.under_way result }
         ensures ended { self.new.place ≡ SomePlace.Ask 0 }
     {
         self.lost(p, Target::Min, fence)
@@ -89,13 +79,11 @@ impl Lead {
             → TakesFrom self.old
             (SomeVerb.Enter p (SomeTarget.Place (position % self.old.config.ring)))
             (SomeAnswer.Lost fence) self.new }
-        ensures quiet { value_committed result ≡ None }
         ensures config { self.new.config ≡ self.old.config }
         ensures id { self.new.id ≡ self.old.id }
         ensures named { self.new.named ≡ self.old.named }
         ensures tables { tables_of self.new ≡ tables_of self.old }
         ensures note { result ≡ SomeNote.Aborted (SomeCause.Lost p fence) }
-        ensures going { self.new.under_way ≡ going_after self.old.under_way result }
         ensures ended { self.new.place ≡ SomePlace.Ask 0 }
     {
         self.lost(p, self.place_of(position), fence)
@@ -107,13 +95,11 @@ impl Lead {
             → has_begun self.old.id mine ≡ true → IsEnteredNow self.old.id p mine
             → TakesAt mine self.old (SomeVerb.PutMin p self.old.number) SomeAnswer.Missed self.new }
         ensures missed { self.new.place ≡ SomePlace.Evidence p }
-        ensures quiet { value_committed result ≡ None }
         ensures config { self.new.config ≡ self.old.config }
         ensures id { self.new.id ≡ self.old.id }
         ensures named { self.new.named ≡ self.old.named }
         ensures tables { tables_of self.new ≡ tables_of self.old }
         ensures note { result ≡ SomeNote.Working }
-        ensures going { self.new.under_way ≡ going_after self.old.under_way result }
     {
         let event = Event {
             by: self.id,
@@ -132,13 +118,11 @@ impl Lead {
             → TakesAt mine self.old (SomeVerb.PutSlot p i self.old.number value) SomeAnswer.Missed
             self.new }
         ensures missed { self.new.place ≡ SomePlace.Evidence p }
-        ensures quiet { value_committed result ≡ None }
         ensures config { self.new.config ≡ self.old.config }
         ensures id { self.new.id ≡ self.old.id }
         ensures named { self.new.named ≡ self.old.named }
         ensures tables { tables_of self.new ≡ tables_of self.old }
         ensures note { result ≡ SomeNote.Working }
-        ensures going { self.new.under_way ≡ going_after self.old.under_way result }
     {
         let event = Event {
             by: self.id,

@@ -18,13 +18,12 @@ ghost use Rattle.mu_lead.specs.Leading.{Level, end_of as end_of_known};
 ghost use Rattle.mu_lead.specs.Journal.{WritesFrom};
 ghost use Rattle.mu_lead.specs.Lasting.{FollowsFrom, FollowsHead, FollowsLook, tables_of};
 ghost use Rattle.mu_lead.specs.Listing.{first_member, heads_from, least_candidate, member_from, next_position, offer_row, or_else, own_offer, pick};
-ghost use Rattle.mu_lead.specs.Notes.{TellsPut, note_of_commit, note_of_head, value_committed};
+ghost use Rattle.mu_lead.specs.Notes.{TellsPut, note_of_commit, note_of_head};
 ghost use Rattle.mu_lead.specs.Offering.{Looking, LooksShow, MayBeMarked, MayOffer, Roomy};
 ghost use Rattle.mu_lead.specs.Sets.{is_bit};
 ghost use Rattle.mu_lead.specs.Standing.{HasHeeded, HoldsAt, Stands, StandsFor, Takes, TakesLook};
-ghost use Rattle.mu_lead.specs.Saying.{NotesPut, note_of_look};
+ghost use Rattle.mu_lead.specs.Saying.{note_of_look};
 ghost use Rattle.mu_lead.specs.declared.note.Note.{Note as SomeNote};
-ghost use Rattle.mu_lead.specs.Going.{going_after};
 
 use crate::arrays::{with_fuo, with_number};
 use crate::batches::{is_marked, knows_all, next_offer, own_value};
@@ -41,11 +40,7 @@ use mu_model::{Answer, Event, Verb, count_of_rows, reserve_of, row_rest};
 impl Lead {
     /// Goes on with the next position, or with late followers if all commands are known.
     pub(crate) fn next_position(&self, known: &[u16]) -> Place
-        ensures stands { (mine : List SomeEvent) → Stands mine self.now
-            → known.now ≡ known_of self.now.config self.now.id mine
-            → Level self.now.config self.now.id self.now.number mine self.now.up self.now.reach
-            → HoldsAt mine self.now result }
-        ensures listed { (mine : List SomeEvent) → Stands mine self.now
+        ensures { (mine : List SomeEvent) → Stands mine self.now
             → known.now ≡ known_of self.now.config self.now.id mine
             → result ≡ next_position self.now.config self.now.id mine self.now.heads }
     {
@@ -107,11 +102,7 @@ impl Lead {
 
     /// Reads the next head from `q` on that is too low, or goes on with the looks.
     fn heads_from(&self, q: u8, candidate: Option<u8>, known: &[u16]) -> Place
-        ensures stands { (mine : List SomeEvent) → Stands mine self.now
-            → known.now ≡ known_of self.now.config self.now.id mine
-            → Level self.now.config self.now.id self.now.number mine self.now.up self.now.reach
-            → Roomy self.now.config self.now.id mine q candidate → HoldsAt mine self.now result }
-        ensures listed { (mine : List SomeEvent) → Stands mine self.now
+        ensures { (mine : List SomeEvent) → Stands mine self.now
             → known.now ≡ known_of self.now.config self.now.id mine
             → result ≡ heads_from self.now.config self.now.id mine self.now.heads q candidate }
     {
@@ -146,14 +137,6 @@ impl Lead {
             (record { by = self.old.id; verb = SomeVerb.Head q; answer = SomeAnswer.Number head }
             ∷ mine)
             self.new }
-        ensures tells { length known.now < 65536 → head < 65536 → result
-            ≡ note_of_head q head (length known.now)
-            (nat_lt (length known.now + reserve self.old.config)
-            (head + self.old.config.ring))
-            (not (q == self.old.id)
-            && (is_bit q self.old.failed
-            && nat_lt (length known.now + 0) (head + self.old.config.ring))) }
-        ensures quiet { value_committed result ≡ None }
         ensures config { self.new.config ≡ self.old.config }
         ensures id { self.new.id ≡ self.old.id }
         ensures named { self.new.named ≡ self.old.named }
@@ -166,7 +149,6 @@ impl Lead {
             (not (q == self.old.id)
             && (is_bit q self.old.failed
             && nat_lt (length known.now + 0) (head + self.old.config.ring))) }
-        ensures going { self.new.under_way ≡ going_after self.old.under_way result }
         ensures listed { FollowsHead self.old q candidate known.now (SomeAnswer.Number head)
             self.new }
         ensures kept { length self.old.heads ≡ 7 → q < 7 → get_or self.new.heads q 0 ≡ head }
@@ -190,10 +172,7 @@ impl Lead {
 
     /// Whether `q`, whose head leaves too little room, may be marked.
     fn may_mark(&self, q: u8, head: u64, known: &[u16]) -> bool
-        ensures may { length known.now < 65536 → (IsTrue result
-            ↔ ((q ≢ self.now.id) × (is_bit q self.now.failed ≡ true)
-            × (nat_lt (length known.now + 0) (head + self.now.config.ring) ≡ true))) }
-        ensures is { length known.now < 65536 → result
+        ensures { length known.now < 65536 → result
             ≡ (not (q == self.now.id)
             && (is_bit q self.now.failed
             && nat_lt (length known.now + 0) (head + self.now.config.ring))) }
@@ -216,13 +195,11 @@ impl Lead {
             → TakesLook self.old
             (SomePlace.Look p position candidate best) known.now p position
             answer self.new }
-        ensures quiet { value_committed result ≡ None }
         ensures config { self.new.config ≡ self.old.config }
         ensures id { self.new.id ≡ self.old.id }
         ensures named { self.new.named ≡ self.old.named }
         ensures tables { tables_of self.new ≡ tables_of self.old }
         ensures note { result ≡ note_of_look position (length known.now) answer }
-        ensures going { self.new.under_way ≡ going_after self.old.under_way result }
         ensures listed { HoldsValues self.old.config known.now log.now
             → FollowsLook self.old (SomePlace.Look p position candidate best) known.now p
             position answer self.new }
@@ -252,13 +229,7 @@ impl Lead {
         known: &[u16],
         log: &KnownLog,
     ) -> Place
-        ensures stands { HoldsValues self.now.config known.now log.now
-            → (mine : List SomeEvent) → Stands mine self.now
-            → known.now ≡ known_of self.now.config self.now.id mine → p < self.now.config.replicas
-            → Looking self.now.config self.now.id self.now.number mine self.now.up self.now.reach
-            (p + 1) candidate best
-            → HoldsAt mine self.now result }
-        ensures listed { HoldsValues self.now.config known.now log.now
+        ensures { HoldsValues self.now.config known.now log.now
             → (mine : List SomeEvent) → Stands mine self.now
             → known.now ≡ known_of self.now.config self.now.id mine
             → p < self.now.config.replicas
@@ -282,13 +253,7 @@ impl Lead {
         known: &[u16],
         log: &KnownLog,
     ) -> Place
-        ensures stands { HoldsValues self.now.config known.now log.now
-            → (mine : List SomeEvent) → Stands mine self.now
-            → known.now ≡ known_of self.now.config self.now.id mine
-            → Looking self.now.config self.now.id self.now.number mine self.now.up self.now.reach
-            self.now.config.replicas candidate best
-            → HoldsAt mine self.now result }
-        ensures listed { HoldsValues self.now.config known.now log.now
+        ensures { HoldsValues self.now.config known.now log.now
             → (mine : List SomeEvent) → Stands mine self.now
             → known.now ≡ known_of self.now.config self.now.id mine
             → Looking self.now.config self.now.id self.now.number mine self.now.up self.now.reach
@@ -312,13 +277,7 @@ impl Lead {
 
     /// Begins with the next batch of its own, if there is one.
     fn offer_own(&self, known: &[u16], log: &KnownLog) -> Place
-        ensures stands { HoldsValues self.now.config known.now log.now
-            → (mine : List SomeEvent) → Stands mine self.now
-            → known.now ≡ known_of self.now.config self.now.id mine
-            → Looking self.now.config self.now.id self.now.number mine self.now.up self.now.reach
-            self.now.config.replicas None None
-            → HoldsAt mine self.now result }
-        ensures listed { HoldsValues self.now.config known.now log.now
+        ensures { HoldsValues self.now.config known.now log.now
             → (mine : List SomeEvent) → Stands mine self.now
             → known.now ≡ known_of self.now.config self.now.id mine
             → result ≡ or_else (own_offer self.now.config self.now.id
@@ -341,16 +300,7 @@ impl Lead {
 
     /// Begins to put the value.
     pub(crate) fn offer(&self, offer: Offer) -> Place
-        ensures stands { (mine : List SomeEvent) → (candidate : Option ℕ)
-            → (best : Option SomeSight)
-            → Stands mine self.now
-            → Looking self.now.config self.now.id self.now.number mine self.now.up self.now.reach
-            self.now.config.replicas candidate best
-            → MayOffer self.now.config self.now.id mine candidate offer.value
-            → LooksShow self.now.config self.now.id mine
-            (end_of_known self.now.config self.now.id mine) offer.adopted
-            → HoldsAt mine self.now result }
-        ensures listed { (mine : List SomeEvent) → Stands mine self.now
+        ensures { (mine : List SomeEvent) → Stands mine self.now
             → result ≡ SomePlace.Enter (first_member self.now.config self.now.id mine) offer }
     {
         Place::Enter(self.first_member(), offer)
@@ -361,13 +311,11 @@ impl Lead {
         ensures stands { Takes self.old (SomePlace.Enter p offer) known.now
             (SomeVerb.Enter p (SomeTarget.Place (length known.now % self.old.config.ring)))
             SomeAnswer.Entered self.new }
-        ensures quiet { value_committed result ≡ None }
         ensures config { self.new.config ≡ self.old.config }
         ensures id { self.new.id ≡ self.old.id }
         ensures named { self.new.named ≡ self.old.named }
         ensures tables { tables_of self.new ≡ tables_of self.old }
         ensures note { result ≡ SomeNote.Working }
-        ensures going { self.new.under_way ≡ going_after self.old.under_way result }
         ensures listed { FollowsFrom self.old (SomePlace.Enter p offer) known.now
             (SomeVerb.Enter p (SomeTarget.Place (length known.now % self.old.config.ring)))
             SomeAnswer.Entered self.new }
@@ -412,8 +360,6 @@ impl Lead {
         ensures writes { WritesFrom self.old (SomePlace.Put p offer) known.now
             (SomeVerb.PutSlot p (length known.now) self.old.number offer.value) SomeAnswer.Done
             self.new }
-        ensures note { NotesPut (length known.now) offer result }
-        ensures going { self.new.under_way ≡ going_after self.old.under_way result }
         ensures listed { FollowsFrom self.old (SomePlace.Put p offer) known.now
             (SomeVerb.PutSlot p (length known.now) self.old.number offer.value)
             SomeAnswer.Done self.new }
@@ -443,14 +389,12 @@ impl Lead {
         ensures stands { Takes self.old (SomePlace.Raise p) known.now
             (SomeVerb.RaiseFuo p (length known.now))
             SomeAnswer.Done self.new }
-        ensures quiet { value_committed result ≡ None }
         ensures config { self.new.config ≡ self.old.config }
         ensures id { self.new.id ≡ self.old.id }
         ensures named { self.new.named ≡ self.old.named }
         ensures writes { WritesFrom self.old (SomePlace.Raise p) known.now
             (SomeVerb.RaiseFuo p (length known.now)) SomeAnswer.Done self.new }
         ensures note { result ≡ SomeNote.Working }
-        ensures going { self.new.under_way ≡ going_after self.old.under_way result }
         ensures listed { FollowsFrom self.old (SomePlace.Raise p) known.now
             (SomeVerb.RaiseFuo p (length known.now))
             SomeAnswer.Done self.new }
@@ -482,9 +426,7 @@ fn has_bit(set: u8, q: u8) -> bool
 
 /// The first of the replicas that may be marked.
 fn first_of(candidate: Option<u8>, q: u8) -> u8
-    ensures may { (c : Config) → (r : ℕ) → (mine : List SomeEvent) → MayBeMarked c r mine candidate
-        → MayBeMarked c r mine (Some q) → MayBeMarked c r mine (Some result) }
-    ensures is { Some result ≡ least_candidate candidate q }
+    ensures { Some result ≡ least_candidate candidate q }
 {
     match candidate {
         Some(k) => k,

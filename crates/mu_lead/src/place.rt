@@ -1,7 +1,7 @@
 //! The places of the listing, each with what it carries.
 
 /// What goes on after a region was brought up.
-#[derive(Clone, Copy, PartialEq, Eq)]
+#[derive(Clone, Copy)]
 pub enum Then {
     /// The next member, and after the last one the late followers.
     Late,
@@ -12,7 +12,7 @@ pub enum Then {
 }
 
 /// An entry that a look showed.
-#[derive(Clone, Copy, PartialEq, Eq)]
+#[derive(Clone, Copy)]
 pub struct Sight {
     /// The number under which it was put.
     pub number: u32,
@@ -21,7 +21,7 @@ pub struct Sight {
 }
 
 /// The value under way at a new position.
-#[derive(Clone, Copy, PartialEq, Eq)]
+#[derive(Clone, Copy)]
 pub struct Offer {
     /// The payload number.
     pub value: u16,
@@ -30,7 +30,7 @@ pub struct Offer {
 }
 
 /// Where a leader is in its listing. Each place but the last two has one verb.
-#[derive(Clone, Copy, PartialEq, Eq)]
+#[derive(Clone, Copy)]
 pub enum Place {
     /// Asks the region.
     Ask(u8),

@@ -9,12 +9,10 @@ ghost use Rattle.mu_lead.specs.declared.place.Place.{Place as SomePlace};
 ghost use Rattle.mu_lead.specs.Journal.{WritesFrom};
 ghost use Rattle.mu_lead.specs.Lasting.{FollowsFrom};
 ghost use Rattle.mu_lead.specs.Listing.{write_from};
-ghost use Rattle.mu_lead.specs.Notes.{value_committed};
 ghost use Rattle.mu_lead.specs.Offering.{Writing};
 ghost use Rattle.mu_known.specs.Offers.{IsFirst};
 ghost use Rattle.mu_lead.specs.Standing.{HoldsAt, Stands, StandsFor, Takes};
 ghost use Rattle.mu_lead.specs.declared.note.Note.{Note as SomeNote};
-ghost use Rattle.mu_lead.specs.Going.{going_after};
 ghost use Rattle.mu_lead.specs.Rooms.{words_left};
 
 use crate::lead::Lead;
@@ -38,11 +36,7 @@ impl Lead {
 
     /// Writes what isn't written yet of the rows up to the last one, or begins to put.
     pub(crate) fn write_from(&self, first: u16, last: u16, offer: Offer) -> Place
-        ensures stands { (mine : List SomeEvent) → Stands mine self.now
-            → Writing self.now.config self.now.id self.now.number mine self.now.up self.now.reach
-            first last offer
-            → HoldsAt mine self.now result }
-        ensures listed { (mine : List SomeEvent) → Stands mine self.now
+        ensures { (mine : List SomeEvent) → Stands mine self.now
             → last < 65535
             → result
             ≡ write_from self.now.config self.now.id mine self.now.written.items first last
@@ -61,7 +55,6 @@ impl Lead {
             (SomeVerb.WriteRow j (get_or self.old.written.items j 12)
             (config_word self.old.config j (get_or self.old.written.items j 12)))
             SomeAnswer.Done self.new }
-        ensures quiet { value_committed result ≡ None }
         ensures config { self.new.config ≡ self.old.config }
         ensures id { self.new.id ≡ self.old.id }
         ensures named { self.new.named ≡ self.old.named }
@@ -71,7 +64,6 @@ impl Lead {
             (config_word self.old.config j (get_or self.old.written.items j 12)))
             SomeAnswer.Done self.new }
         ensures note { result ≡ SomeNote.Working }
-        ensures going { self.new.under_way ≡ going_after self.old.under_way result }
         ensures listed { (values : List ℕ)
             → FollowsFrom self.old (SomePlace.Write j last offer) values
             (SomeVerb.WriteRow j (get_or self.old.written.items j 12)

@@ -14,7 +14,6 @@ mod turn;
 mod watch;
 
 pub use answers::{Answers, Replies};
-pub use mu_known::{Commit, Commits, Log};
 pub use node::Node;
 pub use result::NodeResult;
 pub use turn::Turn;

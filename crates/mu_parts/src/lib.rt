@@ -11,6 +11,5 @@ mod replica;
 mod replicas;
 mod row_reasons;
 
-pub use mu_reasons::Reason;
 pub use replica::Replica;
 pub use replicas::Replicas;

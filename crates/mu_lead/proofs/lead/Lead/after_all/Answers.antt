@@ -2,8 +2,8 @@ use Rattle.std.proofs.Common.{◌∙◌}
 use Rattle.mu_lead.proofs.Firsts.{late_members, other_members}
 use Rattle.mu_lead.proofs.lead.Lead.after_all.Goals as goal
 
-pub returns-in-Late-clause-listed : goal.returns-in-Late-clause-listed
-returns-in-Late-clause-listed c = λ mine s same. let l = c.args.self.now in c.late_from.ensures.listed mine s same ∙ late_members l.config l.id mine l.heads c.args.then c.in-Late.is
+pub returns-in-Late : goal.returns-in-Late
+returns-in-Late c = λ mine s same. let l = c.args.self.now in c.late_from.ensures mine s same ∙ late_members l.config l.id mine l.heads c.args.then c.in-Late.is
 
-pub returns-in_default-clause-listed : goal.returns-in_default-clause-listed
-returns-in_default-clause-listed c = λ mine s same. let l = c.args.self.now in c.next_position.ensures.listed mine s same ∙ other_members l.config l.id mine l.heads c.args.then c.in_default.not-Late
+pub returns-in_default : goal.returns-in_default
+returns-in_default c = λ mine s same. let l = c.args.self.now in c.next_position.ensures mine s same ∙ other_members l.config l.id mine l.heads c.args.then c.in_default.not-Late

@@ -9,33 +9,8 @@ use Rattle.mu_leading.proofs.Within.{known_few}
 use Rattle.mu_lead.proofs.Looks.{looking_to}
 use Rattle.mu_lead.proofs.lead.Lead.after_look.Goals as goal
 
-pub returns-in-Some-clause-stands : goal.returns-in-Some-clause-stands
-returns-in-Some-clause-stands c = λ counts mine s same region looking.
-    let l = c.args.self.now in
-    let few = s.config.replicas.1 in
-    let few_known = known_few l.config l.id mine s.config s.possible in
-    let more = c.saturating_add.ensures in
-    let next : c.saturating_add.result ≡ c.args.p + 1 = omega (arith, more, region, few) in
-    let first = c.in-Some.ensures l.id mine few s.leading in
-    let low = first.0 in
-    record {
-      region = first.1;
-      member = first.2;
-      position = c.end_of.ensures (subst (λ values. length values < 65536) (sym same) few_known) ∙ ap length same;
-      looking = looking_to l.config l.id l.number (c.args.p + 1) c.in-Some.q mine l.up l.reach c.args.candidate c.args.best (omega (arith, low, next)) (λ k more less. first.3 k (omega (arith, more, next)) less) looking;
-    }
-
-pub returns-in-None-clause-stands : goal.returns-in-None-clause-stands
-returns-in-None-clause-stands c = λ counts mine s same region looking.
-    let l = c.args.self.now in
-    let few = s.config.replicas.1 in
-    let more = c.saturating_add.ensures in
-    let next : c.saturating_add.result ≡ c.args.p + 1 = omega (arith, more, region, few) in
-    let none = c.in-None.ensures l.id mine few s.leading in
-    c.pick.ensures.stands counts mine s same (looking_to l.config l.id l.number (c.args.p + 1) l.config.replicas mine l.up l.reach c.args.candidate c.args.best (omega (arith, region)) (λ k more less. none k (omega (arith, more, next)) less) looking)
-
-pub returns-in-Some-clause-listed : goal.returns-in-Some-clause-listed
-returns-in-Some-clause-listed c = λ counts mine s same region looking.
+pub returns-in-Some : goal.returns-in-Some
+returns-in-Some c = λ counts mine s same region looking.
     let l = c.args.self.now in
     let few = s.config.replicas.1 in
     let few_known = known_few l.config l.id mine s.config s.possible in
@@ -45,8 +20,8 @@ returns-in-Some-clause-listed c = λ counts mine s same region looking.
     ap (λ i. Place.Look c.in-Some.q i c.args.candidate c.args.best) (c.end_of.ensures (subst (λ values. length values < 65536) (sym same) few_known) ∙ ap length same)
     ∙ found_place (λ k. is_member l.id k mine) (c.args.p + 1) c.saturating_add.result l.config.replicas (Some c.in-Some.q) look picked (omega (arith, more, region, few)) (c.in-Some.ensures l.id mine few s.leading)
 
-pub returns-in-None-clause-listed : goal.returns-in-None-clause-listed
-returns-in-None-clause-listed c = λ counts mine s same region looking.
+pub returns-in-None : goal.returns-in-None
+returns-in-None c = λ counts mine s same region looking.
     let l = c.args.self.now in
     let few = s.config.replicas.1 in
     let few_known = known_few l.config l.id mine s.config s.possible in
@@ -55,5 +30,5 @@ returns-in-None-clause-listed c = λ counts mine s same region looking.
     let picked = pick l.config l.id mine l.written.items c.args.candidate c.args.best in
     let none = c.in-None.ensures l.id mine few s.leading in
     let next : c.saturating_add.result ≡ c.args.p + 1 = omega (arith, more, region, few) in
-    c.pick.ensures.listed counts mine s same (looking_to l.config l.id l.number (c.args.p + 1) l.config.replicas mine l.up l.reach c.args.candidate c.args.best (omega (arith, region)) (λ k more less. none k (omega (arith, more, next)) less) looking)
+    c.pick.ensures counts mine s same (looking_to l.config l.id l.number (c.args.p + 1) l.config.replicas mine l.up l.reach c.args.candidate c.args.best (omega (arith, region)) (λ k more less. none k (omega (arith, more, next)) less) looking)
     ∙ found_place (λ k. is_member l.id k mine) (c.args.p + 1) c.saturating_add.result l.config.replicas None look picked next none

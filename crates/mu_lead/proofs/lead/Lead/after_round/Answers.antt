@@ -3,16 +3,13 @@ use Rattle.std.proofs.lemmas.Bool.{le-ltb, lt-ltb}
 use Rattle.mu_lead.specs.declared.place.Place.{Place}
 use Rattle.mu_lead.proofs.lead.Lead.after_round.Goals as goal
 
-pub returns-then-is_confirmed-clause-stands : goal.returns-then-is_confirmed-clause-stands
-returns-then-is_confirmed-clause-stands c = λ b mine up reach written few own low held fresh. c.first_to_read.ensures.stands b mine up reach written few own held fresh ((c.is_confirmed.ensures.confirmed mine few own held).0 c.if-is_confirmed.true)
+pub returns-then-is_confirmed : goal.returns-then-is_confirmed
+returns-then-is_confirmed c = λ mine few inside held. rw (sym (c.is_confirmed.ensures mine few inside held) ∙ c.if-is_confirmed.true) (c.first_to_read.ensures mine few inside held)
 
-pub returns-then-is_confirmed-clause-listed : goal.returns-then-is_confirmed-clause-listed
-returns-then-is_confirmed-clause-listed c = λ mine few inside held. rw (sym (c.is_confirmed.ensures.listed mine few inside held) ∙ c.if-is_confirmed.true) (c.first_to_read.ensures.listed mine few inside held)
+pub returns-then-round-lt15 : goal.returns-then-round-lt15
+returns-then-round-lt15 c = λ mine few inside held. let next = c.saturating_add.ensures in let low = c.if-round-lt15.true in
+    rw (sym (c.is_confirmed.ensures mine few inside held) ∙ c.if-is_confirmed.false, lt-ltb c.args.round 15 low) (ap (λ k. Place.Confirm k 0) (omega (arith, next, low)))
 
-pub returns-then-round-lt15-clause-listed : goal.returns-then-round-lt15-clause-listed
-returns-then-round-lt15-clause-listed c = λ mine few inside held. let next = c.saturating_add.ensures in let low = c.if-round-lt15.true in
-    rw (sym (c.is_confirmed.ensures.listed mine few inside held) ∙ c.if-is_confirmed.false, lt-ltb c.args.round 15 low) (ap (λ k. Place.Confirm k 0) (omega (arith, next, low)))
-
-pub returns-else-round-lt15-clause-listed : goal.returns-else-round-lt15-clause-listed
-returns-else-round-lt15-clause-listed c = λ mine few inside held. let high = c.if-round-lt15.false in
-    rw (sym (c.is_confirmed.ensures.listed mine few inside held) ∙ c.if-is_confirmed.false, le-ltb c.args.round 15 (omega (arith, high))) refl
+pub returns-else-round-lt15 : goal.returns-else-round-lt15
+returns-else-round-lt15 c = λ mine few inside held. let high = c.if-round-lt15.false in
+    rw (sym (c.is_confirmed.ensures mine few inside held) ∙ c.if-is_confirmed.false, le-ltb c.args.round 15 (omega (arith, high))) refl

@@ -1,22 +1,15 @@
+use Rattle.mu_lead.proofs.Noted.{unlost_enter}
+use Rattle.mu_lead.proofs.Replies.{enters_or}
 use Rattle.mu_lead.specs.Lasting.{GoesTo}
+use Rattle.mu_lead.specs.Noting.{note_of_enter}
+use Rattle.mu_lead.specs.Standing.{StandsFor}
 use Rattle.mu_lead.specs.declared.place.Place.{Place}
 use Rattle.mu_model.proofs.Basics.{event_by}
-use Rattle.mu_model.specs.declared.event.Verb.{Verb}
-use Rattle.mu_model.specs.declared.event.Answer.{Answer}
-use Rattle.std.proofs.Common.{subst, sym, ◌∷◌, get_or, inl, inr, ◌%◌}
-use Rattle.mu_model.specs.declared.event.Target.{Target}
 use Rattle.mu_model.specs.Parts.{IsPossible}
-use Rattle.mu_lead.proofs.Replies.{enters_or}
-use Rattle.mu_model.specs.declared.event.Target.{Target}
-use Rattle.mu_model.specs.Parts.{IsPossible}
-use Rattle.std.proofs.Common.{arith, get_or, inl, subst, sym, ◌%◌, ◌<◌, ◌∷◌}
-use Rattle.mu_model.specs.declared.event.Verb.{Verb}
 use Rattle.mu_model.specs.declared.event.Answer.{Answer}
-use Rattle.mu_model.proofs.Basics.{event_by}
-use Rattle.mu_lead.specs.Standing.{StandsFor}
-use Rattle.mu_lead.proofs.Replies.{enters_or}
-use Rattle.std.proofs.Common.{inr}
-use Rattle.mu_lead.proofs.Saying.{notes_entered, notes_lost}
+use Rattle.mu_model.specs.declared.event.Target.{Target}
+use Rattle.mu_model.specs.declared.event.Verb.{Verb}
+use Rattle.std.proofs.Common.{ap, arith, get_or, inl, inr, subst, sym, ◌%◌, ◌<◌, ◌∙◌, ◌∷◌}
 use Rattle.mu_lead.proofs.lead.Lead.at_enter_behind.Goals as goal
 
 pub returns-in-None-clause-stands : goal.returns-in-None-clause-stands
@@ -38,12 +31,6 @@ returns-in-Some-clause-stands c = λ values mine s is possible told.
     subst (λ u. StandsFor (event_by l.id (Verb.Enter c.args.p (Target.Place (u % l.config.ring))) (Answer.Lost c.in-Some.fence) ∷ mine) c.lost_place.new.self) up_is
     (c.lost_place.ensures.stands ring mine s (subst (λ u. IsPossible l.config l.id (event_by l.id (Verb.Enter c.args.p (Target.Place (u % l.config.ring))) (Answer.Lost c.in-Some.fence) ∷ mine)) (sym up_is) now)))))
 
-pub returns-in-Some-clause-note : goal.returns-in-Some-clause-note
-returns-in-Some-clause-note c = notes_lost c.args.p c.args.answer c.in-Some.fence c.lost_place.result c.in-Some.ensures c.lost_place.ensures.note
-
-pub returns-in-None-clause-note : goal.returns-in-None-clause-note
-returns-in-None-clause-note c = notes_entered c.args.p c.args.answer c.entered_behind.result c.in-None.ensures c.entered_behind.ensures.note
-
 pub returns-in-None-clause-listed : goal.returns-in-None-clause-listed
 returns-in-None-clause-listed c = λ values mine s is possible told.
     let l = c.args.self.now in
@@ -57,3 +44,9 @@ pub returns-in-Some-clause-listed : goal.returns-in-Some-clause-listed
 returns-in-Some-clause-listed c = λ values mine s is possible told.
     let l = c.args.self.now in
     subst (λ a. GoesTo l (event_by l.id (Verb.Enter c.args.p (Target.Place (get_or l.up c.args.p 0 % l.config.ring))) a ∷ mine) a (Place.EnterBehind c.args.p c.args.then) c.lost_place.new.self) (sym c.in-Some.ensures) c.lost_place.ensures.ended
+
+pub returns-in-Some-clause-note : goal.returns-in-Some-clause-note
+returns-in-Some-clause-note c = c.lost_place.ensures.note ∙ sym (ap (note_of_enter c.args.p) c.in-Some.ensures)
+
+pub returns-in-None-clause-note : goal.returns-in-None-clause-note
+returns-in-None-clause-note c = c.entered_behind.ensures.note ∙ unlost_enter c.args.p c.args.answer c.in-None.ensures

@@ -1,28 +1,17 @@
+use Rattle.mu_lead.proofs.Replies.{sees_fence}
 use Rattle.mu_lead.specs.Lasting.{GoesTo}
+use Rattle.mu_lead.specs.Noting.{note_of_past}
+use Rattle.mu_lead.specs.Standing.{StandsFor}
 use Rattle.mu_lead.specs.declared.place.Place.{Place}
 use Rattle.mu_model.proofs.Basics.{event_by}
-use Rattle.mu_model.specs.declared.event.Verb.{Verb}
-use Rattle.std.proofs.Common.{subst, sym, ◌∷◌}
+use Rattle.mu_model.specs.Leaderships.{is_over}
 use Rattle.mu_model.specs.Parts.{IsPossible}
-use Rattle.mu_lead.proofs.Replies.{sees_fence}
-use Rattle.mu_lead.proofs.Replies.{sees_fence}
-use Rattle.std.proofs.Common.{refl}
-use Rattle.mu_lead.proofs.Saying.{notes_over}
-use Rattle.std.proofs.Common.{subst, sym, ◌∷◌}
-use Rattle.mu_model.proofs.Basics.{event_by}
 use Rattle.mu_model.specs.declared.event.Verb.{Verb}
-use Rattle.mu_model.specs.Parts.{IsPossible}
-use Rattle.mu_lead.specs.Standing.{StandsFor}
+use Rattle.std.proofs.Common.{subst, sym, ◌∷◌, ◌≡◌}
 use Rattle.mu_lead.proofs.lead.Lead.at_fence_behind.Goals as goal
 
 pub returns-in-None-clause-stands : goal.returns-in-None-clause-stands
 returns-in-None-clause-stands c = λ values mine s is possible told. let l = c.args.self.now in let x = sees_fence l.config l.id c.args.p c.args.answer mine possible in absurd (c.in-None.ensures x.0 x.1)
-
-pub returns-in-None-clause-note : goal.returns-in-None-clause-note
-returns-in-None-clause-note c = (refl, λ mine f s possible seen. absurd (c.in-None.ensures f seen))
-
-pub returns-in-Some-clause-note : goal.returns-in-Some-clause-note
-returns-in-Some-clause-note c = (c.took_fence_behind.ensures.note, notes_over c.args.self.now c.args.p c.args.answer c.in-Some.fence c.took_fence_behind.result c.in-Some.ensures c.took_fence_behind.ensures.over)
 
 pub returns-in-Some-clause-stands : goal.returns-in-Some-clause-stands
 returns-in-Some-clause-stands c = λ values mine s is possible told.
@@ -39,3 +28,12 @@ pub returns-in-Some-clause-listed : goal.returns-in-Some-clause-listed
 returns-in-Some-clause-listed c = λ values mine s is possible told.
     let l = c.args.self.now in
     subst (λ a. GoesTo l (event_by l.id (Verb.Fence c.args.p) a ∷ mine) a (Place.FenceBehind c.args.p c.args.then) c.took_fence_behind.new.self) (sym c.in-Some.ensures) (c.took_fence_behind.ensures.listed values mine s is (subst (λ a. IsPossible l.config l.id (event_by l.id (Verb.Fence c.args.p) a ∷ mine)) c.in-Some.ensures possible) told)
+
+pub returns-in-None-clause-note : goal.returns-in-None-clause-note
+returns-in-None-clause-note c = λ mine s possible. let l = c.args.self.now in let x = sees_fence l.config l.id c.args.p c.args.answer mine possible in absurd (c.in-None.ensures x.0 x.1)
+
+pub returns-in-Some-clause-note : goal.returns-in-Some-clause-note
+returns-in-Some-clause-note c = λ mine s possible.
+    let l = c.args.self.now in
+    subst (λ a. c.took_fence_behind.result ≡ note_of_past c.args.p a (is_over l.id (event_by l.id (Verb.Fence c.args.p) a ∷ mine))) (sym c.in-Some.ensures)
+    (c.took_fence_behind.ensures.over mine s (subst (λ a. IsPossible l.config l.id (event_by l.id (Verb.Fence c.args.p) a ∷ mine)) c.in-Some.ensures possible))

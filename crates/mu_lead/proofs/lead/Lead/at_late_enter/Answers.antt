@@ -1,20 +1,14 @@
+use Rattle.mu_lead.proofs.Noted.{unlost_enter}
+use Rattle.mu_lead.proofs.Replies.{enters_or}
 use Rattle.mu_lead.specs.Lasting.{GoesTo}
+use Rattle.mu_lead.specs.Noting.{note_of_enter}
+use Rattle.mu_lead.specs.Standing.{StandsFor}
 use Rattle.mu_lead.specs.declared.place.Place.{Place}
 use Rattle.mu_model.proofs.Basics.{event_by}
-use Rattle.mu_model.specs.declared.event.Verb.{Verb}
-use Rattle.std.proofs.Common.{subst, sym, ◌∷◌, inl, inr}
-use Rattle.mu_model.specs.declared.event.Target.{Target}
 use Rattle.mu_model.specs.Parts.{IsPossible}
-use Rattle.mu_lead.proofs.Replies.{enters_or}
 use Rattle.mu_model.specs.declared.event.Target.{Target}
-use Rattle.mu_model.specs.Parts.{IsPossible}
-use Rattle.std.proofs.Common.{inl, subst, sym, ◌∷◌}
 use Rattle.mu_model.specs.declared.event.Verb.{Verb}
-use Rattle.mu_model.proofs.Basics.{event_by}
-use Rattle.mu_lead.specs.Standing.{StandsFor}
-use Rattle.mu_lead.proofs.Replies.{enters_or}
-use Rattle.std.proofs.Common.{inr}
-use Rattle.mu_lead.proofs.Saying.{notes_entered, notes_lost}
+use Rattle.std.proofs.Common.{ap, inl, inr, subst, sym, ◌∙◌, ◌∷◌}
 use Rattle.mu_lead.proofs.lead.Lead.at_late_enter.Goals as goal
 
 pub returns-in-None-clause-stands : goal.returns-in-None-clause-stands
@@ -34,12 +28,6 @@ returns-in-Some-clause-stands c = λ values mine s is possible told.
     let now = subst (λ a. IsPossible l.config l.id (event_by l.id (Verb.Enter c.args.p t) a ∷ mine)) lost possible in
     subst (λ a. StandsFor (event_by l.id (Verb.Enter c.args.p t) a ∷ mine) c.lost_min.new.self) (sym lost) (c.lost_min.ensures.stands mine s now)
 
-pub returns-in-Some-clause-note : goal.returns-in-Some-clause-note
-returns-in-Some-clause-note c = notes_lost c.args.p c.args.answer c.in-Some.fence c.lost_min.result c.in-Some.ensures c.lost_min.ensures.note
-
-pub returns-in-None-clause-note : goal.returns-in-None-clause-note
-returns-in-None-clause-note c = notes_entered c.args.p c.args.answer c.entered_late.result c.in-None.ensures c.entered_late.ensures.note
-
 pub returns-in-None-clause-listed : goal.returns-in-None-clause-listed
 returns-in-None-clause-listed c = λ values mine s is possible told.
     let l = c.args.self.now in
@@ -53,3 +41,9 @@ pub returns-in-Some-clause-listed : goal.returns-in-Some-clause-listed
 returns-in-Some-clause-listed c = λ values mine s is possible told.
     let l = c.args.self.now in
     subst (λ a. GoesTo l (event_by l.id (Verb.Enter c.args.p (Target.Min)) a ∷ mine) a (Place.LateEnter c.args.p) c.lost_min.new.self) (sym c.in-Some.ensures) c.lost_min.ensures.ended
+
+pub returns-in-Some-clause-note : goal.returns-in-Some-clause-note
+returns-in-Some-clause-note c = c.lost_min.ensures.note ∙ sym (ap (note_of_enter c.args.p) c.in-Some.ensures)
+
+pub returns-in-None-clause-note : goal.returns-in-None-clause-note
+returns-in-None-clause-note c = c.entered_late.ensures.note ∙ unlost_enter c.args.p c.args.answer c.in-None.ensures

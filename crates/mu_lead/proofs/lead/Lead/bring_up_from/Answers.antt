@@ -4,24 +4,17 @@ use Rattle.std.specs.Prelude.{nat_lt, ◌&&◌}
 use Rattle.mu_model.specs.Leaderships.{is_member}
 use Rattle.mu_lead.specs.Leading.{end_of}
 use Rattle.mu_lead.specs.Listing.{after_members, bring_up}
-use Rattle.mu_lead.proofs.Bringing.{first_behind, none_behind}
 use Rattle.mu_lead.proofs.lead.Lead.bring_up_from.Goals as goal
 
-pub returns-in-Some-clause-stands : goal.returns-in-Some-clause-stands
-returns-in-Some-clause-stands c = λ mine s same leads raised clear done few not_late. let l = c.args.self.now in c.bring_up.ensures.stands mine s (first_behind l.config l.id l.number c.args.p c.in-Some.q mine l.up l.reach c.args.then leads raised clear done few not_late (c.in-Some.ensures mine s same))
-
-pub returns-in-None-clause-stands : goal.returns-in-None-clause-stands
-returns-in-None-clause-stands c = λ mine s same leads raised clear done few not_late. let l = c.args.self.now in c.after_all.ensures.stands mine s same (none_behind l.config l.id l.number c.args.p mine l.up l.reach c.args.then leads raised done few (c.in-None.ensures mine s same))
-
-pub returns-in-Some-clause-listed : goal.returns-in-Some-clause-listed
-returns-in-Some-clause-listed c = λ mine s same.
+pub returns-in-Some : goal.returns-in-Some
+returns-in-Some c = λ mine s same.
     let l = c.args.self.now in
     let first = c.in-Some.ensures mine s same in
-    c.bring_up.ensures.listed mine s first.1
+    c.bring_up.ensures mine s first.1
     ∙ found_place (λ k. is_member l.id k mine && nat_lt (get_or l.up k 0) (end_of l.config l.id mine)) c.args.p c.args.p l.config.replicas (Some c.in-Some.q) (λ q. bring_up l.config l.up l.reach q c.args.then) (after_members l.config l.id mine l.heads c.args.then) refl first
 
-pub returns-in-None-clause-listed : goal.returns-in-None-clause-listed
-returns-in-None-clause-listed c = λ mine s same.
+pub returns-in-None : goal.returns-in-None
+returns-in-None c = λ mine s same.
     let l = c.args.self.now in
-    c.after_all.ensures.listed mine s same
+    c.after_all.ensures mine s same
     ∙ found_place (λ k. is_member l.id k mine && nat_lt (get_or l.up k 0) (end_of l.config l.id mine)) c.args.p c.args.p l.config.replicas None (λ q. bring_up l.config l.up l.reach q c.args.then) (after_members l.config l.id mine l.heads c.args.then) refl (c.in-None.ensures mine s same)

@@ -2,14 +2,10 @@ use Rattle.mu_lead.proofs.Firsts.{found_place}
 use Rattle.std.proofs.Common.{None, Some, is_some, refl}
 use Rattle.mu_model.specs.Leaderships.{noted_grant}
 use Rattle.mu_lead.specs.declared.place.Place.{Place}
-use Rattle.std.proofs.Common.{arith, sym, ◌∙◌, true≢false}
 use Rattle.mu_lead.proofs.lead.Lead.first_to_read.Goals as goal
 
-pub returns-in-None-clause-stands : goal.returns-in-None-clause-stands
-returns-in-None-clause-stands c = λ b mine up reach written few own held fresh confirmed. absurd (true≢false (sym confirmed.own ∙ c.in-None.ensures c.args.self.now.id mine few held c.args.self.now.id (omega arith) own))
+pub returns-in-Some : goal.returns-in-Some
+returns-in-Some c = λ mine few inside held. let l = c.args.self.now in found_place (λ p. is_some (noted_grant l.id p mine)) 0 0 l.config.replicas (Some c.in-Some.q) Place.ReadMin Place.Rest refl (c.in-Some.ensures l.id mine few held)
 
-pub returns-in-Some-clause-listed : goal.returns-in-Some-clause-listed
-returns-in-Some-clause-listed c = λ mine few inside held. let l = c.args.self.now in found_place (λ p. is_some (noted_grant l.id p mine)) 0 0 l.config.replicas (Some c.in-Some.q) Place.ReadMin Place.Rest refl (c.in-Some.ensures l.id mine few held)
-
-pub returns-in-None-clause-listed : goal.returns-in-None-clause-listed
-returns-in-None-clause-listed c = λ mine few inside held. let l = c.args.self.now in found_place (λ p. is_some (noted_grant l.id p mine)) 0 0 l.config.replicas None Place.ReadMin Place.Rest refl (c.in-None.ensures l.id mine few held)
+pub returns-in-None : goal.returns-in-None
+returns-in-None c = λ mine few inside held. let l = c.args.self.now in found_place (λ p. is_some (noted_grant l.id p mine)) 0 0 l.config.replicas None Place.ReadMin Place.Rest refl (c.in-None.ensures l.id mine few held)

@@ -1,18 +1,16 @@
 use Rattle.mu_lead.specs.declared.place.Place.{Place}
 use Rattle.std.proofs.Common.{ap, sym, ◌∙◌, ℕ, false}
 use Rattle.mu_lead.specs.Listing.{first_member, pick as listed_pick}
-use Rattle.std.proofs.Common.{None, Some, arith, subst, ◌+◌, ◌≡◌}
-use Rattle.mu_lead.proofs.Looks.{may_adopt, may_mark_it}
-use Rattle.mu_lead.proofs.Sights.{looks_empty, looks_shown}
+use Rattle.std.proofs.Common.{None, arith, subst, ◌+◌, ◌≡◌}
 use Rattle.mu_lead.specs.Offering.{Looking}
 use Rattle.std.proofs.Common.{◌*◌}
 use Rattle.mu_lead.proofs.lead.Lead.pick.Goals as goal
 
-pub returns-in-Some-clause-stands : goal.returns-in-Some-clause-stands
-returns-in-Some-clause-stands c = λ counts mine s same looking. let l = c.args.self.now in let here = subst (λ o. Looking l.config l.id l.number mine l.up l.reach l.config.replicas c.args.candidate o) c.in-Some.is looking in c.offer.ensures.stands mine c.args.candidate (Some c.in-Some.sight) s here (may_adopt l.config l.id l.number 0 c.in-Some.sight mine l.up l.reach c.args.candidate here) (looks_shown l.config l.id l.number mine l.up l.reach c.args.candidate c.in-Some.sight here)
+pub returns-in-Some : goal.returns-in-Some
+returns-in-Some c = λ counts mine s same looking. let l = c.args.self.now in c.offer.ensures mine s ∙ ap (listed_pick l.config l.id mine l.written.items c.args.candidate) (sym c.in-Some.is)
 
-pub returns-in-Some-candidate-clause-stands : goal.returns-in-Some-candidate-clause-stands
-returns-in-Some-candidate-clause-stands c = λ counts mine s same looking.
+pub returns-in-Some-candidate : goal.returns-in-Some-candidate
+returns-in-Some-candidate c = λ counts mine s same looking.
     let l = c.args.self.now in
     let q = c.in-Some-candidate.q in
     let here = subst (λ o. Looking l.config l.id l.number mine l.up l.reach l.config.replicas o None) c.in-Some-candidate.is (subst (λ o. Looking l.config l.id l.number mine l.up l.reach l.config.replicas c.args.candidate o) c.in-None.is looking) in
@@ -22,30 +20,14 @@ returns-in-Some-candidate-clause-stands c = λ counts mine s same looking.
     let from = c.from.ensures in
     let value = c.own_value.ensures (omega (arith, inside, few)) (omega (arith, from, region, few)) in
     let v : c.own_value.result ≡ l.id * 4096 + (4080 + q) = omega (arith, value, from, region, few) in
-    c.offer-in-Some-candidate.ensures.stands mine (Some q) None s here (may_mark_it l.config l.id l.number q c.own_value.result mine l.up l.reach s.config s.inside here v) (looks_empty l.config l.id l.number mine l.up l.reach (Some q) here)
-
-pub returns-in-Some-clause-listed : goal.returns-in-Some-clause-listed
-returns-in-Some-clause-listed c = λ counts mine s same looking. let l = c.args.self.now in c.offer.ensures.listed mine s ∙ ap (listed_pick l.config l.id mine l.written.items c.args.candidate) (sym c.in-Some.is)
-
-pub returns-in-Some-candidate-clause-listed : goal.returns-in-Some-candidate-clause-listed
-returns-in-Some-candidate-clause-listed c = λ counts mine s same looking.
-    let l = c.args.self.now in
-    let q = c.in-Some-candidate.q in
-    let here = subst (λ o. Looking l.config l.id l.number mine l.up l.reach l.config.replicas o None) c.in-Some-candidate.is (subst (λ o. Looking l.config l.id l.number mine l.up l.reach l.config.replicas c.args.candidate o) c.in-None.is looking) in
-    let few = s.config.replicas.1 in
-    let inside = s.inside in
-    let region = here.roomy.marks.region in
-    let from = c.from.ensures in
-    let value = c.own_value.ensures (omega (arith, inside, few)) (omega (arith, from, region, few)) in
-    let v : c.own_value.result ≡ l.id * 4096 + (4080 + q) = omega (arith, value, from, region, few) in
-    c.offer-in-Some-candidate.ensures.listed mine s
+    c.offer-in-Some-candidate.ensures mine s
     ∙ ap (λ (n : ℕ). Place.Enter (first_member l.config l.id mine) (record { value = n; adopted = false })) v
     ∙ ap (λ o. listed_pick l.config l.id mine l.written.items o None) (sym c.in-Some-candidate.is)
     ∙ ap (listed_pick l.config l.id mine l.written.items c.args.candidate) (sym c.in-None.is)
 
-pub returns-in-None-candidate-clause-listed : goal.returns-in-None-candidate-clause-listed
-returns-in-None-candidate-clause-listed c = λ counts mine s same looking.
+pub returns-in-None-candidate : goal.returns-in-None-candidate
+returns-in-None-candidate c = λ counts mine s same looking.
     let l = c.args.self.now in
-    c.offer_own.ensures.listed counts mine s same
+    c.offer_own.ensures counts mine s same
     ∙ ap (λ o. listed_pick l.config l.id mine l.written.items o None) (sym c.in-None-candidate.is)
     ∙ ap (listed_pick l.config l.id mine l.written.items c.args.candidate) (sym c.in-None.is)

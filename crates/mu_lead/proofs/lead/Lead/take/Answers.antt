@@ -1,23 +1,25 @@
-use Rattle.mu_lead.proofs.RoomsLasting.{rooms_next}
-use Rattle.std.proofs.Common.{ap, false, subst, sym, true, true≢false, ◌||◌, ◌∙◌, ◌≡◌}
-use Rattle.mu_model.specs.Contents.{IsConfig, IsInSession, holds_all}
-use Rattle.mu_lead.specs.Going.{begins_at}
-use Rattle.mu_lead.specs.Saying.{is_working}
+use Rattle.mu_lead.proofs.Causes.{asks_have_cause}
+use Rattle.mu_lead.proofs.Elections.{elects_next}
+use Rattle.mu_lead.proofs.Folding.{where_led}
 use Rattle.mu_lead.proofs.Going.{goes_idle}
-use Rattle.mu_lead.proofs.Rows.{working_is}
+use Rattle.mu_lead.proofs.Laws.{followers_join, fuos_are_raised, minima_are_read, misses_are_explained}
+use Rattle.mu_lead.proofs.Listed.{kept}
 use Rattle.mu_lead.proofs.Noted.{idle_noted, note_noted}
-use Rattle.mu_lead.proofs.Says.{says_idle, says_next}
-use Rattle.mu_lead.proofs.lead.Lead.take.Goals.{else-is_working-via-then-is_working+else-knows_all, else-is_working-via-else-is_working}
+use Rattle.mu_lead.proofs.RoomsLasting.{rooms_next}
+use Rattle.mu_lead.proofs.Rows.{working_is}
+use Rattle.mu_lead.proofs.Says.{grew_next, says_idle, says_next}
+use Rattle.mu_lead.proofs.lead.Lead.take.Goals.{else-is_working-via-else-is_working, else-is_working-via-then-is_working+else-knows_all}
 use Rattle.mu_lead.specs.Causes.{CausesAt}
 use Rattle.mu_lead.specs.Confirmations.{ConfirmsAt}
 use Rattle.mu_lead.specs.Evidence.{ExplainsAt}
+use Rattle.mu_lead.specs.Going.{begins_at}
+use Rattle.mu_lead.specs.Notes.{value_committed}
 use Rattle.mu_lead.specs.Raising.{RaisesAt}
+use Rattle.mu_lead.specs.Saying.{is_working}
 use Rattle.mu_lead.specs.Welcomes.{JoinsAt}
-use Rattle.mu_lead.proofs.Causes.{asks_have_cause}
-use Rattle.mu_lead.proofs.Elections.{elects_next}
-use Rattle.mu_lead.proofs.Laws.{followers_join, fuos_are_raised, minima_are_read, misses_are_explained}
-use Rattle.mu_lead.proofs.Listed.{kept}
-use Rattle.mu_lead.proofs.Folding.{where_led}
+use Rattle.mu_model.specs.Contents.{IsConfig, IsInSession, holds_all}
+use Rattle.mu_model.specs.Knowledge.{grown}
+use Rattle.std.proofs.Common.{ap, false, subst, sym, true, true≢false, ◌||◌, ◌∙◌, ◌≡◌}
 use Rattle.mu_lead.proofs.lead.Lead.take.Goals as goal
 
 pub returns-then-knows_all-clause-says : goal.returns-then-knows_all-clause-says
@@ -26,7 +28,7 @@ returns-then-knows_all-clause-says g c =
     let note = c.take_answer-note.result in
     let values = c.args.known.now in
     let same = c.take_answer-note.ensures.config in
-    says_idle g.mine l values c.args.answer note c.requires.1 c.requires.0 c.take_answer-note.ensures.note c.take_answer-note.ensures.tells (working_is note (sym c.is_working.ensures ∙ c.if-is_working.true))
+    says_idle g.mine l values c.args.answer note c.requires.1 c.requires.0 c.take_answer-note.ensures.noted (working_is note (sym c.is_working.ensures ∙ c.if-is_working.true))
     (λ few in_session. subst (λ k. holds_all k values ≡ true) same
     (sym (c.knows_all.ensures few (subst IsConfig (sym same) c.requires.0.config) (subst (λ k. IsInSession k values) (sym same) in_session)) ∙ c.if-knows_all.true))
 
@@ -36,7 +38,7 @@ returns-else-is_working-clause-says g c =
     let note = c.take_answer-note.result in
     let values = c.args.known.now in
     let same = c.take_answer-note.ensures.config in
-    says_next g.mine l values c.args.answer note c.requires.1 c.requires.0 c.take_answer-note.ensures.note c.take_answer-note.ensures.tells
+    says_next g.mine l values c.args.answer note c.requires.1 c.requires.0 c.take_answer-note.ensures.noted
     (λ is few in_session. elim c.else-is_working.branch [
       | else-is_working-via-then-is_working+else-knows_all w ↦ subst (λ k. holds_all k values ≡ false) same
           (sym (w.knows_all.ensures few (subst IsConfig (sym same) c.requires.0.config) (subst (λ k. IsInSession k values) (sym same) in_session)) ∙ w.if-knows_all.false)
@@ -104,10 +106,10 @@ pub returns-else-is_working-clause-writes : goal.returns-else-is_working-clause-
 returns-else-is_working-clause-writes g c = λ verb due possible told. c.take_answer-note.ensures.writes g.mine verb c.requires.0 due possible told
 
 pub returns-then-knows_all-clause-placed : goal.returns-then-knows_all-clause-placed
-returns-then-knows_all-clause-placed g c = λ counts. let took = c.take_answer-note in where_led g.mine c.args.self.now took.new.self c.args.known.now c.args.answer took.result c.requires.0 c.requires.1 took.ensures.note took.ensures.writes (took.ensures.listed counts) took.ensures.going
+returns-then-knows_all-clause-placed g c = λ counts. let took = c.take_answer-note in where_led g.mine c.args.self.now took.new.self c.args.known.now c.args.answer took.result c.requires.0 c.requires.1 took.ensures.noted took.ensures.writes (took.ensures.listed counts) took.ensures.going
 
 pub returns-else-is_working-clause-placed : goal.returns-else-is_working-clause-placed
-returns-else-is_working-clause-placed g c = λ counts. let took = c.take_answer-note in where_led g.mine c.args.self.now took.new.self c.args.known.now c.args.answer took.result c.requires.0 c.requires.1 took.ensures.note took.ensures.writes (took.ensures.listed counts) took.ensures.going
+returns-else-is_working-clause-placed g c = λ counts. let took = c.take_answer-note in where_led g.mine c.args.self.now took.new.self c.args.known.now c.args.answer took.result c.requires.0 c.requires.1 took.ensures.noted took.ensures.writes (took.ensures.listed counts) took.ensures.going
 
 pub returns-then-knows_all-clause-noted : goal.returns-then-knows_all-clause-noted
 returns-then-knows_all-clause-noted g c =
@@ -115,7 +117,7 @@ returns-then-knows_all-clause-noted g c =
     let note = c.take_answer-note.result in
     let values = c.args.known.now in
     let same = c.take_answer-note.ensures.config in
-    idle_noted g.mine l values c.args.answer note c.requires.1 c.requires.0 c.take_answer-note.ensures.note c.take_answer-note.ensures.tells (working_is note (sym c.is_working.ensures ∙ c.if-is_working.true))
+    idle_noted g.mine l values c.args.answer note c.requires.1 c.requires.0 c.take_answer-note.ensures.noted (working_is note (sym c.is_working.ensures ∙ c.if-is_working.true))
     (λ few in_session. subst (λ k. holds_all k values ≡ true) same
     (sym (c.knows_all.ensures few (subst IsConfig (sym same) c.requires.0.config) (subst (λ k. IsInSession k values) (sym same) in_session)) ∙ c.if-knows_all.true))
 
@@ -125,9 +127,18 @@ returns-else-is_working-clause-noted g c =
     let note = c.take_answer-note.result in
     let values = c.args.known.now in
     let same = c.take_answer-note.ensures.config in
-    note_noted g.mine l values c.args.answer note c.requires.1 c.requires.0 c.take_answer-note.ensures.note c.take_answer-note.ensures.tells
+    note_noted g.mine l values c.args.answer note c.requires.1 c.requires.0 c.take_answer-note.ensures.noted
     (λ is few in_session. elim c.else-is_working.branch [
       | else-is_working-via-then-is_working+else-knows_all w ↦ subst (λ k. holds_all k values ≡ false) same
           (sym (w.knows_all.ensures few (subst IsConfig (sym same) c.requires.0.config) (subst (λ k. IsInSession k values) (sym same) in_session)) ∙ w.if-knows_all.false)
       | else-is_working-via-else-is_working w ↦ absurd (true≢false (sym (c.is_working.ensures ∙ ap is_working is) ∙ w.if-is_working.false))
     ])
+
+pub returns-then-knows_all-clause-tells : goal.returns-then-knows_all-clause-tells
+returns-then-knows_all-clause-tells g c = λ verb due possible told.
+    let l = c.args.self.now in
+    let note = c.take_answer-note.result in
+    grew_next g.mine l c.args.known.now c.args.answer note verb c.requires.1 c.requires.0 c.take_answer-note.ensures.noted due possible told ∙ ap (λ n. grown c.args.known.now (value_committed n)) (working_is note (sym c.is_working.ensures ∙ c.if-is_working.true))
+
+pub returns-else-is_working-clause-tells : goal.returns-else-is_working-clause-tells
+returns-else-is_working-clause-tells g c = λ verb due possible told. grew_next g.mine c.args.self.now c.args.known.now c.args.answer c.take_answer-note.result verb c.requires.1 c.requires.0 c.take_answer-note.ensures.noted due possible told

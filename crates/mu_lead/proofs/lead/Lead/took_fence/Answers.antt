@@ -1,14 +1,17 @@
-use Rattle.std.proofs.Common.{◌+◌}
-use Rattle.std.proofs.lemmas.Bool.{le-ltb, lt-ltb}
-use Rattle.std.proofs.Common.{arith, refl, sym, ◌∷◌}
-use Rattle.mu_model.specs.declared.event.Answer.{Answer}
 use Rattle.mu_lead.proofs.Asking.{fresh_fenced}
+use Rattle.mu_lead.proofs.StandsFirsts.{round_stands}
+use Rattle.mu_lead.proofs.StandsOnward.{stands_there}
 use Rattle.mu_lead.proofs.Tables.{tables_kept}
-use Rattle.mu_model.specs.declared.event.Verb.{Verb}
-use Rattle.mu_model.proofs.Basics.{event_by}
-use Rattle.mu_lead.proofs.Rounds.{at_last, not_yet}
-use Rattle.std.proofs.Common.{ap}
+use Rattle.mu_lead.specs.Lasting.{tables_of}
+use Rattle.mu_lead.specs.Noting.{note_of_round}
+use Rattle.mu_lead.specs.declared.note.Note.{Note}
 use Rattle.mu_lead.specs.declared.place.Place.{Place}
+use Rattle.mu_model.proofs.Basics.{event_by}
+use Rattle.mu_model.specs.declared.event.Answer.{Answer}
+use Rattle.mu_model.specs.declared.event.Verb.{Verb}
+use Rattle.std.proofs.Common.{ap, arith, refl, sym, ◌+◌, ◌∙◌, ◌∷◌}
+use Rattle.std.proofs.lemmas.Bool.{le-ltb, lt-ltb}
+use Rattle.std.specs.Prelude.{if◌then◌else◌}
 use Rattle.mu_lead.proofs.lead.Lead.took_fence.Goals as goal
 
 pub returns-then-next-self-clause-stands : goal.returns-then-next-self-clause-stands
@@ -34,27 +37,8 @@ returns-else-next-self-clause-stands c = λ values mine s is possible told.
       inside = s.inside;
       leading = leading;
       tables = tables_kept l.config l.id _ mine l.up l.reach l.heads l.written.items possible refl refl s.tables;
-      at = c.after_round-self.ensures.stands l.number _ l.up l.reach l.written.items s.config.replicas.1 s.inside here.0 leading (fresh_fenced l.id c.args.p c.args.fence mine here.1.fresh);
+      at = stands_there l.config l.id l.number _ (tables_of l) _ _ (c.after_round-self.ensures (event_by l.id (Verb.Fence c.args.p) (Answer.Seen c.args.fence) ∷ mine) s.config.replicas.1 s.inside leading) (round_stands l.config l.id l.number c.args.round _ (tables_of l) s.inside here.0 (fresh_fenced l.id c.args.p c.args.fence mine here.1.fresh));
     }
-
-pub returns-then-next-self-clause-note : goal.returns-then-next-self-clause-note
-returns-then-next-self-clause-note c = λ mine s region possible.
-    let l = c.args.self.now in
-    let few = s.config.replicas.1 in
-    let low = c.if-next-self.true in
-    let next = c.saturating_add-next.ensures in
-    not_yet l.config l.id c.args.p (event_by l.id (Verb.Fence c.args.p) (Answer.Seen c.args.fence) ∷ mine) (omega (arith, low, next, region, few))
-
-pub returns-else-next-self-clause-note : goal.returns-else-next-self-clause-note
-returns-else-next-self-clause-note c = λ mine s region possible.
-    let l = c.args.self.now in
-    let few = s.config.replicas.1 in
-    let high = c.if-next-self.false in
-    let next = c.saturating_add-next.ensures in
-    at_last l.config l.id c.args.p (event_by l.id (Verb.Fence c.args.p) (Answer.Seen c.args.fence) ∷ mine) c.note_of_round.result (omega (arith, high, next, region, few)) (c.note_of_round.ensures.tells (event_by l.id (Verb.Fence c.args.p) (Answer.Seen c.args.fence) ∷ mine) few s.inside (c.take.ensures l.config mine few possible s.leading))
-
-pub returns-else-next-self-clause-going : goal.returns-else-next-self-clause-going
-returns-else-next-self-clause-going c = sym (c.note_of_round.ensures.going c.args.self.now.under_way)
 
 pub returns-then-next-self-clause-listed : goal.returns-then-next-self-clause-listed
 returns-then-next-self-clause-listed c = λ values mine s is possible told.
@@ -69,4 +53,21 @@ returns-else-next-self-clause-listed c = λ values mine s is possible told.
     let next = c.saturating_add-next.ensures in
     let high = c.if-next-self.false in
     rw (le-ltb (c.args.p + 1) c.args.self.now.config.replicas (omega (arith, next, high, few)))
-    (c.after_round-self.ensures.listed (event_by c.args.self.now.id (Verb.Fence c.args.p) (Answer.Seen c.args.fence) ∷ mine) few s.inside (c.take.ensures c.args.self.now.config mine few possible s.leading))
+    (c.after_round-self.ensures (event_by c.args.self.now.id (Verb.Fence c.args.p) (Answer.Seen c.args.fence) ∷ mine) few s.inside (c.take.ensures c.args.self.now.config mine few possible s.leading))
+
+pub returns-then-next-self-clause-note : goal.returns-then-next-self-clause-note
+returns-then-next-self-clause-note c = λ mine s possible.
+    let few = s.config.replicas.1 in
+    let next = c.saturating_add-next.ensures in
+    let low = c.if-next-self.true in
+    let l = c.args.self.now in
+    sym (ap (λ x. if x then Note.Working else note_of_round l.config l.id (event_by l.id (Verb.Fence c.args.p) (Answer.Seen c.args.fence) ∷ mine)) (lt-ltb (c.args.p + 1) l.config.replicas (omega (arith, next, low, few))))
+
+pub returns-else-next-self-clause-note : goal.returns-else-next-self-clause-note
+returns-else-next-self-clause-note c = λ mine s possible.
+    let l = c.args.self.now in
+    let few = s.config.replicas.1 in
+    let next = c.saturating_add-next.ensures in
+    let high = c.if-next-self.false in
+    c.note_of_round.ensures (event_by l.id (Verb.Fence c.args.p) (Answer.Seen c.args.fence) ∷ mine) few s.inside (c.take.ensures l.config mine few possible s.leading)
+    ∙ sym (ap (λ x. if x then Note.Working else note_of_round l.config l.id (event_by l.id (Verb.Fence c.args.p) (Answer.Seen c.args.fence) ∷ mine)) (le-ltb (c.args.p + 1) l.config.replicas (omega (arith, next, high, few))))

@@ -1,12 +1,15 @@
-use Rattle.std.proofs.Common.{None, arith, get_or, length, refl, ◌<◌, ◌∙◌, ◌∷◌}
-use Rattle.mu_model.specs.declared.event.Verb.{Verb}
-use Rattle.mu_model.specs.declared.event.Answer.{Answer}
+use Rattle.mu_lead.proofs.StandsOnward.{stands_there}
 use Rattle.mu_agree.proofs.Readings.{parts_reach_law}
-use Rattle.mu_lead.proofs.Keeping.{brought_read, fuo_event, leading_calm, leads_kept, most_on, most_up, raised_now, reached_read, source_calm, tables_reach, tables_up}
 use Rattle.mu_lead.proofs.Bringing.{raised_before, raised_read}
 use Rattle.mu_lead.proofs.Copying.{fuo_read_now}
+use Rattle.mu_lead.proofs.Keeping.{brought_read, fuo_event, leading_calm, leads_kept, most_on, most_up, raised_now, reached_read, source_calm, tables_reach, tables_up}
+use Rattle.mu_lead.proofs.StandsBringing.{farther_member, farther_most, fuos_stand}
 use Rattle.mu_lead.proofs.Tables.{tables_kept}
-use Rattle.mu_lead.proofs.Writes.{fuo_tells}
+use Rattle.mu_lead.proofs.Writes.{four, fuo_tells}
+use Rattle.mu_lead.specs.Listing.{farther}
+use Rattle.mu_model.specs.declared.event.Answer.{Answer}
+use Rattle.mu_model.specs.declared.event.Verb.{Verb}
+use Rattle.std.proofs.Common.{None, arith, get_or, length, refl, ◌<◌, ◌∙◌, ◌∷◌}
 use Rattle.mu_lead.proofs.lead.Lead.took_fuo.Goals as goal
 
 pub returns-clause-stands : goal.returns-clause-stands
@@ -36,14 +39,14 @@ returns-clause-stands c = λ mine s is possible told.
       inside = s.inside;
       leading = leading;
       tables = tables;
-      at = c.after_fuo-self.ensures.stands (e ∷ mine) (record { possible = possible; config = s.config; inside = s.inside; leading = leading; tables = tables }) told here.region here.member leads raised here.unput from (most_up l.id c.args.p (e ∷ mine) l.up c.with_number-self.result c.args.source c.with_number-self.ensures.others (most_on l.id c.args.p mine (e ∷ mine) l.up c.args.source (λ q. refl) here.few));
+      at = stands_there l.config l.id l.number (e ∷ mine) (four c.with_number-self.result c.with_fuo-self.result l.heads l.written.items) _ _ (c.after_fuo-self.ensures (e ∷ mine) (record { possible = possible; config = s.config; inside = s.inside; leading = leading; tables = tables }) told here.region) (fuos_stand l.config l.id l.number c.args.p (farther c.with_number-self.result c.args.source c.args.p) (e ∷ mine) (four c.with_number-self.result c.with_fuo-self.result l.heads l.written.items) (record { is = s.config; inside = s.inside; possible = possible; tables = tables }) leads raised here.unput (farther_member l.config l.id c.args.p (e ∷ mine) c.with_number-self.result c.args.source from here.region here.member) (farther_most l.id c.args.p (e ∷ mine) c.with_number-self.result c.args.source (most_up l.id c.args.p (e ∷ mine) l.up c.with_number-self.result c.args.source c.with_number-self.ensures.others (most_on l.id c.args.p mine (e ∷ mine) l.up c.args.source (λ q. refl) here.few))));
     }
 
 pub returns-clause-listed : goal.returns-clause-listed
 returns-clause-listed c = λ mine s is possible told.
     let l = c.args.self.now in
     let now = returns-clause-stands c mine s is possible told in
-    c.after_fuo-self.ensures.listed (fuo_event l.id c.args.p c.args.u ∷ mine) (record { possible = possible; config = now.config; inside = now.inside; leading = now.leading; tables = now.tables }) told (rw is at s.at).region
+    c.after_fuo-self.ensures (fuo_event l.id c.args.p c.args.u ∷ mine) (record { possible = possible; config = now.config; inside = now.inside; leading = now.leading; tables = now.tables }) told (rw is at s.at).region
 
 pub returns-clause-writes : goal.returns-clause-writes
 returns-clause-writes c = λ mine s is possible told.

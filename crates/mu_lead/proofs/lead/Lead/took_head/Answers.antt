@@ -1,19 +1,20 @@
-use Rattle.std.proofs.Common.{Some}
-use Rattle.std.proofs.Common.{List, ℕ}
-use Rattle.std.specs.Prelude.{not, ◌&&◌, ◌==◌}
-use Rattle.mu_model.specs.Scores.{is_failed}
-use Rattle.mu_lead.specs.Listing.{heads_from, may_mark}
-use Rattle.mu_lead.specs.Leading.{end_of}
-use Rattle.std.proofs.Common.{ap, arith, length, refl, subst, sym, ◌+◌, ◌<◌, ◌∙◌, ◌∷◌, ◌≡◌}
-use Rattle.mu_model.specs.declared.event.Verb.{Verb}
-use Rattle.mu_model.specs.declared.event.Answer.{Answer}
-use Rattle.mu_leading.proofs.Within.{known_few}
 use Rattle.mu_lead.proofs.Keeping.{leading_calm}
+use Rattle.mu_lead.proofs.Looks.{head_event, head_now, level_head, marks_head, marks_now, roomy_marked, roomy_read, tables_head}
+use Rattle.mu_lead.proofs.StandsOnward.{heads_stand, late_stands, stands_there}
+use Rattle.mu_lead.proofs.StandsPutting.{marks_least}
 use Rattle.mu_lead.proofs.Tables.{tables_kept}
-use Rattle.std.proofs.Common.{true}
-use Rattle.mu_lead.proofs.Looks.{head_event, head_now, level_head, marks_now, marks_head, roomy_marked, roomy_read, tables_head}
-use Rattle.std.specs.Prelude.{nat_lt}
-use Rattle.mu_lead.proofs.Writes.{head_read_now}
+use Rattle.mu_lead.proofs.Writes.{four, head_read_now}
+use Rattle.mu_lead.specs.Leading.{end_of}
+use Rattle.mu_lead.specs.Listing.{heads_from, may_mark}
+use Rattle.mu_lead.specs.Offering.{MayBeMarked}
+use Rattle.mu_lead.specs.Sets.{is_bit}
+use Rattle.mu_leading.proofs.Within.{known_few}
+use Rattle.mu_model.specs.Scores.{is_failed}
+use Rattle.mu_model.specs.declared.event.Answer.{Answer}
+use Rattle.mu_model.specs.declared.event.Verb.{Verb}
+use Rattle.std.proofs.Common.{List, Some, ap, arith, eq-eqb, length, refl, subst, sym, true, true≢false, ℕ, ◌&&◌, ◌+◌, ◌<◌, ◌==◌, ◌∙◌, ◌∷◌, ◌≡◌}
+use Rattle.std.proofs.lemmas.Bool.{and_parts}
+use Rattle.std.specs.Prelude.{nat_lt, not}
 use Rattle.mu_lead.proofs.lead.Lead.took_head.Goals as goal
 
 pub returns-then-leaves_room-clause-stands : goal.returns-then-leaves_room-clause-stands
@@ -41,7 +42,7 @@ returns-then-leaves_room-clause-stands c = λ mine heeded s is possible told.
       inside = s.inside;
       leading = leading;
       tables = tables;
-      at = c.heads_from-self.ensures.stands (e ∷ mine) (record { possible = possible; config = s.config; inside = s.inside; leading = leading; tables = tables }) told level (roomy_read l.config l.id q h c.saturating_add.result mine c.args.candidate next here.roomy (sym high ∙ c.if-leaves_room.true));
+      at = stands_there l.config l.id l.number (e ∷ mine) (four l.up l.reach c.with_number-self.result l.written.items) _ _ (c.heads_from-self.ensures (e ∷ mine) (record { possible = possible; config = s.config; inside = s.inside; leading = leading; tables = tables }) told) (heads_stand l.config l.id l.number c.saturating_add.result (e ∷ mine) (four l.up l.reach c.with_number-self.result l.written.items) c.args.candidate (record { is = s.config; inside = s.inside; possible = possible; tables = tables }) level (roomy_read l.config l.id q h c.saturating_add.result mine c.args.candidate next here.roomy (sym high ∙ c.if-leaves_room.true)));
     }
 
 pub returns-then-may_mark-clause-stands : goal.returns-then-may_mark-clause-stands
@@ -64,16 +65,18 @@ returns-then-may_mark-clause-stands c = λ mine heeded s is possible told.
     let high = subst (λ values. c.leaves_room.result ≡ nat_lt (length values + c.reserve_of.result) (h + l.config.ring)) told (c.leaves_room.ensures short) ∙ ap (λ free. nat_lt (end_of l.config l.id mine + free) (h + l.config.ring)) c.reserve_of.ensures in
     let more = c.saturating_add-then-may_mark.ensures in
     let next : c.saturating_add-then-may_mark.result ≡ q + 1 = omega (arith, more, region, few) in
-    let may = (c.may_mark.ensures.may short).0 c.if-may_mark.true in
-    let room = subst (λ values. nat_lt (length values + 0) (h + l.config.ring) ≡ true) told may.2 in
-    let mark = marks_now l.config l.id q h mine region may.0 here.unmarked (sym (heeded q region) ∙ may.1) (sym high ∙ c.if-leaves_room.false) room in
-    let marks = c.first_of.ensures.may l.config l.id (e ∷ mine) (marks_head l.config l.id q h mine c.args.candidate here.roomy.marks) mark in
+    let holds = sym (c.may_mark.ensures short) ∙ c.if-may_mark.true in
+    let parts = and_parts (not (q == l.id)) (is_bit q l.failed && nat_lt (length c.args.known.now + 0) (h + l.config.ring)) holds in
+    let may = and_parts (is_bit q l.failed) (nat_lt (length c.args.known.now + 0) (h + l.config.ring)) parts.1 in
+    let room = subst (λ (values : List ℕ). nat_lt (length values + 0) (h + l.config.ring) ≡ true) told may.1 in
+    let mark = marks_now l.config l.id q h mine region (λ same. true≢false (sym parts.0 ∙ ap not (eq-eqb q l.id same))) here.unmarked (sym (heeded q region) ∙ may.0) (sym high ∙ c.if-leaves_room.false) room in
+    let marks = subst (MayBeMarked l.config l.id (e ∷ mine)) (sym c.first_of.ensures) (marks_least l.config l.id q (e ∷ mine) c.args.candidate (marks_head l.config l.id q h mine c.args.candidate here.roomy.marks) mark) in
     record {
       config = s.config;
       inside = s.inside;
       leading = leading;
       tables = tables;
-      at = c.heads_from-self-then-may_mark.ensures.stands (e ∷ mine) (record { possible = possible; config = s.config; inside = s.inside; leading = leading; tables = tables }) told level (roomy_marked l.config l.id q h c.saturating_add-then-may_mark.result c.first_of.result mine c.args.candidate next here.roomy room marks);
+      at = stands_there l.config l.id l.number (e ∷ mine) (four l.up l.reach c.with_number-self.result l.written.items) _ _ (c.heads_from-self-then-may_mark.ensures (e ∷ mine) (record { possible = possible; config = s.config; inside = s.inside; leading = leading; tables = tables }) told) (heads_stand l.config l.id l.number c.saturating_add-then-may_mark.result (e ∷ mine) (four l.up l.reach c.with_number-self.result l.written.items) (Some c.first_of.result) (record { is = s.config; inside = s.inside; possible = possible; tables = tables }) level (roomy_marked l.config l.id q h c.saturating_add-then-may_mark.result c.first_of.result mine c.args.candidate next here.roomy room marks));
     }
 
 pub returns-else-may_mark-clause-stands : goal.returns-else-may_mark-clause-stands
@@ -99,7 +102,7 @@ returns-else-may_mark-clause-stands c = λ mine heeded s is possible told.
       inside = s.inside;
       leading = leading;
       tables = tables;
-      at = c.late_from-self.ensures.stands (e ∷ mine) (record { possible = possible; config = s.config; inside = s.inside; leading = leading; tables = tables }) told level;
+      at = stands_there l.config l.id l.number (e ∷ mine) (four l.up l.reach c.with_number-self.result l.written.items) _ _ (c.late_from-self.ensures (e ∷ mine) (record { possible = possible; config = s.config; inside = s.inside; leading = leading; tables = tables }) told) (late_stands l.config l.id l.number 0 (e ∷ mine) (four l.up l.reach c.with_number-self.result l.written.items) (record { is = s.config; inside = s.inside; possible = possible; tables = tables }) level);
     }
 
 pub returns-then-leaves_room-clause-listed : goal.returns-then-leaves_room-clause-listed
@@ -114,7 +117,7 @@ returns-then-leaves_room-clause-listed c = λ mine heeded s is possible told.
     let short = subst (λ values. length values < 65536) (sym told) (known_few l.config l.id after s.config possible) in
     let high = subst (λ values. c.leaves_room.result ≡ nat_lt (length values + c.reserve_of.result) (h + l.config.ring)) told (c.leaves_room.ensures short) ∙ ap (λ free. nat_lt (end_of l.config l.id mine + free) (h + l.config.ring)) c.reserve_of.ensures in
     let more = c.saturating_add.ensures in
-    rw (sym high ∙ c.if-leaves_room.true) (c.heads_from-self.ensures.listed after (record { possible = possible; config = now.config; inside = now.inside; leading = now.leading; tables = now.tables }) told ∙ ap (λ k. heads_from l.config l.id after c.with_number-self.result k c.args.candidate) (let next : c.saturating_add.result ≡ q + 1 = omega (arith, more, region, few) in next))
+    rw (sym high ∙ c.if-leaves_room.true) (c.heads_from-self.ensures after (record { possible = possible; config = now.config; inside = now.inside; leading = now.leading; tables = now.tables }) told ∙ ap (λ k. heads_from l.config l.id after c.with_number-self.result k c.args.candidate) (let next : c.saturating_add.result ≡ q + 1 = omega (arith, more, region, few) in next))
 
 pub returns-then-may_mark-clause-listed : goal.returns-then-may_mark-clause-listed
 returns-then-may_mark-clause-listed c = λ mine heeded s is possible told.
@@ -127,9 +130,9 @@ returns-then-may_mark-clause-listed c = λ mine heeded s is possible told.
     let after = head_event l.id q h ∷ mine in
     let short = subst (λ values. length values < 65536) (sym told) (known_few l.config l.id after s.config possible) in
     let high = subst (λ values. c.leaves_room.result ≡ nat_lt (length values + c.reserve_of.result) (h + l.config.ring)) told (c.leaves_room.ensures short) ∙ ap (λ free. nat_lt (end_of l.config l.id mine + free) (h + l.config.ring)) c.reserve_of.ensures in
-    let may : may_mark l.config l.id after q h ≡ c.may_mark.result = sym (c.may_mark.ensures.is short ∙ ap (λ t. not (q == l.id) && (t && nat_lt (length c.args.known.now + 0) (h + l.config.ring))) (heeded q region) ∙ ap (λ (values : List ℕ). not (q == l.id) && (is_failed l.id q mine && nat_lt (length values + 0) (h + l.config.ring))) told ∙ ap (λ n. not (q == l.id) && (is_failed l.id q mine && nat_lt n (h + l.config.ring))) (let plain : end_of l.config l.id mine + 0 ≡ end_of l.config l.id mine = omega arith in plain)) in
+    let may : may_mark l.config l.id after q h ≡ c.may_mark.result = sym (c.may_mark.ensures short ∙ ap (λ t. not (q == l.id) && (t && nat_lt (length c.args.known.now + 0) (h + l.config.ring))) (heeded q region) ∙ ap (λ (values : List ℕ). not (q == l.id) && (is_failed l.id q mine && nat_lt (length values + 0) (h + l.config.ring))) told ∙ ap (λ n. not (q == l.id) && (is_failed l.id q mine && nat_lt n (h + l.config.ring))) (let plain : end_of l.config l.id mine + 0 ≡ end_of l.config l.id mine = omega arith in plain)) in
     let more = c.saturating_add-then-may_mark.ensures in
-    rw (sym high ∙ c.if-leaves_room.false, may ∙ c.if-may_mark.true) (c.heads_from-self-then-may_mark.ensures.listed after (record { possible = possible; config = now.config; inside = now.inside; leading = now.leading; tables = now.tables }) told ∙ ap (λ k. heads_from l.config l.id after c.with_number-self.result k (Some c.first_of.result)) (let next : c.saturating_add-then-may_mark.result ≡ q + 1 = omega (arith, more, region, few) in next) ∙ ap (heads_from l.config l.id after c.with_number-self.result (q + 1)) c.first_of.ensures.is)
+    rw (sym high ∙ c.if-leaves_room.false, may ∙ c.if-may_mark.true) (c.heads_from-self-then-may_mark.ensures after (record { possible = possible; config = now.config; inside = now.inside; leading = now.leading; tables = now.tables }) told ∙ ap (λ k. heads_from l.config l.id after c.with_number-self.result k (Some c.first_of.result)) (let next : c.saturating_add-then-may_mark.result ≡ q + 1 = omega (arith, more, region, few) in next) ∙ ap (heads_from l.config l.id after c.with_number-self.result (q + 1)) c.first_of.ensures)
 
 pub returns-else-may_mark-clause-listed : goal.returns-else-may_mark-clause-listed
 returns-else-may_mark-clause-listed c = λ mine heeded s is possible told.
@@ -142,8 +145,8 @@ returns-else-may_mark-clause-listed c = λ mine heeded s is possible told.
     let after = head_event l.id q h ∷ mine in
     let short = subst (λ values. length values < 65536) (sym told) (known_few l.config l.id after s.config possible) in
     let high = subst (λ values. c.leaves_room.result ≡ nat_lt (length values + c.reserve_of.result) (h + l.config.ring)) told (c.leaves_room.ensures short) ∙ ap (λ free. nat_lt (end_of l.config l.id mine + free) (h + l.config.ring)) c.reserve_of.ensures in
-    let may : may_mark l.config l.id after q h ≡ c.may_mark.result = sym (c.may_mark.ensures.is short ∙ ap (λ t. not (q == l.id) && (t && nat_lt (length c.args.known.now + 0) (h + l.config.ring))) (heeded q region) ∙ ap (λ (values : List ℕ). not (q == l.id) && (is_failed l.id q mine && nat_lt (length values + 0) (h + l.config.ring))) told ∙ ap (λ n. not (q == l.id) && (is_failed l.id q mine && nat_lt n (h + l.config.ring))) (let plain : end_of l.config l.id mine + 0 ≡ end_of l.config l.id mine = omega arith in plain)) in
-    rw (sym high ∙ c.if-leaves_room.false, may ∙ c.if-may_mark.false) (c.late_from-self.ensures.listed after (record { possible = possible; config = now.config; inside = now.inside; leading = now.leading; tables = now.tables }) told)
+    let may : may_mark l.config l.id after q h ≡ c.may_mark.result = sym (c.may_mark.ensures short ∙ ap (λ t. not (q == l.id) && (t && nat_lt (length c.args.known.now + 0) (h + l.config.ring))) (heeded q region) ∙ ap (λ (values : List ℕ). not (q == l.id) && (is_failed l.id q mine && nat_lt (length values + 0) (h + l.config.ring))) told ∙ ap (λ n. not (q == l.id) && (is_failed l.id q mine && nat_lt n (h + l.config.ring))) (let plain : end_of l.config l.id mine + 0 ≡ end_of l.config l.id mine = omega arith in plain)) in
+    rw (sym high ∙ c.if-leaves_room.false, may ∙ c.if-may_mark.false) (c.late_from-self.ensures after (record { possible = possible; config = now.config; inside = now.inside; leading = now.leading; tables = now.tables }) told)
 
 pub returns-then-leaves_room-clause-writes : goal.returns-then-leaves_room-clause-writes
 returns-then-leaves_room-clause-writes c = λ mine s is possible told.

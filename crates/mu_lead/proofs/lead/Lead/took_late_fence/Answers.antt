@@ -1,8 +1,9 @@
-use Rattle.std.proofs.Common.{◌+◌, ◌≡◌}
-use Rattle.mu_lead.specs.Listing.{late_from}
-use Rattle.std.proofs.Common.{ap, arith, is_some, refl, sym, ◌∙◌, ◌∷◌}
-use Rattle.mu_lead.proofs.Tables.{tables_kept}
+use Rattle.mu_lead.specs.Lasting.{tables_of}
 use Rattle.mu_lead.proofs.Lates.{fence_event, late_noted, level_fenced}
+use Rattle.mu_lead.proofs.StandsOnward.{late_stands, stands_there}
+use Rattle.mu_lead.proofs.Tables.{tables_kept}
+use Rattle.mu_lead.specs.Listing.{late_from}
+use Rattle.std.proofs.Common.{ap, arith, is_some, refl, sym, ◌+◌, ◌∙◌, ◌∷◌, ◌≡◌}
 use Rattle.mu_lead.proofs.lead.Lead.took_late_fence.Goals as goal
 
 pub returns-then-is_some-clause-stands : goal.returns-then-is_some-clause-stands
@@ -36,7 +37,7 @@ returns-else-is_some-clause-stands c = λ mine s is possible told.
       inside = s.inside;
       leading = leading;
       tables = tables;
-      at = c.late_from-self.ensures.stands (e ∷ mine) (record { possible = possible; config = s.config; inside = s.inside; leading = leading; tables = tables }) told (level_fenced l.config l.id l.number p c.args.fence mine l.up l.reach here.stranger here.level);
+      at = stands_there l.config l.id l.number (e ∷ mine) (tables_of l) _ _ (c.late_from-self.ensures (e ∷ mine) (record { possible = possible; config = s.config; inside = s.inside; leading = leading; tables = tables }) told) (late_stands l.config l.id l.number c.saturating_add.result (e ∷ mine) (tables_of l) (record { is = s.config; inside = s.inside; possible = possible; tables = tables }) (level_fenced l.config l.id l.number p c.args.fence mine l.up l.reach here.stranger here.level));
     }
 
 pub returns-then-is_some-clause-listed : goal.returns-then-is_some-clause-listed
@@ -57,4 +58,4 @@ returns-else-is_some-clause-listed c = λ mine s is possible told.
     let after = fence_event l.id c.args.p c.args.fence ∷ mine in
     let noted = sym (ap is_some (c.noted.ensures l.id after (omega (arith, region, few)) (c.take.ensures l.config mine few possible s.leading))) ∙ sym c.is_some.ensures ∙ c.if-is_some.false in
     let more = c.saturating_add.ensures in
-    rw noted (c.late_from-self.ensures.listed after (record { possible = possible; config = now.config; inside = now.inside; leading = now.leading; tables = now.tables }) told ∙ ap (late_from l.config l.id after l.heads) (let next : c.saturating_add.result ≡ c.args.p + 1 = omega (arith, more, region, few) in next))
+    rw noted (c.late_from-self.ensures after (record { possible = possible; config = now.config; inside = now.inside; leading = now.leading; tables = now.tables }) told ∙ ap (late_from l.config l.id after l.heads) (let next : c.saturating_add.result ≡ c.args.p + 1 = omega (arith, more, region, few) in next))

@@ -1,17 +1,16 @@
-use Rattle.std.proofs.lemmas.Bool.{le-ltb, lt-ltb}
-use Rattle.std.proofs.Common.{◌+◌, ◌≡◌}
-use Rattle.mu_lead.specs.Listing.{late_from}
-use Rattle.mu_lead.specs.Leading.{end_of}
-use Rattle.std.proofs.Common.{None, ap, arith, get_or, length, refl, ◌<◌, ◌≤◌, ◌∙◌, ◌∷◌}
-use Rattle.mu_model.specs.declared.event.Verb.{Verb}
-use Rattle.mu_model.specs.declared.event.Answer.{Answer}
 use Rattle.mu_agree.proofs.Readings.{parts_reach_law}
-use Rattle.mu_leading.proofs.Within.{known_few}
 use Rattle.mu_lead.proofs.Keeping.{brought_read, fuo_event, leading_calm, raised_now, reached_read, tables_reach, tables_up}
-use Rattle.mu_lead.proofs.Tables.{tables_kept}
 use Rattle.mu_lead.proofs.Lates.{late_left, late_read}
-use Rattle.mu_lead.proofs.Writes.{fuo_left, fuo_tells}
-use Rattle.std.proofs.lemmas.Bool.{le-leb, lt-leb}
+use Rattle.mu_lead.proofs.StandsOnward.{late_stands, stands_there}
+use Rattle.mu_lead.proofs.Tables.{tables_kept}
+use Rattle.mu_lead.proofs.Writes.{four, fuo_left, fuo_tells}
+use Rattle.mu_lead.specs.Leading.{end_of}
+use Rattle.mu_lead.specs.Listing.{late_from}
+use Rattle.mu_leading.proofs.Within.{known_few}
+use Rattle.mu_model.specs.declared.event.Answer.{Answer}
+use Rattle.mu_model.specs.declared.event.Verb.{Verb}
+use Rattle.std.proofs.Common.{None, ap, arith, get_or, length, refl, ◌+◌, ◌<◌, ◌∙◌, ◌∷◌, ◌≡◌, ◌≤◌}
+use Rattle.std.proofs.lemmas.Bool.{le-leb, le-ltb, lt-leb, lt-ltb}
 use Rattle.mu_lead.proofs.lead.Lead.took_late_fuo.Goals as goal
 
 pub returns-then-known-u-clause-stands : goal.returns-then-known-u-clause-stands
@@ -36,7 +35,7 @@ returns-then-known-u-clause-stands c = λ mine s is possible told.
       inside = s.inside;
       leading = leading;
       tables = tables;
-      at = c.late_from-self.ensures.stands (e ∷ mine) (record { possible = possible; config = s.config; inside = s.inside; leading = leading; tables = tables }) told (late_left l.config l.id l.number p c.args.u mine l.up l.reach c.with_fuo-self.result c.with_fuo-self.ensures.others here);
+      at = stands_there l.config l.id l.number (e ∷ mine) (four l.up c.with_fuo-self.result l.heads l.written.items) _ _ (c.late_from-self.ensures (e ∷ mine) (record { possible = possible; config = s.config; inside = s.inside; leading = leading; tables = tables }) told) (late_stands l.config l.id l.number c.saturating_add.result (e ∷ mine) (four l.up c.with_fuo-self.result l.heads l.written.items) (record { is = s.config; inside = s.inside; possible = possible; tables = tables }) (late_left l.config l.id l.number p c.args.u mine l.up l.reach c.with_fuo-self.result c.with_fuo-self.ensures.others here));
     }
 
 pub returns-else-known-u-clause-stands : goal.returns-else-known-u-clause-stands
@@ -79,7 +78,7 @@ returns-then-known-u-clause-listed c = λ mine s is possible told.
     let less = c.if-known-u.true in
     let same = ap length told in
     let after = fuo_event l.id c.args.p c.args.u ∷ mine in
-    rw (lt-ltb (end_of l.config l.id after) c.args.u (omega (arith, less, same))) (c.late_from-self.ensures.listed after (record { possible = possible; config = now.config; inside = now.inside; leading = now.leading; tables = now.tables }) told ∙ ap (late_from l.config l.id after l.heads) (let next : c.saturating_add.result ≡ c.args.p + 1 = omega (arith, more, region, few) in next))
+    rw (lt-ltb (end_of l.config l.id after) c.args.u (omega (arith, less, same))) (c.late_from-self.ensures after (record { possible = possible; config = now.config; inside = now.inside; leading = now.leading; tables = now.tables }) told ∙ ap (late_from l.config l.id after l.heads) (let next : c.saturating_add.result ≡ c.args.p + 1 = omega (arith, more, region, few) in next))
 
 pub returns-else-known-u-clause-listed : goal.returns-else-known-u-clause-listed
 returns-else-known-u-clause-listed c = λ mine s is possible told.

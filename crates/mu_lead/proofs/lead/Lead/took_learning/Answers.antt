@@ -1,10 +1,11 @@
-use Rattle.std.proofs.Common.{refl, sym}
-use Rattle.std.proofs.Common.{refl, sym, ◌∙◌, ◌∷◌}
-use Rattle.mu_model.specs.declared.event.Verb.{Verb}
-use Rattle.mu_lead.proofs.Keeping.{leading_calm, leads_kept}
+use Rattle.mu_lead.specs.Lasting.{tables_of}
 use Rattle.mu_lead.proofs.Bringing.{look_event}
+use Rattle.mu_lead.proofs.Keeping.{leading_calm, leads_kept}
 use Rattle.mu_lead.proofs.Sights.{outrun_by}
+use Rattle.mu_lead.proofs.StandsOnward.{learn_stands, stands_there}
 use Rattle.mu_lead.proofs.Tables.{tables_kept}
+use Rattle.mu_model.specs.declared.event.Verb.{Verb}
+use Rattle.std.proofs.Common.{refl, sym, ◌∙◌, ◌∷◌}
 use Rattle.mu_lead.proofs.lead.Lead.took_learning.Goals as goal
 
 pub returns-then-is_past-clause-stands : goal.returns-then-is_past-clause-stands
@@ -42,11 +43,8 @@ returns-else-is_past-clause-stands c = λ i mine s is position possible told.
       inside = s.inside;
       leading = leading;
       tables = tables;
-      at = c.learn_from-self.ensures.stands (e ∷ mine) (record { possible = possible; config = s.config; inside = s.inside; leading = leading; tables = tables }) told leads here.raised here.unput (here.region, here.member) here.few;
+      at = stands_there l.config l.id l.number (e ∷ mine) (tables_of l) _ _ (c.learn_from-self.ensures (e ∷ mine) (record { possible = possible; config = s.config; inside = s.inside; leading = leading; tables = tables }) told) (learn_stands l.config l.id l.number p (e ∷ mine) (tables_of l) (record { is = s.config; inside = s.inside; possible = possible; tables = tables }) leads here.raised here.unput (here.region, here.member) here.few);
     }
-
-pub returns-else-is_past-clause-going : goal.returns-else-is_past-clause-going
-returns-else-is_past-clause-going c = sym (c.learnt.ensures.going c.args.self.now.under_way)
 
 pub returns-then-is_past-clause-listed : goal.returns-then-is_past-clause-listed
 returns-then-is_past-clause-listed c = λ i mine s is position possible told.
@@ -57,4 +55,4 @@ pub returns-else-is_past-clause-listed : goal.returns-else-is_past-clause-listed
 returns-else-is_past-clause-listed c = λ i mine s is position possible told.
     let l = c.args.self.now in
     let now = returns-else-is_past-clause-stands c i mine s is position possible told in
-    rw (sym c.is_past.ensures ∙ c.if-is_past.false) (c.learn_from-self.ensures.listed (look_event l.id c.args.source i c.args.answer ∷ mine) (record { possible = possible; config = now.config; inside = now.inside; leading = now.leading; tables = now.tables }) told)
+    rw (sym c.is_past.ensures ∙ c.if-is_past.false) (c.learn_from-self.ensures (look_event l.id c.args.source i c.args.answer ∷ mine) (record { possible = possible; config = now.config; inside = now.inside; leading = now.leading; tables = now.tables }) told)

@@ -1,31 +1,30 @@
-use Rattle.mu_lead.proofs.Firsts.{found_place}
-use Rattle.mu_lead.specs.declared.place.Place.{Place}
-use Rattle.std.proofs.Common.{None, Some, ap, ◌+◌, ◌∙◌}
-use Rattle.mu_lead.specs.Listing.{first_member}
-use Rattle.mu_model.specs.Parts.{IsPossible}
-use Rattle.mu_leading.specs.Leadership.{StandsForLeadership}
-use Rattle.mu_lead.specs.Leading.{AtRaise, HoldsTables, end_of}
-use Rattle.mu_model.specs.Contents.{row_count}
-use Rattle.mu_model.specs.Room.{reserve}
 use Rattle.mu_agree.proofs.Possible.{parts_shorten_law}
-use Rattle.std.proofs.Common.{ap, arith, get_or, inl, length, refl, subst, sym, ℕ, ◌+◌, ◌<◌, ◌≤◌, ◌∙◌, ◌∷◌, ◌≡◌}
 use Rattle.mu_agree.proofs.Readings.{known_within}
-use Rattle.mu_model.specs.Knowledge.{known}
-use Rattle.mu_leading.proofs.Within.{known_few}
 use Rattle.mu_lead.proofs.Bringing.{put_event}
+use Rattle.mu_lead.proofs.Commits.{working_commits}
+use Rattle.mu_lead.proofs.Firsts.{found_place}
+use Rattle.mu_lead.proofs.Puts.{brought_committed, brought_less, enters_next, known_more, known_same, member_within, raises_first, tables_committed, took_all}
+use Rattle.mu_lead.proofs.Writes.{put_commits}
+use Rattle.mu_lead.proofs.Sights.{shows_kept}
+use Rattle.mu_lead.proofs.StandsOnward.{first_is}
 use Rattle.mu_lead.proofs.Tables.{tables_kept}
-use Rattle.std.proofs.Common.{inr}
+use Rattle.mu_lead.proofs.Writes.{put_alone}
+use Rattle.mu_lead.specs.Journal.{set_where}
+use Rattle.mu_lead.specs.Leading.{AtRaise, HoldsTables, end_of}
+use Rattle.mu_lead.specs.Listing.{first_member}
 use Rattle.mu_lead.specs.Notes.{note_of_commit}
-use Rattle.mu_lead.proofs.Puts.{known_same, brought_committed, brought_less, enters_next, member_within, known_more, raises_first, tables_committed, took_all}
+use Rattle.mu_lead.specs.Offering.{AtEnter, LooksShow}
+use Rattle.mu_lead.specs.declared.place.Place.{Place}
+use Rattle.mu_leading.proofs.Within.{known_few}
+use Rattle.mu_leading.specs.Leadership.{StandsForLeadership}
+use Rattle.mu_model.specs.Contents.{row_count}
+use Rattle.mu_model.specs.Knowledge.{known}
+use Rattle.mu_model.specs.Leaderships.{is_member}
+use Rattle.mu_model.specs.Parts.{IsPossible}
+use Rattle.mu_model.specs.Room.{reserve}
 use Rattle.mu_model.specs.declared.event.Answer.{Answer}
 use Rattle.mu_model.specs.declared.event.Verb.{Verb}
-use Rattle.mu_lead.proofs.Sights.{shows_kept}
-use Rattle.mu_lead.specs.Offering.{AtEnter, LooksShow}
-use Rattle.std.proofs.Common.{[], length-append, true, ◌++◌}
-use Rattle.mu_model.specs.Leaderships.{is_member}
-use Rattle.mu_lead.proofs.Writes.{put_alone, put_commits}
-use Rattle.mu_lead.specs.Journal.{set_where}
-use Rattle.mu_lead.proofs.Commits.{working_commits}
+use Rattle.std.proofs.Common.{None, Some, [], ap, arith, get_or, inl, inr, length, length-append, refl, subst, sym, true, ℕ, ◌++◌, ◌+◌, ◌<◌, ◌∙◌, ◌∷◌, ◌≡◌, ◌≤◌}
 use Rattle.mu_lead.proofs.lead.Lead.took_put.Goals as goal
 
 pub returns-in-Some-clause-stands : goal.returns-in-Some-clause-stands
@@ -102,7 +101,7 @@ returns-in-None-clause-stands c = λ mine s is possible told.
       tables = subst (λ values. HoldsTables l.config l.id (put_event l.id p (length values) b v ∷ mine) c.brought_to-self.result l.reach l.heads l.written.items) (sym told) (tables_committed l.config l.id (end + 1) now l.up c.brought_to-self.result l.reach l.heads l.written.items now_kept (c.brought_to-self.ensures.long ∙ ups) (λ q stranger. c.brought_to-self.ensures.others now q now_leading stranger)
           (λ q member. (let low_q = member_within l.config l.id q now now_possible member in
           (here_up q low_q member, brought_committed l.config l.id b v p q mine grows (brought_less l.config l.id q end (get_or l.up q 0) mine (o.have q low_q member) (s.tables.brought q)) (all q low_q member)))) low);
-      at = subst (λ values. AtRaise l.config l.id b (put_event l.id p (length values) b v ∷ mine) c.brought_to-self.result l.reach c.first_member.result) (sym told) (raises_first l.config l.id b v p c.first_member.result mine l.up c.brought_to-self.result l.reach here.0 grows here_up (c.first_member.ensures.first now p few now_leading region here.0.entering.member));
+      at = subst (λ values. AtRaise l.config l.id b (put_event l.id p (length values) b v ∷ mine) c.brought_to-self.result l.reach c.first_member.result) (sym told) (subst (AtRaise l.config l.id b now c.brought_to-self.result l.reach) (sym (c.first_member.ensures now few s.inside now_leading)) (raises_first l.config l.id b v p (first_member l.config l.id now) mine l.up c.brought_to-self.result l.reach here.0 grows here_up (first_is l.config l.id p now region here.0.entering.member)));
     }
 
 pub returns-in-Some-clause-tells : goal.returns-in-Some-clause-tells
@@ -145,12 +144,6 @@ returns-in-None-clause-tells c = λ mine s is possible told.
     let grows = known_more l.config l.id b v p mine l.up l.reach here.0.entering.offering all in
     inr (c.committed.ensures.is ∙ ap (λ i. note_of_commit i c.args.offer) short, subst (λ values. known l.config l.id (put_event l.id p (length values) b v ∷ mine) ≡ values ++ v ∷ []) (sym told) grows)
 
-pub returns-in-Some-clause-note : goal.returns-in-Some-clause-note
-returns-in-Some-clause-note c = λ small. inl refl
-
-pub returns-in-None-clause-note : goal.returns-in-None-clause-note
-returns-in-None-clause-note c = λ small. inr (c.committed.ensures.is ∙ ap (λ i. note_of_commit i c.args.offer) (c.end_of-position.ensures small))
-
 pub returns-in-Some-clause-listed : goal.returns-in-Some-clause-listed
 returns-in-Some-clause-listed c = λ mine s is possible told.
     let l = c.args.self.now in
@@ -169,7 +162,7 @@ returns-in-None-clause-listed c = λ mine s is possible told.
     let region = (rw is at s.at).0.entering.region in
     let more = c.saturating_add.ensures in
     let after = put_event l.id c.args.p (length c.args.known.now) l.number c.args.offer.value ∷ mine in
-    ap Place.Raise (c.first_member.ensures.listed after few s.inside now.leading)
+    ap Place.Raise (c.first_member.ensures after few s.inside now.leading)
     ∙ found_place (λ k. is_member l.id k after) (c.args.p + 1) c.saturating_add.result l.config.replicas None (λ q. Place.Enter q c.args.offer) (Place.Raise (first_member l.config l.id after)) (omega (arith, more, region, few)) (c.in-None.ensures l.id after few now.leading)
 
 pub returns-in-Some-clause-writes : goal.returns-in-Some-clause-writes

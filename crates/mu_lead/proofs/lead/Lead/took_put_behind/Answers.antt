@@ -1,20 +1,21 @@
-use Rattle.mu_model.specs.Parts.{IsPossible}
-use Rattle.mu_leading.specs.Leadership.{StandsForLeadership}
-use Rattle.std.specs.List.{slice_get}
-use Rattle.std.proofs.lemmas.Option.{slice_get-get_or}
-use Rattle.mu_lead.specs.Leading.{end_of}
+use Rattle.mu_lead.proofs.StandsOnward.{stands_there}
 use Rattle.mu_agree.proofs.Possible.{parts_shorten_law}
-use Rattle.std.proofs.Common.{Some, arith, get_or, length, refl, subst, sym, ◌+◌, ◌<◌, ◌≤◌, ◌∙◌, ◌∷◌, ◌≡◌}
-use Rattle.mu_model.specs.declared.event.Answer.{Answer}
-use Rattle.mu_model.proofs.Basics.{event_by}
 use Rattle.mu_agree.proofs.Readings.{known_within}
-use Rattle.mu_model.specs.Knowledge.{known}
-use Rattle.mu_lead.proofs.Keeping.{tables_up}
 use Rattle.mu_lead.proofs.Bringing.{behind_put, brought_put, config_small, put_event, put_known}
+use Rattle.mu_lead.proofs.Keeping.{tables_up}
+use Rattle.mu_lead.proofs.StandsBringing.{after_copy_stands}
 use Rattle.mu_lead.proofs.Tables.{tables_kept}
-use Rattle.mu_lead.proofs.Writes.{entry_brought}
+use Rattle.mu_lead.proofs.Writes.{entry_brought, four}
+use Rattle.mu_lead.specs.Leading.{end_of}
+use Rattle.mu_leading.specs.Leadership.{StandsForLeadership}
+use Rattle.mu_model.proofs.Basics.{event_by}
+use Rattle.mu_model.specs.Knowledge.{known}
+use Rattle.mu_model.specs.Parts.{IsPossible}
+use Rattle.mu_model.specs.declared.event.Answer.{Answer}
+use Rattle.std.proofs.Common.{Some, ap, arith, get_or, length, refl, subst, sym, ◌+◌, ◌<◌, ◌∙◌, ◌∷◌, ◌≡◌, ◌≤◌}
+use Rattle.std.proofs.lemmas.Option.{slice_get-get_or}
+use Rattle.std.specs.List.{slice_get}
 use Rattle.std.specs.Prelude.{set}
-use Rattle.std.proofs.Common.{ap}
 use Rattle.mu_lead.proofs.lead.Lead.took_put_behind.Goals as goal
 
 pub returns-clause-stands : goal.returns-clause-stands
@@ -50,9 +51,9 @@ returns-clause-stands c = λ mine s is possible told.
       inside = s.inside;
       leading = leading;
       tables = tables;
-      at = c.after_put_behind-self.ensures.stands (e ∷ mine) (record { possible = possible; config = s.config; inside = s.inside; leading = leading; tables = tables }) (told ∙ sym same)
-          (behind_put l.config l.id l.number v p u mine l.up c.with_number-self.result l.reach c.args.then lacks c.with_number-self.ensures.others refl next behind)
-          (subst (λ values. get_or c.with_number-self.result p 0 ≤ length values) (sym same) all);
+      at = stands_there l.config l.id l.number (e ∷ mine) (four c.with_number-self.result l.reach l.heads l.written.items) _ _ (c.after_put_behind-self.ensures (e ∷ mine) (record { possible = possible; config = s.config; inside = s.inside; leading = leading; tables = tables }) (told ∙ sym same) region)
+          (after_copy_stands l.config l.id l.number p c.args.then (e ∷ mine) (four c.with_number-self.result l.reach l.heads l.written.items) (behind_put l.config l.id l.number v p u mine l.up c.with_number-self.result l.reach c.args.then lacks c.with_number-self.ensures.others refl next behind)
+          (subst (λ values. get_or c.with_number-self.result p 0 ≤ length values) (sym same) all));
     }
 
 pub returns-clause-listed : goal.returns-clause-listed
@@ -62,7 +63,7 @@ returns-clause-listed c = λ mine s is possible told.
     let near = (rw is at s.at).near in
     let u = get_or l.up c.args.p 0 in
     let v = get_or c.args.known.now u 0 in
-    c.after_put_behind-self.ensures.listed (put_event l.id c.args.p u l.number v ∷ mine) (record { possible = possible; config = now.config; inside = now.inside; leading = now.leading; tables = now.tables }) (told ∙ sym (put_known l.config l.id c.args.p u l.number v mine near.lacks)) near.behind.region
+    c.after_put_behind-self.ensures (put_event l.id c.args.p u l.number v ∷ mine) (record { possible = possible; config = now.config; inside = now.inside; leading = now.leading; tables = now.tables }) (told ∙ sym (put_known l.config l.id c.args.p u l.number v mine near.lacks)) near.behind.region
 
 pub returns-clause-writes : goal.returns-clause-writes
 returns-clause-writes c = λ mine s is possible told.

@@ -1,19 +1,19 @@
 use Rattle.mu_lead.proofs.Firsts.{found_place}
-use Rattle.mu_lead.specs.declared.place.Place.{Place}
-use Rattle.std.proofs.Common.{None, Some, ◌+◌, ◌∙◌}
-use Rattle.mu_model.specs.Leaderships.{is_member}
-use Rattle.mu_lead.specs.Listing.{late_from}
-use Rattle.mu_model.specs.Placing.{is_within_ring, reaches_head}
-use Rattle.mu_model.specs.Parts.{IsPossible}
-use Rattle.mu_lead.specs.Leading.{AtRaise, HoldsTables, end_of}
-use Rattle.std.proofs.Common.{None, Some, arith, get_or, length, refl, subst, sym, ℕ, ◌+◌, ◌<◌, ◌||◌, ◌∙◌, ◌∷◌, ◌≡◌}
-use Rattle.mu_model.specs.declared.event.Verb.{Verb}
-use Rattle.mu_model.specs.declared.event.Answer.{Answer}
-use Rattle.mu_lead.specs.Standing.{At}
 use Rattle.mu_lead.proofs.Keeping.{leading_calm, raise_event, raised_now, reached_raised, tables_reach}
-use Rattle.mu_lead.proofs.Tables.{tables_kept}
 use Rattle.mu_lead.proofs.Puts.{raised_all, raises_next}
-use Rattle.mu_lead.proofs.Writes.{fuo_raised}
+use Rattle.mu_lead.proofs.StandsOnward.{late_stands, stands_there}
+use Rattle.mu_lead.proofs.Tables.{tables_kept}
+use Rattle.mu_lead.proofs.Writes.{four, fuo_raised}
+use Rattle.mu_lead.specs.Leading.{AtRaise, HoldsTables, end_of}
+use Rattle.mu_lead.specs.Listing.{late_from}
+use Rattle.mu_lead.specs.Standing.{At}
+use Rattle.mu_lead.specs.declared.place.Place.{Place}
+use Rattle.mu_model.specs.Leaderships.{is_member}
+use Rattle.mu_model.specs.Parts.{IsPossible}
+use Rattle.mu_model.specs.Placing.{is_within_ring, reaches_head}
+use Rattle.mu_model.specs.declared.event.Answer.{Answer}
+use Rattle.mu_model.specs.declared.event.Verb.{Verb}
+use Rattle.std.proofs.Common.{None, Some, arith, get_or, length, refl, subst, sym, ℕ, ◌+◌, ◌<◌, ◌||◌, ◌∙◌, ◌∷◌, ◌≡◌}
 use Rattle.mu_lead.proofs.lead.Lead.took_raise.Goals as goal
 
 pub returns-in-Some-clause-stands : goal.returns-in-Some-clause-stands
@@ -71,8 +71,8 @@ returns-in-None-clause-stands c = λ mine s is possible told.
       inside = s.inside;
       leading = leading_calm l.id l.id (Verb.RaiseFuo p (length c.args.known.now)) Answer.Done mine l.leading refl s.leading;
       tables = subst (λ values. HoldsTables l.config l.id (raise_event l.id p (length values) ∷ mine) l.up c.with_fuo-self.result l.heads l.written.items) (sym told) tables;
-      at = subst (λ values. At l.config l.id l.number (raise_event l.id p (length values) ∷ mine) l.up c.with_fuo-self.result l.written.items c.late_from-self.result) (sym told) (c.late_from-self.ensures.stands now (record { possible = now_possible; config = s.config; inside = s.inside; leading = leading; tables = tables }) told
-          (raised_all l.config l.id l.number p c.saturating_add.result mine l.up l.reach c.with_fuo-self.result here c.with_fuo-self.ensures.others raised next (c.in-None.ensures l.id mine few s.leading)));
+      at = subst (λ values. At l.config l.id l.number (raise_event l.id p (length values) ∷ mine) l.up c.with_fuo-self.result l.written.items c.late_from-self.result) (sym told) (stands_there l.config l.id l.number now (four l.up c.with_fuo-self.result l.heads l.written.items) _ _ (c.late_from-self.ensures now (record { possible = now_possible; config = s.config; inside = s.inside; leading = leading; tables = tables }) told) (late_stands l.config l.id l.number 0 now (four l.up c.with_fuo-self.result l.heads l.written.items) (record { is = s.config; inside = s.inside; possible = now_possible; tables = tables })
+          (raised_all l.config l.id l.number p c.saturating_add.result mine l.up l.reach c.with_fuo-self.result here c.with_fuo-self.ensures.others raised next (c.in-None.ensures l.id mine few s.leading))));
     }
 
 pub returns-in-Some-clause-listed : goal.returns-in-Some-clause-listed
@@ -92,7 +92,7 @@ returns-in-None-clause-listed c = λ mine s is possible told.
     let region = (rw is at s.at).region in
     let more = c.saturating_add.ensures in
     let after = raise_event l.id c.args.p (length c.args.known.now) ∷ mine in
-    c.late_from-self.ensures.listed after (record { possible = possible; config = now.config; inside = now.inside; leading = now.leading; tables = now.tables }) told
+    c.late_from-self.ensures after (record { possible = possible; config = now.config; inside = now.inside; leading = now.leading; tables = now.tables }) told
     ∙ found_place (λ k. is_member l.id k mine) (c.args.p + 1) c.saturating_add.result l.config.replicas None Place.Raise (late_from l.config l.id after l.heads 0) (omega (arith, more, region, few)) (c.in-None.ensures l.id mine few s.leading)
 
 pub returns-in-Some-clause-writes : goal.returns-in-Some-clause-writes

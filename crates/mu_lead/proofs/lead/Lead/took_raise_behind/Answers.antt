@@ -1,17 +1,16 @@
-use Rattle.std.proofs.Common.{ap, ◌+◌, ◌∙◌, ◌∷◌}
-use Rattle.mu_lead.specs.Listing.{Tables, bring_up_from, late_from}
-use Rattle.mu_lead.proofs.Firsts.{joined_region, other_region}
-use Rattle.mu_model.specs.Placing.{is_within_ring, reaches_head}
-use Rattle.std.proofs.Common.{None, Some, arith, get_or, length, refl, subst, ℕ, ◌+◌, ◌<◌, ◌||◌, ◌∙◌, ◌∷◌, ◌≡◌}
-use Rattle.mu_model.specs.declared.event.Verb.{Verb}
-use Rattle.mu_model.specs.declared.event.Answer.{Answer}
-use Rattle.mu_lead.proofs.Keeping.{leading_calm, leads_kept, raise_event, raised_now, reached_raised, tables_reach}
 use Rattle.mu_lead.proofs.Bringing.{all_done, done_behind, raised_behind}
+use Rattle.mu_lead.proofs.Firsts.{joined_region, other_region}
+use Rattle.mu_lead.proofs.Keeping.{leading_calm, leads_kept, raise_event, raised_now, reached_raised, tables_reach}
+use Rattle.mu_lead.proofs.StandsOnward.{brought_stand, late_stands, stands_there}
 use Rattle.mu_lead.proofs.Tables.{tables_kept}
-use Rattle.std.proofs.Common.{sym}
-use Rattle.mu_lead.specs.Leading.{HaveFew}
-use Rattle.mu_lead.proofs.Writes.{fuo_raised}
+use Rattle.mu_lead.proofs.Writes.{four, fuo_raised}
 use Rattle.mu_lead.specs.Journal.{fuo_in}
+use Rattle.mu_lead.specs.Leading.{HaveFew}
+use Rattle.mu_lead.specs.Listing.{Tables, bring_up_from, late_from}
+use Rattle.mu_model.specs.Placing.{is_within_ring, reaches_head}
+use Rattle.mu_model.specs.declared.event.Answer.{Answer}
+use Rattle.mu_model.specs.declared.event.Verb.{Verb}
+use Rattle.std.proofs.Common.{None, Some, ap, arith, get_or, length, refl, subst, sym, ℕ, ◌+◌, ◌<◌, ◌||◌, ◌∙◌, ◌∷◌, ◌≡◌}
 use Rattle.mu_lead.proofs.lead.Lead.took_raise_behind.Goals as goal
 
 pub returns-in-Joined-clause-stands : goal.returns-in-Joined-clause-stands
@@ -43,7 +42,7 @@ returns-in-Joined-clause-stands c = λ mine s is possible told.
       inside = s.inside;
       leading = leading;
       tables = tables;
-      at = c.late_from-self.ensures.stands (e ∷ mine) (record { possible = possible; config = s.config; inside = s.inside; leading = leading; tables = tables }) told (record { leads = leads; have = λ k region member. done k region member (all_done c.args.then c.in-Joined.is k c.saturating_add.result); raised = raised; few = λ k region member. (here.behind.few k region member).0 });
+      at = stands_there l.config l.id l.number (e ∷ mine) (four l.up c.with_fuo-self.result l.heads l.written.items) _ _ (c.late_from-self.ensures (e ∷ mine) (record { possible = possible; config = s.config; inside = s.inside; leading = leading; tables = tables }) told) (late_stands l.config l.id l.number c.saturating_add.result (e ∷ mine) (four l.up c.with_fuo-self.result l.heads l.written.items) (record { is = s.config; inside = s.inside; possible = possible; tables = tables }) (record { leads = leads; have = λ k region member. done k region member (all_done c.args.then c.in-Joined.is k c.saturating_add.result); raised = raised; few = λ k region member. (here.behind.few k region member).0 }));
     }
 
 pub returns-in_default-clause-stands : goal.returns-in_default-clause-stands
@@ -75,7 +74,7 @@ returns-in_default-clause-stands c = λ mine s is possible told.
       inside = s.inside;
       leading = leading;
       tables = tables;
-      at = c.bring_up_from-self.ensures.stands (e ∷ mine) (record { possible = possible; config = s.config; inside = s.inside; leading = leading; tables = tables }) told leads raised here.behind.clear done (subst (HaveFew l.config l.id (e ∷ mine) l.up c.args.then) (sym next) here.behind.few) c.in_default.not-Joined;
+      at = stands_there l.config l.id l.number (e ∷ mine) (four l.up c.with_fuo-self.result l.heads l.written.items) _ _ (c.bring_up_from-self.ensures (e ∷ mine) (record { possible = possible; config = s.config; inside = s.inside; leading = leading; tables = tables }) told) (brought_stand l.config l.id l.number c.saturating_add-in_default.result (e ∷ mine) (four l.up c.with_fuo-self.result l.heads l.written.items) c.args.then (record { is = s.config; inside = s.inside; possible = possible; tables = tables }) leads raised here.behind.clear done (subst (HaveFew l.config l.id (e ∷ mine) l.up c.args.then) (sym next) here.behind.few) c.in_default.not-Joined);
     }
 
 pub returns-in-Joined-clause-listed : goal.returns-in-Joined-clause-listed
@@ -87,7 +86,7 @@ returns-in-Joined-clause-listed c = λ mine s is possible told.
     let more = c.saturating_add.ensures in
     let after = raise_event l.id c.args.p (get_or l.up c.args.p 0) ∷ mine in
     let t : Tables = record { up = l.up; reach = c.with_fuo-self.result; heads = l.heads; written = l.written.items } in
-    c.late_from-self.ensures.listed after (record { possible = possible; config = now.config; inside = now.inside; leading = now.leading; tables = now.tables }) told ∙ ap (late_from l.config l.id after l.heads) (let next : c.saturating_add.result ≡ c.args.p + 1 = omega (arith, more, region, few) in next) ∙ joined_region l.config l.id after t c.args.p c.args.then c.in-Joined.is
+    c.late_from-self.ensures after (record { possible = possible; config = now.config; inside = now.inside; leading = now.leading; tables = now.tables }) told ∙ ap (late_from l.config l.id after l.heads) (let next : c.saturating_add.result ≡ c.args.p + 1 = omega (arith, more, region, few) in next) ∙ joined_region l.config l.id after t c.args.p c.args.then c.in-Joined.is
 
 pub returns-in_default-clause-listed : goal.returns-in_default-clause-listed
 returns-in_default-clause-listed c = λ mine s is possible told.
@@ -98,7 +97,7 @@ returns-in_default-clause-listed c = λ mine s is possible told.
     let more = c.saturating_add-in_default.ensures in
     let after = raise_event l.id c.args.p (get_or l.up c.args.p 0) ∷ mine in
     let t : Tables = record { up = l.up; reach = c.with_fuo-self.result; heads = l.heads; written = l.written.items } in
-    c.bring_up_from-self.ensures.listed after (record { possible = possible; config = now.config; inside = now.inside; leading = now.leading; tables = now.tables }) told ∙ ap (λ q. bring_up_from l.config l.id after t q c.args.then) (let next : c.saturating_add-in_default.result ≡ c.args.p + 1 = omega (arith, more, region, few) in next) ∙ other_region l.config l.id after t c.args.p c.args.then c.in_default.not-Joined
+    c.bring_up_from-self.ensures after (record { possible = possible; config = now.config; inside = now.inside; leading = now.leading; tables = now.tables }) told ∙ ap (λ q. bring_up_from l.config l.id after t q c.args.then) (let next : c.saturating_add-in_default.result ≡ c.args.p + 1 = omega (arith, more, region, few) in next) ∙ other_region l.config l.id after t c.args.p c.args.then c.in_default.not-Joined
 
 pub returns-in-Joined-clause-writes : goal.returns-in-Joined-clause-writes
 returns-in-Joined-clause-writes c = λ mine s is possible told.

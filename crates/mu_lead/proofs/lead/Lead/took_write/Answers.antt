@@ -1,14 +1,13 @@
-use Rattle.std.proofs.Common.{arith, get_or, length, refl, sym, ◌+◌, ◌<◌, ◌∙◌, ◌∷◌, ◌≡◌}
-use Rattle.mu_model.specs.declared.event.Verb.{Verb}
-use Rattle.mu_model.specs.declared.event.Answer.{Answer}
+use Rattle.mu_lead.proofs.Due.{default_is, last_there}
 use Rattle.mu_lead.proofs.Keeping.{leading_calm}
 use Rattle.mu_lead.proofs.Offers.{row_event, tables_row, writing_row}
-use Rattle.mu_lead.proofs.Due.{default_is, last_there}
-use Rattle.mu_model.specs.Contents.{rest_of}
-use Rattle.mu_model.specs.Contents.{config_word}
-use Rattle.mu_lead.proofs.Writes.{word_written}
+use Rattle.mu_lead.proofs.StandsOnward.{stands_there, write_stands}
+use Rattle.mu_lead.proofs.Writes.{four, word_written}
+use Rattle.mu_model.specs.Contents.{config_word, rest_of}
+use Rattle.mu_model.specs.declared.event.Answer.{Answer}
+use Rattle.mu_model.specs.declared.event.Verb.{Verb}
+use Rattle.std.proofs.Common.{ap, arith, get_or, length, refl, sym, ◌+◌, ◌<◌, ◌∙◌, ◌∷◌, ◌≡◌}
 use Rattle.std.specs.Prelude.{set}
-use Rattle.std.proofs.Common.{ap}
 use Rattle.mu_lead.proofs.lead.Lead.took_write.Goals as goal
 
 pub returns-clause-stands : goal.returns-clause-stands
@@ -38,7 +37,7 @@ returns-clause-stands c = λ values mine s is possible told.
       inside = s.inside;
       leading = leading;
       tables = tables;
-      at = c.write_from-self.ensures.stands (e ∷ mine) (record { possible = possible; config = s.config; inside = s.inside; leading = leading; tables = tables }) (writing_row l.config l.id l.number j k x j c.args.last c.args.offer mine l.up l.reach w);
+      at = stands_there l.config l.id l.number (e ∷ mine) (four l.up l.reach l.heads c.note_words.new.written.items) _ _ (c.write_from-self.ensures (e ∷ mine) (record { possible = possible; config = s.config; inside = s.inside; leading = leading; tables = tables }) (let least = s.config.few in omega (arith, end, last_is, least))) (write_stands l.config l.id l.number j c.args.last (e ∷ mine) (four l.up l.reach l.heads c.note_words.new.written.items) c.args.offer (record { is = s.config; inside = s.inside; possible = possible; tables = tables }) (writing_row l.config l.id l.number j k x j c.args.last c.args.offer mine l.up l.reach w));
     }
 
 pub returns-clause-listed : goal.returns-clause-listed
@@ -50,7 +49,7 @@ returns-clause-listed c = λ values mine s is possible told.
     let end = last_there l.config w.first (rest_of l.config w.first) s.config w.batch.row refl in
     let last_is = w.last_row in
     let rows = s.config.few in
-    c.write_from-self.ensures.listed (row_event l.id c.args.j (get_or l.written.items c.args.j 12) (config_word l.config c.args.j (get_or l.written.items c.args.j 12)) ∷ mine) (record { possible = possible; config = now.config; inside = now.inside; leading = now.leading; tables = now.tables }) (omega (arith, end, last_is, rows))
+    c.write_from-self.ensures (row_event l.id c.args.j (get_or l.written.items c.args.j 12) (config_word l.config c.args.j (get_or l.written.items c.args.j 12)) ∷ mine) (record { possible = possible; config = now.config; inside = now.inside; leading = now.leading; tables = now.tables }) (omega (arith, end, last_is, rows))
 
 pub returns-clause-writes : goal.returns-clause-writes
 returns-clause-writes c = λ values mine s is possible told.
