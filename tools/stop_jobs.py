@@ -13,7 +13,8 @@ Each budget is exactly the bound of docs/ALIVE.md for leaders that stop. The fam
 * of five or seven replicas 0 stops, and the last one, a host, at each step of the rounds in which it
   closes its region, drains it and grants it to replica 1;
 * followers alone stop, and the budget is exactly the bound within which each other replica finishes: each
-  has to end so, with all commands.
+  has to end so, with all commands;
+* the same with a ring of 8, if nobody stops.
 
 tools/bound_jobs.py reckons the other bounds, and the reports are judged as it does.
 """
@@ -22,7 +23,8 @@ import re
 import sys
 
 import trying
-from bound_jobs import BATCHES, BoundCase, MOST_BUDGET, cycle, followers_stopped, steps_after, steps_enough
+from bound_jobs import (
+    BATCHES, BoundCase, MOST_BUDGET, cycle, followers_stopped, steps_after, steps_enough, steps_in_any_ring, written)
 from programs import EXAMPLES
 from run_trials import Job, check_report
 
@@ -84,12 +86,12 @@ def hosts_while_granting():
                 yield short_job(version, replicas, {0: SHORT_JOB_STEPS // 2, replicas - 1: SHORT_JOB_STEPS // 2 + step})
 
 
-def finishing_steps(replicas, batch, positions):
-    """Where replica 0 goes on: more steps than these are enough for each that goes on to finish."""
+def finishing_steps(replicas, batch, positions, known):
+    """If replica 0 goes on and knows all then: more steps than these are enough for each that goes on to finish."""
     bringing = 19 * replicas + 8 + 12 * batch + 8 * (replicas + 1) * positions
     following = 3 * cycle(replicas) + ((batch + 1) * positions + 1) * 2 * cycle(replicas)
-    raising = steps_enough(replicas, batch, positions) + 2 * cycle(replicas) + 2 + 6 * bringing + 8 + following + 2
-    return raising + replicas * cycle(replicas)
+    lagging = 2 * cycle(replicas) + 2 + 6 * bringing + 8 + following + 2
+    return known(replicas, batch, positions) + lagging + replicas * cycle(replicas)
 
 
 class FinishCase(BoundCase):
@@ -115,9 +117,22 @@ def finishing_jobs():
                     for stops in followers_stopped(replicas):
                         reserve = replicas if version == 2 else 0
                         last = max(stops.values(), default=0) + 15 * cycle(replicas) + 1
-                        bound = max(finishing_steps(replicas, batch, commands + reserve) + 1, last)
+                        bound = max(finishing_steps(replicas, batch, commands + reserve, steps_enough) + 1, last)
                         if bound <= MOST_BUDGET:
                             yield short_job(version, replicas, stops, commands, batch, bound)
+
+
+def finishing_in_any_ring():
+    """Nobody stops, and the ring is the least."""
+    for version in (1, 2):
+        for replicas in range(1, 8):
+            for batch in BATCHES if version == 2 else BATCHES[:1]:
+                for commands in FINISHED_COMMANDS:
+                    positions = commands + (replicas if version == 2 else 0)
+                    bound = finishing_steps(replicas, batch, positions, steps_in_any_ring) + 1
+                    text = written(version, replicas, batch, RING, bound, commands, {})
+                    if text:
+                        yield f"mu {version}, replicas {replicas}, batch {batch}, {commands} commands, ring {RING}", text
 
 
 def stop_cases():
@@ -125,8 +140,9 @@ def stop_cases():
     for family in (worked_jobs, leaders_in_turn, hosts_while_granting):
         for name, text in family():
             yield BoundCase(name, ["replay"], text.encode(), None, 0)
-    for name, text in finishing_jobs():
-        yield FinishCase(f"each finishes: {name}", ["replay"], text.encode(), None, 0)
+    for family in (finishing_jobs, finishing_in_any_ring):
+        for name, text in family():
+            yield FinishCase(f"each finishes: {name}", ["replay"], text.encode(), None, 0)
 
 
 if __name__ == "__main__":

@@ -19,7 +19,7 @@ use Rattle.mu_outcome.specs.Outcomes.{Agrees, IsRun, log_of, or_empty}
 use Rattle.mu_outcome.proofs.Completing.{few_told}
 use Rattle.mu_outcome.proofs.LongestLogs.{longest_is, longest_most}
 use Rattle.mu_rows.proofs.RowsOnce.{at_least, length-from, place_of, stands_at}
-use Rattle.mu_cluster.specs.Finishing.{AppliesEachInTime, FinishesInTime, HasApplied}
+use Rattle.mu_cluster.specs.Finishing.{HasApplied, HasFinished}
 use Rattle.mu_cluster.proofs.Agreeing.{agrees_of, over_order}
 use Rattle.mu_cluster.proofs.LogCommands.{commands_in-append}
 
@@ -88,8 +88,8 @@ begins o r agrees count low = go (longest_is o.logs)
         ]
 
 -- so it tells all commands
-pub all_finish : (o : Outcome) → IsConfig o.job.config → HaveHeads o.job.config.width o.job.commands o.job.config.rows → IsRun o → AppliesEachInTime o → FinishesInTime o
-all_finish o good have run applies unpaused k on time r low there = record {
+pub finished_with : (o : Outcome) (r : ℕ) → IsConfig o.job.config → HaveHeads o.job.config.width o.job.commands o.job.config.rows → IsRun o → r < o.job.config.replicas → HasApplied o r → HasFinished o r
+finished_with o r good have run low done = record {
   heads = done.heads;
   ended = done.ended;
   all = (let f = few in let m = enough in let w = ap length whole in omega (arith, f, m, w));
@@ -97,9 +97,6 @@ all_finish o good have run applies unpaused k on time r low there = record {
   replied = run.own_replies r low ∙ ap replies (sym whole) ∙ sym run.replies;
 }
   where
-    done : HasApplied o r
-    done = applies unpaused k on time r low there
-
     front : IsPrefixOf (log_of o r) (longest o.logs)
     front = begins o r (agrees_of o good have run) run.counts.0 low
 

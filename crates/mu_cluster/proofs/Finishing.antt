@@ -18,7 +18,8 @@ use Rattle.mu_model.specs.Bounds.{cycle}
 use Rattle.mu_model.specs.Contents.{IsConfig, holds_all}
 use Rattle.mu_model.specs.Diligence.{IsDiligent}
 use Rattle.mu_model.specs.Ends.{EndsBy, full_length, head_known, is_at_least, is_finished, is_full, outrun, stops_at}
-use Rattle.mu_model.specs.Histories.{has, history, newer_or, newest, part}
+use Rattle.mu_model.specs.Histories.{count_below, has, history, newer_or, newest, part}
+use Rattle.mu_model.specs.Leaderships.{majority_of}
 use Rattle.mu_model.specs.Journals.{Record}
 use Rattle.mu_model.specs.Knowledge.{applied, has_entry, known}
 use Rattle.mu_model.specs.Legal.{IsLegalHistory}
@@ -35,12 +36,14 @@ use Rattle.mu_outcome.specs.declared.outcome.Outcome.{Outcome}
 use Rattle.mu_outcome.specs.Outcomes.{IsRun, events_of, journal_of}
 use Rattle.mu_alive.specs.Failing.{failing_steps}
 use Rattle.mu_alive.specs.Finishing.{raising_steps}
+use Rattle.mu_alive.specs.Lagging.{raising_in_any_ring}
 use Rattle.mu_alive.proofs.Cutting.{Located, cut, located}
 use Rattle.mu_alive.proofs.Enough.{holds_more, outrun_before}
 use Rattle.mu_alive.proofs.Fetching.{applied_grows}
-use Rattle.mu_alive.proofs.Finishing.{get_of_front, get_take, heads-own, same_lists}
+use Rattle.mu_alive.proofs.Finishing.{get_of_front, get_take, heads-own, raise_all, same_lists}
+use Rattle.mu_alive.proofs.Lagging.{raises_in_any_ring}
 use Rattle.mu_cluster.specs.declared.rounds.Seat.{Seat}
-use Rattle.mu_cluster.specs.Finishing.{AppliesEachInTime, HasApplied, finishing_steps}
+use Rattle.mu_cluster.specs.Finishing.{AppliesEachInAnyRing, AppliesEachInTime, HasApplied}
 use Rattle.mu_cluster.specs.Outliving.{is_stop, was_stopped}
 use Rattle.mu_cluster.specs.Paces.{AreDiligent}
 use Rattle.mu_cluster.specs.Rounds.{Played, part_of}
@@ -50,7 +53,7 @@ use Rattle.mu_cluster.proofs.Onward.{journal_part, nodes_of, score-part}
 use Rattle.mu_cluster.proofs.Outliving.{fails_then}
 use Rattle.mu_cluster.proofs.Outrunning.{none_outrun}
 use Rattle.mu_cluster.proofs.Passes.{has_later}
-use Rattle.mu_cluster.proofs.Raised.{GoOn, RaisedBy, full_holds, raised_by}
+use Rattle.mu_cluster.proofs.Raised.{GoOn, RaisedBy, RaisesAll, full_holds, raised_by}
 use Rattle.mu_cluster.proofs.Turning.{least_most}
 
 -- what a log held it holds later
@@ -95,9 +98,9 @@ record DoneBefore (c : Config) (r : ℕ) (whole : List Event) : Type 0 where
   is : whole ≡ event ∷ mine
   done : is_finished c r mine ≡ true
 
-done_before : (c : Config) (live : ℕ → Bool) (events : List Event) (lengths : List ℕ) (rounds r : ℕ) → AreUnpaused c events lengths rounds → (on : GoOn c live events) → (by : RaisedBy c live events (raising_steps c)) → r < c.replicas → live r ≡ true → length (part_of r events) ≡ c.budget → finishing_steps c < c.budget
+done_before : (c : Config) (live : ℕ → Bool) (events : List Event) (lengths : List ℕ) (rounds most r : ℕ) → AreUnpaused c events lengths rounds → (on : GoOn c live events) → (by : RaisedBy c live events most) → r < c.replicas → live r ≡ true → length (part_of r events) ≡ c.budget → most + c.replicas * cycle c < c.budget
     → ((q : ℕ) → q < c.replicas → live q ≡ false → length (part_of q events) + failing_steps c < c.budget) → DoneBefore c r (part_of r events)
-done_before c live events lengths rounds r run on by low lives spent enough failing = start (part r by.front) refl
+done_before c live events lengths rounds most r run on by low lives spent enough failing = start (part r by.front) refl
   where
     upto : ℕ
     upto = by.raised.upto
@@ -218,9 +221,38 @@ not_stopped : (t : Bool) → not t ≡ true → t ≡ false
 not_stopped true is = absurd (true≢false (sym is))
 not_stopped false is = refl
 
--- in what a replay leaves
-pub finishes_of : (o : Outcome) (order : Record) (seats : List Seat) (rounds : ℕ) → IsConfig o.job.config → (run : IsRun o) → o.order ≡ Some order → Played o.job.config o.job.script order.events seats rounds 0 → AreDiligent o → AppliesEachInTime o
-finishes_of o order seats rounds good run given played diligent unpaused k on time r low there = by_end (run.ended r low).0 (run.ended r low).1 (run.ended r low).2.ends
+-- in what a replay leaves, those that weren't stopped go on
+pub goes_on_of : (o : Outcome) (order : Record) (seats : List Seat) (rounds : ℕ) → IsConfig o.job.config → (run : IsRun o) → o.order ≡ Some order → Played o.job.config o.job.script order.events seats rounds 0 → AreDiligent o → o.job.script.pauses ≡ []
+    → was_stopped o 0 ≡ false → majority_of o.job.config.replicas ≤ count_below o.job.config.replicas (λ r. not (was_stopped o r)) → GoOn o.job.config (λ r. not (was_stopped o r)) run.order.events
+goes_on_of o order seats rounds good run given played diligent unpaused first majority = record {
+  first = ap not first;
+  majority = majority;
+  diligent = λ q inside. subst (IsDiligent c q) (journal_part o run q inside) (diligent q inside);
+  led = (nodes_of o order seats rounds run given played diligent).led 0 (let l = good.replicas.0 in omega (arith, l));
+  ended = ended;
+}
+  where
+    c : Config
+    c = o.job.config
+
+    events : List Event
+    events = run.order.events
+
+    ended : (q : ℕ) → q < c.replicas → not (was_stopped o q) ≡ true → (length (part_of q events) ≡ c.budget) ⊎ (is_finished c q (part_of q events) ≡ true)
+    ended q inside goes = go (run.ended q inside).0 (run.ended q inside).1 (run.ended q inside).2.ends
+      where
+        go : (end : End) → slice_get o.ends q ≡ Some end → EndsBy c o.job.script q (history (journal_of o q)) end → (length (part_of q events) ≡ c.budget) ⊎ (is_finished c q (part_of q events) ≡ true)
+        go End.Stopped is ends = absurd (true≢false (sym (ap is_stop is) ∙ not_stopped (was_stopped o q) goes))
+        go End.Budget is ends = inl (ap length (sym (journal_part o run q inside)) ∙ ends.1)
+        go (End.Outrun p i) is ends = absurd (none_outrun c events (map (λ journal. length (events_of journal)) o.journals) run.turns.rounds q p i good (unpaused_of o order seats rounds run given played unpaused) inside (ap (outrun c q) (sym (journal_part o run q inside)) ∙ ends.1))
+        go (End.Finished heads) is ends = inr (ap (is_finished c q) (sym (journal_part o run q inside)) ∙ ends.2)
+
+-- and each of them finishes, if all raise their heads in time and hold the others failed in time
+pub finishes_from : (o : Outcome) (order : Record) (seats : List Seat) (rounds most : ℕ) → IsConfig o.job.config → (run : IsRun o) → o.order ≡ Some order → Played o.job.config o.job.script order.events seats rounds 0 → o.job.script.pauses ≡ [] → GoOn o.job.config (λ r. not (was_stopped o r)) run.order.events
+    → 1 ≤ most → RaisesAll o.job.config (λ r. not (was_stopped o r)) most → most + o.job.config.replicas * cycle o.job.config < o.job.config.budget
+    → ((q : ℕ) → q < o.job.config.replicas → not (was_stopped o q) ≡ false → length (part_of q run.order.events) + failing_steps o.job.config < o.job.config.budget)
+    → (r : ℕ) → r < o.job.config.replicas → was_stopped o r ≡ false → HasApplied o r
+finishes_from o order seats rounds most good run given played unpaused goes_on one raises enough failing r low there = by_end (run.ended r low).0 (run.ended r low).1 (run.ended r low).2.ends
   where
     c : Config
     c = o.job.config
@@ -234,48 +266,15 @@ finishes_of o order seats rounds good run given played diligent unpaused k on ti
     live : ℕ → Bool
     live q = not (was_stopped o q)
 
-    some : 0 < c.replicas
-    some = (let l = good.replicas.0 in omega (arith, l))
-
     all : AreUnpaused c events lengths run.turns.rounds
     all = unpaused_of o order seats rounds run given played unpaused
 
-    ended : (q : ℕ) → q < c.replicas → live q ≡ true → (length (part_of q events) ≡ c.budget) ⊎ (is_finished c q (part_of q events) ≡ true)
-    ended q inside goes = go (run.ended q inside).0 (run.ended q inside).1 (run.ended q inside).2.ends
-      where
-        go : (end : End) → slice_get o.ends q ≡ Some end → EndsBy c o.job.script q (history (journal_of o q)) end → (length (part_of q events) ≡ c.budget) ⊎ (is_finished c q (part_of q events) ≡ true)
-        go End.Stopped is ends = absurd (true≢false (sym (ap is_stop is) ∙ not_stopped (was_stopped o q) goes))
-        go End.Budget is ends = inl (ap length (sym (journal_part o run q inside)) ∙ ends.1)
-        go (End.Outrun p i) is ends = absurd (none_outrun c events lengths run.turns.rounds q p i good all inside (ap (outrun c q) (sym (journal_part o run q inside)) ∙ ends.1))
-        go (End.Finished heads) is ends = inr (ap (is_finished c q) (sym (journal_part o run q inside)) ∙ ends.2)
-
-    goes_on : GoOn c live events
-    goes_on = record {
-      first = ap not on.left;
-      majority = on.majority;
-      diligent = λ q inside. subst (IsDiligent c q) (journal_part o run q inside) (diligent q inside);
-      led = (nodes_of o order seats rounds run given played diligent).led 0 some;
-      ended = ended;
-    }
-
-    raised : RaisedBy c live events (raising_steps c)
-    raised = raised_by c live events lengths run.turns.rounds good all goes_on time.large (let enough = time.enough in omega (arith, enough))
-
-    failing : (q : ℕ) → q < c.replicas → live q ≡ false → length (part_of q events) + failing_steps c < c.budget
-    failing q inside stopped =
-        let few = time.ended q inside (was (was_stopped o q) stopped) in
-        let same = ap length (journal_part o run q inside) in
-        let long = length-reverse (journal_of o q) in
-        let enough = time.failing in
-        omega (arith, few, same, long, enough)
-      where
-        was : (t : Bool) → not t ≡ false → t ≡ true
-        was true is = refl
-        was false is = absurd (true≢false is)
+    raised : RaisedBy c live events most
+    raised = raised_by c live events lengths run.turns.rounds most good all goes_on one raises (omega (arith, enough))
 
     -- it can't have spent its budget
     spent : length (history (journal_of o r)) ≡ c.budget → ⊥
-    spent is = at (done_before c live events lengths run.turns.rounds r all goes_on raised low (ap not there) (ap length (sym (journal_part o run r low)) ∙ is) time.enough failing)
+    spent is = at (done_before c live events lengths run.turns.rounds most r all goes_on raised low (ap not there) (ap length (sym (journal_part o run r low)) ∙ is) enough failing)
       where
         at : DoneBefore c r (part_of r events) → ⊥
         at d = first_end (stops_at r (length d.mine) o.job.script.stops) refl
@@ -310,3 +309,54 @@ finishes_of o order seats rounds good run given played diligent unpaused k on ti
 
         holds_mine : holds_all c (applied c r mine) ≡ true
         holds_mine = subst (λ x. holds_all c x ≡ true) (take-append-drop (full_length c r mine) (applied c r mine)) (holds_more c (take (full_length c r mine) (applied c r mine)) (drop (full_length c r mine) (applied c r mine)) (full_holds c r mine full))
+
+pub finishes_of : (o : Outcome) (order : Record) (seats : List Seat) (rounds : ℕ) → IsConfig o.job.config → (run : IsRun o) → o.order ≡ Some order → Played o.job.config o.job.script order.events seats rounds 0 → AreDiligent o → AppliesEachInTime o
+finishes_of o order seats rounds good run given played diligent unpaused k on time =
+    finishes_from o order seats rounds (raising_steps c) good run given played unpaused (goes_on_of o order seats rounds good run given played diligent unpaused on.left on.majority) (omega arith) (λ past lone writes keep long. raise_all c (λ r. not (was_stopped o r)) 0 past good time.large lone writes keep long) time.enough failing
+  where
+    c : Config
+    c = o.job.config
+
+    failing : (q : ℕ) → q < c.replicas → not (was_stopped o q) ≡ false → length (part_of q run.order.events) + failing_steps c < c.budget
+    failing q inside stopped =
+        let few = time.ended q inside (was (was_stopped o q) stopped) in
+        let same = ap length (journal_part o run q inside) in
+        let long = length-reverse (journal_of o q) in
+        let enough = time.failing in
+        omega (arith, few, same, long, enough)
+      where
+        was : (t : Bool) → not t ≡ false → t ≡ true
+        was true is = refl
+        was false is = absurd (true≢false is)
+
+-- all that pass are all that there are
+pub count_all : (n : ℕ) (f : ℕ → Bool) → ((r : ℕ) → r < n → f r ≡ true) → n ≤ count_below n f
+count_all zero f all = omega arith
+count_all (suc n) f all = go (f n) (all n (omega arith)) (count_all n f (λ r low. all r (omega (arith, low))))
+  where
+    go : (t : Bool) → t ≡ true → n ≤ count_below n f → suc n ≤ cond t (count_below n f + 1) (count_below n f)
+    go true is few = omega (arith, few)
+    go false is few = absurd (true≢false (sym is))
+
+-- if nobody is stopped, in any ring
+pub finishes_in_any_ring : (o : Outcome) (order : Record) (seats : List Seat) (rounds : ℕ) → IsConfig o.job.config → (run : IsRun o) → o.order ≡ Some order → Played o.job.config o.job.script order.events seats rounds 0 → AreDiligent o → AppliesEachInAnyRing o
+finishes_in_any_ring o order seats rounds good run given played diligent unpaused unstopped enough r low =
+    finishes_from o order seats rounds (raising_in_any_ring c) good run given played unpaused
+    (goes_on_of o order seats rounds good run given played diligent unpaused (left 0 (let l = good.replicas.0 in omega (arith, l))) (let count = count_all c.replicas (λ r. not (was_stopped o r)) all in let l = good.replicas.0 in omega (arith, count, l)))
+    (omega arith) (λ past lone writes keep long. raises_in_any_ring c (λ r. not (was_stopped o r)) 0 past good all lone writes keep long) enough
+    (λ q inside stopped. absurd (true≢false (sym (all q inside) ∙ stopped))) r low (left r low)
+  where
+    c : Config
+    c = o.job.config
+
+    left : (q : ℕ) → q < c.replicas → was_stopped o q ≡ false
+    left q inside = go (run.ended q inside).0 (run.ended q inside).1 (run.ended q inside).2.ends
+      where
+        go : (end : End) → slice_get o.ends q ≡ Some end → EndsBy c o.job.script q (history (journal_of o q)) end → was_stopped o q ≡ false
+        go End.Stopped is ends = absurd (true≢false (sym ends ∙ ap (stops_at q (length (history (journal_of o q)))) unstopped))
+        go End.Budget is ends = ap is_stop is
+        go (End.Outrun p i) is ends = ap is_stop is
+        go (End.Finished heads) is ends = ap is_stop is
+
+    all : (q : ℕ) → q < c.replicas → not (was_stopped o q) ≡ true
+    all q inside = ap not (left q inside)

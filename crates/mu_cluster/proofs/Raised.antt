@@ -35,15 +35,14 @@ use Rattle.mu_pace.specs.Collecting.{LeaderKeeps}
 use Rattle.mu_pace.specs.Counters.{AtEachMoment, AtEachStep}
 use Rattle.mu_pace.proofs.Counting.{steps_before}
 use Rattle.mu_alive.specs.Alone.{WritesAlone}
-use Rattle.mu_alive.specs.Enough.{HasLargeRing}
-use Rattle.mu_alive.specs.Finishing.{AsksAllFirst, HaveAllRaised, KeepUp, raising_steps}
+use Rattle.mu_alive.specs.Finishing.{AsksAllFirst, HaveAllRaised, KeepUp}
 use Rattle.mu_alive.specs.Following.{RaisesToAll}
 use Rattle.mu_alive.specs.Lone.{LeadsAlone}
 use Rattle.mu_alive.proofs.Beginning.{grants_before, reads_before}
 use Rattle.mu_alive.proofs.Cutting.{Cut, Located, cut, located}
 use Rattle.mu_alive.proofs.Enough.{asks_before, outrun_before}
 use Rattle.mu_alive.proofs.Fetching.{applied_grows}
-use Rattle.mu_alive.proofs.Finishing.{get_of_front, get_take, heads-own, heads_before, raise_all, replays_before, same_lists}
+use Rattle.mu_alive.proofs.Finishing.{get_of_front, get_take, heads-own, heads_before, replays_before, same_lists}
 use Rattle.mu_cluster.specs.Rounds.{part_of}
 use Rattle.mu_cluster.specs.Naming.{NamesFirst}
 use Rattle.mu_cluster.proofs.InStep.{StaysAhead, in_step}
@@ -271,10 +270,14 @@ lone_at c live events lengths rounds most good run on one_more late = at (bottom
               asked = asked;
             }
 
-none_before : (c : Config) (live : ℕ → Bool) (events : List Event) (lengths : List ℕ) (rounds : ℕ) → IsConfig c → AreUnpaused c events lengths rounds → GoOn c live events → HasLargeRing c → ((r : ℕ) → r < c.replicas → live r ≡ true → raising_steps c ≤ slice_index lengths r) → RaisedBy c live events (raising_steps c)
-none_before c live events lengths rounds good run on large late =
-    let l = lone_at c live events lengths rounds (raising_steps c) good run on (omega arith) late in
-    record { front = l.front; past = l.past; is = l.is; few = l.few; raised = raise_all c live 0 l.past good large l.lone l.writes l.keep (let n = l.taken in omega (arith, n)) }
+-- where replica 0 leads alone for so many steps, all have raised their heads
+abbrev pub RaisesAll : Config → (ℕ → Bool) → ℕ → Type 0
+RaisesAll c live most = (past : List Event) → LeadsAlone c live 0 past → WritesAlone 0 past → KeepUp c live 0 past → most ≤ length (part 0 past) → HaveAllRaised c live past
+
+none_before : (c : Config) (live : ℕ → Bool) (events : List Event) (lengths : List ℕ) (rounds most : ℕ) → IsConfig c → AreUnpaused c events lengths rounds → GoOn c live events → 1 ≤ most → RaisesAll c live most → ((r : ℕ) → r < c.replicas → live r ≡ true → most ≤ slice_index lengths r) → RaisedBy c live events most
+none_before c live events lengths rounds most good run on one raises late =
+    let l = lone_at c live events lengths rounds most good run on one late in
+    record { front = l.front; past = l.past; is = l.is; few = l.few; raised = raises l.past l.lone l.writes l.keep (let n = l.taken in omega (arith, n)) }
 
 -- the history up to the last event of q
 record UpTo (q : ℕ) (whole : List Event) : Type 0 where
@@ -365,14 +368,14 @@ one_before c live events lengths rounds most run least short finished = at (up_t
         held : (r : ℕ) → r < c.replicas → live r ≡ true → holds_all c (take upto (applied c r (part r u.past))) ≡ true
         held r low lives = ap (holds_all c) (same_taken c r q upto u.past legal (reached r low lives) (reached q least.low least.lives)) ∙ full_holds c q (part q u.past) full
 
-pub raised_by : (c : Config) (live : ℕ → Bool) (events : List Event) (lengths : List ℕ) (rounds : ℕ) → IsConfig c → AreUnpaused c events lengths rounds → GoOn c live events → HasLargeRing c → raising_steps c ≤ c.budget → RaisedBy c live events (raising_steps c)
-raised_by c live events lengths rounds good run on large enough = elim (least_or_none c.replicas live (λ r. slice_index lengths r)) [
+pub raised_by : (c : Config) (live : ℕ → Bool) (events : List Event) (lengths : List ℕ) (rounds most : ℕ) → IsConfig c → AreUnpaused c events lengths rounds → GoOn c live events → 1 ≤ most → RaisesAll c live most → most ≤ c.budget → RaisedBy c live events most
+raised_by c live events lengths rounds most good run on one raises enough = elim (least_or_none c.replicas live (λ r. slice_index lengths r)) [
   | inr none ↦ absurd (true≢false (sym on.first ∙ none 0 (let l = good.replicas.0 in omega (arith, l))))
-  | inl q ↦ elim (cases_lt (slice_index lengths q.at) (raising_steps c)) [
-    | inr late ↦ none_before c live events lengths rounds good run on large (λ r low lives. let l = q.least r low lives in omega (arith, l, late))
+  | inl q ↦ elim (cases_lt (slice_index lengths q.at) most) [
+    | inr late ↦ none_before c live events lengths rounds most good run on one raises (λ r low lives. let l = q.least r low lives in omega (arith, l, late))
     | inl early ↦ elim (on.ended q.at q.low q.lives) [
       | inl spent ↦ absurd (let taken = run.taken q.at q.low in omega (arith, spent, taken, early, enough))
-      | inr finished ↦ one_before c live events lengths rounds (raising_steps c) run q (omega (arith, early)) finished
+      | inr finished ↦ one_before c live events lengths rounds most run q (omega (arith, early)) finished
     ]
   ]
 ]

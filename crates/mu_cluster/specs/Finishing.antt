@@ -6,6 +6,7 @@ use Rattle.std.specs.List.{slice_get}
 use Rattle.mu_alive.specs.Enough.{HasLargeRing}
 use Rattle.mu_alive.specs.Failing.{failing_steps}
 use Rattle.mu_alive.specs.Finishing.{raising_steps}
+use Rattle.mu_alive.specs.Lagging.{raising_in_any_ring}
 use Rattle.mu_model.specs.declared.config.Config.{Config}
 use Rattle.mu_model.specs.declared.script.End.{End}
 use Rattle.mu_model.specs.Bounds.{cycle}
@@ -41,6 +42,17 @@ AppliesEachInTime o =
     o.job.script.pauses ≡ [] → (k : ℕ) → GoesOnWith o 0 → HasTimeToFinish o k
     → (r : ℕ) → r < o.job.config.replicas → was_stopped o r ≡ false → HasApplied o r
 
+-- the same in any ring
+abbrev pub finishing_in_any_ring : Config → ℕ
+finishing_in_any_ring c = raising_in_any_ring c + c.replicas * cycle c
+
+-- if the script has no line, each replica finishes with every row, in any ring
+abbrev pub AppliesEachInAnyRing : Outcome → Type 0
+AppliesEachInAnyRing o =
+    o.job.script.pauses ≡ [] → o.job.script.stops ≡ []
+    → finishing_in_any_ring o.job.config < o.job.config.budget
+    → (r : ℕ) → r < o.job.config.replicas → HasApplied o r
+
 -- replica r finished, its log tells as many commands as the job has, those of the longest log, and
 -- it replied as is told
 pub record HasFinished (o : Outcome) (r : ℕ) : Type 0 where
@@ -55,3 +67,10 @@ abbrev pub FinishesInTime : Outcome → Type 0
 FinishesInTime o =
     o.job.script.pauses ≡ [] → (k : ℕ) → GoesOnWith o 0 → HasTimeToFinish o k
     → (r : ℕ) → r < o.job.config.replicas → was_stopped o r ≡ false → HasFinished o r
+
+-- and in any ring, if the script has no line
+abbrev pub FinishesInAnyRing : Outcome → Type 0
+FinishesInAnyRing o =
+    o.job.script.pauses ≡ [] → o.job.script.stops ≡ []
+    → finishing_in_any_ring o.job.config < o.job.config.budget
+    → (r : ℕ) → r < o.job.config.replicas → HasFinished o r
