@@ -1,2 +1,3 @@
 mod EventLines
+mod Firsts
 mod TakenEvents
