@@ -343,7 +343,7 @@ def main():
         broken = open(os.path.join(TOP, "examples", "grant-before-drain.trace"), "rb").read()
         jobs = [(["replay"], TWO_CLIENTS), (["run"], TWO_CLIENTS), (["trace"], TWO_CLIENTS), (["check"], trace),
                 (["check"], judged), (["why"], judged), (["why"], broken), (["tell"], trace),
-                (["replay"], BATCHED),
+                (["show", "9"], trace), (["replay"], BATCHED),
                 (["desk"], TWO_CLIENTS), (["book"], TWO_CLIENTS), (["live", "2"], TWO_CLIENTS), (["bulk", "10"], b"")]
         for words, given in jobs:
             if given:

@@ -1,5 +1,5 @@
 //! The collecting of a job: what its clients send at once, in the order in which it comes.
-ghost use Rattle.std.specs.Prelude.{◌≡◌, ◌≤◌, [], length, vec_capacity, IfOk};
+ghost use Rattle.std.specs.Prelude.{◌≡◌, ◌≤◌, [], length, max, vec_capacity, IfOk};
 ghost use Rattle.crossbeam_queue.specs.Passes.{view, IsPassOf, ruled_capacity};
 ghost use Rattle.kv_store.specs.Sessions.{IsInSession};
 ghost use Rattle.mu_input.specs.Batches.{rows_of};
@@ -49,11 +49,19 @@ pub fn collect<R: Threads + Wait + Sync, G: Gate + Sync>(
     ensures session { IfOk result (λ collected. IsInSession collected.commands) }
 {
     let count = job.commands.len();
-    let rows = Vec::with_capacity(alloc, count)?;
-    let room = Vec::with_capacity(alloc, count)?;
+    let rows = room_for(alloc, count)?;
+    let room = room_for(alloc, count)?;
     let (line, pass) = Line::ruled(alloc, count.max(1))?;
     let arrived = arrive(rt, &line, pass, job.commands.as_slice(), room, gate);
     Ok(with_commands(job, Sequence::from_vec(arrived), rows))
+}
+
+/// An empty list: room for this many, and no more.
+fn room_for<T>(alloc: Global, count: usize) -> Result<Vec<T>, NoMemory>
+    ensures empty { IfOk result (λ list. list.items ≡ []) }
+    ensures room { IfOk result (λ list. vec_capacity list ≡ count) }
+{
+    Vec::with_capacity(alloc, count)
 }
 
 /// The commands as they come out of an empty line, in a list that has room for them.
@@ -70,6 +78,7 @@ fn arrive<R: Threads + Wait + Sync, G: Gate + Sync>(
     requires senders { HaveSenders commands.now }
     requires few { length commands.now ≤ MOST_COMMANDS }
     requires line { length commands.now ≤ ruled_capacity line.now }
+    requires no_more { ruled_capacity line.now ≤ max 1 (length commands.now) }
     requires empty { room.items ≡ [] }
     requires room { length commands.now ≤ vec_capacity room }
     ensures arrival { IsArrival commands.now result.items }

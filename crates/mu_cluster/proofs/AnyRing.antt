@@ -1,5 +1,5 @@
 -- In a replay whose script has no line replica 0 has every row in time, in any ring.
-use Rattle.std.proofs.Common.{◌≡◌, ◌∙◌, ℕ, zero, suc, ◌<◌, ◌≤◌, ◌==◌, inl, inr, true, Some, List, ap, arith, length, map, refl, subst, sym}
+use Rattle.std.proofs.Common.{◌≡◌, ◌∙◌, ℕ, ◌<◌, ◌≤◌, ◌==◌, inl, inr, true, Some, List, ap, arith, length, map, refl, subst, sym}
 use Rattle.std.specs.Prelude.{slice_index}
 use Rattle.std.specs.List.{slice_get}
 use Rattle.mu_input.specs.Heads.{HaveHeads}
@@ -9,7 +9,7 @@ use Rattle.mu_model.specs.declared.script.End.{End}
 use Rattle.mu_model.specs.Contents.{IsConfig, holds_all}
 use Rattle.mu_model.specs.Diligence.{IsDiligent}
 use Rattle.mu_model.specs.Ends.{EndsBy}
-use Rattle.mu_model.specs.Histories.{count_below, history, part}
+use Rattle.mu_model.specs.Histories.{history, part}
 use Rattle.mu_model.specs.Journals.{Record}
 use Rattle.mu_model.specs.Knowledge.{applied}
 use Rattle.mu_model.proofs.Basics.{same_some}
@@ -28,16 +28,12 @@ use Rattle.mu_cluster.specs.Naming.{NoneOutrunUnpaused}
 use Rattle.mu_cluster.specs.Paces.{AreDiligent}
 use Rattle.mu_cluster.specs.Rounds.{Played, part_of}
 use Rattle.mu_cluster.proofs.Agreeing.{agrees_of, over_order}
+use Rattle.mu_cluster.proofs.Finishing.{count_all}
 use Rattle.mu_cluster.proofs.Lives.{done_or_not}
 use Rattle.mu_cluster.proofs.Naming.{AreUnpaused, unpaused_of}
 use Rattle.mu_cluster.proofs.Onward.{journal_part, nodes_of}
 use Rattle.mu_cluster.proofs.Outrunning.{spends_of}
 use Rattle.mu_cluster.proofs.Raised.{GoOn, LoneAt, lone_at}
-
--- all are a majority
-all_count : (n : ℕ) → count_below n (λ r. true) ≡ n
-all_count zero = refl
-all_count (suc n) = let ih = all_count n in omega (arith, ih)
 
 -- in what a replay leaves
 pub any_ring_of : (o : Outcome) (order : Record) (seats : List Seat) (rounds : ℕ) → IsConfig o.job.config → (run : IsRun o) → o.order ≡ Some order → Played o.job.config o.job.script order.events seats rounds 0 → AreDiligent o → AppliesAllInAnyRing o
@@ -71,7 +67,7 @@ any_ring_of o order seats rounds good run given played diligent unpaused unstopp
     goes_on : GoOn c (λ r. true) events
     goes_on = record {
       first = refl;
-      majority = (let count = all_count c.replicas in let l = good.replicas.0 in omega (arith, count, l));
+      majority = (let count = count_all c.replicas (λ r. true) (λ r low. refl) in let l = good.replicas.0 in omega (arith, count, l));
       diligent = λ r low. subst (IsDiligent c r) (journal_part o run r low) (diligent r low);
       led = (nodes_of o order seats rounds run given played diligent).led 0 some;
       ended = λ r low _. inl (budget r low);

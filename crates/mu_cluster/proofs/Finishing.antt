@@ -330,7 +330,7 @@ finishes_of o order seats rounds good run given played diligent unpaused k on ti
         was false is = absurd (true≢false is)
 
 -- all that pass are all that there are
-count_all : (n : ℕ) (f : ℕ → Bool) → ((r : ℕ) → r < n → f r ≡ true) → n ≤ count_below n f
+pub count_all : (n : ℕ) (f : ℕ → Bool) → ((r : ℕ) → r < n → f r ≡ true) → n ≤ count_below n f
 count_all zero f all = omega arith
 count_all (suc n) f all = go (f n) (all n (omega arith)) (count_all n f (λ r low. all r (omega (arith, low))))
   where

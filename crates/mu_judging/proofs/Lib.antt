@@ -1,2 +1,3 @@
 pub mod EventLines
+mod Firsts
 mod TakenEvents

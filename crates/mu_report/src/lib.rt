@@ -5,6 +5,7 @@
 mod accounts;
 mod answers;
 mod book;
+mod facts;
 mod line;
 mod lives;
 mod misreads;

@@ -1,5 +1,5 @@
 //! Several lines on their way to a sink.
-ghost use Rattle.std.specs.Prelude.{◌≡◌, ◌+◌, ◌*◌, ◌<◌, ◌≤◌, ◌^◌, [], ◌∷◌, ◌++◌, length, map, IfErr, IfOk};
+ghost use Rattle.std.specs.Prelude.{◌≡◌, ◌+◌, ◌*◌, ◌<◌, ◌≤◌, ◌^◌, [], ◌∷◌, ◌++◌, length, map, min, IfErr, IfOk};
 ghost use Rattle.mu_report.specs.declared.line.TheConstants.{LINE_BYTES};
 ghost use Rattle.mu_report.specs.declared.page.TheConstants.{PAGE_LINES, PAGE_BYTES};
 ghost use Rattle.mu_report.specs.Printing.{PrintsAll, PrintsPart, ended};
@@ -99,6 +99,7 @@ fn fill_page(page: &mut Page, events: &[Event])
 pub fn split_page(events: &[Event]) -> (&[Event], &[Event])
     ensures all { events.now ≡ result.0.now ++ result.1.now }
     ensures few { length result.0.now ≤ PAGE_LINES }
+    ensures full { length result.0.now ≡ min PAGE_LINES (length events.now) }
     ensures shorter { 0 < length events.now → length result.1.now < length events.now }
 {
     events.split_at(events.len().min(PAGE_LINES))

@@ -18,7 +18,7 @@ writing_of w =
     }
 
 -- the words that the writer stored past the count are the rows of the rest of its list, which has
--- room
+-- room for all commands of the table, and no more
 pub record IsWriter (w : writer.Inside) : Type 0 where
   pub pending : List Request
   pub of : w.seat.table_id ≡ (arc_value w.board).table
@@ -28,7 +28,7 @@ pub record IsWriter (w : writer.Inside) : Type 0 where
   pub count : w.published ≡ length w.seat.me.0.seen
   pub commands : AreCommands w.list.items
   pub within : length w.list.items ≤ (arc_value w.board).capacity
-  pub room : (arc_value w.board).capacity ≤ vec_capacity w.list
+  pub room : vec_capacity w.list ≡ (arc_value w.board).capacity
   pub few : (arc_value w.board).capacity ≤ 1500
 
 -- the first k words of a row were stored, and nothing else changed

@@ -19,37 +19,43 @@ pub(crate) fn first_choice(
     chosen_at(alloc, config, events, 0)
 }
 
-/// Whether replica 1 knows just the first command, of the client's session.
-fn knows_one(alloc: Global, config: &Config, events: &[Event]) -> Result<bool, NoMemory>
+/// Whether a replica knows just these entries.
+fn knows(
+    alloc: Global,
+    config: &Config,
+    events: &[Event],
+    r: u8,
+    wanted: &[u16],
+) -> Result<bool, NoMemory>
     requires config { IsConfig config.now }
     requires legal { IsLegal config.now events.now }
 {
-    let known = known(alloc, config, events, 1)?;
-    Ok(known.as_slice() == [0].as_slice())
+    let known = known(alloc, config, events, r)?;
+    Ok(known.as_slice() == wanted)
 }
 
-/// How many commands of client 0 replica 1 knows.
-fn session(alloc: Global, config: &Config, events: &[Event]) -> Result<u16, NoMemory>
+/// How many commands of client 0 a replica knows.
+fn session(alloc: Global, config: &Config, events: &[Event], r: u8) -> Result<u16, NoMemory>
     requires config { IsConfig config.now }
     requires legal { IsLegal config.now events.now }
 {
-    session_of(alloc, config, events, 1, 0)
+    session_of(alloc, config, events, r, 0)
 }
 
-/// What replicas 1 and 2 both know at the first position.
-fn shared(alloc: Global, config: &Config, events: &[Event]) -> Result<Option<(u16, u16)>, NoMemory>
+/// Whether replica 1 and another both know the first position.
+fn share(alloc: Global, config: &Config, events: &[Event], other: u8) -> Result<bool, NoMemory>
     requires config { IsConfig config.now }
     requires legal { IsLegal config.now events.now }
 {
-    both_know(alloc, config, events, 1, 2, 0)
+    Ok(both_know(alloc, config, events, 1, other, 0)?.is_some())
 }
 
-/// Whether the first position still has its place at replica 1.
-fn keeps(alloc: Global, config: &Config, events: &[Event]) -> Result<bool, NoMemory>
+/// Whether the first position still has its place at a replica.
+fn keeps(alloc: Global, config: &Config, events: &[Event], r: u8) -> Result<bool, NoMemory>
     requires config { IsConfig config.now }
     requires legal { IsLegal config.now events.now }
 {
-    kept(alloc, config, events, 1, 0)
+    kept(alloc, config, events, r, 0)
 }
 
 /// Where a mark of replica 2 is chosen.
@@ -60,18 +66,32 @@ fn mark(alloc: Global, config: &Config, events: &[Event]) -> Result<Option<u16>,
     marked(alloc, config, events, 2)
 }
 
-/// Whether the laws answer so of a legal list.
+/// Whether the replica, of which there is none in the list, knows nothing and keeps its place.
+fn is_nobody(alloc: Global, config: &Config, events: &[Event], r: u8) -> Result<bool, NoMemory>
+    requires config { IsConfig config.now }
+    requires legal { IsLegal config.now events.now }
+{
+    Ok(
+        knows(alloc, config, events, r, &[])?
+            && session(alloc, config, events, r)? == 0
+            && !share(alloc, config, events, r)?
+            && keeps(alloc, config, events, r)?,
+    )
+}
+
+/// Whether the laws answer so of a legal list of three replicas.
 fn is_adopted(alloc: Global, config: &Config, events: &[Event]) -> Result<bool, NoMemory>
     requires config { IsConfig config.now }
     requires legal { IsLegal config.now events.now }
 {
     Ok(
         first_choice(alloc, config, events)? == Some(0)
-            && knows_one(alloc, config, events)?
-            && session(alloc, config, events)? == 1
-            && shared(alloc, config, events)?.is_none()
-            && keeps(alloc, config, events)?
-            && mark(alloc, config, events)?.is_none(),
+            && knows(alloc, config, events, 1, &[0])?
+            && session(alloc, config, events, 1)? == 1
+            && !share(alloc, config, events, 2)?
+            && keeps(alloc, config, events, 1)?
+            && mark(alloc, config, events)?.is_none()
+            && is_nobody(alloc, config, events, 3)?,
     )
 }
 

@@ -11,8 +11,9 @@ use std::test::Fail;
 use std::thread;
 use std::thread::Threads;
 
-/// Holds the first command of client 0 until two of client 1 were sent, and the third of client 1
-/// until client 0 sends its first.
+/// Holds the first command of client 0 until two of client 1 were sent, and the first of client 1
+/// until client 0 comes to its first. So the first two to arrive are those of client 1, if each is
+/// sent behind the gate.
 #[derive(Drop)]
 struct Crossed {
     first: AtomicU64,
@@ -39,9 +40,11 @@ impl Gate for Crossed {
             self.first.store(1, Ordering::SeqCst);
             self.hold(&self.third);
         }
+        if client == 1 && sent == 0 {
+            self.hold(&self.first);
+        }
         if client == 1 && sent == 2 {
             self.third.store(1, Ordering::SeqCst);
-            self.hold(&self.first);
         }
     }
 }

@@ -52,24 +52,28 @@ fn publish_and_tell(rt: HostRuntime) -> Result<(), Fail> {
     Ok(())
 }
 
-/// Holds the fourth publishing until the first reader comes to its sixth get, and that get until
-/// the fourth publishing; the fifth and the seventh get for each other, so that the sixth get sees
-/// what was published between; and the tenth gets of both readers.
+/// Holds the first publishing until the first reader comes to its fifth get, that get until the
+/// writer comes to its fourth publishing, and this until the reader comes to its sixth get. So the
+/// fourth get sees nothing published and the fifth three commands, if each is made behind the gate.
+/// The tenth gets of both readers wait for each other.
 #[derive(Drop)]
 struct Crossed {
-    publishing: AtomicU64,
-    get: AtomicU64,
     fifth: AtomicU64,
-    next: AtomicU64,
+    fourth: AtomicU64,
+    sixth: AtomicU64,
     one: AtomicU64,
     other: AtomicU64,
     failures: AtomicU64,
 }
 
 impl Crossed {
-    /// Marks that one was called, and waits until the other was, for this many turns at most.
-    fn meet(&self, mine: &AtomicU64, other: &AtomicU64) {
+    /// Marks that one was called.
+    fn mark(&self, mine: &AtomicU64) {
         mine.store(1, Ordering::SeqCst);
+    }
+
+    /// Waits until the other was called, for this many turns at most.
+    fn hold(&self, other: &AtomicU64) {
         for _ in 0..100_000_000u64 {
             if other.load(Ordering::SeqCst) > 0 {
                 return;
@@ -78,15 +82,21 @@ impl Crossed {
         }
         self.failures.store(1, Ordering::SeqCst);
     }
+
+    /// Marks that one was called, and waits until the other was.
+    fn meet(&self, mine: &AtomicU64, other: &AtomicU64) {
+        self.mark(mine);
+        self.hold(other);
+    }
 }
 
 impl Gate for Crossed {
     fn pass(&self, branch: u8, count: u32) {
         match (branch, count) {
-            (0, 3) => self.meet(&self.publishing, &self.get),
-            (1, 5) => self.meet(&self.get, &self.publishing),
-            (0, 4) => self.meet(&self.fifth, &self.next),
-            (1, 6) => self.meet(&self.next, &self.fifth),
+            (0, 0) => self.hold(&self.fifth),
+            (1, 4) => self.meet(&self.fifth, &self.fourth),
+            (0, 3) => self.meet(&self.fourth, &self.sixth),
+            (1, 5) => self.mark(&self.sixth),
             (1, 9) => self.meet(&self.one, &self.other),
             (2, 9) => self.meet(&self.other, &self.one),
             _ => {}
@@ -97,10 +107,9 @@ impl Gate for Crossed {
 impl Crossed {
     fn new() -> Crossed {
         Crossed {
-            publishing: AtomicU64::new(0),
-            get: AtomicU64::new(0),
             fifth: AtomicU64::new(0),
-            next: AtomicU64::new(0),
+            fourth: AtomicU64::new(0),
+            sixth: AtomicU64::new(0),
             one: AtomicU64::new(0),
             other: AtomicU64::new(0),
             failures: AtomicU64::new(0),
@@ -152,11 +161,11 @@ fn saw_last(lived: &Lived, wanted: [Option<[(Key, Option<Text>, u16); 2]>; 2]) -
     lists.map(|sights| last_two(sights.as_slice())).eq(wanted)
 }
 
-/// Whether the sixth get of the first reader saw what was published before the fourth publishing.
+/// Whether the fourth get of the first reader saw nothing published, and the fifth three commands.
 fn saw_beside(lived: &Lived) -> bool {
     match lived.sights.as_slice() {
         [first, ..] => match first.as_slice() {
-            [_, _, _, _, _, sight, ..] => sight.seen.upto() >= 3,
+            [_, _, _, fourth, fifth, ..] => fourth.seen.upto() == 0 && fifth.seen.upto() == 3,
             _ => false,
         },
         _ => false,
