@@ -83,7 +83,7 @@ uint32_t mu_judge_new(mu_judge *judge, const void *job, size_t length, void *out
 uint32_t mu_judge_take(mu_judge *judge, const void *line, size_t length);
 
 /* What `mu why` says of the trace so far: `legal N` with MU_DONE, or with MU_ILLEGAL which event broke
- * it, in which line of the trace, and why. */
+ * it, in which line of the trace, and why. A judge keeps no script: it notes no stop that isn't heeded. */
 uint32_t mu_judge_why(mu_judge *judge, void *out, size_t room, size_t *taken);
 
 /* Lets a judge go, with its memory. It is MU_NO_JUDGE then. */

@@ -1,12 +1,13 @@
 #!/usr/bin/env python3
-"""Cuts traces at random moments, and compares what `mu tell` says with an account of its own.
+"""Takes random moments of traces, and compares what `mu tell` says of the trace cut there, and what `mu show`
+says of the whole one, with an account of its own.
 
     tools/moments.py TRACE [TRACE ..]             1,000 moments in all, by the proved program or an unproved build
     tools/moments.py --count N TRACE [TRACE ..]   so many
 
-It shares nothing with the program: what a replica knows, has applied, committed and replied, and how it has
-ended so far, is computed anew from its events, as docs/PROTOCOL.md and docs/FORMATS.md say (with what
-tools/picture_cases.py knows of a replica).
+It shares nothing with the program: what a region holds, what a replica knows, has applied, committed and
+replied, what its leadership has come to, and how it has ended so far, is computed anew from the events, as
+docs/PROTOCOL.md and docs/FORMATS.md say (with what tools/picture_cases.py knows of a replica).
 """
 import os
 import random
@@ -37,12 +38,58 @@ class Trace:
         return "\n".join([*self.head, *self.events[:count], "end", ""])
 
 
+class Region:
+    """What one region holds."""
+
+    def __init__(self):
+        self.owner, self.grant, self.closing, self.target = "none", 0, False, "none"
+        self.minimum, self.log, self.fuo, self.head, self.beats, self.asks = 0, [], 0, 0, 0, {}
+
+    def lines(self, p, job, ring):
+        """What is shown of it: of its log the entries that a look finds, which the ring still holds."""
+        state = "closing" if self.closing else "open"
+        yield f"region {p} fence {self.owner} {self.grant} {state} {self.target}"
+        yield f"region {p} min {self.minimum} fuo {self.fuo} head {self.head} beats {self.beats}"
+        for w in range(job.replicas):
+            if w in self.asks:
+                yield f"region {p} asks of {w}: {self.asks[w]}"
+        for i in range(max(0, len(self.log) - ring), len(self.log)):
+            yield f"region {p} log {i} entry {' '.join(self.log[i])}"
+
+
+def change(regions, r, verb, answer):
+    """What a step of replica r changes in the regions, as the words of the trace say."""
+    kind, own = verb[0], regions[r]
+    if kind == "ask":
+        asks = regions[int(verb[1])].asks
+        asks[r] = asks.get(r, 0) + 1
+    elif kind == "close":
+        own.closing = True
+    elif kind == "grant":
+        own.owner, own.grant, own.closing, own.target = verb[1], own.grant + 1, False, "none"
+    elif kind == "enter" and answer[0] == "entered":
+        regions[int(verb[1])].target = " ".join(verb[2:])
+    elif kind == "putmin" and answer[0] == "done":
+        regions[int(verb[1])].minimum = int(verb[2])
+    elif kind == "putslot" and answer[0] == "done":
+        log, i = regions[int(verb[1])].log, int(verb[2])
+        log[i:i + 1] = [verb[3:5]]
+    elif kind == "raisefuo":
+        region = regions[int(verb[1])]
+        region.fuo = max(region.fuo, int(verb[2]))
+    elif kind == "raisehead":
+        own.head = max(own.head, int(verb[1]))
+    elif kind == "beat":
+        own.beats += 1
+
+
 class Moment:
-    """What each replica has come to after some events."""
+    """What each region holds and each replica has come to after some events."""
 
     def __init__(self, trace):
         self.trace, self.job = trace, trace.job
         self.replicas = [picture_cases.Replica() for _ in range(self.job.replicas)]
+        self.regions = [Region() for _ in range(self.job.replicas)]
         self.commits = [0] * self.job.replicas
         self.outrun = [None] * self.job.replicas
         self.taken = 0
@@ -54,6 +101,7 @@ class Moment:
         replica = self.replicas[r]
         if verb[0] == "look" and answer[0] == "past" and len(replica.known) <= int(verb[2]) and not self.outrun[r]:
             self.outrun[r] = f"outrun {verb[1]} {verb[2]}"
+        change(self.regions, r, verb, answer)
         taught, _ = picture_cases.step(self.job, replica, r, verb, answer)
         if taught is not None and verb[0] == "putslot":
             self.commits[r] += 1
@@ -86,6 +134,29 @@ class Moment:
         if self.outrun[r]:
             return self.outrun[r]
         return "finished" if replica.has_finished(self.job, r) else "running"
+
+    def leadership(self, r):
+        """What the last leadership of a replica has come to."""
+        replica = self.replicas[r]
+        if not replica.begun:
+            return "none"
+        if replica.over:
+            return "over"
+        return "begun" if replica.number is None else f"number {replica.number}"
+
+    def shown(self):
+        """What is shown of the moment."""
+        lines = [f"after {self.taken} of {len(self.trace.events)}"]
+        for p, region in enumerate(self.regions):
+            lines += region.lines(p, self.job, self.trace.ring)
+        for r, replica in enumerate(self.replicas):
+            lines.append(f"replica {r} steps {replica.steps} known {len(replica.known)} applied {len(self.log(r))} "
+                         f"names {replica.named(r)}")
+            lines.append(f"replica {r} leadership {self.leadership(r)}")
+            lines += [f"replica {r} member {p}" for p in sorted(replica.joined)]
+            lines += [f"replica {r} failed {q}" for q in sorted(replica.failed)]
+            lines += [f"replica {r} knows {i} value {value}" for i, value in enumerate(replica.known)]
+        return "\n".join([*lines, ""])
 
     def told(self):
         """The report, and its status."""
@@ -132,13 +203,14 @@ def reply_to(store, command):
 
 
 def cases_of(trace, name, counts):
-    """A case for each of these moments."""
-    moment, cases = Moment(trace), []
+    """Two cases for each of these moments: what is told and what is shown."""
+    moment, cases, whole = Moment(trace), [], trace.cut(len(trace.events)).encode()
     for count in sorted(counts):
         while moment.taken < count:
             moment.take(trace.events[moment.taken])
         told, status = moment.told()
         cases.append(trying.Case(f"{name}, {count} events", ["tell"], trace.cut(count).encode(), told.encode(), status))
+        cases.append(trying.Case(f"{name}, show {count}", ["show", str(count)], whole, moment.shown().encode(), 0))
     return cases
 
 
@@ -165,7 +237,7 @@ def main():
     wrong = trying.troubles(cases, trying.answers_of("mu", cases))
     for trouble in wrong:
         print(trouble)
-    print(f"{len(cases) - len(wrong)} of {len(cases)} moments told right")
+    print(f"{len(cases) - len(wrong)} of {len(cases)} right: each moment is told and shown")
     sys.exit(1 if wrong else 0)
 
 

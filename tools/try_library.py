@@ -100,6 +100,8 @@ def try_traces(tried, library, traces):
     for name, trace in traces:
         whole = library.answer("why", trace)[1]
         first = whole.splitlines(keepends=True)[0]
+        if first.startswith(b"legal"):
+            whole = first  # a judge of lines keeps no script, so it notes no stop that isn't heeded
         if first.startswith(b"refused"):
             if first.split()[-1] in (NO_END, AFTER_END) and b"end" in trace.split(b"\n"):
                 continue  # that a trace has its last `end` is no matter of a judge of lines

@@ -5,7 +5,7 @@ ghost use Rattle.mu_model.specs.declared.event.Event.{Event as Made};
 ghost use Rattle.mu_model.specs.Contents.{IsConfig};
 ghost use Rattle.mu_model.specs.Ends.{is_finished as is_finished_of};
 ghost use Rattle.mu_model.specs.Knowledge.{applied as applied_of, commits as commits_of, known as known_of};
-ghost use Rattle.mu_model.specs.Leaderships.{begins_leadership};
+ghost use Rattle.mu_model.specs.Leaderships.{begins_leadership, has_begun as has_begun_of, is_member as is_member_of, is_over as is_over_of, proposal_number};
 ghost use Rattle.mu_model.specs.Parts.{IsPossible};
 ghost use Rattle.mu_model.specs.Scores.{is_failed as is_failed_by, leader as leader_of};
 ghost use Rattle.mu_model.specs.Steps.{is_beat as is_beat_event};
@@ -153,6 +153,46 @@ impl Course {
         let begun = self.replica.leadership.has_begun();
         let over = self.replica.leadership.is_over();
         is_under_way(begun, over, self.resigned)
+    }
+
+    /// How many steps it made.
+    pub fn steps(&self) -> u32
+        ensures { (c : Settings) → (r : ℕ) → (mine : List Made) → StandsForCourse c r mine self.now
+            → result ≡ length mine }
+    {
+        self.replica.steps
+    }
+
+    /// Whether a leadership of it has begun.
+    pub fn has_begun(&self) -> bool
+        ensures { (c : Settings) → (r : ℕ) → (mine : List Made) → StandsForCourse c r mine self.now
+            → result ≡ has_begun_of r mine }
+    {
+        self.replica.leadership.has_begun()
+    }
+
+    /// Whether its last leadership is over, as the verbs end it.
+    pub fn is_over(&self) -> bool
+        ensures { (c : Settings) → (r : ℕ) → (mine : List Made) → StandsForCourse c r mine self.now
+            → result ≡ is_over_of r mine }
+    {
+        self.replica.leadership.is_over()
+    }
+
+    /// The proposal number of its last leadership, if it has one.
+    pub fn number(&self) -> Option<u32>
+        ensures { (c : Settings) → (r : ℕ) → (mine : List Made) → StandsForCourse c r mine self.now
+            → result ≡ proposal_number r mine }
+    {
+        self.replica.leadership.number()
+    }
+
+    /// Whether the region `p` is a member in its last leadership.
+    pub fn is_member(&self, p: u8) -> bool
+        ensures { (c : Settings) → (r : ℕ) → (mine : List Made) → p < 7
+            → StandsForCourse c r mine self.now → result ≡ is_member_of r p mine }
+    {
+        self.replica.leadership.is_member(p)
     }
 
     /// The replica that its scores name leader.

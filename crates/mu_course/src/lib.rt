@@ -10,7 +10,7 @@ mod so_far;
 mod told;
 mod walk;
 
-pub use course::Turn;
+pub use course::{Course, Turn};
 pub use halts::{Halt, halt_after};
 pub use so_far::EndSoFar;
 pub use told::Told;

@@ -1,6 +1,7 @@
 //! A walk over a legal list of events, with the states of all replicas and regions.
-ghost use Rattle.std.specs.Prelude.{IfOk, List, [], Some, length, map, take, vec_capacity, ◌∷◌, ◌<◌, ◌≡◌, ◌≤◌};
+ghost use Rattle.std.specs.Prelude.{IfOk, List, [], MatchOption, Some, length, map, take, vec_capacity, ◌∷◌, ◌<◌, ◌≡◌, ◌≤◌};
 ghost use Rattle.mu_model.specs.declared.event.Event.{Event as Made};
+ghost use Rattle.mu_model.specs.Answers.{answer_of};
 ghost use Rattle.mu_model.specs.Contents.{IsConfig};
 ghost use Rattle.mu_model.specs.Histories.{history, part};
 ghost use Rattle.mu_model.specs.Knowledge.{applied as applied_of, commits as commits_of, known as known_of};
@@ -8,10 +9,12 @@ ghost use Rattle.mu_model.specs.Legal.{IsLegal, IsLegalHistory};
 ghost use Rattle.mu_model.specs.Regions.{fence as fence_of, fence_grant};
 ghost use Rattle.mu_model.specs.Scores.{is_failed, leader};
 ghost use Rattle.mu_model.specs.declared.config.Config.{Config as Settings};
+ghost use Rattle.mu_course.specs.Courses.{StandsForCourse};
 ghost use Rattle.mu_course.specs.Walks.{StandsForWalk, TellsStep, fence_shown, grants_shown};
 ghost use Rattle.mu_course.specs.Resigning.{is_leading};
 ghost use Rattle.mu_course.specs.SoFar.{IsSoFar};
 ghost use Rattle.mu_known.specs.Commits.{pair_of};
+ghost use Rattle.mu_regions.specs.Range.{InRange};
 
 use crate::course::{Course, Turn};
 use crate::so_far::EndSoFar;
@@ -60,6 +63,26 @@ impl Walk {
         }
         let regions = Regions::new(alloc, config)?;
         Ok(Walk { courses, regions })
+    }
+
+    /// What a replica is answered to a verb, if it and all that the verb names exist.
+    pub fn answer(&self, by: u8, verb: &Verb) -> Answer
+        ensures { (past : List Made) → (c : Settings) → InRange c by verb.now
+            → StandsForWalk c past self.now → result ≡ answer_of c by past verb.now }
+    {
+        self.regions.answer(by, verb)
+    }
+
+    /// What the events of a replica come to. `None` if there is no such replica.
+    pub fn course(&self, r: u8) -> Option<&Course>
+        ensures { (past : List Made) → (c : Settings) → r < c.replicas
+            → StandsForWalk c past self.now
+            → MatchOption result ⊥ (λ course. StandsForCourse c r (part r past) course.now) }
+    {
+        match self.courses.get(usize::from(r)) {
+            None => None,
+            Some(course) => Some(course),
+        }
     }
 
     /// The fence of a region. `None` if there is no such region.

@@ -1,4 +1,6 @@
 pub mod Explained
 pub mod Judged
 pub mod LineJudges
+pub mod Noted
+pub mod Shown
 pub mod Told

@@ -3,24 +3,27 @@ ghost use Rattle.std.specs.Prelude.{◌+◌, ◌<◌, ◌≡◌, ◌≤◌, ◌^
 ghost use Rattle.mu_input.specs.Readings.{Fits};
 ghost use Rattle.mu_input.specs.Traces.{Trace, trace};
 ghost use Rattle.mu_input.specs.declared.TheConstants.{TRACE_LIMIT};
-ghost use Rattle.mu_judging.specs.Explained.{ExplainsOf, IsExplained};
+ghost use Rattle.mu_judging.specs.Explained.{IsExplained};
+ghost use Rattle.mu_judging.specs.Noted.{NotesOf, SaysLegal, said_with as said_with_these};
 ghost use Rattle.mu_model.specs.Contents.{IsConfig};
 ghost use Rattle.mu_report.specs.Said.{IsShort};
 ghost use Rattle.mu_text.specs.Lines.{lines};
 
 use mu_check::{Broken, explain};
-use mu_input::{InputEnd, read_trace};
+use mu_input::{InputEnd, Job, read_trace};
 use mu_mistakes::refused_at;
-use mu_model::{Config, Event, NoMemory};
+use mu_model::{Config, Event, NoMemory, Stops};
 use mu_report::Said;
+use mu_telling::strays_of;
 use mu_text::LineReader;
 use std::alloc::Global;
 
 /// What is said of where a trace breaks and why: `Misread` exactly if the bytes leave the grammar,
-/// with the first line that leaves it, and else `Explained`. `NoMemory` for want of memory.
+/// with the first line that leaves it, and else `Explained`, or `Noted` if the events are legal and
+/// a replica goes on after a stop of the script. `NoMemory` for want of memory.
 pub fn explain_trace(alloc: Global, bytes: &[u8]) -> Said
     requires { length bytes.now ≤ TRACE_LIMIT }
-    ensures says { ExplainsOf bytes.now result }
+    ensures says { NotesOf bytes.now result }
     ensures short { IsShort result }
 {
     let (job, journal) = match read_trace(alloc, bytes) {
@@ -31,13 +34,47 @@ pub fn explain_trace(alloc: Global, bytes: &[u8]) -> Said
         Err(InputEnd::NoMemory) => return Said::NoMemory,
     };
     let events = journal.as_slice();
-    match located(alloc, bytes, &job.config, events) {
-        Ok((line, broken)) => Said::Explained {
+    let (line, broken) = match located(alloc, bytes, &job.config, events) {
+        Ok(found) => found,
+        Err(_) => return Said::NoMemory,
+    };
+    if broken.is_some() {
+        return Said::Explained {
             events: events.len() as u32,
             line,
             broken,
-        },
-        Err(NoMemory) => Said::NoMemory,
+        };
+    }
+    noted(alloc, &job, events)
+}
+
+/// What is said of a legal list.
+fn noted(alloc: Global, job: &Job, events: &[Event]) -> Said
+    requires { length events.now < 2 ^ 32 }
+    ensures says { SaysLegal job.now events.now result }
+    ensures short { IsShort result }
+{
+    let stops = job.script.stops.as_slice();
+    match strays_of(alloc, job.config.replicas, stops, events) {
+        Ok(strays) => said_with(events.len() as u32, strays),
+        Err(_) => Said::NoMemory,
+    }
+}
+
+/// What is said of a legal list with these strays.
+fn said_with(events: u32, strays: Stops) -> Said
+    requires { length strays < 2 ^ 8 }
+    ensures says { result ≡ said_with_these events strays }
+    ensures short { IsShort result }
+{
+    if strays.is_empty() {
+        Said::Explained {
+            events,
+            line: 0,
+            broken: None,
+        }
+    } else {
+        Said::Noted { events, strays }
     }
 }
 
@@ -65,7 +102,7 @@ pub(crate) fn located(
 }
 
 /// How many lines the bytes have.
-pub(crate) fn count_of_lines(bytes: &[u8]) -> u32
+pub fn count_of_lines(bytes: &[u8]) -> u32
     requires { length bytes.now ≤ TRACE_LIMIT }
     ensures { result ≡ length (lines bytes.now) }
 {

@@ -1,7 +1,7 @@
 -- The note of each place is that of the listing.
 use Rattle.mu_lead.proofs.Replies.{tells_head, tells_min}
 use Rattle.mu_lead.proofs.Rows.{min_small, working_is}
-use Rattle.mu_lead.proofs.Says.{all_known, grew_next, values_in_session}
+use Rattle.mu_lead.proofs.Says.{IsToldAs, TellsAll, all_known, grew_next, holds_them, lacks_some, values_in_session}
 use Rattle.mu_lead.specs.Lasting.{tables_of}
 use Rattle.mu_lead.specs.Leading.{end_of}
 use Rattle.mu_lead.specs.Listing.{Tables, is_missed, may_mark, number_told}
@@ -160,6 +160,10 @@ idle_noted mine old values answer note heeded s noted working holds verb due pos
     let in_session = values_in_session mine old values answer verb note s possible working grew in
     let all = all_known mine old values answer verb note true working grew (holds in_session.1 in_session.0) in
     sym (ap (λ t. or_idle t (next_note old.config old.id old.number mine (event_by old.id verb answer ∷ mine) (tables_of old) answer old.place)) all ∙ ap (or_idle true) (sym is ∙ working))
+
+pub noted_told : (mine : List Event) (old : Lead) (values : List ℕ) (answer : Answer) (note result : Note) → HasHeeded mine old → StandsFor mine old → NotedDue old values answer note → IsToldAs note result → TellsAll old.config values note result → NotedNext mine old values answer result
+noted_told mine old values answer note result heeded s noted (inl same) tells = subst (NotedNext mine old values answer) (sym same) (note_noted mine old values answer note heeded s noted (lacks_some old.config values note result tells same))
+noted_told mine old values answer note result heeded s noted (inr idle) tells = subst (NotedNext mine old values answer) (sym idle.0) (idle_noted mine old values answer note heeded s noted idle.1 (holds_them old.config values note result tells idle.0 idle.1))
 
 -- only a late follower's minimum is compared with the number, and there it is the leadership's
 pub same_number_note : (c : Config) (r b : ℕ) (mine now : List Event) (up : List ℕ) (reach : List (Option ℕ)) (written : List ℕ) (t : Tables) (a : Answer) (place : Place) → At c r b mine up reach written place

@@ -184,3 +184,34 @@ says_idle mine old values answer note heeded s noted is all verb due possible to
   where
     not_resigned : (to : ℕ) → Note.Idle ≡ Note.Resigned to → ⊥
     not_resigned to same = cc
+
+-- which it is, by whether the values hold all commands
+idle_if : (x : Bool) → Note.Idle ≡ (if x then Note.Idle else Note.Working) → x ≡ true
+idle_if true is = refl
+idle_if false is = cc
+
+working_if : (x : Bool) → Note.Working ≡ (if x then Note.Idle else Note.Working) → x ≡ false
+working_if true is = cc
+working_if false is = refl
+
+-- the note, or `Idle` in place of `Working`
+abbrev pub IsToldAs : Note → Note → Type 0
+IsToldAs note result = (result ≡ note) ⊎ ((result ≡ Note.Idle) × (note ≡ Note.Working))
+
+abbrev pub TellsAll : Config → List ℕ → Note → Note → Type 0
+TellsAll c values note result = length values < 65536 → IsInSession c values → note ≡ Note.Working → result ≡ (if holds_all c values then Note.Idle else Note.Working)
+
+pub lacks_some : (c : Config) (values : List ℕ) (note result : Note) → TellsAll c values note result → result ≡ note → note ≡ Note.Working → length values < 65536 → IsInSession c values → holds_all c values ≡ false
+lacks_some c values note result tells same is few session = working_if (holds_all c values) (sym is ∙ sym same ∙ tells few session is)
+
+pub holds_them : (c : Config) (values : List ℕ) (note result : Note) → TellsAll c values note result → result ≡ Note.Idle → note ≡ Note.Working → length values < 65536 → IsInSession c values → holds_all c values ≡ true
+holds_them c values note result tells idle is few session = idle_if (holds_all c values) (sym idle ∙ tells few session is)
+
+pub says_told : (mine : List Event) (old : Lead) (values : List ℕ) (answer : Answer) (note result : Note) → HasHeeded mine old → StandsFor mine old → NotedDue old values answer note → IsToldAs note result → TellsAll old.config values note result → SaysNext mine old values answer result
+says_told mine old values answer note result heeded s noted (inl same) tells = subst (SaysNext mine old values answer) (sym same) (says_next mine old values answer note heeded s noted (lacks_some old.config values note result tells same))
+says_told mine old values answer note result heeded s noted (inr idle) tells = subst (SaysNext mine old values answer) (sym idle.0) (says_idle mine old values answer note heeded s noted idle.1 (holds_them old.config values note result tells idle.0 idle.1))
+
+-- it tells of the same value
+pub same_value : (note result : Note) → IsToldAs note result → value_committed result ≡ value_committed note
+same_value note result (inl same) = ap value_committed same
+same_value note result (inr idle) = ap value_committed idle.0 ∙ sym (ap value_committed idle.1)

@@ -1,10 +1,10 @@
 //! The leader, at its place in the listing.
-ghost use Rattle.std.specs.Prelude.{IfOk, IfSome, List, None, Some, [], false, get_or, if◌then◌else◌, length, nat_lt, not, ℕ, ◌%◌, ◌&&◌, ◌<◌, ◌==◌, ◌||◌, ◌≡◌};
+ghost use Rattle.std.specs.Prelude.{IfOk, IfSome, List, None, Some, [], false, get_or, if◌then◌else◌, length, nat_lt, not, ℕ, ◌%◌, ◌&&◌, ◌<◌, ◌==◌, ◌||◌, ◌≡◌, ◌⊎◌};
 ghost use Rattle.mu_model.specs.declared.event.Event.{Event};
 ghost use Rattle.mu_model.specs.declared.event.Target.{Target as SomeTarget};
 ghost use Rattle.mu_model.specs.declared.event.Verb.{Verb as SomeVerb};
 ghost use Rattle.mu_model.specs.Allowed.{Allowed};
-ghost use Rattle.mu_model.specs.Contents.{IsConfig, config_word};
+ghost use Rattle.mu_model.specs.Contents.{IsConfig, IsInSession, config_word, holds_all};
 ghost use Rattle.mu_model.specs.Knowledge.{known as known_of};
 ghost use Rattle.mu_model.specs.Parts.{IsPossible};
 ghost use Rattle.mu_known.specs.KnownLog.{HoldsValues};
@@ -321,11 +321,7 @@ impl Lead {
             ≡ going_after (begins_at self.old.place || self.old.under_way) result }
     {
         let note = self.take_answer(answer, known, log);
-        if is_working(note) && knows_all(&self.config, known) {
-            Note::Idle
-        } else {
-            note
-        }
+        with_idle(&self.config, note, known)
     }
 
     /// Takes the answer, and notes whether the leadership goes on.
@@ -391,6 +387,21 @@ impl Lead {
             Place::Evidence(p) => self.at_evidence(p, answer),
             Place::Outrun | Place::Rest => Note::Working,
         }
+    }
+}
+
+/// The note, but that all commands are known, if nothing else is to be said.
+fn with_idle(config: &Config, note: Note, known: &[u16]) -> Note
+    ensures kind { (result ≡ note) ⊎ ((result ≡ SomeNote.Idle) × (note ≡ SomeNote.Working)) }
+    ensures all { length known.now < 65536 → IsConfig config.now → IsInSession config.now known.now
+        → note ≡ SomeNote.Working
+        → result
+        ≡ (if holds_all config.now known.now then SomeNote.Idle else SomeNote.Working) }
+{
+    if is_working(note) && knows_all(config, known) {
+        Note::Idle
+    } else {
+        note
     }
 }
 

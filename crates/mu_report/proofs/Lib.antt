@@ -1,11 +1,12 @@
 mod AccountLines
-mod Pushes
 mod BookLines
+mod FactLines
+mod Lists
 mod LiveLines
 mod MisreadLines
-mod Lists
 mod Pages
 mod Prints
+mod Pushes
 mod Sentences
 mod Sizes
 mod Summaries

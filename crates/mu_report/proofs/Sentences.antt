@@ -36,6 +36,11 @@ pub four_then : (o a v b w c x d y end : List ℕ)
     ≡ o ++ (a ++ v ++ b ++ w ++ c ++ x ++ d ++ y ++ end)
 four_then o a v b w c x d y end = simp append_assoc refl
 
+pub five : (o a v b w c x d y e z : List ℕ)
+    → ((((o ++ (a ++ v)) ++ (b ++ w)) ++ (c ++ x)) ++ (d ++ y)) ++ (e ++ z)
+    ≡ o ++ (a ++ v ++ b ++ w ++ c ++ x ++ d ++ y ++ e ++ z)
+five o a v b w c x d y e z = simp append_assoc refl
+
 pub six : (o a v b w c x d y e z f last : List ℕ)
     → (((((o ++ (a ++ v)) ++ (b ++ w)) ++ (c ++ x)) ++ (d ++ y)) ++ (e ++ z)) ++ (f ++ last)
     ≡ o ++ (a ++ v ++ b ++ w ++ c ++ x ++ d ++ y ++ e ++ z ++ f ++ last)

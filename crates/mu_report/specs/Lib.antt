@@ -1,6 +1,7 @@
 pub mod Accounts
 pub mod Answers
 pub mod Books
+pub mod Facts
 pub mod Lives
 pub mod Printing
 pub mod Reasons

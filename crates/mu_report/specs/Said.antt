@@ -1,12 +1,13 @@
 -- text: what the program prints of each answer.
-use Rattle.std.specs.Prelude.{ℕ, List, [], ◌∷◌, ◌++◌, ⊤, codes}
+use Rattle.std.specs.Prelude.{ℕ, List, [], ◌∷◌, ◌++◌, ◌<◌, ◌^◌, ⊤, codes, length}
 use Rattle.mu_input.specs.declared.job.InputEnd.{InputEnd}
 use Rattle.mu_mistakes.specs.Misreads.{HasShortLines, misread_lines, refusal_words}
 use Rattle.mu_report.specs.declared.said.Said.{Said}
-use Rattle.mu_report.specs.declared.said.Said.TheVariants.{Usage, Refused, Ran, Traced, Summed, Booked, Lived, Judged, Explained, Told, Misread, ReadFault, NoMemory, TooLong}
+use Rattle.mu_report.specs.declared.said.Said.TheVariants.{Usage, Refused, Ran, Traced, Summed, Booked, Lived, Judged, Explained, Noted, Told, Shown, Misread, ReadFault, NoMemory, TooLong}
 use Rattle.mu_report.specs.Accounts.{account_lines}
 use Rattle.mu_report.specs.Answers.{verdict_line}
 use Rattle.mu_report.specs.Books.{book_lines}
+use Rattle.mu_report.specs.Facts.{moment_lines, noted_lines}
 use Rattle.mu_report.specs.Lives.{lived_lines, HasShortSights}
 use Rattle.mu_report.specs.Printing.{ended}
 use Rattle.mu_report.specs.Reasons.{explained_lines}
@@ -18,8 +19,8 @@ use Rattle.mu_report.specs.Trace.{trace_lines, IsCountable}
 abbrev pub lines_of : Said → List (List ℕ)
 lines_of Usage =
     (codes
-    "usage: mu replay, mu run, mu check, mu why, mu tell, mu trace, mu bulk N, mu live K, "
-    ++ codes "mu desk, mu book")
+    "usage: mu replay, mu run, mu check, mu why, mu tell, mu show N, mu trace, mu bulk N, "
+    ++ codes "mu live K, mu desk, mu book")
     ∷ []
 lines_of (Refused line cause) = refusal_words line cause ∷ []
 lines_of (Ran o) = report_lines o
@@ -29,7 +30,9 @@ lines_of (Booked o book) = book_lines o book
 lines_of (Lived o lived) = lived_lines o lived.sights
 lines_of (Judged events verdict) = verdict_line events verdict ∷ []
 lines_of (Explained events line broken) = explained_lines events line broken
+lines_of (Noted events strays) = noted_lines events strays
 lines_of (Told account) = account_lines account
+lines_of (Shown moment) = moment_lines moment
 lines_of (Misread misread) = misread_lines misread
 lines_of ReadFault = codes "read fault" ∷ []
 lines_of NoMemory = codes "no memory" ∷ []
@@ -44,8 +47,8 @@ abbrev pub said_of_end : InputEnd → Said
 said_of_end (InputEnd.Refused line cause) = Refused line cause
 said_of_end InputEnd.NoMemory = NoMemory
 
--- a run that is reported has short lists, as have its readers, the bytes of a trace can be counted,
--- and lines of words are short
+-- a run that is reported has short lists, as have its readers, the bytes of a trace and of a moment
+-- can be counted, and lines of words are short
 abbrev pub IsShort : Said → Type 0
 IsShort Usage = ⊤
 IsShort (Refused line cause) = ⊤
@@ -56,7 +59,9 @@ IsShort (Booked o book) = ⊤
 IsShort (Lived o lived) = HasShortLists o × HasShortSights lived.sights
 IsShort (Judged events verdict) = ⊤
 IsShort (Explained events line broken) = ⊤
+IsShort (Noted events strays) = length strays < 2 ^ 8
 IsShort (Told account) = HasShortLists account.outcome
+IsShort (Shown moment) = length moment.facts < 2 ^ 32
 IsShort (Misread misread) = HasShortLines misread
 IsShort ReadFault = ⊤
 IsShort NoMemory = ⊤

@@ -8,6 +8,7 @@ ghost use Rattle.mu_report.specs.Said.{text, lines_of, said_of_end, IsShort};
 use crate::accounts::print_account;
 use crate::answers::verdict_line;
 use crate::book::print_book;
+use crate::facts::{print_moment, print_noted};
 use crate::line::{print_line, print_words};
 use crate::lives::print_lived;
 use crate::misreads::{print_misread, refusal};
@@ -19,15 +20,16 @@ use match_book::Book;
 use mu_input::InputEnd;
 use mu_io::{Sink, WriteFault};
 use mu_mistakes::Misread;
+use mu_model::Stops;
 use mu_outcome::{Outcome, Verdict};
 use mu_reasons::Broken;
-use mu_telling::Account;
+use mu_telling::{Account, Moment};
 use snap_reads::Lived;
 
 /// How the program is called.
 const USAGE: &[u8] =
-    b"usage: mu replay, mu run, mu check, mu why, mu tell, mu trace, mu bulk N, mu live K, \
-    mu desk, mu book";
+    b"usage: mu replay, mu run, mu check, mu why, mu tell, mu show N, mu trace, mu bulk N, \
+    mu live K, mu desk, mu book";
 
 /// What the program says at its end.
 pub enum Said {
@@ -66,8 +68,17 @@ pub enum Said {
         /// The first event that breaks the list, if there is one.
         broken: Option<Broken>,
     },
+    /// A legal list of events whose replicas don't all obey their script.
+    Noted {
+        /// How many events it has.
+        events: u32,
+        /// The stops after which their replicas go on.
+        strays: Stops,
+    },
     /// What a legal list of events comes to.
     Told(Account),
+    /// What holds after the first events of a list.
+    Shown(Moment),
     /// Where the input leaves the grammar and why, in words.
     Misread(Misread),
     /// The input couldn't be read.
@@ -99,7 +110,12 @@ impl Drop for Said {
                 line: _,
                 broken: _,
             } => {}
+            Said::Noted {
+                events: _,
+                strays: _,
+            } => {}
             Said::Told(account) => let_account_go(account),
+            Said::Shown(_) => {}
             Said::Misread(_) => {}
             Said::ReadFault => {}
             Said::NoMemory => {}
@@ -189,7 +205,9 @@ fn print_said<K: Sink>(sink: &mut K, said: &Said) -> Result<usize, WriteFault>
             line,
             broken,
         } => print_explained(sink, *events, *line, broken),
+        Said::Noted { events, strays } => print_noted(sink, *events, strays.as_slice()),
         Said::Told(account) => print_account(sink, account),
+        Said::Shown(moment) => print_moment(sink, moment),
         Said::Misread(misread) => print_misread(sink, misread),
         Said::ReadFault => print_words(sink, 0, b"read fault"),
         Said::NoMemory => print_words(sink, 0, b"no memory"),

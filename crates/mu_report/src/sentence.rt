@@ -2,10 +2,12 @@
 ghost use Rattle.std.specs.Prelude.{◌≡◌, ◌+◌, ◌≤◌, ◌++◌, length};
 ghost use Rattle.mu_report.specs.declared.line.TheConstants.{LINE_BYTES};
 ghost use Rattle.mu_report.specs.Reasons.{entered_words, number_or_none, number_words};
-ghost use Rattle.mu_report.specs.Sentences.{sentence_room, sentence_words, value_room, value_words};
+ghost use Rattle.mu_report.specs.Sentences.{leads_words, sentence_room, sentence_words, value_room, value_words};
 
 use crate::line::Line;
-use mu_model::Target;
+use mu_events::push_answer;
+use mu_model::{Answer, Fence, Target};
+use mu_telling::Leads;
 
 /// A value that a sentence tells.
 #[derive(Clone, Copy)]
@@ -37,6 +39,10 @@ pub(crate) enum Value {
     },
     /// More words.
     Words(&'static [u8]),
+    /// A fence, as a replica sees it.
+    Seen(Fence),
+    /// What a leadership has come to.
+    Leads(Leads),
 }
 
 /// A sentence, by how many values it has: words and values in turn, and words at the end or none.
@@ -69,6 +75,19 @@ pub(crate) enum Sentence {
         &'static [u8],
         Value,
         &'static [u8],
+    ),
+    /// Five values.
+    Five(
+        &'static [u8],
+        Value,
+        &'static [u8],
+        Value,
+        &'static [u8],
+        Value,
+        &'static [u8],
+        Value,
+        &'static [u8],
+        Value,
     ),
     /// Six values.
     Six(
@@ -146,6 +165,23 @@ fn push_why_number(line: &mut Line, own: Option<u32>, read: u64, put: u32)
     }
 }
 
+/// Adds what a leadership has come to.
+fn push_leads(line: &mut Line, leads: Leads)
+    requires { length line.old + 37 ≤ LINE_BYTES }
+    ensures bytes { line.new ≡ line.old ++ leads_words leads }
+    ensures room { length line.new ≤ length line.old + 17 }
+{
+    match leads {
+        Leads::None => line.push(b"none"),
+        Leads::Begun => line.push(b"begun"),
+        Leads::Number(number) => {
+            line.push(b"number ");
+            line.push_number(u64::from(number));
+        }
+        Leads::Over => line.push(b"over"),
+    }
+}
+
 /// Adds a value.
 fn push_value(line: &mut Line, value: Value)
     requires { length line.old + value_room value + 20 ≤ LINE_BYTES }
@@ -163,6 +199,8 @@ fn push_value(line: &mut Line, value: Value)
         Value::Entered(entered) => push_entered(line, entered),
         Value::Why { own, read, put } => push_why_number(line, own, read, put),
         Value::Words(words) => line.push(words),
+        Value::Seen(fence) => push_answer(line, &Answer::Seen(fence)),
+        Value::Leads(leads) => push_leads(line, leads),
     }
 }
 
@@ -221,6 +259,13 @@ pub(crate) fn push_sentence(line: &mut Line, sentence: Sentence)
             push_pair(line, c, x);
             push_pair(line, d, y);
             line.push(end);
+        }
+        Sentence::Five(a, v, b, w, c, x, d, y, e, z) => {
+            push_pair(line, a, v);
+            push_pair(line, b, w);
+            push_pair(line, c, x);
+            push_pair(line, d, y);
+            push_pair(line, e, z);
         }
         Sentence::Six(a, v, b, w, c, x, d, y, e, z, f, last) => {
             push_pair(line, a, v);

@@ -1,3 +1,4 @@
 mod Agreeing
+mod FactLists
 mod LogCommands
 mod Reaching

@@ -1,9 +1,16 @@
 //! What the events of a legal list come to, as a report tells it: the log, the commits and the
-//! replies of each replica by its own events, and how it has ended so far.
+//! replies of each replica by its own events, and how it has ended so far; and what the regions
+//! hold and what the replicas have come to after some of them.
 #![tactic(auto)]
 
 mod account;
+mod facts;
 mod lists;
 mod replies;
+mod showing;
+mod straying;
 
 pub use account::{Account, account_of};
+pub use facts::{Fact, Leads};
+pub use showing::{Moment, moment_of};
+pub use straying::strays_of;

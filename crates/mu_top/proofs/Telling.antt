@@ -14,6 +14,7 @@ no_fault Task.Trace bytes says = says
 no_fault Task.Check bytes says = says
 no_fault Task.Why bytes says = says
 no_fault Task.Tell bytes says = says
+no_fault (Task.Show count) bytes says = says
 no_fault Task.Desk bytes says = says
 no_fault Task.Book bytes says = says
 no_fault (Task.Live readers) bytes says = says
@@ -26,6 +27,7 @@ no_limit Task.Trace bytes says = says
 no_limit Task.Check bytes says = says
 no_limit Task.Why bytes says = says
 no_limit Task.Tell bytes says = says
+no_limit (Task.Show count) bytes says = says
 no_limit Task.Desk bytes says = says
 no_limit Task.Book bytes says = says
 no_limit (Task.Live readers) bytes says = says
@@ -48,5 +50,7 @@ telling task left now before after bytes (Said.Booked outcome book) same within 
 telling task left now before after bytes (Said.Lived outcome lived) same within whole says = (same, record { bytes = bytes; within = within; whole = whole; says = says })
 telling task left now before after bytes (Said.Judged events verdict) same within whole says = (same, record { bytes = bytes; within = within; whole = whole; says = says })
 telling task left now before after bytes (Said.Explained events line broken) same within whole says = (same, record { bytes = bytes; within = within; whole = whole; says = says })
+telling task left now before after bytes (Said.Noted events strays) same within whole says = (same, record { bytes = bytes; within = within; whole = whole; says = says })
 telling task left now before after bytes (Said.Told account) same within whole says = (same, record { bytes = bytes; within = within; whole = whole; says = says })
+telling task left now before after bytes (Said.Shown moment) same within whole says = (same, record { bytes = bytes; within = within; whole = whole; says = says })
 telling task left now before after bytes (Said.Misread misread) same within whole says = (same, record { bytes = bytes; within = within; whole = whole; says = says })

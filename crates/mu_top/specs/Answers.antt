@@ -4,7 +4,7 @@ use Rattle.std.specs.declared.option.Option.{Option}
 use Rattle.std.specs.Io.KnownBytes.{Appends}
 use Rattle.mu_io.specs.Faults.{Rose}
 use Rattle.mu_io.specs.Whole.{TakesAtMost}
-use Rattle.mu_judging.specs.Judged.{ExplainsOf, SaysOf, TellsOf as TellsOfTrace}
+use Rattle.mu_judging.specs.Judged.{NotesOf, SaysOf, ShowsOf, TellsOf as TellsOfTrace}
 use Rattle.mu_outcome.specs.declared.status.Status.{Status}
 use Rattle.mu_outcome.specs.declared.verdict.Verdict.{Verdict}
 use Rattle.mu_outcome.specs.Outcomes.{status_after}
@@ -24,8 +24,9 @@ Does Task.Replay bytes said = Replays bytes said
 Does Task.Run bytes said = Runs bytes said
 Does Task.Trace bytes said = Traces bytes said
 Does Task.Check bytes said = SaysOf bytes said
-Does Task.Why bytes said = ExplainsOf bytes said
+Does Task.Why bytes said = NotesOf bytes said
 Does Task.Tell bytes said = TellsOfTrace bytes said
+Does (Task.Show count) bytes said = ShowsOf count bytes said
 Does Task.Desk bytes said = Desks bytes said
 Does Task.Book bytes said = Books bytes said
 Does (Task.Live readers) bytes said = Lives readers bytes said
@@ -82,6 +83,8 @@ status_for (Said.Booked outcome book) = status_after outcome
 status_for (Said.Lived outcome lived) = status_after outcome
 status_for (Said.Judged events verdict) = verdict_status verdict
 status_for (Said.Explained events line broken) = broken_status broken
+status_for (Said.Noted events strays) = Status.Done
+status_for (Said.Shown moment) = Status.Done
 status_for (Said.Told account) = status_after account.outcome
 status_for (Said.Misread misread) = Status.Refused
 status_for Said.ReadFault = Status.ReadFault

@@ -8,4 +8,6 @@ task_alone Alone.Replay = Task.Replay
 task_alone Alone.Trace = Task.Trace
 task_alone Alone.Check = Task.Check
 task_alone Alone.Why = Task.Why
+task_alone Alone.Tell = Task.Tell
+task_alone (Alone.Show count) = Task.Show count
 task_alone Alone.Book = Task.Book

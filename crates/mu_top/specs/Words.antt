@@ -9,7 +9,7 @@ use Rattle.snap_reads.specs.declared.TheConstants.{MOST_READERS}
 use Rattle.mu_text.specs.Numbers.{number_of, within}
 use Rattle.mu_top.specs.declared.asking.Task.{Task}
 use Rattle.mu_top.specs.declared.asking.Asked.{Asked}
-use Rattle.mu_top.specs.declared.asking.TheConstants.{INPUT_LIMIT}
+use Rattle.mu_top.specs.declared.asking.TheConstants.{INPUT_LIMIT, MOST_SHOWN}
 
 -- what one word asks for
 abbrev pub task_named : List ℕ → Option Task
@@ -39,12 +39,18 @@ abbrev pub of_readers : Option ℕ → Option Asked
 of_readers None = None
 of_readers (Some readers) = Some (Asked.Input (Task.Live readers))
 
--- what two words ask for: `bulk` with a number up to the most commands of a job, or `live` with one
--- from 1 to the most readers
+-- the first events of a trace, this many, if there is a number
+abbrev pub of_events : Option ℕ → Option Asked
+of_events None = None
+of_events (Some count) = Some (Asked.Input (Task.Show count))
+
+-- what two words ask for: `bulk` with a number up to the most commands of a job, `live` with one
+-- from 1 to the most readers, or `show` with one up to the most events
 abbrev pub asked_of_two : List ℕ → List ℕ → Option Asked
 asked_of_two word number =
     if bytes_eq word (codes "bulk") then of_count (within 0 MOST_COMMANDS (number_of number))
     else if bytes_eq word (codes "live") then of_readers (within 1 MOST_READERS (number_of number))
+    else if bytes_eq word (codes "show") then of_events (within 0 MOST_SHOWN (number_of number))
     else None
 
 -- what the words ask for: one word, the name of a task, or two
@@ -72,6 +78,7 @@ limit_of Task.Trace = INPUT_LIMIT
 limit_of Task.Check = TRACE_LIMIT
 limit_of Task.Why = TRACE_LIMIT
 limit_of Task.Tell = TRACE_LIMIT
+limit_of (Task.Show count) = TRACE_LIMIT
 limit_of Task.Desk = INPUT_LIMIT
 limit_of Task.Book = INPUT_LIMIT
 limit_of (Task.Live readers) = INPUT_LIMIT

@@ -11,7 +11,7 @@ use crate::booking::told_of_book;
 use crate::replaying::told_of_replay;
 use crate::tracing::told_of_trace;
 use mu_input::TRACE_LIMIT;
-use mu_judging::{explain_trace, judge};
+use mu_judging::{explain_trace, judge, show_trace, tell_trace};
 use mu_report::Said;
 use std::alloc::Global;
 
@@ -26,6 +26,10 @@ pub enum Alone {
     Check,
     /// `why`.
     Why,
+    /// `tell`.
+    Tell,
+    /// `show` with this number.
+    Show(u32),
     /// `book`.
     Book,
 }
@@ -40,6 +44,8 @@ impl Alone {
             Alone::Trace => INPUT_LIMIT,
             Alone::Check => TRACE_LIMIT,
             Alone::Why => TRACE_LIMIT,
+            Alone::Tell => TRACE_LIMIT,
+            Alone::Show(_) => TRACE_LIMIT,
             Alone::Book => INPUT_LIMIT,
         }
     }
@@ -67,6 +73,8 @@ fn told_within(alloc: Global, task: Alone, bytes: &[u8]) -> Said
         Alone::Trace => told_of_trace(alloc, bytes),
         Alone::Check => judge(alloc, bytes),
         Alone::Why => explain_trace(alloc, bytes),
+        Alone::Tell => tell_trace(alloc, bytes),
+        Alone::Show(count) => show_trace(alloc, bytes, count),
         Alone::Book => told_of_book(alloc, bytes),
     }
 }

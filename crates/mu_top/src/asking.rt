@@ -12,12 +12,16 @@ use snap_reads::MOST_READERS;
 /// The most bytes that the input of a job may have.
 pub const INPUT_LIMIT: usize = 1_048_576;
 
+/// The most events that can be asked for of a trace: more than a trace can have.
+pub const MOST_SHOWN: u32 = 9_999_999;
+
 /// The limits are the numbers that are stated here.
 pub fn limits_are_stated()
     ensures input { INPUT_LIMIT ≡ 1048576 }
     ensures trace { TRACE_LIMIT ≡ 67108864 }
     ensures senders { SENDERS ≡ 16 }
     ensures readers { MOST_READERS ≡ 4 }
+    ensures shown { MOST_SHOWN ≡ 9999999 }
 {}
 
 /// What the program is asked to do with its input.
@@ -35,6 +39,8 @@ pub enum Task {
     Why,
     /// `tell`: judge a trace, and report what its events come to.
     Tell,
+    /// `show N`: judge the first events of a trace, this many, and tell what holds after them.
+    Show(u32),
     /// `desk`: run a job in turns whose commands come from clients that send at once.
     Desk,
     /// `book`: run a job in turns, and tell the book of orders after its commands.
@@ -65,6 +71,7 @@ impl Task {
             Task::Check => TRACE_LIMIT,
             Task::Why => TRACE_LIMIT,
             Task::Tell => TRACE_LIMIT,
+            Task::Show(_) => TRACE_LIMIT,
             Task::Desk => INPUT_LIMIT,
             Task::Book => INPUT_LIMIT,
             Task::Live(_) => INPUT_LIMIT,
@@ -72,8 +79,8 @@ impl Task {
     }
 }
 
-/// What the words ask for, if they ask for anything: one word that names a task, or `bulk` or
-/// `live` and a number.
+/// What the words ask for, if they ask for anything: one word that names a task, or `bulk`, `live`
+/// or `show` and a number.
 pub fn asked_of(words: &[String]) -> Option<Asked>
     ensures exact { result ≡ asked_of_words words.now }
     ensures reach { IfSome result IsInReach }
@@ -86,8 +93,9 @@ pub fn asked_of(words: &[String]) -> Option<Asked>
 }
 
 /// The stated large job, if the first word is `bulk` and the second spells a number of commands
-/// from 0 to 1,500; or live readers, if the first is `live` and the second spells a number of them
-/// from 1 to 4.
+/// from 0 to 1,500; live readers, if the first is `live` and the second spells a number of them
+/// from 1 to 4; or the first events of a trace, if the first is `show` and the second spells a
+/// number of at most seven digits.
 fn asked_with(word: &[u8], number: &[u8]) -> Option<Asked>
     ensures exact { result ≡ asked_of_two word.now number.now }
     ensures reach { IfSome result IsInReach }
@@ -100,6 +108,11 @@ fn asked_with(word: &[u8], number: &[u8]) -> Option<Asked>
     } else if word == b"live".as_slice() {
         match limited(number, 1, u32::from(MOST_READERS)) {
             Some(readers) => Some(Asked::Input(Task::Live(readers as u8))),
+            None => None,
+        }
+    } else if word == b"show".as_slice() {
+        match limited(number, 0, MOST_SHOWN) {
+            Some(count) => Some(Asked::Input(Task::Show(count))),
             None => None,
         }
     } else {

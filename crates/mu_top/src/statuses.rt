@@ -20,6 +20,7 @@ pub fn status_for(said: &Said) -> Status
         Said::Lived(outcome, _) => status(outcome),
         Said::Judged { verdict, .. } => verdict_status(verdict),
         Said::Explained { broken, .. } => explained_status(broken),
+        Said::Noted { .. } | Said::Shown(_) => Status::Done,
         Said::Told(account) => status(&account.outcome),
         Said::ReadFault => Status::ReadFault,
         Said::NoMemory => Status::NoMemory,

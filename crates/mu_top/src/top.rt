@@ -17,7 +17,7 @@ use crate::summing::told_of_bulk;
 use crate::tracing::told_of_trace;
 use mu_cluster::Gate;
 use mu_io::{ReadEnd, Sink, Source, WriteFault, read_all};
-use mu_judging::{explain_trace, judge, tell_trace};
+use mu_judging::{explain_trace, judge, show_trace, tell_trace};
 use mu_outcome::Status;
 use mu_report::{Said, print_counted};
 use std::alloc::Global;
@@ -53,7 +53,7 @@ impl Answered {
 /// before each publishing and get of `live` the gate is called.
 ///
 /// The words are `replay`, `run`, `trace`, `check`, `why`, `tell`, `desk` or `book`, with nothing
-/// after it, or `bulk` or `live` with a number.
+/// after it, or `show`, `bulk` or `live` with a number.
 pub fn mu<R: Threads + Wait + Sync, S: Source, K: Sink, G: Gate + Sync>(
     rt: &R,
     alloc: Global,
@@ -155,6 +155,7 @@ fn told_of_bytes<R: Threads + Wait + Sync, G: Gate + Sync>(
         Task::Check => judge(alloc, bytes),
         Task::Why => explain_trace(alloc, bytes),
         Task::Tell => tell_trace(alloc, bytes),
+        Task::Show(count) => show_trace(alloc, bytes, count),
         Task::Desk => told_of_desk(rt, alloc, bytes, gate),
         Task::Book => told_of_book(alloc, bytes),
         Task::Live(readers) => told_of_live(rt, alloc, bytes, readers, gate),

@@ -26,8 +26,8 @@ status 0
 ";
 
 /// What is said if the words ask for nothing.
-const USAGE: &str = "usage: mu replay, mu run, mu check, mu why, mu tell, mu trace, mu bulk N, \
-        mu live K, mu desk, mu book\n";
+const USAGE: &str = "usage: mu replay, mu run, mu check, mu why, mu tell, mu show N, mu trace, \
+        mu bulk N, mu live K, mu desk, mu book\n";
 
 /// The job of the lists of events below.
 const ONE_PUT: &str = "mu 1\nreplicas 3\nring 8\nbudget 100\nclient 0\nput a 5\nend\n";
@@ -72,12 +72,14 @@ status 0
 ";
 
 /// The words of a call without input, its status, and what is said.
-const SUMS: [(&[&str], u8, &str); 5] = [
+const SUMS: [(&[&str], u8, &str); 7] = [
     (&["bulk", "10"], 0, TEN_SAID),
     (&["bulk", "1501"], 1, USAGE),
     (&["bulk", "07"], 1, USAGE),
     (&["bulk", ""], 1, USAGE),
     (&["bulk"], 1, USAGE),
+    (&["show", "10000000"], 1, USAGE),
+    (&["show", "01"], 1, USAGE),
 ];
 
 #[test]
@@ -275,7 +277,7 @@ fn judges_lists(rt: HostRuntime) -> Result<(), Fail> {
     Ok(())
 }
 
-/// Whether the replay of the put and the get ends with this status and says this text, where one
+/// Whether the replay of the put and the get ends with this status and says this text, if one
 /// read fails (0 for none).
 fn ends_at_read<R: Threads + Wait + Sync>(
     rt: &R,
@@ -301,7 +303,7 @@ fn tells_each_failing_read(rt: HostRuntime) -> Result<(), Fail> {
 }
 
 /// The status, what was taken and how many bytes were written of the replay of the put and the get,
-/// where one write fails.
+/// if one write fails.
 fn end_at_write<R: Threads + Wait + Sync>(
     rt: &R,
     alloc: Global,

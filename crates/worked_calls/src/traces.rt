@@ -123,21 +123,68 @@ const PUT_TOLD: &str =
 /// What those before the put come to.
 const NOTHING_TOLD: &str = "report 1\nlog 0 entries 0 commits 0 running\nreplies 0\nstatus 3\n";
 
-/// A word, the input in pieces, the status, and what is said in pieces.
-const ROWS: [(&str, &[&str], u8, &[&str]); 5] = [
-    ("trace", &[ONE_PUT], 0, &TRACE),
-    ("check", &TRACE, 0, &["legal 93\n"]),
-    ("tell", &TRACE, 0, &[ONE_PUT_TOLD]),
-    ("tell", &[ONE_PUT, BEFORE_PUT, PUT, END], 0, &[PUT_TOLD]),
-    ("tell", &[ONE_PUT, BEFORE_PUT, END], 3, &[NOTHING_TOLD]),
+/// What holds after the put.
+const PUT_SHOWN: &str = "after 50 of 93
+region 0 fence 0 1 open place 0
+region 0 min 8 fuo 0 head 0 beats 22
+region 0 asks of 0: 1
+region 0 log 0 entry 8 0
+replica 0 steps 50 known 1 applied 1 names 0
+replica 0 leadership number 8
+replica 0 member 0
+replica 0 knows 0 value 0
+";
+
+/// A list whose second event isn't allowed.
+const GRANT: &str =
+    "mu 1\nreplicas 1\nring 8\nbudget 9\nend\n0 beat = done\n0 grant 0 = done\nend\n";
+
+/// What holds before that event.
+const BEFORE_GRANT_SHOWN: &str = "after 1 of 2
+region 0 fence none 0 open none
+region 0 min 0 fuo 0 head 0 beats 1
+replica 0 steps 1 known 0 applied 0 names 0
+replica 0 leadership none
+";
+
+/// Why it isn't allowed.
+const GRANT_TOLD: &str = "illegal 1 at line 7\n0 grant 0 = done\n\
+    not allowed: the fence is not closed: close comes first\n";
+
+/// Two beats of a replica that stops after one.
+const STRAY: &str = "mu 1\nreplicas 1\nring 8\nbudget 9\nscript\nstop 0 1\nend\n\
+    0 beat = done\n0 beat = done\nend\n";
+
+/// The same of one that stops after both.
+const HEEDED: &str = "mu 1\nreplicas 1\nring 8\nbudget 9\nscript\nstop 0 2\nend\n\
+    0 beat = done\n0 beat = done\nend\n";
+
+/// The words, the input in pieces, the status, and what is said in pieces.
+const ROWS: [(&[&str], &[&str], u8, &[&str]); 11] = [
+    (&["trace"], &[ONE_PUT], 0, &TRACE),
+    (&["check"], &TRACE, 0, &["legal 93\n"]),
+    (&["tell"], &TRACE, 0, &[ONE_PUT_TOLD]),
+    (&["tell"], &[ONE_PUT, BEFORE_PUT, PUT, END], 0, &[PUT_TOLD]),
+    (&["tell"], &[ONE_PUT, BEFORE_PUT, END], 3, &[NOTHING_TOLD]),
+    (&["show", "50"], &TRACE, 0, &[PUT_SHOWN]),
+    (&["show", "1"], &[GRANT], 0, &[BEFORE_GRANT_SHOWN]),
+    (&["show", "2"], &[GRANT], 7, &[GRANT_TOLD]),
+    (
+        &["why"],
+        &[STRAY],
+        0,
+        &["legal 2\nreplica 0 goes on after its stop at 1\n"],
+    ),
+    (&["check"], &[STRAY], 0, &["legal 2\n"]),
+    (&["why"], &[HEEDED], 0, &["legal 2\n"]),
 ];
 
 #[test]
 fn traces_one_put(rt: HostRuntime) -> Result<(), Fail> {
-    for (word, input, status, said) in ROWS {
+    for (words, input, status, said) in ROWS {
         assert!(rt;
-            answers(&rt, rt.alloc(), &[word], input, status, said)?,
-            "{word}"
+            answers(&rt, rt.alloc(), words, input, status, said)?,
+            "{words:?}"
         );
     }
     Ok(())

@@ -32,8 +32,8 @@ status 0
 ";
 
 /// What is said if the words ask for nothing.
-const USAGE: &str = "usage: mu replay, mu run, mu check, mu why, mu tell, mu trace, mu bulk N, \
-    mu live K, mu desk, mu book\n";
+const USAGE: &str = "usage: mu replay, mu run, mu check, mu why, mu tell, mu show N, mu trace, \
+    mu bulk N, mu live K, mu desk, mu book\n";
 
 /// Whether this text is printed of what is said.
 fn is_printed(alloc: Global, said: Said, text: &str) -> Result<bool, AllocError>

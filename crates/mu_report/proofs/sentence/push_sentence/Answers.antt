@@ -1,5 +1,5 @@
 use Rattle.std.proofs.Common.{refl}
-use Rattle.mu_report.proofs.Sentences.{four, four_then, one_then, six, three, three_then, two, two_then}
+use Rattle.mu_report.proofs.Sentences.{five, four, four_then, one_then, six, three, three_then, two, two_then}
 use Rattle.mu_report.specs.Sentences.{value_words}
 use Rattle.mu_report.proofs.sentence.push_sentence.Goals as goal
 
@@ -50,6 +50,12 @@ returns-in-FourThen-clause-bytes c =
     rw c.in-FourThen.is
     (rw c.push-in-FourThen.ensures.bytes (rw c.push_pair-in-FourThen-4.ensures.bytes (rw c.push_pair-in-FourThen-3.ensures.bytes (rw c.push_pair-in-FourThen-2.ensures.bytes (rw c.push_pair-in-FourThen.ensures.bytes
     (four_then c.args.line.now c.in-FourThen.a.now (value_words c.in-FourThen.v) c.in-FourThen.b.now (value_words c.in-FourThen.w) c.in-FourThen.c.now (value_words c.in-FourThen.x) c.in-FourThen.d.now (value_words c.in-FourThen.y) c.in-FourThen.end.now))))))
+
+pub returns-in-Five-clause-bytes : goal.returns-in-Five-clause-bytes
+returns-in-Five-clause-bytes c =
+    rw c.in-Five.is
+    (rw c.push_pair-in-Five-5.ensures.bytes (rw c.push_pair-in-Five-4.ensures.bytes (rw c.push_pair-in-Five-3.ensures.bytes (rw c.push_pair-in-Five-2.ensures.bytes (rw c.push_pair-in-Five.ensures.bytes
+    (five c.args.line.now c.in-Five.a.now (value_words c.in-Five.v) c.in-Five.b.now (value_words c.in-Five.w) c.in-Five.c.now (value_words c.in-Five.x) c.in-Five.d.now (value_words c.in-Five.y) c.in-Five.e.now (value_words c.in-Five.z)))))))
 
 pub returns-in-Six-clause-bytes : goal.returns-in-Six-clause-bytes
 returns-in-Six-clause-bytes c =

@@ -30,3 +30,9 @@ returns-in-Why-clause-bytes c = rw c.in-Why.is (rw c.push_why_number.ensures.byt
 
 pub returns-in-Words-clause-bytes : goal.returns-in-Words-clause-bytes
 returns-in-Words-clause-bytes c = rw c.in-Words.is (rw c.push.ensures.bytes refl)
+
+pub returns-in-Seen-clause-bytes : goal.returns-in-Seen-clause-bytes
+returns-in-Seen-clause-bytes c = rw c.in-Seen.is (rw c.push_answer.ensures.bytes refl)
+
+pub returns-in-Leads-clause-bytes : goal.returns-in-Leads-clause-bytes
+returns-in-Leads-clause-bytes c = rw c.in-Leads.is (rw c.push_leads.ensures.bytes refl)

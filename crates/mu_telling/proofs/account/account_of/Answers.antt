@@ -1,18 +1,13 @@
-use Rattle.std.proofs.Common.{◌≡◌, ◌∙◌, None, List, ap, arith, length, map, refl, subst, take, ℕ}
+use Rattle.std.proofs.Common.{◌∙◌, None, List, ap, arith, length, map, refl, subst, take}
 use Rattle.std.proofs.lemmas.List.{take_all}
 use Rattle.kv_store.specs.Tables.{replies}
 use Rattle.mu_course.specs.Walks.{StandsForWalk}
 use Rattle.mu_course.specs.declared.walk.Walk.{Walk}
-use Rattle.mu_input.specs.declared.job.Job.{Job}
-use Rattle.mu_known.specs.declared.commit.Commit.{Commit}
-use Rattle.mu_known.specs.Commits.{pair_of}
-use Rattle.kv_store.specs.declared.store.Reply.{Reply}
 use Rattle.mu_model.specs.declared.config.Config.{Config}
 use Rattle.mu_model.specs.declared.event.Event.{Event}
 use Rattle.mu_model.specs.Histories.{history}
 use Rattle.mu_outcome.specs.declared.outcome.Outcome.{Outcome}
 use Rattle.mu_outcome.specs.Entries.{commands_in, longest}
-use Rattle.mu_telling.specs.Accounts.{IsReached}
 use Rattle.mu_telling.proofs.Agreeing.{agrees_on, within_on}
 use Rattle.mu_telling.proofs.Reaching.{reached_of}
 use Rattle.mu_telling.proofs.account.account_of.Goals as goal

@@ -1,6 +1,6 @@
-use Rattle.std.proofs.Common.{◌≡◌, ◌+◌, ◌++◌, ◌∙◌, ap, append-nil, append_assoc, arith, drop, get_or, sym}
+use Rattle.std.proofs.Common.{◌+◌, ◌++◌, ◌∙◌, ap, append-nil, append_assoc, arith, drop, sym}
 use Rattle.std.proofs.lemmas.List.{drop_all}
-use Rattle.mu_outcome.specs.Entries.{commands_in, commands_of}
+use Rattle.mu_outcome.specs.Entries.{commands_in}
 use Rattle.mu_telling.proofs.LogCommands.{commands_in-drop}
 use Rattle.mu_telling.proofs.replies.commands_in.Goals as goal
 

@@ -1,4 +1,4 @@
-use Rattle.std.proofs.Common.{◌≡◌, ◌≤◌, ◌+◌, ◌∷◌, ◌++◌, ◌∙◌, ap, append-nil, arith, drop, length, sym, vec_capacity}
+use Rattle.std.proofs.Common.{◌+◌, ◌∷◌, ◌++◌, ◌∙◌, ap, append-nil, arith, drop, length, sym}
 use Rattle.std.proofs.lemmas.List.{drop_all, drop_more, length_push}
 use Rattle.kv_store.specs.Tables.{replies_from}
 use Rattle.mu_telling.proofs.Reaching.{answered_next}

@@ -1,4 +1,4 @@
-use Rattle.std.proofs.Common.{◌≡◌, ◌+◌, ◌∷◌, ◌++◌, ◌∙◌, List, [], ℕ, ap, append-nil, append_assoc, arith, drop, map, sym}
+use Rattle.std.proofs.Common.{◌+◌, ◌∷◌, ◌++◌, ◌∙◌, List, [], ℕ, ap, append-nil, append_assoc, arith, drop, map, sym}
 use Rattle.std.proofs.lemmas.List.{drop_all, drop_more}
 use Rattle.kv_store.specs.declared.store.Reply.{Reply}
 use Rattle.kv_store.specs.Tables.{replies}

@@ -1,0 +1,63 @@
+//! From the bytes of a trace to what holds after its first events.
+ghost use Rattle.std.specs.Prelude.{◌≡◌, ◌≤◌, length, min};
+ghost use Rattle.mu_input.specs.declared.TheConstants.{TRACE_LIMIT};
+ghost use Rattle.mu_judging.specs.Shown.{breaks_before, ShowsOf};
+ghost use Rattle.mu_report.specs.Said.{IsShort};
+
+use crate::explaining::located;
+use mu_check::Broken;
+use mu_input::{InputEnd, read_trace};
+use mu_mistakes::refused_at;
+use mu_report::Said;
+use mu_telling::moment_of;
+use std::alloc::Global;
+
+/// What is said of what holds after the first `count` events of a trace, or after all if there are
+/// fewer: `Shown` exactly if these are legal; else where the trace breaks and why, or where the
+/// bytes leave the grammar. `NoMemory` for want of memory.
+pub fn show_trace(alloc: Global, bytes: &[u8], count: u32) -> Said
+    requires { length bytes.now ≤ TRACE_LIMIT }
+    ensures says { ShowsOf count bytes.now result }
+    ensures short { IsShort result }
+{
+    let (job, journal) = match read_trace(alloc, bytes) {
+        Ok(read) => read,
+        Err(InputEnd::Refused { line, cause }) => {
+            return Said::Misread(refused_at(bytes, line, cause));
+        }
+        Err(InputEnd::NoMemory) => return Said::NoMemory,
+    };
+    let events = journal.as_slice();
+    let (line, broken) = match located(alloc, bytes, &job.config, events) {
+        Ok(found) => found,
+        Err(_) => return Said::NoMemory,
+    };
+    if is_broken_before(&broken, count) {
+        return Said::Explained {
+            events: events.len() as u32,
+            line,
+            broken,
+        };
+    }
+    match moment_of(alloc, &job.config, events, first_of(count, events.len())) {
+        Ok(moment) => Said::Shown(moment),
+        Err(_) => Said::NoMemory,
+    }
+}
+
+/// Whether a list breaks among its first `count` events.
+fn is_broken_before(broken: &Option<Broken>, count: u32) -> bool
+    ensures { result ≡ breaks_before count broken.now }
+{
+    match broken {
+        None => false,
+        Some(broken) => broken.index < count,
+    }
+}
+
+/// How many events the first `count` are, of so many.
+fn first_of(count: u32, events: usize) -> usize
+    ensures { result ≡ min count events }
+{
+    (count as usize).min(events)
+}
