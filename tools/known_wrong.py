@@ -16,6 +16,8 @@ from types import SimpleNamespace
 import bound_jobs
 import own_traces
 import pages
+import rules
+import second_judge
 import trying
 from judged_table import judged
 from programs import EXAMPLES, TOP
@@ -42,7 +44,7 @@ WRONG_REPORTS = [
     ("entries 1 commits 0 outrun", "entries 1 commits 2 finished"), ("status 0\n", "status 0"),
 ]
 # The least that there is of each kind: a judge that looks at nothing finds nothing.
-LEAST_NAMED, LEAST_JUDGED, LEAST_BOUND = 1000, 200, 300
+LEAST_NAMED, LEAST_JUDGED, LEAST_BOUND, LEAST_VERDICTS = 1000, 200, 300, 150
 # A line of a page, and what it names.
 PAGE_LINE = ("`crates/kv_store`, `src/no_such_file.rt`, `no_such_name`, `NoSuchName` and `mu replay < no_input`",
              ["crates/kv_store", "src/no_such_file.rt", "no_such_name", "NoSuchName"])
@@ -147,8 +149,27 @@ def tells_failures():
         yield test.ended(3, 1) == 1 and test.ended(3, 0) == 0 and test.ended(0, 0) == 1
 
 
+def tells_rules():
+    """A list has two answers without its rule, and not without another one or by another measure."""
+    rule = rules.LISTS[0]
+    yield list(rules.troubles(rule)) == []
+    yield rules.judged() == (len(rules.LISTS), [])
+    for left_out, without in (("NotEntered", rule.without), (rule.left_out, rules.two_rows)):
+        yield list(rules.troubles(rules.Rule(rule.make, left_out, rule.says, without))) != []
+
+
+def tells_breaks():
+    """A legal trace has no break; without one of its events, or with another answer, it has."""
+    trace = contents(os.path.join(EXAMPLES, "late-exchange.trace")).decode()
+    yield second_judge.first_break(trace) is None
+    for old, new in (("1 drain = done\n", ""), ("1 looktarget = done\n", ""), ("0 min 1 = 0\n", "0 min 1 = 8\n"),
+                     ("= missed", "= done"), ("0 putmin 0 8", "0 putmin 0 9")):
+        yield trace.count(old) == 1 and second_judge.first_break(trace.replace(old, new)) is not None
+    yield second_judge.compared()[0] >= LEAST_VERDICTS
+
+
 JUDGES = [tells_failures, tells_answers, tells_sums, tells_missing_answers, tells_statuses, tells_reports, tells_bounds,
-          tells_own_traces, tells_pages, tells_stored_inputs]
+          tells_own_traces, tells_pages, tells_stored_inputs, tells_rules, tells_breaks]
 
 
 def tried():

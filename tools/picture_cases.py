@@ -12,12 +12,12 @@ import subprocess
 import sys
 
 COLOURS = ("#e69f00", "#56b4e9", "#009e73", "#f0e442", "#0072b2", "#d55e00", "#cc79a7")
-STYLE = ("text{font:9px sans-serif;paint-order:stroke;stroke:#fff;stroke-width:3px}"
+STYLE = ("text{font:9px sans-serif;paint-order:stroke;stroke:#fff;stroke-width:5px}"
          ".t{font-family:monospace}.s{text-anchor:end;fill:#555}path{stroke:#000;fill:none}"
          "rect,circle{stroke:#000;stroke-width:.6}.w,.l,.z{stroke:none}.w,.c{fill:#fff}"
          ".l{fill:#888}.z{fill:url(#z)}.f{fill:#fff;stroke:#888;stroke-dasharray:2 2}"
          ".p,.k{fill:#000}.q{stroke-dasharray:4 2}.k,.x,.r{stroke-width:2}"
-         ".a{stroke:#666;stroke-dasharray:1 2}.e{fill:#c00}.r{stroke:#c00}" + "".join(
+         ".a{stroke:#333;stroke-dasharray:2 2}.e{fill:#c00}.r{stroke:#c00}" + "".join(
              f".o{r}{{fill:{colour}}}" for r, colour in enumerate(COLOURS)))
 HATCHING = ("<pattern id='z' patternUnits='userSpaceOnUse' width='4' height='4'><path d='M0 4l4-4'/></pattern>\n")
 TOP, LOWEST_ROW, TITLES = 92, 32500, 48
@@ -424,7 +424,7 @@ def draw_breach(out, n, y, line, broken, event):
     out.path("r", f"M{x + 4} {y + 22}l8 8m0-8l-8 8")
     out.text("s", 56, y + 29, str(index))
     out.text("t e", lane(n) + 12, y + 29, event)
-    out.text("t e", lane(n) + 12, y + 41, fault)
+    out.text("t e", lane(0) + 12, y + 41, fault)
     out.add("</g>\n")
 
 
@@ -571,10 +571,11 @@ def drawn(text, first=0, last=9999999, brief=False, broken=None):
     if stop < asked:
         out.text("s", 56, y + 12, "goes on")
         out.label(lane(0) - 10, y + 12, f"with step {stop}")
+    below = 0
     if broken is not None:
         draw_breach(out, n, y, line, broken, events[broken[0]])
-        longest = max(longest, len(events[broken[0]]), len(broken[1]))
-    width, height, over = max(lane(n) + 24 + 6 * min(longest, 5000), 580), y + 56, Drawing()
+        longest, below = max(longest, len(events[broken[0]])), lane(0) + 24 + 6 * len(broken[1])
+    width, height, over = max(lane(n) + 24 + 6 * min(longest, 5000), below, 580), y + 56, Drawing()
     over.bar("w", 0, 0, width)
     over.label(4, 14, f"version {job.version}, {n} replicas, ring {job.ring}: {rows} of {stop - start} steps drawn"
                       f"{', in brief' if brief else ''}, from step {start} on")
@@ -592,9 +593,9 @@ def parts_of(text):
 
 
 def breach_of(answer):
-    """The index of the event that breaks a trace, and what is wrong, from what `mu check` says of it."""
-    _, index, fault = answer.rstrip("\n").split(" ", 2)
-    return int(index), fault
+    """The index of the event that breaks a trace, and what is wrong, from what `mu why` says of it."""
+    first, _, fault = answer.rstrip("\n").split("\n")
+    return int(first.split()[1]), fault
 
 
 def differs(program, text):

@@ -226,14 +226,14 @@ def is_document(text):
 
 
 def check_pictures(draw, judge, what, inputs):
-    """Each input has its picture, up to where `check` says that it breaks, or the answer of `check`."""
+    """Each input has its picture, up to where `why` says that it breaks, or the answer of `check`."""
     wrong = []
     for given in inputs:
         judged = judge.run(["check"], given)[:2]
         status, text, _ = draw.run([], given)
         is_right = (status, text) == judged
         if judged[0] in (0, 7):
-            broken = picture_cases.breach_of(judged[1].decode()) if judged[0] == 7 else None
+            broken = picture_cases.breach_of(judge.run(["why"], given)[1].decode()) if judged[0] == 7 else None
             is_right = (status == judged[0] and is_document(text)
                         and text.decode() == picture_cases.drawn(given.decode(), broken=broken))
         if not is_right:

@@ -70,7 +70,7 @@ pub extern "C" fn mu_judge_take(alloc: Global, judge: &mut Handle, line: &[u8]) 
     u32::from(take_line(alloc, judge, line))
 }
 
-/// What there is to say of the lines that the judge took, and its status: 0 or 7.
+/// What is said of the lines that the judge took, and its status: 0 or 7.
 #[unsafe(no_mangle)]
 pub extern "C" fn mu_judge_why(
     alloc: Global,

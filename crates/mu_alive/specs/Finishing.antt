@@ -48,7 +48,7 @@ pub record HaveAllRaised (c : Config) (live : ℕ → Bool) (past : List Event) 
       (r : ℕ) → r < c.replicas → live r ≡ true
       → holds_all c (take upto (applied c r (part r past))) ≡ true
 
--- in so many steps each live host has granted to it, each region is brought up, and each replica
+-- in this many steps each live host has granted to it, each region is brought up, and each replica
 -- has applied what a knew and raised its head to it
 abbrev pub lagging_steps : Config → ℕ
 lagging_steps c = 2 * cycle c + 2 + joining_steps c + (following_steps c + 2)

@@ -31,7 +31,7 @@ abbrev pub settling_steps : Config → ℕ
 settling_steps c =
     beginning_steps c + (2 * cycle c + 2) + joining_steps c + 2 * bringing_steps c
 
--- so many steps are enough in any ring: each entry is committed once, and learnt and fetched once by
+-- this many steps are enough in any ring: each entry is committed once, and learnt and fetched once by
 -- the replica that is last
 abbrev pub steps_in_any_ring : Config → ℕ
 steps_in_any_ring c =

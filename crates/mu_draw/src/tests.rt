@@ -38,7 +38,8 @@ const BREACH: &str = "<g><title>step 1, line 7: 0 grant 0 = done</title>\n\
     <path class='r' d='M76 115l8 8m0-8l-8 8'/>\n\
     <text class='s' x='56' y='122'>1</text>\n\
     <text class='t e' x='244' y='122'>0 grant 0 = done</text>\n\
-    <text class='t e' x='244' y='134'>not allowed</text>\n</g>\n</svg>\n";
+    <text class='t e' x='84' y='134'>\
+    not allowed: the fence is not closed: close comes first</text>\n</g>\n</svg>\n";
 
 /// How a call ended, and what it wrote.
 #[derive(Drop)]

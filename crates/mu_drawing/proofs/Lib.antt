@@ -1,1 +1,3 @@
+mod MarkSteps
 mod Results
+mod Tooltips

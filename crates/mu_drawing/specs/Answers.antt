@@ -1,5 +1,5 @@
 -- What the call tells, and when each answer comes.
-use Rattle.std.specs.Prelude.{ℕ, ◌-◌, ◌≡◌, ◌<◌, ◌≤◌, ◌==◌, ◌⊎◌, ◌++◌, Bool, true, false, List, codes, length, take, None, Some, Err, Ok, IfSome, MatchBool}
+use Rattle.std.specs.Prelude.{ℕ, ◌-◌, ◌≡◌, ◌<◌, ◌≤◌, ◌==◌, ◌⊎◌, ◌++◌, ◌+◌, Bool, true, false, List, [], ◌∷◌, codes, length, take, ⊤, None, Some, Err, Ok, IfSome, MatchBool}
 use Rattle.std.specs.declared.option.Option.{Option}
 use Rattle.std.specs.declared.result.Result.{Result}
 use Rattle.std.specs.Io.KnownBytes.{Appends}
@@ -12,22 +12,30 @@ use Rattle.mu_input.specs.Traces.{Trace, trace}
 use Rattle.mu_model.specs.declared.event.Event.{Event}
 use Rattle.mu_model.specs.Legal.{IsLegal}
 use Rattle.mu_outcome.specs.Statuses.{code_of}
-use Rattle.mu_outcome.specs.Verdicts.{BreaksAt}
 use Rattle.mu_outcome.specs.declared.status.Status.{Status}
-use Rattle.mu_outcome.specs.declared.verdict.Wrong.{Wrong}
 use Rattle.mu_picture.specs.Drawing.{svg_of}
 use Rattle.mu_picture.specs.Marks.{IsPictureOf}
 use Rattle.mu_picture.specs.Xml.{IsDocument}
 use Rattle.mu_picture.specs.declared.drawing.Breach.{Breach}
+use Rattle.mu_picture.specs.declared.marks.Mark.{Mark}
 use Rattle.mu_picture.specs.declared.pictures.Extent.{Extent}
 use Rattle.mu_picture.specs.declared.pictures.Picture.{Picture}
 use Rattle.mu_input.specs.declared.job.InputEnd.{InputEnd}
-use Rattle.mu_events.specs.Lines.{answer_words}
 use Rattle.mu_text.specs.Lines.{lines}
 use Rattle.std.specs.List.{slice_get}
+use Rattle.mu_judging.specs.Explained.{IsLineOf}
+use Rattle.mu_reasons.specs.Breaks.{Explains}
+use Rattle.mu_reasons.specs.declared.fault.Broken.{Broken}
+use Rattle.mu_report.specs.Reasons.{fault_words}
 use Rattle.mu_report.specs.Said.{text, said_of_end, IsShort}
 use Rattle.mu_report.specs.declared.said.Said.{Said}
 use Rattle.mu_drawing.specs.declared.drawing.Told.{Told}
+
+-- each mark is of the event at its step
+abbrev pub AreOfTheirSteps : List Event → List Mark → Type 0
+AreOfTheirSteps events [] = ⊤
+AreOfTheirSteps events (mark ∷ marks) =
+    (slice_get events mark.step ≡ Some mark.event) × AreOfTheirSteps events marks
 
 -- the events are legal, and this is the drawing of the picture of the steps that are asked for, a
 -- document of XML
@@ -36,41 +44,33 @@ pub record IsDrawingOf (job : Job) (line : ℕ) (events : List Event) (asked : E
   pub legal : IsLegal job.config events
   pub picture : Picture
   pub is : IsPictureOf job.config job.script events asked.brief asked.first asked.last picture
+  pub theirs : AreOfTheirSteps events picture.marks.items
   pub drawn : drawing ≡ svg_of job line picture None
   pub document : IsDocument drawing
 
--- why an event breaks a list
-abbrev pub wrong_words : Wrong → List ℕ
-wrong_words Wrong.NotAllowed = codes "not allowed"
-wrong_words (Wrong.WrongAnswer expected) = codes "expected " ++ answer_words expected
+-- the event that breaks a list, and what is wrong with it, in the words of `mu why`
+abbrev pub breach_with : Broken → Breach
+breach_with broken =
+    record { step = broken.index; event = broken.event; fault = fault_words broken.fault }
 
--- the event at this index, which breaks a list for this cause
-abbrev pub breach_with : ℕ → Event → Wrong → Breach
-breach_with index event cause =
-    record { step = index; event = event; fault = wrong_words cause }
-
--- the event at this index breaks the list for this cause, and this is the drawing of the picture of
--- the steps before it that are asked for, and of that event: a document of XML
-pub record IsBrokenDrawingOf (job : Job) (line : ℕ) (events : List Event) (index : ℕ)
-    (cause : Wrong) (asked : Extent) (drawing : List ℕ) : Type 0 where
-  pub breaks : BreaksAt job.config events index cause
+-- the list breaks here for this reason, and this is the drawing of the picture of the steps before
+-- that are asked for, and of the event that breaks it: a document of XML
+pub record IsBrokenDrawingOf (job : Job) (line : ℕ) (events : List Event) (broken : Broken)
+    (asked : Extent) (drawing : List ℕ) : Type 0 where
+  pub breaks : Explains job.config events (Some broken)
   pub picture : Picture
   pub is :
-      IsPictureOf job.config job.script (take index events) asked.brief asked.first asked.last
-      picture
-  pub event : Event
-  pub there : slice_get events index ≡ Some event
-  pub drawn :
-      drawing
-      ≡ svg_of job line picture (Some (breach_with index event cause))
+      IsPictureOf job.config job.script (take broken.index events) asked.brief asked.first
+      asked.last picture
+  pub theirs : AreOfTheirSteps events picture.marks.items
+  pub drawn : drawing ≡ svg_of job line picture (Some (breach_with broken))
   pub document : IsDocument drawing
 
 -- an event breaks the list, and this is its drawing
 pub record IsBroken (job : Job) (line : ℕ) (events : List Event) (asked : Extent)
     (drawing : List ℕ) : Type 0 where
-  pub index : ℕ
-  pub cause : Wrong
-  pub draws : IsBrokenDrawingOf job line events index cause asked drawing
+  pub broken : Broken
+  pub draws : IsBrokenDrawingOf job line events broken asked drawing
 
 -- what there is to tell of events: a picture where they are legal, and else one up to the first
 -- that breaks the list; want of memory can come at any events
@@ -80,6 +80,12 @@ TellsOfEvents job line events asked (Told.Broken sheet) = IsBroken job line even
 TellsOfEvents job line events asked (Told.Said Said.NoMemory) = Unit {0}
 TellsOfEvents job line events asked _ = ⊥
 
+-- each event of the trace is spelled by the line that its tooltip names
+abbrev pub TooltipsNameLines : List ℕ → Trace → Type 0
+TooltipsNameLines bytes spelled =
+    (index : ℕ) (event : Event) → slice_get spelled.events index ≡ Some event
+    → IsLineOf bytes spelled (length (lines bytes) - length spelled.events + index) index event
+
 -- the bytes spell a trace, whose events stand in the last lines but one, and this is told of them
 pub record TellsOfTrace (bytes : List ℕ) (asked : Extent) (told : Told) : Type 0 where
   pub spelled : Trace
@@ -87,6 +93,7 @@ pub record TellsOfTrace (bytes : List ℕ) (asked : Extent) (told : Told) : Type
   pub tells :
       TellsOfEvents spelled.job (length (lines bytes) - length spelled.events) spelled.events asked
       told
+  pub tooltips : TooltipsNameLines bytes spelled
 
 -- what there is to tell of bytes: the first line that leaves the grammar, or what is told of a
 -- trace; want of memory can come at any bytes

@@ -1,22 +1,18 @@
 //! From the bytes of a trace to its picture.
-ghost use Rattle.std.specs.Prelude.{◌≡◌, ◌+◌, ◌-◌, ◌≤◌, ◌<◌, ◌^◌, Some, None, length, take, IfOk};
-ghost use Rattle.std.specs.List.{slice_get};
+ghost use Rattle.std.specs.Prelude.{◌≡◌, ◌-◌, ◌≤◌, ◌<◌, ◌^◌, Some, length, take, IfOk};
 ghost use Rattle.mu_input.specs.declared.TheConstants.{TRACE_LIMIT};
 ghost use Rattle.mu_model.specs.Contents.{IsConfig};
 ghost use Rattle.mu_model.specs.Legal.{IsLegal};
-ghost use Rattle.mu_outcome.specs.Verdicts.{BreaksAt};
-ghost use Rattle.mu_model.specs.declared.event.Event.{Event as Made};
 ghost use Rattle.mu_text.specs.Lines.{lines};
-ghost use Rattle.mu_drawing.specs.Answers.{Draws, IsBrokenDrawingOf, IsDrawingOf, TellsOfEvents, breach_with, told_with, wrong_words};
+ghost use Rattle.mu_reasons.specs.Breaks.{Explains};
+ghost use Rattle.mu_drawing.specs.Answers.{Draws, IsBrokenDrawingOf, IsDrawingOf, TellsOfEvents, breach_with, told_with};
 
-use mu_check::check;
-use mu_events::push_answer;
+use mu_check::{Broken, explain};
 use mu_input::{InputEnd, Job, TRACE_LIMIT, read_trace};
+use mu_judging::count_of_lines;
 use mu_model::{Event, NoMemory};
-use mu_outcome::{Verdict, Wrong};
 use mu_picture::{Breach, Extent, Sheet, drawn, picture_of};
-use mu_report::Said;
-use mu_text::{Line, LineReader};
+use mu_report::{Said, fault_line};
 use std::alloc::Global;
 
 /// What the program has to tell.
@@ -78,16 +74,6 @@ fn first_line(bytes: &[u8], events: &[Event]) -> u32
     count_of_lines(bytes).saturating_sub(events.len() as u32)
 }
 
-/// How many lines the bytes have.
-fn count_of_lines(bytes: &[u8]) -> u32
-    requires { length bytes.now ≤ TRACE_LIMIT }
-    ensures { result ≡ length (lines bytes.now) }
-{
-    let mut rest = LineReader::new(bytes);
-    while let Some(_) = rest.next() {}
-    rest.number() - 1
-}
-
 /// The picture of the events of a trace, in which step 0 stands in this line, and whether they are
 /// legal.
 ///
@@ -105,14 +91,12 @@ fn drawing_of_events(
     requires countable { length events.now < 2 ^ 32 }
     ensures { TellsOfEvents job.now line events.now asked (told_with result) }
 {
-    match check(alloc, &job.config, events)? {
-        Verdict::Legal => Ok((picture(alloc, job, line, events, asked)?, true)),
-        Verdict::Illegal { index, cause } => {
-            Ok((
-                broken(alloc, job, line, events, index, cause, asked)?,
-                false,
-            ))
-        }
+    match explain(alloc, &job.config, events)? {
+        None => Ok((picture(alloc, job, line, events, asked)?, true)),
+        Some(broken) => Ok((
+            broken_picture(alloc, job, line, events, &broken, asked)?,
+            false,
+        )),
     }
 }
 
@@ -137,33 +121,14 @@ fn picture(
     drawn(alloc, job, line, &picture, &None)
 }
 
-/// Why an event breaks a list.
-fn fault_of(wrong: &Wrong) -> Line
-    ensures { result ≡ wrong_words wrong.now }
+/// The event that breaks a list, and what is wrong with it, in the words of `mu why`.
+fn breach_of(broken: &Broken) -> Breach
+    ensures { result ≡ breach_with broken.now }
 {
-    let mut line = Line::new();
-    match wrong {
-        Wrong::NotAllowed => line.push(b"not allowed"),
-        Wrong::WrongAnswer { expected } => {
-            line.push(b"expected ");
-            push_answer(&mut line, expected);
-        }
-    }
-    line
-}
-
-/// The event at an index of a list that it breaks for this cause.
-fn breach_of(events: &[Event], index: u32, cause: &Wrong) -> Option<Breach>
-    ensures { (event : Made) → slice_get events.now index ≡ Some event
-        → result ≡ Some (breach_with index event cause.now) }
-{
-    match events.get(index as usize) {
-        None => None,
-        Some(event) => Some(Breach {
-            step: index,
-            event: *event,
-            fault: fault_of(cause),
-        }),
+    Breach {
+        step: broken.index,
+        event: broken.event,
+        fault: fault_line(broken),
     }
 }
 
@@ -182,23 +147,22 @@ fn front(events: &[Event], count: u32) -> &[Event]
 /// # Errors
 ///
 /// Want of memory alone.
-fn broken(
+fn broken_picture(
     alloc: Global,
     job: &Job,
     line: u32,
     events: &[Event],
-    index: u32,
-    cause: Wrong,
+    broken: &Broken,
     asked: Extent,
 ) -> Result<Sheet, NoMemory>
     requires config { IsConfig job.now.config }
-    requires breaks { BreaksAt job.now.config events.now index cause }
+    requires breaks { Explains job.now.config events.now (Some broken.now) }
     requires countable { length events.now < 2 ^ 32 }
     ensures { IfOk result (λ sheet.
-        IsBrokenDrawingOf job.now line events.now index cause asked sheet) }
+        IsBrokenDrawingOf job.now line events.now broken.now asked sheet) }
 {
-    let before = front(events, index);
+    let before = front(events, broken.index);
     let picture = picture_of(alloc, &job.config, &job.script, before, asked)?;
-    let breach = breach_of(events, index, &cause);
+    let breach = Some(breach_of(broken));
     drawn(alloc, job, line, &picture, &breach)
 }

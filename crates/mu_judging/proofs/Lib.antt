@@ -1,3 +1,3 @@
-mod EventLines
+pub mod EventLines
 mod Firsts
 mod TakenEvents

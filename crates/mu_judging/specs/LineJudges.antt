@@ -41,7 +41,8 @@ GoesOn c events (Some broken) judge = ⊤
 
 -- the judge knows of these events, the first of which stands in this line, whether they are legal,
 -- and if not, where they break and why
-pub record HasTaken (c : Config) (start : ℕ) (events : List Event) (judge : LineJudge) : Type 0 where
+pub record HasTaken (c : Config) (start : ℕ) (events : List Event)
+    (judge : LineJudge) : Type 0 where
   pub config : judge.config ≡ c
   pub is_config : IsConfig c
   pub first : judge.first ≡ start

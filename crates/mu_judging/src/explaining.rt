@@ -102,7 +102,7 @@ pub(crate) fn located(
 }
 
 /// How many lines the bytes have.
-pub(crate) fn count_of_lines(bytes: &[u8]) -> u32
+pub fn count_of_lines(bytes: &[u8]) -> u32
     requires { length bytes.now ≤ TRACE_LIMIT }
     ensures { result ≡ length (lines bytes.now) }
 {

@@ -7,7 +7,7 @@ mod line_judge;
 mod showing;
 mod telling;
 
-pub use explaining::explain_trace;
+pub use explaining::{count_of_lines, explain_trace};
 pub use judging::judge;
 pub use line_judge::{LineJudge, lines_are_judged_as_a_whole};
 pub use showing::show_trace;

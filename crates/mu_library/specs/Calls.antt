@@ -63,7 +63,7 @@ abbrev pub PutsTold : Told → List ℕ → List ℕ → ℕ → ℕ → Type 0
 PutsTold told before after status taken =
     Puts (text_of told) (code_of (drawing.status_for told)) before after status taken
 
--- what the program says where it is asked this and its source has these bytes is put, or that there
+-- what the program says if it is asked this and its source has these bytes is put, or that there
 -- was no memory
 pub record Answers (asked : Option Asked) (input before after : List ℕ)
     (status taken : ℕ) : Type 0 where

@@ -17,11 +17,11 @@ use std::alloc::Global;
 pub struct Answered {
     /// The status that the program would end with.
     pub status: u8,
-    /// How many bytes the whole text has, of which the first went to the room.
+    /// How many bytes the whole text has; the first went to the room.
     pub taken: usize,
 }
 
-/// What the program says where it is asked this and these are the bytes of its input, and the
+/// What the program says if it is asked this and these are the bytes of its input, and the
 /// status that it ends with. The tasks are 1 `replay`, 2 `trace`, 3 `check`, 4 `why`, 5 `book` and 6
 /// `bulk`, whose input is its number as on the command line; of any other, and of no number, the
 /// usage is told. Want of memory can come in place of any answer.
@@ -32,7 +32,7 @@ pub fn answer(alloc: Global, task: u32, input: &[u8], out: &mut [u8]) -> Answere
     say(alloc, said_of(alloc, asked_of(task, input), input), out)
 }
 
-/// What the program says where it is asked this.
+/// What the program says if it is asked this.
 fn said_of(alloc: Global, asked: Asked, input: &[u8]) -> Said
     requires { HasRoom asked }
     ensures said { Tells (asked_as asked) (Some input.now) (Some input.now) 0 0 result }

@@ -15,7 +15,7 @@ use std::alloc::Global;
 const USAGE: &[u8] =
     b"usage: mu_draw, mu_draw FIRST LAST, mu_draw brief, mu_draw brief FIRST LAST\n";
 
-/// What `mu_draw FIRST LAST` says where these are the bytes of its input, and the status that it
+/// What `mu_draw FIRST LAST` says if these are the bytes of its input, and the status that it
 /// ends with. Want of memory can come in place of any answer.
 pub fn draw(alloc: Global, first: u32, last: u32, input: &[u8], out: &mut [u8]) -> Answered
     ensures { Draws (asked_steps first last) input.now out.old out.new result.status

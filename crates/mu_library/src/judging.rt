@@ -57,7 +57,7 @@ pub fn take_line(alloc: Global, handle: &mut Handle, line: &[u8]) -> u8
     status.code()
 }
 
-/// What there is to say of the lines so far, and its status. The handle keeps its judge.
+/// What is said of the lines so far, and its status. The handle keeps its judge.
 pub fn told_by(alloc: Global, handle: &mut Handle, out: &mut [u8]) -> Answered
     requires { CanTake handle.old.held }
     ensures says { SaysOfJudge handle.old.held out.old out.new result.status result.taken }

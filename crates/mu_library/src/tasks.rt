@@ -13,7 +13,7 @@ pub(crate) enum Asked {
     Nothing,
     /// Something with an input.
     Input(Alone),
-    /// The stated large job of so many commands.
+    /// The stated large job with this many commands.
     Bulk(u16),
 }
 

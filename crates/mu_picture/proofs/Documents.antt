@@ -289,7 +289,7 @@ breach_is line n y None = nothing
 breach_is line n y (Some breach) =
     group_is (step_words line breach.step breach.event) (breach_inside n y breach)
     (both (both (shape_is (strip_shape Look.Wrong n (y + 17) 1)) (shape_is (breach_shape breach.event.by (y + 22))))
-    (both (axis_is (y + 29) (decimal breach.step)) (both (fault_is n (y + 29) (event_line breach.event)) (fault_is n (y + 41) breach.fault))))
+    (both (axis_is (y + 29) (decimal breach.step)) (both (fault_is n (y + 29) (event_line breach.event)) (fault_is 0 (y + 41) breach.fault))))
 
 foot_is : (line n : ℕ) (picture : Picture) (breach : Option Breach) (cursor : Cursor) → IsContent (foot_pieces line n picture breach cursor)
 foot_is line n picture breach cursor =
@@ -308,7 +308,7 @@ lanes_are r [] = nothing
 lanes_are r (opening ∷ openings) = both (lane_is r opening) (lanes_are (r + 1) openings)
 
 style_is : IsContent style
-style_is = element {name = codes "style"} refl (whole {content = codes "text{font:9px sans-serif;paint-order:stroke;stroke:#fff;stroke-width:3px}.t{font-family:monospace}.s{text-anchor:end;fill:#555}path{stroke:#000;fill:none}rect,circle{stroke:#000;stroke-width:.6}.w,.l,.z{stroke:none}.w,.c{fill:#fff}.l{fill:#888}.z{fill:url(#z)}.f{fill:#fff;stroke:#888;stroke-dasharray:2 2}.p,.k{fill:#000}.q{stroke-dasharray:4 2}.k,.x,.r{stroke-width:2}.a{stroke:#666;stroke-dasharray:1 2}.e{fill:#c00}.r{stroke:#c00}.o0{fill:#e69f00}.o1{fill:#56b4e9}.o2{fill:#009e73}.o3{fill:#f0e442}.o4{fill:#0072b2}.o5{fill:#d55e00}.o6{fill:#cc79a7}"} (plain_content (codes "text{font:9px sans-serif;paint-order:stroke;stroke:#fff;stroke-width:3px}.t{font-family:monospace}.s{text-anchor:end;fill:#555}path{stroke:#000;fill:none}rect,circle{stroke:#000;stroke-width:.6}.w,.l,.z{stroke:none}.w,.c{fill:#fff}.l{fill:#888}.z{fill:url(#z)}.f{fill:#fff;stroke:#888;stroke-dasharray:2 2}.p,.k{fill:#000}.q{stroke-dasharray:4 2}.k,.x,.r{stroke-width:2}.a{stroke:#666;stroke-dasharray:1 2}.e{fill:#c00}.r{stroke:#c00}.o0{fill:#e69f00}.o1{fill:#56b4e9}.o2{fill:#009e73}.o3{fill:#f0e442}.o4{fill:#0072b2}.o5{fill:#d55e00}.o6{fill:#cc79a7}") refl) line_feed)
+style_is = element {name = codes "style"} refl (whole {content = codes "text{font:9px sans-serif;paint-order:stroke;stroke:#fff;stroke-width:5px}.t{font-family:monospace}.s{text-anchor:end;fill:#555}path{stroke:#000;fill:none}rect,circle{stroke:#000;stroke-width:.6}.w,.l,.z{stroke:none}.w,.c{fill:#fff}.l{fill:#888}.z{fill:url(#z)}.f{fill:#fff;stroke:#888;stroke-dasharray:2 2}.p,.k{fill:#000}.q{stroke-dasharray:4 2}.k,.x,.r{stroke-width:2}.a{stroke:#333;stroke-dasharray:2 2}.e{fill:#c00}.r{stroke:#c00}.o0{fill:#e69f00}.o1{fill:#56b4e9}.o2{fill:#009e73}.o3{fill:#f0e442}.o4{fill:#0072b2}.o5{fill:#d55e00}.o6{fill:#cc79a7}"} (plain_content (codes "text{font:9px sans-serif;paint-order:stroke;stroke:#fff;stroke-width:5px}.t{font-family:monospace}.s{text-anchor:end;fill:#555}path{stroke:#000;fill:none}rect,circle{stroke:#000;stroke-width:.6}.w,.l,.z{stroke:none}.w,.c{fill:#fff}.l{fill:#888}.z{fill:url(#z)}.f{fill:#fff;stroke:#888;stroke-dasharray:2 2}.p,.k{fill:#000}.q{stroke-dasharray:4 2}.k,.x,.r{stroke-width:2}.a{stroke:#333;stroke-dasharray:2 2}.e{fill:#c00}.r{stroke:#c00}.o0{fill:#e69f00}.o1{fill:#56b4e9}.o2{fill:#009e73}.o3{fill:#f0e442}.o4{fill:#0072b2}.o5{fill:#d55e00}.o6{fill:#cc79a7}") refl) line_feed)
 
 hatching_is : IsContent hatching
 hatching_is =

@@ -127,7 +127,7 @@ abbrev pub breach_inside : ℕ → ℕ → Breach → List ℕ
 breach_inside n y breach =
     breach_figure n breach.event.by y
     ++ (axis_piece (y + 29) ([] ++ decimal breach.step)
-    ++ (fault_piece n (y + 29) (event_line breach.event) ++ fault_piece n (y + 41) breach.fault))
+    ++ (fault_piece n (y + 29) (event_line breach.event) ++ fault_piece 0 (y + 41) breach.fault))
 
 -- that, with its step and line as a tooltip
 abbrev pub breach_pieces : ℕ → ℕ → ℕ → Option Breach → List ℕ
@@ -165,12 +165,12 @@ lanes_from r (opening ∷ openings) = lane_pieces r opening ++ lanes_from (r + 1
 -- how text and shapes look
 abbrev pub style : List ℕ
 style =
-    codes "<style>text{font:9px sans-serif;paint-order:stroke;stroke:#fff;stroke-width:3px}"
+    codes "<style>text{font:9px sans-serif;paint-order:stroke;stroke:#fff;stroke-width:5px}"
     ++ codes ".t{font-family:monospace}.s{text-anchor:end;fill:#555}path{stroke:#000;fill:none}"
     ++ codes "rect,circle{stroke:#000;stroke-width:.6}.w,.l,.z{stroke:none}.w,.c{fill:#fff}"
     ++ codes ".l{fill:#888}.z{fill:url(#z)}.f{fill:#fff;stroke:#888;stroke-dasharray:2 2}"
     ++ codes ".p,.k{fill:#000}.q{stroke-dasharray:4 2}.k,.x,.r{stroke-width:2}"
-    ++ codes ".a{stroke:#666;stroke-dasharray:1 2}.e{fill:#c00}.r{stroke:#c00}"
+    ++ codes ".a{stroke:#333;stroke-dasharray:2 2}.e{fill:#c00}.r{stroke:#c00}"
     ++ codes ".o0{fill:#e69f00}.o1{fill:#56b4e9}.o2{fill:#009e73}.o3{fill:#f0e442}"
     ++ codes ".o4{fill:#0072b2}.o5{fill:#d55e00}.o6{fill:#cc79a7}</style>\n"
 
@@ -288,17 +288,27 @@ abbrev pub longest_of : Job → List Mark → ℕ
 longest_of job [] = 0
 longest_of job (mark ∷ marks) = max (length (note_words job mark)) (longest_of job marks)
 
--- how many bytes what is said of the event that breaks the list has
-abbrev pub breach_length : Option Breach → ℕ
-breach_length None = 0
-breach_length (Some breach) = max (length (event_line breach.event)) (length breach.fault)
+-- how many bytes the event that breaks the list has, and what is wrong with it
+abbrev pub event_length : Option Breach → ℕ
+event_length None = 0
+event_length (Some breach) = length (event_line breach.event)
 
--- how wide a picture is: the notes have room, and the legend has
+abbrev pub fault_length : Option Breach → ℕ
+fault_length None = 0
+fault_length (Some breach) = length breach.fault
+
+-- how wide a picture is that has words with this many bytes to the right of n lanes; the legend has
+-- room too
+abbrev pub width_for : ℕ → ℕ → ℕ
+width_for n longest = max 580 (lane_of n + 24 + 6 * min 5000 longest)
+
+-- how wide a picture is: the notes have room, and what is wrong, which stands below the lanes
 abbrev pub width_of : Job → Picture → Option Breach → ℕ
 width_of job picture breach =
-    max 580
-    (lane_of (length picture.openings.items) + 24
-    + 6 * min 5000 (max (longest_of job picture.marks.items) (breach_length breach)))
+    max
+    (width_for (length picture.openings.items)
+    (max (longest_of job picture.marks.items) (event_length breach)))
+    (width_for 0 (fault_length breach))
 
 -- how high it is
 abbrev pub height_of : Picture → ℕ

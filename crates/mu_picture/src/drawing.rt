@@ -1,7 +1,7 @@
 //! A picture as a document of SVG.
 ghost use Rattle.std.specs.Prelude.{◌≡◌, ◌++◌, ◌+◌, ◌*◌, ◌-◌, ◌<◌, ◌≤◌, ◌^◌, [], codes, length, max, min, Some, IfOk, OnOk};
 ghost use Rattle.std.specs.Fmt.{decimal};
-ghost use Rattle.mu_picture.specs.Drawing.{breach_figure, breach_inside, breach_length, breach_pieces, breach_shape, content_of, document_of, fault_piece, foot_pieces, front_of, goes_on_pieces, height_of, lane_pieces, lanes_from, last_cursor, longest_of, more_pieces, rows_from, standing_pieces, svg_of, width_of};
+ghost use Rattle.mu_picture.specs.Drawing.{breach_figure, breach_inside, breach_pieces, breach_shape, content_of, document_of, event_length, fault_length, fault_piece, foot_pieces, front_of, goes_on_pieces, height_of, lane_pieces, lanes_from, last_cursor, longest_of, more_pieces, rows_from, standing_pieces, svg_of, width_for, width_of};
 ghost use Rattle.mu_picture.specs.Layout.{lane_of, top};
 ghost use Rattle.mu_picture.specs.Marks.{lowest};
 ghost use Rattle.mu_picture.specs.Words.{note_words};
@@ -135,7 +135,7 @@ fn push_breach_inside(sheet: &mut Sheet, n: u64, y: u64, breach: &Breach) -> Res
     push_breach_figure(sheet, n, breach.event.by, y)?;
     push_step(sheet, y + 29, breach.step)?;
     push_fault(sheet, n, y + 29, words.as_slice())?;
-    push_fault(sheet, n, y + 41, breach.fault.as_slice())
+    push_fault(sheet, 0, y + 41, breach.fault.as_slice())
 }
 
 /// Adds that, with its step and line as a tooltip.
@@ -260,23 +260,33 @@ fn longest(alloc: Global, job: &Job, marks: &[Mark]) -> Result<u64, NoMemory>
     Ok(most)
 }
 
-/// How many bytes what is said of the event that breaks the list has.
-fn breach_bytes(breach: &Option<Breach>) -> u64
-    ensures { result ≡ breach_length breach.now }
+/// How many bytes the event that breaks the list has.
+fn event_bytes(breach: &Option<Breach>) -> u64
+    ensures { result ≡ event_length breach.now }
 {
     match breach {
         None => 0,
         Some(breach) => {
             let words = event_line(&breach.event);
-            (words.as_slice().len() as u64).max(breach.fault.as_slice().len() as u64)
+            words.as_slice().len() as u64
         }
+    }
+}
+
+/// How many bytes the words on what is wrong with it have.
+fn fault_bytes(breach: &Option<Breach>) -> u64
+    ensures { result ≡ fault_length breach.now }
+{
+    match breach {
+        None => 0,
+        Some(breach) => breach.fault.as_slice().len() as u64,
     }
 }
 
 /// How wide a picture of `n` lanes is, if the longest words next to them have this many bytes.
 fn width(n: u64, longest: u64) -> u64
     requires { n < 256 }
-    ensures { result ≡ max 580 (lane_of n + 24 + 6 * min 5000 longest) }
+    ensures { result ≡ width_for n longest }
 {
     (lane(n) + 24 + 6 * longest.min(5000)).max(580)
 }
@@ -334,8 +344,9 @@ fn width_with(
     ensures { IfOk result (λ width. width ≡ width_of job.now picture.now breach.now) }
 {
     let notes = longest(alloc, job, picture.marks.as_slice())?;
-    let most = notes.max(breach_bytes(breach));
-    Ok(width(lanes_in(picture), most))
+    let most = notes.max(event_bytes(breach));
+    let below = width(0, fault_bytes(breach));
+    Ok(width(lanes_in(picture), most).max(below))
 }
 
 /// Adds the document of a picture, of this width and height.

@@ -13,12 +13,12 @@ fn push_style(sheet: &mut Sheet) -> Result<(), NoMemory>
     ensures { OnOk result (sheet.new ≡ sheet.old ++ style) }
 {
     sheet.push(
-        b"<style>text{font:9px sans-serif;paint-order:stroke;stroke:#fff;stroke-width:3px}\
+        b"<style>text{font:9px sans-serif;paint-order:stroke;stroke:#fff;stroke-width:5px}\
           .t{font-family:monospace}.s{text-anchor:end;fill:#555}path{stroke:#000;fill:none}\
           rect,circle{stroke:#000;stroke-width:.6}.w,.l,.z{stroke:none}.w,.c{fill:#fff}\
           .l{fill:#888}.z{fill:url(#z)}.f{fill:#fff;stroke:#888;stroke-dasharray:2 2}\
           .p,.k{fill:#000}.q{stroke-dasharray:4 2}.k,.x,.r{stroke-width:2}\
-          .a{stroke:#666;stroke-dasharray:1 2}.e{fill:#c00}.r{stroke:#c00}\
+          .a{stroke:#333;stroke-dasharray:2 2}.e{fill:#c00}.r{stroke:#c00}\
           .o0{fill:#e69f00}.o1{fill:#56b4e9}.o2{fill:#009e73}.o3{fill:#f0e442}\
           .o4{fill:#0072b2}.o5{fill:#d55e00}.o6{fill:#cc79a7}</style>\n",
     )

@@ -18,6 +18,7 @@ mod summary;
 mod trace;
 mod words;
 
+pub use reasons::fault_line;
 pub use report::status;
 pub use said::{Said, print, print_counted};
 pub use trace::is_countable;

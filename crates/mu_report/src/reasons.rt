@@ -374,7 +374,7 @@ fn first_line(events: u32, number: u32, broken: &Option<Broken>) -> Line
 }
 
 /// What is wrong with it.
-fn fault_line(broken: &Broken) -> Line
+pub fn fault_line(broken: &Broken) -> Line
     ensures bytes { result ≡ fault_words broken.now.fault }
     ensures room { length result < LINE_BYTES }
 {

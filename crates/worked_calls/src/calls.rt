@@ -277,7 +277,7 @@ fn judges_lists(rt: HostRuntime) -> Result<(), Fail> {
     Ok(())
 }
 
-/// Whether the replay of the put and the get ends with this status and says this text, where one
+/// Whether the replay of the put and the get ends with this status and says this text, if one
 /// read fails (0 for none).
 fn ends_at_read<R: Threads + Wait + Sync>(
     rt: &R,
@@ -303,7 +303,7 @@ fn tells_each_failing_read(rt: HostRuntime) -> Result<(), Fail> {
 }
 
 /// The status, what was taken and how many bytes were written of the replay of the put and the get,
-/// where one write fails.
+/// if one write fails.
 fn end_at_write<R: Threads + Wait + Sync>(
     rt: &R,
     alloc: Global,

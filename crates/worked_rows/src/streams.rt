@@ -115,7 +115,7 @@ fn writes_so(
     Ok(write_all(&mut sink, TEXT) == told && sink.written() == text)
 }
 
-/// The size of a piece, the room, and how many bytes are taken where no write fails, or the write
+/// The size of a piece, the room, and how many bytes are taken if no write fails, or the write
 /// of the number 1, 2 or 3.
 const WRITES: [(usize, usize, [usize; 4]); 5] = [
     (1, 10, [10, 0, 1, 2]),

@@ -2,6 +2,7 @@ use Rattle.std.proofs.Common.{◌≡◌, ℕ, List, None}
 use Rattle.mu_picture.specs.Drawing.{svg_of}
 use Rattle.mu_picture.specs.Xml.{IsDocument}
 use Rattle.mu_drawing.specs.Answers.{IsDrawingOf}
+use Rattle.mu_drawing.proofs.MarkSteps.{marks_are_of_their_steps}
 use Rattle.mu_drawing.proofs.Results.{if_ok}
 use Rattle.mu_drawing.proofs.drawing.picture.Goals as goal
 
@@ -15,6 +16,7 @@ returns c =
       legal = c.requires.legal;
       picture = picture;
       is = c.in_ok-picture.ensures.picture;
+      theirs = marks_are_of_their_steps job.config job.script events c.args.asked.brief c.args.asked.first c.args.asked.last picture c.in_ok-picture.ensures.picture;
       drawn = is;
       document = document;
     })

@@ -13,7 +13,7 @@ returns c =
     let p1 = breach_figure n breach.event.by y in
     let p2 = axis_piece (y + 29) ([] ++ decimal breach.step) in
     let p3 = fault_piece n (y + 29) (event_line breach.event) in
-    let p4 = fault_piece n (y + 41) breach.fault in
+    let p4 = fault_piece 0 (y + 41) breach.fault in
     let s1 = c.push_breach_figure.new.sheet in
     let s2 = c.push_step.new.sheet in
     let s3 = c.push_fault.new.sheet in
@@ -22,4 +22,4 @@ returns c =
     (λ done. joined c.args.sheet.now s1 s4 p1 (p2 ++ (p3 ++ p4)) c.in_ok-push_breach_figure.ensures
     (joined s1 s2 s4 p2 (p3 ++ p4) c.in_ok-push_step.ensures
     (joined s2 s3 s4 p3 p4 (c.in_ok-push_fault.ensures ∙ ap (λ words. s2 ++ fault_piece n (y + 29) words) (c.as_slice.ensures ∙ c.event_line-words.ensures.bytes))
-    (done ∙ ap (λ words. s3 ++ fault_piece n (y + 41) words) c.as_slice-2.ensures))))
+    (done ∙ ap (λ words. s3 ++ fault_piece 0 (y + 41) words) c.as_slice-2.ensures))))
