@@ -72,7 +72,7 @@ pub record IsBroken (job : Job) (line : ℕ) (events : List Event) (asked : Exte
   pub broken : Broken
   pub draws : IsBrokenDrawingOf job line events broken asked drawing
 
--- what there is to tell of events: a picture where they are legal, and else one up to the first
+-- what is told of events: a picture if they are legal, and else one up to the first
 -- that breaks the list; want of memory can come at any events
 abbrev pub TellsOfEvents : Job → ℕ → List Event → Extent → Told → Type 0
 TellsOfEvents job line events asked (Told.Drawn sheet) = IsDrawingOf job line events asked sheet
@@ -95,14 +95,14 @@ pub record TellsOfTrace (bytes : List ℕ) (asked : Extent) (told : Told) : Type
       told
   pub tooltips : TooltipsNameLines bytes spelled
 
--- what there is to tell of bytes: the first line that leaves the grammar, or what is told of a
+-- what is told of bytes: the first line that leaves the grammar, or what is told of a
 -- trace; want of memory can come at any bytes
 abbrev pub Draws : List ℕ → Extent → Told → Type 0
 Draws bytes asked (Told.Said (Said.Refused line cause)) = trace bytes ≡ Leaves line cause
 Draws bytes asked (Told.Said Said.NoMemory) = Unit {0}
 Draws bytes asked told = TellsOfTrace bytes asked told
 
--- bytes within the limit were read, all that the source had left where it tells them, and this is
+-- bytes within the limit were read, all that the source had left if it tells them, and this is
 -- told of them
 pub record TellsOfInput (left : Option (List ℕ)) (asked : Extent) (told : Told) : Type 0 where
   pub bytes : List ℕ
@@ -120,7 +120,7 @@ TellsOfSource left now before after asked told =
     ⊎ (((told ≡ Told.Said Said.NoMemory) × (now ≡ left) × (after ≡ before))
     ⊎ ((after ≡ before) × TellsOfInput left asked told)))
 
--- the usage is told exactly where the words ask for nothing, and then nothing is read
+-- the usage is told exactly if the words ask for nothing, and then nothing is read
 abbrev pub Tells : Option Extent → Option (List ℕ) → Option (List ℕ) → ℕ → ℕ → Told → Type 0
 Tells None left now before after told = (told ≡ Told.Usage) × (now ≡ left) × (after ≡ before)
 Tells (Some asked) left now before after told = TellsOfSource left now before after asked told

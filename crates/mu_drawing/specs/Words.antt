@@ -12,12 +12,12 @@ use Rattle.mu_picture.specs.declared.pictures.Extent.{Extent}
 abbrev pub all_steps : Bool → Extent
 all_steps brief = record { first = 0; last = LAST_STEP; brief = brief }
 
--- the steps from the first to the last, where there is one
+-- the steps from the first to the last, if there is one
 abbrev pub asked_to : Bool → ℕ → Option ℕ → Option Extent
 asked_to brief first None = None
 asked_to brief first (Some last) = Some (record { first = first; last = last; brief = brief })
 
--- the steps from the first, where there is one, to the last, which is no step before it
+-- the steps from the first, if there is one, to the last, which is no step before it
 abbrev pub asked_from : Bool → Option ℕ → List ℕ → Option Extent
 asked_from brief None last = None
 asked_from brief (Some first) last =
@@ -45,7 +45,7 @@ asked_of (word ∷ first ∷ last ∷ []) =
     asked_of_three (string_bytes word) (string_bytes first) (string_bytes last)
 asked_of (word ∷ first ∷ last ∷ more ∷ words) = None
 
--- the steps from one to another, where they are in order and the last is one that can be named
+-- the steps from one to another, if they are in order and the last is one that can be named
 abbrev pub asked_steps : ℕ → ℕ → Option Extent
 asked_steps first last =
     if nat_le first last && nat_le last LAST_STEP

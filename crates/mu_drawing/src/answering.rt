@@ -66,7 +66,7 @@ fn told<S: Source>(alloc: Global, asked: Option<Extent>, source: &mut S) -> Told
     }
 }
 
-/// What there is to tell of all that the source has left.
+/// What is told of all that the source has left.
 fn told_of_source<S: Source>(alloc: Global, asked: Extent, source: &mut S) -> Told
     ensures told { TellsOfSource (S.left source.old) (S.left source.new)
         (S.faults source.old) (S.faults source.new) asked result }
@@ -80,7 +80,7 @@ fn told_of_source<S: Source>(alloc: Global, asked: Extent, source: &mut S) -> To
     }
 }
 
-/// Writes what there is to tell, and answers how that went.
+/// Writes what is told, and answers how that went.
 pub fn answer<K: Sink>(sink: &mut K, told: Told) -> Answered
     requires { IsSayable told }
     ensures told { result.told ≡ told }
@@ -101,7 +101,7 @@ pub fn answer<K: Sink>(sink: &mut K, told: Told) -> Answered
     }
 }
 
-/// Writes what there is to tell.
+/// Writes what is told.
 ///
 /// # Errors
 ///

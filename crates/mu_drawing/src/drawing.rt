@@ -39,7 +39,7 @@ pub fn told_of(alloc: Global, bytes: &[u8], asked: Extent) -> Told
     told_of_drawing(drawing(alloc, bytes, asked))
 }
 
-/// What there is to tell of a picture of a trace that is legal or not, or of why there is none.
+/// What is told of a picture of a trace that is legal or not, or of why there is none.
 fn told_of_drawing(drawing: Result<(Sheet, bool), InputEnd>) -> Told
     ensures { result ≡ told_with drawing }
 {

@@ -1,5 +1,5 @@
 -- What a step does that is drawn. Loads are not, but for those that teach a value, find a place
--- used again, end a leadership, or find another replica failed or alive; nor are beats, but where a
+-- used again, end a leadership, or find another replica failed or alive; nor are beats, unless a
 -- leadership is given up, the words of rows, raised FUOs and what a fence is entered with.
 use Rattle.std.specs.Prelude.{ℕ, Bool, true, false, nat_le, None, Some, List, ◌∷◌, length}
 use Rattle.std.specs.declared.option.Option.{Option}
@@ -18,12 +18,12 @@ abbrev pub is_done : Answer → Bool
 is_done Answer.Done = true
 is_done _ = false
 
--- a deed, where it is drawn
+-- a deed, if it is drawn
 abbrev pub drawn_if : Bool → Deed → Option Deed
 drawn_if true deed = Some deed
 drawn_if false deed = None
 
--- a put of an entry: a commit where it commits
+-- a put of an entry: a commit if it commits
 abbrev pub put_deed : ℕ → ℕ → Answer → Option (ℕ × ℕ) → Option Deed
 put_deed p i answer None = Some (Deed.Put p i (is_done answer))
 put_deed p i answer (Some commit) = Some (Deed.Commit p commit.0 commit.1)

@@ -57,7 +57,7 @@ abbrev pub titles_pieces : ℕ → ℕ → List ℕ
 titles_pieces zero y = []
 titles_pieces (suc n) y = titles_pieces n y ++ title_pieces n y
 
--- the titles again, where they stand above the next row
+-- the titles again, if they stand above the next row
 abbrev pub titles_again : ℕ → Cursor → List ℕ
 titles_again n cursor =
     if has_titles cursor then titles_pieces n (cursor.y + 11) else []
@@ -135,7 +135,7 @@ breach_pieces line n y None = []
 breach_pieces line n y (Some breach) =
     group_piece (step_words line breach.step breach.event) (breach_inside n y breach)
 
--- what stands below the rows, where the next row would go at the cursor
+-- what stands below the rows; the next row would go at the cursor
 abbrev pub foot_pieces : ℕ → ℕ → Picture → Option Breach → Cursor → List ℕ
 foot_pieces line n picture breach cursor =
     fold_pieces n cursor.y (picture.end - cursor.at)

@@ -12,7 +12,7 @@ use Rattle.mu_picture.specs.declared.deeds.Deed.{Deed}
 use Rattle.mu_course.specs.declared.halts.Halt.{Halt}
 use Rattle.mu_picture.specs.declared.marks.Mark.{Mark}
 
--- what the replica does by a mark, where there is one
+-- what the replica does by a mark, if there is one
 abbrev pub deed_in : Option Mark → Option Deed
 deed_in None = None
 deed_in (Some mark) = mark.deed

@@ -51,7 +51,7 @@ abbrev pub edge_of : Bool → ℕ
 edge_of true = 5
 edge_of false = 11
 
--- the end of a line at a bar of a region: in the middle where it missed, else the nearer side
+-- the end of a line at a bar of a region: in the middle if it missed, else the nearer side
 abbrev pub tip_of : Bool → Bool → ℕ
 tip_of true left = 48
 tip_of false true = 52
@@ -64,7 +64,7 @@ across_shape look missed r y p =
     (Way.Across (lane_of r + edge_of (nat_lt p r)) y
     (lane_of p + tip_of missed (nat_lt p r)) missed (nat_lt p r))
 
--- a put: where it missed, it ends a leadership
+-- a put: if it missed, it ends a leadership
 abbrev pub put_shapes : Bool → ℕ → ℕ → ℕ → List Shape
 put_shapes true r y p = across_shape Look.Landed false r y p ∷ []
 put_shapes false r y p = resting_shape r y ∷ across_shape Look.Missed true r y p ∷ []
@@ -80,7 +80,7 @@ abbrev pub ended_shapes : ℕ → ℕ → List Shape
 ended_shapes r y =
     bare_shape r (y + 6) ∷ Shape.Line Look.Sign (Way.Cross (lane_of r + 4) (y - 4)) ∷ []
 
--- the end of the lane of r below y, where it has finished
+-- the end of the lane of r below y, if it has finished
 abbrev pub finished_shapes : ℕ → ℕ → List Shape
 finished_shapes r y =
     bare_shape r (y + 6) ∷ Shape.Line Look.Sign (Way.Level (lane_of r) (y + 5)) ∷ []
@@ -113,7 +113,7 @@ halt_shapes r y (Some Halt.Spent) = ended_shapes r y
 halt_shapes r y (Some Halt.Finish) = finished_shapes r y
 halt_shapes r y (Some (Halt.Pause rounds)) = paused_shape r (y + 6) ∷ []
 
--- the lane of r from y on, where it leads or not and names a replica
+-- the lane of r from y on: whether it leads, and whom it names
 abbrev pub lane_shapes : ℕ → ℕ → Bool → ℕ → List Shape
 lane_shapes r y true named =
     naming_shape r y named ∷ lane_shape r y ∷ leading_shape r y ∷ []

@@ -8,7 +8,7 @@ use Rattle.mu_picture.specs.declared.marks.Mark.{Mark}
 abbrev pub lane_of : ℕ → ℕ
 lane_of r = 72 + 160 * r
 
--- the height of a stretch of so many steps without a mark: long ones are folded
+-- the height of a stretch of this many steps without a mark: long ones are folded
 abbrev pub stretch_of : ℕ → ℕ
 stretch_of steps = if nat_lt 31 steps then 16 else steps
 

@@ -16,7 +16,7 @@ use Rattle.mu_picture.specs.declared.marks.Mark.{Mark}
 use Rattle.mu_picture.specs.declared.pictures.Picture.{Picture}
 use Rattle.mu_picture.specs.declared.standings.Resumed.{Resumed}
 
--- the mark of these parts; where none is there, there is no mark
+-- the mark of these parts; if none is there, there is no mark
 abbrev pub made_of : ℕ → Event → Option Resumed → Option Deed → Option Halt → Option Mark
 made_of step e None None None = None
 made_of step e resumed deed halt =
@@ -58,7 +58,7 @@ abbrev pub kept : Bool → Option Mark → Option Mark
 kept brief None = None
 kept brief (Some mark) = if is_kept brief mark then Some mark else None
 
--- the marks, and one more where there is one
+-- the marks, and one more if there is one
 abbrev pub with_mark : List Mark → Option Mark → List Mark
 with_mark marks None = marks
 with_mark marks (Some mark) = marks ++ mark ∷ []
@@ -85,7 +85,7 @@ end_of events last = min (last + 1) (length events)
 abbrev pub lowest : Picture → ℕ
 lowest picture = (after_marks (top picture.first) picture.marks.items).y
 
--- the picture of the steps `from` one to the `last` of a run, in brief or not, where they are
+-- the picture of the steps `from` one to the `last` of a run, in brief or not, if they are
 -- there: of all of them, or if they have too many rows of the first ones
 pub record IsPictureOf (c : Config) (script : Script) (events : List Event) (short : Bool)
     (from last : ℕ) (picture : Picture) : Type 0 where

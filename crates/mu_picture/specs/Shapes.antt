@@ -6,8 +6,8 @@ use Rattle.mu_picture.specs.declared.shapes.Part.{Part}
 use Rattle.mu_picture.specs.declared.shapes.Shape.{Shape}
 use Rattle.mu_picture.specs.declared.shapes.Way.{Way}
 
--- what a byte of a text is written as: an entity where it has a meaning in XML, and a question mark
--- where it isn't visible
+-- what a byte of a text is written as: an entity if it has a meaning in XML, and a question mark
+-- if it isn't visible
 abbrev pub escape : ℕ → List ℕ
 escape byte =
     if byte == 60 then codes "&lt;"
@@ -110,7 +110,7 @@ text_piece look x y words =
     ++ (look_class look ++ (codes "' x='" ++ (decimal x ++ (codes "' y='"
     ++ (decimal y ++ (codes "'>" ++ (escaped words ++ codes "</text>\n")))))))
 
--- words where there are any
+-- words if there are any
 abbrev pub said_piece : Look → ℕ → ℕ → List ℕ → List ℕ
 said_piece look x y [] = []
 said_piece look x y (byte ∷ bytes) = text_piece look x y (byte ∷ bytes)

@@ -105,7 +105,7 @@ resumed_words None words = words
 resumed_words (Some resumed) [] = codes " goes on"
 resumed_words (Some resumed) (byte ∷ bytes) = codes " goes on:" ++ (byte ∷ bytes)
 
--- what is said of a step of r, where there is something to say
+-- what is said of a step of r, if there are words for it
 abbrev pub note_with : ℕ → ℕ → List ℕ → List ℕ
 note_with step r [] = []
 note_with step r (byte ∷ bytes) =
@@ -117,7 +117,7 @@ note_words job mark =
     note_with mark.step mark.event.by
     (resumed_words mark.resumed (deed_words job mark.deed ++ halt_words mark.halt))
 
--- a step, its line where step 0 stands in this one, and its event as a trace has it
+-- a step, its line if step 0 stands in this one, and its event as a trace has it
 abbrev pub step_words : ℕ → ℕ → Event → List ℕ
 step_words line step e =
     codes "step " ++ (decimal step ++ (codes ", line "

@@ -334,7 +334,7 @@ pub fn label_of(deed: Option<Deed>) -> Line
     }
 }
 
-/// Adds which step an event is, its line where step 0 stands in `line`, and the event as a trace
+/// Adds which step an event is, its line if step 0 stands in `line`, and the event as a trace
 /// has it.
 pub fn push_step_words(
     sheet: &mut Sheet,

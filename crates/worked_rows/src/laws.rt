@@ -19,6 +19,13 @@ pub(crate) fn first_choice(
     chosen_at(alloc, config, events, 0)
 }
 
+/// Whether nothing is chosen at the second position.
+fn no_second(alloc: Global, config: &Config, events: &[Event]) -> Result<bool, NoMemory>
+    requires { IsLegal config.now events.now }
+{
+    Ok(chosen_at(alloc, config, events, 1)?.is_none())
+}
+
 /// Whether a replica knows just these entries.
 fn knows(
     alloc: Global,
@@ -86,6 +93,7 @@ fn is_adopted(alloc: Global, config: &Config, events: &[Event]) -> Result<bool, 
 {
     Ok(
         first_choice(alloc, config, events)? == Some(0)
+            && no_second(alloc, config, events)?
             && knows(alloc, config, events, 1, &[0])?
             && session(alloc, config, events, 1)? == 1
             && !share(alloc, config, events, 2)?
