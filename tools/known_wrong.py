@@ -11,13 +11,19 @@ import io
 import os
 import runpy
 import sys
+import tempfile
 from types import SimpleNamespace
+from unittest import mock
 
 import bound_jobs
+import cost_bounds
+import definitions
 import own_traces
 import pages
+import refused_memory
 import rules
 import second_judge
+import stop_jobs
 import trying
 from judged_table import judged
 from programs import EXAMPLES, TOP
@@ -45,6 +51,8 @@ WRONG_REPORTS = [
 ]
 # The least that there is of each kind: a judge that looks at nothing finds nothing.
 LEAST_NAMED, LEAST_JUDGED, LEAST_BOUND, LEAST_VERDICTS = 1000, 200, 300, 150
+# How many jobs of stops there are: each family of them is whole.
+STOP_JOBS = 2463
 # A line of a page, and what it names.
 PAGE_LINE = ("`crates/kv_store`, `src/no_such_file.rt`, `no_such_name`, `NoSuchName` and `mu replay < no_input`",
              ["crates/kv_store", "src/no_such_file.rt", "no_such_name", "NoSuchName"])
@@ -105,6 +113,45 @@ def tells_bounds():
     yield case.trouble(trying.Answer("ended", 3, REPORT.encode(), [])) is not None
     yield case.trouble(trying.Answer("ended", 0, REPORT.replace("value 5", "value 6").encode(), [])) is not None
     yield len(list(bound_jobs.bound_cases())) >= LEAST_BOUND
+
+
+def tells_finishers():
+    """Each replica without a stop finishes with all commands."""
+    with open(os.path.join(EXAMPLES, "put-and-get.job"), "rb") as job:
+        case = stop_jobs.FinishCase("each finishes", ["replay"], job.read(), None, 0)
+    report = contents(os.path.join(EXAMPLES, "put-and-get.job.stdout")).decode()
+    yield case.trouble(trying.Answer("ended", 0, report.encode(), [])) is None
+    for old, new in (("log 2 entries 2 commits 0 finished", "log 2 entries 2 commits 0 outrun"),
+                     ("log 2 entries 2 commits 0 finished\n0 0.1 put a 5\n1 0.2 get a\n",
+                      "log 2 entries 1 commits 0 finished\n0 0.1 put a 5\n")):
+        yield old in report and case.trouble(trying.Answer("ended", 0, report.replace(old, new).encode(), [])) is not None
+    yield len(list(stop_jobs.stop_cases())) == STOP_JOBS
+
+
+def tells_costs():
+    """A program ends within a bound or not, and takes too long beside another row or not."""
+    takes = [sys.executable, "-c", "bytes(1 << 27)"]
+    yield cost_bounds.ends("/bin/true", [], b"", cost_bounds.MOST)
+    yield not cost_bounds.ends("/bin/false", [], b"", cost_bounds.MOST)
+    yield cost_bounds.ends(takes[0], takes[1:], b"", cost_bounds.MOST)
+    yield not cost_bounds.ends(takes[0], takes[1:], b"", (1 << 27) // cost_bounds.KILOBYTE)
+    row, _, most = cost_bounds.COMPARED
+    for ending, share, wrong in ((True, 0.9, 0), (True, 1.1, 1), (False, 0.9, len(cost_bounds.RUNS))):
+        with mock.patch.object(cost_bounds, "ends", return_value=ending), mock.patch.object(
+                cost_bounds, "seconds", side_effect=lambda _, it, part=share: part * most if it == row else 1.0):
+            yield len(cost_bounds.troubles("")) == wrong
+
+
+def tells_stale_definitions():
+    """The page of definitions is made of the files as they are, and each file says what it defines."""
+    yield definitions.judged()[1] == []
+    with tempfile.NamedTemporaryFile("w", encoding="utf-8") as page:
+        page.write(contents(definitions.PAGE).decode().replace("history", "list", 1))
+        page.flush()
+        with mock.patch.object(definitions, "PAGE", page.name):
+            yield len(definitions.judged()[1]) == 1
+    with mock.patch.object(definitions, "paragraphs", return_value=[""]):
+        yield len(definitions.judged()[1]) > 1
 
 
 def tells_own_traces():
@@ -168,8 +215,29 @@ def tells_breaks():
     yield second_judge.compared()[0] >= LEAST_VERDICTS
 
 
+def tells_refused_memory():
+    """Of its runs each with an allocation refused says so, and no other; before the words are there, nothing."""
+    alone, silent, said = (0, b"report\n", False), (6, b"", True), (6, b"no memory\n", True)
+    threads, plain = ["live", "2"], ["replay"]
+    least = refused_memory.LEAST_REFUSED
+    right = [alone, silent, silent, *[said] * least, alone]
+
+    def is_right(words, runs):
+        return refused_memory.trouble(words, b"", runs) is None
+
+    yield is_right(plain, right) and is_right(threads, right)
+    as_usual = (0, b"report\n", True)
+    yield is_right(threads, [*right[:9], as_usual, *right[9:]])
+    for odd in (as_usual, silent, (6, b"report\n", True), (3, b"no memory\n", True), (6, b"no memory\n", False),
+                (6, b"", False), (0, b"", True), (0, b"other\n", False)):
+        yield not is_right(plain, [*right[:9], odd, *right[9:]])
+    yield not is_right(plain, [(6, b"no memory\n", False)] * least * 2)
+    yield not is_right(plain, [alone, alone])
+
+
 JUDGES = [tells_failures, tells_answers, tells_sums, tells_missing_answers, tells_statuses, tells_reports, tells_bounds,
-          tells_own_traces, tells_pages, tells_stored_inputs, tells_rules, tells_breaks]
+          tells_own_traces, tells_pages, tells_stored_inputs, tells_rules, tells_breaks, tells_refused_memory, tells_finishers,
+          tells_costs, tells_stale_definitions]
 
 
 def tried():
