@@ -51,17 +51,23 @@ enum mu_task {
     MU_CHECK = 3,  /* of a trace: whether it is legal */
     MU_WHY = 4,    /* of a trace: where it breaks, and why */
     MU_BOOK = 5,   /* of a job: the book of orders */
-    MU_BULK = 6    /* of a number up to 1,500: the stated large job of so many commands */
+    MU_BULK = 6,   /* of a number up to 1,500: the stated large job of that many commands */
+    MU_TELL = 7    /* of a trace: the report of what its events come to */
 };
 
-/* The greatest step that mu_draw_answer takes. */
+/* The greatest step that mu_draw_answer takes, and number of events that mu_show_answer takes. */
 #define MU_LAST_STEP UINT32_C(9999999)
 
-/* What `mu` says where it is asked this and reads this input, and the status that it ends with. */
+/* What `mu` says if it is asked this and reads this input, and the status that it ends with. */
 uint32_t mu_answer(uint32_t task, const void *input, size_t length, void *out, size_t room,
                    size_t *taken);
 
-/* What `mu_draw FIRST LAST` says where it reads this trace: with MU_DONE, its picture, of the steps
+/* What `mu show EVENTS` says if it reads this trace: what holds after that many events, at most
+ * MU_LAST_STEP. With MU_DONE the text is that; with MU_ILLEGAL one of these events breaks the list. */
+uint32_t mu_show_answer(uint32_t events, const void *input, size_t length, void *out, size_t room,
+                        size_t *taken);
+
+/* What `mu_draw FIRST LAST` says if it reads this trace: with MU_DONE, its picture, of the steps
  * from `first` to `last` (all: from 0 to MU_LAST_STEP). */
 uint32_t mu_draw_answer(uint32_t first, uint32_t last, const void *input, size_t length, void *out,
                         size_t room, size_t *taken);

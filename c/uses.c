@@ -66,6 +66,39 @@ static void answers(void)
     expect("no book of orders", mu_answer(MU_BOOK, JOB, strlen(JOB), out, sizeof out, &taken) == MU_DONE);
 }
 
+/* What the one ask of TRACE comes to. */
+static const char TOLD[] = "report 1\nlog 0 entries 0 commits 0 finished\nreplies 0\nstatus 0\n";
+static const char SHOWN[] =
+    "after 1 of 1\n"
+    "region 0 fence none 0 open none\n"
+    "region 0 min 0 fuo 0 head 0 beats 0\n"
+    "region 0 asks of 0: 1\n"
+    "replica 0 steps 1 known 0 applied 0 names 0\n"
+    "replica 0 leadership begun\n";
+
+static void moments(void)
+{
+    static char out[4096];
+    size_t taken = 0;
+
+    expect("tell", mu_answer(MU_TELL, TRACE, strlen(TRACE), out, sizeof out, &taken) == MU_DONE);
+    expect("what is told", has(out, taken, TOLD));
+    expect("tell of a broken list",
+           mu_answer(MU_TELL, BROKEN, strlen(BROKEN), out, sizeof out, &taken) == MU_ILLEGAL);
+    expect("show", mu_show_answer(1, TRACE, strlen(TRACE), out, sizeof out, &taken) == MU_DONE);
+    expect("what is shown", has(out, taken, SHOWN));
+    expect("show beyond the end",
+           mu_show_answer(9, TRACE, strlen(TRACE), out, sizeof out, &taken) == MU_DONE);
+    expect("the last moment", has(out, taken, SHOWN));
+    expect("show before the break",
+           mu_show_answer(1, BROKEN, strlen(BROKEN), out, sizeof out, &taken) == MU_DONE);
+    expect("its first line", taken > 13 && memcmp(out, "after 1 of 2\n", 13) == 0);
+    expect("show after the break",
+           mu_show_answer(2, BROKEN, strlen(BROKEN), out, sizeof out, &taken) == MU_ILLEGAL);
+    expect("no such moment",
+           mu_show_answer(10000000, TRACE, strlen(TRACE), out, sizeof out, &taken) == MU_USAGE);
+}
+
 static void pictures(void)
 {
     static char out[65536];
@@ -110,6 +143,7 @@ static void judges(void)
 int main(void)
 {
     answers();
+    moments();
     pictures();
     judges();
     puts(wrong ? "mu.h is not as it says" : "mu.h is as it says");

@@ -3,7 +3,7 @@ import ctypes
 import os
 
 DONE, USAGE, REFUSED, UNFINISHED, NO_MEMORY, ILLEGAL, TOO_LONG = 0, 1, 2, 3, 6, 7, 8
-TASKS = {"replay": 1, "trace": 2, "check": 3, "why": 4, "book": 5, "bulk": 6}
+TASKS = {"replay": 1, "trace": 2, "check": 3, "why": 4, "book": 5, "bulk": 6, "tell": 7}
 LAST_STEP = 9_999_999
 TOP = os.path.dirname(os.path.dirname(os.path.dirname(os.path.abspath(__file__))))
 SIZE, TEXT, NUMBER = ctypes.c_size_t, ctypes.c_char_p, ctypes.c_uint32
@@ -19,6 +19,7 @@ class Held(ctypes.Structure):
 ROOM = [ctypes.POINTER(ctypes.c_char), SIZE, ctypes.POINTER(SIZE)]
 for name, given in {
         "mu_answer": [NUMBER, TEXT, SIZE, *ROOM],
+        "mu_show_answer": [NUMBER, TEXT, SIZE, *ROOM],
         "mu_draw_answer": [NUMBER, NUMBER, TEXT, SIZE, *ROOM],
         "mu_judge_new": [ctypes.POINTER(Held), TEXT, SIZE, *ROOM],
         "mu_judge_take": [ctypes.POINTER(Held), TEXT, SIZE],
@@ -42,6 +43,11 @@ def told(call, *given, room=4096):
 def answer(task, given):
     """What `mu TASK` says of these bytes, and its status."""
     return told(library.mu_answer, TASKS[task], given, len(given))
+
+
+def show(given, events=LAST_STEP):
+    """What `mu show EVENTS` says of a trace, and its status."""
+    return told(library.mu_show_answer, events, given, len(given))
 
 
 def draw(given, first=0, last=LAST_STEP):

@@ -4,10 +4,10 @@
 
 ghost use Rattle.std.specs.Prelude.{◌≡◌, None};
 ghost use Rattle.mu_drawing.specs.Words.{asked_steps};
-ghost use Rattle.mu_library.specs.Calls.{asked_at, Answers, CanTake, Draws, OpensJudge, SaysOfJudge, TakesLine};
+ghost use Rattle.mu_library.specs.Calls.{asked_after, asked_at, Answers, CanTake, Draws, OpensJudge, SaysOfJudge, TakesLine};
 
 use mu_handle::Handle;
-use mu_library::{answer, draw, let_go, open_judge, take_line, told_by};
+use mu_library::{answer, draw, let_go, open_judge, show, take_line, told_by};
 use std::alloc::Global;
 
 /// What the program says of an input, and the status that it ends with. The first bytes of the text
@@ -23,6 +23,22 @@ pub extern "C" fn mu_answer(
     ensures { Answers (asked_at task input.now) input.now out.old out.new result taken.new }
 {
     let answered = answer(alloc, task, input, out);
+    *taken = answered.taken;
+    u32::from(answered.status)
+}
+
+/// What `mu show` says of the first events of a trace, and the status that it ends with.
+#[unsafe(no_mangle)]
+pub extern "C" fn mu_show_answer(
+    alloc: Global,
+    events: u32,
+    input: &[u8],
+    out: &mut [u8],
+    taken: &mut usize,
+) -> u32
+    ensures { Answers (asked_after events) input.now out.old out.new result taken.new }
+{
+    let answered = show(alloc, events, input, out);
     *taken = answered.taken;
     u32::from(answered.status)
 }

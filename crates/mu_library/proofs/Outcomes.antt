@@ -1,17 +1,19 @@
 -- What was put is the answer of a call, also where there was no memory for its text.
-use Rattle.std.proofs.Common.{◌≡◌, ◌⊎◌, inl, inr, ℕ, List, Option, Some, refl, sym, subst}
+use Rattle.std.proofs.Common.{◌≡◌, ◌⊎◌, inl, inr, ℕ, List, Option, None, Some, arith, refl, sym, subst, ◌∙◌}
 use Rattle.mu_drawing.specs.Answers as drawing
 use Rattle.mu_picture.specs.declared.pictures.Extent.{Extent}
 use Rattle.mu_drawing.specs.declared.drawing.Told.{Told}
 use Rattle.mu_input.specs.declared.job.InputEnd.{InputEnd}
 use Rattle.mu_judging.specs.LineJudges.{said_by, HasTaken, IsEndOfJob, Opens}
 use Rattle.mu_judging.specs.declared.line_judge.LineJudge.{LineJudge}
-use Rattle.mu_library.specs.Calls.{Answers, Draws, EndsJob, HasNew, OpensJudge, PutsSaid, PutsTold, SaysOfJudge, TakesLine, TakesNext}
+use Rattle.mu_library.specs.Calls.{Answers, CanTake, Draws, EndsJob, HasNew, OpensJudge, PutsSaid, PutsTold, SaysOfJudge, TakesLine, TakesNext}
+use Rattle.mu_model.specs.Contents.{IsConfig}
 use Rattle.mu_model.specs.declared.config.Config.{Config}
+use Rattle.mu_outcome.specs.Statuses.{code_of}
 use Rattle.mu_model.specs.declared.event.Event.{Event}
 use Rattle.mu_report.specs.Said.{said_of_end}
 use Rattle.mu_report.specs.declared.said.Said.{Said}
-use Rattle.mu_top.specs.Answers.{Tells}
+use Rattle.mu_top.specs.Answers.{Tells, status_for}
 use Rattle.mu_top.specs.declared.asking.Asked.{Asked}
 
 pub answered : (asked : Option Asked) (said : Said) (input before after : List ℕ) (status taken : ℕ) → Tells asked (Some input) (Some input) 0 0 said
@@ -49,3 +51,24 @@ pub says_so_far : (old : Option LineJudge) (judge : LineJudge) (said : Said) (be
     → PutsSaid said before after status taken ⊎ PutsSaid Said.NoMemory before after status taken → SaysOfJudge old before after status taken
 says_so_far old judge said before after status taken was says (inl puts) = subst (λ o. SaysOfJudge o before after status taken) (sym was) (record { said = said; says = inr says; puts = puts })
 says_so_far old judge said before after status taken was says (inr puts) = subst (λ o. SaysOfJudge o before after status taken) (sym was) (record { said = Said.NoMemory; says = inl refl; puts = puts })
+
+-- with status 0 there is a judge that can take lines
+pub ready : (bytes : List ℕ) (old new : Option LineJudge) (before after : List ℕ) (status taken : ℕ) → OpensJudge bytes old new before after status taken → status ≡ 0 → CanTake new
+ready bytes old new before after status taken (inl (done, has, none, same)) zero_is = by_new new has
+  where
+    by_new : (new : Option LineJudge) → HasNew bytes new → CanTake new
+    by_new None has = absurd has
+    by_new (Some judge) has = subst (λ k. IsConfig k) (sym has.taken.config) has.taken.is_config
+ready bytes old new before after status taken (inr (same, why)) zero_is = absurd (by_said why.said why.ends (sym why.puts.code_is ∙ zero_is))
+  where
+    by_said : (said : Said) → EndsJob bytes said → code_of (status_for said) ≡ 0 → ⊥
+    by_said (Said.Refused line cause) ends is = let clash : 2 ≡ 0 = is in omega (arith, clash)
+    by_said Said.TooLong ends is = let clash : 8 ≡ 0 = is in omega (arith, clash)
+    by_said Said.NoMemory ends is = let clash : 6 ≡ 0 = is in omega (arith, clash)
+    by_said said ends is = absurd ends
+
+-- a judge that took a line can take another
+pub still_ready : (old new : Option LineJudge) (line : List ℕ) (status : ℕ) → CanTake old → TakesLine old line new status → CanTake new
+still_ready None new line status can takes = absurd can
+still_ready (Some old) None line status can takes = absurd takes
+still_ready (Some old) (Some new) line status can takes = subst (λ k. IsConfig k) (sym takes.config) can

@@ -1,6 +1,6 @@
--- asked at, answers, draws, opens judge, takes line: what the number of a task asks for; what each call
+-- asked at, asked after, answers, draws, opens judge, takes line: what the number of a task asks for; what each call
 -- of the library for C puts into the room, and with which status.
-use Rattle.std.specs.Prelude.{ℕ, ◌≡◌, ◌<◌, ◌≤◌, ◌==◌, ◌⊎◌, List, ◌++◌, length, None, Some, if◌then◌else◌, ⊤}
+use Rattle.std.specs.Prelude.{ℕ, ◌≡◌, ◌<◌, ◌≤◌, ◌==◌, ◌⊎◌, List, ◌++◌, length, None, Some, if◌then◌else◌, nat_le, ⊤}
 use Rattle.std.specs.declared.option.Option.{Option}
 use Rattle.mu_drawing.specs.Answers.{text_of}
 use Rattle.mu_drawing.specs.Answers as drawing
@@ -27,7 +27,7 @@ use Rattle.mu_top.specs.OneThread.{task_alone}
 use Rattle.mu_top.specs.Words.{of_count}
 use Rattle.mu_top.specs.declared.asking.Asked.{Asked}
 use Rattle.mu_top.specs.declared.asking.Task.{Task}
-use Rattle.mu_top.specs.declared.asking.TheConstants.{INPUT_LIMIT}
+use Rattle.mu_top.specs.declared.asking.TheConstants.{INPUT_LIMIT, MOST_SHOWN}
 
 -- what the number of a task asks of the program; the input of the stated large job is the number of
 -- its commands
@@ -39,7 +39,13 @@ asked_at task input =
     else if task == 4 then Some (Asked.Input Task.Why)
     else if task == 5 then Some (Asked.Input Task.Book)
     else if task == 6 then of_count (within 0 MOST_COMMANDS (number_of input))
+    else if task == 7 then Some (Asked.Input Task.Tell)
     else None
+
+-- what is asked by the number of events after which a moment is to be shown
+abbrev pub asked_after : ℕ → Option Asked
+asked_after count =
+    if nat_le count MOST_SHOWN then Some (Asked.Input (Task.Show count)) else None
 
 -- what is asked, as the program has it
 abbrev pub asked_as : Given → Option Asked

@@ -1,12 +1,12 @@
 //! What the program says of bytes in memory.
 ghost use Rattle.std.specs.Prelude.{◌⊎◌, Some};
-ghost use Rattle.mu_library.specs.Calls.{asked_as, asked_at, Answers, HasRoom, PutsSaid};
+ghost use Rattle.mu_library.specs.Calls.{asked_after as asked_after_these, asked_as, asked_at, Answers, HasRoom, PutsSaid};
 ghost use Rattle.mu_report.specs.declared.said.Said.TheVariants.{NoMemory as NoMemorySaid};
 ghost use Rattle.mu_report.specs.Said.{IsShort};
 ghost use Rattle.mu_top.specs.Answers.{Tells};
 
 use crate::front::{put_bytes, put_said};
-use crate::tasks::{Asked, asked_of};
+use crate::tasks::{Asked, asked_after, asked_of};
 use mu_outcome::Status;
 use mu_report::Said;
 use mu_top::{status_for, told_alone, told_of_bulk};
@@ -22,14 +22,24 @@ pub struct Answered {
 }
 
 /// What the program says if it is asked this and these are the bytes of its input, and the
-/// status that it ends with. The tasks are 1 `replay`, 2 `trace`, 3 `check`, 4 `why`, 5 `book` and 6
-/// `bulk`, whose input is its number as on the command line; of any other, and of no number, the
-/// usage is told. Want of memory can come in place of any answer.
+/// status that it ends with. The tasks are 1 `replay`, 2 `trace`, 3 `check`, 4 `why`, 5 `book`, 6
+/// `bulk`, whose input is its number as on the command line, and 7 `tell`; of any other, and of no
+/// number, the usage is told. Want of memory can come in place of any answer.
 pub fn answer(alloc: Global, task: u32, input: &[u8], out: &mut [u8]) -> Answered
     ensures { Answers (asked_at task input.now) input.now out.old out.new result.status
         result.taken }
 {
     say(alloc, said_of(alloc, asked_of(task, input), input), out)
+}
+
+/// What `mu show` says of the first `count` events if these are the bytes of its input, and the
+/// status that it ends with; the usage if a command line takes no such number. Want of memory can
+/// come in place of any answer.
+pub fn show(alloc: Global, count: u32, input: &[u8], out: &mut [u8]) -> Answered
+    ensures { Answers (asked_after_these count) input.now out.old out.new result.status
+        result.taken }
+{
+    say(alloc, said_of(alloc, asked_after(count), input), out)
 }
 
 /// What the program says if it is asked this.

@@ -14,8 +14,9 @@ use std::mem::replace;
 /// Makes a judge of the job that the bytes spell. With status 0 the handle has it, and nothing is
 /// said; else the handle is as it was, and it is said why. A judge that the handle had is lost.
 pub fn open_judge(alloc: Global, handle: &mut Handle, job: &[u8], out: &mut [u8]) -> Answered
-    ensures { OpensJudge job.now handle.old.held handle.new.held out.old out.new
+    ensures opens { OpensJudge job.now handle.old.held handle.new.held out.old out.new
         result.status result.taken }
+    ensures ready { result.status ≡ 0 → CanTake handle.new.held }
 {
     if job.len() > INPUT_LIMIT {
         return say(alloc, Said::TooLong, out);
@@ -49,7 +50,8 @@ fn keep(alloc: Global, handle: &mut Handle, judge: LineJudge, out: &mut [u8]) ->
 /// far, 7 once an event broke it, 2 if the line is no event. The handle keeps its judge.
 pub fn take_line(alloc: Global, handle: &mut Handle, line: &[u8]) -> u8
     requires { CanTake handle.old.held }
-    ensures { TakesLine handle.old.held line.now handle.new.held result }
+    ensures takes { TakesLine handle.old.held line.now handle.new.held result }
+    ensures ready { CanTake handle.new.held }
 {
     let mut judge = replace(handle, Handle::none(alloc)).into_box();
     let status = judge.take(line);

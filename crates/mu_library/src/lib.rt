@@ -10,6 +10,6 @@ mod judging;
 mod sinks;
 mod tasks;
 
-pub use answering::{Answered, answer};
+pub use answering::{Answered, answer, show};
 pub use drawing::draw;
 pub use judging::{let_go, open_judge, take_line, told_by};

@@ -1,10 +1,10 @@
 //! What a number and an input ask for.
 ghost use Rattle.std.specs.Prelude.{◌≡◌};
-ghost use Rattle.mu_library.specs.Calls.{asked_as, asked_at, HasRoom};
+ghost use Rattle.mu_library.specs.Calls.{asked_after as asked_after_these, asked_as, asked_at, HasRoom};
 
 use mu_input::MOST_COMMANDS;
 use mu_text::limited;
-use mu_top::Alone;
+use mu_top::{Alone, MOST_SHOWN};
 
 /// What is asked.
 #[derive(Clone, Copy, Debug)]
@@ -32,6 +32,19 @@ pub(crate) fn asked_of(task: u32, input: &[u8]) -> Asked
             Some(count) => Asked::Bulk(count as u16),
             None => Asked::Nothing,
         },
+        7 => Asked::Input(Alone::Tell),
         _ => Asked::Nothing,
+    }
+}
+
+/// What is asked by the number of events after which a moment is to be shown.
+pub(crate) fn asked_after(count: u32) -> Asked
+    ensures exact { asked_as result ≡ asked_after_these count }
+    ensures reach { HasRoom result }
+{
+    if count <= MOST_SHOWN {
+        Asked::Input(Alone::Show(count))
+    } else {
+        Asked::Nothing
     }
 }
