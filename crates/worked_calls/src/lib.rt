@@ -13,6 +13,8 @@ mod calls;
 #[cfg(test)]
 mod desks;
 #[cfg(test)]
+mod library;
+#[cfg(test)]
 mod lives;
 #[cfg(test)]
 mod refusals;
