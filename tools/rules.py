@@ -248,6 +248,29 @@ def number_again(run):
     run.puts(1, (1, 2), 9, FIVE)
 
 
+def smaller_minimum(run):
+    run.begins(1, (1, 2), 9)
+    run.looks(1, (1, 2))
+    run.writes(1, 1)
+    run.puts(1, (1,), 9, SEVEN)
+    run.asks(0)
+    run.grants(0, 0)
+    run.grants(2, 0)
+    run.confirms(0, (0, 2))
+    run.asks(0)
+    for p in (0, 2):
+        run.step(0, "fence", p)
+    run.joins(0, (0,), 8)
+    run.step(0, "enter", 2, *MIN)
+    run.breaking(0, "putmin", 2, 8)
+    run.looks(0, (0, 2))
+    run.writes(0, 0)
+    run.puts(0, (0, 2), 8, FIVE)
+    run.begins(2, (1, 2), 10)
+    run.looks(2, (1, 2))
+    run.puts(2, (1, 2), 10, SEVEN)
+
+
 def commit_with_miss(run):
     run.five_is_due()
     run.puts(0, (0,), 8, FIVE)
@@ -410,6 +433,7 @@ LISTS = [
          "last region became one", two_chosen),
     Rule(number_again, "NotTheNumber", NOT + "number 8 is not the one to put, 16: the least from 8 on that is the "
          "replica modulo 8 and above 8 read and 8 put", two_chosen),
+    Rule(smaller_minimum, "BelowMinimum", NOT + "number 8 is below the min that was read, 9", two_chosen),
     Rule(commit_with_miss, "AllLanded", KNOWN_NOT, two_known),
     Rule(learnt_undecided, "Decided", KNOWN_NOT, two_known),
     Rule(put_before_row, "NotWritten", NOT + "word 4 of row 0 is not written, and value 0 stands for all words of its "
