@@ -20,13 +20,6 @@ store_from-push table commands command = store_from-append table commands (comma
 pub store-push : (commands : List Request) (command : Request) → store (commands ++ command ∷ []) ≡ table_after (store commands) command.op
 store-push = store_from-push empty_table
 
--- one more command has one more reply, and the earlier replies stay
-pub replies_from-push : (table : Table) (commands : List Request) (command : Request) → replies_from table (commands ++ command ∷ []) ≡ replies_from table commands ++ reply_to (store_from table commands) command.op ∷ []
-replies_from-push table commands command = replies_from-append table commands (command ∷ [])
-
-pub replies-push : (commands : List Request) (command : Request) → replies (commands ++ command ∷ []) ≡ replies commands ++ reply_to (store commands) command.op ∷ []
-replies-push = replies_from-push empty_table
-
 -- each command has a reply
 pub length-replies_from : (table : Table) (commands : List Request) → length (replies_from table commands) ≡ length commands
 length-replies_from table [] = refl

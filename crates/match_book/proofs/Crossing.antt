@@ -49,12 +49,6 @@ book_all P (first ∷ later) all =
     let parts = parted_all P p first (arranged later) all in
     (parts.0, book_all P later parts.1)
 
-sides_turn : (s t : Side) → is_equal_side s (other t) ≡ is_equal_side t (other s)
-sides_turn Buy Buy = refl
-sides_turn Buy Sell = refl
-sides_turn Sell Buy = refl
-sides_turn Sell Sell = refl
-
 meets_turn : (a : Bool) (s t : Side) (p q : ℕ) → ((a && is_equal_side t (other s)) && meet s p q) ≡ ((a && is_equal_side s (other t)) && meet t q p)
 meets_turn false s t p q = refl
 meets_turn true Buy Buy p q = refl

@@ -22,18 +22,6 @@ choose_stop true true c x y z e = cc
 choose_stop true false c x y z e = refl
 choose_stop false b c x y z e = refl
 
-choose_part : (a b c : Bool) (x y z : Filled) → a ≡ true → b ≡ true → c ≡ true → cond (a && b) (cond c x y) z ≡ x
-choose_part true true true x y z e f g = refl
-choose_part true true false x y z e f g = cc
-choose_part true false c x y z e f g = cc
-choose_part false b c x y z e f g = cc
-
-choose_whole : (a b c : Bool) (x y z : Filled) → a ≡ true → b ≡ true → c ≡ false → cond (a && b) (cond c x y) z ≡ y
-choose_whole true true true x y z e f g = cc
-choose_whole true true false x y z e f g = refl
-choose_whole true false c x y z e f g = cc
-choose_whole false b c x y z e f g = cc
-
 lt_true : (a b : ℕ) → a < b → nat_lt a b ≡ true
 lt_true a b h = grind (arith, nat_tests)
 
@@ -42,12 +30,6 @@ lt_false a b h = grind (arith, nat_tests)
 
 pub filled_stop : (index : ℕ) (order best : Resting) (left : ℕ) (queue : List Resting) → crosses order best ≡ false → filled index order left (best ∷ queue) ≡ unfilled left (best ∷ queue)
 filled_stop index order best left queue e = choose_stop (nat_lt 0 left) (crosses order best) (nat_lt left best.left) _ _ _ e
-
-pub filled_part : (index : ℕ) (order best : Resting) (left : ℕ) (queue : List Resting) → 0 < left → crosses order best ≡ true → left < best.left → filled index order left (best ∷ queue) ≡ record { trades = trade_with index order best left ∷ []; left = 0; queue = leaving best (best.left - left) ∷ queue }
-filled_part index order best left queue some e part = choose_part (nat_lt 0 left) (crosses order best) (nat_lt left best.left) _ _ _ (lt_true 0 left some) e (lt_true left best.left part)
-
-pub filled_whole : (index : ℕ) (order best : Resting) (left : ℕ) (queue : List Resting) → 0 < left → crosses order best ≡ true → best.left ≤ left → filled index order left (best ∷ queue) ≡ led_by (trade_with index order best best.left) (filled index order (left - best.left) queue)
-filled_whole index order best left queue some e whole = choose_whole (nat_lt 0 left) (crosses order best) (nat_lt left best.left) _ _ _ (lt_true 0 left some) e (lt_false left best.left whole)
 
 -- at a place of a list, in each of the three cases
 pub done_zero : (index : ℕ) (order : Resting) (left : ℕ) (queue : List Resting) → left ≡ 0 → filled index order left queue ≡ unfilled left queue

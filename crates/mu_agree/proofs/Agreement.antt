@@ -32,9 +32,6 @@ get_more [] (suc i) v x e = cc
 get_more (y ∷ xs) zero v x e = inl e
 get_more (y ∷ xs) (suc i) v x e = elim (get_more xs i v x e) [ inl k ↦ inl k | inr k ↦ inr (ap suc k.0, k.1) ]
 
-look_verb : (q j p i : ℕ) → Verb.Look q j ≡ Verb.Look p i → (q ≡ p) × (j ≡ i)
-look_verb q j p i e = (cc, cc)
-
 -- what a step teaches is the chosen value
 taught_is : (c : Config) (i V B : ℕ) (maj : ℕ → Bool) (r by : ℕ) (v : Verb) (past : List Event) → IsLegalHistory c past → Late c i V B maj past → Base c i V B maj (event_after c past by v ∷ past)
     → (x : ℕ) (v' : Verb) (a : Answer) → event_after c past by v ≡ record { by = by; verb = v'; answer = a } → Teaches c r (part r past) (event_after c past by v ∷ part r past) i x by v' a → x ≡ V

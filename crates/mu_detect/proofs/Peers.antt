@@ -21,11 +21,6 @@ pub reads_none : (r q by : ℕ) (verb : Verb) (answer : Answer) → reads_count 
 reads_none r q by (Verb.ReadBeat p) (Answer.Number x) none = cc
 reads_none r q by _ _ none = refl
 
--- an event of another replica reads none of q
-pub read_elsewhere : (r q by : ℕ) (verb : Verb) (answer : Answer) → (by == r) ≡ false → beat_read r q by verb answer ≡ None
-read_elsewhere r q by (Verb.ReadBeat p) (Answer.Number x) other = rw other refl
-read_elsewhere r q by _ _ other = refl
-
 -- an event by which r reads no count of beats changes nothing of what the scores stand for
 pub scores_kept : (n r : ℕ) (mine : List Event) (state : Scores) (event : Event) → ((q : ℕ) → beat_read r q event.by event.verb event.answer ≡ None) → StandsFor n r mine state → StandsFor n r (event ∷ mine) state
 scores_kept n r mine state event none held = record {

@@ -1,6 +1,5 @@
 -- The first separator, looked for place by place.
-use Rattle.std.proofs.Common.{◌≡◌, ℕ, zero, suc, ◌+◌, ◌<◌, ◌≤◌, true, false, cond, List, [], ◌∷◌, ◌++◌, length, take, drop, Option, None, Some, refl, sym, ap, ◌∙◌, arith}
-use Rattle.std.proofs.lemmas.List.{drop_all}
+use Rattle.std.proofs.Common.{◌≡◌, ℕ, zero, suc, ◌+◌, ◌<◌, true, false, cond, List, [], ◌∷◌, ◌++◌, length, take, drop, Option, None, Some, refl, sym, ap, ◌∙◌, arith}
 use Rattle.std.specs.Option.{option_map}
 use Rattle.mu_judge.specs.Traces.{cut, is_between}
 
@@ -48,7 +47,3 @@ cut_found (byte ∷ bytes) (suc i) below e =
     behind-cons byte (take i bytes) (cut (drop i bytes))
     ∙ ap (option_map (λ p. (byte ∷ p.0, p.1))) (cut_found bytes i (omega arith) e)
     ∙ ap (λ n. Some (byte ∷ take i bytes, drop n (byte ∷ bytes))) (five_more i)
-
--- past the last byte there is none
-pub cut_none : (bytes : List ℕ) (i : ℕ) → length bytes ≤ i → behind (take i bytes) (cut (drop i bytes)) ≡ None
-cut_none bytes i past = ap (λ rest. behind (take i bytes) (cut rest)) (drop_all i bytes past)

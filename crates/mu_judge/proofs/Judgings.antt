@@ -2,7 +2,7 @@
 use Rattle.std.proofs.Common.{◌≡◌, ℕ, Bool, true, false, ◌&&◌, List, [], ◌∷◌, ◌++◌, ◌<◌, length, take, Option, None, Some, MatchOption, Result, Ok, Err, IfErr, IfOk, OnOk, refl, sym, ap, subst, ◌∙◌, append_assoc, append-nil}
 use Rattle.std.specs.Io.KnownBytes.{Appends}
 use Rattle.std.specs.Option.{option_map_or}
-use Rattle.std.proofs.KnownBytes.{Appends-nil, Appends-trans}
+use Rattle.std.proofs.KnownBytes.{Appends-trans}
 use Rattle.mu_io.specs.declared.whole.WriteFault.{WriteFault}
 use Rattle.mu_report.specs.declared.said.Said.{Said}
 use Rattle.mu_judging.specs.Judged.{SaysOf}
@@ -49,9 +49,6 @@ pub judged_part : (bytes : List ℕ) (said : Said) (a b : Option (List ℕ)) (r 
     → IfErr r (λ fault. Appends a b (take fault.taken (text said))) → IfErr r (λ fault. fault.taken < length (text said)) → IfErr r (λ fault. JudgesPart bytes a b fault.taken)
 judged_part bytes said a b (Ok legal) says printed short = tt
 judged_part bytes said a b (Err fault) says printed short = record { said = said; says = says; printed = printed; short = short }
-
-pub judged_start : (bytes : List ℕ) (a : Option (List ℕ)) → JudgedUpTo bytes bytes a a true
-judged_start bytes a = record { saids = []; says = λ more all. all; first = λ more last some. some; printed = Appends-nil a; legal_is = refl }
 
 -- one more trace was judged
 pub judged_step : (bytes rest trace more : List ℕ) (a b c : Option (List ℕ)) (legal one : Bool) → JudgedUpTo bytes rest a b legal → cut rest ≡ Some (trace, more)

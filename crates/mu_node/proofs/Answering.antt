@@ -65,10 +65,6 @@ handed_stays c r n e mine low =
     ∙ take_twice n (length (applied c r (e ∷ mine))) now (omega (arith, low, grows))
     ∙ sym (ap (λ l. take n l) (sym (applied_begins c r e mine)) ∙ take_twice n (length (applied c r mine)) now low)
 
--- commands answered
-pub none_answered : (a : Answering) → HasAnswered [] a a
-none_answered a = record { replies = sym (append-nil a.replies); table = refl; left = omega arith }
-
 pub one_answered : (command : Request) (a b : Answering) → b.table ≡ table_after a.table command.op → b.replies ≡ a.replies ++ reply_to a.table command.op ∷ [] → b.left + 1 ≡ a.left → HasAnswered (command ∷ []) a b
 one_answered command a b table told left = record { replies = told; table = table; left = omega (arith, left) }
 

@@ -1,5 +1,5 @@
 -- A node raises its head to all that it has applied and that is within its FUO.
-use Rattle.std.proofs.Common.{◌≡◌, ◌∙◌, ℕ, ◌+◌, ◌-◌, ◌*◌, ◌/◌, ◌%◌, ◌<◌, ◌≤◌, ◌==◌, Bool, true, false, None, Some, List, ap, arith, eqb-true, inl, inr, length, refl, subst, sym}
+use Rattle.std.proofs.Common.{◌≡◌, ◌∙◌, ℕ, ◌+◌, ◌-◌, ◌*◌, ◌/◌, ◌%◌, ◌≤◌, ◌==◌, Bool, true, false, None, Some, List, ap, arith, eqb-true, inl, inr, length, refl, subst, sym}
 use Rattle.std.specs.declared.option.Option.{Option}
 use Rattle.std.specs.Prelude.{if◌then◌else◌, min, nat_lt}
 use Rattle.std.specs.List.{slice_get}

@@ -13,7 +13,7 @@ use Rattle.mu_input.proofs.JobConfigs.{as_many, row_at}
 use Rattle.mu_model.specs.declared.config.Config.{Config}
 use Rattle.mu_model.specs.declared.event.Event.{Event}
 use Rattle.mu_model.specs.declared.script.End.{End}
-use Rattle.mu_model.specs.Contents.{IsConfig, client_of, holds_all, includes, number_of, row_count, rows_before, rows_in}
+use Rattle.mu_model.specs.Contents.{IsConfig, holds_all, includes, row_count, rows_in}
 use Rattle.mu_model.specs.Ends.{EndsBy, full_length, is_finished, is_full}
 use Rattle.mu_model.specs.Histories.{history, IsPrefixOf}
 use Rattle.mu_model.specs.Knowledge.{applied}
@@ -30,24 +30,6 @@ use Rattle.mu_outcome.proofs.LongestLogs.{longest_is, longest_most}
 use Rattle.mu_rows.proofs.RowsOnce.{Count, at_least, at_most, fewer, once, place_of, stands_at}
 use Rattle.mu_outcome.proofs.Spelled.{spell_at, spell_in, spell_length, spell_numbers, spell_row}
 use Rattle.mu_agree.proofs.NextBatch.{same_number_same_row}
-
--- earlier rows of a client are fewer
-before_grows : (c : Config) (client j n : ℕ) → client_of c j ≡ client → rows_before c client j < rows_before c client (suc j + n)
-before_grows c client j zero own =
-    let here : suc j + 0 ≡ suc j = omega arith in
-    let more : rows_before c client (suc j) ≡ rows_before c client j + 1 = ap (λ t. cond t (rows_before c client j + 1) (rows_before c client j)) (eq-eqb (client_of c j) client own) in
-    let same = ap (rows_before c client) here in
-    omega (arith, same, more)
-before_grows c client j (suc n) own =
-    let here : suc j + suc n ≡ suc (suc j + n) = omega arith in
-    let same = ap (rows_before c client) here in
-    let more = go (client_of c (suc j + n) == client) (rows_before c client (suc j + n)) in
-    let rest = before_grows c client j n own in
-    omega (arith, same, more, rest)
-  where
-    go : (t : Bool) (k : ℕ) → k ≤ cond t (k + 1) k
-    go true k = omega arith
-    go false k = omega arith
 
 -- rows with the same command are one
 same_row : (job : Job) (j k : ℕ) (x : Request) → IsConfig job.config → HaveHeads job.config.width job.commands job.config.rows → slice_get job.commands j ≡ Some x → slice_get job.commands k ≡ Some x → j ≡ k

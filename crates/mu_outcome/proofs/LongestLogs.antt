@@ -13,22 +13,6 @@ longer xs ys = cond (nat_lt (length xs) (length ys)) ys xs
 pub longer_assoc : (xs ys zs : List ℕ) → longer xs (longer ys zs) ≡ longer (longer xs ys) zs
 longer_assoc xs ys zs = grind (arith, nat_tests)
 
-pub longer-nil : (xs : List ℕ) → longer xs [] ≡ xs
-longer-nil xs = grind (arith, nat_tests)
-
-pub nil-longer : (xs : List ℕ) → longer [] xs ≡ xs
-nil-longer [] = refl
-nil-longer (x ∷ xs) = grind (arith, nat_tests)
-
--- the longest log is no longer than all are
-pub longest_within : (n : ℕ) (logs : List (List ℕ)) → ((r : ℕ) (log : List ℕ) → slice_get logs r ≡ Some log → length log ≤ n) → length (longest logs) ≤ n
-longest_within n [] all = omega arith
-longest_within n (log ∷ logs) all = go (nat_lt (length log) (length (longest logs))) (longest_within n logs (λ r l at. all (suc r) l at)) (all 0 log refl)
-  where
-    go : (t : Bool) → length (longest logs) ≤ n → length log ≤ n → length (cond t (longest logs) log) ≤ n
-    go true rest first = rest
-    go false rest first = first
-
 -- the longest log is one of them, or there is nothing in any
 pub longest_is : (logs : List (List ℕ)) → (longest logs ≡ []) ⊎ ((r : ℕ) × (slice_get logs r ≡ Some (longest logs)))
 longest_is [] = inl refl

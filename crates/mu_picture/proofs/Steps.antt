@@ -1,25 +1,14 @@
 -- What a step leaves of the marks of a picture, and how long its lists are.
-use Rattle.std.proofs.Common.{◌≡◌, Bool, ℕ, zero, suc, ◌^◌, ap, ◌∙◌, ◌<◌, ◌∷◌, List, [], length, refl, arith}
+use Rattle.std.proofs.Common.{◌≡◌, Bool, ℕ, zero, suc, ap, ◌∙◌, ◌∷◌, List, [], length, refl, arith}
 use Rattle.std.specs.Prelude.{if◌then◌else◌, nat_le}
 use Rattle.std.specs.declared.option.Option.{Option}
-use Rattle.std.proofs.lemmas.List.{length-append, length-reverse}
+use Rattle.std.proofs.lemmas.List.{length-append}
 use Rattle.mu_model.specs.declared.script.Script.{Script}
-use Rattle.mu_model.specs.Contents.{IsConfig}
-use Rattle.mu_model.proofs.Budgets.{short_history}
 use Rattle.mu_picture.specs.Marks.{kept, mark_of, marks_of, with_mark}
 use Rattle.mu_picture.specs.Openings.{opening_of, openings_of}
 use Rattle.mu_picture.specs.declared.marks.Mark.{Mark}
 use Rattle.mu_model.specs.declared.config.Config.{Config}
 use Rattle.mu_model.specs.declared.event.Event.{Event}
-use Rattle.mu_model.specs.Histories.{history}
-use Rattle.mu_model.specs.Legal.{IsLegal}
-
--- a legal list is short
-pub short_list : (c : Config) (events : List Event) → IsConfig c → IsLegal c events → length events < 2 ^ 20
-short_list c events is legal =
-    let most = short_history c (history events) legal is.replicas.1 is.budget.1 in
-    let same = length-reverse events in
-    omega (arith, most, same)
 
 -- the marks with that of the next event
 pub marks_next : (c : Config) (script : Script) (brief : Bool) (first i : ℕ) (past : List Event) (e : Event) (items : List Mark) (mark : Option Mark)

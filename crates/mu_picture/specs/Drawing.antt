@@ -1,5 +1,5 @@
 -- How a picture is drawn: what stands above the lanes, the lanes, and the rows of its marks.
-use Rattle.std.specs.Prelude.{ℕ, ◌+◌, ◌-◌, ◌*◌, ◌==◌, Bool, true, false, zero, suc, if◌then◌else◌, nat_lt, min, max, None, Some, List, [], ◌∷◌, ◌++◌, codes, length}
+use Rattle.std.specs.Prelude.{ℕ, ◌+◌, ◌-◌, ◌*◌, Bool, true, false, zero, suc, if◌then◌else◌, nat_lt, min, max, None, Some, List, [], ◌∷◌, ◌++◌, codes, length}
 use Rattle.std.specs.Fmt.{decimal}
 use Rattle.std.specs.declared.option.Option.{Option}
 use Rattle.mu_events.specs.Lines.{event_line}

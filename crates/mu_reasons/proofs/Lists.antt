@@ -1,12 +1,11 @@
 -- Lists of points that are met, and the first that is not.
-use Rattle.std.proofs.Common.{List, [], ◌++◌, ◌∷◌, ℕ, zero, suc, ◌<◌, ◌≡◌, None, Some, Bool, true, false, refl, sym, ◌∙◌, ap, subst, inl, inr, arith, append_assoc}
-use Rattle.std.specs.Prelude.{IsTrue, ◌↔◌, ◌⊎◌}
-use Rattle.std.specs.declared.option.Option.{Option}
-use Rattle.std.proofs.lemmas.Bool.{cases_eq, false≢true}
+use Rattle.std.proofs.Common.{List, [], ◌++◌, ◌∷◌, ℕ, zero, suc, ◌<◌, ◌≡◌, sym, ◌∙◌, ap, subst, inl, inr, arith, append_assoc}
+use Rattle.std.specs.Prelude.{◌⊎◌}
+use Rattle.std.proofs.lemmas.Bool.{cases_eq}
 use Rattle.mu_model.specs.declared.config.Config.{Config}
 use Rattle.mu_model.specs.declared.event.Event.{Event}
 use Rattle.mu_reasons.specs.declared.reason.Reason.{Reason}
-use Rattle.mu_reasons.specs.Reasons.{AreMet, FailsFirst, Finds, IsMet, each_below}
+use Rattle.mu_reasons.specs.Reasons.{AreMet, FailsFirst, IsMet, each_below}
 
 pub met_append : (c : Config) (r : ℕ) (past : List Event) (xs ys : List Reason) → AreMet c r past xs → AreMet c r past ys → AreMet c r past (xs ++ ys)
 met_append c r past [] ys a b = b
@@ -52,14 +51,6 @@ one_fails c r past (x ∷ xs) (y ∷ ys) a b xs2 ys2 same met fails met2 fails2 
 
 pub at_most_one : (c : Config) (r : ℕ) (past : List Event) (reasons : List Reason) (a b : Reason) → FailsFirst c r past reasons a → FailsFirst c r past reasons b → a ≡ b
 at_most_one c r past reasons a b one other = one_fails c r past one.before other.before a b one.after other.after (sym one.order ∙ other.order) one.met one.fails other.met other.fails
-
--- the first that fails, with one more point that holds
-pub with_met : (c : Config) (r : ℕ) (past : List Event) (reasons : List Reason) (reason : Reason) → AreMet c r past reasons → IsMet c r past reason → Finds c r past (reasons ++ reason ∷ []) None
-with_met c r past reasons reason finds met = met_append c r past reasons (reason ∷ []) finds (met, tt)
-
--- the same with one that doesn't
-pub with_unmet : (c : Config) (r : ℕ) (past : List Event) (reasons : List Reason) (reason : Reason) → AreMet c r past reasons → ¬ IsMet c r past reason → Finds c r past (reasons ++ reason ∷ []) (Some reason)
-with_unmet c r past reasons reason finds fails = record { before = reasons; after = []; order = refl; met = finds; fails = fails }
 
 -- where a point fails, all lists that go on from there have it
 pub found_on : (c : Config) (r : ℕ) (past : List Event) (reasons more : List Reason) (q : Reason) → FailsFirst c r past reasons q → FailsFirst c r past (reasons ++ more) q

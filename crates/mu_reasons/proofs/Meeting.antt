@@ -1,23 +1,23 @@
 -- A verb is allowed exactly if all of its points are met.
-use Rattle.std.proofs.Common.{List, [], ◌++◌, ◌∷◌, ℕ, zero, suc, ◌<◌, ◌≤◌, ◌≡◌, None, Some, Bool, true, false, refl, sym, ◌∙◌, ap, subst, inl, inr, arith}
-use Rattle.std.specs.Prelude.{not, ◌&&◌, ◌||◌, ◌==◌, ◌↔◌, ◌⊎◌, ◌+◌, ◌%◌, ◌/◌, if◌then◌else◌, nat_le, nat_lt, is_some, length}
+use Rattle.std.proofs.Common.{List, [], ◌++◌, ◌∷◌, ℕ, ◌≤◌, ◌≡◌, None, Some, Bool, true, false, refl, sym, ◌∙◌, ap, inl, inr}
+use Rattle.std.specs.Prelude.{not, ◌&&◌, ◌||◌, ◌==◌, ◌↔◌, ◌⊎◌, ◌+◌, ◌%◌, if◌then◌else◌, nat_le, nat_lt, is_some, length}
 use Rattle.std.specs.declared.option.Option.{Option}
 use Rattle.std.specs.List.{slice_get}
 use Rattle.mu_model.specs.declared.config.Config.{Config}
 use Rattle.mu_model.specs.declared.event.Event.{Event}
 use Rattle.mu_model.specs.declared.event.Target.{Target}
 use Rattle.mu_model.specs.declared.event.Verb.{Verb}
-use Rattle.mu_model.specs.Allowed.{Allowed, Needs}
-use Rattle.mu_model.specs.Contents.{client_of, command_count, is_batch, marked, number_of, rest_of}
+use Rattle.mu_model.specs.Allowed.{Needs}
+use Rattle.mu_model.specs.Contents.{client_of, command_count, marked, number_of, rest_of}
 use Rattle.mu_model.specs.Histories.{all_below, has}
 use Rattle.mu_model.specs.Knowledge.{applied, is_filled, is_value, known, wrote, wrote_batch}
 use Rattle.mu_model.specs.Leaderships.{is_member, leadership}
 use Rattle.mu_model.specs.Picks.{first_value, highest_accepted, is_fresh_batch, is_mark_offer, is_offer, is_past_look, joined_since_first_put, last_look, look_answer, may_propose, pick}
-use Rattle.mu_model.specs.Placing.{IsNew, is_caught_up_at}
+use Rattle.mu_model.specs.Placing.{IsNew}
 use Rattle.mu_model.specs.Room.{has_room, last_head, reserve}
 use Rattle.std.proofs.lemmas.Bool.{and_from, and_parts, eq-eqb, eqb-true, false≢true, le-leb, leb-true, or_cases}
 use Rattle.std.proofs.lemmas.Bool.Decides.{eqb_tells}
-use Rattle.mu_model.proofs.Basics.{none_some, or_true, same_number, same_some, true_or}
+use Rattle.mu_model.proofs.Basics.{none_some, or_true, same_some, true_or}
 use Rattle.mu_model.proofs.Scans.{all_at, each_all}
 use Rattle.mu_reasons.specs.declared.reason.Reason.{Reason}
 use Rattle.mu_reasons.specs.Reasons.{AreMet, MetWhereAllowed, applied_to, batch_points, batch_written, clear_members, each_below, entry_there, needs, new_values, offers, picks, proposals, puts, reserved_rooms, rooms, row_written, values}

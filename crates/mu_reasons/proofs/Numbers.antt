@@ -1,14 +1,12 @@
 -- The number that is told in place of a wrong one, and the first number that passes.
-use Rattle.std.proofs.Common.{List, ℕ, zero, suc, ◌+◌, ◌*◌, ◌/◌, ◌%◌, ◌<◌, ◌≤◌, ◌≡◌, None, Some, Bool, true, false, refl, sym, ◌∙◌, ap, subst, inl, inr, arith}
+use Rattle.std.proofs.Common.{ℕ, zero, suc, ◌+◌, ◌*◌, ◌/◌, ◌%◌, ◌<◌, ◌≤◌, ◌≡◌, None, Some, Bool, true, false, refl, sym, ◌∙◌, ap, subst, inl, inr, arith}
 use Rattle.std.specs.Prelude.{if◌then◌else◌, max, nat_lt, not, ◌&&◌, ◌^◌}
 use Rattle.std.specs.declared.option.Option.{Option}
 use Rattle.std.proofs.lemmas.Bool.{and_from, and_parts, cases_lt, false≢true, lt-ltb, ltb-true}
-use Rattle.mu_model.specs.declared.event.Event.{Event}
 use Rattle.mu_model.specs.Entering.{any_min_read, number_allowed}
 use Rattle.mu_model.specs.Histories.{all_below, greatest}
 use Rattle.mu_model.specs.Leaderships.{leadership, number_put, proposal_number}
 use Rattle.mu_model.proofs.Basics.{none_some, same_some}
-use Rattle.mu_model.proofs.Scans.{all_at}
 use Rattle.mu_reasons.specs.Reasons.{RightNumberAllowed, first_below, greatest_used, least_number, of_32_bits, or_last, right_number}
 
 -- b is the least of r above this

@@ -159,10 +159,6 @@ held_in_whole (Some w) most words from count len fits holds =
     (holds.0, holds.1, λ j lt. sym (part_at words from count j lt) ∙ holds.2 j (let long = part_long words from count fits in omega (arith, long, lt)))
 held_in_whole None most words from count len fits holds = tt
 
-pub if_some_any : {A : Type 0} (result : Option (List ℕ)) → A → IfSome result (λ w. A)
-if_some_any (Some w) fact = fact
-if_some_any None fact = tt
-
 -- the front of bytes
 pub front : (back part : List ℕ) (len : ℕ) → part ≡ slice_range back 0 len → part ≡ take len back
 front back part len is = is ∙ ap (λ n. take n back) (omega arith)

@@ -147,10 +147,6 @@ pub one-put : (op : Op) → code_of op ≡ 1 → HasWords op → OneText op
 one-put (Put key text) code words = record { text = words.1; alone = refl; same = refl }
 one-put op code words = absurd (omega arith)
 
-pub one-swap : (op : Op) → code_of op ≡ 4 → HasWords op → OneText op
-one-swap (Swap key text) code words = record { text = words.1; alone = refl; same = refl }
-one-swap op code words = absurd (omega arith)
-
 pub record NoText (op : Op) : Type 0 where
   pub first : length (first_text op) ≡ 0
   pub second : length (second_text op) ≡ 0
@@ -172,11 +168,6 @@ pub record TwoTexts (op : Op) : Type 0 where
   pub second_short : length (second_text op) ≤ 32
   pub second_same : drop 4 (texts op) ≡ map (word_of (second_text op)) (range_with_len 0 4)
 
-pub two-cas : (op : Op) → code_of op ≡ 5 → HasWords op → HasShortTexts op → TwoTexts op
-two-cas (Cas key old new) code words short =
-    record { first = words.1; first_short = short.0; first_same = refl; second = words.2; second_short = short.1; second_same = refl }
-two-cas op code words short = absurd (omega arith)
-
 -- the words of a row of an operation without a text
 pub no-text-words : (words : List ℕ) (r : Request) (k : ℕ) → words ≡ spelled r k → NoText r.op → (j : ℕ) → j < 8 → get_or words (4 + j) 0 ≡ 0
 no-text-words words r k same none j lt =
@@ -193,37 +184,9 @@ pub says-put : (words key text : List ℕ) → get_or words 0 0 % 256 ≡ 1 → 
 says-put words key text code k t alone =
     record { has = (k.0, t.0); code = code; key_length = k.1; first_length = t.1; second_length = alone; key = k.2; texts = t.2 }
 
-pub says-swap : (words key text : List ℕ) → get_or words 0 0 % 256 ≡ 4 → SaysKey words key → SaysText words text 8 → get_or words 0 0 / 281474976710656 % 256 ≡ 0 → SaysOp words (Swap key text)
-says-swap words key text code k t alone =
-    record { has = (k.0, t.0); code = code; key_length = k.1; first_length = t.1; second_length = alone; key = k.2; texts = t.2 }
-
 -- what words without a text say of their lengths
 abbrev pub SaysNoText : List ℕ → Type 0
 SaysNoText words = (get_or words 0 0 / 1099511627776 % 256 ≡ 0) × (get_or words 0 0 / 281474976710656 % 256 ≡ 0) × ((j : ℕ) → j < 8 → get_or words (4 + j) 0 ≡ 0)
-
-pub says-get : (words key : List ℕ) → get_or words 0 0 % 256 ≡ 2 → SaysKey words key → SaysNoText words → SaysOp words (Get key)
-says-get words key code k none =
-    record { has = k.0; code = code; key_length = k.1; first_length = none.0; second_length = none.1; key = k.2; texts = none.2 }
-
-pub says-del : (words key : List ℕ) → get_or words 0 0 % 256 ≡ 3 → SaysKey words key → SaysNoText words → SaysOp words (Del key)
-says-del words key code k none =
-    record { has = k.0; code = code; key_length = k.1; first_length = none.0; second_length = none.1; key = k.2; texts = none.2 }
-
-pub says-cas : (words key old new : List ℕ) → get_or words 0 0 % 256 ≡ 5 → SaysKey words key → SaysText words old 4
-    → IsText new → get_or words 0 0 / 281474976710656 % 256 ≡ length new → ((j : ℕ) → j < 4 → get_or words (8 + j) 0 ≡ word_of new j) → SaysOp words (Cas key old new)
-says-cas words key old new code k t is long same =
-    record { has = (k.0, t.0, is); code = code; key_length = k.1; first_length = t.1; second_length = long; key = k.2; texts = each }
-  where
-    each : (j : ℕ) → j < 8 → get_or words (4 + j) 0 ≡ text_word (Cas key old new) j
-    each zero lt = t.2 0 (omega arith)
-    each (suc zero) lt = t.2 1 (omega arith)
-    each (suc (suc zero)) lt = t.2 2 (omega arith)
-    each (suc (suc (suc zero))) lt = t.2 3 (omega arith)
-    each (suc (suc (suc (suc zero)))) lt = same 0 (omega arith)
-    each (suc (suc (suc (suc (suc zero))))) lt = same 1 (omega arith)
-    each (suc (suc (suc (suc (suc (suc zero)))))) lt = same 2 (omega arith)
-    each (suc (suc (suc (suc (suc (suc (suc zero))))))) lt = same 3 (omega arith)
-    each (suc (suc (suc (suc (suc (suc (suc (suc j)))))))) lt = absurd (omega (arith, lt))
 
 byte-and-rest : (n p : ℕ) → n / p ≡ n / p % 256 + n / (p * 256) * 256
 byte-and-rest n p = omega (arith, div-div-eq-div-mul n p 256)
@@ -294,20 +257,6 @@ pub put-from : (op : Op) (key text : List ℕ) → code_of op ≡ 1 → HasWords
 put-from (Put k t) key text code words e f = ap (λ k. Put k text) e ∙ ap (Put k) (f words.1)
 put-from op key text code words e f = absurd (omega arith)
 
-pub swap-from : (op : Op) (key text : List ℕ) → code_of op ≡ 4 → HasWords op → key ≡ key_of op
-    → (IsText (first_text op) → text ≡ first_text op) → Swap key text ≡ op
-swap-from (Swap k t) key text code words e f = ap (λ k. Swap k text) e ∙ ap (Swap k) (f words.1)
-swap-from op key text code words e f = absurd (omega arith)
-
-pub cas-from : (op : Op) (key old new : List ℕ) → code_of op ≡ 5 → HasWords op → key ≡ key_of op
-    → (IsText (first_text op) → old ≡ first_text op) → (IsText (second_text op) → new ≡ second_text op) → Cas key old new ≡ op
-cas-from (Cas k o n) key old new code words e f g = ap (λ k. Cas k old new) e ∙ ap (λ o. Cas k o new) (f words.1) ∙ ap (Cas k o) (g words.2)
-cas-from op key old new code words e f g = absurd (omega arith)
-
-pub has-second : (op : Op) → code_of op ≡ 5 → HasWords op → IsText (second_text op)
-has-second (Cas k o n) code words = words.2
-has-second op code words = absurd (omega arith)
-
 -- operations with the same words are the same
 same-op : (o p : Op) → HasWords o → HasWords p → HasShortTexts o → HasShortTexts p → code_of o ≡ code_of p
     → length (key_of o) ≡ length (key_of p) → length (first_text o) ≡ length (first_text p) → length (second_text o) ≡ length (second_text p)
@@ -335,11 +284,6 @@ same-row c d j k is_c is_d few_j few_k same =
     (sym f.code ∙ g.code) (sym f.key ∙ g.key) (sym f.first ∙ g.first) (sym f.second ∙ g.second)
     (ap (λ l. take 3 (drop 1 l)) same) (ap (drop 4) same) in
     (one-request (sym f.client ∙ g.client) (sym f.number ∙ g.number) op, sym f.rest ∙ g.rest)
-
--- an operation that is told where words have no text
-pub says-if : (result : Option Op) (told : Bool) (op : Op) (words : List ℕ) → result ≡ then_some told op → (told ≡ true → SaysOp words op) → IfSome result (SaysOp words)
-says-if result true op words is says = subst (λ r. IfSome r (SaysOp words)) (sym is) (says refl)
-says-if result false op words is says = subst (λ r. IfSome r (SaysOp words)) (sym is) tt
 
 pub found-if : (result : Option Op) (told : Bool) (op wanted : Op) → result ≡ then_some told op → told ≡ true → op ≡ wanted → result ≡ Some wanted
 found-if result true op wanted is told same = is ∙ ap Some same

@@ -1,5 +1,5 @@
 -- The law of word steps in the forms that a table of words uses.
-use Rattle.std.proofs.Common.{◌≡◌, ℕ, ◌+◌, ◌*◌, ◌/◌, ◌%◌, ◌<◌, Bool, true, false, cond, ◌==◌, List, [], ◌∷◌, map, refl, sym, ap, arith, eqb-true, true≢false}
+use Rattle.std.proofs.Common.{◌≡◌, ℕ, ◌+◌, ◌*◌, ◌/◌, ◌%◌, ◌<◌, Bool, true, false, cond, ◌==◌, List, ◌∷◌, refl, sym, ap, arith, eqb-true, true≢false}
 use Rattle.std.specs.Int.Bits.{bit_or, bit_and, or_add_and}
 use Rattle.std.specs.Int.{bit_at}
 use Rattle.std.proofs.lemmas.Nat.Bits.{and_pow}
@@ -18,7 +18,7 @@ use Rattle.mu_words.specs.declared.layout.Name.{Name}
 use Rattle.mu_words.specs.Words.{owner_code, target_code}
 use Rattle.mu_words.specs.Standing.{close_grant, fields, named_grant, standing_word}
 use Rattle.mu_words.specs.Stands.{StepsInTableForms}
-use Rattle.mu_words.specs.Finding.{with_content, sights, found_word}
+use Rattle.mu_words.specs.Finding.{with_content}
 use Rattle.mu_words.specs.Steps.{closed, exchanged, granted, is_exchange, with_target, word_after}
 use Rattle.mu_words.proofs.Limits.{Limits, config_is_limited}
 use Rattle.mu_words.proofs.Packing.{owner_small, target_small, bits_grant}
@@ -93,12 +93,3 @@ steps_in_table_forms_law c r past given legal = record {
   close = λ x w. sym (closed_or w);
   grant = λ q x may. grant_is c r past q x (config_is_limited c given) legal may;
 }
-
--- the events beside the found words are the part
-pub events_sighted : (c : Config) (r : ℕ) (past : List Event) → map (λ x. x.0) (sights c r past) ≡ part r past
-events_sighted c r [] = refl
-events_sighted c r (e ∷ past) = go (e.by == r) (events_sighted c r past)
-  where
-    go : (t : Bool) → map (λ x. x.0) (sights c r past) ≡ part r past → map (λ x. x.0) (cond t ((e, found_word c r past e.verb) ∷ sights c r past) (sights c r past)) ≡ cond t (e ∷ part r past) (part r past)
-    go true k = ap (λ l. e ∷ l) k
-    go false k = k

@@ -62,12 +62,6 @@ room_in w s v r =
 pub has_room : (w : words.Inside) (s : seat.Inside) (v : Verb) → Ready w s v → 0 < s.journal.room
 has_room w s v r = omega (arith, room_in w s v r, r.allowed.budget)
 
-pub has_ring : (w : words.Inside) (s : seat.Inside) (v : Verb) → Ready w s v → 0 < w.layout.ring
-has_ring w s v r = let l = config_is_limited w.table.shared.key r.board.is_config in let least = l.ring_least in rw r.board.layout (omega arith)
-
-pub keeps_ring : (w : words.Inside) (s : seat.Inside) (v : Verb) → Ready w s v → 0 < s.found.ring
-keeps_ring w s v r = let l = config_is_limited w.table.shared.key r.board.is_config in let least = l.ring_least in let same = (seated w s v r).found_is.ring in omega arith
-
 -- the same of a part of which a list is known
 name_there : (c : Config) (r : ℕ) (mine : List Event) (v : Verb) → Limits c → IsPossible c r mine → Allowed c r mine v → IsName (layout_of c) (name_of c r mine v)
 name_there c r mine v l p may =

@@ -1,5 +1,5 @@
 -- Beginnings of lists of commands, and the words of their rows.
-use Rattle.std.proofs.Common.{◌≡◌, ℕ, zero, suc, ◌+◌, ◌*◌, ◌<◌, ◌≤◌, List, [], ◌∷◌, ◌++◌, drop, length, take, refl, sym, ap, ◌∙◌, arith, append_assoc, append-nil, length-append}
+use Rattle.std.proofs.Common.{◌≡◌, ℕ, zero, suc, ◌+◌, ◌*◌, ◌<◌, ◌≤◌, List, [], ◌∷◌, ◌++◌, drop, length, take, refl, sym, ap, ◌∙◌, arith, append_assoc, length-append}
 use Rattle.std.specs.Prelude.{slice_index}
 use lib.ListN as lists
 use lib.Seq.{get_or-append-add}
@@ -26,12 +26,6 @@ prefix_length xs list p = omega (arith, ap length p.1, length-append xs p.0)
 -- what begins a list begins a longer one
 pub begins_longer : (xs list more : List Request) → IsPrefixOf xs list → IsPrefixOf xs (list ++ more)
 begins_longer xs list more p = (p.0 ++ more, ap (λ l. l ++ more) p.1 ∙ append_assoc xs p.0 more)
-
-pub prefix_steps : (xs ys zs : List Request) → IsPrefixOf xs ys → IsPrefixOf ys zs → IsPrefixOf xs zs
-prefix_steps xs ys zs p q = (p.0 ++ q.0, q.1 ∙ (ap (λ l. l ++ q.0) p.1 ∙ append_assoc xs p.0 q.0))
-
-pub begins_self : (xs : List Request) → IsPrefixOf xs xs
-begins_self xs = ([], sym (append-nil xs))
 
 pub all_begin_longer : (lists : List (List Request)) (list more : List Request) → AllBegin lists list → AllBegin lists (list ++ more)
 all_begin_longer [] list more begin = tt

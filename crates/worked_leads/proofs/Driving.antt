@@ -1,9 +1,7 @@
 -- How what a leader has with it follows the events.
-use Rattle.std.proofs.Common.{◌≡◌, ◌≢◌, ◌∙◌, ℕ, ◌==◌, Bool, ap, true, false, List, ◌∷◌, ◌++◌, [], Some, None, refl, sym, subst}
-use Rattle.std.proofs.lemmas.Bool.{ne_eqb, true≢false}
+use Rattle.std.proofs.Common.{◌≡◌, ◌∙◌, ℕ, ap, true, false, List, ◌∷◌, ◌++◌, [], refl, sym, subst}
+use Rattle.std.proofs.lemmas.Bool.{true≢false}
 use Rattle.std.proofs.lemmas.List.{reverse-append}
-use Rattle.std.specs.Prelude.{IfSome, if◌then◌else◌}
-use Rattle.std.specs.declared.option.Option.{Option}
 use Rattle.mu_model.specs.declared.config.Config.{Config}
 use Rattle.mu_model.specs.declared.event.Event.{Event}
 use Rattle.mu_model.specs.declared.event.Answer.{Answer}
@@ -11,7 +9,7 @@ use Rattle.mu_model.specs.declared.event.Verb.{Verb}
 use Rattle.mu_model.specs.Histories.{history, part}
 use Rattle.mu_model.specs.Knowledge.{known}
 use Rattle.mu_model.specs.Legal.{IsLegal, IsLegalHistory}
-use Rattle.mu_model.proofs.Basics.{event_by, none_some}
+use Rattle.mu_model.proofs.Basics.{event_by}
 use Rattle.mu_detect.specs.declared.scores.Scores.{Scores}
 use Rattle.mu_lead.specs.declared.lead.Lead.{Lead}
 use Rattle.mu_lead.specs.Beside.{is_beside, leads_at}
@@ -22,10 +20,6 @@ use Rattle.mu_parts.specs.declared.replicas.Replicas.{Replicas}
 use Rattle.worked_leads.specs.Driven.{Beside}
 use Rattle.mu_model.specs.Steps.{is_slot_put_verb}
 use Rattle.mu_model.proofs.Parts.{part_of_maker}
-
--- the part of another replica than the one that made the newest event
-pub part_of_other : (r : ℕ) (e : Event) (past : List Event) → e.by ≢ r → part r (e ∷ past) ≡ part r past
-part_of_other r e past differ = let other : (e.by == r) ≡ false = ne_eqb e.by r differ in rw other refl
 
 -- the history of a list with one event more
 pub history_after : (events now past : List Event) (e : Event) → history events ≡ past → now ≡ events ++ e ∷ [] → history now ≡ e ∷ past
@@ -50,13 +44,6 @@ told_put c r mine verb answer put = absurd (true≢false (sym put))
 pub told_other : (c : Config) (r : ℕ) (mine : List Event) (verb : Verb) (answer : Answer) → is_slot_put_verb verb ≡ false → known c r (event_by r verb answer ∷ mine) ≡ known_told c r mine r verb answer
 told_other c r mine (Verb.PutSlot p i b v) answer other = absurd (true≢false other)
 told_other c r mine verb answer other = refl
-
--- what is due where nothing is due unless the scores name the replica
-pub due_if_named : (t : Bool) (due result : Option Verb) → result ≡ (if t then due else None) → IfSome result (λ verb. due ≡ Some verb)
-due_if_named true due None is = tt
-due_if_named true due (Some verb) is = sym is
-due_if_named false due None is = tt
-due_if_named false due (Some verb) is = absurd (none_some verb (sym is))
 
 -- a step of another machine keeps what the leader stands for
 pub stands_aside : (past : List Event) (e : Event) (l : Lead) → e.by ≡ l.id → is_beside (leads_at l.place) e.verb ≡ true → IsLegalHistory l.config (e ∷ past) → StandsFor (part l.id past) l → StandsFor (part l.id (e ∷ past)) l

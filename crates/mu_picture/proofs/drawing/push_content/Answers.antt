@@ -1,4 +1,4 @@
-use Rattle.std.proofs.Common.{ℕ, List, ◌++◌, ◌∙◌, ap, length}
+use Rattle.std.proofs.Common.{◌++◌, ◌∙◌, ap, length}
 use Rattle.mu_picture.specs.Drawing.{foot_pieces, head_pieces, lanes_from, last_cursor, rows_from}
 use Rattle.mu_picture.specs.Layout.{top}
 use Rattle.mu_picture.proofs.Appends.{joined, on_ok}

@@ -1,6 +1,6 @@
-use Rattle.std.proofs.Common.{◌++◌, ◌∙◌, ap, true, false}
+use Rattle.std.proofs.Common.{◌++◌, ◌∙◌, ap}
 use Rattle.std.specs.Prelude.{codes}
-use Rattle.mu_picture.specs.Drawing.{sample_block, sample_cross, sample_dot, sample_level, sample_line, sample_piece}
+use Rattle.mu_picture.specs.Drawing.{sample_block, sample_cross, sample_level, sample_piece}
 use Rattle.mu_picture.specs.declared.shapes.Look.{Look}
 use Rattle.mu_picture.proofs.Appends.{joined, on_ok}
 use Rattle.mu_picture.proofs.heading.push_lanes.Goals as goal

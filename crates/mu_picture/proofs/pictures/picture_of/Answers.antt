@@ -1,4 +1,4 @@
-use Rattle.std.proofs.Common.{◌≡◌, ◌≤◌, ◌∙◌, ap, length, arith}
+use Rattle.std.proofs.Common.{◌≡◌, ◌∙◌, ap, length, arith}
 use Rattle.mu_picture.proofs.Unmarked.{hidden_marks}
 use Rattle.mu_picture.proofs.Steps.{length_openings}
 use Rattle.mu_picture.proofs.pictures.picture_of.Goals as goal

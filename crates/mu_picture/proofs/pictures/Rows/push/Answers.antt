@@ -1,4 +1,4 @@
-use Rattle.std.proofs.Common.{◌∷◌, ◌++◌, [], ◌∙◌, ap, arith, length, sym}
+use Rattle.std.proofs.Common.{◌∷◌, [], ◌∙◌, ap, arith, length, sym}
 use Rattle.std.proofs.lemmas.List.{length-append}
 use Rattle.mu_picture.proofs.Cursors.{after_more}
 use Rattle.mu_picture.specs.Layout.{after, after_marks, top}

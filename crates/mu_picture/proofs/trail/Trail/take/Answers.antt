@@ -1,10 +1,10 @@
-use Rattle.std.proofs.Common.{◌+◌, ◌∷◌, ◌∙◌, ap, length, refl, subst, sym}
+use Rattle.std.proofs.Common.{◌+◌, ◌∙◌, ap, length, refl, subst, sym}
 use Rattle.mu_course.specs.Halts.{halt_after}
 use Rattle.mu_course.specs.Resigning.{is_leading}
 use Rattle.mu_model.specs.Histories.{part}
 use Rattle.mu_picture.specs.Deeds.{deed_of}
 use Rattle.mu_picture.specs.Marks.{made_of, resumed_by}
-use Rattle.mu_picture.specs.Standings.{deed_after, halt_by, resumed_with, standing_of, standing_with}
+use Rattle.mu_picture.specs.Standings.{deed_after, resumed_with, standing_of, standing_with}
 use Rattle.mu_picture.specs.StandingsHeld.{HoldStandings}
 use Rattle.mu_regions.proofs.Range.{in_range}
 use Rattle.mu_picture.proofs.trail.Trail.take.Goals as goal
