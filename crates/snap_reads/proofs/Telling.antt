@@ -1,5 +1,5 @@
 -- Readers that were told of all commands, and what their last gets leave.
-use Rattle.std.proofs.Common.{◌≡◌, ℕ, suc, zero, ◌+◌, ◌<◌, ◌≤◌, List, [], ◌∷◌, ◌++◌, length, map, take, drop, refl, sym, ap, subst, ◌∙◌, arith, append_assoc, append-nil, length-append, length-take-le, take-suc, take_all, Vec, Global}
+use Rattle.std.proofs.Common.{◌≡◌, ℕ, suc, ◌+◌, ◌<◌, ◌≤◌, List, [], ◌∷◌, ◌++◌, length, take, drop, refl, sym, ap, subst, ◌∙◌, arith, append_assoc, append-nil, length-append, length-take-le, take-suc, take_all, Vec, Global}
 use Rattle.std.specs.Prelude.{All, slice_index_or, vec_capacity}
 use Rattle.std.proofs.lemmas.List.{drop-append-le, drop_all, length-map, map_push}
 use Rattle.std.proofs.lemmas.List.Elements.{All-nil, All-push}
@@ -7,7 +7,7 @@ use Rattle.kv_store.specs.Commands.{Request}
 use Rattle.mu_model.specs.Histories.{IsPrefixOf}
 use Rattle.snap_reads.specs.declared.sight.Sight.{Sight}
 use Rattle.snap_reads.specs.declared.watching.Watcher.{Watcher}
-use Rattle.snap_reads.specs.Keys.{gets, gets_beside, round}
+use Rattle.snap_reads.specs.Keys.{gets_beside, round}
 use Rattle.snap_reads.specs.Lives.{AreSights, HasWatched, keys_seen}
 use Rattle.snap_reads.specs.Published.{AllBegin}
 use Rattle.snap_reads.specs.Seats.{Note, Reading, fresh_reader}

@@ -1,5 +1,5 @@
 -- Readers alongside the writer: what their gets leave.
-use Rattle.std.proofs.Common.{◌≡◌, ℕ, suc, zero, ◌+◌, ◌%◌, ◌<◌, ◌≤◌, ◌==◌, Bool, true, false, List, [], ◌∷◌, ◌++◌, length, map, refl, sym, ap, subst, ◌∙◌, arith, length-append, true≢false}
+use Rattle.std.proofs.Common.{◌≡◌, ℕ, suc, zero, ◌+◌, ◌%◌, ◌<◌, ◌==◌, Bool, false, List, [], ◌∷◌, ◌++◌, length, map, refl, sym, ap, subst, ◌∙◌, arith, length-append, true≢false}
 use Rattle.std.specs.Prelude.{All, replicate, slice_index_or, vec_capacity}
 use Rattle.std.proofs.lemmas.List.{get_or-map, get_or-replicate, get_or_at, get_or_default, length-map, length-replicate, map_push}
 use Rattle.std.proofs.lemmas.Nat.{mod_below}

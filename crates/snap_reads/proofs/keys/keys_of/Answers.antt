@@ -1,4 +1,4 @@
-use Rattle.std.proofs.Common.{◌≡◌, ◌∙◌, ◌++◌, ◌∷◌, [], List, ℕ, Bool, true, false, ap, drop, filter, not, ◌+◌, sym}
+use Rattle.std.proofs.Common.{◌≡◌, ◌∙◌, ◌++◌, ◌∷◌, List, ℕ, ap, drop, filter, not, ◌+◌, sym}
 use Rattle.std.specs.Str.{bytes_eq}
 use Rattle.kv_store.specs.Commands.{Request, key_of}
 use Rattle.snap_reads.specs.Keys.{keys_of}

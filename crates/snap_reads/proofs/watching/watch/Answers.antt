@@ -1,4 +1,4 @@
-use Rattle.std.proofs.Common.{arith, subst, sym}
+use Rattle.std.proofs.Common.{arith, subst}
 use Rattle.snap_reads.specs.Lives.{HasWatched}
 use Rattle.snap_reads.proofs.Watched.{gets_some, not_empty, watched_length}
 use Rattle.snap_reads.proofs.watching.watch.Goals as goal
