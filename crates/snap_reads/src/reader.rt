@@ -6,7 +6,7 @@ ghost use Rattle.mu_model.specs.Histories.{IsPrefixOf};
 ghost use Rattle.snap_reads.specs.Published.{AllBegin, row_place};
 ghost use Rattle.snap_reads.specs.Steps.{HasRow, ShortBegin};
 
-use crate::board::{Board, row_place};
+use crate::board::{Board, ROW_WORDS, row_place};
 use crate::rule::ViewSeat;
 use crate::seen::Seen;
 use crate::told::Told;
@@ -18,7 +18,7 @@ use std::marker::Model;
 use std::sync::Arc;
 
 /// The index of the last word of a row.
-const LAST_WORD: usize = 11;
+const LAST_WORD: usize = ROW_WORDS - 1;
 
 /// Reads the published commands into a store of its own. Contracts see the table, for how many
 /// commands it is, what the reader has seen, and the lists that it was told of.
