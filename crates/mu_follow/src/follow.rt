@@ -26,7 +26,7 @@ use mu_model::{Config, NoMemory, PAYLOADS, Verb, positions_in, row_rest, stands_
 use std::alloc::Global;
 
 /// How many places a cycle has besides two for each replica.
-const PLACES: u32 = 22;
+pub const PLACES: u32 = 22;
 
 /// What one replica has come to by its own events, and how far it is as a replayer.
 #[derive(Drop)]

@@ -15,7 +15,7 @@ mod progress;
 mod published;
 
 pub use completion::Completion;
-pub use follow::Follow;
+pub use follow::{Follow, PLACES};
 pub use groups::Ready;
 pub use noting::count_applied;
 pub use outrunning::outrun_after;

@@ -43,9 +43,13 @@ pub const EVENT: u8 = 13;
 /// The commands of a batch.
 pub const BATCH: u8 = 15;
 
+/// Told by a desk alone: a job of version 2, or more clients than a desk serves.
+pub const SENDERS: u8 = 16;
+
 /// Each cause is the number that is stated here.
 pub fn causes_are_stated()
     ensures settings { (HEAD ≡ 1) × (REPLICAS ≡ 2) × (RING ≡ 3) × (BUDGET ≡ 4) × (BATCH ≡ 15) }
     ensures body { (CLIENT ≡ 5) × (OPERATION ≡ 6) × (KEY ≡ 7) × (VALUE ≡ 8) × (TOO_MANY ≡ 9) }
     ensures ends { (SCRIPT ≡ 10) × (NO_END ≡ 11) × (AFTER_END ≡ 12) × (EVENT ≡ 13) }
+    ensures desk { SENDERS ≡ 16 }
 {}

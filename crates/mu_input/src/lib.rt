@@ -6,7 +6,7 @@ ghost use Rattle.std.specs.Prelude.{◌≡◌};
 mod batches;
 mod bodies;
 mod bulk_jobs;
-mod cause;
+pub mod cause;
 mod heading;
 mod job;
 mod operations;

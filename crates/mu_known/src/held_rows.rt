@@ -11,8 +11,8 @@ ghost use Rattle.mu_known.specs.HeldRows.{AreThere, HasWords, StandsForHeldRows,
 use mu_model::{Config, Event, NoMemory, PAYLOADS, Verb, row_rest, stands_for_batch};
 use std::alloc::Global;
 
-/// The last word of a row.
-const LAST_WORD: u8 = 11;
+/// The last word of a row, counted from 0.
+pub const LAST_WORD: u8 = 11;
 
 /// Which rows a replica has written or read, and what it has applied.
 #[derive(Drop)]

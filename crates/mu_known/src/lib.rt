@@ -12,7 +12,7 @@ mod known_log;
 mod row_words;
 
 pub use commit::{Commit, Commits, Log};
-pub use held_rows::HeldRows;
+pub use held_rows::{HeldRows, LAST_WORD};
 pub use known_log::KnownLog;
 pub use row_words::RowWords;
 

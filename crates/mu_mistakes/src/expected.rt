@@ -5,22 +5,8 @@ ghost use Rattle.mu_mistakes.specs.Expected.{below_words, cause_words, client_wo
 
 use crate::events::form_of;
 use crate::finding::{begins_with, clients_before, line_at, replicas_in};
+use mu_input::cause::{BATCH, CLIENT, EVENT, OPERATION, SCRIPT};
 use mu_text::{Line, Words, number};
-
-/// A client that isn't the next one, or a command before any client.
-const CLIENT: u8 = 5;
-
-/// A line that is no command.
-const OPERATION: u8 = 6;
-
-/// A line of the script.
-const SCRIPT: u8 = 10;
-
-/// A line that is no event.
-const EVENT: u8 = 13;
-
-/// The commands of a batch.
-const BATCH: u8 = 15;
 
 /// What is expected in the line of this number, if this is the cause. The line stands there, or is
 /// missing.

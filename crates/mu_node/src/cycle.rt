@@ -12,10 +12,8 @@ ghost use Rattle.mu_node.specs.Node.{HasPlanned, StandsForNode};
 
 use crate::answers::apply_ready;
 use crate::node::Node;
+use mu_follow::PLACES;
 use mu_model::Verb;
-
-/// How many places a cycle has besides two for each replica.
-const PLACES: u32 = 22;
 
 /// How many places of the cycle are the host's.
 const HOST_PLACES: u8 = 4;

@@ -15,16 +15,10 @@ use kv_store::{Command, Op};
 use mu_course::Halt;
 use mu_events::event_line;
 use mu_input::Job;
-use mu_model::{Event, NoMemory, stands_for_mark};
+use mu_model::{Event, FIRST_MARK, NoMemory, PAYLOADS, stands_for_mark};
 use mu_outcome::commands_of;
 use mu_text::Line;
 use std::alloc::Global;
-
-/// The payload number of the mark of replica 0, of those of one replica.
-const FIRST_MARK: u16 = 4080;
-
-/// How many payload numbers each replica has.
-const PAYLOADS: u16 = 4096;
 
 /// Adds an operation, as in a job.
 fn push_op(sheet: &mut Sheet, op: &Op) -> Result<(), NoMemory>

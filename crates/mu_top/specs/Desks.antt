@@ -10,7 +10,7 @@ use Rattle.mu_input.specs.Senders.{desk_line}
 use Rattle.mu_input.specs.declared.job.InputEnd.{InputEnd}
 use Rattle.mu_input.specs.declared.job.Job.{Job}
 use Rattle.mu_report.specs.declared.said.Said.{Said}
-use Rattle.mu_top.specs.declared.serving.TheConstants.{SENDERS}
+use Rattle.mu_input.specs.declared.cause.TheConstants.{SENDERS}
 use Rattle.mu_top.specs.Commands.{IsReplay}
 
 -- a desk reads what the grammar reads, but leaves a job at the line that keeps it from a desk

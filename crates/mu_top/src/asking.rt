@@ -2,7 +2,6 @@
 ghost use Rattle.std.specs.Prelude.{◌≡◌, IfSome, None, Some};
 ghost use Rattle.mu_input.specs.declared.TheConstants.{TRACE_LIMIT};
 ghost use Rattle.snap_reads.specs.declared.TheConstants.{MOST_READERS};
-ghost use Rattle.mu_top.specs.declared.serving.TheConstants.{SENDERS};
 ghost use Rattle.mu_top.specs.Words.{task_named, asked_of as asked_of_words, asked_of_two, limit_of, IsInReach};
 
 use mu_input::{MOST_COMMANDS, TRACE_LIMIT};
@@ -19,7 +18,6 @@ pub const MOST_SHOWN: u32 = 9_999_999;
 pub fn limits_are_stated()
     ensures input { INPUT_LIMIT ≡ 1048576 }
     ensures trace { TRACE_LIMIT ≡ 67108864 }
-    ensures senders { SENDERS ≡ 16 }
     ensures readers { MOST_READERS ≡ 4 }
     ensures shown { MOST_SHOWN ≡ 9999999 }
 {}

@@ -17,7 +17,6 @@ mod tracing;
 
 pub use alone::{Alone, told_alone};
 pub use asking::{Asked, INPUT_LIMIT, MOST_SHOWN, Task, limits_are_stated};
-pub use serving::SENDERS;
 pub use starting::mu_from_words;
 pub use statuses::status_for;
 pub use summing::told_of_bulk;

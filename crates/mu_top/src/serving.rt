@@ -14,15 +14,13 @@ ghost use Rattle.mu_top.specs.Desks.{Desks, IsEndOfDesk, IsServed, job_at_desk};
 
 use front_desk::collect;
 use mu_cluster::{Gate, replay, rows_spell_commands};
+use mu_input::cause::SENDERS;
 use mu_input::{InputEnd, Job, desk_line, read};
 use mu_outcome::Outcome;
 use mu_report::Said;
 use std::alloc::Global;
 use std::sync::Wait;
 use std::thread::Threads;
-
-/// Why a desk refuses a job of the grammar: its version, or one client too many.
-pub const SENDERS: u8 = 16;
 
 /// What is said of a replay of the job of these bytes, with its commands in the order in which they
 /// came from its clients. The gate is passed before each of them.

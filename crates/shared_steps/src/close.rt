@@ -9,10 +9,8 @@ use crate::seat::PortSeat;
 use crate::step::{Sight, note, word_place};
 use crate::words::Words;
 use mu_model::{Answer, Verb};
+use mu_words::CLOSING;
 use std::marker::Brand;
-
-/// The bit of a closing fence.
-const CLOSING: u64 = 16_384;
 
 impl PortSeat {
     /// Sets the closing bit of the replica's own fence. Takes no memory, and does not wait.

@@ -12,11 +12,11 @@ use mu_model::{Config, Verb};
 /// The words of all replicas, under the rule.
 pub(crate) type Board = Shared<(), View, Config, OneListRule>;
 
-/// A token with which a thread steps.
-pub(crate) type Place = Seat<(), View>;
+/// The seat of a thread, with what it knows.
+pub(crate) type ViewSeat = Seat<(), View>;
 
 /// Loads the word.
-pub(crate) fn load<N: NamesVerb>(board: &Board, seat: &mut Place, word: usize, verb: Verb) -> u64
+pub(crate) fn load<N: NamesVerb>(board: &Board, seat: &mut ViewSeat, word: usize, verb: Verb) -> u64
     requires named { verb ≡ N.verb }
     requires fits { seat.old.table_id ≡ board.now.table_id }
     requires inside { word < board.now.table_id.words }
@@ -31,7 +31,7 @@ pub(crate) fn load<N: NamesVerb>(board: &Board, seat: &mut Place, word: usize, v
 /// Stores a word.
 pub(crate) fn store<N: NamesVerb>(
     board: &Board,
-    seat: &mut Place,
+    seat: &mut ViewSeat,
     word: usize,
     new: u64,
     verb: Verb,
@@ -50,7 +50,7 @@ pub(crate) fn store<N: NamesVerb>(
 /// Raises the word to a number, unless it is greater.
 pub(crate) fn raise<N: NamesVerb>(
     board: &Board,
-    seat: &mut Place,
+    seat: &mut ViewSeat,
     word: usize,
     least: u64,
     verb: Verb,
@@ -67,7 +67,7 @@ pub(crate) fn raise<N: NamesVerb>(
 }
 
 /// Adds 1 to the word.
-pub(crate) fn add<N: NamesVerb>(board: &Board, seat: &mut Place, word: usize, verb: Verb) -> u64
+pub(crate) fn add<N: NamesVerb>(board: &Board, seat: &mut ViewSeat, word: usize, verb: Verb) -> u64
     requires named { verb ≡ N.verb }
     requires fits { seat.old.table_id ≡ board.now.table_id }
     requires inside { word < board.now.table_id.words }
@@ -82,7 +82,7 @@ pub(crate) fn add<N: NamesVerb>(board: &Board, seat: &mut Place, word: usize, ve
 /// Exchanges the old word for the new one, if it still is the old one. It is tried once.
 pub(crate) fn exchange<N: NamesVerb>(
     board: &Board,
-    seat: &mut Place,
+    seat: &mut ViewSeat,
     word: usize,
     old: u64,
     new: u64,
@@ -102,7 +102,7 @@ pub(crate) fn exchange<N: NamesVerb>(
 /// Sets bits of the word.
 pub(crate) fn set_bits<N: NamesVerb>(
     board: &Board,
-    seat: &mut Place,
+    seat: &mut ViewSeat,
     word: usize,
     bits: u64,
     verb: Verb,
@@ -121,7 +121,7 @@ pub(crate) fn set_bits<N: NamesVerb>(
 /// Swaps the word for another.
 pub(crate) fn swap<N: NamesVerb>(
     board: &Board,
-    seat: &mut Place,
+    seat: &mut ViewSeat,
     word: usize,
     new: u64,
     verb: Verb,
@@ -138,7 +138,7 @@ pub(crate) fn swap<N: NamesVerb>(
 }
 
 /// Cuts off a seat with the entry of one replica.
-pub(crate) fn split<N: NamesReplica>(board: &Board, seat: &mut Place, who: u8) -> Place
+pub(crate) fn split<N: NamesReplica>(board: &Board, seat: &mut ViewSeat, who: u8) -> ViewSeat
     requires named { who ≡ N.who }
     requires fits { seat.old.table_id ≡ board.now.table_id }
     requires inside { 0 < board.now.table_id.words }

@@ -7,7 +7,7 @@ ghost use Rattle.shared_steps.specs.Rule.{HaveOneList, entry, entry_of, without}
 ghost use Rattle.shared_steps.specs.Seats.{IsOf, IsRootOf};
 
 use crate::moves;
-use crate::moves::Place;
+use crate::moves::ViewSeat;
 use crate::rule::{Unite, Whole};
 use crate::seat::PortSeat;
 use crate::words::Words;
@@ -19,7 +19,7 @@ use std::marker::{Brand, Model};
 /// seat has.
 #[derive(Drop)]
 pub struct RootSeat {
-    pub(crate) seat: Place,
+    pub(crate) seat: ViewSeat,
 }
 
 impl Model for RootSeat {

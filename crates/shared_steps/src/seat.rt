@@ -2,7 +2,7 @@
 ghost use Rattle.std.specs.Prelude.{◌≡◌};
 ghost use Rattle.mu_model.specs.Histories.{history};
 
-use crate::moves::Place;
+use crate::moves::ViewSeat;
 use mu_model::{Event, Journal};
 use mu_words::Found;
 use std::marker::Model;
@@ -11,7 +11,7 @@ use std::marker::Model;
 /// Contracts see the table, the configuration, the replica and the part, newest first.
 #[derive(Drop)]
 pub struct PortSeat {
-    pub(crate) seat: Place,
+    pub(crate) seat: ViewSeat,
     pub(crate) id: u8,
     pub(crate) journal: Journal,
     pub(crate) found: Found,

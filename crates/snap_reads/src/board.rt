@@ -3,7 +3,9 @@ ghost use Rattle.std.specs.Prelude.{[], IfOk, false, length, true, ◌+◌, ◌<
 ghost use Rattle.snap_reads.specs.Published.{AreCommands, fresh_view, informed_view, note_view, row_place, rows_of, word_count, writer_view};
 ghost use Rattle.snap_reads.specs.Steps.{Counted, Ended, Loaded, Raised, Stored};
 
-use crate::rule::{Begin, Count, Held, Load, LoadLast, Pending, Place, Raise, Store, Tell, View};
+use crate::rule::{
+    Begin, Count, Held, Load, LoadLast, Pending, Raise, Store, Tell, View, ViewSeat,
+};
 use atomic_table::Table;
 use kv_store::Command;
 use mu_model::NoMemory;
@@ -40,7 +42,7 @@ impl Model for Board {
 
 impl Board {
     /// A table for this many commands, with none published, and the seat of its writer.
-    pub(crate) fn start(alloc: Global, commands: usize) -> Result<(Board, Place), NoMemory>
+    pub(crate) fn start(alloc: Global, commands: usize) -> Result<(Board, ViewSeat), NoMemory>
         requires { commands ≤ 1500 }
         ensures capacity { IfOk result (λ t. t.0.capacity ≡ commands) }
         ensures seat { IfOk result
@@ -52,7 +54,7 @@ impl Board {
     }
 
     /// Loads the count.
-    pub(crate) fn count(&self, seat: &mut Place) -> u64
+    pub(crate) fn count(&self, seat: &mut ViewSeat) -> u64
         requires of { seat.old.table_id ≡ self.now.table }
         requires reads { seat.old.me.0.writes ≡ false }
         requires none { seat.old.me.0.words ≡ [] }
@@ -63,7 +65,7 @@ impl Board {
     }
 
     /// Loads a word of the next row that isn't its last.
-    pub(crate) fn load(&self, seat: &mut Place, place: usize) -> u64
+    pub(crate) fn load(&self, seat: &mut ViewSeat, place: usize) -> u64
         requires of { seat.old.table_id ≡ self.now.table }
         requires reads { seat.old.me.0.writes ≡ false }
         requires next { place ≡ row_place (length seat.old.me.0.seen) + length seat.old.me.0.words }
@@ -77,7 +79,7 @@ impl Board {
     }
 
     /// Loads the last word of the next row.
-    pub(crate) fn load_last(&self, seat: &mut Place, place: usize) -> u64
+    pub(crate) fn load_last(&self, seat: &mut ViewSeat, place: usize) -> u64
         requires of { seat.old.table_id ≡ self.now.table }
         requires reads { seat.old.me.0.writes ≡ false }
         requires next { place ≡ row_place (length seat.old.me.0.seen) + length seat.old.me.0.words }
@@ -91,7 +93,7 @@ impl Board {
     }
 
     /// Stores a word past the count.
-    pub(crate) fn store(&self, seat: &mut Place, place: usize, word: u64)
+    pub(crate) fn store(&self, seat: &mut ViewSeat, place: usize, word: u64)
         requires of { seat.old.table_id ≡ self.now.table }
         requires writes { seat.old.me.0.writes ≡ true }
         requires next { place ≡ row_place (length seat.old.me.0.seen) + length seat.old.me.0.words }
@@ -103,7 +105,7 @@ impl Board {
     }
 
     /// Raises the count, which publishes these commands.
-    pub(crate) fn raise<N: Pending>(&self, seat: &mut Place, count: u64, pending: &[Command])
+    pub(crate) fn raise<N: Pending>(&self, seat: &mut ViewSeat, count: u64, pending: &[Command])
         requires named { pending.now ≡ N.commands }
         requires of { seat.old.table_id ≡ self.now.table }
         requires writes { seat.old.me.0.writes ≡ true }
@@ -118,7 +120,7 @@ impl Board {
     }
 
     /// Cuts off the seat of a new reader.
-    pub(crate) fn begin(&self, seat: &mut Place) -> Place
+    pub(crate) fn begin(&self, seat: &mut ViewSeat) -> ViewSeat
         requires { seat.old.table_id ≡ self.now.table }
         ensures same { (seat.new.table_id ≡ seat.old.table_id) × (seat.new.me ≡ seat.old.me) }
         ensures reader { (result.table_id ≡ seat.old.table_id)
@@ -128,7 +130,7 @@ impl Board {
     }
 
     /// Cuts off a note of what the seat has seen.
-    pub(crate) fn tell(&self, seat: &mut Place) -> Place
+    pub(crate) fn tell(&self, seat: &mut ViewSeat) -> ViewSeat
         requires { seat.old.table_id ≡ self.now.table }
         ensures same { (seat.new.table_id ≡ seat.old.table_id) × (seat.new.me ≡ seat.old.me) }
         ensures note { (result.table_id ≡ seat.old.table_id)
@@ -138,7 +140,7 @@ impl Board {
     }
 
     /// Takes in what another seat was told of.
-    pub(crate) fn learn(&self, seat: &mut Place, note: Place)
+    pub(crate) fn learn(&self, seat: &mut ViewSeat, note: ViewSeat)
         requires of { seat.old.table_id ≡ self.now.table }
         requires note { note.table_id ≡ self.now.table }
         requires slots { note.me.1 ≡ [] }

@@ -24,8 +24,5 @@ pub use told::Told;
 pub use watching::GETS;
 pub use writer::SnapWriter;
 
-/// The most commands that a table is for.
-pub const MOST_COMMANDS: usize = 1_500;
-
 /// The most readers.
 pub const MOST_READERS: u8 = 4;

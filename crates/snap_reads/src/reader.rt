@@ -6,8 +6,8 @@ ghost use Rattle.mu_model.specs.Histories.{IsPrefixOf};
 ghost use Rattle.snap_reads.specs.Published.{AllBegin, row_place};
 ghost use Rattle.snap_reads.specs.Steps.{HasRow, ShortBegin};
 
-use crate::board::{Board, row_place};
-use crate::rule::Place;
+use crate::board::{Board, ROW_WORDS, row_place};
+use crate::rule::ViewSeat;
 use crate::seen::Seen;
 use crate::told::Told;
 use kv_store::{Command, Key, Store};
@@ -18,14 +18,14 @@ use std::marker::Model;
 use std::sync::Arc;
 
 /// The index of the last word of a row.
-const LAST_WORD: usize = 11;
+const LAST_WORD: usize = ROW_WORDS - 1;
 
 /// Reads the published commands into a store of its own. Contracts see the table, for how many
 /// commands it is, what the reader has seen, and the lists that it was told of.
 #[derive(Drop)]
 pub struct SnapReader {
     pub(crate) board: Arc<Board, Global>,
-    pub(crate) seat: Place,
+    pub(crate) seat: ViewSeat,
     pub(crate) store: Store,
     pub(crate) seen: usize,
 }
@@ -77,7 +77,7 @@ impl SnapReader {
 }
 
 /// Loads the next row: the command that it spells.
-fn read_command(board: &Board, seat: &mut Place, seen: usize) -> Command
+fn read_command(board: &Board, seat: &mut ViewSeat, seen: usize) -> Command
     requires of { seat.old.table_id ≡ board.now.table }
     requires reads { seat.old.me.0.writes ≡ false }
     requires none { seat.old.me.0.words ≡ [] }
@@ -102,7 +102,7 @@ fn read_command(board: &Board, seat: &mut Place, seen: usize) -> Command
 }
 
 /// Loads the words of the next row.
-fn read_row(board: &Board, seat: &mut Place, place: usize) -> Row
+fn read_row(board: &Board, seat: &mut ViewSeat, place: usize) -> Row
     requires of { seat.old.table_id ≡ board.now.table }
     requires reads { seat.old.me.0.writes ≡ false }
     requires none { seat.old.me.0.words ≡ [] }

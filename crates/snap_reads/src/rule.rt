@@ -21,8 +21,8 @@ pub struct View {
     pub upto: usize,
 }
 
-/// A token with which a thread steps.
-pub(crate) type Place = Seat<(), View>;
+/// The seat of a thread, with what it knows.
+pub(crate) type ViewSeat = Seat<(), View>;
 
 /// The rule of the table. Its key is for how many commands the table is.
 pub(crate) struct Held;

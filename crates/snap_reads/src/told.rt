@@ -1,11 +1,11 @@
 //! Notes of what was published.
-use crate::rule::Place;
+use crate::rule::ViewSeat;
 use std::marker::Model;
 
 /// A note of what was published so far. Contracts see the table and the list.
 #[derive(Drop)]
 pub struct Told {
-    pub(crate) seat: Place,
+    pub(crate) seat: ViewSeat,
 }
 
 impl Model for Told {

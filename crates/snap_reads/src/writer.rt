@@ -2,7 +2,7 @@
 ghost use Rattle.std.specs.Prelude.{[], length, ◌++◌, ◌<◌, ◌∷◌, ◌≡◌};
 
 use crate::board::{Board, ROW_WORDS, row_place};
-use crate::rule::Place;
+use crate::rule::ViewSeat;
 use crate::told::Told;
 use kv_store::Command;
 use mu_rows::{encode, is_command};
@@ -15,7 +15,7 @@ use std::sync::Arc;
 #[derive(Drop)]
 pub struct SnapWriter {
     pub(crate) board: Arc<Board, Global>,
-    pub(crate) seat: Place,
+    pub(crate) seat: ViewSeat,
     pub(crate) list: Vec<Command>,
     pub(crate) published: usize,
 }
