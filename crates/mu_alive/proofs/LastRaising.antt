@@ -23,7 +23,7 @@ use Rattle.mu_alive.specs.Bringing.{IsGranted, LeadsOn}
 use Rattle.mu_alive.specs.Enough.{asking_steps}
 use Rattle.mu_alive.specs.Finishing.{AsksAllFirst, HaveAllRaised, KeepUp, LastLeadersRaiseAll}
 use Rattle.mu_alive.specs.Last.{LeadsLast, NamesItself, fetching_steps, last_granting_steps, last_steps}
-use Rattle.mu_alive.specs.Opens.{AsksUntilMin, OpensInTime, numbering_steps, puts_number}
+use Rattle.mu_alive.specs.Opens.{AsksUntilMin, OpensInTime, puts_number}
 use Rattle.mu_alive.specs.Turns.{is_own_min}
 use Rattle.mu_alive.proofs.Beginning.{CutAt, cut_at}
 use Rattle.mu_alive.proofs.Cutting.{located}
@@ -31,7 +31,7 @@ use Rattle.mu_alive.proofs.Enough.{FirstMin, Leads, first_has_min, min_or_none, 
 use Rattle.mu_alive.proofs.Fetching.{last_applies_all}
 use Rattle.mu_alive.proofs.Finishing.{keep_before}
 use Rattle.mu_alive.proofs.Lasting.{AsksAllBy, all_by_each, last_before, last_begins, last_leads, late_named, owned}
-use Rattle.mu_alive.proofs.Moments.{AsksEach, From, each_before, halves, some_event}
+use Rattle.mu_alive.proofs.Moments.{AsksEach, From, at_least_halves, each_before, halves, some_event}
 use Rattle.mu_alive.proofs.Spreading.{Governs, all_raised, each_notes, moments_more, spreads}
 use Rattle.mu_alive.proofs.Started.{Started, numbered_there, numbered_with, one_leads, some_asked}
 use Rattle.mu_alive.proofs.TurnFences.{lead_on_moments}
@@ -69,7 +69,7 @@ min_named : (c : Config) (a start : ℕ) (now : List Event) → NamesItself c a 
 min_named c a start now named some = named (inr (min_parts a now some).0)
 
 -- it has started to lead by so many steps
-last_started : (c : Config) (live : ℕ → Bool) (a start : ℕ) (past : List Event) → IsConfig c → LeadsLast c live a start past → OpensInTime c a (part a past) → AsksAllFirst c a (part a past) → start + last_granting_steps c a + 2 * asking_steps c + numbering_steps c ≤ length (part a past) → Started c a past
+last_started : (c : Config) (live : ℕ → Bool) (a start : ℕ) (past : List Event) → IsConfig c → LeadsLast c live a start past → OpensInTime c a (part a past) → AsksAllFirst c a (part a past) → start + last_granting_steps c a + 2 * asking_steps c + 2 * (c.replicas + 2) ≤ length (part a past) → Started c a past
 last_started c live a start past good last opens first many = elim (min_or_none a (part a past)) [
   | inl none ↦ absurd (let few = last_begins c live a start past good last (each_unread c a start (part a past) opens.asks last.named none) none in omega (arith, few, many))
   | inr f ↦ found f
@@ -103,7 +103,7 @@ last_started c live a start past good last opens first many = elim (min_or_none 
         puts =
             opens.numbers f.first f.newer f.older (record { newer = []; is = f.is }) f.min f.none (subst (AtEachMoment (λ now. is_over a now ≡ false)) f.is on)
             (subst (AtEachMoment (λ now. has_min a now ≡ true → is_named c a now ≡ true)) f.is (moments_more (NamesItself c a start) (λ now. has_min a now ≡ true → is_named c a now ≡ true) (min_named c a start) (part a past) last.named))
-            (let sum = ap length f.is ∙ length-append f.newer (f.first ∷ f.older) in let short = few in omega (arith, sum, short, many))
+            (let sum = ap length f.is ∙ length-append f.newer (f.first ∷ f.older) in let short = few in let half = at_least_halves f.newer (f.first ∷ f.older) in omega (arith, sum, short, many, half))
 
 -- who has put a number has begun
 abbrev NumberBegun : ℕ → List Event → Type 0

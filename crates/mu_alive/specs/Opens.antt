@@ -1,6 +1,6 @@
 -- opens in time: a replica that names itself asks each region in time until it reads a minimum, and
 -- puts a number soon after, whatever it knows.
-use Rattle.std.specs.Prelude.{Bool, List, false, is_some, length, true, ℕ, ◌*◌, ◌++◌, ◌+◌, ◌<◌, ◌∷◌, ◌≡◌, ◌≤◌}
+use Rattle.std.specs.Prelude.{Bool, List, false, is_some, true, ℕ, ◌*◌, ◌++◌, ◌+◌, ◌<◌, ◌∷◌, ◌≡◌, ◌≤◌}
 use Rattle.mu_model.specs.declared.config.Config.{Config}
 use Rattle.mu_model.specs.declared.event.Event.{Event}
 use Rattle.mu_model.specs.Histories.{has}
@@ -22,19 +22,15 @@ AsksUntilMin c r mine =
     → AtEachMoment (λ now. has_min r now ≡ false) (window ++ older)
     → replicates (λ before e. is_asking p e) window older ≡ true
 
--- the steps from the first minimum until a number is put
-abbrev pub numbering_steps : Config → ℕ
-numbering_steps c = 2 * (c.replicas + 2)
-
--- so many steps after its first minimum r has put a number, if it goes on naming itself and its
--- leadership isn't over
+-- of n + 2 replication events after its first minimum one puts a number, if r goes on naming itself
+-- and its leadership isn't over
 abbrev pub NumbersInTime : Config → ℕ → List Event → Type 0
 NumbersInTime c r mine =
     (e : Event) (window older : List Event) → IsStretch mine window (e ∷ older) → is_min e ≡ true
     → AtEachMoment (λ now. has_min r now ≡ false) older
     → AtEachMoment (λ now. is_over r now ≡ false) (window ++ e ∷ older)
     → AtEachMoment (λ now. has_min r now ≡ true → is_named c r now ≡ true) (window ++ e ∷ older)
-    → numbering_steps c ≤ length window → has (puts_number r) window ≡ true
+    → c.replicas + 2 ≤ replications window (e ∷ older) → has (puts_number r) window ≡ true
 
 -- both
 pub record OpensInTime (c : Config) (r : ℕ) (mine : List Event) : Type 0 where
