@@ -24,7 +24,7 @@ use Rattle.mu_model.specs.Stretches.{is_odd, replications}
 use Rattle.mu_model.proofs.Basics.{same_some}
 use Rattle.mu_grant.specs.Pace.{host_place}
 use Rattle.mu_grant.specs.Stands.{is_of_place}
-use Rattle.mu_known.specs.Offers.{IsFirst, first_in}
+use Rattle.mu_known.specs.Offers.{IsFirst}
 use Rattle.mu_known.proofs.Firsts.{first_in_is}
 use Rattle.mu_lead.specs.declared.place.Place.{Place}
 use Rattle.mu_lead.specs.Beside.{leads_at}
@@ -94,7 +94,6 @@ any_asks_fail = record {
     host : (d : ℕ) (verb : Verb) → is_of_place d verb ≡ true → is_any_ask verb ≡ false
     host d (Verb.Ask q) is = absurd (true≢false (sym is))
     host d verb is = refl
-
 
 -- a minimum is read by the leader too
 mins_fail : FailsBackground is_min_verb
@@ -463,11 +462,11 @@ to_put c r e (f ∷ window) older inside possible made min none on named = elim 
         elim (nearer_put c r d mine f (place_after c r mine) made.1.own (λ verb is. made_verb c r mine f verb made.1 odd itself is) came.allowed.may on.1 near) [
           | inl put ↦ inl (ap (λ t. cond t true (has (puts r) window)) put)
           | inr on_way ↦ inr (record {
-              left = d;
-              near = subst (ToPut c d) (sym (place_on c r mine f odd itself)) on_way;
-              all = ap (λ t. d + (if t then replications window (e ∷ older) + 1 else replications window (e ∷ older))) odd ∙ (let one : d + (replications window (e ∷ older) + 1) ≡ c.replicas + 1 = omega (arith, all) in one);
-              min = min_on r f mine (asks_no_more c r (suc d) mine f made.1 near) k.min;
-            })
+            left = d;
+            near = subst (ToPut c d) (sym (place_on c r mine f odd itself)) on_way;
+            all = ap (λ t. d + (if t then replications window (e ∷ older) + 1 else replications window (e ∷ older))) odd ∙ (let one : d + (replications window (e ∷ older) + 1) ≡ c.replicas + 1 = omega (arith, all) in one);
+            min = min_on r f mine (asks_no_more c r (suc d) mine f made.1 near) k.min;
+          })
         ]
 
 -- n + 2 replication events after its first minimum it has put a number, if it goes on naming itself and isn't over
