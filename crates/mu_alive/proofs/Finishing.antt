@@ -7,14 +7,17 @@ use Rattle.mu_model.specs.Bounds.{cycle, stays}
 use Rattle.mu_model.specs.Contents.{IsConfig, holds_all}
 use Rattle.mu_model.specs.Diligence.{Replays, TellsHeads}
 use Rattle.mu_model.specs.Histories.{has, part}
-use Rattle.mu_model.specs.Knowledge.{applied}
+use Rattle.mu_model.specs.Knowledge.{applied, known}
 use Rattle.mu_model.specs.Leaderships.{grant_for, proposal_number}
 use Rattle.mu_model.specs.Regions.{fence, fence_owner, region_head}
 use Rattle.mu_model.specs.Stretches.{IsStretch}
 use Rattle.mu_model.specs.Steps.{has_min, is_asking, is_named, knows_all}
 use Rattle.mu_model.proofs.Parts.{filter-append, part_is_possible}
+use Rattle.mu_pace.proofs.Growing.{known_grows}
 use Rattle.mu_pace.specs.Counters.{AtEachMoment, AtEachStep}
 use Rattle.mu_pace.proofs.Counting.{last_moment, moments_before, steps_before}
+use Rattle.mu_model.specs.Legal.{IsLegalHistory}
+use Rattle.mu_agree.proofs.Legal.{legal_older}
 use Rattle.mu_alive.specs.Alone.{WritesAlone}
 use Rattle.mu_alive.specs.Bringing.{IsGranted, LeadsOn}
 use Rattle.mu_alive.specs.Enough.{steps_enough}
@@ -26,9 +29,8 @@ use Rattle.mu_alive.proofs.Applying.{applied_is_known}
 use Rattle.mu_alive.proofs.Beginning.{CutAt, asked_once, cut_at}
 use Rattle.mu_alive.proofs.Steady.{numbered_stays}
 use Rattle.mu_alive.proofs.Enough.{Leads, knows_all_in_time, lone_before, lone_leads, lone_on}
-use Rattle.mu_alive.proofs.Fetching.{applied_grows}
 use Rattle.mu_alive.proofs.Granting.{granted}
-use Rattle.mu_alive.proofs.Spreading.{Governs, all_raised, each_notes, moments_more, spreads}
+use Rattle.mu_alive.proofs.Spreading.{AppliesMeanwhile, Governs, all_raised, each_notes, moments_more, spreads}
 use Rattle.mu_alive.proofs.Started.{Started, one_leads, some_asked, started}
 
 -- what a journal keeps its beginnings keep
@@ -117,11 +119,10 @@ granted_on c live a p newer older lone begun low owns = record { inside = low; r
 
 -- so many steps after it has started all that keep up have applied what it knew, and raised their heads to it
 raised_after : (c : Config) (live : ℕ → Bool) (a : ℕ) (newer older : List Event) → IsConfig c → LeadsAlone c live a (newer ++ older) → WritesAlone a (newer ++ older) → KeepUp c live a (newer ++ older) → Started c a older → lagging_steps c ≤ length (part a newer)
-    → (r : ℕ) → r < c.replicas → live r ≡ true → (length (applied c a (part a older)) ≤ length (applied c r (part r (newer ++ older)))) × (length (applied c a (part a older)) ≤ region_head r (newer ++ older))
+    → (r : ℕ) → r < c.replicas → live r ≡ true → (length (known c a (part a older)) ≤ length (applied c r (part r (newer ++ older)))) × (length (known c a (part a older)) ≤ region_head r (newer ++ older))
 raised_after c live a newer older good lone writes keep begun many r low lives =
-    subst (λ x. (length (applied c a (part a older)) ≤ length (applied c r (part r x))) × (length (applied c a (part a older)) ≤ region_head r x)) (sym at)
-    (spreads c live a (length (applied c a (part a older))) second.newer granted good governs (subst (KeepUp c live a) at keep)
-    (let grows = applied_grows c a (part a second.rest) (part a older) in let same = ap (λ x. length (applied c a x)) (filter-append (λ e. e.by == a) second.rest older) in omega (arith, grows, same))
+    subst (λ x. (length (known c a (part a older)) ≤ length (applied c r (part r x))) × (length (known c a (part a older)) ≤ region_head r x)) (sym at)
+    (spreads c live a (length (known c a (part a older))) second.newer granted good governs (subst (KeepUp c live a) at keep) (let more = grown second.rest in omega (arith, more)) applies
     (let count = second.count in let sum = ap (λ x. length (part a x)) second.is ∙ ap length (filter-append (λ e. e.by == a) second.newer second.rest) ∙ length-append (part a second.newer) (part a second.rest) in omega (arith, count, sum, many)) r low lives)
   where
     second : CutAt a (2 * cycle c + 2) newer
@@ -135,6 +136,18 @@ raised_after c live a newer older good lone writes keep begun many r low lives =
 
     alone : LeadsAlone c live a (second.newer ++ granted)
     alone = subst (LeadsAlone c live a) at lone
+
+    grown : (between : List Event) → length (known c a (part a older)) ≤ length (known c a (part a (between ++ older)))
+    grown between = let grows = known_grows c a (part a between) (part a older) in let same = ap (λ x. length (known c a x)) (filter-append (λ e. e.by == a) between older) in omega (arith, grows, same)
+
+    applies : AppliesMeanwhile c a (length (known c a (part a older))) second.newer granted
+    applies top bottom is long =
+        let there : newer ++ older ≡ top ++ (bottom ++ granted) = at ∙ ap (λ x. x ++ granted) is ∙ append_assoc top bottom granted in
+        let legal = legal_older c top (bottom ++ granted) (subst (IsLegalHistory c) there lone.legal) in
+        let same = ap length (applied_is_known c a (bottom ++ granted) good legal (writes_before a top (bottom ++ granted) (subst (WritesAlone a) there writes))) in
+        let more = grown (bottom ++ second.rest) in
+        let split = ap (λ x. length (known c a (part a x))) (append_assoc bottom second.rest older) in
+        omega (arith, same, more, split)
 
     owns : (p : ℕ) → p < c.replicas → live p ≡ true → (above below : List Event) → second.newer ≡ above ++ below → fence_owner p (below ++ granted) ≡ Some a
     owns p inside goes above below cuts =
@@ -164,12 +177,9 @@ raised_from c live a newer older good lone writes keep knows many = go (holds_al
     begun : holds_all c [] ≡ false → Started c a older
     begun lacks = started c live a older there (keep_before c live a newer older keep).asked (λ none. true≢false (sym knows ∙ (ap (holds_all c) none ∙ lacks)))
 
-    applies : holds_all c (applied c a (part a older)) ≡ true
-    applies = ap (holds_all c) (applied_is_known c a older good there.legal (writes_before a newer older writes)) ∙ knows
-
     go : (t : Bool) → holds_all c [] ≡ t → HaveAllRaised c live (newer ++ older)
     go true none = record { upto = 0; raised = λ r low lives. omega arith; reached = λ r low lives. omega arith; held = λ r low lives. none }
-    go false lacks = all_raised c live a newer older lone.legal applies (raised_after c live a newer older good lone writes keep (begun lacks) many)
+    go false lacks = all_raised c live a newer older lone.legal knows (raised_after c live a newer older good lone writes keep (begun lacks) many)
 
 -- if it knows every command after so many steps
 pub raised_with : (c : Config) (live : ℕ → Bool) (a most : ℕ) (past : List Event) → IsConfig c → LeadsAlone c live a past → WritesAlone a past → KeepUp c live a past

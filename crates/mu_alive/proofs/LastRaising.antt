@@ -1,24 +1,28 @@
 -- All that keep up with the last that asks in turn have applied all in time, and raised their heads to it.
 use Rattle.std.proofs.Common.{cond, eqb-true, true≢false, ◌≡◌, ℕ, ◌+◌, ◌*◌, ◌<◌, ◌≤◌, ◌==◌, inl, inr, Bool, true, false, Some, List, [], ◌∷◌, ◌++◌, length, refl, sym, ◌∙◌, ap, arith, subst, append_assoc, is_some}
+use Rattle.std.proofs.Math.Nat.{mul-le-mul_right}
 use Rattle.std.proofs.lemmas.List.{length-append}
 use Rattle.mu_model.specs.declared.config.Config.{Config}
 use Rattle.mu_model.specs.declared.event.Event.{Event}
 use Rattle.mu_model.specs.declared.event.Verb.{Verb}
 use Rattle.mu_model.specs.Allowed.{Needs}
 use Rattle.mu_model.specs.Bounds.{stays}
-use Rattle.mu_model.specs.Contents.{IsConfig, holds_all}
+use Rattle.mu_model.specs.Bounds.{cycle}
+use Rattle.mu_model.specs.Contents.{IsConfig, row_count}
 use Rattle.mu_model.specs.Histories.{has, part}
-use Rattle.mu_model.specs.Knowledge.{applied}
+use Rattle.mu_model.specs.Knowledge.{applied, known}
+use Rattle.mu_model.specs.Room.{reserve}
 use Rattle.mu_model.specs.Leaderships.{grant_for, has_begun, is_over, proposal_number}
 use Rattle.mu_model.specs.Legal.{IsLegalHistory}
 use Rattle.mu_model.specs.Regions.{fence}
-use Rattle.mu_model.specs.Steps.{has_min, is_asking, is_named}
+use Rattle.mu_model.specs.Steps.{has_min, is_asking, is_named, knows_all}
 use Rattle.mu_model.specs.Stretches.{IsStretch, is_replication}
 use Rattle.mu_model.proofs.Parts.{filter-append, part_is_possible}
 use Rattle.mu_agree.proofs.Landings.{has_of_part}
 use Rattle.mu_agree.proofs.Legal.{event_after, legal_induction}
 use Rattle.mu_pace.specs.Counters.{AtEachMoment, AtEachStep}
 use Rattle.mu_pace.proofs.Counting.{moments_before}
+use Rattle.mu_alive.specs.Following.{catching_steps}
 use Rattle.mu_alive.specs.Bringing.{IsGranted, LeadsOn}
 use Rattle.mu_alive.specs.Enough.{asking_steps}
 use Rattle.mu_alive.specs.Finishing.{AsksAllFirst, HaveAllRaised, KeepUp, LastLeadersRaiseAll}
@@ -28,11 +32,11 @@ use Rattle.mu_alive.specs.Turns.{is_own_min}
 use Rattle.mu_alive.proofs.Beginning.{CutAt, cut_at}
 use Rattle.mu_alive.proofs.Cutting.{located}
 use Rattle.mu_alive.proofs.Enough.{FirstMin, Leads, first_has_min, min_or_none, min_parts}
-use Rattle.mu_alive.proofs.Fetching.{last_applies_all}
+use Rattle.mu_alive.proofs.Fetching.{fetched}
 use Rattle.mu_alive.proofs.Finishing.{keep_before}
-use Rattle.mu_alive.proofs.Lasting.{AsksAllBy, all_by_each, last_before, last_begins, last_leads, late_named, owned}
+use Rattle.mu_alive.proofs.Lasting.{AsksAllBy, all_by_each, last_before, last_begins, last_knows_all, last_leads, late_named, owned}
 use Rattle.mu_alive.proofs.Moments.{AsksEach, From, at_least_halves, each_before, halves, some_event}
-use Rattle.mu_alive.proofs.Spreading.{Governs, all_raised, each_notes, moments_more, spreads}
+use Rattle.mu_alive.proofs.Spreading.{AppliesMeanwhile, Governs, all_raised, each_notes, moments_more, spreads}
 use Rattle.mu_alive.proofs.Started.{Started, numbered_there, numbered_with, one_leads, some_asked}
 use Rattle.mu_alive.proofs.TurnFences.{lead_on_moments}
 use Rattle.mu_alive.proofs.TurnOwners.{owned_top, seen_again}
@@ -175,13 +179,13 @@ governs c live a start newer older good last asks begun late = record {
 pub last_raises_all : LastLeadersRaiseAll
 last_raises_all c live a start past good large last opens fetches keep many =
     subst (HaveAllRaised c live) (sym at.is)
-    (all_raised c live a at.newer at.rest (subst (IsLegalHistory c) at.is last.legal) applies
-    (spreads c live a (length (applied c a (part a at.rest))) at.newer at.rest good
+    (all_raised c live a at.newer at.rest (subst (IsLegalHistory c) at.is last.legal) knows
+    (spreads c live a (length (known c a (part a at.rest))) at.newer at.rest good
     (governs c live a start at.newer at.rest good (subst (LeadsLast c live a start) at.is last) (subst (AsksAllBy c a (start + asking_steps c)) at.is (asks_all c live a start past last opens.asks keep.asked)) begun (let count = at.count in omega (arith, count)))
-    (subst (KeepUp c live a) at.is keep) (omega arith) (let sum = ap length split ∙ length-append (part a at.newer) (part a at.rest) in let count = at.count in omega (arith, sum, count, many))))
+    (subst (KeepUp c live a) at.is keep) (omega arith) applies (let sum = ap length split ∙ length-append (part a at.newer) (part a at.rest) in let count = at.count in omega (arith, sum, count, many))))
   where
-    at : CutAt a (start + last_steps c a + fetching_steps c) past
-    at = cut_at a (start + last_steps c a + fetching_steps c) past (omega (arith, many))
+    at : CutAt a (start + last_steps c a) past
+    at = cut_at a (start + last_steps c a) past (omega (arith, many))
 
     split : part a past ≡ part a at.newer ++ part a at.rest
     split = ap (part a) at.is ∙ filter-append (λ e. e.by == a) at.newer at.rest
@@ -192,11 +196,22 @@ last_raises_all c live a start past good large last opens fetches keep many =
     more : (window o : List Event) → IsStretch (part a at.rest) window o → IsStretch (part a past) window o
     more window o s = record { newer = part a at.newer ++ s.newer; is = split ∙ ap (λ l. part a at.newer ++ l) s.is ∙ sym (append_assoc (part a at.newer) s.newer (window ++ o)) }
 
-    applies : holds_all c (applied c a (part a at.rest)) ≡ true
-    applies = last_applies_all c live a start at.rest good large there (λ window older s. fetches window older (more window older s)) (let count = at.count in omega (arith, count))
+    knows : knows_all c a (part a at.rest) ≡ true
+    knows = let count = at.count in last_knows_all c live a start at.rest good large there (omega (arith, count))
 
     begun : Started c a at.rest
     begun =
         last_started c live a start at.rest good there
         (record { asks = λ p window o low s. opens.asks p window o low (more window o s); numbers = λ e window o s. opens.numbers e window o (more window (e ∷ o) s) })
         (keep_before c live a at.newer at.rest (subst (KeepUp c live a) at.is keep)).asked (let count = at.count in omega (arith, count))
+
+    -- it fetches the rows while the others join and follow
+    fetches_less : fetching_steps c ≤ catching_steps c
+    fetches_less = mul-le-mul_right (2 * cycle c) (let more : (c.width + 1) * (row_count c + reserve c) ≡ c.width * (row_count c + reserve c) + (row_count c + reserve c) = omega arith in let l : c.width * (row_count c + reserve c) + 1 ≤ (c.width + 1) * (row_count c + reserve c) + 1 = omega (arith, more) in l)
+
+    applies : AppliesMeanwhile c a (length (known c a (part a at.rest))) at.newer at.rest
+    applies top bottom is long =
+        subst (λ l. length (known c a (part a at.rest)) ≤ length (applied c a l)) (sym (filter-append (λ e. e.by == a) bottom at.rest))
+        (fetched c a (part a past) (part a top) (part a bottom) (part a at.rest) good (part_is_possible c a past last.legal) fetches
+        (split ∙ ap (λ l. l ++ part a at.rest) (ap (part a) is ∙ filter-append (λ e. e.by == a) top bottom) ∙ append_assoc (part a top) (part a bottom) (part a at.rest))
+        (let less = fetches_less in omega (arith, long, less)))

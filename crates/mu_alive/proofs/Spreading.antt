@@ -1,5 +1,5 @@
 -- What a leader has applied all that keep up with it have applied in time, and raised their heads to it.
-use Rattle.std.proofs.Common.{◌≡◌, ◌≢◌, ◌⊎◌, ℕ, zero, suc, ◌+◌, ◌<◌, ◌≤◌, ◌==◌, inl, inr, Bool, true, false, cond, Some, None, List, [], ◌∷◌, ◌++◌, length, refl, sym, ◌∙◌, ap, arith, subst, eqb-true, true≢false, append_assoc, is_some, take}
+use Rattle.std.proofs.Common.{◌≡◌, ◌≢◌, ◌⊎◌, ℕ, zero, suc, ◌+◌, ◌<◌, ◌≤◌, ◌==◌, inl, inr, Bool, true, false, cond, Some, None, List, [], ◌∷◌, ◌++◌, length, refl, sym, ◌∙◌, ap, arith, subst, eqb-true, true≢false, append_assoc, is_some, take, ◌*◌}
 use Rattle.std.specs.declared.option.Option.{Option}
 use Rattle.std.specs.Prelude.{if◌then◌else◌, nat_le}
 use Rattle.std.specs.List.{slice_get}
@@ -19,7 +19,7 @@ use Rattle.mu_model.specs.Legal.{IsLegalHistory}
 use Rattle.mu_model.specs.Parts.{IsPossible}
 use Rattle.mu_model.specs.Placing.{fuo_read_or_raised, reaches_head}
 use Rattle.mu_model.specs.Regions.{fence, head_raised, region_fuo, region_head}
-use Rattle.mu_model.specs.Steps.{is_fencing, is_fencing_verb, is_named}
+use Rattle.mu_model.specs.Steps.{is_fencing, is_fencing_verb, is_named, knows_all}
 use Rattle.mu_model.proofs.Lists.{get_front}
 use Rattle.mu_model.proofs.Owned.{IsOwn, greatest-part}
 use Rattle.mu_model.proofs.Parts.{filter-append, part_is_possible}
@@ -29,9 +29,10 @@ use Rattle.mu_agree.proofs.Prefixes.{known_agree}
 use Rattle.mu_agree.proofs.Room.{covers_below}
 use Rattle.mu_pace.specs.Counters.{AtEachMoment, AtEachStep}
 use Rattle.mu_pace.proofs.Counting.{last_moment, moments_before}
+use Rattle.mu_model.specs.Bounds.{cycle}
 use Rattle.mu_alive.specs.Bringing.{IsGranted, LeadsOn, joining_steps}
 use Rattle.mu_alive.specs.Finishing.{HaveAllRaised, KeepUp, spreading_steps}
-use Rattle.mu_alive.specs.Following.{FollowsOn, RaisesToAll, following_steps}
+use Rattle.mu_alive.specs.Following.{FollowsOn, RaisesToAll, catching_steps, following_steps}
 use Rattle.mu_alive.specs.Lone.{IsNear}
 use Rattle.mu_alive.proofs.Beginning.{CutAt, cut_at}
 use Rattle.mu_alive.proofs.Bringing.{brought_up, granted_first, leads_older}
@@ -135,18 +136,15 @@ follows_on c live a r newer older legal keep low lives other = record {
   unnamed = moments_more (λ now. is_named c r now ≡ false) (λ now. length (part r older) ≤ length now → is_named c r now ≡ false) (λ now off _. off) (part r (newer ++ older)) (keep.unnamed r low lives other);
 }
 
-front_few : (test : ℕ → Bool) (xs : List ℕ) → length (front test xs) ≤ length xs
-front_few test [] = omega arith
-front_few test (x ∷ xs) = go (test x) (front_few test xs)
-  where
-    go : (t : Bool) → length (front test xs) ≤ length xs → length (cond t (x ∷ front test xs) []) ≤ suc (length xs)
-    go true few = omega (arith, few)
-    go false few = omega arith
+-- before the last round of them a has applied l entries
+abbrev pub AppliesMeanwhile : Config → ℕ → ℕ → List Event → List Event → Type 0
+AppliesMeanwhile c a l newer older =
+    (top bottom : List Event) → newer ≡ top ++ bottom → joining_steps c + (2 * cycle c + catching_steps c) ≤ length (part a bottom) → l ≤ length (applied c a (part a (bottom ++ older)))
 
--- so many steps later all that keep up have applied what it had applied, and raised their heads to it
-pub spreads : (c : Config) (live : ℕ → Bool) (a l : ℕ) (newer older : List Event) → IsConfig c → Governs c live a newer older → KeepUp c live a (newer ++ older) → l ≤ length (applied c a (part a older)) → spreading_steps c ≤ length (part a newer)
+-- so many steps later all that keep up have applied what it knew, and raised their heads to it, if it has applied it
+pub spreads : (c : Config) (live : ℕ → Bool) (a l : ℕ) (newer older : List Event) → IsConfig c → Governs c live a newer older → KeepUp c live a (newer ++ older) → l ≤ length (known c a (part a older)) → AppliesMeanwhile c a l newer older → spreading_steps c ≤ length (part a newer)
     → (r : ℕ) → r < c.replicas → live r ≡ true → (l ≤ length (applied c r (part r (newer ++ older)))) × (l ≤ region_head r (newer ++ older))
-spreads c live a l newer older good g keep had many r low lives = which (cases_eq r a)
+spreads c live a l newer older good g keep knows applies many r low lives = which (cases_eq r a)
   where
     past : List Event
     past = newer ++ older
@@ -166,20 +164,19 @@ spreads c live a l newer older good g keep had many r low lives = which (cases_e
     parts : (q : ℕ) → part q past ≡ part q upper.newer ++ part q joined
     parts q = ap (part q) at ∙ filter-append (λ e. e.by == q) upper.newer joined
 
-    window : part a newer ≡ part a upper.newer ++ part a upper.rest
-    window = ap (part a) upper.is ∙ filter-append (λ e. e.by == a) upper.newer upper.rest
-
     lower : part a joined ≡ part a upper.rest ++ part a older
     lower = filter-append (λ e. e.by == a) upper.rest older
 
-    leads : LeadsOn c a (part a upper.rest ++ part a older)
-    leads = leads_older c a (part a upper.newer) (part a upper.rest ++ part a older) (subst (LeadsOn c a) (ap (λ x. x ++ part a older) window ∙ append_assoc (part a upper.newer) (part a upper.rest) (part a older)) g.leads)
+    fuo : (top bottom : List Event) → newer ≡ top ++ bottom → joining_steps c ≤ length (part a bottom) → (p : ℕ) → p < c.replicas → live p ≡ true → l ≤ greatest (λ e. fuo_read_or_raised a p e.by e.verb e.answer) (part a (bottom ++ older))
+    fuo top bottom is long p inside goes =
+        subst (λ x. l ≤ greatest (λ e. fuo_read_or_raised a p e.by e.verb e.answer) x) (sym (filter-append (λ e. e.by == a) bottom older))
+        (brought_up c a p l (part a bottom) (part a older) good leads (granted_first c a p (part a top) (part a bottom) (part a older) (subst (λ x. IsGranted c a p x (part a older)) window (g.granted p inside goes))) knows long)
+      where
+        window : part a newer ≡ part a top ++ part a bottom
+        window = ap (part a) is ∙ filter-append (λ e. e.by == a) top bottom
 
-    fuo : (p : ℕ) → p < c.replicas → live p ≡ true → l ≤ greatest (λ e. fuo_read_or_raised a p e.by e.verb e.answer) (part a joined)
-    fuo p inside goes =
-        subst (λ x. l ≤ greatest (λ e. fuo_read_or_raised a p e.by e.verb e.answer) x) (sym lower)
-        (brought_up c a p l (part a upper.rest) (part a older) good leads (granted_first c a p (part a upper.newer) (part a upper.rest) (part a older) (subst (λ x. IsGranted c a p x (part a older)) window (g.granted p inside goes)))
-        (let few = front_few (λ v. has_entry c a v (part a older)) (known c a (part a older)) in omega (arith, few, had)) (let count = upper.count in omega (arith, count)))
+        leads : LeadsOn c a (part a bottom ++ part a older)
+        leads = leads_older c a (part a top) (part a bottom ++ part a older) (subst (LeadsOn c a) (ap (λ x. x ++ part a older) window ∙ append_assoc (part a top) (part a bottom) (part a older)) g.leads)
 
     legal : IsLegalHistory c joined
     legal = legal_older c upper.newer joined (subst (IsLegalHistory c) at g.legal)
@@ -190,7 +187,7 @@ spreads c live a l newer older good g keep had many r low lives = which (cases_e
     follower : r ≢ a → (l ≤ length (applied c r (part r past))) × (l ≤ region_head r past)
     follower other =
         subst (λ x. (l ≤ length (applied c r (part r x))) × (l ≤ region_head r x)) (sym at)
-        (follows_up c r l upper.newer joined good (follows_on c live a r upper.newer joined (subst (IsLegalHistory c) at g.legal) (subst (KeepUp c live a) at keep) low lives other) (in_region c a r l joined legal (fuo r low lives)) enough)
+        (follows_up c r l upper.newer joined good (follows_on c live a r upper.newer joined (subst (IsLegalHistory c) at g.legal) (subst (KeepUp c live a) at keep) low lives other) (in_region c a r l joined legal (fuo upper.newer upper.rest upper.is (let count = upper.count in omega (arith, count)) r low lives)) enough)
       where
         enough : following_steps c ≤ length (part r upper.newer)
         enough =
@@ -202,36 +199,59 @@ spreads c live a l newer older good g keep had many r low lives = which (cases_e
             omega (arith, late, early, split, took, all, many)
 
     leader : (l ≤ length (applied c a (part a past))) × (l ≤ region_head a past)
-    leader =
-        let grown = applied_grows c a (part a upper.rest) (part a older) in
-        let there = ap (λ x. length (applied c a x)) lower in
-        let grows = applied_grows c a (part a upper.newer) (part a joined) in
-        let same = ap (λ x. length (applied c a x)) (parts a) in
-        let sum = ap length (parts a) ∙ length-append (part a upper.newer) (part a joined) in
-        let took = taken in
-        let all = total in
-        let head =
-        head_follows c a l (part a upper.newer) (part a joined) (subst (IsPossible c a) (parts a) (part_is_possible c a past g.legal)) (subst (TellsHeads c a) (parts a) (keep.heads a g.inside g.lives)) (subst (AtEachStep (RaisesToAll c a)) (parts a) (keep.raises a g.inside g.lives))
-        (omega (arith, grown, there, had)) (fuo a g.inside g.lives) (omega (arith, sum, took, all, many)) in
-        let region : region_head a (part a past) ≡ region_head a past = greatest-part (λ e. head_raised a e.by e.verb) a (heads-own a) past in
-        let whole = ap (region_head a) (parts a) in
-        (omega (arith, grown, there, grows, same, had), omega (arith, head, region, whole))
+    leader = (omega (arith, grows, same, had), omega (arith, head, region, whole))
+      where
+        late : CutAt a (joining_steps c + (2 * cycle c + catching_steps c)) newer
+        late = cut_at a (joining_steps c + (2 * cycle c + catching_steps c)) newer (omega (arith, many))
+
+        moment : List Event
+        moment = late.rest ++ older
+
+        split : part a past ≡ part a late.newer ++ part a moment
+        split = ap (part a) (ap (λ x. x ++ older) late.is ∙ append_assoc late.newer late.rest older) ∙ filter-append (λ e. e.by == a) late.newer moment
+
+        had : l ≤ length (applied c a (part a moment))
+        had = applies late.newer late.rest late.is (let count = late.count in omega (arith, count))
+
+        grows : length (applied c a (part a moment)) ≤ length (applied c a (part a late.newer ++ part a moment))
+        grows = applied_grows c a (part a late.newer) (part a moment)
+
+        same : length (applied c a (part a past)) ≡ length (applied c a (part a late.newer ++ part a moment))
+        same = ap (λ x. length (applied c a x)) split
+
+        left : cycle c ≤ length (part a late.newer)
+        left =
+            let sum = ap length (ap (part a) late.is ∙ filter-append (λ e. e.by == a) late.newer late.rest) ∙ length-append (part a late.newer) (part a late.rest) in
+            let count = late.count in
+            omega (arith, sum, count, many)
+
+        covered : l ≤ greatest (λ e. fuo_read_or_raised a a e.by e.verb e.answer) (part a moment)
+        covered = fuo late.newer late.rest late.is (let count = late.count in omega (arith, count)) a g.inside g.lives
+
+        head : l ≤ region_head a (part a late.newer ++ part a moment)
+        head = head_follows c a l (part a late.newer) (part a moment) (subst (IsPossible c a) split (part_is_possible c a past g.legal)) (subst (TellsHeads c a) split (keep.heads a g.inside g.lives)) (subst (AtEachStep (RaisesToAll c a)) split (keep.raises a g.inside g.lives)) had covered left
+
+        region : region_head a (part a past) ≡ region_head a past
+        region = greatest-part (λ e. head_raised a e.by e.verb) a (heads-own a) past
+
+        whole : region_head a (part a past) ≡ region_head a (part a late.newer ++ part a moment)
+        whole = ap (region_head a) split
 
     which : (r ≡ a) ⊎ (r ≢ a) → (l ≤ length (applied c r (part r past))) × (l ≤ region_head r past)
     which (inl same) = subst (λ x. (l ≤ length (applied c x (part x past))) × (l ≤ region_head x past)) (sym same) leader
     which (inr other) = follower other
 
--- if it had applied every command, then all have
-pub all_raised : (c : Config) (live : ℕ → Bool) (a : ℕ) (newer older : List Event) → IsLegalHistory c (newer ++ older) → holds_all c (applied c a (part a older)) ≡ true
-    → ((r : ℕ) → r < c.replicas → live r ≡ true → (length (applied c a (part a older)) ≤ length (applied c r (part r (newer ++ older)))) × (length (applied c a (part a older)) ≤ region_head r (newer ++ older))) → HaveAllRaised c live (newer ++ older)
-all_raised c live a newer older legal holds there = record { upto = length all; raised = λ r low lives. (there r low lives).1; reached = λ r low lives. (there r low lives).0; held = held }
+-- if it knew every command, then all have
+pub all_raised : (c : Config) (live : ℕ → Bool) (a : ℕ) (newer older : List Event) → IsLegalHistory c (newer ++ older) → knows_all c a (part a older) ≡ true
+    → ((r : ℕ) → r < c.replicas → live r ≡ true → (length (known c a (part a older)) ≤ length (applied c r (part r (newer ++ older)))) × (length (known c a (part a older)) ≤ region_head r (newer ++ older))) → HaveAllRaised c live (newer ++ older)
+all_raised c live a newer older legal knows there = record { upto = length all; raised = λ r low lives. (there r low lives).1; reached = λ r low lives. (there r low lives).0; held = held }
   where
     past : List Event
     past = newer ++ older
 
     -- all commands
     all : List ℕ
-    all = applied c a (part a older)
+    all = known c a (part a older)
 
     more : IsPrefixOf (known c a (part a older)) (known c a (part a past))
     more = subst (λ x. IsPrefixOf (known c a (part a older)) (known c a x)) (sym (filter-append (λ e. e.by == a) newer older)) (known_stays c a (part a newer) (part a older))
@@ -239,7 +259,7 @@ all_raised c live a newer older legal holds there = record { upto = length all; 
     agree : (r i v w : ℕ) → slice_get (take (length all) (applied c r (part r past))) i ≡ Some v → slice_get all i ≡ Some w → v ≡ w
     agree r i v w at held =
         known_agree c r a past legal i v w (get_of_front (λ v. has_entry c r v (part r past)) (known c r (part r past)) i v (get_take (length all) (applied c r (part r past)) i v at))
-        (ap (λ l. slice_get l i) more.1 ∙ get_front (known c a (part a older)) more.0 i w (get_of_front (λ v. has_entry c a v (part a older)) (known c a (part a older)) i w held))
+        (ap (λ l. slice_get l i) more.1 ∙ get_front all more.0 i w held)
 
     held : (r : ℕ) → r < c.replicas → live r ≡ true → holds_all c (take (length all) (applied c r (part r past))) ≡ true
-    held r low lives = ap (holds_all c) (same_lists (take (length all) (applied c r (part r past))) all (let long = (there r low lives).0 in let taken = length-take (length all) (applied c r (part r past)) in omega (arith, long, taken)) (agree r)) ∙ holds
+    held r low lives = ap (holds_all c) (same_lists (take (length all) (applied c r (part r past))) all (let long = (there r low lives).0 in let taken = length-take (length all) (applied c r (part r past)) in omega (arith, long, taken)) (agree r)) ∙ knows

@@ -17,7 +17,7 @@ use Rattle.mu_alive.specs.Alone.{WritesAlone}
 use Rattle.mu_alive.specs.Bringing.{joining_steps}
 use Rattle.mu_alive.specs.Enough.{HasLargeRing, steps_enough}
 use Rattle.mu_alive.specs.Following.{RaisesToAll, following_steps}
-use Rattle.mu_alive.specs.Last.{FetchesInTime, LeadsLast, fetching_steps, last_steps}
+use Rattle.mu_alive.specs.Last.{FetchesInTime, LeadsLast, last_steps}
 use Rattle.mu_alive.specs.Lone.{LeadsAlone}
 use Rattle.mu_alive.specs.Opens.{OpensInTime}
 
@@ -69,10 +69,10 @@ LoneLeadersRaiseAll =
     → LeadsAlone c live a past → WritesAlone a past → KeepUp c live a past
     → raising_steps c ≤ length (part a past) → HaveAllRaised c live past
 
--- the steps of the last that asks, from when it began to name itself: it knows all, has applied
--- all, and brings it to the others
+-- the steps of the last that asks, from when it began to name itself: it knows all, and brings it to
+-- the others while it fetches the rows that it lacks
 abbrev pub last_raising_steps : Config → ℕ → ℕ
-last_raising_steps c a = last_steps c a + fetching_steps c + spreading_steps c
+last_raising_steps c a = last_steps c a + spreading_steps c
 
 -- if it opens its leadership and fetches rows in time, all that keep up with it have done so then
 abbrev pub LastLeadersRaiseAll : Type 0
