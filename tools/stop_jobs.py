@@ -100,8 +100,9 @@ def finishing_steps(replicas, batch, positions, known):
 
 
 def finishing_after(replicas, batch, positions, least):
-    """The same from the last stop of a replica below `least`, which goes on."""
-    return steps_after(replicas, batch, positions, least) + spreading(replicas, batch, positions)
+    """The same from the last stop of a replica below `least`, which goes on; it fetches rows meanwhile."""
+    fetching = (batch * positions + 1) * 2 * cycle(replicas)
+    return steps_after(replicas, batch, positions, least) - fetching + spreading(replicas, batch, positions)
 
 
 class FinishCase(BoundCase):
