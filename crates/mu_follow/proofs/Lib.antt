@@ -1,4 +1,4 @@
-pub mod CatchingUp
+mod CatchingUp
 pub mod Due
 mod Full
 pub mod Handing

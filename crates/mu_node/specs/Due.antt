@@ -1,4 +1,4 @@
--- due of a turn: the step that is due in a turn.
+-- due of a turn: the step that is due in a turn, of a plain and of an eager node.
 use Rattle.std.specs.Prelude.{Bool, List, None, Some, false, if◌then◌else◌, length, true, ℕ, ◌==◌, ◌||◌, ◌≡◌, ◌⊎◌}
 use Rattle.std.specs.declared.option.Option.{Option}
 use Rattle.mu_model.specs.declared.config.Config.{Config}
@@ -37,8 +37,8 @@ listed_due c r mine =
     verb_at c (number_due r mine) (known c r mine) (tables_at c r mine).up
     (tables_at c r mine).written (place_after c r mine)
 
--- what is due in a turn of the leader if the leader has nothing due: nothing for a plain node; for an
--- eager one that follows, which neither is named nor led before, what it reads on in what it lacks
+-- what is due in a turn of the leader in which the leader has nothing due: nothing for a plain node;
+-- for an eager one what it reads on with, unless it is named, or led before that turn
 abbrev pub idle_due : Zeal → Config → ℕ → List Event → Option Verb
 idle_due Zeal.Plain c r mine = None
 idle_due Zeal.Eager c r mine =
@@ -48,7 +48,7 @@ idle_due Zeal.Eager c r mine =
 abbrev pub turn_due : Zeal → Config → ℕ → List Event → Option Verb
 turn_due zeal c r mine = or_else (due_after c r mine) (idle_due zeal c r mine)
 
--- r follows, and the verb is what it reads on with in what it lacks
+-- r isn't named and didn't lead before, and the verb is what it reads on with
 pub record CatchesUp (c : Config) (r : ℕ) (mine : List Event) (verb : Verb) : Type 0 where
   pub unled : leads_at (place_after c r mine) ≡ false
   pub unnamed : is_named c r mine ≡ false

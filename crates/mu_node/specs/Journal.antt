@@ -35,9 +35,9 @@ abbrev pub IsListed : Zeal → Config → ℕ → List Event → Event → Type 
 IsListed zeal c r mine e =
     is_odd (length mine) ≡ true → e.verb ≡ verb_or_beat (turn_due zeal c r mine)
 
--- r, plain or eager, made the event as it was due by the journal; its leader's counts were as its place has them, it
--- leads in the background only if it was named, and no look had found a place used again that r
--- still had to read
+-- r, plain or eager, made the event as it was due by the journal; its leader's counts were as its
+-- place has them, it leads in the background only if it was named, and no look had found a place
+-- used again that r still had to read
 pub record WasMade (c : Config) (r : ℕ) (mine : List Event) (e : Event) : Type 0 where
   pub own : e.by ≡ r
   pub going : outrun c r mine ≡ None

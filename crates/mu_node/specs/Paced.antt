@@ -26,8 +26,7 @@ pub record HasPaces (c : Config) (r : ℕ) (mine : List Event) (lead : Lead) : T
   pub listed : IsWhere c r mine lead
 
 -- the leader was told that another replica is named: each count had the room of the place before,
--- which the journal gives it;
--- the leader stays there or begins again; and it does begin again
+-- which is that of the journal; the leader stays there or begins again; and it does begin again
 pub record HadPaces (c : Config) (r : ℕ) (mine : List Event) (lead : Lead) : Type 0 where
   pub before : Place
   pub was : before ≡ place_after c r mine

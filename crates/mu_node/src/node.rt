@@ -105,7 +105,8 @@ fn fill_commits(list: &mut Vec<Commit>, commits: &[Commit])
 }
 
 impl Node {
-    /// The replica `id` of a job before any event. Takes all memory that it ever needs.
+    /// The replica `id` of a job before any event, plain or eager. Takes all memory that it ever
+    /// needs.
     pub fn new(alloc: Global, job: &Job, id: u8, zeal: Zeal) -> Result<Node, NoMemory>
         requires config { IsConfig job.now.config }
         requires inside { id < job.now.config.replicas }

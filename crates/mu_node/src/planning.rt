@@ -163,8 +163,8 @@ impl Node {
         }
     }
 
-    /// What is due in a turn of the leader in which it has nothing due, and that it led before or
-    /// not.
+    /// What is due in a turn of the leader in which the leader has nothing due: what an eager node
+    /// reads on with, unless it is named, or led before that turn.
     fn idle(&self, leading: bool) -> Option<Verb>
         ghost mine: { List SomeEvent }
         requires config { IsConfig self.now.follow.config }
