@@ -33,6 +33,7 @@ use Rattle.mu_lead.specs.Listing.{after_round, is_lost, next_place, noted_from, 
 use Rattle.mu_lead.specs.Standing.{verb_at}
 use Rattle.mu_pace.specs.Counters.{AtEachMoment, AtEachStep}
 use Rattle.mu_pace.proofs.Counting.{last_moment}
+use Rattle.mu_node.proofs.CatchingUp.{catches_reading, made_led, reading_fails}
 use Rattle.mu_node.specs.Cycle.{other_at, place_now}
 use Rattle.mu_node.specs.Due.{verb_or_beat}
 use Rattle.mu_node.specs.Journal.{WasMade}
@@ -72,7 +73,10 @@ of_lead test c r mine e held fails beat beats asks is = go (is_odd (length mine)
     is_mine false made = absurd (true≢false (sym is ∙ (ap test made ∙ beat)))
 
     go : (t : Bool) → is_odd (length mine) ≡ t → OfLead c r mine e held
-    go true odd = record { odd = odd; named = is_mine (leader c r mine == r) (held.made.replication odd); verb = named (leader c r mine == r) (held.made.replication odd) }
+    go true odd = elim (made_led held.zeal c r mine e.verb (held.made.replication odd)) [
+      | inl listed ↦ record { odd = odd; named = is_mine (leader c r mine == r) listed; verb = named (leader c r mine == r) listed }
+      | inr caught ↦ absurd (true≢false (sym is ∙ reading_fails test e.verb (catches_reading c r mine e.verb caught.due) fails.replays.look fails.replays.row))
+    ]
     go false even =
         let made = held.made.background even in
         elim (cases_lt (place_now c mine) (host_place c 0)) [
@@ -112,7 +116,10 @@ placed c r mine place = verb_at c (number_due r mine) (known c r mine) (tables_a
 
 -- in a turn of its own a replica that names itself makes it
 made_verb : (c : Config) (r : ℕ) (mine : List Event) (e : Event) (verb : Verb) → WasMade c r mine e → is_odd (length mine) ≡ true → is_named c r mine ≡ true → placed c r mine (place_after c r mine) ≡ Some verb → e.verb ≡ verb
-made_verb c r mine e verb held odd named is = held.made.replication odd ∙ ap verb_or_beat (ap (λ t. if t then placed c r mine (place_after c r mine) else None) named ∙ is)
+made_verb c r mine e verb held odd named is = elim (made_led held.zeal c r mine e.verb (held.made.replication odd)) [
+  | inl listed ↦ listed ∙ ap verb_or_beat (ap (λ t. if t then placed c r mine (place_after c r mine) else None) named ∙ is)
+  | inr caught ↦ absurd (true≢false (sym named ∙ caught.unnamed))
+]
 
 -- and the next place follows; another turn leaves the place, or begins again
 abbrev follows : Config → ℕ → List Event → Event → Place → Place
