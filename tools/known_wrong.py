@@ -25,6 +25,7 @@ import refused_memory
 import rules
 import second_judge
 import stop_jobs
+import surface
 import trying
 from judged_table import judged
 from programs import EXAMPLES, TOP
@@ -52,7 +53,9 @@ WRONG_REPORTS = [
 ]
 # The least that there is of each kind: a judge that looks at nothing finds nothing.
 LEAST_NAMED, LEAST_JUDGED, LEAST_BOUND, LEAST_VERDICTS = 1000, 200, 300, 150
-LEAST_FIGURES = 200
+LEAST_FIGURES, LEAST_SHOWN = 200, 100
+# Two lemmas, of which nothing cites the first.
+LEMMAS = "pub idle : (n : Nat) -> n = n\nidle zero = refl\nidle (suc n) = idle n\n\npub used : A\nused = x\n\nlast : A\nlast = used\n"
 # A page, what stands in it, and what would be stale.
 WRONG_FIGURES = [
     ("docs/ALIVE.md", "| 3 | 580 | 166 | 912 |", "| 3 | 580 | 166 | 913 |"),
@@ -185,6 +188,13 @@ def tells_figures():
             yield len(figures.judged()[1]) == 1
 
 
+def tells_uncited_lemmas():
+    """A lemma that only itself cites is told, and one that another cites isn't."""
+    yield not surface.cited_beside(LEMMAS, "idle")
+    yield surface.cited_beside(LEMMAS, "used")
+    yield surface.judged()[0] >= LEAST_SHOWN
+
+
 def tells_pages():
     """What a page names is found, and each page names something."""
     line, wanted = PAGE_LINE
@@ -257,7 +267,7 @@ def tells_refused_memory():
 
 
 JUDGES = [tells_failures, tells_answers, tells_sums, tells_missing_answers, tells_statuses, tells_reports, tells_bounds,
-          tells_own_traces, tells_pages, tells_figures, tells_stored_inputs, tells_rules, tells_breaks, tells_refused_memory, tells_finishers,
+          tells_own_traces, tells_pages, tells_figures, tells_uncited_lemmas, tells_stored_inputs, tells_rules, tells_breaks, tells_refused_memory, tells_finishers,
           tells_costs, tells_stale_definitions]
 
 

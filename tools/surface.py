@@ -1,13 +1,15 @@
 #!/usr/bin/env python3
-"""Prints what a crate shows to other crates and no other crate uses.
+"""Prints what a crate shows to other crates and no other crate uses, and lemmas that nothing cites.
 
-    tools/surface.py        a line for each; the last line is `surface: N shown, N unused, N hidden`
+    tools/surface.py        a line for each; the last line is `surface: N shown, N unused, N hidden, N uncited`
 
 Looked at are lemma files (`pub mod` in proofs/Lib.antt, used by an import of the file), and what
 src/lib.rt shows of other crates (`pub use other::..`, used by an import of the name from this crate). A
-lemma file that is `mod` but that another crate imports is hidden, and that crate won't be proved. The
-status is 1 if something is unused or hidden.
+lemma file that is `mod` but that another crate imports is hidden, and that crate won't be proved. A lemma
+is cited if its name stands in some source beside its own lines; proofs of goals are cited by the prover, and
+examples by nobody. The status is 1 if something is unused, hidden or uncited.
 """
+import collections
 import os
 import re
 import sys
@@ -15,17 +17,29 @@ import sys
 TOP = os.path.dirname(os.path.dirname(os.path.realpath(__file__)))
 CRATES = os.path.join(TOP, "crates")
 LEMMA_FILE = re.compile(r"Rattle\.(\w+)\.proofs\.(\w+)")
+# Files of proofs whose names the prover looks for, or that are examples.
+OTHER_PROOFS = ("Answers.antt", "Invariants.antt", "Measures.antt", "Proof.antt", "Examples.antt")
+# Laws that functions are to cite next.
+AWAITED = {"stands_along"}
+LEMMA = re.compile(r"^(?:pub )?([A-Za-z_][\w'-]*) :", re.MULTILINE)
+WORD = re.compile(r"[A-Za-z_][\w'-]*")
 NAMES = re.compile(r"\b(\w+)::(\{[^}]*\}|\w+)")
 
 
-def texts(crate):
-    """Every source of a crate."""
+def sources(crate):
+    """The path and the text of every source of a crate."""
     for folder, below, names in os.walk(os.path.join(CRATES, crate)):
         below[:] = [it for it in below if it != "out"]
-        for name in names:
+        for name in sorted(names):
             if name.endswith((".rt", ".antt", ".edit")):
-                with open(os.path.join(folder, name), encoding="utf-8") as text:
-                    yield text.read()
+                path = os.path.join(folder, name)
+                with open(path, encoding="utf-8") as text:
+                    yield path, text.read()
+
+
+def texts(crate):
+    """The text of every source of a crate."""
+    return (text for _, text in sources(crate))
 
 
 def contents(crate, *path):
@@ -65,8 +79,28 @@ def hidden(crate):
         yield name, f"crates/{crate}/proofs/{name}.antt: hidden, but imported"
 
 
+def cited_beside(text, name):
+    """Whether a name stands in a text outside the lines of its own declaration."""
+    own = rf"(?ms)^(?:pub )?{re.escape(name)}(?![\w'-]).*?(?=^\S)"
+    return name in WORD.findall(re.sub(own, "", text + "\nend"))
+
+
+def uncited(crates):
+    """Lemmas that nothing cites."""
+    all_sources = [it for crate in crates for it in sources(crate)]
+    counts = collections.Counter()
+    for _, text in all_sources:
+        counts.update(WORD.findall(text))
+    for path, text in all_sources:
+        if f"{os.sep}proofs{os.sep}" in path and not path.endswith(OTHER_PROOFS):
+            here = collections.Counter(WORD.findall(text))
+            for name in set(LEMMA.findall(text)) - AWAITED:
+                if counts[name] == here[name] and not cited_beside(text, name):
+                    yield f"{os.path.relpath(path, TOP)}: {name} is cited nowhere"
+
+
 def judged():
-    """How much is shown, what of it is unused, and what is hidden but imported."""
+    """How much is shown, what of it is unused, what is hidden but imported, and which lemmas nothing cites."""
     crates = sorted(os.listdir(CRATES))
     used = used_by(crates)
 
@@ -76,15 +110,15 @@ def judged():
     all_shown = [(crate, name, where) for crate in crates for name, where in shown(crate)]
     unused = [where for crate, name, where in all_shown if not others(crate, name)]
     missing = [where for crate in crates for name, where in hidden(crate) if others(crate, name)]
-    return len(all_shown), unused, missing
+    return len(all_shown), unused, missing, list(uncited(crates))
 
 
 def main():
-    count, unused, missing = judged()
-    for where in unused + missing:
+    count, unused, missing, idle = judged()
+    for where in unused + missing + idle:
         print(where)
-    print(f"surface: {count} shown, {len(unused)} unused, {len(missing)} hidden")
-    return 1 if unused or missing else 0
+    print(f"surface: {count} shown, {len(unused)} unused, {len(missing)} hidden, {len(idle)} uncited")
+    return 1 if unused or missing or idle else 0
 
 
 if __name__ == "__main__":

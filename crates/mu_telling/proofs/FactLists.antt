@@ -32,12 +32,6 @@ given_next had all now r f x before added is =
     ∙ (ap (λ l. grown l x) before
     ∙ (grown_append had (given_below r f) x ∙ (ap (λ y. had ++ grown (given_below r f) y) is ∙ ap (λ n. had ++ given_below n f) next)))
 
--- one more list
-pub joined_next : {A : Type 0} (had all now : List A) (r : ℕ) (f : ℕ → List A) → all ≡ had ++ joined_below r f → now ≡ all ++ f r → now ≡ had ++ joined_below (r + 1) f
-joined_next had all now r f before added =
-    let next : suc r ≡ r + 1 = omega arith in
-    added ∙ (ap (λ l. l ++ f r) before ∙ (append_assoc had (joined_below r f) (f r) ∙ ap (λ n. had ++ joined_below n f) next))
-
 -- two facts, and two lists after them
 pub two_and_two : {A : Type 0} (old one two three four : List A) (x y : A) (a b : List A) → one ≡ old ++ x ∷ [] → two ≡ one ++ y ∷ [] → three ≡ two ++ a → four ≡ three ++ b → four ≡ old ++ (x ∷ y ∷ (a ++ b))
 two_and_two old one two three four x y a b first second third fourth =
