@@ -8,7 +8,8 @@ import re
 from programs import TOP
 
 FILES = ("mu_model/specs/Bounds.antt", "mu_pace/specs/Watches.antt", "mu_alive/specs", "mu_cluster/specs")
-DEFINITION = re.compile(r"^abbrev pub (\w+) : Config (?:→ ℕ )?→ ℕ\n\1 c ?(\w*) =((?:[^\n]*\n)(?:    [^\n]*\n)*)", re.M)
+DEFINITION = re.compile(r"^abbrev pub (\w+) : Config (?:→ ℕ )?→ ℕ\n\1 c ?(\w*) =([^\n]*\n(?:    [^\n]*\n)*)",
+                        re.M)
 TOKEN = re.compile(r"\d+|[\w.]+|[-+*()]")
 MOST_BUDGET = 131_071
 
