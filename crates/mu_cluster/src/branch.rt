@@ -3,14 +3,15 @@ ghost use Rattle.std.specs.Prelude.{All, IfOk, None, Some, [], length, map, slic
 ghost use Rattle.std.specs.List.{slice_get};
 ghost use Rattle.mu_model.specs.Contents.{IsConfig};
 ghost use Rattle.mu_model.specs.declared.script.Script.{Script as SomeScript};
-ghost use Rattle.mu_node.specs.Beats.{ends_by_beat};
 ghost use Rattle.mu_node.specs.Node.{StandsForNode};
 ghost use Rattle.mu_node.specs.Turns.{IsTurn};
 ghost use Rattle.mu_outcome.specs.Turns.{rounds_paused as rounds_paused_of};
 ghost use Rattle.shared_fabric.specs.Gathering.{IsSamePort, PortValue};
 ghost use Rattle.mu_cluster.specs.declared.branch.Branch.{Branch as SomeBranch};
 ghost use Rattle.mu_cluster.specs.Branches.{Drives, IsDriven, IsFreshPort};
+ghost use Rattle.mu_cluster.specs.Silences.{IsSilence};
 
+use crate::resting::{Hearing, Rested};
 use crate::rounds::rounds_paused;
 use mu_gate::Gate;
 use mu_input::Job;
@@ -22,35 +23,14 @@ use std::alloc::Global;
 use std::sync::Wait;
 use std::thread;
 use std::thread::Threads;
+use std::time::Clock;
 
 /// A replica with a port of its own.
 #[derive(Drop)]
 pub(crate) struct Branch {
     node: Node,
     port: SharedPort,
-}
-
-/// How a thread let the others on before a turn of its replica.
-#[derive(Drop)]
-struct Rested {
-    /// For how many rounds of a pause.
-    paused: u32,
-    /// Whether for a beat.
-    beaten: bool,
-}
-
-/// Lets the other threads on: once for each round of a pause, and once for a beat.
-fn rest(paused: u32, beaten: bool) -> Rested
-    ensures paused { result.paused ≡ paused }
-    ensures beaten { result.beaten ≡ beaten }
-{
-    for _ in 0..paused {
-        thread::yield_now();
-    }
-    if beaten {
-        thread::yield_now();
-    }
-    Rested { paused, beaten }
+    hearing: Hearing,
 }
 
 /// The next turn of a replica that let the others on as its script and its last step have it.
@@ -59,7 +39,8 @@ fn turn_rested(node: &mut Node, port: &mut SharedPort, script: &Script, rested: 
     requires stands { StandsForNode port.old.config port.old.id port.old.part node.old }
     requires paused { rested.now.paused
         ≡ rounds_paused_of script.now.pauses port.old.id (length port.old.part) }
-    requires beaten { rested.now.beaten ≡ ends_by_beat port.old.part }
+    requires silence { IsSilence port.old.config.replicas port.old.id port.old.part
+        rested.now.silence }
     ensures stands { StandsForNode port.new.config port.new.id port.new.part node.new }
     ensures same { IsSamePort port.old port.new }
     ensures stops { node.new.stops ≡ node.old.stops }
@@ -70,26 +51,30 @@ fn turn_rested(node: &mut Node, port: &mut SharedPort, script: &Script, rested: 
 }
 
 /// Turns of one replica until its journal has an end. It lets the others on at a pause and after a
-/// beat; nothing here waits for another replica.
-fn drive<R: Wait, G: Gate>(rt: &R, branch: &mut Branch, script: &Script, gate: &G)
+/// read of beats that finds no new one; nothing here waits for another replica.
+fn drive<R: Wait + Clock, G: Gate>(rt: &R, branch: &mut Branch, script: &Script, gate: &G)
     requires { Drives script.now branch.old }
     ensures { IsDriven script.now branch.old branch.new }
 {
-    let Branch { node, port } = branch;
+    let Branch {
+        node,
+        port,
+        hearing,
+    } = branch;
     for _ in rt.forever() {
         let steps = node.steps();
         let paused = rounds_paused(script.pauses.as_slice(), node.id(), steps);
-        let rested = rest(paused, node.has_beaten());
+        let rested = hearing.rest(rt, paused);
         gate.pass(node.id(), steps);
         match turn_rested(node, port, script, &rested) {
-            Turn::Took(_) => {}
+            Turn::Took(_) => hearing.take_last(port.part()),
             Turn::Ended(_) => break,
         }
     }
 }
 
 /// The turns of all replicas, each in a thread of its own.
-fn drive_all<R: Threads + Wait + Sync, G: Gate + Sync>(
+fn drive_all<R: Threads + Wait + Clock + Sync, G: Gate + Sync>(
     rt: &R,
     branches: &mut [Branch],
     script: &Script,
@@ -112,7 +97,7 @@ fn drive_all<R: Threads + Wait + Sync, G: Gate + Sync>(
 }
 
 /// The replicas after all their turns.
-pub(crate) fn driven<R: Threads + Wait + Sync, G: Gate + Sync>(
+pub(crate) fn driven<R: Threads + Wait + Clock + Sync, G: Gate + Sync>(
     rt: &R,
     mut branches: Vec<Branch>,
     script: &Script,
@@ -143,8 +128,14 @@ pub(crate) fn branches(
 {
     let mut branches = Vec::with_capacity(alloc, ports.len())?;
     for port in ports {
-        let node = Node::new(alloc, job, port.id())?;
-        branches.push_reserved(Branch { node, port });
+        let id = port.id();
+        let node = Node::new(alloc, job, id)?;
+        let hearing = Hearing::new(job.config.replicas, id);
+        branches.push_reserved(Branch {
+            node,
+            port,
+            hearing,
+        });
     }
     Ok(branches)
 }
@@ -161,7 +152,11 @@ pub(crate) fn parted(
     ensures ports { result.1.items ≡ map (λ b. b.port) branches.items }
 {
     for branch in branches {
-        let Branch { node, port } = branch;
+        let Branch {
+            node,
+            port,
+            hearing: _,
+        } = branch;
         nodes.push_reserved(node);
         ports.push_reserved(port);
     }
