@@ -16,7 +16,7 @@ use crate::rounds::rounds_paused;
 use mu_gate::Gate;
 use mu_input::Job;
 use mu_model::{NoMemory, Script};
-use mu_node::{Node, Turn};
+use mu_node::{Node, Turn, Zeal};
 use mu_port::Port;
 use shared_fabric::SharedPort;
 use std::alloc::Global;
@@ -129,7 +129,7 @@ pub(crate) fn branches(
     let mut branches = Vec::with_capacity(alloc, ports.len())?;
     for port in ports {
         let id = port.id();
-        let node = Node::new(alloc, job, id)?;
+        let node = Node::new(alloc, job, id, Zeal::Eager)?;
         let hearing = Hearing::new(job.config.replicas, id);
         branches.push_reserved(Branch {
             node,
