@@ -4,6 +4,7 @@ pub mod Books
 pub mod Facts
 pub mod Lives
 pub mod Printing
+pub mod Prints
 pub mod Reasons
 pub mod Report
 pub mod Said

@@ -10,6 +10,7 @@ mod line;
 mod lives;
 mod misreads;
 mod page;
+mod printer;
 mod reasons;
 mod report;
 mod said;
