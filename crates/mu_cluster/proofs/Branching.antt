@@ -14,16 +14,13 @@ use Rattle.mu_model.specs.Legal.{IsLegal}
 use Rattle.mu_model.specs.Parts.{HasParts}
 use Rattle.mu_model.proofs.Basics.{same_some}
 use Rattle.mu_model.proofs.Parts.{history-part}
-use Rattle.mu_lead.specs.declared.note.Note.{Note}
 use Rattle.mu_node.specs.declared.node.Node.{Node}
 use Rattle.mu_node.specs.declared.turn.Turn.{Turn}
 use Rattle.mu_node.specs.Node.{StandsForNode}
 use Rattle.mu_node.specs.Turns.{IsTurn}
 use Rattle.shared_fabric.specs.Gathering.{AreOfOneList, Collected, IsSamePort, PortValue}
-use Rattle.mu_cluster.specs.declared.resting.Hearing.{Hearing}
 use Rattle.mu_cluster.specs.Branches.{Drives, Goes, HasEnd, IsFreshPort}
 use Rattle.mu_cluster.specs.Rounds.{EndsNowhereBefore, part_of}
-use Rattle.mu_cluster.specs.Silences.{Hears}
 use Rattle.mu_cluster.proofs.Seats.{next_before}
 
 -- no beginning of no events has an end before them
@@ -44,27 +41,16 @@ At p P = P p.config p.id
 moved : (p q : PortValue) (P : Config → ℕ → Type 0) → IsSamePort p q → At p P → At q P
 moved p q P same held = subst (λ k. P k q.id) (sym same.config) (subst (λ i. P p.config i) (sym same.id) held)
 
--- what is heard after a step
-pub heard_step : (script : Script) (p q : PortValue) (note : Note) (new : Hearing) → IsTurn p.config script p.id p.part q.part None None (Turn.Took note) → ((e : Event) → q.part ≡ e ∷ p.part → Hears p.config.replicas p.id (e ∷ p.part) new) → Hears p.config.replicas p.id q.part new
-heard_step script p q note new told taken =
-    let e : Event = record { by = p.id; verb = told.1.verb; answer = told.1.answer } in
-    subst (λ l. Hears p.config.replicas p.id l new) (sym told.1.part) (taken e told.1.part)
-
--- what was heard before a turn without a step
-pub heard_end : (script : Script) (p q : PortValue) (end : End) (hearing : Hearing) → IsTurn p.config script p.id p.part q.part None None (Turn.Ended end) → Hears p.config.replicas p.id p.part hearing → Hears p.config.replicas p.id q.part hearing
-heard_end script p q end hearing told hears = subst (λ l. Hears p.config.replicas p.id l hearing) (sym told.1) hears
-
 -- a branch after a turn
-pub turned_on : (script : Script) (p q : PortValue) (old new : Node) (heard hears : Hearing) (turn : Turn) → Drives script (record { node = old; port = p; hearing = heard }) → IsSamePort p q → StandsForNode q.config q.id q.part new → new.stops ≡ old.stops
-    → IsTurn p.config script p.id p.part q.part None None turn → Hears p.config.replicas p.id q.part hears → Drives script (record { node = new; port = q; hearing = hears })
-turned_on script p q old new heard hears turn was same stands stops told now = record {
+pub turned_on : (script : Script) (p q : PortValue) (old new : Node) (turn : Turn) → Drives script (record { node = old; port = p }) → IsSamePort p q → StandsForNode q.config q.id q.part new → new.stops ≡ old.stops
+    → IsTurn p.config script p.id p.part q.part None None turn → Drives script (record { node = new; port = q })
+turned_on script p q old new turn was same stands stops told = record {
   config = moved p q (λ k i. IsConfig k) same was.config;
   goes = record {
     stands = stands;
     stops = ap (λ v. v.items) stops ∙ was.goes.stops;
     before = moved p q (λ k i. EndsNowhereBefore k script i q.part) same (before_after p.config script p.id p.part q.part None None turn was.goes.before told);
   };
-  hears = moved p q (λ k i. Hears k.replicas i q.part hears) same now;
 }
 
 -- the turn that finds the end
@@ -75,12 +61,11 @@ pub same_same : (p q s : PortValue) → IsSamePort p q → IsSamePort q s → Is
 same_same p q s a b = record { table = b.table ∙ a.table; config = b.config ∙ a.config; id = b.id ∙ a.id }
 
 -- a branch before any step
-pub first_drives : (c : Config) (script : Script) (r : ℕ) (p : PortValue) (node : Node) (hearing : Hearing) → IsConfig c → IsFreshPort c r p → StandsForNode c p.id [] node → node.stops.items ≡ script.stops → Hears c.replicas p.id [] hearing → Drives script (record { node = node; port = p; hearing = hearing })
-first_drives c script r p node hearing good fresh stands stops hears = record {
+pub first_drives : (c : Config) (script : Script) (r : ℕ) (p : PortValue) (node : Node) → IsConfig c → IsFreshPort c r p → StandsForNode c p.id [] node → node.stops.items ≡ script.stops → Drives script (record { node = node; port = p })
+first_drives c script r p node good fresh stands stops = record {
   config = subst (λ k. IsConfig k) (sym fresh.config) good;
   goes = subst (λ k. Goes k script p.id p.part node) (sym fresh.config)
       (subst (λ l. Goes c script p.id l node) (sym fresh.empty) (record { stands = stands; stops = stops; before = none_before c script p.id }));
-  hears = subst (λ (k : Config). Hears k.replicas p.id p.part hearing) (sym fresh.config) (subst (λ l. Hears c.replicas p.id l hearing) (sym fresh.empty) hears);
 }
 
 -- a part in true order is the part of its list

@@ -6,7 +6,6 @@ mod Driven
 pub mod FewCommands
 mod Filling
 mod Finishing
-mod Heard
 mod InStep
 mod InTurn
 mod Lives

@@ -13,7 +13,6 @@ use Rattle.mu_node.specs.Node.{StandsForNode}
 use Rattle.shared_fabric.specs.Gathering.{IsSamePort, PortValue}
 use Rattle.mu_cluster.specs.declared.branch.Branch.{Branch}
 use Rattle.mu_cluster.specs.Rounds.{EndsNowhereBefore}
-use Rattle.mu_cluster.specs.Silences.{Hears}
 
 -- the node stands for these events of r, whose end is nowhere before
 pub record Goes (c : Config) (script : Script) (r : ℕ) (mine : List Event)
@@ -26,11 +25,10 @@ pub record Goes (c : Config) (script : Script) (r : ℕ) (mine : List Event)
 abbrev pub HasEnd : Config → Script → ℕ → List Event → Type 0
 HasEnd c script r mine = (end : End) × EndsBy c script r mine end
 
--- the node of a branch stands for the part of its port, and so does what its thread hears
+-- the node of a branch stands for the part of its port
 pub record Drives (script : Script) (b : Branch) : Type 0 where
   pub config : IsConfig b.port.config
   pub goes : Goes b.port.config script b.port.id b.port.part b.node
-  pub hears : Hears b.port.config.replicas b.port.id b.port.part b.hearing
 
 -- the branch at its end: the same port, and a part that has an end
 pub record IsDriven (script : Script) (b d : Branch) : Type 0 where

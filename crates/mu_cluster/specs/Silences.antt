@@ -1,29 +1,32 @@
--- silence, hears: by how much the score of another has fallen, if the last step read its beats and
--- found no new one; and what the thread of a replica keeps of that.
-use Rattle.std.specs.Prelude.{List, [], if◌then◌else◌, nat_lt, ℕ, ◌-◌, ◌<◌, ◌∷◌, ◌≡◌}
+-- silence: how many reads of another's beats in a row, up to the last step, found no new one.
+use Rattle.std.specs.Prelude.{List, None, Some, [], if◌then◌else◌, min, suc, ℕ, ◌==◌, ◌∷◌}
+use Rattle.std.specs.declared.option.Option.{Option}
+use Rattle.mu_model.specs.declared.event.Answer.{Answer}
 use Rattle.mu_model.specs.declared.event.Event.{Event}
 use Rattle.mu_model.specs.declared.event.Verb.{Verb}
-use Rattle.mu_model.specs.Scores.{score}
-use Rattle.mu_detect.specs.Stands.{StandsFor}
-use Rattle.mu_cluster.specs.declared.resting.Hearing.{Hearing}
 
--- the points that a score lacks after a read that lowered it
-abbrev pub points_lost : ℕ → ℕ → ℕ
-points_lost before after = if nat_lt after before then 15 - after else 0
+-- the count that a read of the beats of q found
+abbrev pub beats_found : ℕ → Verb → Answer → Option ℕ
+beats_found q (Verb.ReadBeat p) (Answer.Number x) = if p == q then Some x else None
+beats_found q _ _ = None
 
--- what a step of r, one of n replicas, shows: a read of the beats of q by how much its score has
--- fallen, and any other step nothing
-abbrev pub ShowsSilence : ℕ → ℕ → Verb → List Event → List Event → ℕ → Type 0
-ShowsSilence n r (Verb.ReadBeat q) past now k =
-    q < n → k ≡ points_lost (score r q past).0 (score r q now).0
-ShowsSilence n r _ past now k = k ≡ 0
+-- one more in a row, if this count was found; none, if another one was
+abbrev pub in_a_row : ℕ → Option ℕ → ℕ → ℕ
+in_a_row beats None before = before
+in_a_row beats (Some x) before = if x == beats then suc before else 0
 
--- what the last step of r shows
-abbrev pub IsSilence : ℕ → ℕ → List Event → ℕ → Type 0
-IsSilence n r [] k = k ≡ 0
-IsSilence n r (e ∷ past) k = ShowsSilence n r e.verb past (e ∷ past) k
+-- how many of the last reads of the beats of q, in a row, found this count
+abbrev pub reads_of : ℕ → ℕ → List Event → ℕ
+reads_of q beats [] = 0
+reads_of q beats (e ∷ past) =
+    in_a_row beats (beats_found q e.verb e.answer) (reads_of q beats past)
 
--- what is kept stands for the events of r, one of n replicas
-pub record Hears (n r : ℕ) (mine : List Event) (hearing : Hearing) : Type 0 where
-  pub scores : StandsFor n r mine hearing.scores
-  pub silence : IsSilence n r mine hearing.silence
+-- the silence that a step shows: the reads in a row before it that found what it found, up to 15
+abbrev pub silence_after : Verb → Answer → List Event → ℕ
+silence_after (Verb.ReadBeat q) (Answer.Number x) past = min 15 (reads_of q x past)
+silence_after _ _ past = 0
+
+-- the silence that the last step shows
+abbrev pub silence : List Event → ℕ
+silence [] = 0
+silence (e ∷ past) = silence_after e.verb e.answer past

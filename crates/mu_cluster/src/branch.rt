@@ -9,9 +9,9 @@ ghost use Rattle.mu_outcome.specs.Turns.{rounds_paused as rounds_paused_of};
 ghost use Rattle.shared_fabric.specs.Gathering.{IsSamePort, PortValue};
 ghost use Rattle.mu_cluster.specs.declared.branch.Branch.{Branch as SomeBranch};
 ghost use Rattle.mu_cluster.specs.Branches.{Drives, IsDriven, IsFreshPort};
-ghost use Rattle.mu_cluster.specs.Silences.{IsSilence};
+ghost use Rattle.mu_cluster.specs.Silences.{silence as silence_of};
 
-use crate::resting::{Hearing, Rested};
+use crate::resting::{Rested, rest, silence};
 use crate::rounds::rounds_paused;
 use mu_gate::Gate;
 use mu_input::Job;
@@ -30,7 +30,6 @@ use std::time::Clock;
 pub(crate) struct Branch {
     node: Node,
     port: SharedPort,
-    hearing: Hearing,
 }
 
 /// The next turn of a replica that let the others on as its script and its last step have it.
@@ -39,8 +38,7 @@ fn turn_rested(node: &mut Node, port: &mut SharedPort, script: &Script, rested: 
     requires stands { StandsForNode port.old.config port.old.id port.old.part node.old }
     requires paused { rested.now.paused
         ≡ rounds_paused_of script.now.pauses port.old.id (length port.old.part) }
-    requires silence { IsSilence port.old.config.replicas port.old.id port.old.part
-        rested.now.silence }
+    requires silence { rested.now.silence ≡ silence_of port.old.part }
     ensures stands { StandsForNode port.new.config port.new.id port.new.part node.new }
     ensures same { IsSamePort port.old port.new }
     ensures stops { node.new.stops ≡ node.old.stops }
@@ -56,18 +54,14 @@ fn drive<R: Wait + Clock, G: Gate>(rt: &R, branch: &mut Branch, script: &Script,
     requires { Drives script.now branch.old }
     ensures { IsDriven script.now branch.old branch.new }
 {
-    let Branch {
-        node,
-        port,
-        hearing,
-    } = branch;
+    let Branch { node, port } = branch;
     for _ in rt.forever() {
         let steps = node.steps();
         let paused = rounds_paused(script.pauses.as_slice(), node.id(), steps);
-        let rested = hearing.rest(rt, paused);
+        let rested = rest(rt, paused, silence(port.part()));
         gate.pass(node.id(), steps);
         match turn_rested(node, port, script, &rested) {
-            Turn::Took(_) => hearing.take_last(port.part()),
+            Turn::Took(_) => {}
             Turn::Ended(_) => break,
         }
     }
@@ -128,14 +122,8 @@ pub(crate) fn branches(
 {
     let mut branches = Vec::with_capacity(alloc, ports.len())?;
     for port in ports {
-        let id = port.id();
-        let node = Node::new(alloc, job, id, Zeal::Eager)?;
-        let hearing = Hearing::new(job.config.replicas, id);
-        branches.push_reserved(Branch {
-            node,
-            port,
-            hearing,
-        });
+        let node = Node::new(alloc, job, port.id(), Zeal::Eager)?;
+        branches.push_reserved(Branch { node, port });
     }
     Ok(branches)
 }
@@ -152,11 +140,7 @@ pub(crate) fn parted(
     ensures ports { result.1.items ≡ map (λ b. b.port) branches.items }
 {
     for branch in branches {
-        let Branch {
-            node,
-            port,
-            hearing: _,
-        } = branch;
+        let Branch { node, port } = branch;
         nodes.push_reserved(node);
         ports.push_reserved(port);
     }

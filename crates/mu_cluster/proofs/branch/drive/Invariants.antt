@@ -5,5 +5,5 @@ use Rattle.mu_cluster.proofs.branch.drive.Given as goal
 abbrev pub invariant-loop : goal.invariant-loop
 invariant-loop g l =
     (goal.iterator-loop g).can_next l.iterator' × (goal.iterator-loop g).is_finite l.iterator'
-    × Drives l.script (record { node = l.node; port = l.port; hearing = l.hearing })
+    × Drives l.script (record { node = l.node; port = l.port })
     × IsSamePort l.initial.port l.port
