@@ -198,7 +198,7 @@ class Replica:
         self.closed, self.target_looked, self.drained = None, False, False
         self.known, self.filled, self.own_entries = [], set(), set()
         self.wrote, self.words = set(), {}
-        self.scores, self.outrun = {}, None
+        self.scores, self.outrun, self.commits = {}, None, 0
 
     def failed(self, q):
         return not self.scores.get(q, (MOST_POINTS, True, 0))[1]
@@ -328,6 +328,7 @@ class Replica:
         leads = not now.over and number == now.number and self.has_quorum()
         if i == len(self.known) and leads and landed | {p} >= set(now.members):
             self.known.append(value)
+            self.commits += 1
             self.filled |= {(q, i) for q in landed}
 
     def take_fuo(self, words, answer, region):

@@ -18,8 +18,9 @@ FIRST = """//! Jobs with their books: the commands in the order of the log, and 
 //! program prints.
 //! `tools/book_table.py` makes this file.
 
-/// Client, number and line of each command; and the lines.
-pub(crate) type Case = (&'static [(u8, u16, &'static str)], &'static str);
+/// The commands, each with its client and number, with commas between them; and the lines of the
+/// book after them.
+pub(crate) type Case = (&'static str, &'static str);
 
 /// The first jobs; `more_order_cases` has the others."""
 
@@ -31,30 +32,44 @@ use crate::order_cases::Case;
 
 
 def commands(job, replay):
-    """The client, the number and the line of each command, in the order of the first log."""
+    """Each command with its client and number, in the order of the first log."""
     report = subprocess.run([replay, "replay"], input=job, capture_output=True, check=True).stdout
     for line in report.decode().split("\n")[2:]:
         if line.startswith(("log ", "replies ")):
             return
-        _, name, *words = line.split(" ")
-        client, number = name.split(".")
-        yield int(client), int(number), " ".join(words)
+        yield line.split(" ", 1)[1]
 
 
 def book(lines):
     """The lines of trades and resting orders."""
     start = next(at for at, line in enumerate(lines) if line.startswith("trades "))
-    return "".join(f"{line}\n" for line in lines[start:] if line and not line.startswith("status "))
+    return [line for line in lines[start:] if line and not line.startswith("status ")]
+
+
+def quoted(text):
+    """The text between the quotes of a literal."""
+    return json.dumps(text)[1:-1]
+
+
+def wrapped(listed):
+    """The literal of a list of commands, in lines of at most 95 columns."""
+    lines = [""]
+    for at, command in enumerate(listed):
+        piece = quoted(command + ", " * (at + 1 < len(listed)))
+        if len(lines[-1]) + len(piece) > 85:
+            lines.append("")
+        lines[-1] += piece
+    return '"' + "\\\n         ".join(lines) + '"'
 
 
 def table(name, head, cases, replay):
     """The text of one file."""
     lines = [head, f"pub(crate) const {name}: [Case; {len(cases)}] = ["]
     for case in cases:
-        lines.append("    (&[")
-        for client, number, line in commands(case.with_suffix("").read_bytes(), replay):
-            lines.append(f"        ({client}, {number}, {json.dumps(line)}),")
-        lines.append(f"    ], {json.dumps(book(case.read_text().split(chr(10))))}),")
+        listed = list(commands(case.with_suffix("").read_bytes(), replay))
+        lines += ["    (", f"        {wrapped(listed)},", '        "\\']
+        lines += [f"            {quoted(line)}\\n\\" for line in book(case.read_text().split("\n"))]
+        lines += ['        ",', "    ),"]
     return "\n".join([*lines, "];", ""])
 
 

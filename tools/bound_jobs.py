@@ -29,7 +29,7 @@ def cycle(replicas):
 
 
 def calm(replicas, batch, positions):
-    """`calm_steps`: what a leader takes at most until it knows so many positions."""
+    """`calm_steps`: what a leader takes at most until it knows this number of positions."""
     return (13 * replicas + 8 + 12 * batch) * (positions + 1) + 6 * replicas + 8 * replicas * positions
 
 

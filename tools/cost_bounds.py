@@ -31,7 +31,7 @@ RUNS = [
 # Two rows of which the first takes less time than the other, and how many times that it may take. If
 # leaders search all rows for a client's next batch, it takes about three times as many instructions.
 COMPARED = ("unequal", "7x1500", 1.5)
-# The least time of so many runs is taken.
+# A row is run this often, and the least time is taken.
 TIMED_RUNS = 7
 KILOBYTE = 1024
 # The most that is tried, in kB.
@@ -41,7 +41,7 @@ COUNT = len(RUNS) + 1
 
 
 def ends(program, words, given, most):
-    """Whether the program ends with a report within so many kB."""
+    """Whether the program ends with a report within `most` kB."""
     def limit():
         resource.setrlimit(resource.RLIMIT_AS, (most * KILOBYTE, most * KILOBYTE))
     done = subprocess.run([program, *words], input=given, stdout=subprocess.DEVNULL, stderr=subprocess.DEVNULL,

@@ -18,6 +18,7 @@ from unittest import mock
 import bound_jobs
 import cost_bounds
 import definitions
+import figures
 import own_traces
 import pages
 import refused_memory
@@ -51,6 +52,14 @@ WRONG_REPORTS = [
 ]
 # The least that there is of each kind: a judge that looks at nothing finds nothing.
 LEAST_NAMED, LEAST_JUDGED, LEAST_BOUND, LEAST_VERDICTS = 1000, 200, 300, 150
+LEAST_FIGURES = 200
+# A page, what stands in it, and what would be stale.
+WRONG_FIGURES = [
+    ("docs/ALIVE.md", "| 3 | 580 | 166 | 912 |", "| 3 | 580 | 166 | 913 |"),
+    ("docs/ALIVE.md", "gain_steps        = 8 n + 90", "gain_steps        = 8 n + 91"),
+    ("docs/FORMATS.md", "b from 1 to 131,071", "b from 1 to 131,072"),
+    ("docs/FORMATS.md", "at most 100 lines of the script", "a hundred lines of the script"),
+]
 # How many jobs of stops there are: each family of them is whole.
 STOP_JOBS = 2463
 # A line of a page, and what it names.
@@ -164,6 +173,18 @@ def tells_own_traces():
     yield all(own_traces.RUNS.values())
 
 
+def tells_figures():
+    """A figure of a table, of a formula and of a sentence that isn't right any more is told, and none else."""
+    yield figures.judged()[0] >= LEAST_FIGURES
+    read = figures.contents
+    for page, stands, wrong in WRONG_FIGURES:
+        def changed(path, page=page, stands=stands, wrong=wrong):
+            text = read(path)
+            return text.replace(stands, wrong) if path == page else text
+        with mock.patch.object(figures, "contents", changed):
+            yield len(figures.judged()[1]) == 1
+
+
 def tells_pages():
     """What a page names is found, and each page names something."""
     line, wanted = PAGE_LINE
@@ -236,7 +257,7 @@ def tells_refused_memory():
 
 
 JUDGES = [tells_failures, tells_answers, tells_sums, tells_missing_answers, tells_statuses, tells_reports, tells_bounds,
-          tells_own_traces, tells_pages, tells_stored_inputs, tells_rules, tells_breaks, tells_refused_memory, tells_finishers,
+          tells_own_traces, tells_pages, tells_figures, tells_stored_inputs, tells_rules, tells_breaks, tells_refused_memory, tells_finishers,
           tells_costs, tells_stale_definitions]
 
 

@@ -6,7 +6,7 @@
 Of each job it tells the events, the instructions of the whole process and those of an event, as
 `valgrind --tool=callgrind` counts them, which doesn't vary with the load of the machine. With
 --before another program is counted beside it, and both have to write the same bytes. With --wall it
-also tells the least time of so many runs, in milliseconds: a page fault, a write and a yield don't
+also tells the least time of RUNS runs, in milliseconds: a page fault, a write and a yield don't
 show in instructions. NAMES are the rows to measure, all where none is named.
 """
 import argparse

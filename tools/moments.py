@@ -3,84 +3,53 @@
 says of the whole one, with an account of its own.
 
     tools/moments.py TRACE [TRACE ..]             1,000 moments in all, by the proved program or an unproved build
-    tools/moments.py --count N TRACE [TRACE ..]   so many
+    tools/moments.py --count N TRACE [TRACE ..]   N moments
 
 It shares nothing with the program: what a region holds, what a replica knows, has applied, committed and
-replied, what its leadership has come to, and how it has ended so far, is computed anew from the events, as
-docs/PROTOCOL.md and docs/FORMATS.md say (with what tools/picture_cases.py knows of a replica).
+replied, what its leadership has come to, and how it has ended so far, is computed anew from the events
+(tools/account.py), as docs/PROTOCOL.md and docs/FORMATS.md say.
 """
 import os
 import random
 import sys
 
-import picture_cases
 import programs
-import run_cases
 import trying
+from account import MARKS, PAYLOADS, Job
+from second_judge import Steps
 
 # Of the same traces the same moments are taken.
 SEED = 40
 
 
 class Trace:
-    """The job, and the events as lines and in words."""
+    """The job, and the events as lines."""
 
     def __init__(self, text):
         lines = text.split("\n")
         end = lines.index("end")
         self.head = lines[:end + 1]
-        self.job = picture_cases.Job(lines[:end])
-        self.ring = int(lines[2].split()[1])
+        self.job = Job.of(lines[:end])
+        # No other line of a job begins so.
+        stops = (line.split(" ") for line in lines[:end] if line.startswith("stop "))
+        self.stops = {int(replica): int(steps) for _, replica, steps in stops}
         self.events = [line for line in lines[end + 1:] if line not in ("", "end")]
 
     def cut(self, count):
-        """The trace of the first so many events."""
+        """The trace of the first `count` events."""
         return "\n".join([*self.head, *self.events[:count], "end", ""])
 
 
-class Region:
-    """What one region holds."""
-
-    def __init__(self):
-        self.owner, self.grant, self.closing, self.target = "none", 0, False, "none"
-        self.minimum, self.log, self.fuo, self.head, self.beats, self.asks = 0, [], 0, 0, 0, {}
-
-    def lines(self, p, job, ring):
-        """What is shown of it: of its log the entries that a look finds, which the ring still holds."""
-        state = "closing" if self.closing else "open"
-        yield f"region {p} fence {self.owner} {self.grant} {state} {self.target}"
-        yield f"region {p} min {self.minimum} fuo {self.fuo} head {self.head} beats {self.beats}"
-        for w in range(job.replicas):
-            if w in self.asks:
-                yield f"region {p} asks of {w}: {self.asks[w]}"
-        for i in range(max(0, len(self.log) - ring), len(self.log)):
-            yield f"region {p} log {i} entry {' '.join(self.log[i])}"
-
-
-def change(regions, r, verb, answer):
-    """What a step of replica r changes in the regions, as the words of the trace say."""
-    kind, own = verb[0], regions[r]
-    if kind == "ask":
-        asks = regions[int(verb[1])].asks
-        asks[r] = asks.get(r, 0) + 1
-    elif kind == "close":
-        own.closing = True
-    elif kind == "grant":
-        own.owner, own.grant, own.closing, own.target = verb[1], own.grant + 1, False, "none"
-    elif kind == "enter" and answer[0] == "entered":
-        regions[int(verb[1])].target = " ".join(verb[2:])
-    elif kind == "putmin" and answer[0] == "done":
-        regions[int(verb[1])].minimum = int(verb[2])
-    elif kind == "putslot" and answer[0] == "done":
-        log, i = regions[int(verb[1])].log, int(verb[2])
-        log[i:i + 1] = [verb[3:5]]
-    elif kind == "raisefuo":
-        region = regions[int(verb[1])]
-        region.fuo = max(region.fuo, int(verb[2]))
-    elif kind == "raisehead":
-        own.head = max(own.head, int(verb[1]))
-    elif kind == "beat":
-        own.beats += 1
+def region_lines(p, region, ring):
+    """What is shown of a region: of its log the entries that a look finds, which the ring still holds."""
+    yield f"region {p} fence {' '.join(map(str, region.fence()))}"
+    yield f"region {p} min {region.minimum} fuo {region.fuo} head {region.head} beats {region.beats}"
+    for w, asks in enumerate(region.asks):
+        if asks:
+            yield f"region {p} asks of {w}: {asks}"
+    for i in range(max(0, len(region.log) - ring), len(region.log)):
+        number, value = region.log[i]
+        yield f"region {p} log {i} entry {number} {value}"
 
 
 class Moment:
@@ -88,93 +57,95 @@ class Moment:
 
     def __init__(self, trace):
         self.trace, self.job = trace, trace.job
-        self.replicas = [picture_cases.Replica() for _ in range(self.job.replicas)]
-        self.regions = [Region() for _ in range(self.job.replicas)]
-        self.commits = [0] * self.job.replicas
-        self.outrun = [None] * self.job.replicas
+        self.steps = Steps(trace.job)
+        self.replicas, self.regions = self.steps.replicas, self.steps.memory.regions
         self.taken = 0
 
-    def take(self, line):
-        left, answer = line.split(" = ")
-        by, *verb = left.split(" ")
-        r, answer = int(by), answer.split(" ")
-        replica = self.replicas[r]
-        if verb[0] == "look" and answer[0] == "past" and len(replica.known) <= int(verb[2]) and not self.outrun[r]:
-            self.outrun[r] = f"outrun {verb[1]} {verb[2]}"
-        change(self.regions, r, verb, answer)
-        taught, _ = picture_cases.step(self.job, replica, r, verb, answer)
-        if taught is not None and verb[0] == "putslot":
-            self.commits[r] += 1
-        replica.steps += 1
-        self.taken += 1
-
-    def rows(self, value):
-        """The rows of an entry; a mark has none."""
-        row = value % 4096
-        if self.job.version == 2 and row >= 4080:
-            return range(0)
-        return range(row, row + self.job.rests[row] + 1)
+    def take_to(self, count):
+        """Takes the events up to there, which have to be legal."""
+        broken = self.steps.first_break(self.trace.events[self.taken:count])
+        if broken:
+            raise SystemExit(f"event {self.taken + broken[0]} may not come: {broken[1]}")
+        self.taken = count
 
     def log(self, r):
         """What a replica has applied: what it knows, up to the first entry that it lacks a word of."""
-        replica, log = self.replicas[r], []
-        for value in replica.known:
-            if not all((value // 4096, row, word) in replica.words for row in self.rows(value) for word in range(12)):
+        return self.replicas[r].known[:self.replicas[r].applied()]
+
+    def has_finished(self, r):
+        """Whether it applied all commands, and each other one did too, or is failed."""
+        replica, entries, rows = self.replicas[r], 0, 0
+        for value in self.log(r):
+            if rows == len(self.job.rows):
                 break
-            log.append(value)
-        return log
+            entries, rows = entries + 1, rows + len(self.job.rows_of(value))
+        others = [q for q in range(self.job.replicas) if q != r and not replica.failed(q)]
+        heads = [self.regions[r].head, *(replica.heads.get(q, -1) for q in others)]
+        return rows == len(self.job.rows) and min(heads) >= entries
 
     def end(self, r):
         """How a replica has ended so far."""
         replica = self.replicas[r]
-        if self.job.stops.get(r) == replica.steps:
+        if self.trace.stops.get(r) == replica.steps:
             return "stopped"
         if replica.steps == self.job.budget:
             return "budget"
-        if self.outrun[r]:
-            return self.outrun[r]
-        return "finished" if replica.has_finished(self.job, r) else "running"
+        if replica.outrun:
+            return "outrun {} {}".format(*replica.outrun)
+        return "finished" if self.has_finished(r) else "running"
 
     def leadership(self, r):
         """What the last leadership of a replica has come to."""
         replica = self.replicas[r]
         if not replica.begun:
             return "none"
-        if replica.over:
+        if replica.now.over:
             return "over"
-        return "begun" if replica.number is None else f"number {replica.number}"
+        return "begun" if replica.now.number is None else f"number {replica.now.number}"
+
+    def replica_lines(self, r):
+        """What is shown of a replica."""
+        replica, others = self.replicas[r], [q for q in range(self.job.replicas) if q != r]
+        names = next(q for q in range(r + 1) if q == r or not replica.failed(q))
+        yield (f"replica {r} steps {replica.steps} known {len(replica.known)} applied {len(self.log(r))} "
+               f"names {names}")
+        yield f"replica {r} leadership {self.leadership(r)}"
+        yield from (f"replica {r} member {p}" for p in sorted(replica.now.members))
+        yield from (f"replica {r} failed {q}" for q in others if replica.failed(q))
+        yield from (f"replica {r} knows {i} value {value}" for i, value in enumerate(replica.known))
 
     def shown(self):
         """What is shown of the moment."""
         lines = [f"after {self.taken} of {len(self.trace.events)}"]
         for p, region in enumerate(self.regions):
-            lines += region.lines(p, self.job, self.trace.ring)
-        for r, replica in enumerate(self.replicas):
-            lines.append(f"replica {r} steps {replica.steps} known {len(replica.known)} applied {len(self.log(r))} "
-                         f"names {replica.named(r)}")
-            lines.append(f"replica {r} leadership {self.leadership(r)}")
-            lines += [f"replica {r} member {p}" for p in sorted(replica.joined)]
-            lines += [f"replica {r} failed {q}" for q in sorted(replica.failed)]
-            lines += [f"replica {r} knows {i} value {value}" for i, value in enumerate(replica.known)]
+            lines += region_lines(p, region, self.job.ring)
+        for r in range(self.job.replicas):
+            lines += self.replica_lines(r)
         return "\n".join([*lines, ""])
+
+    def commands(self, value):
+        """The client, the number and the text of each command of an entry; a mark has none."""
+        for row in self.job.rows_of(value):
+            client, number = self.job.of_row[row]
+            yield client, number, self.job.clients[client][number - 1]
+
+    def entry_lines(self, i, value):
+        """The lines of an entry of a log."""
+        commands = [f"{i} {client}.{number} {text}" for client, number, text in self.commands(value)]
+        return commands or [f"{i} gone {value % PAYLOADS - MARKS}"]
 
     def told(self):
         """The report, and its status."""
-        job, logs = self.job, [self.log(r) for r in range(self.job.replicas)]
-        lines = [f"report {job.version}"]
+        logs = [self.log(r) for r in range(self.job.replicas)]
+        lines = [f"report {self.job.version}"]
         for r, log in enumerate(logs):
-            lines.append(f"log {r} entries {len(log)} commits {self.commits[r]} {self.end(r)}")
-            for i, value in enumerate(log):
-                if not self.rows(value):
-                    lines.append(f"{i} gone {value % 4096 - 4080}")
-                for row in self.rows(value):
-                    client, number, command = job.commands[row]
-                    lines.append(f"{i} {client}.{number} {command}")
-        commands = [job.commands[row] for value in max(logs, key=len) for row in self.rows(value)]
+            lines.append(f"log {r} entries {len(log)} commits {self.replicas[r].commits} {self.end(r)}")
+            lines += [line for i, value in enumerate(log) for line in self.entry_lines(i, value)]
+        commands = [command for value in max(logs, key=len) for command in self.commands(value)]
         store = {}
         lines.append(f"replies {len(commands)}")
         lines += [f"{client}.{number} {reply_to(store, command)}" for client, number, command in commands]
-        status = 0 if len(commands) == len(job.commands) else 3
+        status = 0 if len(commands) == len(self.job.rows) else 3
         return "\n".join([*lines, f"status {status}", ""]), status
 
 
@@ -206,8 +177,7 @@ def cases_of(trace, name, counts):
     """Two cases for each of these moments: what is told and what is shown."""
     moment, cases, whole = Moment(trace), [], trace.cut(len(trace.events)).encode()
     for count in sorted(counts):
-        while moment.taken < count:
-            moment.take(trace.events[moment.taken])
+        moment.take_to(count)
         told, status = moment.told()
         cases.append(trying.Case(f"{name}, {count} events", ["tell"], trace.cut(count).encode(), told.encode(), status))
         cases.append(trying.Case(f"{name}, show {count}", ["show", str(count)], whole, moment.shown().encode(), 0))
@@ -215,7 +185,7 @@ def cases_of(trace, name, counts):
 
 
 def moments_of(paths, count):
-    """So many random moments of the traces, with what has to be told of each."""
+    """`count` random moments of the traces, with what has to be told of each."""
     chance, traces = random.Random(SEED), []
     for path in paths:
         with open(path, encoding="ascii") as source:

@@ -297,7 +297,7 @@ def deed_words(job, deed):
 
 
 def halt_of(job, r, steps, finishes):
-    """What befalls a replica after so many steps."""
+    """What befalls a replica once it has taken this number of steps."""
     if job.stops.get(r) == steps:
         return ("stop",)
     if steps == job.budget:
@@ -475,7 +475,7 @@ class Region:
 
 
 def stretch(count):
-    """The height of so many steps without a mark."""
+    """The height of `count` steps without a mark."""
     return 16 if count > 31 else count
 
 

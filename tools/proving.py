@@ -191,7 +191,7 @@ def prove_all(lanes, names):
 
 
 def proved(names, tries, at_once):
-    """Proves these crates in so many lanes; whether they are, and no source changed meanwhile."""
+    """Proves these crates in `at_once` lanes; whether they are proved, and no source changed meanwhile."""
     before = sources_sum()
     os.makedirs(os.path.join(TOP, "out"), exist_ok=True)
     with tempfile.TemporaryDirectory(prefix="lanes-", dir=os.path.join(TOP, "out")) as room:

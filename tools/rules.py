@@ -343,7 +343,7 @@ def mark_of_the_living(run):
 
 
 def one_client(version, replicas, count):
-    """A job of one client with so many commands."""
+    """A job of one client with `count` commands."""
     return lambda: Job(version, replicas, 8, [[f"put a {k}" for k in range(count)]])
 
 

@@ -47,8 +47,8 @@ class Steps:
             if point:
                 return index, point
             self.step(by, verb, *words)
-            if self.events[index] != event:
-                return index, "wrong answer: " + self.events[index]
+            if self.events[-1] != event:
+                return index, "wrong answer: " + self.events[-1]
         return None
 
 

@@ -15,7 +15,7 @@ use crate::rounds::rounds_paused;
 use mu_gate::Gate;
 use mu_input::Job;
 use mu_model::{NoMemory, Script};
-use mu_node::{Node, Turn};
+use mu_node::{Node, Turn, Zeal};
 use mu_port::Port;
 use shared_fabric::SharedPort;
 use std::alloc::Global;
@@ -143,7 +143,7 @@ pub(crate) fn branches(
 {
     let mut branches = Vec::with_capacity(alloc, ports.len())?;
     for port in ports {
-        let node = Node::new(alloc, job, port.id())?;
+        let node = Node::new(alloc, job, port.id(), Zeal::Eager)?;
         branches.push_reserved(Branch { node, port });
     }
     Ok(branches)

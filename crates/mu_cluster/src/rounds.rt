@@ -13,7 +13,7 @@ ghost use Rattle.mu_outcome.specs.Turns.{rounds_paused as rounds_paused_of};
 
 use mu_input::Job;
 use mu_model::{NoMemory, Pause};
-use mu_node::{Node, NodeResult, Turn};
+use mu_node::{Node, NodeResult, Turn, Zeal};
 use mu_port::{Memory, MemoryPort};
 use std::alloc::Global;
 
@@ -114,7 +114,7 @@ pub(crate) fn seats(alloc: Global, job: &Job) -> Result<Vec<Seat>, NoMemory>
 {
     let mut seats = Vec::with_capacity(alloc, usize::from(job.config.replicas))?;
     for id in 0..job.config.replicas {
-        seats.push_reserved(Seat::new(Node::new(alloc, job, id)?));
+        seats.push_reserved(Seat::new(Node::new(alloc, job, id, Zeal::Plain)?));
     }
     Ok(seats)
 }

@@ -62,7 +62,7 @@ not_false true e = refl
 not_false false e = absurd (true≢false e)
 
 -- the rows whose words are read are there
-row_there : (c : Config) (r : ℕ) (mine : List Event) (v : ℕ) → IsPossible c r mine → row_under_way mine ≡ Some v → (v / 4096 < c.replicas) × (v % 4096 < row_count c)
+pub row_there : (c : Config) (r : ℕ) (mine : List Event) (v : ℕ) → IsPossible c r mine → row_under_way mine ≡ Some v → (v / 4096 < c.replicas) × (v % 4096 < row_count c)
 row_there c r [] v possible is = absurd (none_some v is)
 row_there c r (e ∷ mine) v possible is = let s = parts_shorten_law c r mine e possible in go e.verb s.allowed.may is (row_there c r mine v s.before)
   where

@@ -1,3 +1,4 @@
+mod CatchingUp
 pub mod Due
 mod Full
 pub mod Handing

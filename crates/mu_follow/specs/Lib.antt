@@ -1,3 +1,4 @@
+pub mod CatchingUp
 pub mod Commits
 pub mod Completion
 pub mod Due

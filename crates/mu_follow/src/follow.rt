@@ -119,7 +119,7 @@ fn rows_had(fetching: &HeldRows, v: u16, n: u16) -> u16
 }
 
 /// The read of the first word of the first row of the entry that the replica doesn't have.
-fn missing_row(config: &Config, fetching: &HeldRows, v: u16) -> Option<Verb>
+pub(crate) fn missing_row(config: &Config, fetching: &HeldRows, v: u16) -> Option<Verb>
     ensures { (r : ℕ) → (mine : List Event) → IsConfig config.now
         → StandsForHeldRows config.now r mine fetching.now
         → result ≡ first_word_of config.now r mine (Some v) }
@@ -342,7 +342,7 @@ impl Follow {
     }
 
     /// The look at the next position of its own log, if it is decided.
-    fn look_next(&self) -> Option<Verb>
+    pub(crate) fn look_next(&self) -> Option<Verb>
         requires config { IsConfig self.now.config }
         ensures { (c : Config) → (r : ℕ) → (mine : List Event) → IsPossible c r mine
             → StandsForFollow c r mine self.now → result ≡ next_due c r mine }

@@ -78,10 +78,10 @@ same_number_place c r b mine now up reach written t a place at = refl
 led_place : (c : Config) (r : ℕ) (mine : List Event) (e : Event) → is_replication mine e ≡ true → is_named c r mine ≡ true → place_after c r (e ∷ mine) ≡ next_place c r (or_zero (proposal_number r mine)) (e ∷ mine) (tables_at c r (e ∷ mine)) e.answer (place_after c r mine)
 led_place c r mine e turn named = rw (turn, named) refl
 
-unnamed_place : (c : Config) (r : ℕ) (mine : List Event) (e : Event) → is_replication mine e ≡ true → is_named c r mine ≡ false → place_after c r (e ∷ mine) ≡ Place.Ask 0
+pub unnamed_place : (c : Config) (r : ℕ) (mine : List Event) (e : Event) → is_replication mine e ≡ true → is_named c r mine ≡ false → place_after c r (e ∷ mine) ≡ Place.Ask 0
 unnamed_place c r mine e turn other = rw (turn, other) refl
 
-turn_tables : (c : Config) (r : ℕ) (mine : List Event) (e : Event) → is_replication mine e ≡ true → tables_at c r (e ∷ mine) ≡ tables_with c r mine (e ∷ mine) (tables_at c r mine) e.verb e.answer
+pub turn_tables : (c : Config) (r : ℕ) (mine : List Event) (e : Event) → is_replication mine e ≡ true → tables_at c r (e ∷ mine) ≡ tables_with c r mine (e ∷ mine) (tables_at c r mine) e.verb e.answer
 turn_tables c r mine e turn = rw turn refl
 
 -- the background leaves the leader where it is

@@ -58,7 +58,7 @@ mod RoomsOnward
 mod RoomsOutrun
 mod RoomsPosition
 mod RoomsPutting
-mod RoomsQuiet
+pub mod RoomsQuiet
 mod RoomsRaising
 mod RoomsReading
 mod RoomsWriting

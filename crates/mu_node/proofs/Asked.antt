@@ -29,6 +29,7 @@ use Rattle.mu_lead.specs.Journal.{number_due, place_after, tables_at}
 use Rattle.mu_lead.specs.Standing.{verb_at}
 use Rattle.mu_pace.specs.Counters.{AtEachMoment, AtEachStep}
 use Rattle.mu_pace.proofs.Counting.{last_moment, moments_before, steps_before}
+use Rattle.mu_node.proofs.CatchingUp.{catches_reading, made_led, reading_fails}
 use Rattle.mu_node.specs.Cycle.{other_at, place_now}
 use Rattle.mu_node.specs.Due.{verb_or_beat}
 use Rattle.mu_node.specs.Journal.{WasMade}
@@ -64,7 +65,10 @@ of_lead test c r mine e held fails beat beats asks is = go (is_odd (length mine)
     read false false = asks (place_now c mine - c.replicas)
 
     go : (t : Bool) → is_odd (length mine) ≡ t → OfLead c r mine e held
-    go true odd = record { odd = odd; verb = named (leader c r mine == r) (held.made.replication odd) }
+    go true odd = elim (made_led held.zeal c r mine e.verb (held.made.replication odd)) [
+      | inl listed ↦ record { odd = odd; verb = named (leader c r mine == r) listed }
+      | inr caught ↦ absurd (true≢false (sym is ∙ reading_fails test e.verb (catches_reading c r mine e.verb caught.due) fails.replays.look fails.replays.row))
+    ]
     go false even =
         let made = held.made.background even in
         elim (cases_lt (place_now c mine) (host_place c 0)) [

@@ -35,7 +35,8 @@ use Rattle.mu_pace.specs.Counters.{AtEachStep}
 use Rattle.mu_pace.proofs.Counting.{steps_before}
 use Rattle.mu_node.specs.Due.{verb_or_beat}
 use Rattle.mu_node.specs.Journal.{WasMade}
-use Rattle.mu_node.proofs.Open.{IsStill, word_on}
+use Rattle.mu_node.proofs.CatchingUp.{made_led}
+use Rattle.mu_node.proofs.Open.{IsStill, under_caught, word_on}
 use Rattle.mu_node.proofs.Replaying.{IsAfter, IsAt, at_next, at_rest, last_whole, next_place}
 use Rattle.mu_lead.specs.Journal.{number_due, place_after, tables_at}
 use Rattle.mu_node.specs.Due.{listed_due}
@@ -160,8 +161,11 @@ reads_none : (c : Config) (b : ℕ) (values up written : List ℕ) (place : Plac
 reads_none c b values up written Place.Rest old = refl
 reads_none c b values up written place old = refl
 
-odd_keeps : (c : Config) (r : ℕ) (past : List Event) (e : Event) → WasMade c r past e → is_odd (length past) ≡ true → row_under_way (e ∷ past) ≡ row_under_way past
-odd_keeps c r past e held odd = ap (λ v. row_read v (row_under_way past)) (held.made.replication odd) ∙ none (leader c r past == r)
+odd_keeps : (c : Config) (r : ℕ) (past : List Event) (e : Event) → WasMade c r past e → completes_row c r past e ≡ false → is_odd (length past) ≡ true → (u : ℕ) → row_under_way past ≡ Some u → is_row_of c u (known c r past) ≡ true → has_row r u past ≡ false → row_under_way (e ∷ past) ≡ Some u
+odd_keeps c r past e held completes odd u under of_known missing = elim (made_led held.zeal c r past e.verb (held.made.replication odd)) [
+  | inl listed ↦ ap (λ v. row_read v (row_under_way past)) listed ∙ (none (leader c r past == r) ∙ under)
+  | inr caught ↦ under_caught c r u past e held.own caught under of_known missing completes
+]
   where
     none : (t : Bool) → row_read (verb_or_beat (if t then listed_due c r past else None)) (row_under_way past) ≡ row_under_way past
     none true = reads_none c (number_due r past) (known c r past) (tables_at c r past).up (tables_at c r past).written (place_after c r past) (row_under_way past)
@@ -174,7 +178,7 @@ still_fetching c r past e good possible held none low = record {
   rows = rows;
   words = λ u k had. word_on r u k e past had;
   same = ap (λ l. length (front (λ v. has_entry c r v (e ∷ past)) l)) more.1 ∙ front_stays (λ v. has_entry c r v past) (λ v. has_entry c r v (e ∷ past)) (known c r past) more.0 (λ i v at. entry_stays c r i v past e rows at) low;
-  under = λ odd. odd_keeps c r past e held odd;
+  under = λ odd. odd_keeps c r past e held none odd;
 }
   where
     more : (rest : List ℕ) × (known c r (e ∷ past) ≡ known c r past ++ rest)

@@ -21,6 +21,7 @@ use Rattle.mu_lead.specs.declared.place.Place.{Place}
 use Rattle.mu_lead.specs.Beside.{leads_at}
 use Rattle.mu_lead.specs.Journal.{due_after, number_due, place_after, tables_at}
 use Rattle.mu_lead.specs.Standing.{verb_at}
+use Rattle.mu_node.proofs.CatchingUp.{catches_reading, made_led, reading_fails}
 use Rattle.mu_node.specs.Cycle.{handed, other_at, place_now}
 use Rattle.mu_node.specs.Due.{verb_or_beat}
 use Rattle.mu_node.specs.Journal.{WasMade}
@@ -107,7 +108,10 @@ raises_to_all c r h mine e held raises = go (is_odd (length mine)) refl
     given d (Some verb) gives = host d verb (gives.given verb refl).0
 
     go : (t : Bool) → is_odd (length mine) ≡ t → min (length (applied c r mine)) (own_fuo r mine) ≤ h
-    go true odd = absurd (not_raised (due_after c r mine) h (led_none c r mine) (sym (held.made.replication odd) ∙ raises))
+    go true odd = elim (made_led held.zeal c r mine e.verb (held.made.replication odd)) [
+      | inl listed ↦ absurd (not_raised (due_after c r mine) h (led_none c r mine) (sym listed ∙ raises))
+      | inr caught ↦ absurd (true≢false (sym (ap is_head_raise_verb raises) ∙ reading_fails is_head_raise_verb e.verb (catches_reading c r mine e.verb caught.due) (λ p i. refl) (λ v k. refl)))
+    ]
     go false even =
         let made = held.made.background even in
         elim (cases_lt (place_now c mine) (host_place c 0)) [

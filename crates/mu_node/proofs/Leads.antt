@@ -1,6 +1,6 @@
 -- A leader with the other parts of its node: what keeps what it stands for, and what the node
 -- makes.
-use Rattle.std.proofs.Common.{◌≡◌, ◌∙◌, ◌==◌, ◌++◌, ◌+◌, ◌&&◌, ◌*◌, ◌-◌, ◌≢◌, ℕ, ◌<◌, eqb-true, Bool, true, false, List, [], ◌∷◌, ap, arith, length, refl, subst, sym, Some, None}
+use Rattle.std.proofs.Common.{inl, ◌≡◌, ◌∙◌, ◌==◌, ◌++◌, ◌+◌, ◌&&◌, ◌*◌, ◌-◌, ◌≢◌, ℕ, ◌<◌, eqb-true, Bool, true, false, List, [], ◌∷◌, ap, arith, length, refl, subst, sym, Some, None}
 use Rattle.std.specs.Prelude.{IfSome, if◌then◌else◌, nat_lt}
 use Rattle.std.proofs.Math.Bool.{and-false}
 use Rattle.std.specs.declared.option.Option.{Option}
@@ -38,7 +38,7 @@ use Rattle.mu_model.specs.Contents.{holds_all}
 use Rattle.mu_node.specs.Notes.{note_at}
 use Rattle.mu_node.specs.declared.node.Node.{Node}
 use Rattle.mu_node.specs.Cycle.{other_at, read_at}
-use Rattle.mu_node.specs.Due.{FitsLead, MayBeside, lead_due, verb_or_beat}
+use Rattle.mu_node.specs.Due.{FitsLead, IsIdle, MayBeside, lead_due, verb_or_beat}
 use Rattle.mu_node.specs.Node.{AwaitsBeside, HoldsBeside, HoldsWith, StandsForLead}
 use Rattle.mu_node.specs.Notes.{heed_note}
 use Rattle.mu_node.proofs.Moving.{event_by}
@@ -131,6 +131,10 @@ pub made_allowed : (c : Config) (r : ℕ) (mine : List Event) (due : Option Verb
 made_allowed c r mine None short inside may = record { budget = short; replica = inside; may = tt }
 made_allowed c r mine (Some verb) short inside may = may
 
+pub allowed_of : (c : Config) (r : ℕ) (mine : List Event) (due : Option Verb) → IfSome due (λ verb. Allowed c r mine verb × IsReplay false verb) → IfSome due (λ verb. Allowed c r mine verb)
+allowed_of c r mine None may = tt
+allowed_of c r mine (Some verb) may = may.0
+
 pub beside_allowed : (c : Config) (r : ℕ) (mine : List Event) (lead : Lead) (due : Option Verb) → length mine < c.budget → r < c.replicas → IfSome due (λ verb. MayBeside c r mine lead verb)
     → Allowed c r mine (verb_or_beat due) × (is_beside (leads_at lead.place) (verb_or_beat due) ≡ true)
 beside_allowed c r mine lead None short inside may = (record { budget = short; replica = inside; may = tt }, refl)
@@ -173,15 +177,15 @@ pub fits_led : (c : Config) (r : ℕ) (mine : List Event) (lead : Lead) (leads :
 fits_led c r mine lead true due verb fits is some = (fits.0, sym fits.1 ∙ some)
 fits_led c r mine lead false due verb fits is some = absurd (true≢false (sym is))
 
--- where none is, nothing is due
-pub fits_idle : (c : Config) (r : ℕ) (mine : List Event) (lead : Lead) (leads : Bool) (due : Option Verb) → FitsLead c r mine lead leads due → leads ≡ true → due ≡ None → lead_due c r mine lead ≡ None
-fits_idle c r mine lead true due fits is none = sym fits.1 ∙ none
-fits_idle c r mine lead false due fits is none = absurd (true≢false (sym is))
+-- where none is, the turn is idle
+pub fits_idle : (c : Config) (r : ℕ) (mine : List Event) (lead : Lead) (leads : Bool) (due : Option Verb) → FitsLead c r mine lead leads due → due ≡ None → IsIdle c r mine lead Verb.Beat
+fits_idle c r mine lead true due fits none = λ odd. (sym fits.1 ∙ none, inl refl)
+fits_idle c r mine lead false due fits none = subst (λ d. IsIdle c r mine lead (verb_or_beat d)) none fits.1
 
 -- in another turn the verb is not of the leader
-pub fits_other : (c : Config) (r : ℕ) (mine : List Event) (lead : Lead) (leads : Bool) (due : Option Verb) (verb : Verb) → FitsLead c r mine lead leads due → leads ≡ false → due ≡ Some verb → is_beside (leads_at lead.place) verb ≡ true
+pub fits_other : (c : Config) (r : ℕ) (mine : List Event) (lead : Lead) (leads : Bool) (due : Option Verb) (verb : Verb) → FitsLead c r mine lead leads due → leads ≡ false → due ≡ Some verb → (is_beside (leads_at lead.place) verb ≡ true) × IsIdle c r mine lead verb
 fits_other c r mine lead true due verb fits is some = absurd (true≢false is)
-fits_other c r mine lead false due verb fits is some = subst (λ d. is_beside (leads_at lead.place) (verb_or_beat d) ≡ true) some fits
+fits_other c r mine lead false due verb fits is some = subst (λ d. (is_beside (leads_at lead.place) (verb_or_beat d) ≡ true) × IsIdle c r mine lead (verb_or_beat d)) some fits
 
 -- what the leader tells of what its put made known is so of r
 pub lead_tells : (c : Config) (r : ℕ) (mine : List Event) (old : Lead) (verb : Verb) (answer : Answer) (values : List ℕ) (note : Note) → StandsForLead c r mine old → TellsNext mine old values answer note
@@ -232,6 +236,7 @@ abbrev pub with_lead : Node → Lead → Node
 with_lead node lead = record {
   id = node.id;
   replicas = node.replicas;
+  zeal = node.zeal;
   budget = node.budget;
   stops = node.stops;
   journal = node.journal;

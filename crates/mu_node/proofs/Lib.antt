@@ -1,5 +1,6 @@
 mod Answering
 pub mod Asked
+mod CatchingUp
 mod Bits
 mod Diligent
 pub mod Fetching

@@ -25,6 +25,7 @@ use Rattle.mu_lead.specs.Beside.{leads_at}
 use Rattle.mu_pace.specs.Counters.{AtEachStep}
 use Rattle.mu_pace.proofs.Cycles.{rounds_read_in_time}
 use Rattle.mu_pace.proofs.Rounds.{rounds_keep_pace}
+use Rattle.mu_node.proofs.CatchingUp.{catches_reading, made_led, reading_fails}
 use Rattle.mu_node.specs.Cycle.{other_at, place_now}
 use Rattle.mu_node.specs.Due.{verb_or_beat}
 use Rattle.mu_node.specs.Journal.{WasMade}
@@ -170,7 +171,10 @@ asker_named c r p mine e held asks = go (is_odd (length mine)) refl
     read false false = refl
 
     go : (t : Bool) → is_odd (length mine) ≡ t → leader c r mine ≡ r
-    go true odd = named (leader c r mine == r) refl (held.made.replication odd)
+    go true odd = elim (made_led held.zeal c r mine e.verb (held.made.replication odd)) [
+      | inl listed ↦ named (leader c r mine == r) refl listed
+      | inr caught ↦ absurd (true≢false (sym asks ∙ reading_fails (is_asking_verb p) e.verb (catches_reading c r mine e.verb caught.due) (λ q i. refl) (λ v k. refl)))
+    ]
     go false even =
         let made = held.made.background even in
         elim (cases_lt (place_now c mine) (host_place c 0)) [
@@ -211,7 +215,10 @@ writer_named c r mine e held writes = go (is_odd (length mine)) refl
     read false false = refl
 
     go : (t : Bool) → is_odd (length mine) ≡ t → leader c r mine ≡ r
-    go true odd = named (leader c r mine == r) refl (held.made.replication odd)
+    go true odd = elim (made_led held.zeal c r mine e.verb (held.made.replication odd)) [
+      | inl listed ↦ named (leader c r mine == r) refl listed
+      | inr caught ↦ absurd (true≢false (sym writes ∙ reading_fails is_row_write e.verb (catches_reading c r mine e.verb caught.due) (λ q i. refl) (λ v k. refl)))
+    ]
     go false even =
         let made = held.made.background even in
         elim (cases_lt (place_now c mine) (host_place c 0)) [

@@ -1,22 +1,26 @@
 -- The counts of a replayer: what closes them, and what an event leaves that closes none.
-use Rattle.std.proofs.Common.{◌≡◌, ◌∙◌, ℕ, ◌+◌, ◌-◌, ◌*◌, ◌/◌, ◌%◌, ◌≤◌, ◌==◌, ◌&&◌, ◌||◌, ◌⊎◌, inl, inr, Bool, true, false, None, Some, List, [], ◌∷◌, ap, arith, length, refl, sym}
-use Rattle.std.specs.Prelude.{if◌then◌else◌, nat_lt}
+use Rattle.std.proofs.Common.{◌≡◌, ◌∙◌, ℕ, ◌+◌, ◌-◌, ◌*◌, ◌/◌, ◌%◌, ◌<◌, ◌≤◌, ◌==◌, ◌&&◌, ◌||◌, ◌⊎◌, inl, inr, Bool, true, false, None, Some, List, [], ◌∷◌, ap, arith, length, refl, sym}
+use Rattle.std.specs.Prelude.{if◌then◌else◌, nat_lt, not}
 use Rattle.std.specs.declared.option.Option.{Option}
-use Rattle.std.proofs.lemmas.Bool.{cases_lt, lt-ltb, ltb-true, true≢false, or_parts}
+use Rattle.std.proofs.lemmas.Bool.{cases_lt, eq-eqb, lt-ltb, ltb-true, true≢false, or_parts}
 use Rattle.mu_model.specs.declared.config.Config.{Config}
 use Rattle.mu_model.specs.declared.event.Event.{Event}
 use Rattle.mu_model.specs.declared.event.Verb.{Verb}
 use Rattle.mu_model.specs.Bounds.{cycle}
-use Rattle.mu_model.specs.Diligence.{completes_row, is_row_of}
+use Rattle.mu_model.specs.Diligence.{completes_row, completes_row_verb, is_row_of}
 use Rattle.mu_model.specs.Histories.{has}
 use Rattle.mu_model.specs.Knowledge.{applied, greatest_fuo_read, has_row, has_word, is_read, is_written, known, wrote}
 use Rattle.mu_model.specs.Steps.{is_fuo_of, is_fuo_of_verb, is_named, knows_more}
 use Rattle.mu_model.specs.Stretches.{is_odd}
-use Rattle.mu_model.proofs.Basics.{none_some, or_true, same_number, true_or}
+use Rattle.mu_model.proofs.Basics.{none_some, or_true, same_number, same_some, true_or}
+use Rattle.mu_model.proofs.Scans.{each_all}
 use Rattle.mu_agree.proofs.Landings.{has_more}
 use Rattle.mu_grant.specs.Pace.{host_place}
 use Rattle.mu_grant.specs.Stands.{is_of_place}
+use Rattle.mu_known.proofs.Fetched.{read_word}
+use Rattle.mu_follow.specs.CatchingUp.{catch_up_due, entry_due, lacked_word_of, or_else, words_had}
 use Rattle.mu_follow.specs.Due.{replay_due, row_read, row_under_way}
+use Rattle.mu_follow.proofs.Due.{least_below_fails}
 use Rattle.mu_follow.proofs.Waiting.{fuo_rises, is_write, known_same, own_applied_same, own_row_same}
 use Rattle.mu_lead.specs.Beside.{leads_at}
 use Rattle.mu_pace.specs.Counters.{AtEachMoment, AtEachStep, HasRoom, IsInTime, Watch, fewer, left_after, steps_left}
@@ -24,19 +28,12 @@ use Rattle.mu_pace.specs.Watches.{is_named_turn, is_replay_due, reading_own, rep
 use Rattle.mu_pace.proofs.Cycles.{closed_moments, steps_give, while_allows}
 use Rattle.mu_pace.proofs.Rooms.{kinds_of_step}
 use Rattle.mu_node.specs.Cycle.{handed, other_at, place_now}
-use Rattle.mu_node.specs.Due.{verb_or_beat}
+use Rattle.mu_node.specs.Due.{CatchesUp, verb_or_beat}
+use Rattle.mu_node.proofs.CatchingUp.{catches_reading, closes_anew, made_led, reading_fails}
 use Rattle.mu_node.specs.Journal.{WasMade, was_named}
 use Rattle.mu_node.proofs.Rounding.{FailsBackground, background_fails, replayed_at}
 use Rattle.mu_lead.specs.Journal.{place_after}
 use Rattle.mu_node.specs.Due.{listed_due}
-
--- a step that closes a count leaves what the moment allows
-pub closes_anew : (w : Watch) (n : ℕ) (past : List Event) (e : Event) → w.closes past e ≡ true → ((allowed : ℕ) → w.allows (e ∷ past) ≡ Some allowed → n ≤ allowed) → HasRoom w n (e ∷ past)
-closes_anew w n past e closes most = go (w.allows (e ∷ past)) refl
-  where
-    go : (o : Option ℕ) → w.allows (e ∷ past) ≡ o → HasRoom w n (e ∷ past)
-    go None none = kinds_of_step.closes w n past e none closes
-    go (Some allowed) some = kinds_of_step.opens_anew w allowed n past e some closes (most allowed some)
 
 own_allows : (c : Config) (r : ℕ) (now : List Event) (allowed : ℕ) → (reading_own c r).allows now ≡ Some allowed → 8 * c.replicas + 88 ≡ allowed
 own_allows c r now allowed is = while_allows (λ now. true) (λ now. 8 * c.replicas + 88) now allowed is
@@ -71,11 +68,14 @@ own_in_time c r past made =
     closed_moments (cycle c) (2 * (2 * c.replicas + 4)) (reading_own c r) past (omega arith) (λ now allowed is. let whole = own_allows c r now allowed is in omega (arith, whole))
     (steps_give (WasMade c r) (λ before e. length before % cycle c ≡ 2 * (2 * c.replicas + 4) → ((reading_own c r).closes before e ≡ true) ⊎ HasRoom (reading_own c r) (cycle c + 1) before) (λ before e held at. own_closed c r before e held at) past made)
 
--- a turn of the leader in which r isn't named beats
-pub beats_unnamed : (c : Config) (r : ℕ) (past : List Event) (e : Event) → WasMade c r past e → is_named_turn c r past e ≡ false → is_odd (length past) ≡ true → e.verb ≡ Verb.Beat
-beats_unnamed c r past e held unnamed odd =
+-- in a turn of the leader in which r isn't named it beats, or catches up
+unnamed_made : (c : Config) (r : ℕ) (past : List Event) (e : Event) → WasMade c r past e → is_named_turn c r past e ≡ false → is_odd (length past) ≡ true → (e.verb ≡ Verb.Beat) ⊎ CatchesUp c r past e.verb
+unnamed_made c r past e held unnamed odd =
     let other : is_named c r past ≡ false = sym (ap (λ t. t && is_named c r past) odd) ∙ unnamed in
-    held.made.replication odd ∙ ap (λ t. verb_or_beat (if t then listed_due c r past else None)) other
+    elim (made_led held.zeal c r past e.verb (held.made.replication odd)) [
+      | inl listed ↦ inl (listed ∙ ap (λ t. verb_or_beat (if t then listed_due c r past else None)) other)
+      | inr caught ↦ inr caught
+    ]
 
 -- no word of a row is written in a background turn, nor where r isn't named
 write_fails : FailsBackground is_write
@@ -100,7 +100,10 @@ made_no_write c r past e held unnamed = go (is_odd (length past)) refl
     read false false = refl
 
     go : (t : Bool) → is_odd (length past) ≡ t → is_write e.verb ≡ false
-    go true odd = ap is_write (beats_unnamed c r past e held unnamed odd)
+    go true odd = elim (unnamed_made c r past e held unnamed odd) [
+      | inl beats ↦ ap is_write beats
+      | inr caught ↦ reading_fails is_write e.verb (catches_reading c r past e.verb caught.due) (λ p i. refl) (λ v k. refl)
+    ]
     go false even =
         let made = held.made.background even in
         elim (cases_lt place (host_place c 0)) [
@@ -130,14 +133,14 @@ still_applied c r past e held still = own_applied_same c r past e held.own (made
 pub still_row : (c : Config) (r u : ℕ) (past : List Event) (e : Event) → WasMade c r past e → IsOpenStep c r past e → is_row_of c u (known c r past) ≡ true → has_row r u (e ∷ past) ≡ has_row r u past
 still_row c r u past e held still of_known = own_row_same c r u past e held.own (made_no_write c r past e held still.unnamed) of_known still.completes
 
--- an event that leaves what of the rows of known entries r has, and which row is under way unless it
--- is the cycle's own
+-- an event that leaves what of the rows of known entries r has, and which row is under way, if r
+-- lacks it and the event isn't the cycle's own
 pub record IsStill (c : Config) (r : ℕ) (past : List Event) (e : Event) : Type 0 where
   pub of_known : (u : ℕ) → is_row_of c u (known c r past) ≡ true → is_row_of c u (known c r (e ∷ past)) ≡ true
   pub rows : (u : ℕ) → is_row_of c u (known c r past) ≡ true → has_row r u (e ∷ past) ≡ has_row r u past
   pub words : (u k : ℕ) → has_word r u k past ≡ true → has_word r u k (e ∷ past) ≡ true
   pub same : length (applied c r (e ∷ past)) ≡ length (applied c r past)
-  pub under : is_odd (length past) ≡ true → row_under_way (e ∷ past) ≡ row_under_way past
+  pub under : is_odd (length past) ≡ true → (u : ℕ) → row_under_way past ≡ Some u → is_row_of c u (known c r past) ≡ true → has_row r u past ≡ false → row_under_way (e ∷ past) ≡ Some u
 
 -- a word that r has it goes on having
 pub word_on : (r u k : ℕ) (e : Event) (past : List Event) → has_word r u k past ≡ true → has_word r u k (e ∷ past) ≡ true
@@ -149,6 +152,47 @@ word_on r u k e past is = go (u / 4096 == r) (wrote r (u % 4096) k past) refl (h
     go true false hw false hx is = absurd (true≢false (sym is))
     go false w hw false hx is = absurd (true≢false (sym is))
 
+-- a word that was there or is read
+pub word_had : (c : Config) (r row j k : ℕ) (past : List Event) (e : Event) → e.by ≡ r → e.verb ≡ Verb.ReadRow row k → (j ≡ k) ⊎ (has_word r row j past ≡ true) → has_word r row j (e ∷ past) ≡ true
+word_had c r row j k past e own reads now =
+    sym (read_word r row j row k e past reads (eq-eqb e.by r own))
+    ∙ (elim now [
+      | inl same ↦ true_or ((row == row) && (j == k)) (has_word r row j past) (rw (same_number row, eq-eqb j k same) refl)
+      | inr had ↦ or_true ((row == row) && (j == k)) (has_word r row j past) had
+    ])
+
+-- the words before the first that r lacks are there
+word_before : (r u j : ℕ) (past : List Event) → j < words_had r past u → j < 12 → has_word r u j past ≡ true
+word_before r u j past low few = go (has_word r u j past) (least_below_fails 12 (λ k. not (has_word r u k past)) j low few)
+  where
+    go : (t : Bool) → not t ≡ false → t ≡ true
+    go true is = refl
+    go false is = absurd (true≢false is)
+
+-- while a row of a known entry is under way that r lacks, it catches up by the next word of it: so
+-- the row stays under way unless it is completed
+pub under_caught : (c : Config) (r u : ℕ) (past : List Event) (e : Event) → e.by ≡ r → CatchesUp c r past e.verb → row_under_way past ≡ Some u → is_row_of c u (known c r past) ≡ true → has_row r u past ≡ false → completes_row c r past e ≡ false → row_under_way (e ∷ past) ≡ Some u
+under_caught c r u past e own caught under of_known missing none = elim (cases_lt k 11) [
+  | inl few ↦ ap (λ v. row_read v (row_under_way past)) reads ∙ ap (λ t. if t then Some u else None) (lt-ltb k 11 few)
+  | inr last ↦ (let had : has_row r u (e ∷ past) ≡ true = each_all 12 (λ j. has_word r u j (e ∷ past)) (λ j low. word_had c r u j k past e own reads (elim (cases_lt j k) [ inl before ↦ inr (word_before r u j past before low) | inr rest ↦ inl (omega (arith, low, rest, last, short)) ])) in
+      absurd (true≢false (sym (ap (completes_row_verb c r past (e ∷ past)) reads ∙ rw (of_known, missing, had) refl) ∙ none)))
+]
+  where
+    k : ℕ
+    k = words_had r past u
+
+    short : k < 12
+    short = elim (cases_lt k 12) [
+      | inl low ↦ low
+      | inr high ↦ absurd (true≢false (sym (each_all 12 (λ j. has_word r u j past) (λ j few. word_before r u j past (omega (arith, few, high)) few)) ∙ missing))
+    ]
+
+    due : catch_up_due c r past ≡ Some (Verb.ReadRow u k)
+    due = ap (λ row. or_else (lacked_word_of r past row) (entry_due c r past)) under ∙ ap (λ t. or_else (if t then Some (Verb.ReadRow u k) else None) (entry_due c r past)) (lt-ltb k 12 short)
+
+    reads : e.verb ≡ Verb.ReadRow u k
+    reads = same_some e.verb (Verb.ReadRow u k) (sym caught.due ∙ due)
+
 -- one that doesn't close the count is
 pub still_open : (c : Config) (r : ℕ) (past : List Event) (e : Event) → WasMade c r past e → IsOpenStep c r past e → IsStill c r past e
 still_open c r past e held still = record {
@@ -156,7 +200,10 @@ still_open c r past e held still = record {
   rows = λ u is. still_row c r u past e held still is;
   words = λ u k had. word_on r u k e past had;
   same = still_applied c r past e held still;
-  under = λ odd. ap (λ v. row_read v (row_under_way past)) (beats_unnamed c r past e held still.unnamed odd);
+  under = λ odd u under of_known missing. elim (unnamed_made c r past e held still.unnamed odd) [
+    | inl beats ↦ ap (λ v. row_read v (row_under_way past)) beats ∙ under
+    | inr caught ↦ under_caught c r u past e held.own caught under of_known missing still.completes
+  ];
 }
 
 -- what is due to be replayed stays due

@@ -41,9 +41,10 @@ use Rattle.mu_lead.specs.Elections.{ElectsAt}
 use Rattle.mu_lead.specs.Resigning.{CountsAt, IsTold, KeepsCounts}
 use Rattle.mu_lead.proofs.Causes.{leaders_ask_with_cause}
 use Rattle.mu_lead.proofs.Elections.{elections_come_in_time}
-use Rattle.mu_lead.proofs.Folding.{due_is, rests_at, where_beside, where_left, where_named, where_rests, where_unnamed}
+use Rattle.mu_lead.proofs.Folding.{due_is, rests_at, turn_tables, unnamed_place, where_beside, where_left, where_named, where_rests, where_unnamed}
 use Rattle.mu_lead.proofs.Resigning.{beats_keep_counts, counts_are_in_time}
-use Rattle.mu_node.specs.Due.{IsIdle, lead_due}
+use Rattle.mu_node.specs.Due.{CatchesUp, IsIdle, lead_due}
+use Rattle.mu_node.proofs.CatchingUp.{catches_reading, is_reading, paces_caught, reading_tables}
 use Rattle.mu_node.specs.Node.{StandsForLead}
 use Rattle.mu_node.specs.Paced.{HadPaces, HasPaces, HasPlannedPaces, PacesAt, PacesTold}
 use Rattle.mu_node.proofs.Leading.{lower_named}
@@ -125,8 +126,8 @@ paces_told c r mine old new named inside is same told going paces = go (is_named
     here = subst (λ (w : Vec ℕ Global). PacesAt c r mine w.items old.place) (sym told.written) paces.paces
 
     stays : (t : Bool) → new.place ≡ (if t then Place.Ask 0 else old.place) → HasLeft c r mine new → HadPaces c r mine new
-    stays true up left = record { before = old.place; paces = here; place = inr up; left = left }
-    stays false up left = record { before = old.place; paces = here; place = inl up; left = left }
+    stays true up left = record { before = old.place; was = paces.listed.place; paces = here; place = inr up; left = left }
+    stays false up left = record { before = old.place; was = paces.listed.place; paces = here; place = inl up; left = left }
 
     go : (t : Bool) → is_named c r mine ≡ t → PacesTold (not t) c r mine new
     go true own =
@@ -199,13 +200,33 @@ beats_on c r mine lead answer good odd going none held paces = go (is_named c r 
         record { paces = rests_on c r lead.number mine lead.up lead.reach lead.written.items lead.place answer good odd going rests at paces.paces; listed = where_rests c r mine lead answer odd own rests paces.listed }
     go false other none had = unnamed_on c r mine lead answer good odd other had
 
+-- and so does what a follower reads on with
+caught_on : (c : Config) (r : ℕ) (mine : List Event) (lead : Lead) (verb : Verb) (answer : Answer) → is_odd (length mine) ≡ true → CatchesUp c r mine verb → HasPlannedPaces c r mine lead → HasPaces c r (event_by r verb answer ∷ mine) lead
+caught_on c r mine lead verb answer odd caught planned = record {
+  paces = subst (λ p. PacesAt c r (event_by r verb answer ∷ mine) lead.written.items p) (sym had.left.place) (paces_caught c r mine lead.written.items had.before verb answer odd caught.unnamed (ap leads_at had.was ∙ caught.unled) reads had.paces);
+  listed = record {
+    place = had.left.place ∙ sym (unnamed_place c r mine (event_by r verb answer) odd caught.unnamed);
+    tables = had.left.tables ∙ (sym (reading_tables c r mine verb answer reads) ∙ sym (turn_tables c r mine (event_by r verb answer) odd));
+    idle = λ off. had.left.place;
+  };
+}
+  where
+    had : HadPaces c r mine lead
+    had = odd_paces c r mine lead false odd caught.unnamed planned
+
+    reads : is_reading verb ≡ true
+    reads = catches_reading c r mine verb caught.due
+
 -- and so does each event that is not of the leader
 pub paces_other : (c : Config) (r : ℕ) (mine : List Event) (lead : Lead) (verb : Verb) (answer : Answer) → IsConfig c → outrun c r mine ≡ None → is_beside (leads_at lead.place) verb ≡ true → IsIdle c r mine lead verb → StandsForLead c r mine lead
     → HasPlannedPaces c r mine lead → HasPaces c r (event_by r verb answer ∷ mine) lead
 paces_other c r mine lead verb answer good going beside idle held paces = go (is_odd (length mine)) refl
   where
     go : (t : Bool) → is_odd (length mine) ≡ t → HasPaces c r (event_by r verb answer ∷ mine) lead
-    go true odd = let is = idle odd in subst (λ v. HasPaces c r (event_by r v answer ∷ mine) lead) (sym is.1) (beats_on c r mine lead answer good odd going is.0 held paces)
+    go true odd = elim (idle odd).1 [
+      | inl beats ↦ subst (λ v. HasPaces c r (event_by r v answer ∷ mine) lead) (sym beats) (beats_on c r mine lead answer good odd going (idle odd).0 held paces)
+      | inr caught ↦ caught_on c r mine lead verb answer odd caught paces
+    ]
     go false even = paces_beside c r mine lead verb answer even beside held (even_paces c r mine lead even paces)
 
 -- what the leader keeps with an event

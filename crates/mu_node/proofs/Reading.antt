@@ -9,7 +9,7 @@ use Rattle.mu_model.specs.declared.event.Answer.{Answer}
 use Rattle.mu_model.specs.declared.event.Event.{Event}
 use Rattle.mu_model.specs.declared.event.Verb.{Verb}
 use Rattle.mu_model.specs.Contents.{is_batch, rest_of, row_count}
-use Rattle.mu_model.specs.Knowledge.{grown, is_known_decided, known, learnt_by}
+use Rattle.mu_model.specs.Knowledge.{applied, grown, is_known_decided, known, learnt_by}
 use Rattle.mu_model.specs.Regions.{region_head}
 use Rattle.mu_model.specs.Room.{reserve}
 use Rattle.mu_model.specs.Scores.{leader}
@@ -23,6 +23,8 @@ use Rattle.mu_lead.specs.declared.place.Place.{Place}
 use Rattle.mu_lead.specs.Beside.{leads_at}
 use Rattle.mu_lead.specs.Standing.{verb_at}
 use Rattle.mu_pace.specs.Counters.{AtEachStep}
+use Rattle.mu_node.proofs.CatchingUp.{made_led}
+use Rattle.mu_follow.specs.CatchingUp.{catch_up_due, entry_due, lacked_word_due, lacked_word_of, or_else, words_had}
 use Rattle.mu_node.specs.Cycle.{IsBackgroundDue, handed, other_at, place_now, read_at}
 use Rattle.mu_node.specs.Due.{verb_or_beat}
 use Rattle.mu_node.specs.Journal.{WasMade}
@@ -130,6 +132,21 @@ replay_reads c r count f leading mine reads =
     (next_reads c r (f - 3) mine (row_under_way mine) (λ u under. under_way_known c r mine u reads under)))
     (reads_other c r mine (verb_or_beat (raise_due c r mine count f)) (raise_reads c r count f mine)))
 
+-- what it reads on with
+catch_reads : (c : Config) (r : ℕ) (mine : List Event) → ReadsKnown c r mine → Reads c r mine (catch_up_due c r mine)
+catch_reads c r mine reads =
+    other (lacked_word_due r mine) (entry_due c r mine) (lacked (row_under_way mine) (λ u under. under_way_known c r mine u reads under))
+    (other (first_word_of c r mine (slice_get (known c r mine) (length (applied c r mine)))) (next_due c r mine) (first_reads c r (length (applied c r mine)) mine (slice_get (known c r mine) (length (applied c r mine))) refl)
+    (reads_other c r mine (verb_or_beat (next_due c r mine)) (choose (is_known_decided r mine r (length (known c r mine))) (Some (Verb.Look r (length (known c r mine)))) None refl refl)))
+  where
+    other : (a b : Option Verb) → Reads c r mine a → Reads c r mine b → Reads c r mine (or_else a b)
+    other None b one it = it
+    other (Some verb) b one it = one
+
+    lacked : (o : Option ℕ) → ((u : ℕ) → o ≡ Some u → IsOfKnown c r mine u) → Reads c r mine (lacked_word_of r mine o)
+    lacked None are = tt
+    lacked (Some v) are = either c r mine (nat_lt (words_had r mine v) 12) (Some (Verb.ReadRow v (words_had r mine v))) None (λ low. are v refl) tt
+
 -- the leader
 led_reads : (c : Config) (r : ℕ) (mine : List Event) → is_row_read (verb_or_beat (due_after c r mine)) ≡ false
 led_reads c r mine = choose (leader c r mine == r) (listed_due c r mine) None (at c (number_due r mine) (known c r mine) (tables_at c r mine).up (tables_at c r mine).written (place_after c r mine)) refl
@@ -174,7 +191,10 @@ made_reads : (c : Config) (r : ℕ) (mine : List Event) (e : Event) → ReadsKno
 made_reads c r mine e reads was = go (is_odd (length mine)) refl
   where
     go : (t : Bool) → is_odd (length mine) ≡ t → IsReadKnown c r mine e.verb
-    go true odd = subst (IsReadKnown c r mine) (sym (was.made.replication odd)) (reads_other c r mine (verb_or_beat (due_after c r mine)) (led_reads c r mine))
+    go true odd = elim (made_led was.zeal c r mine e.verb (was.made.replication odd)) [
+      | inl listed ↦ subst (IsReadKnown c r mine) (sym listed) (reads_other c r mine (verb_or_beat (due_after c r mine)) (led_reads c r mine))
+      | inr caught ↦ subst (Reads c r mine) caught.due (catch_reads c r mine reads)
+    ]
     go false even = let made = was.made.background even in subst (IsReadKnown c r mine) (sym made.2) (background_reads c r mine (leads_at (place_after c r mine)) made.0 reads made.1)
 
 -- a node reads rows of known batches alone

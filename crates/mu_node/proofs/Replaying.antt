@@ -32,7 +32,8 @@ use Rattle.mu_node.specs.Cycle.{handed, handed_before, hands_on, place_now}
 use Rattle.mu_node.specs.Due.{verb_or_beat}
 use Rattle.mu_node.specs.Journal.{WasMade}
 use Rattle.mu_node.proofs.Rounding.{at_place, place_index, replayed_at}
-use Rattle.mu_node.proofs.Open.{IsOpenStep, IsStill, closes_anew, open_step, rows_allow, rows_anew, still_applied, still_known, still_open, undue_room}
+use Rattle.mu_node.proofs.Open.{IsOpenStep, IsStill, open_step, rows_allow, rows_anew, still_applied, still_known, still_open, undue_room, word_had}
+use Rattle.mu_node.proofs.CatchingUp.{closes_anew}
 use Rattle.mu_lead.specs.Journal.{place_after}
 
 -- how many events come before the next last word
@@ -155,15 +156,6 @@ word_read c r k row past e held at some low under_way =
     let here = replayed_at c r (3 + k) past e held (at ∙ omega arith) in
     here.1 ∙ (ap verb_or_beat (words_due c r past (handed c r past) (3 + k) k (leads_at (place_after c r past)) refl some low) ∙ ap (λ o. verb_or_beat (next_word_of k o)) under_way)
 
--- a word that was there or is read
-word_had : (c : Config) (r row j k : ℕ) (past : List Event) (e : Event) → e.by ≡ r → e.verb ≡ Verb.ReadRow row k → (j ≡ k) ⊎ (has_word r row j past ≡ true) → has_word r row j (e ∷ past) ≡ true
-word_had c r row j k past e own reads now =
-    sym (read_word r row j row k e past reads (eq-eqb e.by r own))
-    ∙ (elim now [
-      | inl same ↦ true_or ((row == row) && (j == k)) (has_word r row j past) (rw (same_number row, eq-eqb j k same) refl)
-      | inr had ↦ or_true ((row == row) && (j == k)) (has_word r row j past) had
-    ])
-
 -- the last word completes the row
 last_completes : (c : Config) (r : ℕ) (past : List Event) (e : Event) → WasMade c r past e → length past % cycle c ≡ 4 * c.replicas + 36 → IsReading c r 11 past → completes_row c r past e ≡ true
 last_completes c r past e held at reading =
@@ -212,7 +204,7 @@ reads_on c r x y past e held still at next low high old = go (cases_eq (x % 2) 1
         let same : (y - (4 * c.replicas + 13)) / 2 ≡ (x - (4 * c.replicas + 13)) / 2 = omega (arith, odd, next, low) in
         subst (λ n. IsReading c r n (e ∷ past)) (sym same) (record {
           row = old.row;
-          under_way = still.under (eq-eqb (length past % 2) 1 (sym index ∙ odd)) ∙ old.under_way;
+          under_way = still.under (eq-eqb (length past % 2) 1 (sym index ∙ odd)) old.row old.under_way old.of_known old.missing;
           of_known = still.of_known old.row old.of_known;
           missing = still.rows old.row old.of_known ∙ old.missing;
           words = λ j few. still.words old.row j (old.words j few);

@@ -34,6 +34,7 @@ use Rattle.mu_node.specs.Cycle.{IsBackgroundDue, handed, other_at, place_now, re
 use Rattle.mu_node.specs.Due.{verb_or_beat}
 use Rattle.mu_node.specs.Journal.{WasMade}
 use Rattle.mu_follow.proofs.Paces.{heads_rise_in_time}
+use Rattle.mu_node.proofs.CatchingUp.{catches_reading, made_led, reading_fails}
 use Rattle.mu_node.proofs.Turning.{handed_here}
 use Rattle.mu_lead.specs.Journal.{due_after, number_due, place_after, tables_at}
 use Rattle.mu_node.specs.Due.{listed_due}
@@ -266,7 +267,10 @@ apart_here c r q mine e held reads = go (is_odd (length mine)) refl
     of_read false first false is = absurd (true≢false (sym is))
 
     go : (t : Bool) → is_odd (length mine) ≡ t → length mine % cycle c ≡ 2 * beat_place r q
-    go true odd = absurd (not_due (due_after c r mine) (led_no_beat c r q mine) (held.made.replication odd))
+    go true odd = elim (made_led held.zeal c r mine e.verb (held.made.replication odd)) [
+      | inl listed ↦ absurd (not_due (due_after c r mine) (led_no_beat c r q mine) listed)
+      | inr caught ↦ absurd (true≢false (sym reads ∙ reading_fails (is_beat_read_verb q) e.verb (catches_reading c r mine e.verb caught.due) (λ p i. refl) (λ v k. refl)))
+    ]
     go false even =
         let made = held.made.background even in
         elim (cases_lt place (host_place c 0)) [

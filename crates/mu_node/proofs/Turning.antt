@@ -1,6 +1,6 @@
 -- What a node has due follows the cycle's order, and what was handed on.
 use Rattle.std.proofs.Common.{◌≡◌, ◌∙◌, ◌==◌, ◌&&◌, ◌||◌, ◌*◌, ◌+◌, ◌-◌, ◌<◌, ◌≤◌, ℕ, Bool, true, false, List, ◌∷◌, None, Some, ap, arith, inl, inr, length, take, refl, subst, sym}
-use Rattle.std.specs.Prelude.{IfSome, if◌then◌else◌, nat_lt, not}
+use Rattle.std.specs.Prelude.{IfSome, if◌then◌else◌, is_some, nat_lt, not}
 use Rattle.std.specs.declared.option.Option.{Option}
 use Rattle.std.proofs.lemmas.Bool.{cases_lt, ltb-false, true≢false}
 use Rattle.mu_model.specs.declared.config.Config.{Config}
@@ -30,7 +30,12 @@ use Rattle.mu_lead.specs.Standing.{verb_at, verb_of}
 use Rattle.mu_node.specs.declared.node.Node.{Node}
 use Rattle.mu_node.specs.Answers.{HoldsAnswers}
 use Rattle.mu_node.specs.Cycle.{IsBackgroundDue, handed, handed_before, other_at, place_now, read_at}
-use Rattle.mu_node.specs.Due.{lead_due, verb_or_beat}
+use Rattle.mu_node.specs.declared.zeal.Zeal.{Zeal}
+use Rattle.mu_node.specs.Due.{idle_due, lead_due, verb_or_beat}
+use Rattle.mu_follow.specs.CatchingUp.{catch_up_due, or_else}
+use Rattle.mu_model.specs.Steps.{is_named}
+use Rattle.std.proofs.Math.Bool.{and-false}
+use Rattle.mu_node.proofs.CatchingUp.{catches_reading, is_reading, reading_fails}
 use Rattle.mu_node.specs.Node.{HasHeard, HasPlanned, StandsForLead}
 use Rattle.mu_node.specs.Notes.{HasTold, MovesGoing, SaysTook, TellsNote, TellsTook, heed_note, note_before, note_at}
 use Rattle.mu_node.proofs.Leading.{odd_may}
@@ -79,6 +84,23 @@ led_plain c r mine lead = go (leader c r mine == r)
     go true = whole (verb_of lead (known c r mine)) (plain_at lead.config lead.number (known c r mine) lead.up lead.written.items lead.place)
     go false = refl
 
+-- what an eager one reads on with then is such too
+reading_plain : (verb : Verb) → is_reading verb ≡ true → IsPlain verb
+reading_plain verb reads = reading_fails is_host_step verb reads (λ p i. refl) (λ v k. refl)
+
+idle_plain : (zeal : Zeal) (c : Config) (r : ℕ) (mine : List Event) → IsPlain (verb_or_beat (idle_due zeal c r mine))
+idle_plain Zeal.Plain c r mine = refl
+idle_plain Zeal.Eager c r mine = go (leads_at (place_after c r mine) || is_named c r mine) (catch_up_due c r mine) refl
+  where
+    go : (t : Bool) (due : Option Verb) → catch_up_due c r mine ≡ due → IsPlain (verb_or_beat (if t then None else due))
+    go true due is = refl
+    go false None is = refl
+    go false (Some verb) is = reading_plain verb (catches_reading c r mine verb is)
+
+turn_plain : (zeal : Zeal) (c : Config) (r : ℕ) (mine : List Event) (listed : Option Verb) → IsPlain (verb_or_beat listed) → IsPlain (verb_or_beat (or_else listed (idle_due zeal c r mine)))
+turn_plain zeal c r mine None plain = idle_plain zeal c r mine
+turn_plain zeal c r mine (Some verb) plain = plain
+
 -- and what the replayer has due
 replay_plain : (leading : Bool) (verb : Verb) → is_replay leading verb ≡ true → IsPlain verb
 replay_plain leading (Verb.Fuo p) is = refl
@@ -117,11 +139,11 @@ read_follows c r mine answer even low = go (place_now c mine == 0) refl (nat_lt 
         asked x y e = cc
 
 -- what is made as it is due follows the cycle
-pub made_follows : (c : Config) (r : ℕ) (mine : List Event) (lead : Lead) (leading : Bool) (due : Option Verb) (answer : Answer)
-    → (is_odd (length mine) ≡ true → due ≡ lead_due c r mine lead) → (is_odd (length mine) ≡ false → IsBackgroundDue c r mine leading due)
+pub made_follows : (zeal : Zeal) (c : Config) (r : ℕ) (mine : List Event) (lead : Lead) (leading : Bool) (due : Option Verb) (answer : Answer)
+    → (is_odd (length mine) ≡ true → due ≡ or_else (lead_due c r mine lead) (idle_due zeal c r mine)) → (is_odd (length mine) ≡ false → IsBackgroundDue c r mine leading due)
     → ((f : ℕ) → IfSome (replay_due c r mine (handed c r mine) f leading) (λ verb. IsReplay leading verb))
     → FollowsCycle c r mine (event_by r (verb_or_beat due) answer)
-made_follows c r mine lead leading due answer led cycle replays = go (is_odd (length mine)) refl
+made_follows zeal c r mine lead leading due answer led cycle replays = go (is_odd (length mine)) refl
   where
     e : Event
     e = event_by r (verb_or_beat due) answer
@@ -134,7 +156,7 @@ made_follows c r mine lead leading due answer led cycle replays = go (is_odd (le
 
     go : (t : Bool) → is_odd (length mine) ≡ t → FollowsCycle c r mine e
     go true odd =
-        let plain = plain_verb (verb_or_beat due) (subst (λ d. IsPlain (verb_or_beat d)) (sym (led odd)) (led_plain c r mine lead)) in
+        let plain = plain_verb (verb_or_beat due) (subst (λ d. IsPlain (verb_or_beat d)) (sym (led odd)) (turn_plain zeal c r mine (lead_due c r mine lead) (led_plain c r mine lead))) in
         other_is_next c r mine e refl (inl odd) plain.0 (λ w is. absurd (plain.1 w is))
     go false even = elim (cases_lt place (host_place c 0)) [
       | inl low ↦ subst (λ v. FollowsCycle c r mine (event_by r v answer)) (sym (made_as due (read_at c.replicas r place) ((cycle even).read low))) (read_follows c r mine answer even low)
@@ -156,6 +178,7 @@ odd_planned c r mine node odd named held = record {
   answers = λ commands are. subst (λ n. HoldsAnswers c commands (take n (applied c r mine)) node.answers) (sym (ap (λ t. if (not t && (place_now c mine == 2 * c.replicas + 20)) then length (applied c r mine) else handed_before c r mine) odd)) (held.answers commands are);
   cycle = held.cycle;
   made = held.made;
+  listed = held.listed;
   leads = odd_may c r mine odd (leads_at node.lead.place) named;
   paces = paces_odd c r mine node.lead odd held.paces;
   led = held.led;
@@ -185,32 +208,52 @@ replays c r mine leading good possible inside short few f = go (replay_due c r m
     go None may = tt
     go (Some verb) may = may.1
 
+-- whether the verb is the leader's: in a turn of its own, if it has one due
+abbrev pub IsLed : Config → ℕ → List Event → Lead → Bool → Type 0
+IsLed c r mine lead leads = leads ≡ (is_odd (length mine) && is_some (lead_due c r mine lead))
+
+led_even : (c : Config) (r : ℕ) (mine : List Event) (lead : Lead) (leads : Bool) → IsLed c r mine lead leads → is_odd (length mine) ≡ false → leads ≡ false
+led_even c r mine lead leads turn even = turn ∙ ap (λ t. t && is_some (lead_due c r mine lead)) even
+
+led_idle : (c : Config) (r : ℕ) (mine : List Event) (lead : Lead) (leads : Bool) → IsLed c r mine lead leads → lead_due c r mine lead ≡ None → leads ≡ false
+led_idle c r mine lead leads turn none = turn ∙ (ap (λ due. is_odd (length mine) && is_some due) none ∙ and-false (is_odd (length mine)))
+
+led_on : (c : Config) (r : ℕ) (mine : List Event) (lead : Lead) (leads : Bool) (verb : Verb) → IsLed c r mine lead leads → is_odd (length mine) ≡ true → lead_due c r mine lead ≡ Some verb → leads ≡ true
+led_on c r mine lead leads verb turn odd some = turn ∙ (ap (λ due. is_odd (length mine) && is_some due) some ∙ ap (λ t. t && true) odd)
+
+-- in a turn of the leader what it has due is due, and what an idle turn gives if it has nothing due
+abbrev pub IsTurnDue : Zeal → Config → ℕ → List Event → Lead → Option Verb → Type 0
+IsTurnDue zeal c r mine lead due = is_odd (length mine) ≡ true → due ≡ or_else (lead_due c r mine lead) (idle_due zeal c r mine)
+
+due_some : (zeal : Zeal) (c : Config) (r : ℕ) (mine : List Event) (lead : Lead) (due : Option Verb) (verb : Verb) → IsTurnDue zeal c r mine lead due → is_odd (length mine) ≡ true → lead_due c r mine lead ≡ Some verb → due ≡ Some verb
+due_some zeal c r mine lead due verb led odd some = led odd ∙ ap (λ o. or_else o (idle_due zeal c r mine)) some
+
 -- what a turn is noted as
-pub note_told : (c : Config) (r : ℕ) (mine : List Event) (lead planned next : Lead) (leads : Bool) (due : Option Verb) (heeded : Note) (answer : Answer) (note : Note) → leads ≡ is_odd (length mine) → (is_odd (length mine) ≡ true → due ≡ lead_due c r mine lead)
+pub note_told : (zeal : Zeal) (c : Config) (r : ℕ) (mine : List Event) (lead planned next : Lead) (leads : Bool) (due : Option Verb) (heeded : Note) (answer : Answer) (note : Note) → IsLed c r mine lead leads → IsTurnDue zeal c r mine lead due
     → heeded ≡ note_before c r mine lead → IsPossible c r (event_by r (verb_or_beat due) answer ∷ mine) → TellsTook c r mine leads due heeded answer note
     → (is_odd (length mine) ≡ true → HasTold c r mine lead planned) → SaysTook c r mine leads due heeded planned next answer note → StandsForLead c r mine lead → IsWhere c r mine lead → TellsNote c r mine lead answer note
-note_told c r mine lead planned next leads due heeded answer note turn led before possible took told says held listed = record {
-  background = λ even. took.beside (turn ∙ even) ∙ (before ∙ ap (λ t. if t then heed_note c r mine lead else Note.Working) even);
-  idle = λ odd none. took.idle (led odd ∙ same ∙ none) ∙ (before ∙ ap (λ t. if t then heed_note c r mine lead else Note.Working) odd);
+note_told zeal c r mine lead planned next leads due heeded answer note turn led before possible took told says held listed = record {
+  background = λ even. took.beside (led_even c r mine lead leads turn even) ∙ (before ∙ ap (λ t. if t then heed_note c r mine lead else Note.Working) even);
+  idle = λ odd none. took.beside (led_idle c r mine lead leads turn (same ∙ none)) ∙ (before ∙ ap (λ t. if t then heed_note c r mine lead else Note.Working) odd);
   taken = λ verb odd due_now.
       let some = same ∙ due_now in
-      took.taken verb (turn ∙ odd) (led odd ∙ some) (before ∙ (ap (λ t. if t then heed_note c r mine lead else Note.Working) odd ∙ due_unresigned c r mine lead verb some))
-      (subst (λ v. IsPossible c r (event_by r v answer ∷ mine)) (ap verb_or_beat (led odd ∙ some)) possible);
+      took.taken verb (led_on c r mine lead leads verb turn odd some) (due_some zeal c r mine lead due verb led odd some) (before ∙ (ap (λ t. if t then heed_note c r mine lead else Note.Working) odd ∙ due_unresigned c r mine lead verb some))
+      (subst (λ v. IsPossible c r (event_by r v answer ∷ mine)) (ap verb_or_beat (due_some zeal c r mine lead due verb led odd some)) possible);
   says = λ verb odd due_now.
       let some = same ∙ due_now in
       let stays = (told odd).place (due_named c r mine lead verb some) in
       subst (λ u. Says c r mine u (place_after c r mine) verb answer note) (ap (λ (t : Tables). t.up) listed.tables)
       (subst (λ p. Says c r mine lead.up p verb answer note) (stays ∙ listed.place)
       (subst (λ u. Says c r mine u planned.place verb answer note) (told odd).up
-      (says.says verb (turn ∙ odd) (led odd ∙ some) (before ∙ (ap (λ t. if t then heed_note c r mine lead else Note.Working) odd ∙ due_unresigned c r mine lead verb some))
-      (subst (λ v. IsPossible c r (event_by r v answer ∷ mine)) (ap verb_or_beat (led odd ∙ some)) possible))));
+      (says.says verb (led_on c r mine lead leads verb turn odd some) (due_some zeal c r mine lead due verb led odd some) (before ∙ (ap (λ t. if t then heed_note c r mine lead else Note.Working) odd ∙ due_unresigned c r mine lead verb some))
+      (subst (λ v. IsPossible c r (event_by r v answer ∷ mine)) (ap verb_or_beat (due_some zeal c r mine lead due verb led odd some)) possible))));
   noted = λ verb odd due_now.
       let some = same ∙ due_now in
       let stays = (told odd).place (due_named c r mine lead verb some) in
       subst (λ t. note ≡ note_at c r mine t (place_after c r mine) verb answer) ((told odd).tables ∙ listed.tables)
       (subst (λ p. note ≡ note_at c r mine (tables_of planned) p verb answer) (stays ∙ listed.place)
-      (says.noted verb (turn ∙ odd) (led odd ∙ some) (before ∙ (ap (λ t. if t then heed_note c r mine lead else Note.Working) odd ∙ due_unresigned c r mine lead verb some))
-      (subst (λ v. IsPossible c r (event_by r v answer ∷ mine)) (ap verb_or_beat (led odd ∙ some)) possible)));
+      (says.noted verb (led_on c r mine lead leads verb turn odd some) (due_some zeal c r mine lead due verb led odd some) (before ∙ (ap (λ t. if t then heed_note c r mine lead else Note.Working) odd ∙ due_unresigned c r mine lead verb some))
+      (subst (λ v. IsPossible c r (event_by r v answer ∷ mine)) (ap verb_or_beat (due_some zeal c r mine lead due verb led odd some)) possible)));
 }
   where
     same : lead_due c r mine lead ≡ due_after c r mine
@@ -222,15 +265,15 @@ told_going true low is = ap not is
 told_going false low is = refl
 
 -- and whether a leadership is under way after it
-pub going_moves : (c : Config) (r : ℕ) (mine : List Event) (lead planned next : Lead) (leads : Bool) (due : Option Verb) (heeded : Note) (answer : Answer) (note : Note) → leads ≡ is_odd (length mine) → (is_odd (length mine) ≡ true → due ≡ lead_due c r mine lead)
+pub going_moves : (zeal : Zeal) (c : Config) (r : ℕ) (mine : List Event) (lead planned next : Lead) (leads : Bool) (due : Option Verb) (heeded : Note) (answer : Answer) (note : Note) → IsLed c r mine lead leads → IsTurnDue zeal c r mine lead due
     → heeded ≡ note_before c r mine lead → (is_odd (length mine) ≡ true → HasTold c r mine lead planned) → (is_odd (length mine) ≡ false → planned ≡ lead)
     → SaysTook c r mine leads due heeded planned next answer note → MovesGoing c r mine lead next note
-going_moves c r mine lead planned next leads due heeded answer note turn led before told same says = record {
-  background = λ even. says.beside (turn ∙ even) ∙ ap (λ (l : Lead). l.under_way) (same even);
-  idle = λ odd none. says.idle (led odd ∙ none) ∙ (told odd).going;
+going_moves zeal c r mine lead planned next leads due heeded answer note turn led before told same says = record {
+  background = λ even. says.beside (led_even c r mine lead leads turn even) ∙ ap (λ (l : Lead). l.under_way) (same even);
+  idle = λ odd none. says.beside (led_idle c r mine lead leads turn none) ∙ (told odd).going;
   taken = λ verb odd some.
       let low = due_named c r mine lead verb some in
-      says.going verb (turn ∙ odd) (led odd ∙ some) (before ∙ (ap (λ t. if t then heed_note c r mine lead else Note.Working) odd ∙ due_unresigned c r mine lead verb some))
+      says.going verb (led_on c r mine lead leads verb turn odd some) (due_some zeal c r mine lead due verb led odd some) (before ∙ (ap (λ t. if t then heed_note c r mine lead else Note.Working) odd ∙ due_unresigned c r mine lead verb some))
       ∙ (ap (λ p. going_after (begins_at p || planned.under_way) note) ((told odd).place low)
       ∙ ap (λ t. going_after (begins_at lead.place || t) note) ((told odd).going ∙ told_going lead.under_way (nat_lt (leader c r mine) r) low));
 }

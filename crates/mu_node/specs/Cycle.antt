@@ -11,8 +11,9 @@ use Rattle.mu_grant.specs.Pace.{host_place, places}
 use Rattle.mu_grant.specs.Stands.{Gives}
 use Rattle.mu_follow.specs.Due.{replay_due}
 use Rattle.mu_lead.specs.Beside.{leads_at}
-use Rattle.mu_lead.specs.Journal.{due_after, place_after}
-use Rattle.mu_node.specs.Due.{verb_or_beat}
+use Rattle.mu_lead.specs.Journal.{place_after}
+use Rattle.mu_node.specs.declared.zeal.Zeal.{Zeal}
+use Rattle.mu_node.specs.Due.{turn_due, verb_or_beat}
 
 -- the place of the cycle at the background turn after these events
 abbrev pub place_now : Config → List Event → ℕ
@@ -56,10 +57,12 @@ pub record IsDueAt (c : Config) (r : ℕ) (mine : List Event) (leading : Bool) (
 abbrev pub IsBackgroundDue : Config → ℕ → List Event → Bool → Option Verb → Type 0
 IsBackgroundDue c r mine leading due = IsDueAt c r mine leading (place_now c mine) due
 
--- the verb that is made: what the listing has due by the journal in a turn of the leader, and what
--- the cycle has due in another, and a beat exactly if nothing is due
-pub record IsMade (c : Config) (r : ℕ) (mine : List Event) (verb : Verb) : Type 0 where
-  pub replication : is_odd (length mine) ≡ true → verb ≡ verb_or_beat (due_after c r mine)
+-- the verb that a plain or an eager node makes: in a turn of the leader what the listing has due by
+-- the journal, else what such a node does then, and in another turn what the cycle has due; and a
+-- beat exactly if nothing is due
+pub record IsMade (zeal : Zeal) (c : Config) (r : ℕ) (mine : List Event)
+    (verb : Verb) : Type 0 where
+  pub replication : is_odd (length mine) ≡ true → verb ≡ verb_or_beat (turn_due zeal c r mine)
   pub background :
       is_odd (length mine) ≡ false
       → (due : Option Verb) × IsBackgroundDue c r mine (leads_at (place_after c r mine)) due

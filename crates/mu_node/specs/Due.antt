@@ -1,5 +1,5 @@
--- due of a turn: the step that is due in a turn.
-use Rattle.std.specs.Prelude.{Bool, List, None, Some, false, if◌then◌else◌, length, true, ℕ, ◌==◌, ◌≡◌}
+-- due of a turn: the step that is due in a turn, of a plain and of an eager node.
+use Rattle.std.specs.Prelude.{Bool, List, None, Some, false, if◌then◌else◌, length, true, ℕ, ◌==◌, ◌||◌, ◌≡◌, ◌⊎◌}
 use Rattle.std.specs.declared.option.Option.{Option}
 use Rattle.mu_model.specs.declared.config.Config.{Config}
 use Rattle.mu_model.specs.declared.event.Event.{Event}
@@ -7,11 +7,14 @@ use Rattle.mu_model.specs.declared.event.Verb.{Verb}
 use Rattle.mu_model.specs.Allowed.{Allowed}
 use Rattle.mu_model.specs.Knowledge.{known}
 use Rattle.mu_model.specs.Scores.{leader}
+use Rattle.mu_model.specs.Steps.{is_named}
 use Rattle.mu_model.specs.Stretches.{is_odd}
+use Rattle.mu_follow.specs.CatchingUp.{catch_up_due, or_else}
 use Rattle.mu_lead.specs.declared.lead.Lead.{Lead}
 use Rattle.mu_lead.specs.Beside.{is_beside, leads_at}
-use Rattle.mu_lead.specs.Journal.{number_due, place_after, tables_at}
+use Rattle.mu_lead.specs.Journal.{due_after, number_due, place_after, tables_at}
 use Rattle.mu_lead.specs.Standing.{HasHeeded, verb_at, verb_of}
+use Rattle.mu_node.specs.declared.zeal.Zeal.{Zeal}
 
 -- the step that is made: a beat if nothing is due
 abbrev pub verb_or_beat : Option Verb → Verb
@@ -34,12 +37,33 @@ listed_due c r mine =
     verb_at c (number_due r mine) (known c r mine) (tables_at c r mine).up
     (tables_at c r mine).written (place_after c r mine)
 
--- in a turn of the leader the verb is a beat, and nothing is due
+-- what is due in a turn of the leader in which the leader has nothing due: nothing for a plain node;
+-- for an eager one what it reads on with, unless it is named, or led before that turn
+abbrev pub idle_due : Zeal → Config → ℕ → List Event → Option Verb
+idle_due Zeal.Plain c r mine = None
+idle_due Zeal.Eager c r mine =
+    if leads_at (place_after c r mine) || is_named c r mine then None else catch_up_due c r mine
+
+-- what is due in a turn of the leader, by the journal only
+abbrev pub turn_due : Zeal → Config → ℕ → List Event → Option Verb
+turn_due zeal c r mine = or_else (due_after c r mine) (idle_due zeal c r mine)
+
+-- r isn't named and didn't lead before, and the verb is what it reads on with
+pub record CatchesUp (c : Config) (r : ℕ) (mine : List Event) (verb : Verb) : Type 0 where
+  pub unled : leads_at (place_after c r mine) ≡ false
+  pub unnamed : is_named c r mine ≡ false
+  pub due : catch_up_due c r mine ≡ Some verb
+
+-- in a turn of the leader it has nothing due, and the verb is a beat, or r catches up
 abbrev pub IsIdle : Config → ℕ → List Event → Lead → Verb → Type 0
 IsIdle c r mine lead verb =
-    is_odd (length mine) ≡ true → (lead_due c r mine lead ≡ None) × (verb ≡ Verb.Beat)
+    is_odd (length mine) ≡ true
+    → (lead_due c r mine lead ≡ None) × ((verb ≡ Verb.Beat) ⊎ CatchesUp c r mine verb)
 
--- the leader's verb is what it has due, and it heeded the scores; any other is not of the leader
+-- the leader's verb is what it has due, and it heeded the scores; any other is not of the leader,
+-- and in a turn of the leader this one is idle
 abbrev pub FitsLead : Config → ℕ → List Event → Lead → Bool → Option Verb → Type 0
 FitsLead c r mine lead true due = HasHeeded mine lead × (due ≡ lead_due c r mine lead)
-FitsLead c r mine lead false due = is_beside (leads_at lead.place) (verb_or_beat due) ≡ true
+FitsLead c r mine lead false due =
+    (is_beside (leads_at lead.place) (verb_or_beat due) ≡ true)
+    × IsIdle c r mine lead (verb_or_beat due)

@@ -9,9 +9,10 @@ use Rattle.mu_model.specs.Steps.{is_named}
 use Rattle.mu_model.specs.Stretches.{is_odd}
 use Rattle.mu_grant.specs.Pace.{FollowsCycle}
 use Rattle.mu_lead.specs.Beside.{leads_at}
-use Rattle.mu_lead.specs.Journal.{due_after, place_after, tables_at}
+use Rattle.mu_lead.specs.Journal.{place_after, tables_at}
+use Rattle.mu_node.specs.declared.zeal.Zeal.{Zeal}
 use Rattle.mu_node.specs.Cycle.{IsMade}
-use Rattle.mu_node.specs.Due.{verb_or_beat}
+use Rattle.mu_node.specs.Due.{turn_due, verb_or_beat}
 use Rattle.mu_node.specs.Paced.{PacesAt}
 use Rattle.mu_pace.specs.Watches.{is_named_turn}
 
@@ -29,23 +30,27 @@ may_lead_before c r mine = is_odd (length mine) || was_named c r mine
 abbrev pub may_lead : Config → ℕ → List Event → Bool
 may_lead c r mine = if is_odd (length mine) then is_named c r mine else was_named c r mine
 
--- in a turn of the leader the step is what its listing has due by the journal only, else a beat
-abbrev pub IsListed : Config → ℕ → List Event → Event → Type 0
-IsListed c r mine e = is_odd (length mine) ≡ true → e.verb ≡ verb_or_beat (due_after c r mine)
+-- in a turn of the leader the step is what is due by the journal only, else a beat
+abbrev pub IsListed : Zeal → Config → ℕ → List Event → Event → Type 0
+IsListed zeal c r mine e =
+    is_odd (length mine) ≡ true → e.verb ≡ verb_or_beat (turn_due zeal c r mine)
 
--- r made the event as it was due by the journal; its leader's counts were as its place has them, it
--- leads in the background only if it was named, and no look had found a place used again that r
--- still had to read
+-- r, plain or eager, made the event as it was due by the journal; its leader's counts were as its
+-- place has them, it leads in the background only if it was named, and no look had found a place
+-- used again that r still had to read
 pub record WasMade (c : Config) (r : ℕ) (mine : List Event) (e : Event) : Type 0 where
   pub own : e.by ≡ r
   pub going : outrun c r mine ≡ None
-  pub made : IsMade c r mine e.verb
+  pub zeal : Zeal
+  pub made : IsMade zeal c r mine e.verb
   pub paces : PacesAt c r mine (tables_at c r mine).written (place_after c r mine)
   pub leads :
       is_odd (length mine) ≡ false → leads_at (place_after c r mine) ≡ true
       → was_named c r mine ≡ true
 
--- the event follows the cycle, and was made as it was due
-pub record FollowsTurn (c : Config) (r : ℕ) (mine : List Event) (e : Event) : Type 0 where
+-- the event follows the cycle, and was made as it was due for such a node
+pub record FollowsTurn (zeal : Zeal) (c : Config) (r : ℕ) (mine : List Event)
+    (e : Event) : Type 0 where
   pub cycle : FollowsCycle c r mine e
   pub made : WasMade c r mine e
+  pub listed : IsListed zeal c r mine e

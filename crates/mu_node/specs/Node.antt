@@ -19,7 +19,7 @@ use Rattle.mu_lead.specs.Standing.{StandsFor as LeadStandsFor}
 use Rattle.mu_node.specs.declared.node.Node.{Node}
 use Rattle.mu_node.specs.Answers.{HoldsAnswers}
 use Rattle.mu_node.specs.Cycle.{handed, handed_before}
-use Rattle.mu_node.specs.Journal.{WasMade, may_lead, may_lead_before}
+use Rattle.mu_node.specs.Journal.{IsListed, WasMade, may_lead, may_lead_before}
 use Rattle.mu_node.specs.Paced.{HasPaces, HasPlannedPaces, PacesTold}
 use Rattle.mu_node.specs.Watch.{StandsForWatch}
 use Rattle.mu_pace.specs.Collecting.{LeaderKeeps}
@@ -58,8 +58,8 @@ pub record StandsForLead (c : Config) (r : ℕ) (mine : List Event) (lead : Lead
 
 -- the node stands for the events, with its leader, which leads only if it may, and with what is
 -- said of its counts; it has handed on `count` entries, answered to their commands, called the
--- places of its cycle in their order, and made each event as it was due and in time for all that a
--- leader keeps
+-- places of its cycle in their order, and made each event as it was due for such a node and in time
+-- for all that a leader keeps
 pub record HoldsNode (Paces : Lead → Type 0) (c : Config) (r : ℕ) (mine : List Event) (count : ℕ)
     (may : Bool) (node : Node) : Type 0 where
   pub beside : HoldsBeside c r mine node
@@ -70,6 +70,7 @@ pub record HoldsNode (Paces : Lead → Type 0) (c : Config) (r : ℕ) (mine : Li
       → HoldsAnswers c commands (take count (applied c r mine)) node.answers
   pub cycle : InCycleOrder c r mine
   pub made : AtEachStep (WasMade c r) mine
+  pub listed : AtEachStep (IsListed node.zeal c r) mine
   pub leads : leads_at node.lead.place ≡ true → may ≡ true
   pub paces : Paces node.lead
   pub led : AtEachStep (LeaderKeeps c r) mine

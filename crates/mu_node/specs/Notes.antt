@@ -24,6 +24,7 @@ use Rattle.mu_lead.specs.Noting.{next_note, or_idle}
 use Rattle.mu_lead.specs.Saying.{Says}
 use Rattle.mu_lead.specs.Standing.{known_told}
 use Rattle.mu_node.specs.declared.turn.Turn.{Turn}
+use Rattle.mu_node.specs.declared.zeal.Zeal.{Zeal}
 use Rattle.mu_node.specs.Cycle.{IsMade}
 use Rattle.mu_node.specs.Due.{lead_due}
 
@@ -110,20 +111,20 @@ pub record TellsNote (c : Config) (r : ℕ) (mine : List Event) (lead : Lead) (a
       (verb : Verb) → is_odd (length mine) ≡ true → due_after c r mine ≡ Some verb
       → note ≡ note_at c r mine (tables_at c r mine) (place_after c r mine) verb answer
 
--- a step of r: its event comes to the part, it is the verb that was due or a beat, and the note
--- tells of it
-pub record HasMade (c : Config) (r : ℕ) (mine now : List Event) (lead : Lead)
+-- a step of r, plain or eager: its event comes to the part, it is the verb that was due or a beat,
+-- and the note tells of it
+pub record HasMade (zeal : Zeal) (c : Config) (r : ℕ) (mine now : List Event) (lead : Lead)
     (note : Note) : Type 0 where
   pub verb : Verb
   pub answer : Answer
   pub part : now ≡ (record { by = r; verb = verb; answer = answer }) ∷ mine
-  pub made : IsMade c r mine verb
+  pub made : IsMade zeal c r mine verb
   pub tells : TellsNote c r mine lead answer note
 
 -- the same of a turn that made a step
-abbrev pub TellsTurn : Config → ℕ → List Event → List Event → Lead → Turn → Type 0
-TellsTurn c r mine now lead (Turn.Took note) = HasMade c r mine now lead note
-TellsTurn c r mine now lead (Turn.Ended end) = Unit {0}
+abbrev pub TellsTurn : Zeal → Config → ℕ → List Event → List Event → Lead → Turn → Type 0
+TellsTurn zeal c r mine now lead (Turn.Took note) = HasMade zeal c r mine now lead note
+TellsTurn zeal c r mine now lead (Turn.Ended end) = Unit {0}
 
 -- whether a leadership is under way after a turn with this note: as before it in a background turn;
 -- in one of the leader as it was told if nothing was due, else as the verb began it and the note

@@ -9,7 +9,7 @@ use Rattle.mu_lead.specs.declared.lead.Lead.{Lead}
 use Rattle.mu_lead.specs.declared.place.Place.{Place}
 use Rattle.mu_lead.specs.Causes.{CausesAt}
 use Rattle.mu_lead.specs.Elections.{ElectsAt}
-use Rattle.mu_lead.specs.Journal.{HasLeft, IsWhere}
+use Rattle.mu_lead.specs.Journal.{HasLeft, IsWhere, place_after}
 use Rattle.mu_lead.specs.Resigning.{CountsAt}
 
 -- at the place, with this many words of each row written, each count has room, an ask has its
@@ -25,10 +25,11 @@ pub record HasPaces (c : Config) (r : ℕ) (mine : List Event) (lead : Lead) : T
   pub paces : PacesAt c r mine lead.written.items lead.place
   pub listed : IsWhere c r mine lead
 
--- the leader was told that another replica is named: each count had the room of the place before;
--- the leader stays there or begins again; and it does begin again
+-- the leader was told that another replica is named: each count had the room of the place before,
+-- which is that of the journal; the leader stays there or begins again; and it does begin again
 pub record HadPaces (c : Config) (r : ℕ) (mine : List Event) (lead : Lead) : Type 0 where
   pub before : Place
+  pub was : before ≡ place_after c r mine
   pub paces : PacesAt c r mine lead.written.items before
   pub place : (lead.place ≡ before) ⊎ (lead.place ≡ Place.Ask 0)
   pub left : HasLeft c r mine lead

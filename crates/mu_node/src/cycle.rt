@@ -55,6 +55,7 @@ impl Node {
         ensures lead { self.new.lead ≡ self.old.lead }
         ensures config { self.new.follow.config ≡ self.old.follow.config }
         ensures id { self.new.id ≡ self.old.id }
+        ensures zeal { self.new.zeal ≡ self.old.zeal }
         ensures stops { self.new.stops ≡ self.old.stops }
         ensures due { (c : Config) → (r : ℕ) → (mine : List SomeEvent) → IsPossible c r mine
             → length mine < c.budget → is_odd (length mine) ≡ false
@@ -91,6 +92,7 @@ impl Node {
         ensures lead { self.new.lead ≡ self.old.lead }
         ensures config { self.new.follow.config ≡ self.old.follow.config }
         ensures id { self.new.id ≡ self.old.id }
+        ensures zeal { self.new.zeal ≡ self.old.zeal }
         ensures stops { self.new.stops ≡ self.old.stops }
     {
         if place == self.replicas.saturating_mul(2).saturating_add(HEAD_PLACE) {

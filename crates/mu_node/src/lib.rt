@@ -12,8 +12,10 @@ mod planning;
 mod result;
 mod turn;
 mod watch;
+mod zeal;
 
 pub use answers::{Answers, Replies};
 pub use node::Node;
 pub use result::NodeResult;
 pub use turn::Turn;
+pub use zeal::Zeal;

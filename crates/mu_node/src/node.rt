@@ -22,6 +22,7 @@ use crate::planning::or_beat;
 use crate::result::NodeResult;
 use crate::turn::Turn;
 use crate::watch::Watch;
+use crate::zeal::Zeal;
 use mu_follow::Follow;
 use mu_grant::Grants;
 use mu_input::Job;
@@ -38,6 +39,8 @@ pub struct Node {
     pub(crate) id: u8,
     /// How many replicas there are.
     pub(crate) replicas: u8,
+    /// What it does in the turns of its leader in which nothing is due.
+    pub(crate) zeal: Zeal,
     /// How many steps it may take.
     pub(crate) budget: u32,
     /// The stops of the script.
@@ -102,11 +105,13 @@ fn fill_commits(list: &mut Vec<Commit>, commits: &[Commit])
 }
 
 impl Node {
-    /// The replica `id` of a job before any event. Takes all memory that it ever needs.
-    pub fn new(alloc: Global, job: &Job, id: u8) -> Result<Node, NoMemory>
+    /// The replica `id` of a job before any event, plain or eager. Takes all memory that it ever
+    /// needs.
+    pub fn new(alloc: Global, job: &Job, id: u8, zeal: Zeal) -> Result<Node, NoMemory>
         requires config { IsConfig job.now.config }
         requires inside { id < job.now.config.replicas }
         ensures stands { IfOk result (λ node. StandsForNode job.now.config id [] node) }
+        ensures zeal { IfOk result (λ node. node.zeal ≡ zeal) }
         ensures stops { IfOk result (λ node. node.stops.items ≡ job.now.script.stops) }
         ensures idle { IfOk result (λ node. node.lead.under_way ≡ false) }
         ensures room { IfOk result (λ node. node.journal.room ≡ job.now.config.budget) }
@@ -116,6 +121,7 @@ impl Node {
         Ok(Node {
             id,
             replicas: config.replicas,
+            zeal,
             budget: config.budget,
             stops: Vec::from_slice(alloc, job.script.stops.as_slice())?,
             journal: Journal::with_room(alloc, config.budget as usize)?,
@@ -181,12 +187,13 @@ impl Node {
         ensures stands { StandsForNode (P.config port.new) (P.number port.new)
             (P.part port.new) self.new }
         ensures same { P.same port.old port.new }
+        ensures zeal { self.new.zeal ≡ self.old.zeal }
         ensures stops { self.new.stops ≡ self.old.stops }
         ensures possible { IsPossible (P.config port.new) (P.number port.new) (P.part port.new) }
         ensures turn { (script : Script) → script.stops ≡ self.old.stops.items
             → IsTurn (P.config port.old) script (P.number port.old) (P.part port.old)
             (P.part port.new) (P.whole port.old) (P.whole port.new) result }
-        ensures made { TellsTurn (P.config port.old) (P.number port.old) (P.part port.old)
+        ensures made { TellsTurn self.old.zeal (P.config port.old) (P.number port.old) (P.part port.old)
             (P.part port.new) self.old.lead result }
         ensures going { MovesTurn (P.config port.old) (P.number port.old) (P.part port.old)
             self.old.lead self.new.lead result }
@@ -196,8 +203,8 @@ impl Node {
         ensures replays { Replays (P.config port.new) (P.number port.new) (P.part port.new) }
         ensures keeps { AtEachStep (KeepsBeside (P.config port.new) (P.number port.new))
             (P.part port.new) }
-        ensures listed { AtEachStep (IsListed (P.config port.new) (P.number port.new))
-            (P.part port.new) }
+        ensures listed { AtEachStep (IsListed self.new.zeal (P.config port.new)
+            (P.number port.new)) (P.part port.new) }
         ensures diligent { IsDiligent (P.config port.new) (P.number port.new) (P.part port.new) }
     {
         let id = port.id();
@@ -221,12 +228,13 @@ impl Node {
         ensures stands { StandsForNode (P.config port.new) (P.number port.new)
             (P.part port.new) self.new }
         ensures same { P.same port.old port.new }
+        ensures zeal { self.new.zeal ≡ self.old.zeal }
         ensures stops { self.new.stops ≡ self.old.stops }
         ensures possible { IsPossible (P.config port.new) (P.number port.new) (P.part port.new) }
         ensures step { IsOneStep (P.config port.old) (P.number port.old) (P.part port.old)
             (P.part port.new)
             (P.whole port.old) (P.whole port.new) }
-        ensures made { HasMade (P.config port.old) (P.number port.old) (P.part port.old)
+        ensures made { HasMade self.old.zeal (P.config port.old) (P.number port.old) (P.part port.old)
             (P.part port.new)
             self.old.lead result }
         ensures going { MovesGoing (P.config port.old) (P.number port.old) (P.part port.old)
@@ -251,6 +259,7 @@ impl Node {
         let Node {
             id: _,
             replicas: _,
+            zeal: _,
             budget: _,
             stops: _,
             journal,

@@ -1,5 +1,5 @@
 //! What a replica plans for a turn, and how its parts take the event that the step is.
-ghost use Rattle.std.specs.Prelude.{List, None, Some, false, if◌then◌else◌, length, nat_lt, true, ℕ, ◌&&◌, ◌<◌, ◌==◌, ◌∷◌, ◌≡◌};
+ghost use Rattle.std.specs.Prelude.{IfSome, List, None, Some, false, if◌then◌else◌, is_some, length, nat_lt, true, ℕ, ◌&&◌, ◌<◌, ◌==◌, ◌∷◌, ◌≡◌};
 ghost use Rattle.mu_model.specs.declared.config.Config.{Config};
 ghost use Rattle.mu_model.specs.declared.event.Event.{Event as SomeEvent};
 ghost use Rattle.mu_model.specs.Allowed.{Allowed};
@@ -8,19 +8,23 @@ ghost use Rattle.mu_model.specs.Parts.{IsPossible};
 ghost use Rattle.mu_model.specs.Scores.{leader};
 ghost use Rattle.mu_model.specs.Steps.{is_named};
 ghost use Rattle.mu_model.specs.Stretches.{is_odd};
-ghost use Rattle.mu_follow.specs.Follow.{commit_of};
+ghost use Rattle.mu_follow.specs.CatchingUp.{or_else};
+ghost use Rattle.mu_follow.specs.Due.{IsReplay};
+ghost use Rattle.mu_follow.specs.Follow.{StandsForFollow, commit_of};
 ghost use Rattle.mu_lead.specs.declared.note.Note.{Note as SomeNote};
 ghost use Rattle.mu_lead.specs.Beside.{is_beside, leads_at};
+ghost use Rattle.mu_lead.specs.Journal.{place_after};
 ghost use Rattle.mu_lead.specs.Notes.{value_committed};
 ghost use Rattle.mu_lead.specs.Standing.{HasHeeded, TellsNext};
 ghost use Rattle.mu_node.specs.Cycle.{IsBackgroundDue};
-ghost use Rattle.mu_node.specs.Due.{FitsLead, IsIdle, lead_due, verb_or_beat};
+ghost use Rattle.mu_node.specs.Due.{FitsLead, IsIdle, idle_due, lead_due, verb_or_beat};
 ghost use Rattle.mu_node.specs.Journal.{FollowsTurn};
 ghost use Rattle.mu_node.specs.Node.{AwaitsBeside, HasHeard, HasPlanned, HoldsBeside, StandsForNode};
 ghost use Rattle.mu_node.specs.Notes.{HasTold, SaysTook, TellsTook, heed_note, note_before};
 
 use crate::ending::as_head;
 use crate::node::Node;
+use crate::zeal::Zeal;
 use mu_lead::Note;
 use mu_model::{Answer, Event, Verb};
 
@@ -76,7 +80,7 @@ fn told(heeded: Note, note: Note) -> Note
 
 impl Node {
     /// What is due in this turn: of the leader in odd ones, once it was told which leader the
-    /// scores name, else of the cycle of the background.
+    /// scores name, or of a follower that is eager; else of the cycle of the background.
     #[inline(always)]
     pub(crate) fn plan(&mut self) -> Plan
         ghost mine: { List SomeEvent }
@@ -87,14 +91,18 @@ impl Node {
         ensures planned { HasPlanned self.old.follow.config self.old.id mine self.new }
         ensures config { self.new.follow.config ≡ self.old.follow.config }
         ensures id { self.new.id ≡ self.old.id }
+        ensures zeal { self.new.zeal ≡ self.old.zeal }
         ensures stops { self.new.stops ≡ self.old.stops }
         ensures allowed { Allowed self.old.follow.config self.old.id mine
             (verb_or_beat result.due) }
         ensures fits { FitsLead self.old.follow.config self.old.id mine self.new.lead result.leads
             result.due }
-        ensures leads { result.leads ≡ is_odd (length mine) }
+        ensures leads { result.leads ≡ (is_odd (length mine)
+            && is_some (lead_due self.old.follow.config self.old.id mine self.old.lead)) }
         ensures led { is_odd (length mine) ≡ true
-            → result.due ≡ lead_due self.old.follow.config self.old.id mine self.old.lead }
+            → result.due
+            ≡ or_else (lead_due self.old.follow.config self.old.id mine self.old.lead)
+            (idle_due self.old.zeal self.old.follow.config self.old.id mine) }
         ensures cycle { is_odd (length mine) ≡ false
             → IsBackgroundDue self.old.follow.config self.old.id mine
             (leads_at self.old.lead.place) result.due }
@@ -122,24 +130,62 @@ impl Node {
         ensures stands { HasHeard self.old.follow.config self.old.id mine self.new }
         ensures config { self.new.follow.config ≡ self.old.follow.config }
         ensures id { self.new.id ≡ self.old.id }
+        ensures zeal { self.new.zeal ≡ self.old.zeal }
         ensures stops { self.new.stops ≡ self.old.stops }
         ensures allowed { Allowed self.old.follow.config self.old.id mine
             (verb_or_beat result.due) }
-        ensures fits { FitsLead self.old.follow.config self.old.id mine self.new.lead true
+        ensures fits { FitsLead self.old.follow.config self.old.id mine self.new.lead result.leads
             result.due }
-        ensures leads { result.leads ≡ true }
+        ensures leads { result.leads
+            ≡ is_some (lead_due self.old.follow.config self.old.id mine self.old.lead) }
         ensures named { leads_at self.new.lead.place ≡ true
             → is_named self.old.follow.config self.old.id mine ≡ true }
-        ensures led { result.due ≡ lead_due self.old.follow.config self.old.id mine self.old.lead }
+        ensures led { result.due
+            ≡ or_else (lead_due self.old.follow.config self.old.id mine self.old.lead)
+            (idle_due self.old.zeal self.old.follow.config self.old.id mine) }
         ensures heeded { result.heeded
             ≡ heed_note self.old.follow.config self.old.id mine self.old.lead }
         ensures told { HasTold self.old.follow.config self.old.id mine self.old.lead self.new.lead }
     {
+        let leading = self.lead.is_leading();
         let heeded = self.heed();
-        Plan {
-            due: self.lead.due(self.follow.known()),
-            leads: true,
-            heeded,
+        match self.lead.due(self.follow.known()) {
+            Some(verb) => Plan {
+                due: Some(verb),
+                leads: true,
+                heeded,
+            },
+            None => Plan {
+                due: self.idle(leading),
+                leads: false,
+                heeded,
+            },
+        }
+    }
+
+    /// What is due in a turn of the leader in which the leader has nothing due: what an eager node
+    /// reads on with, unless it is named, or led before that turn.
+    fn idle(&self, leading: bool) -> Option<Verb>
+        ghost mine: { List SomeEvent }
+        requires config { IsConfig self.now.follow.config }
+        requires possible { IsPossible self.now.follow.config self.now.id mine }
+        requires short { length mine < self.now.follow.config.budget }
+        requires leading { leading ≡ leads_at (place_after self.now.follow.config self.now.id mine) }
+        requires named { self.now.lead.named ≡ is_named self.now.follow.config self.now.id mine }
+        requires stands { StandsForFollow self.now.follow.config self.now.id mine self.now.follow }
+        ensures exact { result ≡ idle_due self.now.zeal self.now.follow.config self.now.id mine }
+        ensures allowed { IfSome result (λ verb. Allowed self.now.follow.config self.now.id mine verb
+            × IsReplay false verb) }
+    {
+        match self.zeal {
+            Zeal::Plain => None,
+            Zeal::Eager => {
+                if leading || self.lead.named {
+                    None
+                } else {
+                    self.follow.catching_up()
+                }
+            }
         }
     }
 
@@ -155,6 +201,7 @@ impl Node {
         ensures planned { HasPlanned self.old.follow.config self.old.id mine self.new }
         ensures config { self.new.follow.config ≡ self.old.follow.config }
         ensures id { self.new.id ≡ self.old.id }
+        ensures zeal { self.new.zeal ≡ self.old.zeal }
         ensures stops { self.new.stops ≡ self.old.stops }
         ensures allowed { Allowed self.old.follow.config self.old.id mine
             (verb_or_beat result.due) }
@@ -180,6 +227,7 @@ impl Node {
         ensures stands { HasHeard self.old.follow.config self.old.id mine self.new }
         ensures follow { self.new.follow ≡ self.old.follow }
         ensures id { self.new.id ≡ self.old.id }
+        ensures zeal { self.new.zeal ≡ self.old.zeal }
         ensures stops { self.new.stops ≡ self.old.stops }
         ensures named { self.new.lead.named
             ≡ (leader self.old.follow.config self.old.id mine == self.old.id) }
@@ -221,6 +269,7 @@ impl Node {
             → AwaitsBeside self.old.follow.config by mine
             (record { by = by; verb = verb; answer = answer }) self.new }
         ensures lead { self.new.lead ≡ self.old.lead }
+        ensures zeal { self.new.zeal ≡ self.old.zeal }
         ensures stops { self.new.stops ≡ self.old.stops }
         ensures answers { self.new.answers ≡ self.old.answers }
         ensures config { self.new.follow.config ≡ self.old.follow.config }
@@ -244,6 +293,7 @@ impl Node {
             → AwaitsBeside c r mine event self.old → HoldsBeside c r (event ∷ mine) self.new }
         ensures lead { self.new.lead ≡ self.old.lead }
         ensures answers { self.new.answers ≡ self.old.answers }
+        ensures zeal { self.new.zeal ≡ self.old.zeal }
         ensures stops { self.new.stops ≡ self.old.stops }
         ensures handed { self.new.follow.progress.handed ≡ self.old.follow.progress.handed }
     {
@@ -263,14 +313,15 @@ impl Node {
         requires room { 0 < self.old.journal.room }
         requires fits { FitsLead self.old.follow.config self.old.id mine self.old.lead plan.leads
             plan.due }
-        requires turn { plan.leads ≡ is_odd (length mine) }
+        requires turn { plan.leads ≡ true → is_odd (length mine) ≡ true }
         requires planned { HasPlanned self.old.follow.config self.old.id mine self.old }
-        ensures stands { FollowsTurn self.old.follow.config id mine
+        ensures stands { FollowsTurn self.old.zeal self.old.follow.config id mine
             (record { by = id; verb = verb_or_beat plan.due; answer = answer })
             → IsPossible self.old.follow.config id
             (record { by = id; verb = verb_or_beat plan.due; answer = answer } ∷ mine)
             → StandsForNode self.old.follow.config id
             (record { by = id; verb = verb_or_beat plan.due; answer = answer } ∷ mine) self.new }
+        ensures zeal { self.new.zeal ≡ self.old.zeal }
         ensures stops { self.new.stops ≡ self.old.stops }
         ensures note { TellsTook self.old.follow.config id mine plan.leads plan.due plan.heeded
             answer
@@ -302,13 +353,14 @@ impl Node {
         ensures stands { (mine : List SomeEvent)
             → is_beside (leads_at self.old.lead.place) verb ≡ true
             → IsIdle self.old.follow.config by mine self.old.lead verb
-            → FollowsTurn self.old.follow.config by mine
+            → FollowsTurn self.old.zeal self.old.follow.config by mine
             (record { by = by; verb = verb; answer = answer })
             → IsPossible self.old.follow.config by
             (record { by = by; verb = verb; answer = answer } ∷ mine)
             → HasPlanned self.old.follow.config by mine self.old
             → StandsForNode self.old.follow.config by
             (record { by = by; verb = verb; answer = answer } ∷ mine) self.new }
+        ensures zeal { self.new.zeal ≡ self.old.zeal }
         ensures stops { self.new.stops ≡ self.old.stops }
         ensures lead { self.new.lead ≡ self.old.lead }
     {
@@ -325,12 +377,13 @@ impl Node {
         requires due { lead_due self.old.follow.config by mine self.old.lead ≡ Some verb }
         requires turn { is_odd (length mine) ≡ true }
         requires planned { HasPlanned self.old.follow.config by mine self.old }
-        ensures stands { FollowsTurn self.old.follow.config by mine
+        ensures stands { FollowsTurn self.old.zeal self.old.follow.config by mine
             (record { by = by; verb = verb; answer = answer })
             → IsPossible self.old.follow.config by
             (record { by = by; verb = verb; answer = answer } ∷ mine)
             → StandsForNode self.old.follow.config by
             (record { by = by; verb = verb; answer = answer } ∷ mine) self.new }
+        ensures zeal { self.new.zeal ≡ self.old.zeal }
         ensures stops { self.new.stops ≡ self.old.stops }
         ensures note { TellsTook self.old.follow.config by mine true
             (Some verb) heeded answer result }

@@ -13,58 +13,69 @@ use std::test::Fail;
 /// Commands, and the book after them, each worked out by hand.
 const WORKED: [Case; 5] = [
     (
-        &[
-            (0, 1, "put X B100x5"),
-            (1, 1, "put X S102x4"),
-            (0, 2, "put X B101x2"),
-            (1, 2, "put X S100x6"),
-            (0, 3, "put X C1"),
-            (1, 3, "get X"),
-        ],
-        "trades 2\n3 0.2 1.2 X 101x2\n3 0.1 1.2 X 100x4\nresting 1\nX S102x4 1.1\n",
+        "0.1 put X B100x5, 1.1 put X S102x4, 0.2 put X B101x2, 1.2 put X S100x6, \
+         0.3 put X C1, 1.3 get X",
+        "\
+            trades 2\n\
+            3 0.2 1.2 X 101x2\n\
+            3 0.1 1.2 X 100x4\n\
+            resting 1\n\
+            X S102x4 1.1\n\
+        ",
     ),
     (
-        &[
-            (0, 1, "put X S5x1"),
-            (1, 1, "put X S5x1"),
-            (0, 2, "put X B5x1"),
-        ],
-        "trades 1\n2 0.2 0.1 X 5x1\nresting 1\nX S5x1 1.1\n",
+        "0.1 put X S5x1, 1.1 put X S5x1, 0.2 put X B5x1",
+        "\
+            trades 1\n\
+            2 0.2 0.1 X 5x1\n\
+            resting 1\n\
+            X S5x1 1.1\n\
+        ",
     ),
     (
-        &[
-            (1, 1, "put X S5x1"),
-            (0, 1, "put X S5x1"),
-            (0, 2, "put X B5x1"),
-        ],
-        "trades 1\n2 0.2 1.1 X 5x1\nresting 1\nX S5x1 0.1\n",
+        "1.1 put X S5x1, 0.1 put X S5x1, 0.2 put X B5x1",
+        "\
+            trades 1\n\
+            2 0.2 1.1 X 5x1\n\
+            resting 1\n\
+            X S5x1 0.1\n\
+        ",
     ),
     (
-        &[
-            (0, 1, "put X B5x1"),
-            (0, 2, "put X B0x1"),
-            (0, 3, "put X B5x01"),
-            (0, 4, "put X B1000000000x1"),
-            (0, 5, "put X B5x1x1"),
-            (0, 6, "put X b5x1"),
-            (0, 7, "put X C01"),
-            (0, 8, "put X C1501"),
-            (1, 1, "put X C1"),
-            (0, 9, "put Y C1"),
-        ],
-        "trades 0\nresting 1\nX B5x1 0.1\n",
+        "0.1 put X B5x1, 0.2 put X B0x1, 0.3 put X B5x01, 0.4 put X B1000000000x1, \
+         0.5 put X B5x1x1, 0.6 put X b5x1, 0.7 put X C01, 0.8 put X C1501, 1.1 put X C1, \
+         0.9 put Y C1",
+        "\
+            trades 0\n\
+            resting 1\n\
+            X B5x1 0.1\n\
+        ",
     ),
-    (&[], "trades 0\nresting 0\n"),
+    (
+        "",
+        "\
+            trades 0\n\
+            resting 0\n\
+        ",
+    ),
 ];
 
 /// The most commands of a book.
 const MOST: usize = 65_535;
 
-/// The commands of these lines, if each spells one.
-fn commands_of(alloc: Global, lines: &[(u8, u16, &str)]) -> Result<Vec<Command>, Fail> {
+/// The command that a text spells: its client and number, with a point between them, and what it
+/// does.
+fn command_of(text: &str) -> Option<Command> {
+    let (name, does) = text.split_once(' ')?;
+    let (client, number) = name.split_once('.')?;
+    command(client.parse().ok()?, number.parse().ok()?, does)
+}
+
+/// The commands of a list with commas between them, if each spells one.
+fn commands_of(alloc: Global, list: &str) -> Result<Vec<Command>, Fail> {
     let mut commands = Vec::new(alloc);
-    for &(client, number, line) in lines {
-        commands.push(command(client, number, line).ok_or("no command")?)?;
+    for text in list.split_terminator(", ") {
+        commands.push(command_of(text).ok_or("no command")?)?;
     }
     Ok(commands)
 }
@@ -139,17 +150,17 @@ fn shows_after(alloc: Global, commands: &[Command], wanted: &str) -> Result<bool
     shows(alloc, &book, wanted)
 }
 
-/// The same of the commands of these lines.
-fn is_shown(alloc: Global, lines: &[(u8, u16, &str)], wanted: &str) -> Result<bool, Fail> {
-    let commands = commands_of(alloc, lines)?;
+/// The same of the commands of a list.
+fn is_shown(alloc: Global, list: &str, wanted: &str) -> Result<bool, Fail> {
+    let commands = commands_of(alloc, list)?;
     Ok(shows_after(alloc, commands.as_slice(), wanted)?)
 }
 
 #[test]
 fn keeps_the_books_of_the_cases(rt: HostRuntime) -> Result<(), Fail> {
     for cases in [WORKED.as_slice(), CASES.as_slice(), MORE_CASES.as_slice()] {
-        for &(lines, wanted) in cases {
-            assert!(rt; is_shown(rt.alloc(), lines, wanted)?, "{wanted}");
+        for &(list, wanted) in cases {
+            assert!(rt; is_shown(rt.alloc(), list, wanted)?, "{wanted}");
         }
     }
     Ok(())

@@ -41,6 +41,7 @@ returns-then-place-saturating_add-clause-stands c k r mine even possible at held
           subst (λ l. HoldsAnswers k commands l c.apply_ready.new.answers) (sym (ap (λ n. take n (applied k r mine)) (handed_here k r mine even here) ∙ take_whole (length (applied k r mine)) (applied k r mine) (omega arith))) now;
       cycle = held.cycle;
       made = held.made;
+      listed = held.listed;
       leads = λ leads. even_planned k r mine even (held.leads leads);
       paces = paces_even k r mine c.args.self.now.lead even held.paces;
       led = held.led;
@@ -59,6 +60,7 @@ returns-else-place-saturating_add-clause-stands c k r mine even possible at held
       answers = λ commands are. subst (λ n. HoldsAnswers k commands (take n (applied k r mine)) c.args.self.now.answers) (sym (handed_elsewhere k r mine other)) (held.answers commands are);
       cycle = held.cycle;
       made = held.made;
+      listed = held.listed;
       leads = λ leads. even_planned k r mine even (held.leads leads);
       paces = paces_even k r mine c.args.self.now.lead even held.paces;
       led = held.led;

@@ -24,6 +24,7 @@ returns-clause-stands g c =
       answers = held.answers;
       cycle = held.cycle;
       made = held.made;
+      listed = held.listed;
       leads = λ leads. held.leads (and_parts (leads_at node.lead.place) (not (nat_lt c.leader-leader.result node.lead.id)) (sym c.heed.ensures.rests ∙ leads)).0;
       paces = paces_told node.follow.config node.id g.mine node.lead c.heed.new.self c.leader-leader.result held.beside.follow.inside named held.lead.id c.heed.ensures.told c.heed.ensures.going held.paces;
       led = held.led;

@@ -26,6 +26,7 @@ returns-clause-stands c = record {
   answers = λ commands are. first_answers c.args.job.now.config commands c.in_ok-with_room-2.field-0 c.in_ok-with_room-2.ensures.table c.in_ok-with_room-2.ensures.replies (c.in_ok-with_room-2.ensures.left ∙ c.len.ensures);
   cycle = tt;
   made = tt;
+  listed = tt;
   leads = λ leads. absurd (true≢false (sym leads ∙ c.in_ok-new.ensures.rests));
   paces = paces_first c.args.job.now.config c.args.id c.in_ok-new.field-0 c.in_ok-new.ensures.config c.in_ok-new.ensures.id (record {
     paces = record {

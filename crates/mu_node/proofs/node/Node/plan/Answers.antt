@@ -1,9 +1,9 @@
-use Rattle.std.proofs.Common.{◌≡◌, ◌∙◌, ap, false, length, subst, sym, true}
-use Rattle.std.specs.Prelude.{if◌then◌else◌}
+use Rattle.std.proofs.Common.{◌≡◌, ◌∙◌, ◌&&◌, ap, false, length, subst, sym, true}
+use Rattle.std.specs.Prelude.{if◌then◌else◌, is_some}
 use Rattle.std.proofs.lemmas.Bool.{true≢false}
 use Rattle.mu_model.specs.Stretches.{is_odd}
 use Rattle.mu_lead.specs.declared.note.Note.{Note}
-use Rattle.mu_node.specs.Due.{FitsLead}
+use Rattle.mu_node.specs.Due.{FitsLead, lead_due}
 use Rattle.mu_node.specs.Notes.{heed_note}
 use Rattle.mu_node.proofs.Turning.{odd_planned}
 use Rattle.mu_node.proofs.node.Node.plan.Goals as goal
@@ -25,16 +25,15 @@ returns-then-is_turn_of_leader-clause-planned g c =
     odd_planned node.follow.config node.id g.mine c.plan_led.new.self odd c.plan_led.ensures.named c.plan_led.ensures.stands
 
 pub returns-then-is_turn_of_leader-clause-fits : goal.returns-then-is_turn_of_leader-clause-fits
-returns-then-is_turn_of_leader-clause-fits g c =
-    let node = c.args.self.now in
-    subst (λ t. FitsLead node.follow.config node.id g.mine c.plan_led.new.self.lead t c.plan_led.result.due) (sym c.plan_led.ensures.leads) c.plan_led.ensures.fits
+returns-then-is_turn_of_leader-clause-fits g c = c.plan_led.ensures.fits
 
 pub returns-then-is_turn_of_leader-clause-leads : goal.returns-then-is_turn_of_leader-clause-leads
 returns-then-is_turn_of_leader-clause-leads g c =
     let node = c.args.self.now in
     let held = c.requires.1.1.1 in
     let steps = c.steps.ensures node.follow.config node.id g.mine held.beside.follow in
-    c.plan_led.ensures.leads ∙ (sym c.if-is_turn_of_leader.true ∙ (c.is_turn_of_leader.ensures ∙ ap is_odd steps))
+    let odd : is_odd (length g.mine) ≡ true = sym (ap is_odd steps) ∙ (sym c.is_turn_of_leader.ensures ∙ c.if-is_turn_of_leader.true) in
+    c.plan_led.ensures.leads ∙ sym (ap (λ t. t && is_some (lead_due node.follow.config node.id g.mine node.lead)) odd)
 
 pub returns-then-is_turn_of_leader-clause-led : goal.returns-then-is_turn_of_leader-clause-led
 returns-then-is_turn_of_leader-clause-led g c odd = c.plan_led.ensures.led
@@ -65,7 +64,8 @@ returns-else-is_turn_of_leader-clause-leads g c =
     let node = c.args.self.now in
     let held = c.requires.1.1.1 in
     let steps = c.steps.ensures node.follow.config node.id g.mine held.beside.follow in
-    c.plan_cycle.ensures.leads ∙ (sym c.if-is_turn_of_leader.false ∙ (c.is_turn_of_leader.ensures ∙ ap is_odd steps))
+    let even : is_odd (length g.mine) ≡ false = sym (ap is_odd steps) ∙ (sym c.is_turn_of_leader.ensures ∙ c.if-is_turn_of_leader.false) in
+    c.plan_cycle.ensures.leads ∙ sym (ap (λ t. t && is_some (lead_due node.follow.config node.id g.mine node.lead)) even)
 
 pub returns-else-is_turn_of_leader-clause-led : goal.returns-else-is_turn_of_leader-clause-led
 returns-else-is_turn_of_leader-clause-led g c odd =

@@ -1,32 +1,83 @@
-use Rattle.std.proofs.Common.{◌≡◌, ◌∙◌, ◌==◌, None, ap, length}
-use Rattle.std.specs.Prelude.{if◌then◌else◌}
+use Rattle.std.proofs.Common.{◌≡◌, ◌∙◌, ◌==◌, false, None, Some, ap, length, subst, sym}
+use Rattle.std.specs.Prelude.{IfSome, if◌then◌else◌, is_some}
+use Rattle.std.specs.declared.option.Option.{Option}
+use Rattle.mu_model.specs.declared.event.Verb.{Verb}
+use Rattle.mu_model.specs.Allowed.{Allowed}
 use Rattle.mu_model.specs.Scores.{leader}
+use Rattle.mu_follow.specs.declared.follow.Follow.{Follow}
+use Rattle.mu_follow.specs.CatchingUp.{or_else}
+use Rattle.mu_follow.specs.Due.{IsReplay}
 use Rattle.mu_lead.specs.Standing.{verb_of}
-use Rattle.mu_node.specs.Due.{lead_due}
-use Rattle.mu_node.proofs.Leads.{lead_allowed, made_allowed}
+use Rattle.mu_node.specs.Due.{idle_due, lead_due, verb_or_beat}
+use Rattle.mu_node.proofs.CatchingUp.{idle_fits}
+use Rattle.mu_node.proofs.Leads.{allowed_of, lead_allowed, made_allowed}
 use Rattle.mu_node.proofs.node.Node.plan_led.Goals as goal
 
-pub returns-clause-fits : goal.returns-clause-fits
-returns-clause-fits g c =
+pub returns-in-Some-clause-fits : goal.returns-in-Some-clause-fits
+returns-in-Some-clause-fits g c =
     let node = c.args.self.now in
     let lead = c.heed-heeded.new.self.lead in
     let known = c.known.ensures node.follow.config node.id g.mine (length g.mine) c.heed-heeded.ensures.stands.beside.follow in (
       c.heed-heeded.ensures.heeded,
-      c.due.ensures.exact ∙ (ap (λ t. if t then verb_of lead c.known.result.now else None) c.heed-heeded.ensures.named ∙ ap (λ l. if leader node.follow.config node.id g.mine == node.id then verb_of lead l else None) known),
+      sym c.in-Some.is ∙ (c.due.ensures.exact ∙ (ap (λ t. if t then verb_of lead c.known.result.now else None) c.heed-heeded.ensures.named ∙ ap (λ l. if leader node.follow.config node.id g.mine == node.id then verb_of lead l else None) known)),
     )
 
-pub returns-clause-led : goal.returns-clause-led
-returns-clause-led g c =
+pub returns-in-Some-clause-leads : goal.returns-in-Some-clause-leads
+returns-in-Some-clause-leads g c =
     let node = c.args.self.now in
     let lead = c.heed-heeded.new.self.lead in
     let known = c.known.ensures node.follow.config node.id g.mine (length g.mine) c.heed-heeded.ensures.stands.beside.follow in
     let due : c.due.result ≡ lead_due node.follow.config node.id g.mine lead =
     c.due.ensures.exact ∙ (ap (λ t. if t then verb_of lead c.known.result.now else None) c.heed-heeded.ensures.named ∙ ap (λ l. if leader node.follow.config node.id g.mine == node.id then verb_of lead l else None) known) in
-    due ∙ c.heed-heeded.ensures.due
+    sym (ap (λ (o : Option Verb). is_some o) (sym c.heed-heeded.ensures.due ∙ (sym due ∙ c.in-Some.is)))
 
-pub returns-clause-allowed : goal.returns-clause-allowed
-returns-clause-allowed g c =
+pub returns-in-Some-clause-led : goal.returns-in-Some-clause-led
+returns-in-Some-clause-led g c =
+    let node = c.args.self.now in
+    let lead = c.heed-heeded.new.self.lead in
+    let known = c.known.ensures node.follow.config node.id g.mine (length g.mine) c.heed-heeded.ensures.stands.beside.follow in
+    let due : c.due.result ≡ lead_due node.follow.config node.id g.mine lead =
+    c.due.ensures.exact ∙ (ap (λ t. if t then verb_of lead c.known.result.now else None) c.heed-heeded.ensures.named ∙ ap (λ l. if leader node.follow.config node.id g.mine == node.id then verb_of lead l else None) known) in
+    sym (ap (λ o. or_else o (idle_due node.zeal node.follow.config node.id g.mine)) (sym c.heed-heeded.ensures.due ∙ (sym due ∙ c.in-Some.is)))
+
+pub returns-in-Some-clause-allowed : goal.returns-in-Some-clause-allowed
+returns-in-Some-clause-allowed g c =
     let node = c.args.self.now in
     let held = c.heed-heeded.ensures.stands in
-    made_allowed node.follow.config node.id g.mine c.due.result c.requires.1.1.0 held.beside.follow.inside
-    (lead_allowed node.follow.config node.id g.mine c.heed-heeded.new.self.lead c.due.result held.lead.config held.lead.id c.due.ensures.allowed)
+    subst (λ d. Allowed node.follow.config node.id g.mine (verb_or_beat d)) c.in-Some.is
+    (made_allowed node.follow.config node.id g.mine c.due.result c.requires.1.1.0 held.beside.follow.inside
+    (lead_allowed node.follow.config node.id g.mine c.heed-heeded.new.self.lead c.due.result held.lead.config held.lead.id c.due.ensures.allowed))
+
+pub returns-in-None-clause-fits : goal.returns-in-None-clause-fits
+returns-in-None-clause-fits g c =
+    let node = c.args.self.now in
+    let new = c.heed-heeded.new.self in
+    let known = c.known.ensures node.follow.config node.id g.mine (length g.mine) c.heed-heeded.ensures.stands.beside.follow in
+    let due : c.due.result ≡ lead_due node.follow.config node.id g.mine new.lead =
+    c.due.ensures.exact ∙ (ap (λ t. if t then verb_of new.lead c.known.result.now else None) c.heed-heeded.ensures.named ∙ ap (λ l. if leader node.follow.config node.id g.mine == node.id then verb_of new.lead l else None) known) in
+    idle_fits new.zeal node.follow.config node.id g.mine new.lead c.idle.result
+    (c.idle.ensures.exact ∙ (ap (λ (f : Follow). idle_due new.zeal f.config new.id g.mine) c.heed-heeded.ensures.follow ∙ ap (λ i. idle_due new.zeal node.follow.config i g.mine) c.heed-heeded.ensures.id))
+    (sym due ∙ c.in-None.is) c.heed-heeded.ensures.leads
+
+pub returns-in-None-clause-led : goal.returns-in-None-clause-led
+returns-in-None-clause-led g c =
+    let node = c.args.self.now in
+    let new = c.heed-heeded.new.self in
+    let known = c.known.ensures node.follow.config node.id g.mine (length g.mine) c.heed-heeded.ensures.stands.beside.follow in
+    let due : c.due.result ≡ lead_due node.follow.config node.id g.mine new.lead =
+    c.due.ensures.exact ∙ (ap (λ t. if t then verb_of new.lead c.known.result.now else None) c.heed-heeded.ensures.named ∙ ap (λ l. if leader node.follow.config node.id g.mine == node.id then verb_of new.lead l else None) known) in
+    let none : lead_due node.follow.config node.id g.mine node.lead ≡ None = sym c.heed-heeded.ensures.due ∙ (sym due ∙ c.in-None.is) in
+    c.idle.ensures.exact
+    ∙ (ap (λ (f : Follow). idle_due new.zeal f.config new.id g.mine) c.heed-heeded.ensures.follow
+    ∙ (ap (λ i. idle_due new.zeal node.follow.config i g.mine) c.heed-heeded.ensures.id
+    ∙ (ap (λ z. idle_due z node.follow.config node.id g.mine) c.heed-heeded.ensures.zeal
+    ∙ sym (ap (λ o. or_else o (idle_due node.zeal node.follow.config node.id g.mine)) none))))
+
+pub returns-in-None-clause-allowed : goal.returns-in-None-clause-allowed
+returns-in-None-clause-allowed g c =
+    let node = c.args.self.now in
+    let new = c.heed-heeded.new.self in
+    let held = c.heed-heeded.ensures.stands in
+    let may = subst (λ i. IfSome c.idle.result (λ verb. Allowed node.follow.config i g.mine verb × IsReplay false verb)) c.heed-heeded.ensures.id
+    (subst (λ (f : Follow). IfSome c.idle.result (λ verb. Allowed f.config new.id g.mine verb × IsReplay false verb)) c.heed-heeded.ensures.follow c.idle.ensures.allowed) in
+    made_allowed node.follow.config node.id g.mine c.idle.result c.requires.1.1.0 held.beside.follow.inside (allowed_of node.follow.config node.id g.mine c.idle.result may)

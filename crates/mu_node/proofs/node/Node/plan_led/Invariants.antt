@@ -5,3 +5,6 @@ ghost-heed g a = g.mine
 
 abbrev pub ghost-due : goal.ghost-due
 ghost-due g a = g.mine
+
+abbrev pub ghost-idle : goal.ghost-idle
+ghost-idle g a = g.mine

@@ -1,5 +1,7 @@
 use Rattle.std.proofs.Common.{◌≡◌, ◌∙◌, ◌<◌, ap, arith, false, length, refl, subst, sym, true, None, List, ℕ}
+use Rattle.std.specs.Prelude.{is_some}
 use Rattle.std.specs.declared.option.Option.{Option}
+use Rattle.std.proofs.lemmas.Bool.{and_parts}
 use Rattle.mu_model.specs.declared.config.Config.{Config}
 use Rattle.mu_model.specs.declared.event.Answer.{Answer}
 use Rattle.mu_model.specs.declared.event.Event.{Event}
@@ -12,7 +14,8 @@ use Rattle.mu_model.specs.Stretches.{is_odd}
 use Rattle.mu_lead.specs.Beside.{leads_at}
 use Rattle.mu_node.specs.declared.node.Node.{Node}
 use Rattle.mu_node.specs.Cycle.{IsBackgroundDue, IsMade}
-use Rattle.mu_node.specs.Due.{FitsLead, lead_due, verb_or_beat}
+use Rattle.mu_node.specs.Due.{FitsLead, idle_due, lead_due, turn_due, verb_or_beat}
+use Rattle.mu_follow.specs.CatchingUp.{or_else}
 use Rattle.mu_lead.specs.Journal.{tables_at}
 use Rattle.mu_lead.specs.Listing.{Tables}
 use Rattle.mu_node.specs.Journal.{FollowsTurn}
@@ -22,7 +25,7 @@ use Rattle.mu_node.specs.Notes.{MovesGoing, SaysTook, TellsNote, TellsTook}
 use Rattle.mu_node.proofs.Leading.{even_may}
 use Rattle.mu_node.proofs.Moving.{event_by, moved, possible_own, to_own, to_port}
 use Rattle.mu_node.proofs.Pacing.{due_listed}
-use Rattle.mu_node.proofs.Turning.{going_moves, made_follows, note_told, replays}
+use Rattle.mu_node.proofs.Turning.{IsTurnDue, going_moves, made_follows, note_told, replays}
 use Rattle.mu_node.proofs.node.Node.step.Goals as goal
 
 pub plan-plan-requires : goal.plan-plan-requires
@@ -71,29 +74,38 @@ took-requires g c =
           omega (arith, short, room),
           (
             to_own (λ x i l. FitsLead x i l new.lead c.plan-plan.result.leads c.plan-plan.result.due) node.follow.config new.follow.config node.id new.id g.mine g.mine plan.config plan.id refl plan.fits,
-            (plan.leads, to_own (λ x i l. HasPlanned x i l new) node.follow.config new.follow.config node.id new.id g.mine g.mine plan.config plan.id refl plan.planned),
+            (λ on. (and_parts (is_odd (length g.mine)) (is_some (lead_due node.follow.config node.id g.mine node.lead)) (sym plan.leads ∙ on)).0, to_own (λ x i l. HasPlanned x i l new) node.follow.config new.follow.config node.id new.id g.mine g.mine plan.config plan.id refl plan.planned),
           ),
         ),
       ),
     )
 
+-- in a turn of the leader it is what the journal has due
+turn_listed : (c : Config) (r : ℕ) (mine : List Event) (old : Node) (due : Option Verb) → StandsForNode c r mine old → IsTurnDue old.zeal c r mine old.lead due → is_odd (length mine) ≡ true → due ≡ turn_due old.zeal c r mine
+turn_listed c r mine old due stands led odd = led odd ∙ ap (λ o. or_else o (idle_due old.zeal c r mine)) (due_listed c r mine old.lead stands.lead stands.paces.listed)
+
 -- what is due follows the turn
 follows_of : (c : Config) (r : ℕ) (mine : List Event) (old planned : Node) (due : Option Verb) (answer : Answer) → IsConfig c → IsPossible c r mine → length mine < c.budget → outrun c r mine ≡ None → StandsForNode c r mine old → HasPlanned c r mine planned
-    → (is_odd (length mine) ≡ true → due ≡ lead_due c r mine old.lead) → (is_odd (length mine) ≡ false → IsBackgroundDue c r mine (leads_at old.lead.place) due)
-    → FollowsTurn c r mine (event_by r (verb_or_beat due) answer)
+    → IsTurnDue old.zeal c r mine old.lead due → (is_odd (length mine) ≡ false → IsBackgroundDue c r mine (leads_at old.lead.place) due)
+    → FollowsTurn old.zeal c r mine (event_by r (verb_or_beat due) answer)
 follows_of c r mine old planned due answer good possible short going stands held led cycle = record {
-  cycle = made_follows c r mine old.lead (leads_at old.lead.place) due answer led cycle (replays c r mine (leads_at old.lead.place) good possible held.beside.follow.inside short (omega (arith, held.handed, held.beside.follow.progress.handed)));
+  cycle = made_follows old.zeal c r mine old.lead (leads_at old.lead.place) due answer led cycle (replays c r mine (leads_at old.lead.place) good possible held.beside.follow.inside short (omega (arith, held.handed, held.beside.follow.progress.handed)));
   made = record {
     own = refl;
     going = going;
+    zeal = old.zeal;
     made = record {
-      replication = λ odd. ap verb_or_beat (led odd ∙ due_listed c r mine old.lead stands.lead stands.paces.listed);
+      replication = listed;
       background = λ even. (due, subst (λ l. IsBackgroundDue c r mine l due) (ap leads_at stands.paces.listed.place) (cycle even), refl);
     };
     paces = subst (λ p. PacesAt c r mine (tables_at c r mine).written p) stands.paces.listed.place (subst (λ (t : Tables). PacesAt c r mine t.written old.lead.place) stands.paces.listed.tables stands.paces.paces);
     leads = λ even leads. even_may c r mine even (stands.leads (ap leads_at stands.paces.listed.place ∙ leads));
   };
+  listed = listed;
 }
+  where
+    listed : is_odd (length mine) ≡ true → verb_or_beat due ≡ verb_or_beat (turn_due old.zeal c r mine)
+    listed odd = ap verb_or_beat (turn_listed c r mine old due stands led odd)
 
 pub returns-clause-stands : goal.returns-clause-stands
 returns-clause-stands g c =
@@ -112,8 +124,8 @@ returns-clause-stands g c =
     let answer = c.step-answer.result in
     let going = to_own (λ x i l. outrun x i l ≡ None) (g.P.Port.config old) node.follow.config (g.P.Port.number old) node.id (g.P.Port.part old) g.mine own id c.requires.1.0 c.requires.1.1.1.1.1.1.1 in
     let stands = to_own (λ x i l. StandsForNode x i l node) (g.P.Port.config old) node.follow.config (g.P.Port.number old) node.id (g.P.Port.part old) g.mine own id c.requires.1.0 held in
-    let follows = to_own (λ x i l. FollowsTurn x i l (event_by i (verb_or_beat due) answer)) node.follow.config new.follow.config node.id c.args.id g.mine g.mine plan.config (c.requires.1.1.0 ∙ sym id) refl
-    (follows_of node.follow.config node.id g.mine node new due answer good possible short going stands plan.planned plan.led plan.cycle) in
+    let follows = to_own (λ x i l. FollowsTurn new.zeal x i l (event_by i (verb_or_beat due) answer)) node.follow.config new.follow.config node.id c.args.id g.mine g.mine plan.config (c.requires.1.1.0 ∙ sym id) refl
+    (subst (λ z. FollowsTurn z node.follow.config node.id g.mine (event_by node.id (verb_or_beat due) answer)) (sym plan.zeal) (follows_of node.follow.config node.id g.mine node new due answer good possible short going stands plan.planned plan.led plan.cycle)) in
     moved (g.P.Port.config old) (g.P.Port.config now) new.follow.config (g.P.Port.number old) (g.P.Port.number now) c.args.id (g.P.Port.part old) g.mine (g.P.Port.part now) c.or_beat-verb.result (verb_or_beat due) answer c.took.new.self
     (g.met.P.Port.same_config old now c.step-answer.ensures.same) (g.met.P.Port.same_number old now c.step-answer.ensures.same)
     (plan.config ∙ own) c.requires.1.1.0 c.requires.1.0 c.or_beat-verb.ensures c.step-answer.ensures.part c.step-answer.ensures.possible (c.took.ensures.stands follows)
@@ -140,15 +152,14 @@ returns-clause-made g c =
     let says = to_own (λ x i l. SaysTook x i l c.plan-plan.result.leads due c.plan-plan.result.heeded new.lead c.took.new.self.lead answer c.took.result) new.follow.config node.follow.config c.args.id node.id g.mine g.mine (sym plan.config) (id ∙ sym c.requires.1.1.0) refl c.took.ensures.says in
     let stands = to_own (λ x i l. StandsForNode x i l node) k node.follow.config r node.id mine g.mine own id c.requires.1.0 held in
     let listed = stands.paces.listed in
-    let same = due_listed node.follow.config node.id g.mine node.lead stands.lead listed in
     record {
       verb = c.or_beat-verb.result;
       answer = answer;
       part = c.step-answer.ensures.part;
-      made = to_port (λ x i l. IsMade x i l c.or_beat-verb.result) k node.follow.config r node.id mine g.mine own id c.requires.1.0
-          (subst (λ v. IsMade node.follow.config node.id g.mine v) (sym c.or_beat-verb.ensures) (record { replication = λ odd. ap verb_or_beat (plan.led odd ∙ same); background = λ even. (due, subst (λ l. IsBackgroundDue node.follow.config node.id g.mine l due) (ap leads_at listed.place) (plan.cycle even), refl) }));
+      made = to_port (λ x i l. IsMade node.zeal x i l c.or_beat-verb.result) k node.follow.config r node.id mine g.mine own id c.requires.1.0
+          (subst (λ v. IsMade node.zeal node.follow.config node.id g.mine v) (sym c.or_beat-verb.ensures) (record { replication = λ odd. ap verb_or_beat (turn_listed node.follow.config node.id g.mine node due stands plan.led odd); background = λ even. (due, subst (λ l. IsBackgroundDue node.follow.config node.id g.mine l due) (ap leads_at listed.place) (plan.cycle even), refl) }));
       tells = to_port (λ x i l. TellsNote x i l node.lead answer c.took.result) k node.follow.config r node.id mine g.mine own id c.requires.1.0
-          (note_told node.follow.config node.id g.mine node.lead new.lead c.took.new.self.lead c.plan-plan.result.leads due c.plan-plan.result.heeded answer c.took.result plan.leads plan.led plan.heeded possible took plan.told says stands.lead listed);
+          (note_told node.zeal node.follow.config node.id g.mine node.lead new.lead c.took.new.self.lead c.plan-plan.result.leads due c.plan-plan.result.heeded answer c.took.result plan.leads plan.led plan.heeded possible took plan.told says stands.lead listed);
     }
 
 pub returns-clause-going : goal.returns-clause-going
@@ -165,4 +176,4 @@ returns-clause-going g c =
     let next = c.took.new.self.lead in
     let says = to_own (λ x i l. SaysTook x i l c.plan-plan.result.leads due c.plan-plan.result.heeded new.lead next answer c.took.result) new.follow.config node.follow.config c.args.id node.id g.mine g.mine (sym plan.config) (id ∙ sym c.requires.1.1.0) refl c.took.ensures.says in
     to_port (λ x i l. MovesGoing x i l node.lead next c.took.result) (g.P.Port.config old) node.follow.config (g.P.Port.number old) node.id (g.P.Port.part old) g.mine own id c.requires.1.0
-    (going_moves node.follow.config node.id g.mine node.lead new.lead next c.plan-plan.result.leads due c.plan-plan.result.heeded answer c.took.result plan.leads plan.led plan.heeded plan.told plan.lead says)
+    (going_moves node.zeal node.follow.config node.id g.mine node.lead new.lead next c.plan-plan.result.leads due c.plan-plan.result.heeded answer c.took.result plan.leads plan.led plan.heeded plan.told plan.lead says)

@@ -19,14 +19,15 @@ took_led-requires g c =
     let id = c.args.id in
     let fits = subst (λ i. FitsLead k i g.mine node.lead c.args.plan.leads c.args.plan.due) (sym c.requires.0) c.requires.1.1.1.0 in
     let led = fits_led k id g.mine node.lead c.args.plan.leads c.args.plan.due c.in-Some.verb fits c.if-plan.true c.in-Some.is in
-    (c.requires.1.0, (c.requires.1.1.0, (led.0, (led.1, (sym c.requires.1.1.1.1.0 ∙ c.if-plan.true, subst (λ i. HasPlanned k i g.mine node) (sym c.requires.0) c.requires.1.1.1.1.1)))))
+    (c.requires.1.0, (c.requires.1.1.0, (led.0, (led.1, (c.requires.1.1.1.1.0 c.if-plan.true, subst (λ i. HasPlanned k i g.mine node) (sym c.requires.0) c.requires.1.1.1.1.1)))))
 
 pub returns-then-plan-clause-stands : goal.returns-then-plan-clause-stands
 returns-then-plan-clause-stands g c =
-    let k = c.args.self.now.follow.config in
+    let node = c.args.self.now in
+    let k = node.follow.config in
     let id = c.args.id in
     let made : verb_or_beat c.args.plan.due ≡ c.in-Some.verb = ap verb_or_beat c.in-Some.is in
-    subst (λ v. FollowsTurn k id g.mine (event_by id v c.args.answer) → IsPossible k id (event_by id v c.args.answer ∷ g.mine) → StandsForNode k id (event_by id v c.args.answer ∷ g.mine) c.took_led.new.self) (sym made) c.took_led.ensures.stands
+    subst (λ v. FollowsTurn node.zeal k id g.mine (event_by id v c.args.answer) → IsPossible k id (event_by id v c.args.answer ∷ g.mine) → StandsForNode k id (event_by id v c.args.answer ∷ g.mine) c.took_led.new.self) (sym made) c.took_led.ensures.stands
 
 pub returns-then-plan-clause-note : goal.returns-then-plan-clause-note
 returns-then-plan-clause-note g c =
@@ -44,8 +45,8 @@ returns-else-plan-clause-stands g c =
     let fits = subst (λ i. FitsLead k i g.mine node.lead c.args.plan.leads c.args.plan.due) (sym c.requires.0) c.requires.1.1.1.0 in
     let beside = fits_other k id g.mine node.lead c.args.plan.leads c.args.plan.due c.in-Some.verb fits c.if-plan.false c.in-Some.is in
     let held = subst (λ i. HasPlanned k i g.mine node) (sym c.requires.0) c.requires.1.1.1.1.1 in
-    subst (λ v. FollowsTurn k id g.mine (event_by id v c.args.answer) → IsPossible k id (event_by id v c.args.answer ∷ g.mine) → StandsForNode k id (event_by id v c.args.answer ∷ g.mine) c.note_other.new.self) (sym made)
-    (λ follows possible. c.note_other.ensures.stands g.mine beside (λ odd. absurd (true≢false (sym odd ∙ (sym c.requires.1.1.1.1.0 ∙ c.if-plan.false)))) follows possible held)
+    subst (λ v. FollowsTurn node.zeal k id g.mine (event_by id v c.args.answer) → IsPossible k id (event_by id v c.args.answer ∷ g.mine) → StandsForNode k id (event_by id v c.args.answer ∷ g.mine) c.note_other.new.self) (sym made)
+    (λ follows possible. c.note_other.ensures.stands g.mine beside.0 beside.1 follows possible held)
 
 pub returns-else-plan-clause-note : goal.returns-else-plan-clause-note
 returns-else-plan-clause-note g c = record {
@@ -62,8 +63,8 @@ returns-in-None-clause-stands g c =
     let made : verb_or_beat c.args.plan.due ≡ Verb.Beat = ap verb_or_beat c.in-None.is in
     let fits = subst (λ i. FitsLead k i g.mine node.lead c.args.plan.leads c.args.plan.due) (sym c.requires.0) c.requires.1.1.1.0 in
     let held = subst (λ i. HasPlanned k i g.mine node) (sym c.requires.0) c.requires.1.1.1.1.1 in
-    subst (λ v. FollowsTurn k id g.mine (event_by id v c.args.answer) → IsPossible k id (event_by id v c.args.answer ∷ g.mine) → StandsForNode k id (event_by id v c.args.answer ∷ g.mine) c.note_other-in-None.new.self) (sym made)
-    (λ follows possible. c.note_other-in-None.ensures.stands g.mine refl (λ odd. (fits_idle k id g.mine node.lead c.args.plan.leads c.args.plan.due fits (c.requires.1.1.1.1.0 ∙ odd) c.in-None.is, refl)) follows possible held)
+    subst (λ v. FollowsTurn node.zeal k id g.mine (event_by id v c.args.answer) → IsPossible k id (event_by id v c.args.answer ∷ g.mine) → StandsForNode k id (event_by id v c.args.answer ∷ g.mine) c.note_other-in-None.new.self) (sym made)
+    (λ follows possible. c.note_other-in-None.ensures.stands g.mine refl (fits_idle k id g.mine node.lead c.args.plan.leads c.args.plan.due fits c.in-None.is) follows possible held)
 
 pub returns-in-None-clause-note : goal.returns-in-None-clause-note
 returns-in-None-clause-note g c = record {

@@ -13,7 +13,9 @@ use Rattle.mu_lead.specs.Standing.{known_told}
 use Rattle.mu_node.specs.Due.{lead_due}
 use Rattle.mu_node.specs.Node.{StandsForLead}
 use Rattle.mu_node.specs.Paced.{HasPaces, HasPlannedPaces}
+use Rattle.mu_pace.specs.Counters.{AtEachStep}
 use Rattle.mu_node.specs.Cycle.{handed}
+use Rattle.mu_node.specs.Journal.{IsListed}
 use Rattle.mu_node.proofs.Answering.{answers_stay}
 use Rattle.mu_node.proofs.Leading.{due_leads_on}
 use Rattle.mu_lead.specs.Lasting.{tables_of}
@@ -68,6 +70,7 @@ returns-clause-stands g c follows possible =
       answers = answers_stay k r (handed k r mine) (event_by r verb c.args.answer) mine c.args.self.now.answers c.learn.new.self.answers (c.learn.ensures.answers ∙ c.note.ensures.answers) c.args.self.now.follow.progress.handed held.beside.follow.progress.handed held.handed held.answers;
       cycle = (held.cycle, follows.cycle);
       made = (held.made, follows.made);
+      listed = subst (λ z. AtEachStep (IsListed z k r) (event_by r verb c.args.answer ∷ mine)) (sym (c.learn.ensures.zeal ∙ c.note.ensures.zeal)) (held.listed, follows.listed);
       leads = λ leads. due_leads_on k r mine c.args.self.now.lead verb (event_by r verb c.args.answer) c.requires.1.1.1.0;
       paces = subst (λ l. HasPaces k r (event_by r verb c.args.answer ∷ mine) l) (sym c.learn.ensures.lead) paces;
       led = (held.led, kept_led k r mine old c.take-note.new.self verb c.args.answer due lead before taken paces);

@@ -8,8 +8,6 @@ use Rattle.mu_node.proofs.Left.{is_left, steps_within}
 use Rattle.mu_node.proofs.Paces.{keeps_beside, replays_in_time}
 use Rattle.mu_node.proofs.Rounding.{keeps_rounds, raised_in_time}
 use Rattle.mu_pace.proofs.Cycles.{rounds_read_in_time, rounds_tell_heads}
-use Rattle.mu_pace.proofs.Cycles.{steps_give}
-use Rattle.mu_node.specs.Journal.{IsListed, WasMade}
 use Rattle.mu_node.proofs.node.Node.turn.Goals as goal
 
 pub step-requires : goal.step-requires
@@ -129,16 +127,7 @@ returns-in-None-clause-diligent g c =
     journal_is_diligent k r mine c.step.new.self c.step.ensures.possible stands
 
 pub returns-in-Some-clause-listed : goal.returns-in-Some-clause-listed
-returns-in-Some-clause-listed g c =
-    let k = g.P.Port.config c.args.port.now in
-    let r = g.P.Port.number c.args.port.now in
-    let stands = c.requires.stands in
-    steps_give (WasMade k r) (IsListed k r) (λ past e made. made.made.replication) (g.P.Port.part c.args.port.now) stands.made
+returns-in-Some-clause-listed g c = c.requires.stands.listed
 
 pub returns-in-None-clause-listed : goal.returns-in-None-clause-listed
-returns-in-None-clause-listed g c =
-    let now = c.step.new.port in
-    let k = g.P.Port.config now in
-    let r = g.P.Port.number now in
-    let stands = c.step.ensures.stands in
-    steps_give (WasMade k r) (IsListed k r) (λ past e made. made.made.replication) (g.P.Port.part now) stands.made
+returns-in-None-clause-listed g c = c.step.ensures.stands.listed
