@@ -1,8 +1,8 @@
 -- What is said of bytes that were read is told of the source.
-use Rattle.std.proofs.Common.{◌≡◌, ℕ, ◌≤◌, List, None, Some, Option, ap, arith, inr, length, refl}
+use Rattle.std.proofs.Common.{◌≡◌, ℕ, ◌≤◌, List, None, Some, Option, ap, arith, inr, length}
 use Rattle.std.specs.Prelude.{IfSome}
 use Rattle.mu_report.specs.declared.said.Said.{Said}
-use Rattle.mu_top.specs.Answers.{Does, SaysOfInput, TellsOf}
+use Rattle.mu_top.specs.Answers.{Does, TellsOf}
 use Rattle.mu_top.specs.Words.{limit_of}
 use Rattle.mu_top.specs.declared.asking.Task.{Task}
 
