@@ -1,6 +1,6 @@
 -- A replica that reads on in a turn of its leader: which verbs these are, and what they leave of the
 -- counts of that leader.
-use Rattle.std.proofs.Common.{◌≡◌, ◌∙◌, ◌≢◌, ℕ, ◌*◌, ◌+◌, ◌%◌, ◌≤◌, ◌==◌, ◌||◌, ◌⊎◌, inl, inr, Bool, true, false, None, Some, List, ◌∷◌, ap, arith, length, refl, subst, sym}
+use Rattle.std.proofs.Common.{◌≡◌, ◌∙◌, ℕ, ◌+◌, ◌%◌, ◌≤◌, ◌||◌, ◌⊎◌, inl, inr, Bool, true, false, None, Some, List, ◌∷◌, ap, arith, length, refl, subst, sym}
 use Rattle.std.specs.Prelude.{if◌then◌else◌, nat_lt, not, ◌&&◌}
 use Rattle.std.specs.declared.option.Option.{Option}
 use Rattle.std.specs.List.{slice_get}

@@ -23,10 +23,9 @@ use Rattle.mu_follow.specs.Due.{replay_due, row_read, row_under_way}
 use Rattle.mu_follow.proofs.Due.{least_below_fails}
 use Rattle.mu_follow.proofs.Waiting.{fuo_rises, is_write, known_same, own_applied_same, own_row_same}
 use Rattle.mu_lead.specs.Beside.{leads_at}
-use Rattle.mu_pace.specs.Counters.{AtEachMoment, AtEachStep, HasRoom, IsInTime, Watch, fewer, left_after, steps_left}
+use Rattle.mu_pace.specs.Counters.{AtEachMoment, AtEachStep, HasRoom, IsInTime, fewer, left_after, steps_left}
 use Rattle.mu_pace.specs.Watches.{is_named_turn, is_replay_due, reading_own, replaying}
 use Rattle.mu_pace.proofs.Cycles.{closed_moments, steps_give, while_allows}
-use Rattle.mu_pace.proofs.Rooms.{kinds_of_step}
 use Rattle.mu_node.specs.Cycle.{handed, other_at, place_now}
 use Rattle.mu_node.specs.Due.{CatchesUp, verb_or_beat}
 use Rattle.mu_node.proofs.CatchingUp.{catches_reading, closes_anew, made_led, reading_fails}
