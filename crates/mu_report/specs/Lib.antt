@@ -9,6 +9,7 @@ pub mod Reasons
 pub mod Report
 pub mod Said
 pub mod Sentences
+pub mod Statuses
 pub mod Summary
 pub mod Trace
 pub mod Words

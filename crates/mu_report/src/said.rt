@@ -3,7 +3,7 @@ ghost use Rattle.std.specs.Prelude.{◌≡◌, ◌*◌, ◌<◌, ◌≤◌, ◌^
 ghost use Rattle.std.specs.Io.KnownBytes.{Appends};
 ghost use Rattle.mu_io.specs.Faults.{Rose};
 ghost use Rattle.mu_report.specs.declared.line.TheConstants.{LINE_BYTES};
-ghost use Rattle.mu_report.specs.Said.{text, lines_of, said_of_end, IsShort};
+ghost use Rattle.mu_report.specs.Said.{text, lines_of, said_of_end, said_of_read, IsShort};
 
 use crate::accounts::print_account;
 use crate::answers::verdict_line;
@@ -19,7 +19,7 @@ use crate::summary::print_summary;
 use crate::trace::print_trace;
 use match_book::Book;
 use mu_input::InputEnd;
-use mu_io::{Sink, WriteFault};
+use mu_io::{ReadEnd, Sink, WriteFault};
 use mu_mistakes::Misread;
 use mu_model::Stops;
 use mu_outcome::{Outcome, Verdict};
@@ -139,6 +139,19 @@ impl From<InputEnd> for Said {
         match end {
             InputEnd::Refused { line, cause } => Said::Refused { line, cause },
             InputEnd::NoMemory => Said::NoMemory,
+        }
+    }
+}
+
+impl From<ReadEnd> for Said {
+    ghost from_gives = { λ end said. said ≡ said_of_read end };
+
+    /// What is said if the input was not read.
+    fn from(end: ReadEnd) -> Said {
+        match end {
+            ReadEnd::Fault => Said::ReadFault,
+            ReadEnd::TooLong => Said::TooLong,
+            ReadEnd::NoMemory => Said::NoMemory,
         }
     }
 }

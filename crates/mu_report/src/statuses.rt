@@ -1,10 +1,11 @@
 //! The status of the program after what it says.
 ghost use Rattle.std.specs.Prelude.{◌≡◌};
-ghost use Rattle.mu_top.specs.Answers.{status_for as status_for_said, broken_status as status_of_broken, verdict_status as status_of_verdict};
+ghost use Rattle.mu_report.specs.Statuses.{status_for as status_for_said, broken_status as status_of_broken, verdict_status as status_of_verdict};
 
+use crate::report::status;
+use crate::said::Said;
 use mu_outcome::{Status, Verdict};
 use mu_reasons::Broken;
-use mu_report::{Said, status};
 
 /// The status of what is said, once it is written.
 pub fn status_for(said: &Said) -> Status
