@@ -16,7 +16,7 @@ use Rattle.mu_alive.specs.Enough.{beginning_steps}
 use Rattle.mu_alive.specs.Finishing.{HaveAllRaised, KeepUp, lagging_steps}
 use Rattle.mu_alive.specs.Lone.{LeadsAlone}
 
--- in so many steps of the leader each replica that lags gains an entry or a row, all at once
+-- the steps of the leader in which each replica that lags gains an entry or a row, all at once
 abbrev pub gain_steps : Config → ℕ
 gain_steps c = 2 * cycle c + 2
 
@@ -31,8 +31,8 @@ abbrev pub settling_steps : Config → ℕ
 settling_steps c =
     beginning_steps c + (2 * cycle c + 2) + joining_steps c + 2 * bringing_steps c
 
--- this many steps are enough in any ring: each entry is committed once, and learnt and fetched once by
--- the replica that is last
+-- this many steps are enough in any ring: each entry is committed once, and learnt and fetched once
+-- by the replica that is last
 abbrev pub steps_in_any_ring : Config → ℕ
 steps_in_any_ring c =
     settling_steps c + (row_count c + reserve c) * commit_steps c
@@ -47,7 +47,7 @@ LoneLeadersApplyAllInAnyRing =
     → steps_in_any_ring c ≤ length (part a past)
     → holds_all c (applied c a (part a past)) ≡ true
 
--- and so many more until all others have too, and have raised their heads to it
+-- with the steps until all others have too, and have raised their heads to it
 abbrev pub raising_in_any_ring : Config → ℕ
 raising_in_any_ring c = steps_in_any_ring c + lagging_steps c
 

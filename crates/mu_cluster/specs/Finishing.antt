@@ -35,7 +35,7 @@ pub record HasApplied (o : Outcome) (r : ℕ) : Type 0 where
   pub ended : slice_get o.ends r ≡ Some (End.Finished heads)
   pub holds : holds_all o.job.config (log_of o r) ≡ true
 
--- if the script has no pause, and neither replica 0 nor a majority with it was stopped, each
+-- if the script has no pause, and neither replica 0 nor half of the replicas were stopped, each
 -- replica that wasn't stopped finishes with every row
 abbrev pub AppliesEachInTime : Outcome → Type 0
 AppliesEachInTime o =

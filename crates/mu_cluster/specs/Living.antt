@@ -1,5 +1,5 @@
--- is stopped, leaves a majority, has all in time: a line of the script stops the replica; no line stops
--- replica 0, nor a majority with it; a replay with enough budget has every command.
+-- is stopped, leaves a majority, has all in time: a line of the script stops the replica; the script
+-- stops neither replica 0 nor half of the replicas; a replay with enough budget has every command.
 use Rattle.std.specs.Prelude.{Bool, List, Some, [], false, not, true, ℕ, ◌<◌, ◌==◌, ◌||◌, ◌∷◌, ◌≡◌, ◌≤◌}
 use Rattle.std.specs.List.{slice_get}
 use Rattle.mu_alive.specs.Enough.{HasLargeRing, steps_enough}
@@ -25,13 +25,13 @@ is_stopped (s ∷ ss) r = (s.replica == r) || is_stopped ss r
 abbrev pub is_left : List Stop → ℕ → Bool
 is_left stops r = not (is_stopped stops r)
 
--- the script leaves replica 0 and a majority with it
+-- the script stops neither replica 0 nor half of the replicas
 pub record LeavesMajority (c : Config) (stops : List Stop) : Type 0 where
   pub first : is_left stops 0 ≡ true
   pub majority : majority_of c.replicas ≤ count_below c.replicas (is_left stops)
 
--- if its script has no pause and leaves a majority with replica 0, its ring is large and its budget
--- enough, replica 0 has every row in its log, should these replicas have spent their budgets
+-- if its script has no pause, and stops neither replica 0 nor half of all, its ring is large and its
+-- budget enough, replica 0 has every row in its log, should those left have spent their budgets
 abbrev pub AppliesAllWithFirst : Outcome → Type 0
 AppliesAllWithFirst o =
     o.job.script.pauses ≡ [] → LeavesMajority o.job.config o.job.script.stops

@@ -7,7 +7,7 @@ use mu_model::{Answer, Event, Verb};
 use std::thread;
 use std::time::{Clock, Duration};
 
-/// After so many reads without a new beat a replica is held to be failed.
+/// After this many reads without a new beat a replica is held to be failed.
 const MOST_READS: u8 = 15;
 
 /// How a thread let the others on before a turn of its replica.
