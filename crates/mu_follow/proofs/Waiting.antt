@@ -68,7 +68,7 @@ row_same c r u past (Verb.ReadRow w word) answer no_write of_known completes = e
 row_same c r u past verb answer no_write of_known completes = refl
 
 -- the values before the first that fails, by two tests that are the same for each of them
-front_same : (c : Config) (row_before row_now : ℕ → Bool) (xs : List ℕ) → ((u : ℕ) → is_row_of c u xs ≡ true → row_now u ≡ row_before u)
+pub front_same : (c : Config) (row_before row_now : ℕ → Bool) (xs : List ℕ) → ((u : ℕ) → is_row_of c u xs ≡ true → row_now u ≡ row_before u)
     → length (front (λ v. not (is_batch c v) || all_below (rest_of c (v % 4096) + 1) (λ t. row_now (v + t))) xs) ≡ length (front (λ v. not (is_batch c v) || all_below (rest_of c (v % 4096) + 1) (λ t. row_before (v + t))) xs)
 front_same c row_before row_now [] same = refl
 front_same c row_before row_now (v ∷ vs) same = go (is_batch c v) refl (front_same c row_before row_now vs (λ u is. same u (or_true (is_batch c v && (nat_le v u && nat_le u (v + rest_of c (v % 4096)))) (is_row_of c u vs) is)))

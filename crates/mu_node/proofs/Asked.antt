@@ -1,8 +1,8 @@
 -- A leader asks every region before it reads a fence, and so before it reads a minimum.
-use Rattle.std.proofs.Common.{◌≡◌, ◌∙◌, ℕ, suc, zero, ◌+◌, ◌-◌, ◌*◌, ◌<◌, ◌≤◌, ◌==◌, ◌&&◌, ◌||◌, inl, inr, Bool, true, false, cond, None, Some, List, [], ◌∷◌, ◌++◌, ◌⊎◌, ap, arith, eqb-true, length, refl, subst, sym}
+use Rattle.std.proofs.Common.{◌≡◌, ◌∙◌, ℕ, ◌+◌, ◌-◌, ◌*◌, ◌<◌, ◌≤◌, ◌==◌, ◌&&◌, ◌||◌, inl, inr, Bool, true, false, cond, None, Some, List, [], ◌∷◌, ◌++◌, ◌⊎◌, ap, arith, eqb-true, length, refl, subst, sym}
 use Rattle.std.specs.declared.option.Option.{Option}
 use Rattle.std.specs.Prelude.{if◌then◌else◌, is_some, nat_lt, not}
-use Rattle.std.proofs.lemmas.Bool.{and_parts, cases_eq, cases_lt, eq-eqb, true≢false}
+use Rattle.std.proofs.lemmas.Bool.{cases_eq, cases_lt, eq-eqb, true≢false}
 use Rattle.mu_agree.specs.Possible.{CameBy}
 use Rattle.mu_agree.proofs.Landings.{has_more}
 use Rattle.mu_agree.proofs.Possible.{parts_shorten_law}
@@ -31,23 +31,19 @@ use Rattle.mu_pace.specs.Counters.{AtEachMoment, AtEachStep}
 use Rattle.mu_pace.proofs.Counting.{last_moment, moments_before, steps_before}
 use Rattle.mu_node.proofs.CatchingUp.{catches_reading, made_led, reading_fails}
 use Rattle.mu_node.specs.Cycle.{other_at, place_now}
-use Rattle.mu_node.specs.Due.{verb_or_beat}
+use Rattle.mu_node.specs.Due.{or_ahead, verb_or_beat}
 use Rattle.mu_node.specs.Journal.{WasMade}
 use Rattle.mu_node.specs.Paced.{PacesAt}
-use Rattle.mu_node.proofs.Rounding.{Fails, FailsBackground, background_fails}
+use Rattle.mu_node.proofs.Rounding.{FailsBackground, background_fails}
 
 -- such a verb is one of the leader, in a turn of its own
 record OfLead (c : Config) (r : ℕ) (mine : List Event) (e : Event) (held : WasMade c r mine e) : Type 0 where
   odd : is_odd (length mine) ≡ true
   verb : verb_at c (number_due r mine) (known c r mine) (tables_at c r mine).up (tables_at c r mine).written (place_after c r mine) ≡ Some e.verb
 
-of_lead : (test : Verb → Bool) (c : Config) (r : ℕ) (mine : List Event) (e : Event) (held : WasMade c r mine e) → FailsBackground test → test Verb.Beat ≡ false → ((q : ℕ) → test (Verb.ReadBeat q) ≡ false) → ((w : ℕ) → test (Verb.ReadAsk w) ≡ false) → test e.verb ≡ true → OfLead c r mine e held
-of_lead test c r mine e held fails beat beats asks is = go (is_odd (length mine)) refl
+of_lead : (test : Verb → Bool) (c : Config) (r : ℕ) (mine : List Event) (e : Event) (held : WasMade c r mine e) → FailsBackground test → ((j k x : ℕ) → test (Verb.WriteRow j k x) ≡ false) → test Verb.Beat ≡ false → ((q : ℕ) → test (Verb.ReadBeat q) ≡ false) → ((w : ℕ) → test (Verb.ReadAsk w) ≡ false) → test e.verb ≡ true → OfLead c r mine e held
+of_lead test c r mine e held fails write beat beats asks is = go (is_odd (length mine)) refl
   where
-    not_due : (due : Option Verb) → Fails test due → e.verb ≡ verb_or_beat due → ⊥
-    not_due None none made = true≢false (sym is ∙ (ap test made ∙ beat))
-    not_due (Some verb) none made = true≢false (sym is ∙ (ap test made ∙ none))
-
     mine_due : (o : Option Verb) → e.verb ≡ verb_or_beat o → o ≡ Some e.verb
     mine_due None made = absurd (true≢false (sym is ∙ (ap test made ∙ beat)))
     mine_due (Some verb) made = ap Some (sym made)
@@ -72,8 +68,8 @@ of_lead test c r mine e held fails beat beats asks is = go (is_odd (length mine)
     go false even =
         let made = held.made.background even in
         elim (cases_lt (place_now c mine) (host_place c 0)) [
-          | inl low ↦ absurd (not_due made.0 (subst (Fails test) (sym (made.1.read low)) (read (place_now c mine == 0) (nat_lt (place_now c mine) c.replicas))) made.2)
-          | inr high ↦ absurd (not_due made.0 (background_fails test fails c r mine (leads_at (place_after c r mine)) made.0 high made.1) made.2)
+          | inl low ↦ absurd (true≢false (sym is ∙ (ap test (made.2 ∙ ap (or_ahead held.zeal c r mine) (made.1.read low)) ∙ read (place_now c mine == 0) (nat_lt (place_now c mine) c.replicas))))
+          | inr high ↦ absurd (true≢false (sym is ∙ (ap test made.2 ∙ background_fails test fails write held.zeal c r mine (leads_at (place_after c r mine)) made.0 high made.1)))
         ]
 
 fences_fail : FailsBackground is_any_fencing_verb
@@ -155,7 +151,7 @@ newest_ask c r k (e ∷ mine) made waits since begun = go (is_odd (length mine))
     last (f ∷ past) h = h.1
 
     not_ask : is_odd (length mine) ≡ false → (t : Bool) → is_any_ask e.verb ≡ t → t ≡ false
-    not_ask even true is = absurd (true≢false (sym (of_lead is_any_ask c r mine e made.1 any_asks_fail refl (λ q. refl) (λ w. refl) is).odd ∙ even))
+    not_ask even true is = absurd (true≢false (sym (of_lead is_any_ask c r mine e made.1 any_asks_fail (λ j k x. refl) refl (λ q. refl) (λ w. refl) is).odd ∙ even))
     not_ask even false is = refl
 
     go : (t : Bool) → is_odd (length mine) ≡ t → (u : Bool) → is_asking k e ≡ u → (if (is_odd (length mine) && (is_asking k e || not (has_to_ask c r mine))) then 0 else (if is_odd (length mine) then since_ask c r k mine + 1 else since_ask c r k mine)) ≡ 0
@@ -249,7 +245,7 @@ asks_all_first c r mine e some possible made waits on min p low = go e.verb came
     had f =
         let there = steps_before (WasMade c r) f.newer (f.event ∷ f.older) (subst (AtEachStep (WasMade c r)) f.is made) in
         let held = there.1 in
-        let turn = of_lead is_any_fencing_verb c r f.older f.event held fences_fail refl (λ q. refl) (λ w. refl) f.fence in
+        let turn = of_lead is_any_fencing_verb c r f.older f.event held fences_fail (λ j k x. refl) refl (λ q. refl) (λ w. refl) f.fence in
         let still = (moments_before (λ now. has_to_ask c r now ≡ true) f.newer (f.event ∷ f.older) (subst (AtEachMoment (λ now. has_to_ask c r now ≡ true)) f.is waits)).0 in
         let over = last_moment (λ now. is_over r now ≡ false) f.older (moments_before (λ now. is_over r now ≡ false) f.newer (f.event ∷ f.older) (subst (AtEachMoment (λ now. is_over r now ≡ false)) f.is on)).0 in
         let no_min = unread (is_named c r f.older) (knows_all c r f.older) (has_min r f.older) (is_over r f.older) over (last_moment (λ now. has_to_ask c r now ≡ true) f.older still) in

@@ -3,6 +3,7 @@ pub mod Asked
 mod CatchingUp
 mod Bits
 mod Diligent
+mod Failing
 pub mod Fetching
 pub mod FewRows
 pub mod HeadRaises
@@ -14,6 +15,7 @@ pub mod Left
 mod Moving
 pub mod Naming
 mod Open
+mod OwnRows
 mod Paces
 mod Pacing
 mod Reading
@@ -21,3 +23,4 @@ mod Replaying
 pub mod Rounding
 mod Turning
 mod Watching
+mod Writing

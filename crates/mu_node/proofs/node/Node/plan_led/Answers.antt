@@ -1,4 +1,4 @@
-use Rattle.std.proofs.Common.{◌≡◌, ◌∙◌, ◌==◌, false, None, Some, ap, length, subst, sym}
+use Rattle.std.proofs.Common.{◌≡◌, ◌∙◌, ◌==◌, false, None, ap, length, subst, sym}
 use Rattle.std.specs.Prelude.{IfSome, if◌then◌else◌, is_some}
 use Rattle.std.specs.declared.option.Option.{Option}
 use Rattle.mu_model.specs.declared.event.Verb.{Verb}
