@@ -21,7 +21,8 @@ from programs import TOP
 CONSTANT = re.compile(r"^pub const (\w+): \w+ = ([\d_]+);", re.M)
 LARGEST_RING, MOST_COMMANDS, MOST_WIDTH = 1_024, 1_500, 4
 # The bounds that have tables.
-BOUNDS = {"steps_enough", "steps_after", "steps_in_any_ring", "finishing_steps", "finishing_in_any_ring"}
+BOUNDS = {"steps_enough", "steps_after", "steps_in_any_ring", "finishing_steps", "finishing_after",
+          "finishing_in_any_ring"}
 
 
 def contents(path):

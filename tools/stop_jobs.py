@@ -14,7 +14,9 @@ Each budget is exactly the bound of docs/ALIVE.md for leaders that stop. The fam
   closes its region, drains it and grants it to replica 1;
 * followers alone stop, and the budget is exactly the bound within which each other replica finishes: each
   has to end so, with all commands;
-* the same with a ring of 8, if nobody stops.
+* the same with a ring of 8, if nobody stops;
+* the same if leaders stop: after each of 0 to 400 steps of the worked job, and at each fourth step of the
+  second and the third family.
 
 tools/bound_jobs.py reckons the other bounds, and the reports are judged as it does.
 """
@@ -38,13 +40,12 @@ FINISHED_COMMANDS = (2, 30)
 RING = 8
 
 
-def worked_jobs():
-    """The worked job, whose replica 0 stops after each number of steps."""
+def worked_jobs(bound):
+    """The worked job, whose replica 0 stops after each number of steps, and so much budget after that."""
     with open(os.path.join(EXAMPLES, "put-and-get.job"), encoding="utf-8") as given:
         text = given.read()
     for step in range(LAST_STOP + 1):
-        bound = step + steps_after(3, 1, COMMANDS, 1)
-        bounded = re.sub(r"^budget \d+$", f"budget {bound}", text, flags=re.MULTILINE)
+        bounded = re.sub(r"^budget \d+$", f"budget {step + bound}", text, flags=re.MULTILINE)
         yield f"worked job, stop 0 {step}", re.sub(r"^end$", f"script\nstop 0 {step}\nend", bounded, flags=re.MULTILINE)
 
 
@@ -65,33 +66,43 @@ def short_job(version, replicas, stops, commands=COMMANDS, batch=1, bound=None):
     return f"mu {version}, replicas {replicas}, batch {batch}, {', '.join(halts)}", "\n".join([*lines, "end", ""])
 
 
-def leaders_in_turn():
-    """One leader after another stops, at each step of the first one's job."""
+def leaders_in_turn(every=1):
+    """Which replicas stop and when: one leader after another, at each step of the first one's job."""
     for version in (1, 2):
         for replicas in (5, 7):
-            for step in range(SHORT_JOB_STEPS):
+            for step in range(0, SHORT_JOB_STEPS, every):
                 stops, last = {}, step
                 for leader in range((replicas - 1) // 2):
                     stops[leader] = last
                     last += ROUNDS_TO_FAIL * cycle(replicas) + 2 * step
-                yield short_job(version, replicas, stops)
+                yield version, replicas, stops
 
 
-def hosts_while_granting():
-    """The leader stops, and a host at each step of the rounds in which it grants to the next."""
+def hosts_while_granting(every=1):
+    """The leader, and a host at each step of the rounds in which it grants to the next."""
     for version in (1, 2):
         for replicas in (5, 7):
             first, last = ROUNDS_TO_FAIL * cycle(replicas), ROUNDS_TO_GRANT * cycle(replicas)
-            for step in range(first, last):
-                yield short_job(version, replicas, {0: SHORT_JOB_STEPS // 2, replicas - 1: SHORT_JOB_STEPS // 2 + step})
+            for step in range(first, last, every):
+                yield version, replicas, {0: SHORT_JOB_STEPS // 2, replicas - 1: SHORT_JOB_STEPS // 2 + step}
+
+
+def spreading(replicas, batch, positions):
+    """The steps in which what the leader has applied reaches all, with their heads, and each has read the heads."""
+    bringing = 19 * replicas + 8 + 12 * batch + 8 * (replicas + 1) * positions
+    following = 3 * cycle(replicas) + ((batch + 1) * positions + 1) * 2 * cycle(replicas)
+    return 6 * bringing + 8 + following + 2 + replicas * cycle(replicas)
 
 
 def finishing_steps(replicas, batch, positions, known):
     """If replica 0 goes on and knows all then: more steps than these are enough for each that goes on to finish."""
-    bringing = 19 * replicas + 8 + 12 * batch + 8 * (replicas + 1) * positions
-    following = 3 * cycle(replicas) + ((batch + 1) * positions + 1) * 2 * cycle(replicas)
-    lagging = 2 * cycle(replicas) + 2 + 6 * bringing + 8 + following + 2
-    return known(replicas, batch, positions) + lagging + replicas * cycle(replicas)
+    return known(replicas, batch, positions) + 2 * cycle(replicas) + 2 + spreading(replicas, batch, positions)
+
+
+def finishing_after(replicas, batch, positions, least):
+    """The same from the last stop of a replica below `least`, which goes on; it fetches rows meanwhile."""
+    fetching = (batch * positions + 1) * 2 * cycle(replicas)
+    return steps_after(replicas, batch, positions, least) - fetching + spreading(replicas, batch, positions)
 
 
 class FinishCase(BoundCase):
@@ -135,12 +146,28 @@ def finishing_in_any_ring():
                         yield f"mu {version}, replicas {replicas}, batch {batch}, {commands} commands, ring {RING}", text
 
 
+def leaders_stop():
+    """Leaders or hosts stop, at the bound for all commands."""
+    yield from worked_jobs(steps_after(3, 1, COMMANDS, 1))
+    for stops in (*leaders_in_turn(), *hosts_while_granting()):
+        yield short_job(*stops)
+
+
+def finishing_after_leaders():
+    """Leaders or hosts stop, and the budget is one above the bound until each other has finished."""
+    yield from worked_jobs(finishing_after(3, 1, COMMANDS, 1) + 1)
+    for version, replicas, stops in (*leaders_in_turn(4), *hosts_while_granting(4)):
+        positions = COMMANDS + (replicas if version == 2 else 0)
+        least = next(q for q in range(replicas) if q not in stops)
+        bound = max(stops[q] for q in range(least)) + finishing_after(replicas, 1, positions, least) + 1
+        yield short_job(version, replicas, stops, bound=max(bound, max(stops.values()) + 15 * cycle(replicas) + 1))
+
+
 def stop_cases():
     """A case for each job."""
-    for family in (worked_jobs, leaders_in_turn, hosts_while_granting):
-        for name, text in family():
-            yield BoundCase(name, ["replay"], text.encode(), None, 0)
-    for family in (finishing_jobs, finishing_in_any_ring):
+    for name, text in leaders_stop():
+        yield BoundCase(name, ["replay"], text.encode(), None, 0)
+    for family in (finishing_jobs, finishing_in_any_ring, finishing_after_leaders):
         for name, text in family():
             yield FinishCase(f"each finishes: {name}", ["replay"], text.encode(), None, 0)
 

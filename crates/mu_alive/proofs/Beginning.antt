@@ -9,7 +9,7 @@ use Rattle.mu_model.specs.declared.event.Answer.{Answer}
 use Rattle.mu_model.specs.declared.event.Event.{Event}
 use Rattle.mu_model.specs.declared.event.Verb.{Verb}
 use Rattle.mu_model.specs.Bounds.{cycle}
-use Rattle.mu_model.specs.Diligence.{AsksInTime, GrantsInTime, ReadsInTime, has_to_ask, is_confirmed, may_ask_anew, was_unnamed}
+use Rattle.mu_model.specs.Diligence.{GrantsInTime, ReadsInTime, has_to_ask, is_confirmed, may_ask_anew, was_unnamed}
 use Rattle.mu_model.specs.Histories.{all_below, count_below, has, how_many, newer_or, newest, part}
 use Rattle.mu_model.specs.Leaderships.{begins_leadership, fence_seen, grant_for, has_begun, is_over, leadership, majority_of, noted_grant}
 use Rattle.mu_model.specs.Legal.{IsLegalHistory}
@@ -29,7 +29,7 @@ use Rattle.mu_alive.specs.Lone.{IsNear, LeadsAlone}
 use Rattle.mu_alive.proofs.Alone.{never_over}
 use Rattle.mu_alive.proofs.Cutting.{cut, located, met}
 use Rattle.mu_alive.proofs.Granting.{granted}
-use Rattle.mu_alive.proofs.Moments.{From, asks_there, both_moments, from_each}
+use Rattle.mu_alive.proofs.Moments.{AsksEach, From, asks_there, both_moments, from_each}
 use Rattle.mu_alive.proofs.Noting.{confirmed, notes_owned, reads_fence}
 
 -- what a host keeps it kept before
@@ -307,11 +307,11 @@ record OneAsk (mine rest : List Event) (k : ℕ) : Type 0 where
   asks : is_asking 0 asked ≡ true
   long : length mine ≤ length newer + k + length rest
 
-one_ask : (c : Config) (start r : ℕ) (mine newer rest : List Event) → AsksInTime c r mine → mine ≡ newer ++ rest → asking_steps c ≤ length newer → start ≤ length rest → 0 < c.replicas → AtEachMoment (From start (λ now. has_to_ask c r now ≡ true)) mine → OneAsk mine rest (asking_steps c)
-one_ask c start r mine newer rest asks is long late some waits =
+one_ask : (c : Config) (start : ℕ) (mine newer rest : List Event) → AsksEach c start mine → mine ≡ newer ++ rest → asking_steps c ≤ length newer → start ≤ length rest → 0 < c.replicas → OneAsk mine rest (asking_steps c)
+one_ask c start mine newer rest each is long late some =
     let k = cut (asking_steps c) newer long in
     let at : mine ≡ k.newer ++ (k.rest ++ rest) = is ∙ ap (λ l. l ++ rest) k.is ∙ append_assoc k.newer k.rest rest in
-    let m = met (is_asking 0) k.rest (asks_there c start r 0 mine k.newer k.rest rest asks at k.count late some waits) in
+    let m = met (is_asking 0) k.rest (each 0 k.newer k.rest rest at k.count late some) in
     let split = ap length at ∙ length-append k.newer (k.rest ++ rest) in
     let rests = length-append k.rest rest in
     let both = length-append k.newer m.newer in
@@ -325,15 +325,15 @@ one_ask c start r mine newer rest asks is long late some waits =
       long = omega (arith, split, rests, both, n);
     }
 
-pub two_asks : (c : Config) (start k r : ℕ) (mine : List Event) → AsksInTime c r mine → k + 2 * asking_steps c ≤ length mine → start ≤ k → 0 < c.replicas → AtEachMoment (From start (λ now. has_to_ask c r now ≡ true)) mine → TwoAsks k mine
-two_asks c start k r mine asks many after some waits =
+pub two_asks : (c : Config) (start k : ℕ) (mine : List Event) → AsksEach c start mine → k + 2 * asking_steps c ≤ length mine → start ≤ k → 0 < c.replicas → TwoAsks k mine
+two_asks c start k mine each many after some =
     let bottom = cut k mine (omega (arith, many)) in
     let l = ap length bottom.is ∙ length-append bottom.newer bottom.rest in
     let n = bottom.count in
-    let first = one_ask c start r mine bottom.newer bottom.rest asks bottom.is (omega (arith, many, l, n)) (omega (arith, n, after)) some waits in
+    let first = one_ask c start mine bottom.newer bottom.rest each bottom.is (omega (arith, many, l, n)) (omega (arith, n, after)) some in
     let enough = first.long in
     let more = length-append first.older bottom.rest in
-    let second = one_ask c start r mine first.newer (first.asked ∷ (first.older ++ bottom.rest)) asks first.is (omega (arith, many, n, enough)) (omega (arith, n, after, more)) some waits in
+    let second = one_ask c start mine first.newer (first.asked ∷ (first.older ++ bottom.rest)) each first.is (omega (arith, many, n, enough)) (omega (arith, n, after, more)) some in
     record {
       newer = second.newer;
       later = second.asked;
@@ -426,5 +426,5 @@ begins_in_time c live a past lone lacks none = elim (cases_lt (length (part a pa
       let waits = has_to_ask_all c a 0 (part a past) named lacks none in
       let l = lone.inside in
       absurd (asks_fail c live a 0 (granting_steps c) past lone.inside lone.lives lone.majority (omega arith) lone.led (both_moments (λ now. has_min a now ≡ false) (From 0 (λ now. is_named c a now ≡ true)) (HasNoMin c a 0) (λ now m n. (m, n)) (part a past) none named)
-      (λ newer between oldest first is long asks own. alone_confirms c live a past newer between oldest first lone waits is long asks own) (two_asks c 0 (granting_steps c) a (part a past) lone.asks many (omega arith) (omega (arith, l)) waits))
+      (λ newer between oldest first is long asks own. alone_confirms c live a past newer between oldest first lone waits is long asks own) (two_asks c 0 (granting_steps c) (part a past) (λ p newer window older is long late low. asks_there c 0 a p (part a past) newer window older lone.asks is long late low waits) many (omega arith) (omega (arith, l))))
 ]

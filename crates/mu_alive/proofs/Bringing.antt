@@ -270,7 +270,7 @@ above_read a p i by old (Verb.Fuo q) (Answer.Number x) is = go ((by == a) && (q 
     go false is = absurd (true≢false (sym is))
 above_read a p i by old verb answer is = absurd (true≢false (sym is))
 
-leads_older : (c : Config) (a : ℕ) (newer older : List Event) → LeadsOn c a (newer ++ older) → LeadsOn c a older
+pub leads_older : (c : Config) (a : ℕ) (newer older : List Event) → LeadsOn c a (newer ++ older) → LeadsOn c a older
 leads_older c a newer older leads = record {
   inside = leads.inside;
   possible = possible_older c a newer older leads.possible;
@@ -393,7 +393,7 @@ joins_in_time c a p l later first base good goes granted late knows long enough 
     go false out = asked out
 
 -- what is so over a stretch is so over its older part
-granted_first : (c : Config) (a p : ℕ) (newer first base : List Event) → IsGranted c a p (newer ++ first) base → IsGranted c a p first base
+pub granted_first : (c : Config) (a p : ℕ) (newer first base : List Event) → IsGranted c a p (newer ++ first) base → IsGranted c a p first base
 granted_first c a p newer first base granted = record {
   inside = granted.inside;
   read = granted.read;

@@ -16,7 +16,7 @@ use Rattle.mu_pace.specs.Watches.{limit}
 use Rattle.mu_alive.specs.Bringing.{most_paid}
 use Rattle.mu_alive.specs.Lagging.{commit_steps, gain_steps}
 use Rattle.mu_alive.proofs.Fetching.{applied_grows}
-use Rattle.mu_alive.proofs.Finishing.{in_region}
+use Rattle.mu_alive.proofs.Spreading.{in_region}
 use Rattle.mu_alive.proofs.Following.{own_fuo, read_is_less}
 use Rattle.mu_alive.proofs.Gaining.{caught_up_gains, gain}
 use Rattle.mu_alive.proofs.KnowsMost.{knows_most}

@@ -21,12 +21,15 @@ use Rattle.mu_model.proofs.Scans.{all_at, each_all}
 use Rattle.mu_agree.proofs.Counting.{count_more}
 use Rattle.mu_agree.proofs.Knowing.{known_stays}
 use Rattle.mu_agree.proofs.Landings.{has_more}
+use Rattle.mu_agree.proofs.Possible.{parts_shorten_law}
 use Rattle.mu_agree.proofs.Sessions.{row_within}
+use Rattle.mu_pace.proofs.Growing.{known_grows}
+use Rattle.mu_model.specs.Parts.{IsPossible}
 use Rattle.mu_pace.proofs.Positions.{known_fits}
-use Rattle.mu_alive.specs.Last.{LastLeadersApplyAll, LeadsLast, last_steps}
+use Rattle.mu_alive.specs.Last.{FetchesInTime, LastLeadersApplyAll, LeadsLast, fetching_steps, last_steps}
 use Rattle.mu_alive.proofs.Beginning.{CutAt, cut_at}
 use Rattle.mu_alive.proofs.Calm.{count_adds, count_few}
-use Rattle.mu_alive.proofs.Enough.{holds_more, knows_on}
+use Rattle.mu_alive.proofs.Enough.{holds_more}
 use Rattle.mu_alive.proofs.Lasting.{last_before, last_knows_all}
 use Rattle.mu_alive.proofs.Moments.{adds_up}
 
@@ -78,15 +81,6 @@ applied_on c r [] older all = all
 applied_on c r (e ∷ newer) older all =
     let more = applied_more c r e (newer ++ older) in
     subst (λ l. holds_all c l ≡ true) (sym more.1) (holds_more c (applied c r (newer ++ older)) more.0 (applied_on c r newer older all))
-
--- a front as long as the list is the list
-front_whole : (test : ℕ → Bool) (xs : List ℕ) → length xs ≤ length (front test xs) → front test xs ≡ xs
-front_whole test [] long = refl
-front_whole test (x ∷ xs) long = go (test x) long (front_whole test xs)
-  where
-    go : (t : Bool) → suc (length xs) ≤ length (cond t (x ∷ front test xs) []) → (length xs ≤ length (front test xs) → front test xs ≡ xs) → cond t (x ∷ front test xs) [] ≡ x ∷ xs
-    go true long ih = ap (λ l. x ∷ l) (ih (omega (arith, long)))
-    go false long ih = absurd (omega (arith, long))
 
 -- how many rows of an entry r has, and of some entries
 abbrev pub rows_of_entry : Config → ℕ → List Event → ℕ → ℕ
@@ -191,18 +185,46 @@ some_completed c r (e ∷ window) older some = go (completes_row c r (window ++ 
     go true is some ih = let one = completes_one c r e (window ++ older) is in let stays = got_stays c r window older in omega (arith, one, stays)
     go false is some ih = let more = ih some in let stays = got_stays c r (e ∷ []) (window ++ older) in omega (arith, more, stays)
 
--- who knows every command and hasn't applied each knows an entry that it hasn't applied
-lacks_one : (c : Config) (r : ℕ) (whole newer rest base : List Event) → whole ≡ newer ++ (rest ++ base) → knows_all c r base ≡ true → holds_all c (applied c r whole) ≡ false → length (applied c r (rest ++ base)) < length (known c r (rest ++ base))
-lacks_one c r whole newer rest base is knows lacks = elim (cases_lt (length (applied c r (rest ++ base))) (length (known c r (rest ++ base)))) [
-  | inl less ↦ less
-  | inr all ↦
-      let same : applied c r (rest ++ base) ≡ known c r (rest ++ base) = front_whole (λ v. has_entry c r v (rest ++ base)) (known c r (rest ++ base)) all in
-      let here = applied_on c r newer (rest ++ base) (ap (holds_all c) same ∙ knows_on c r rest base knows) in
-      absurd (true≢false (sym here ∙ ap (λ l. holds_all c (applied c r l)) (sym is) ∙ lacks))
+-- so a replica that fetches rows in time has applied what it knew so many steps later
+pub fetched : (c : Config) (r : ℕ) (whole top window base : List Event) → IsConfig c → IsPossible c r whole → FetchesInTime c r whole → whole ≡ top ++ (window ++ base) → fetching_steps c ≤ length window → length (known c r base) ≤ length (applied c r (window ++ base))
+fetched c r whole top window base good possible fetches is long = elim (cases_lt (length (applied c r (window ++ base))) (length (known c r base))) [
+  | inr all ↦ all
+  | inl less ↦
+      let got = adds_up (2 * cycle c) (c.width * (row_count c + reserve c) + 1) (got_now c r) (window ++ base) [] window base (got_stays c r) (rows less) refl long in
+      let few = few_rows c r (window ++ base) (known c r (window ++ base)) good in
+      let fits = known_fits c r (window ++ base) good (possible_older top (window ++ base) (subst (IsPossible c r) is possible)) in
+      let most : c.width * length (known c r (window ++ base)) ≤ c.width * (row_count c + reserve c) = mul-le-mul_left c.width fits in
+      absurd (omega (arith, got, few, most))
 ]
+  where
+    possible_older : (xs ys : List Event) → IsPossible c r (xs ++ ys) → IsPossible c r ys
+    possible_older [] ys p = p
+    possible_older (e ∷ xs) ys p = possible_older xs ys (parts_shorten_law c r (xs ++ ys) e p).before
+
+    -- so many rounds complete so many rows
+    rows : length (applied c r (window ++ base)) < length (known c r base) → (w rest : List Event) → IsStretch (window ++ base) w (rest ++ base) → length w ≡ 2 * cycle c → got_now c r (rest ++ base) + 1 ≤ got_now c r (w ++ (rest ++ base))
+    rows less w rest s two =
+        some_completed c r w (rest ++ base)
+        (fetches w (rest ++ base) (record { newer = top ++ s.newer; is = is ∙ ap (λ l. top ++ l) s.is ∙ sym (append_assoc top s.newer (w ++ (rest ++ base))) }) two
+        (let up : window ++ base ≡ (s.newer ++ w) ++ (rest ++ base) = s.is ∙ sym (append_assoc s.newer w (rest ++ base)) in
+        let few = applied_grows c r (s.newer ++ w) (rest ++ base) in
+        let same = ap (λ l. length (applied c r l)) up in
+        let more = known_grows c r rest base in
+        omega (arith, few, same, more, less)))
+
+-- a front as long as what the list begins with begins so too
+front_begins : (test : ℕ → Bool) (xs ys : List ℕ) → length xs ≤ length (front test (xs ++ ys)) → IsPrefixOf xs (front test (xs ++ ys))
+front_begins test [] ys long = (front test ys, refl)
+front_begins test (x ∷ xs) ys long = go (test x) long (front_begins test xs ys)
+  where
+    go : (t : Bool) → suc (length xs) ≤ length (cond t (x ∷ front test (xs ++ ys)) []) → (length xs ≤ length (front test (xs ++ ys)) → IsPrefixOf xs (front test (xs ++ ys))) → IsPrefixOf (x ∷ xs) (cond t (x ∷ front test (xs ++ ys)) [])
+    go true long ih = let k = ih (omega (arith, long)) in (k.0, ap (λ l. x ∷ l) k.1)
+    go false long ih = absurd (omega (arith, long))
 
 pub last_applies_all : LastLeadersApplyAll
-last_applies_all c live a start past good large last fetches many = go (holds_all c (applied c a (part a past))) refl
+last_applies_all c live a start past good large last fetches many =
+    subst (λ l. holds_all c (applied c a l) ≡ true) (sym split)
+    (subst (λ l. holds_all c l ≡ true) (sym begins.1) (holds_more c (known c a (part a at.rest)) begins.0 knows))
   where
     at : CutAt a (start + last_steps c a) past
     at = cut_at a (start + last_steps c a) past (omega (arith, many))
@@ -213,23 +235,13 @@ last_applies_all c live a start past good large last fetches many = go (holds_al
     knows : knows_all c a (part a at.rest) ≡ true
     knows = let count = at.count in last_knows_all c live a start at.rest good large (last_before c live a start at.newer at.rest (subst (LeadsLast c live a start) at.is last)) (omega (arith, count))
 
-    late : holds_all c (applied c a (part a past)) ≡ false → ⊥
-    late lacks =
-        let count = at.count in
-        let sum = ap length split ∙ length-append (part a at.newer) (part a at.rest) in
-        let got = adds_up (2 * cycle c) (c.width * (row_count c + reserve c) + 1) (got_now c a) (part a past) [] (part a at.newer) (part a at.rest) (got_stays c a) rows split (omega (arith, count, sum, many)) in
-        let few = few_rows c a (part a past) (known c a (part a past)) good in
-        let fits = known_fits c a (part a past) good (part_is_possible c a past last.legal) in
-        let most : c.width * length (known c a (part a past)) ≤ c.width * (row_count c + reserve c) = mul-le-mul_left c.width fits in
-        let same = ap (got_now c a) split in
-        omega (arith, got, few, most, same)
-      where
-        -- so many rounds complete so many rows
-        rows : (w rest : List Event) → IsStretch (part a past) w (rest ++ part a at.rest) → length w ≡ 2 * cycle c → got_now c a (rest ++ part a at.rest) + 1 ≤ got_now c a (w ++ (rest ++ part a at.rest))
-        rows w rest s two =
-            some_completed c a w (rest ++ part a at.rest)
-            (fetches w (rest ++ part a at.rest) s two (lacks_one c a (part a past) (s.newer ++ w) rest (part a at.rest) (s.is ∙ sym (append_assoc s.newer w (rest ++ part a at.rest))) knows lacks))
+    long : length (known c a (part a at.rest)) ≤ length (applied c a (part a at.newer ++ part a at.rest))
+    long =
+        fetched c a (part a past) [] (part a at.newer) (part a at.rest) good (part_is_possible c a past last.legal) fetches split
+        (let count = at.count in let sum = ap length split ∙ length-append (part a at.newer) (part a at.rest) in omega (arith, count, sum, many))
 
-    go : (t : Bool) → holds_all c (applied c a (part a past)) ≡ t → t ≡ true
-    go true is = refl
-    go false is = absurd (late is)
+    begins : IsPrefixOf (known c a (part a at.rest)) (applied c a (part a at.newer ++ part a at.rest))
+    begins =
+        let more = known_stays c a (part a at.newer) (part a at.rest) in
+        subst (λ l. IsPrefixOf (known c a (part a at.rest)) (front (λ v. has_entry c a v (part a at.newer ++ part a at.rest)) l)) (sym more.1)
+        (front_begins (λ v. has_entry c a v (part a at.newer ++ part a at.rest)) (known c a (part a at.rest)) more.0 (subst (λ l. length (known c a (part a at.rest)) ≤ length (front (λ v. has_entry c a v (part a at.newer ++ part a at.rest)) l)) more.1 long))

@@ -1,6 +1,6 @@
 -- A replica that asks alone, and that all others keep up with, has applied every command in time, though
 -- heads lag.
-use Rattle.std.proofs.Common.{◌≡◌, ℕ, ◌+◌, ◌*◌, ◌<◌, ◌≤◌, ◌==◌, inl, inr, Bool, true, false, List, [], ◌∷◌, ◌++◌, length, refl, sym, ◌∙◌, ap, arith, subst, true≢false, append_assoc, Some}
+use Rattle.std.proofs.Common.{◌≡◌, ℕ, ◌+◌, ◌*◌, ◌<◌, ◌≤◌, ◌==◌, inl, inr, Bool, true, false, List, ◌∷◌, ◌++◌, length, refl, sym, ◌∙◌, ap, arith, subst, append_assoc, Some}
 use Rattle.std.proofs.lemmas.Bool.{cases_lt}
 use Rattle.std.proofs.lemmas.List.{length-append}
 use Rattle.mu_model.specs.declared.config.Config.{Config}
@@ -26,7 +26,7 @@ use Rattle.mu_alive.specs.Lone.{LeadsAlone}
 use Rattle.mu_alive.proofs.Applying.{applied_is_known}
 use Rattle.mu_alive.proofs.Beginning.{CutAt, begins_in_time, cut_at}
 use Rattle.mu_alive.proofs.Bringing.{Ahead, Joins, joins_up}
-use Rattle.mu_alive.proofs.Enough.{IsFine, Leads, fine_moments, holds_more, lacks_moments, lone_before, lone_leads, lone_on, min_or_none}
+use Rattle.mu_alive.proofs.Enough.{IsFine, Leads, fine_moments, lacks_moments, lone_before, lone_leads, lone_on, min_or_none}
 use Rattle.mu_alive.proofs.Finishing.{granted_on, keep_before, leads_on, owns_after, raised_with, started_on, writes_before}
 use Rattle.mu_alive.proofs.KnowsMost.{never_ahead, quiet_steps}
 use Rattle.mu_alive.proofs.Moments.{halves}
@@ -49,11 +49,7 @@ open_begun c live a past l long = elim (min_or_none a (part a past)) [
 
 -- who knows an entry has started to lead
 started_here : (c : Config) (live : ℕ → Bool) (a : ℕ) (past : List Event) → Lacking c live a past → 1 ≤ length (known c a (part a past)) → Started c a past
-started_here c live a past l some = started c live a past l.lone (λ above below e p cuts min waits on inside. l.keep.asked above below e p cuts min waits on inside) (empty (holds_all c []) refl) (λ none. let e = ap length none in absurd (omega (arith, e, some)))
-  where
-    empty : (t : Bool) → holds_all c [] ≡ t → holds_all c [] ≡ false
-    empty true is = absurd (true≢false (sym (holds_more c [] (known c a (part a past)) is) ∙ l.lacks))
-    empty false is = is
+started_here c live a past l some = started c live a past l.lone l.keep.asked (λ none. let e = ap length none in absurd (omega (arith, e, some)))
 
 -- then all regions become members, and their FUOs are raised
 settle : (c : Config) (live : ℕ → Bool) (a x rest : ℕ) (base whole newer older : List Event) → Lacking c live a whole → whole ≡ newer ++ older → Open c a x base (part a older) → 1 ≤ length (known c a (part a older)) → most_paid c ≤ x + rest

@@ -8,7 +8,7 @@ use Rattle.mu_model.specs.declared.event.Event.{Event}
 use Rattle.mu_model.specs.declared.event.Verb.{Verb}
 use Rattle.mu_model.specs.Bounds.{cycle}
 use Rattle.mu_model.specs.Contents.{IsConfig}
-use Rattle.mu_model.specs.Diligence.{AsksInTime, GrantsInTime, ReadsInTime, has_to_ask}
+use Rattle.mu_model.specs.Diligence.{AsksInTime, GrantsInTime, ReadsInTime}
 use Rattle.mu_model.specs.Ends.{outrun}
 use Rattle.mu_model.specs.Histories.{has, part}
 use Rattle.mu_model.specs.Leaderships.{begins_leadership, has_begun, leadership}
@@ -28,13 +28,34 @@ use Rattle.mu_alive.proofs.Beginning.{CutAt, HasNoMin, MayConfirm, asked_once, a
 use Rattle.mu_alive.proofs.Cutting.{Cut, cut, located}
 use Rattle.mu_alive.proofs.Enough.{Leads, asks_before, begins_verb, few_after, fine_moments, lacks_moments, min_or_none, min_parts, outrun_before}
 use Rattle.mu_alive.proofs.LastNoting.{notes_own}
-use Rattle.mu_alive.proofs.Moments.{From, asks_there, both_moments}
+use Rattle.mu_alive.proofs.Moments.{AsksEach, From, asks_there, both_moments, each_older}
 use Rattle.mu_alive.proofs.TurnFences.{lead_on_moments, turns_lead_on}
 use Rattle.mu_alive.proofs.TurnOwners.{IsHighest}
 use Rattle.mu_alive.proofs.TurnGrants.{highest_older, hosts_grant, turns_before}
 
+-- what holds of the whole history held of each beginning
+pub last_before : (c : Config) (live : ℕ → Bool) (a start : ℕ) (newer older : List Event) → LeadsLast c live a start (newer ++ older) → LeadsLast c live a start older
+last_before c live a start newer older last = record {
+  inside = last.inside;
+  lives = last.lives;
+  majority = last.majority;
+  legal = legal_older c newer older last.legal;
+  turns = turns_before newer older last.turns;
+  highest = highest_older a newer older last.highest;
+  near = moments_before (IsNear c live a) newer older last.near;
+  reads = λ r low lives. reads_before c r (part r newer) (part r older) (subst (ReadsInTime c r) (split r) (last.reads r low lives));
+  grants = λ r low lives. grants_before c r (part r newer) (part r older) (subst (GrantsInTime c r) (split r) (last.grants r low lives));
+  asks = asks_before c a (part a newer) (part a older) (subst (AsksInTime c a) (split a) last.asks);
+  led = steps_before (LeaderKeeps c a) (part a newer) (part a older) (subst (AtEachStep (LeaderKeeps c a)) (split a) last.led);
+  named = moments_before (NamesItself c a start) (part a newer) (part a older) (subst (AtEachMoment (NamesItself c a start)) (split a) last.named);
+  going = outrun_before c a (part a newer) (part a older) (sym (ap (outrun c a) (split a)) ∙ last.going);
+}
+  where
+    split : (r : ℕ) → part r (newer ++ older) ≡ part r newer ++ part r older
+    split r = filter-append (λ e. e.by == r) newer older
+
 -- it names itself after so many steps
-late_named : (c : Config) (a start : ℕ) (mine : List Event) → AtEachMoment (NamesItself c a start) mine → AtEachMoment (From start (λ now. is_named c a now ≡ true)) mine
+pub late_named : (c : Config) (a start : ℕ) (mine : List Event) → AtEachMoment (NamesItself c a start) mine → AtEachMoment (From start (λ now. is_named c a now ≡ true)) mine
 late_named c a start [] named = λ late. named (inl late)
 late_named c a start (e ∷ mine) named = (late_named c a start mine named.0, λ late. named.1 (inl late))
 
@@ -69,52 +90,42 @@ asked_more test (e ∷ newer) older some = go (test e) some (asked_more test new
     go true some ih = refl
     go false some ih = ih some
 
+-- a asked each region with so many steps
+abbrev pub AsksAllBy : Config → ℕ → ℕ → List Event → Type 0
+AsksAllBy c a k past = (front rest : List Event) → past ≡ front ++ rest → length (part a rest) ≡ k → (q : ℕ) → q < c.replicas → has (is_asking q) (part a rest) ≡ true
+
+-- so it does if a row of so many steps holds an ask of each
+pub all_by_each : (c : Config) (a start : ℕ) (past : List Event) → AsksEach c start (part a past) → AsksAllBy c a (start + asking_steps c) past
+all_by_each c a start past each front rest is count q low =
+    ap (has (is_asking q)) bottom.is
+    ∙ asked_more (is_asking q) bottom.newer bottom.rest
+    (each q (part a front) bottom.newer bottom.rest (ap (part a) is ∙ filter-append (λ e. e.by == a) front rest ∙ ap (λ l. part a front ++ l) bottom.is)
+    (let sum = ap length bottom.is ∙ length-append bottom.newer bottom.rest in let n = bottom.count in omega (arith, count, sum, n)) (let n = bottom.count in omega (arith, n)) low)
+  where
+    bottom : Cut start (part a rest)
+    bottom = cut start (part a rest) (omega (arith, count))
+
 -- after so many steps more each live host has granted its region to it
-owned : (c : Config) (live : ℕ → Bool) (a start p : ℕ) (newer older : List Event) → LeadsLast c live a start (newer ++ older) → AtEachMoment (From start (λ now. has_to_ask c a now ≡ true)) (part a (newer ++ older)) → p < c.replicas → live p ≡ true → start + last_granting_steps c a ≤ length (part a older) → fence_owner p older ≡ Some a
-owned c live a start p newer older last waits low lives long =
+pub owned : (c : Config) (live : ℕ → Bool) (a start p : ℕ) (past : List Event) → LeadsLast c live a start past → AsksAllBy c a (start + asking_steps c) past → p < c.replicas → live p ≡ true → start + last_granting_steps c a ≤ length (part a past) → fence_owner p past ≡ Some a
+owned c live a start p past last asked low lives long =
     subst (λ l. fence_owner p l ≡ Some a) (sym first.is)
-    (hosts_grant c a p first.newer first.rest last.inside legal turns high
-    (reads_before c p (part p newer) (part p (first.newer ++ first.rest)) (subst (ReadsInTime c p) (parts p) (last.reads p low lives)))
-    (grants_before c p (part p newer) (part p (first.newer ++ first.rest)) (subst (GrantsInTime c p) (parts p) (last.grants p low lives)))
-    (begun_there a first.rest (asked 0 some)) (asked_once a p first.rest (asked p low)) enough)
+    (hosts_grant c a p first.newer first.rest last.inside (subst (IsLegalHistory c) first.is last.legal) (subst AreInTurn first.is last.turns) (subst (IsHighest a) first.is last.highest)
+    (subst (λ l. ReadsInTime c p (part p l)) first.is (last.reads p low lives))
+    (subst (λ l. GrantsInTime c p (part p l)) first.is (last.grants p low lives))
+    (begun_there a first.rest (asks_there 0 some)) (asked_once a p first.rest (asks_there p low)) enough)
   where
     some : 0 < c.replicas
     some = (let l = last.inside in omega (arith, l))
 
-    first : CutAt a (start + asking_steps c) older
-    first = cut_at a (start + asking_steps c) older (omega (arith, long))
+    first : CutAt a (start + asking_steps c) past
+    first = cut_at a (start + asking_steps c) past (omega (arith, long))
 
-    whole : newer ++ older ≡ newer ++ (first.newer ++ first.rest)
-    whole = ap (λ l. newer ++ l) first.is
-
-    parts : (r : ℕ) → part r (newer ++ older) ≡ part r newer ++ part r (first.newer ++ first.rest)
-    parts r = ap (part r) whole ∙ filter-append (λ e. e.by == r) newer (first.newer ++ first.rest)
-
-    legal : IsLegalHistory c (first.newer ++ first.rest)
-    legal = legal_older c newer (first.newer ++ first.rest) (subst (IsLegalHistory c) whole last.legal)
-
-    turns : AreInTurn (first.newer ++ first.rest)
-    turns = turns_before newer (first.newer ++ first.rest) (subst AreInTurn whole last.turns)
-
-    high : IsHighest a (first.newer ++ first.rest)
-    high = highest_older a newer (first.newer ++ first.rest) (subst (IsHighest a) whole last.highest)
-
-    bottom : Cut start (part a first.rest)
-    bottom = cut start (part a first.rest) (let count = first.count in omega (arith, count))
-
-    asked : (q : ℕ) → q < c.replicas → has (is_asking q) (part a first.rest) ≡ true
-    asked q inside =
-        let split = parts a ∙ ap (λ l. part a newer ++ l) (filter-append (λ e. e.by == a) first.newer first.rest) ∙ sym (append_assoc (part a newer) (part a first.newer) (part a first.rest)) in
-        let all = first.count in
-        let count = bottom.count in
-        let sum = ap length bottom.is ∙ length-append bottom.newer bottom.rest in
-        let there = asks_there c start a q (part a (newer ++ older)) (part a newer ++ part a first.newer) bottom.newer bottom.rest last.asks (split ∙ ap (λ l. (part a newer ++ part a first.newer) ++ l) bottom.is) (omega (arith, all, count, sum)) (omega (arith, count)) inside waits in
-        ap (has (is_asking q)) bottom.is ∙ asked_more (is_asking q) bottom.newer bottom.rest there
+    asks_there : (q : ℕ) → q < c.replicas → has (is_asking q) (part a first.rest) ≡ true
+    asks_there q inside = asked first.newer first.rest first.is first.count q inside
 
     enough : (a + 1) * (2 * cycle c) ≤ length (part p first.newer)
     enough =
-        let now : AtEachMoment (IsNear c live a) (newer ++ (first.newer ++ first.rest)) = subst (AtEachMoment (IsNear c live a)) whole last.near in
-        let at = moments_before (IsNear c live a) newer (first.newer ++ first.rest) now in
+        let at : AtEachMoment (IsNear c live a) (first.newer ++ first.rest) = subst (AtEachMoment (IsNear c live a)) first.is last.near in
         let late = (last_moment (IsNear c live a) (first.newer ++ first.rest) at p low lives).1 in
         let early = (last_moment (IsNear c live a) first.rest (moments_before (IsNear c live a) first.newer first.rest at) p low lives).0 in
         let same = ap (λ l. length (part a l)) first.is in
@@ -123,9 +134,9 @@ owned c live a start p newer older last waits low lives long =
         omega (arith, late, early, same, split, count, long)
 
 -- so it may be confirmed then
-last_confirms : (c : Config) (live : ℕ → Bool) (a start : ℕ) (past newer between oldest : List Event) (first : Event) → IsConfig c → LeadsLast c live a start past → AtEachMoment (From start (λ now. has_to_ask c a now ≡ true)) (part a past) → past ≡ newer ++ (between ++ first ∷ oldest)
+last_confirms : (c : Config) (live : ℕ → Bool) (a start : ℕ) (past newer between oldest : List Event) (first : Event) → IsConfig c → LeadsLast c live a start past → AsksEach c start (part a past) → past ≡ newer ++ (between ++ first ∷ oldest)
     → start + last_granting_steps c a ≤ length (part a oldest) → is_asking 0 first ≡ true → first.by ≡ a → MayConfirm c live a (between ++ first ∷ oldest)
-last_confirms c live a start past newer between oldest first good last waits is long asks own = record {
+last_confirms c live a start past newer between oldest first good last each is long asks own = record {
   on = turns_lead_on c (between ++ first ∷ oldest) a legal turns (let most = good.replicas.1 in omega (arith, most));
   notes = λ p low lives read. (notes_own c a p between oldest first asks (eq-eqb first.by a own) (owns p low lives) legal turns high).noted read;
 }
@@ -142,23 +153,32 @@ last_confirms c live a start past newer between oldest first good last waits is 
     deeper : past ≡ (newer ++ (between ++ first ∷ [])) ++ oldest
     deeper = is ∙ ap (λ l. newer ++ l) (sym (append_assoc between (first ∷ []) oldest)) ∙ sym (append_assoc newer (between ++ first ∷ []) oldest)
 
+    split : part a past ≡ part a (newer ++ (between ++ first ∷ [])) ++ part a oldest
+    split = ap (part a) deeper ∙ filter-append (λ e. e.by == a) (newer ++ (between ++ first ∷ [])) oldest
+
     owns : (p : ℕ) → p < c.replicas → live p ≡ true → fence_owner p oldest ≡ Some a
-    owns p low lives = owned c live a start p (newer ++ (between ++ first ∷ [])) oldest (subst (LeadsLast c live a start) deeper last) (subst (λ l. AtEachMoment (From start (λ now. has_to_ask c a now ≡ true)) (part a l)) deeper waits) low lives long
+    owns p low lives =
+        owned c live a start p oldest (last_before c live a start (newer ++ (between ++ first ∷ [])) oldest (subst (LeadsLast c live a start) deeper last))
+        (all_by_each c a start oldest (each_older c start (part a (newer ++ (between ++ first ∷ []))) (part a oldest) (subst (AsksEach c start) split each))) low lives long
 
 -- and reads a minimum in time
-last_begins : (c : Config) (live : ℕ → Bool) (a start : ℕ) (past : List Event) → IsConfig c → LeadsLast c live a start past → AtEachMoment (λ mine. knows_all c a mine ≡ false) (part a past) → AtEachMoment (λ mine. has_min a mine ≡ false) (part a past)
-    → length (part a past) < start + last_granting_steps c a + 2 * asking_steps c
-last_begins c live a start past good last lacks none = elim (cases_lt (length (part a past)) (start + last_granting_steps c a + 2 * asking_steps c)) [
+pub last_begins : (c : Config) (live : ℕ → Bool) (a start : ℕ) (past : List Event) → IsConfig c → LeadsLast c live a start past → AsksEach c start (part a past) → AtEachMoment (λ mine. has_min a mine ≡ false) (part a past) → length (part a past) < start + last_granting_steps c a + 2 * asking_steps c
+last_begins c live a start past good last each none = elim (cases_lt (length (part a past)) (start + last_granting_steps c a + 2 * asking_steps c)) [
   | inl few ↦ few
   | inr many ↦
       let named = late_named c a start (part a past) last.named in
-      let waits = has_to_ask_all c a start (part a past) named lacks none in
       let l = last.inside in
       absurd (asks_fail c live a start (start + last_granting_steps c a) past last.inside last.lives last.majority (omega arith) last.led
       (both_moments (λ now. has_min a now ≡ false) (From start (λ now. is_named c a now ≡ true)) (HasNoMin c a start) (λ now m n. (m, n)) (part a past) none named)
-      (λ newer between oldest first is long asks own. last_confirms c live a start past newer between oldest first good last waits is long asks own)
-      (two_asks c start (start + last_granting_steps c a) a (part a past) last.asks many (omega arith) (omega (arith, l)) waits))
+      (λ newer between oldest first is long asks own. last_confirms c live a start past newer between oldest first good last each is long asks own)
+      (two_asks c start (start + last_granting_steps c a) (part a past) each many (omega arith) (omega (arith, l))))
 ]
+
+-- while a command is missing it asks again and again
+each_lacking : (c : Config) (live : ℕ → Bool) (a start : ℕ) (past : List Event) → LeadsLast c live a start past → AtEachMoment (λ mine. knows_all c a mine ≡ false) (part a past) → AtEachMoment (λ mine. has_min a mine ≡ false) (part a past) → AsksEach c start (part a past)
+each_lacking c live a start past last lacks none p newer window older is long late low =
+    asks_there c start a p (part a past) newer window older last.asks is long late low
+    (has_to_ask_all c a start (part a past) (late_named c a start (part a past) last.named) lacks none)
 
 -- who leads has read a minimum
 min_there : (a : ℕ) (mine : List Event) → has is_min (leadership a mine) ≡ true → has is_min mine ≡ true
@@ -194,7 +214,7 @@ ask_verb : (verb : Verb) → is_asking_verb 0 verb ≡ true → verb ≡ Verb.As
 ask_verb (Verb.Ask q) h = ap (λ x. Verb.Ask x) (eqb-true q 0 h)
 ask_verb verb h = absurd (true≢false (sym h))
 
-last_leads : (c : Config) (a start : ℕ) (past : List Event) → AreInTurn past → AtEachMoment (NamesItself c a start) (part a past) → AtEachStep (Leads c a) (part a past)
+pub last_leads : (c : Config) (a start : ℕ) (past : List Event) → AreInTurn past → AtEachMoment (NamesItself c a start) (part a past) → AtEachStep (Leads c a) (part a past)
 last_leads c a start [] turns named = tt
 last_leads c a start (e ∷ past) turns named = go (e.by == a) refl named (λ before. last_leads c a start past turns.0 before)
   where
@@ -209,27 +229,6 @@ last_leads c a start (e ∷ past) turns named = go (e.by == a) refl named (λ be
             absurd (true≢false (sym read ∙ none))
         same m false is = refl
 
--- what holds of the whole history held of each beginning
-pub last_before : (c : Config) (live : ℕ → Bool) (a start : ℕ) (newer older : List Event) → LeadsLast c live a start (newer ++ older) → LeadsLast c live a start older
-last_before c live a start newer older last = record {
-  inside = last.inside;
-  lives = last.lives;
-  majority = last.majority;
-  legal = legal_older c newer older last.legal;
-  turns = turns_before newer older last.turns;
-  highest = highest_older a newer older last.highest;
-  near = moments_before (IsNear c live a) newer older last.near;
-  reads = λ r low lives. reads_before c r (part r newer) (part r older) (subst (ReadsInTime c r) (split r) (last.reads r low lives));
-  grants = λ r low lives. grants_before c r (part r newer) (part r older) (subst (GrantsInTime c r) (split r) (last.grants r low lives));
-  asks = asks_before c a (part a newer) (part a older) (subst (AsksInTime c a) (split a) last.asks);
-  led = steps_before (LeaderKeeps c a) (part a newer) (part a older) (subst (AtEachStep (LeaderKeeps c a)) (split a) last.led);
-  named = moments_before (NamesItself c a start) (part a newer) (part a older) (subst (AtEachMoment (NamesItself c a start)) (split a) last.named);
-  going = outrun_before c a (part a newer) (part a older) (sym (ap (outrun c a) (split a)) ∙ last.going);
-}
-  where
-    split : (r : ℕ) → part r (newer ++ older) ≡ part r newer ++ part r older
-    split r = filter-append (λ e. e.by == r) newer older
-
 -- few steps come before its first minimum
 few_first : (c : Config) (live : ℕ → Bool) (a start : ℕ) (past newer older : List Event) (first : Event) → IsConfig c → LeadsLast c live a start past → knows_all c a (part a past) ≡ false → part a past ≡ newer ++ first ∷ older → AtEachMoment (λ now. has_min a now ≡ false) older
     → length older < start + last_granting_steps c a + 2 * asking_steps c
@@ -239,7 +238,9 @@ few_first c live a start past newer older first good last lacks is none =
     let there = last_before c live a start (at.newer ++ first ∷ []) at.older (subst (LeadsLast c live a start) whole last) in
     let lacking = (moments_before (λ now. knows_all c a now ≡ false) newer (first ∷ older) (subst (AtEachMoment (λ now. knows_all c a now ≡ false)) is (lacks_moments c a (part a past) lacks))).0 in
     let same = ap length at.before in
-    let few = last_begins c live a start at.older good there (subst (AtEachMoment (λ now. knows_all c a now ≡ false)) (sym at.before) lacking) (subst (AtEachMoment (λ now. has_min a now ≡ false)) (sym at.before) none) in
+    let lacks_there = subst (AtEachMoment (λ now. knows_all c a now ≡ false)) (sym at.before) lacking in
+    let unread = subst (AtEachMoment (λ now. has_min a now ≡ false)) (sym at.before) none in
+    let few = last_begins c live a start at.older good there (each_lacking c live a start at.older there lacks_there unread) unread in
     omega (arith, few, same)
 
 pub last_knows_all : LastLeadersKnowAll
@@ -250,7 +251,7 @@ last_knows_all c live a start past good large last many = go (knows_all c a (par
 
     late : knows_all c a (part a past) ≡ false → ⊥
     late lacks = elim (min_or_none a (part a past)) [
-      | inl none ↦ (let short = last_begins c live a start past good last (lacks_moments c a (part a past) lacks) none in omega (arith, short, many))
+      | inl none ↦ (let short = last_begins c live a start past good last (each_lacking c live a start past last (lacks_moments c a (part a past) lacks) none) none in omega (arith, short, many))
       | inr m ↦
           let before = few_first c live a start past m.newer m.older m.first good last lacks m.is m.none in
           let fine = fine_moments c a past last.legal (lead_on_moments c a past last.legal last.turns few) last.going lacks in

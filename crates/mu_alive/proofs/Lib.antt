@@ -15,6 +15,7 @@ mod Granting
 mod KnowsMost
 pub mod Lagging
 mod LastNoting
+pub mod LastRaising
 mod Lasting
 mod Moments
 mod Noting
@@ -22,6 +23,7 @@ mod Opening
 mod OwnNumbers
 mod Rising
 mod Settled
+pub mod Spreading
 mod Started
 mod Steady
 pub mod TurnFences

@@ -80,7 +80,14 @@ at_least_halves (e ∷ f ∷ window) older =
     let one = one_odd (length (window ++ older)) (replications window older) in
     omega (arith, ih, one)
 
--- so many steps hold an ask of each region
+-- so many steps in a row, after some, hold an ask of each region
+abbrev pub AsksEach : Config → ℕ → List Event → Type 0
+AsksEach c start mine = (p : ℕ) (newer window older : List Event) → mine ≡ newer ++ (window ++ older) → length window ≡ asking_steps c → start ≤ length older → p < c.replicas → has (is_asking p) window ≡ true
+
+pub each_older : (c : Config) (start : ℕ) (newer older : List Event) → AsksEach c start (newer ++ older) → AsksEach c start older
+each_older c start newer older each p above window base is = each p (newer ++ above) window base (ap (λ l. newer ++ l) is ∙ sym (append_assoc newer above (window ++ base)))
+
+-- so they do while it has to ask
 pub asks_there : (c : Config) (start r p : ℕ) (past newer window older : List Event) → AsksInTime c r past → past ≡ newer ++ (window ++ older) → length window ≡ asking_steps c → start ≤ length older → p < c.replicas → AtEachMoment (From start (λ now. has_to_ask c r now ≡ true)) past
     → has (is_asking p) window ≡ true
 asks_there c start r p past newer window older asks is long late low held =

@@ -33,7 +33,8 @@ use Rattle.mu_alive.proofs.Beginning.{CutAt, cut_at}
 use Rattle.mu_alive.proofs.Bringing.{raising_moments}
 use Rattle.mu_alive.proofs.Cutting.{cut}
 use Rattle.mu_alive.proofs.Enough.{IsFine, Leads, fine_moments, lacks_moments, lone_before, lone_leads, lone_on}
-use Rattle.mu_alive.proofs.Finishing.{follows_on, heads-own, keep_before, leads_on, writes_before}
+use Rattle.mu_alive.proofs.Finishing.{keep_before, leads_on, writes_before}
+use Rattle.mu_alive.proofs.Spreading.{follows_on, heads-own}
 use Rattle.mu_alive.proofs.Following.{fuo_read_in_time, gains_in_time, head_follows, own_fuo}
 use Rattle.mu_alive.proofs.Gaining.{gain, gain_known, gain_some, gain_stays}
 use Rattle.mu_alive.proofs.KnowsMost.{quiet_steps}
@@ -132,7 +133,7 @@ fuos_rise c live a m newer older l read k long p low =
     (reaches_known c a p (part a newer) (part a older) (subst (AtEachStep (Steady c a)) mine (steady_of c live a (newer ++ older) l)) (subst (AtEachMoment (IsInTime (raising c a p))) mine (raising_moments c a p (part a (newer ++ older)) low l.lone.led)) (stays_on c live a newer older l read) (k.members p low) (k.raised p low) (omega (arith, half)))
 
 follows_here : (c : Config) (live : ℕ → Bool) (a r : ℕ) (newer older : List Event) → Lacking c live a (newer ++ older) → r < c.replicas → r ≢ a → FollowsOn c r newer older
-follows_here c live a r newer older l low other = follows_on c live a r newer older l.lone l.keep low (l.all r low) other
+follows_here c live a r newer older l low other = follows_on c live a r newer older l.lone.legal l.keep low (l.all r low) other
 
 -- in two rounds each other replica reads that
 pub fuos_read : (c : Config) (live : ℕ → Bool) (a k : ℕ) (newer older : List Event) → Lacking c live a (newer ++ older) → ((p : ℕ) → p < c.replicas → k ≤ region_fuo p older) → gain_steps c ≤ length (part a newer)

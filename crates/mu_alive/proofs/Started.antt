@@ -1,5 +1,5 @@
 -- Who knows something in a history in which one replica asks alone has started to lead.
-use Rattle.std.proofs.Common.{◌≡◌, ◌≢◌, ◌⊎◌, ℕ, ◌+◌, ◌<◌, ◌==◌, ◌&&◌, not, inl, inr, Bool, true, false, cond, Some, None, List, [], ◌∷◌, ◌++◌, length, refl, sym, ◌∙◌, ap, arith, subst, eqb-true, true≢false, append_assoc, is_some}
+use Rattle.std.proofs.Common.{◌≡◌, ◌≢◌, ◌⊎◌, ℕ, ◌+◌, ◌<◌, ◌==◌, ◌&&◌, not, inl, inr, Bool, true, false, cond, Some, None, List, [], ◌∷◌, ◌++◌, length, refl, sym, ◌∙◌, ap, arith, subst, true≢false, append_assoc, is_some}
 use Rattle.std.specs.declared.option.Option.{Option}
 use Rattle.std.specs.Prelude.{if◌then◌else◌, nat_lt}
 use Rattle.std.specs.List.{slice_get}
@@ -11,14 +11,12 @@ use Rattle.mu_model.specs.declared.event.Verb.{Verb}
 use Rattle.mu_model.specs.Allowed.{Allowed, Needs}
 use Rattle.mu_model.specs.Answers.{answer_of, drained, put_answer, shown}
 use Rattle.mu_model.specs.Bounds.{stays}
-use Rattle.mu_model.specs.Contents.{holds_all}
-use Rattle.mu_model.specs.Diligence.{has_to_ask}
 use Rattle.mu_model.specs.Histories.{earlier_or, has, oldest, part}
 use Rattle.mu_model.specs.Knowledge.{known}
-use Rattle.mu_model.specs.Leaderships.{begins_leadership, has_begun, is_member, is_over, leadership, number_put, proposal_number}
+use Rattle.mu_model.specs.Leaderships.{begins_leadership, has_begun, is_member, leadership, number_put, proposal_number}
 use Rattle.mu_model.specs.Legal.{IsLegalHistory}
 use Rattle.mu_model.specs.Regions.{fence_owner, region_log}
-use Rattle.mu_model.specs.Steps.{has_min, is_asking, is_min, is_named, knows_all}
+use Rattle.mu_model.specs.Steps.{has_min, is_asking, is_min}
 use Rattle.mu_model.proofs.Basics.{same_some}
 use Rattle.mu_model.proofs.Owned.{IsOwnTest, has-part}
 use Rattle.mu_agree.specs.Laws.{is_landing}
@@ -31,18 +29,13 @@ use Rattle.mu_pace.proofs.Growing.{stays_less}
 use Rattle.mu_alive.specs.Alone.{AsksAlone}
 use Rattle.mu_alive.specs.Finishing.{AsksAllFirst}
 use Rattle.mu_alive.specs.Lone.{LeadsAlone}
+use Rattle.mu_alive.specs.Opens.{puts_number}
 use Rattle.mu_alive.specs.Turns.{is_own_min}
 use Rattle.mu_alive.proofs.Alone.{Once, alone_induction, once}
-use Rattle.mu_alive.proofs.Beginning.{has_to_ask_all}
-use Rattle.mu_alive.proofs.Steady.{member_numbered, numbered_stays}
+use Rattle.mu_alive.proofs.Steady.{member_numbered, numbered_on, numbered_stays}
 use Rattle.mu_alive.proofs.Cutting.{Located, Met, located, met}
-use Rattle.mu_alive.proofs.Enough.{FirstMin, Leads, first_has_min, first_verb, lacks_moments, lone_before, lone_leads, lone_on, min_on, min_or_none}
-use Rattle.mu_alive.proofs.Moments.{From}
+use Rattle.mu_alive.proofs.Enough.{FirstMin, Leads, first_has_min, first_verb, lone_before, lone_leads, lone_on, min_on, min_or_none}
 use Rattle.mu_alive.proofs.Turns.{begun-part, min_begun, put_reads}
-
--- the event puts a number of a
-abbrev is_number_of : ℕ → Event → Bool
-is_number_of a e = is_some (number_put a e.by e.verb)
 
 oldest_there : (tells : Event → Option ℕ) (events : List Event) → is_some (oldest tells events) ≡ true → has (λ e. is_some (tells e)) events ≡ true
 oldest_there tells [] some = absurd (true≢false (sym some))
@@ -53,12 +46,12 @@ oldest_there tells (e ∷ events) some = go (tells e) (oldest tells events) some
     go (Some x) n some ih = refl
 
 -- who has a number has put one
-numbered_there : (a : ℕ) (past : List Event) → is_some (proposal_number a past) ≡ true → has (is_number_of a) past ≡ true
-numbered_there a past some = has_since (is_number_of a) (begins_leadership a) past (oldest_there (λ e. number_put a e.by e.verb) (leadership a past) some)
+pub numbered_there : (a : ℕ) (past : List Event) → is_some (proposal_number a past) ≡ true → has (puts_number a) past ≡ true
+numbered_there a past some = has_since (puts_number a) (begins_leadership a) past (oldest_there (λ e. number_put a e.by e.verb) (leadership a past) some)
 
 -- until a puts a number all logs are empty, and it knows nothing
 abbrev IsBlank : Config → ℕ → List Event → Type 0
-IsBlank c a past = has (is_number_of a) past ≡ false → ((q : ℕ) → region_log q past ≡ []) × (known c a (part a past) ≡ [])
+IsBlank c a past = has (puts_number a) past ≡ false → ((q : ℕ) → region_log q past ≡ []) × (known c a (part a past) ≡ [])
 
 no_more : (t b : Bool) → cond t true b ≡ false → (t ≡ false) × (b ≡ false)
 no_more true b none = absurd (true≢false none)
@@ -79,7 +72,7 @@ blank_put c a by q i b w past legal alone may blank none = go (put_answer (drain
         numbered own =
             let there = subst (λ x. Allowed c x (part x past) (Verb.PutSlot q i b w)) own may in
             let member = (and_parts (is_member a a (part a past)) _ there.may.2.carried).0 in
-            true≢false (sym (has_of_part (is_number_of a) a past (numbered_there a (part a past) (member_numbered a a (part a past) member))) ∙ none)
+            true≢false (sym (has_of_part (puts_number a) a past (numbered_there a (part a past) (member_numbered a a (part a past) member))) ∙ none)
 
         by_owner : Once a q past → fence_owner q past ≡ Some by → ⊥
         by_owner (inl o) owns = let k = sym o.0 ∙ owns in cc
@@ -110,7 +103,7 @@ blank_step : (c : Config) (a by : ℕ) (v : Verb) (past : List Event) → IsLega
 blank_step c a by (Verb.PutSlot q i b w) past legal alone may blank = blank_put c a by q i b w past legal alone may blank
 blank_step c a by (Verb.Look q i) past legal alone may blank = blank_look c a by q i past blank
 blank_step c a by v past legal alone may blank = λ none.
-    let was = blank (no_more (is_number_of a (event_after c past by v)) (has (is_number_of a) past) none).1 in
+    let was = blank (no_more (puts_number a (event_after c past by v)) (has (puts_number a) past) none).1 in
     (was.0, mine (by == a) was.1)
   where
     mine : (t : Bool) → known c a (part a past) ≡ [] → known c a (cond t (event_after c past by v ∷ part a past) (part a past)) ≡ []
@@ -164,19 +157,11 @@ pub record Started (c : Config) (a : ℕ) (past : List Event) : Type 0 where
   pub numbered : is_some (proposal_number a (part a past)) ≡ true
   pub asked : (p : ℕ) → p < c.replicas → has (is_asking p) (part a past) ≡ true
 
-named_moments : (c : Config) (a : ℕ) (mine : List Event) → AtEachMoment (λ now. is_named c a now ≡ true) mine → AtEachMoment (From 0 (λ now. is_named c a now ≡ true)) mine
-named_moments c a [] named = λ _. named
-named_moments c a (e ∷ mine) named = (named_moments c a mine named.0, λ _. named.1)
-
-plain_moments : (P : List Event → Type 0) (mine : List Event) → AtEachMoment (From 0 P) mine → AtEachMoment P mine
-plain_moments P [] held = held (omega arith)
-plain_moments P (e ∷ mine) held = (plain_moments P mine held.0, held.1 (omega arith))
-
 pub some_asked : (p : ℕ) (newer older : List Event) → has (is_asking p) older ≡ true → has (is_asking p) (newer ++ older) ≡ true
 some_asked p [] older there = there
 some_asked p (e ∷ newer) older there = has_more (is_asking p) e (newer ++ older) (some_asked p newer older there)
 
-put_number : (a by : ℕ) (verb : Verb) (n : Option ℕ) → is_some (number_put a by verb) ≡ true → is_some (earlier_or (number_put a by verb) n) ≡ true
+pub put_number : (a by : ℕ) (verb : Verb) (n : Option ℕ) → is_some (number_put a by verb) ≡ true → is_some (earlier_or (number_put a by verb) n) ≡ true
 put_number a by verb n some = go (number_put a by verb) n some
   where
     go : (o n : Option ℕ) → is_some o ≡ true → is_some (earlier_or o n) ≡ true
@@ -184,34 +169,46 @@ put_number a by verb n some = go (number_put a by verb) n some
     go (Some x) (Some y) some = refl
     go None n some = absurd (true≢false (sym some))
 
-not_first : (a by : ℕ) (verb : Verb) (answer : Answer) → is_some (number_put a by verb) ≡ true → begins_leadership a (record { by = by; verb = verb; answer = answer }) ≡ false
+pub not_first : (a by : ℕ) (verb : Verb) (answer : Answer) → is_some (number_put a by verb) ≡ true → begins_leadership a (record { by = by; verb = verb; answer = answer }) ≡ false
 not_first a by (Verb.Ask q) answer some = absurd (true≢false (sym some))
 not_first a by verb answer some = refl
+
+-- who puts a number in a leadership has it from then on
+pub numbered_with : (a : ℕ) (newer base : List Event) → stays a newer ≡ true → has (puts_number a) newer ≡ true → is_some (proposal_number a (newer ++ base)) ≡ true
+numbered_with a [] base same some = absurd (true≢false (sym some))
+numbered_with a (e ∷ newer) base same some = go (puts_number a e) refl some (numbered_with a newer base (stays_less a e newer same).1)
+  where
+    less : (begins_leadership a e ≡ false) × (stays a newer ≡ true)
+    less = stays_less a e newer same
+
+    go : (t : Bool) → puts_number a e ≡ t → cond t true (has (puts_number a) newer) ≡ true → (has (puts_number a) newer ≡ true → is_some (proposal_number a (newer ++ base)) ≡ true) → is_some (proposal_number a (e ∷ (newer ++ base))) ≡ true
+    go true puts some ih = ap (λ t. is_some (oldest (λ f. number_put a f.by f.verb) (cond t [] (e ∷ leadership a (newer ++ base))))) less.0 ∙ put_number a e.by e.verb (proposal_number a (newer ++ base)) puts
+    go false none some ih = numbered_on a e (newer ++ base) less.0 (ih some)
 
 puts_min : (c : Config) (a by : ℕ) (verb : Verb) (past : List Event) → is_some (number_put a by verb) ≡ true → IsLegalHistory c past → Needs c by (part by past) verb → has (is_own_min by) past ≡ true
 puts_min c a by (Verb.PutMin q b) past some legal may = put_reads c by q b past legal may
 puts_min c a by verb past some legal may = absurd (true≢false (sym some))
 
 -- who knows something has started
-pub started : (c : Config) (live : ℕ → Bool) (a : ℕ) (past : List Event) → LeadsAlone c live a past → AsksAllFirst c a (part a past) → holds_all c [] ≡ false → known c a (part a past) ≢ [] → Started c a past
-started c live a past lone asks_first lacks knows = go (has (is_number_of a) (part a past)) refl
+pub started : (c : Config) (live : ℕ → Bool) (a : ℕ) (past : List Event) → LeadsAlone c live a past → AsksAllFirst c a (part a past) → known c a (part a past) ≢ [] → Started c a past
+started c live a past lone asks_first knows = go (has (puts_number a) (part a past)) refl
   where
-    go : (t : Bool) → has (is_number_of a) (part a past) ≡ t → Started c a past
-    go false none = absurd (knows (blank c a past lone.legal lone.alone (not_there (has (is_number_of a) past) refl)).1)
+    go : (t : Bool) → has (puts_number a) (part a past) ≡ t → Started c a past
+    go false none = absurd (knows (blank c a past lone.legal lone.alone (not_there (has (puts_number a) past) refl)).1)
       where
-        own : IsOwnTest a (is_number_of a)
+        own : IsOwnTest a (puts_number a)
         own = record { own = λ e other. here e.by e.verb other }
           where
             here : (by : ℕ) (verb : Verb) → (by == a) ≡ false → is_some (number_put a by verb) ≡ false
             here by (Verb.PutMin q b) other = ap (λ t. is_some (if t then Some b else None)) other
             here by verb other = refl
 
-        not_there : (t : Bool) → has (is_number_of a) past ≡ t → has (is_number_of a) past ≡ false
-        not_there true some = absurd (true≢false (sym (has-part (is_number_of a) a own past ∙ some) ∙ none))
+        not_there : (t : Bool) → has (puts_number a) past ≡ t → has (puts_number a) past ≡ false
+        not_there true some = absurd (true≢false (sym (has-part (puts_number a) a own past ∙ some) ∙ none))
         not_there false none = none
-    go true some = with_number (met (is_number_of a) (part a past) some)
+    go true some = with_number (met (puts_number a) (part a past) some)
       where
-        with_number : Met (is_number_of a) (part a past) → Started c a past
+        with_number : Met (puts_number a) (part a past) → Started c a past
         with_number m = at (located a past m.newer m.older m.event m.is)
           where
             at : Located a past m.event m.older → Started c a past
@@ -245,51 +242,9 @@ started c live a past lone asks_first lacks knows = go (has (is_number_of a) (pa
                     record {
                       read = ap (has_min a) up ∙ on.1;
                       numbered = ap (λ x. is_some (proposal_number a x)) m.is ∙ numbered_stays a m.newer (m.event ∷ m.older) newest_on here;
-                      asked = λ p low. subst (λ x. has (is_asking p) x ≡ true) (sym up) (some_asked p (m.newer ++ m.event ∷ f.newer) (f.first ∷ f.older) (has_more (is_asking p) f.first f.older (asks_first (m.newer ++ m.event ∷ f.newer) f.older f.first p up f.min (waits f) (over f) low)));
+                      asked = λ p low. subst (λ x. has (is_asking p) x ≡ true) (sym up) (some_asked p (m.newer ++ m.event ∷ f.newer) (f.first ∷ f.older) (has_more (is_asking p) f.first f.older (asks_first (m.newer ++ m.event ∷ f.newer) f.older f.first p up f.min f.none low)));
                     }
                   where
                     stays_front : (r : ℕ) (xs ys : List Event) → stays r (xs ++ ys) ≡ true → stays r xs ≡ true
                     stays_front r [] ys all = refl
                     stays_front r (e ∷ xs) ys all = let less = stays_less r e (xs ++ ys) all in ap (λ t. not (if t then true else has (begins_leadership r) xs)) less.0 ∙ stays_front r xs ys less.1
-
-                    -- before the first minimum it knew nothing
-                    under : (f : FirstMin a m.older) → Located a l.older f.first f.older
-                    under f = located a l.older f.newer f.older f.first (l.before ∙ f.is)
-
-                    below : (f : FirstMin a m.older) → LeadsAlone c live a (under f).older
-                    below f = let u = under f in lone_before c live a (u.newer ++ f.first ∷ []) u.older (subst (LeadsAlone c live a) (u.is ∙ sym (append_assoc u.newer (f.first ∷ []) u.older)) there)
-
-                    unknown : (f : FirstMin a m.older) → knows_all c a f.older ≡ false
-                    unknown f = ap (λ x. holds_all c (known c a x)) (sym (under f).before) ∙ (ap (holds_all c) (blank c a (under f).older (below f).legal (below f).alone (unput (has (is_number_of a) (under f).older) refl)).1 ∙ lacks)
-                      where
-                        unput : (t : Bool) → has (is_number_of a) (under f).older ≡ t → has (is_number_of a) (under f).older ≡ false
-                        unput false none = none
-                        unput true some = absurd (put_there (met (is_number_of a) (under f).older some))
-                          where
-                            put_there : Met (is_number_of a) (under f).older → ⊥
-                            put_there n =
-                                let legal = legal_older c n.newer (n.event ∷ n.older) (subst (IsLegalHistory c) n.is (below f).legal) in
-                                let by = number_by n.event.by n.event.verb n.passes in
-                                let min = subst (λ x. has (is_own_min x) n.older ≡ true) by (puts_min c a n.event.by n.event.verb n.older n.passes legal.0 legal.1.allowed.may) in
-                                let all = own_in_part a (under f).older (subst (λ x. has (is_own_min a) x ≡ true) (sym n.is) (own_later n.newer (n.event ∷ n.older) (has_more (is_own_min a) n.event n.older min))) in
-                                none_read c a (under f).older (below f).legal (subst (AtEachMoment (λ now. has_min a now ≡ false)) (sym (under f).before) f.none) all
-                              where
-                                number_by : (by : ℕ) (verb : Verb) → is_some (number_put a by verb) ≡ true → by ≡ a
-                                number_by by (Verb.PutMin q b) some = own (by == a) refl some
-                                  where
-                                    own : (t : Bool) → (by == a) ≡ t → is_some (if t then Some b else None) ≡ true → by ≡ a
-                                    own true is some = eqb-true by a is
-                                    own false is some = absurd (true≢false (sym some))
-                                number_by by verb some = absurd (true≢false (sym some))
-
-                                own_later : (xs ys : List Event) → has (is_own_min a) ys ≡ true → has (is_own_min a) (xs ++ ys) ≡ true
-                                own_later [] ys there = there
-                                own_later (x ∷ xs) ys there = has_more (is_own_min a) x (xs ++ ys) (own_later xs ys there)
-
-                    waits : (f : FirstMin a m.older) → AtEachMoment (λ now. has_to_ask c a now ≡ true) f.older
-                    waits f =
-                        let named = subst (AtEachMoment (λ now. is_named c a now ≡ true)) (under f).before (below f).named in
-                        plain_moments (λ now. has_to_ask c a now ≡ true) f.older (has_to_ask_all c a 0 f.older (named_moments c a f.older named) (lacks_moments c a f.older (unknown f)) f.none)
-
-                    over : (f : FirstMin a m.older) → AtEachMoment (λ now. is_over a now ≡ false) f.older
-                    over f = subst (AtEachMoment (λ now. is_over a now ≡ false)) (under f).before (lone_on c a (under f).older (below f).legal (below f).alone)

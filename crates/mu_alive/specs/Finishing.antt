@@ -1,30 +1,31 @@
 -- keep up, have all raised, raising steps: each replica raises its head in time and to all that it
 -- may, and only one leads; a number of entries hold every command, and each replica has applied
--- them and raised its head to them; the steps of the leader until that holds.
+-- them and raised its head to them; the steps of the leader until that holds, if it leads alone or
+-- last.
 use Rattle.std.specs.Prelude.{Bool, List, false, length, take, true, ℕ, ◌*◌, ◌++◌, ◌+◌, ◌<◌, ◌∷◌, ◌≡◌, ◌≢◌, ◌≤◌}
 use Rattle.mu_model.specs.declared.config.Config.{Config}
 use Rattle.mu_model.specs.declared.event.Event.{Event}
 use Rattle.mu_model.specs.Bounds.{cycle}
 use Rattle.mu_model.specs.Contents.{IsConfig, holds_all}
-use Rattle.mu_model.specs.Diligence.{Replays, TellsHeads, has_to_ask}
+use Rattle.mu_model.specs.Diligence.{Replays, TellsHeads}
 use Rattle.mu_model.specs.Histories.{has, part}
 use Rattle.mu_model.specs.Knowledge.{applied}
-use Rattle.mu_model.specs.Leaderships.{is_over}
 use Rattle.mu_model.specs.Regions.{region_head}
-use Rattle.mu_model.specs.Steps.{is_asking, is_min, is_named}
+use Rattle.mu_model.specs.Steps.{has_min, is_asking, is_min, is_named}
 use Rattle.mu_pace.specs.Counters.{AtEachMoment, AtEachStep}
 use Rattle.mu_alive.specs.Alone.{WritesAlone}
 use Rattle.mu_alive.specs.Bringing.{joining_steps}
 use Rattle.mu_alive.specs.Enough.{HasLargeRing, steps_enough}
 use Rattle.mu_alive.specs.Following.{RaisesToAll, following_steps}
+use Rattle.mu_alive.specs.Last.{FetchesInTime, LeadsLast, last_steps}
 use Rattle.mu_alive.specs.Lone.{LeadsAlone}
+use Rattle.mu_alive.specs.Opens.{OpensInTime}
 
--- before it reads a minimum, a asks each region, if it has to ask all the while and isn't over
+-- before it reads its first minimum, a asks each region
 abbrev pub AsksAllFirst : Config → ℕ → List Event → Type 0
 AsksAllFirst c a mine =
     (newer older : List Event) (e : Event) (p : ℕ) → mine ≡ newer ++ e ∷ older → is_min e ≡ true
-    → AtEachMoment (λ now. has_to_ask c a now ≡ true) older
-    → AtEachMoment (λ now. is_over a now ≡ false) older
+    → AtEachMoment (λ now. has_min a now ≡ false) older
     → p < c.replicas → has (is_asking p) older ≡ true
 
 -- each of these replicas raises its head in time and to all that it may, and each but a keeps a
@@ -48,10 +49,14 @@ pub record HaveAllRaised (c : Config) (live : ℕ → Bool) (past : List Event) 
       (r : ℕ) → r < c.replicas → live r ≡ true
       → holds_all c (take upto (applied c r (part r past))) ≡ true
 
--- in this many steps each live host has granted to it, each region is brought up, and each replica
--- has applied what a knew and raised its head to it
+-- in this many steps each region that granted to it is brought up, and each replica has applied
+-- what a knew and raised its head to it
+abbrev pub spreading_steps : Config → ℕ
+spreading_steps c = joining_steps c + (following_steps c + 2)
+
+-- the same if each live host has to grant to it first
 abbrev pub lagging_steps : Config → ℕ
-lagging_steps c = 2 * cycle c + 2 + joining_steps c + (following_steps c + 2)
+lagging_steps c = 2 * cycle c + 2 + spreading_steps c
 
 -- before that it knows all
 abbrev pub raising_steps : Config → ℕ
@@ -63,3 +68,16 @@ LoneLeadersRaiseAll =
     (c : Config) (live : ℕ → Bool) (a : ℕ) (past : List Event) → IsConfig c → HasLargeRing c
     → LeadsAlone c live a past → WritesAlone a past → KeepUp c live a past
     → raising_steps c ≤ length (part a past) → HaveAllRaised c live past
+
+-- the steps of the last that asks, from when it began to name itself: it knows all, and brings it to
+-- the others while it fetches the rows that it lacks
+abbrev pub last_raising_steps : Config → ℕ → ℕ
+last_raising_steps c a = last_steps c a + spreading_steps c
+
+-- if it opens its leadership and fetches rows in time, all that keep up with it have done so then
+abbrev pub LastLeadersRaiseAll : Type 0
+LastLeadersRaiseAll =
+    (c : Config) (live : ℕ → Bool) (a start : ℕ) (past : List Event) → IsConfig c → HasLargeRing c
+    → LeadsLast c live a start past → OpensInTime c a (part a past)
+    → FetchesInTime c a (part a past) → KeepUp c live a past
+    → start + last_raising_steps c a ≤ length (part a past) → HaveAllRaised c live past

@@ -8,5 +8,6 @@ pub mod Following
 pub mod Lagging
 pub mod Last
 pub mod Lone
+pub mod Opens
 pub mod Turns
 pub mod Unhindered

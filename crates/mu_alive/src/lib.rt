@@ -6,7 +6,7 @@ ghost use Rattle.mu_alive.specs.Bringing.{FollowersAreBroughtUp};
 ghost use Rattle.mu_alive.specs.Calm.{CalmLeadersCommit};
 ghost use Rattle.mu_alive.specs.Enough.{LoneLeadersApplyAll, LoneLeadersKnowAll};
 ghost use Rattle.mu_alive.specs.Failing.{HeldFailedInTime};
-ghost use Rattle.mu_alive.specs.Finishing.{LoneLeadersRaiseAll};
+ghost use Rattle.mu_alive.specs.Finishing.{LastLeadersRaiseAll, LoneLeadersRaiseAll};
 ghost use Rattle.mu_alive.specs.Following.{FollowersCatchUp};
 ghost use Rattle.mu_alive.specs.Lagging.{LoneLeadersApplyAllInAnyRing, LoneLeadersRaiseAllInAnyRing};
 ghost use Rattle.mu_alive.specs.Last.{LastLeadersApplyAll, LastLeadersKnowAll};
@@ -80,6 +80,12 @@ pub fn followers_are_brought_up()
 /// All that keep up with a replica that asks alone have applied all, and raised their heads to it.
 pub fn lone_leaders_raise_all()
     ensures { LoneLeadersRaiseAll }
+{}
+
+/// All that keep up with the last of the replicas that ask in turn have applied all, and raised
+/// their heads to it.
+pub fn last_leaders_raise_all()
+    ensures { LastLeadersRaiseAll }
 {}
 
 /// A replica that asks alone, and that all others keep up with, has applied every command in time,

@@ -1,5 +1,5 @@
 -- In a replay whose script has no line replica 0 has every row in time, in any ring.
-use Rattle.std.proofs.Common.{◌≡◌, ◌∙◌, ℕ, ◌<◌, ◌≤◌, ◌==◌, inl, inr, true, Some, List, ap, arith, length, map, refl, subst, sym}
+use Rattle.std.proofs.Common.{◌≡◌, ◌∙◌, ℕ, ◌<◌, ◌≤◌, ◌==◌, inl, inr, true, Some, List, ◌∷◌, ap, arith, length, map, refl, subst, sym}
 use Rattle.std.specs.Prelude.{slice_index}
 use Rattle.std.specs.List.{slice_get}
 use Rattle.mu_input.specs.Heads.{HaveHeads}
@@ -33,7 +33,8 @@ use Rattle.mu_cluster.proofs.Lives.{done_or_not}
 use Rattle.mu_cluster.proofs.Naming.{AreUnpaused, unpaused_of}
 use Rattle.mu_cluster.proofs.Onward.{journal_part, nodes_of}
 use Rattle.mu_cluster.proofs.Outrunning.{spends_of}
-use Rattle.mu_cluster.proofs.Raised.{GoOn, LoneAt, lone_at}
+use Rattle.mu_cluster.proofs.Raised.{LoneAt, lone_at}
+use Rattle.mu_cluster.proofs.Taken.{GoOn}
 
 -- in what a replay leaves
 pub any_ring_of : (o : Outcome) (order : Record) (seats : List Seat) (rounds : ℕ) → IsConfig o.job.config → (run : IsRun o) → o.order ≡ Some order → Played o.job.config o.job.script order.events seats rounds 0 → AreDiligent o → AppliesAllInAnyRing o
@@ -64,9 +65,11 @@ any_ring_of o order seats rounds good run given played diligent unpaused unstopp
     late : (r : ℕ) → r < c.replicas → true ≡ true → steps_in_any_ring c ≤ slice_index lengths r
     late r low _ = let taken = all.taken r low in let b = budget r low in omega (arith, taken, b, enough)
 
-    goes_on : GoOn c (λ r. true) events
+    goes_on : GoOn c (λ r. true) 0 events
     goes_on = record {
-      first = refl;
+      inside = some;
+      lives = refl;
+      lower = λ r low. absurd (omega (arith, low));
       majority = (let count = count_all c.replicas (λ r. true) (λ r low. refl) in let l = good.replicas.0 in omega (arith, count, l));
       diligent = λ r low. subst (IsDiligent c r) (journal_part o run r low) (diligent r low);
       led = (nodes_of o order seats rounds run given played diligent).led 0 some;
@@ -75,8 +78,9 @@ any_ring_of o order seats rounds good run given played diligent unpaused unstopp
 
     holds : LoneAt c (λ r. true) events (steps_in_any_ring c) → holds_all c (applied c 0 (part_of 0 events)) ≡ true
     holds l =
-        ap (λ x. holds_all c (applied c 0 x)) (ap (part 0) l.is ∙ filter-append (λ e. e.by == 0) l.front l.past)
-        ∙ applied_on c 0 (part 0 l.front) (part 0 l.past) (applies_in_any_ring c (λ r. true) 0 l.past good (λ r low. refl) l.lone l.writes l.keep (let n = l.taken in omega (arith, n)))
+        let t = l.moment in
+        ap (λ x. holds_all c (applied c 0 x)) (ap (part 0) t.is ∙ filter-append (λ e. e.by == 0) t.front (t.last ∷ t.older))
+        ∙ applied_on c 0 (part 0 t.front) (part 0 (t.last ∷ t.older)) (applies_in_any_ring c (λ r. true) 0 (t.last ∷ t.older) good (λ r low. refl) l.lone l.writes l.keep (let n = t.taken in omega (arith, n)))
 
 -- so the replay has every command
 pub any_lives : (o : Outcome) → IsConfig o.job.config → HaveHeads o.job.config.width o.job.commands o.job.config.rows → IsRun o → NoneOutrunUnpaused o → AppliesAllInAnyRing o → HasAllInAnyRing o

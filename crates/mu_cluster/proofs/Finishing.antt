@@ -1,4 +1,4 @@
--- In a replay without a pause in which replica 0 isn't stopped, each replica that wasn't stopped finishes.
+-- In a replay without a pause each replica that wasn't stopped finishes.
 use Rattle.std.proofs.Common.{◌≡◌, ◌∙◌, ◌≢◌, ◌⊎◌, ℕ, zero, suc, ◌+◌, ◌*◌, ◌<◌, ◌≤◌, ◌==◌, ◌&&◌, ◌||◌, inl, inr, Bool, true, false, cond, None, Some, List, [], ◌∷◌, ◌++◌, ap, append_assoc, arith, length, map, refl, subst, sym, take, drop}
 use Rattle.std.specs.declared.option.Option.{Option}
 use Rattle.std.specs.Prelude.{nat_le, not, slice_index}
@@ -19,7 +19,6 @@ use Rattle.mu_model.specs.Contents.{IsConfig, holds_all}
 use Rattle.mu_model.specs.Diligence.{IsDiligent}
 use Rattle.mu_model.specs.Ends.{EndsBy, full_length, head_known, is_at_least, is_finished, is_full, outrun, stops_at}
 use Rattle.mu_model.specs.Histories.{count_below, has, history, newer_or, newest, part}
-use Rattle.mu_model.specs.Leaderships.{majority_of}
 use Rattle.mu_model.specs.Journals.{Record}
 use Rattle.mu_model.specs.Knowledge.{applied, has_entry, known}
 use Rattle.mu_model.specs.Legal.{IsLegalHistory}
@@ -35,16 +34,17 @@ use Rattle.mu_model.proofs.Scans.{each_all}
 use Rattle.mu_outcome.specs.declared.outcome.Outcome.{Outcome}
 use Rattle.mu_outcome.specs.Outcomes.{IsRun, events_of, journal_of}
 use Rattle.mu_alive.specs.Failing.{failing_steps}
-use Rattle.mu_alive.specs.Finishing.{raising_steps}
+use Rattle.mu_alive.specs.Finishing.{last_raising_steps, raising_steps}
 use Rattle.mu_alive.specs.Lagging.{raising_in_any_ring}
 use Rattle.mu_alive.proofs.Cutting.{Located, cut, located}
 use Rattle.mu_alive.proofs.Enough.{holds_more, outrun_before}
 use Rattle.mu_alive.proofs.Fetching.{applied_grows}
-use Rattle.mu_alive.proofs.Finishing.{get_of_front, get_take, heads-own, raise_all, same_lists}
+use Rattle.mu_alive.proofs.Finishing.{raise_all}
+use Rattle.mu_alive.proofs.Spreading.{get_of_front, get_take, heads-own, same_lists}
 use Rattle.mu_alive.proofs.Lagging.{raises_in_any_ring}
 use Rattle.mu_cluster.specs.declared.rounds.Seat.{Seat}
-use Rattle.mu_cluster.specs.Finishing.{AppliesEachInAnyRing, AppliesEachInTime, HasApplied}
-use Rattle.mu_cluster.specs.Outliving.{is_stop, was_stopped}
+use Rattle.mu_cluster.specs.Finishing.{AppliesEachAfterStops, AppliesEachInAnyRing, AppliesEachInTime, HasApplied}
+use Rattle.mu_cluster.specs.Outliving.{GoesOnWith, is_stop, was_stopped}
 use Rattle.mu_cluster.specs.Paces.{AreDiligent}
 use Rattle.mu_cluster.specs.Rounds.{Played, part_of}
 use Rattle.mu_cluster.proofs.Living.{none_of}
@@ -53,7 +53,8 @@ use Rattle.mu_cluster.proofs.Onward.{journal_part, nodes_of, score-part}
 use Rattle.mu_cluster.proofs.Outliving.{fails_then}
 use Rattle.mu_cluster.proofs.Outrunning.{none_outrun}
 use Rattle.mu_cluster.proofs.Passes.{has_later}
-use Rattle.mu_cluster.proofs.Raised.{GoOn, RaisedBy, RaisesAll, full_holds, raised_by}
+use Rattle.mu_cluster.proofs.Raised.{RaisedBy, full_holds, raised_alone, raised_by, raised_last}
+use Rattle.mu_cluster.proofs.Taken.{GoOn}
 use Rattle.mu_cluster.proofs.Turning.{least_most}
 
 -- what a log held it holds later
@@ -98,9 +99,9 @@ record DoneBefore (c : Config) (r : ℕ) (whole : List Event) : Type 0 where
   is : whole ≡ event ∷ mine
   done : is_finished c r mine ≡ true
 
-done_before : (c : Config) (live : ℕ → Bool) (events : List Event) (lengths : List ℕ) (rounds most r : ℕ) → AreUnpaused c events lengths rounds → (on : GoOn c live events) → (by : RaisedBy c live events most) → r < c.replicas → live r ≡ true → length (part_of r events) ≡ c.budget → most + c.replicas * cycle c < c.budget
+done_before : (c : Config) (live : ℕ → Bool) (events : List Event) (lengths : List ℕ) (rounds most s r : ℕ) → AreUnpaused c events lengths rounds → (on : GoOn c live s events) → (by : RaisedBy c live events most) → r < c.replicas → live r ≡ true → length (part_of r events) ≡ c.budget → most + c.replicas * cycle c < c.budget
     → ((q : ℕ) → q < c.replicas → live q ≡ false → length (part_of q events) + failing_steps c < c.budget) → DoneBefore c r (part_of r events)
-done_before c live events lengths rounds most r run on by low lives spent enough failing = start (part r by.front) refl
+done_before c live events lengths rounds most s r run on by low lives spent enough failing = start (part r by.front) refl
   where
     upto : ℕ
     upto = by.raised.upto
@@ -221,14 +222,19 @@ not_stopped : (t : Bool) → not t ≡ true → t ≡ false
 not_stopped true is = absurd (true≢false (sym is))
 not_stopped false is = refl
 
+-- how many steps each took
+abbrev pub lengths_of : Outcome → List ℕ
+lengths_of o = map (λ journal. length (events_of journal)) o.journals
+
 -- in what a replay leaves, those that weren't stopped go on
-pub goes_on_of : (o : Outcome) (order : Record) (seats : List Seat) (rounds : ℕ) → IsConfig o.job.config → (run : IsRun o) → o.order ≡ Some order → Played o.job.config o.job.script order.events seats rounds 0 → AreDiligent o → o.job.script.pauses ≡ []
-    → was_stopped o 0 ≡ false → majority_of o.job.config.replicas ≤ count_below o.job.config.replicas (λ r. not (was_stopped o r)) → GoOn o.job.config (λ r. not (was_stopped o r)) run.order.events
-goes_on_of o order seats rounds good run given played diligent unpaused first majority = record {
-  first = ap not first;
-  majority = majority;
+pub goes_on_of : (o : Outcome) (order : Record) (seats : List Seat) (rounds s : ℕ) → IsConfig o.job.config → (run : IsRun o) → o.order ≡ Some order → Played o.job.config o.job.script order.events seats rounds 0 → AreDiligent o → o.job.script.pauses ≡ [] → GoesOnWith o s → GoOn o.job.config (λ r. not (was_stopped o r)) s run.order.events
+goes_on_of o order seats rounds s good run given played diligent unpaused on = record {
+  inside = on.inside;
+  lives = ap not on.left;
+  lower = λ r low. ap not (on.lower r low);
+  majority = on.majority;
   diligent = λ q inside. subst (IsDiligent c q) (journal_part o run q inside) (diligent q inside);
-  led = (nodes_of o order seats rounds run given played diligent).led 0 (let l = good.replicas.0 in omega (arith, l));
+  led = (nodes_of o order seats rounds run given played diligent).led s on.inside;
   ended = ended;
 }
   where
@@ -248,11 +254,11 @@ goes_on_of o order seats rounds good run given played diligent unpaused first ma
         go (End.Finished heads) is ends = inr (ap (is_finished c q) (sym (journal_part o run q inside)) ∙ ends.2)
 
 -- and each of them finishes, if all raise their heads in time and hold the others failed in time
-pub finishes_from : (o : Outcome) (order : Record) (seats : List Seat) (rounds most : ℕ) → IsConfig o.job.config → (run : IsRun o) → o.order ≡ Some order → Played o.job.config o.job.script order.events seats rounds 0 → o.job.script.pauses ≡ [] → GoOn o.job.config (λ r. not (was_stopped o r)) run.order.events
-    → 1 ≤ most → RaisesAll o.job.config (λ r. not (was_stopped o r)) most → most + o.job.config.replicas * cycle o.job.config < o.job.config.budget
+pub finishes_from : (o : Outcome) (order : Record) (seats : List Seat) (rounds s most : ℕ) → IsConfig o.job.config → (run : IsRun o) → o.order ≡ Some order → Played o.job.config o.job.script order.events seats rounds 0 → o.job.script.pauses ≡ [] → GoOn o.job.config (λ r. not (was_stopped o r)) s run.order.events
+    → (((r : ℕ) → r < o.job.config.replicas → not (was_stopped o r) ≡ true → most ≤ slice_index (lengths_of o) r) → RaisedBy o.job.config (λ r. not (was_stopped o r)) run.order.events most) → most + o.job.config.replicas * cycle o.job.config < o.job.config.budget
     → ((q : ℕ) → q < o.job.config.replicas → not (was_stopped o q) ≡ false → length (part_of q run.order.events) + failing_steps o.job.config < o.job.config.budget)
     → (r : ℕ) → r < o.job.config.replicas → was_stopped o r ≡ false → HasApplied o r
-finishes_from o order seats rounds most good run given played unpaused goes_on one raises enough failing r low there = by_end (run.ended r low).0 (run.ended r low).1 (run.ended r low).2.ends
+finishes_from o order seats rounds s most good run given played unpaused goes_on raises enough failing r low there = by_end (run.ended r low).0 (run.ended r low).1 (run.ended r low).2.ends
   where
     c : Config
     c = o.job.config
@@ -261,7 +267,7 @@ finishes_from o order seats rounds most good run given played unpaused goes_on o
     events = run.order.events
 
     lengths : List ℕ
-    lengths = map (λ journal. length (events_of journal)) o.journals
+    lengths = lengths_of o
 
     live : ℕ → Bool
     live q = not (was_stopped o q)
@@ -270,11 +276,11 @@ finishes_from o order seats rounds most good run given played unpaused goes_on o
     all = unpaused_of o order seats rounds run given played unpaused
 
     raised : RaisedBy c live events most
-    raised = raised_by c live events lengths run.turns.rounds most good all goes_on one raises (omega (arith, enough))
+    raised = raised_by c live s events lengths run.turns.rounds most all goes_on raises (omega (arith, enough))
 
     -- it can't have spent its budget
     spent : length (history (journal_of o r)) ≡ c.budget → ⊥
-    spent is = at (done_before c live events lengths run.turns.rounds most r all goes_on raised low (ap not there) (ap length (sym (journal_part o run r low)) ∙ is) enough failing)
+    spent is = at (done_before c live events lengths run.turns.rounds most s r all goes_on raised low (ap not there) (ap length (sym (journal_part o run r low)) ∙ is) enough failing)
       where
         at : DoneBefore c r (part_of r events) → ⊥
         at d = first_end (stops_at r (length d.mine) o.job.script.stops) refl
@@ -310,24 +316,41 @@ finishes_from o order seats rounds most good run given played unpaused goes_on o
         holds_mine : holds_all c (applied c r mine) ≡ true
         holds_mine = subst (λ x. holds_all c x ≡ true) (take-append-drop (full_length c r mine) (applied c r mine)) (holds_more c (take (full_length c r mine) (applied c r mine)) (drop (full_length c r mine) (applied c r mine)) (full_holds c r mine full))
 
+-- those that were stopped are held failed in time
+held_in_time : (o : Outcome) (run : IsRun o) → ((r : ℕ) → r < o.job.config.replicas → was_stopped o r ≡ true → length (journal_of o r) + failing_steps o.job.config < o.job.config.budget)
+    → (q : ℕ) → q < o.job.config.replicas → not (was_stopped o q) ≡ false → length (part_of q run.order.events) + failing_steps o.job.config < o.job.config.budget
+held_in_time o run failing q inside stopped =
+    let few = failing q inside (was (was_stopped o q) stopped) in
+    let same = ap length (journal_part o run q inside) in
+    let long = length-reverse (journal_of o q) in
+    omega (arith, few, same, long)
+  where
+    was : (t : Bool) → not t ≡ false → t ≡ true
+    was true is = refl
+    was false is = absurd (true≢false is)
+
 pub finishes_of : (o : Outcome) (order : Record) (seats : List Seat) (rounds : ℕ) → IsConfig o.job.config → (run : IsRun o) → o.order ≡ Some order → Played o.job.config o.job.script order.events seats rounds 0 → AreDiligent o → AppliesEachInTime o
 finishes_of o order seats rounds good run given played diligent unpaused k on time =
-    finishes_from o order seats rounds (raising_steps c) good run given played unpaused (goes_on_of o order seats rounds good run given played diligent unpaused on.left on.majority) (omega arith) (λ past lone writes keep long. raise_all c (λ r. not (was_stopped o r)) 0 past good time.large lone writes keep long) time.enough failing
-  where
-    c : Config
-    c = o.job.config
+    let c = o.job.config in
+    let live = (λ (r : ℕ). not (was_stopped o r)) in
+    let all = unpaused_of o order seats rounds run given played unpaused in
+    let goes_on = goes_on_of o order seats rounds 0 good run given played diligent unpaused on in
+    finishes_from o order seats rounds 0 (raising_steps c) good run given played unpaused goes_on
+    (λ late. raised_alone c live run.order.events (lengths_of o) run.turns.rounds (raising_steps c) good all goes_on (omega arith) (λ past lone writes keep long. raise_all c live 0 past good time.large lone writes keep long) late) time.enough
+    (held_in_time o run (λ r inside stopped. let few = time.ended r inside stopped in let enough = time.failing in omega (arith, few, enough)))
 
-    failing : (q : ℕ) → q < c.replicas → not (was_stopped o q) ≡ false → length (part_of q run.order.events) + failing_steps c < c.budget
-    failing q inside stopped =
-        let few = time.ended q inside (was (was_stopped o q) stopped) in
-        let same = ap length (journal_part o run q inside) in
-        let long = length-reverse (journal_of o q) in
-        let enough = time.failing in
-        omega (arith, few, same, long, enough)
-      where
-        was : (t : Bool) → not t ≡ false → t ≡ true
-        was true is = refl
-        was false is = absurd (true≢false is)
+-- and if leaders were stopped
+pub finishes_after : (o : Outcome) (order : Record) (seats : List Seat) (rounds : ℕ) → IsConfig o.job.config → (run : IsRun o) → o.order ≡ Some order → Played o.job.config o.job.script order.events seats rounds 0 → AreDiligent o → AppliesEachAfterStops o
+finishes_after o order seats rounds good run given played diligent unpaused s k on time =
+    let c = o.job.config in
+    let live = (λ (r : ℕ). not (was_stopped o r)) in
+    let all = unpaused_of o order seats rounds run given played unpaused in
+    let nodes = nodes_of o order seats rounds run given played diligent in
+    let goes_on = goes_on_of o order seats rounds s good run given played diligent unpaused on in
+    finishes_from o order seats rounds s (k + failing_steps c + last_raising_steps c s) good run given played unpaused goes_on
+    (λ late. raised_last c live s run.order.events (lengths_of o) run.turns.rounds k good time.large all nodes goes_on
+    (λ q below. let inside = on.inside in let few = time.ended q below in let same = ap length (journal_part o run q (omega (arith, below, inside))) in let long = length-reverse (journal_of o q) in omega (arith, few, same, long)) late)
+    (let enough = time.enough in omega (arith, enough)) (held_in_time o run time.failing)
 
 -- all that pass are all that there are
 pub count_all : (n : ℕ) (f : ℕ → Bool) → ((r : ℕ) → r < n → f r ≡ true) → n ≤ count_below n f
@@ -341,9 +364,8 @@ count_all (suc n) f all = go (f n) (all n (omega arith)) (count_all n f (λ r lo
 -- if nobody is stopped, in any ring
 pub finishes_in_any_ring : (o : Outcome) (order : Record) (seats : List Seat) (rounds : ℕ) → IsConfig o.job.config → (run : IsRun o) → o.order ≡ Some order → Played o.job.config o.job.script order.events seats rounds 0 → AreDiligent o → AppliesEachInAnyRing o
 finishes_in_any_ring o order seats rounds good run given played diligent unpaused unstopped enough r low =
-    finishes_from o order seats rounds (raising_in_any_ring c) good run given played unpaused
-    (goes_on_of o order seats rounds good run given played diligent unpaused (left 0 (let l = good.replicas.0 in omega (arith, l))) (let count = count_all c.replicas (λ r. not (was_stopped o r)) all in let l = good.replicas.0 in omega (arith, count, l)))
-    (omega arith) (λ past lone writes keep long. raises_in_any_ring c (λ r. not (was_stopped o r)) 0 past good all lone writes keep long) enough
+    finishes_from o order seats rounds 0 (raising_in_any_ring c) good run given played unpaused goes_on
+    (λ late. raised_alone c (λ r. not (was_stopped o r)) run.order.events (lengths_of o) run.turns.rounds (raising_in_any_ring c) good (unpaused_of o order seats rounds run given played unpaused) goes_on (omega arith) (λ past lone writes keep long. raises_in_any_ring c (λ r. not (was_stopped o r)) 0 past good all lone writes keep long) late) enough
     (λ q inside stopped. absurd (true≢false (sym (all q inside) ∙ stopped))) r low (left r low)
   where
     c : Config
@@ -360,3 +382,11 @@ finishes_in_any_ring o order seats rounds good run given played diligent unpause
 
     all : (q : ℕ) → q < c.replicas → not (was_stopped o q) ≡ true
     all q inside = ap not (left q inside)
+
+    some : 0 < c.replicas
+    some = (let l = good.replicas.0 in omega (arith, l))
+
+    goes_on : GoOn c (λ r. not (was_stopped o r)) 0 run.order.events
+    goes_on =
+        goes_on_of o order seats rounds 0 good run given played diligent unpaused
+        (record { inside = some; left = left 0 some; lower = λ r low. absurd (omega (arith, low)); majority = (let count = count_all c.replicas (λ r. not (was_stopped o r)) all in let l = good.replicas.0 in omega (arith, count, l)) })

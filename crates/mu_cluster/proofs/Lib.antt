@@ -20,6 +20,7 @@ mod Raised
 mod Rounding
 pub mod RowsMade
 mod Seats
+mod Taken
 mod Trusting
 mod Turned
 mod Turning

@@ -20,10 +20,8 @@ use Rattle.mu_model.specs.Leaderships.{begins_leadership, has_begun, majority_of
 use Rattle.mu_model.specs.Legal.{IsLegalHistory}
 use Rattle.mu_model.specs.Scores.{is_failed, leader, score}
 use Rattle.mu_model.proofs.Basics.{same_some}
-use Rattle.mu_model.specs.Parts.{IsPossible}
-use Rattle.mu_model.proofs.Parts.{filter-append, part_is_possible}
+use Rattle.mu_model.proofs.Parts.{filter-append}
 use Rattle.mu_node.specs.Journal.{WasMade}
-use Rattle.mu_node.proofs.Fetching.{rows_fetched}
 use Rattle.mu_node.proofs.Naming.{asker_named}
 use Rattle.mu_outcome.specs.declared.outcome.Outcome.{Outcome}
 use Rattle.mu_outcome.specs.Completion.{Completes, HasAllCommands, IsCutShort}
@@ -31,17 +29,17 @@ use Rattle.mu_outcome.specs.Entries.{commands_in, longest}
 use Rattle.mu_outcome.specs.Outcomes.{IsRun, events_of, journal_of}
 use Rattle.mu_outcome.proofs.Completing.{all_from_log, completes_over}
 use Rattle.mu_pace.specs.Collecting.{LeaderKeeps}
-use Rattle.mu_pace.specs.Counters.{AtEachMoment, AtEachStep}
-use Rattle.mu_pace.proofs.Counting.{moments_before}
+use Rattle.mu_pace.specs.Counters.{AtEachStep}
+use Rattle.mu_pace.proofs.Counting.{steps_before}
 use Rattle.mu_alive.specs.Enough.{HasLargeRing}
 use Rattle.mu_alive.specs.Failing.{failing_steps}
-use Rattle.mu_alive.specs.Last.{FetchesInTime, LeadsLast, NamesItself, fetching_steps, last_steps}
-use Rattle.mu_alive.specs.Lone.{IsNear}
+use Rattle.mu_alive.specs.Last.{LeadsLast, NamesItself}
 use Rattle.mu_alive.specs.Turns.{AreInTurn}
 use Rattle.mu_alive.proofs.Beginning.{grants_before, reads_before}
 use Rattle.mu_alive.proofs.Cutting.{Located, cut, located}
 use Rattle.mu_alive.proofs.Failing.{held_failed}
-use Rattle.mu_alive.proofs.Fetching.{last_applies_all}
+use Rattle.mu_alive.proofs.Enough.{asks_before, outrun_before}
+use Rattle.mu_alive.proofs.Fetching.{applied_on, last_applies_all}
 use Rattle.mu_alive.proofs.TurnGrants.{turns_before}
 use Rattle.mu_alive.proofs.Turns.{begun-part}
 use Rattle.mu_cluster.specs.declared.rounds.Seat.{Seat}
@@ -51,11 +49,12 @@ use Rattle.mu_cluster.specs.Paces.{AreDiligent}
 use Rattle.mu_cluster.specs.Rounds.{Played, part_of}
 use Rattle.mu_cluster.proofs.Agreeing.{agrees_of, over_order}
 use Rattle.mu_cluster.proofs.InTurn.{asked, begins_ask, insider, none_left}
-use Rattle.mu_cluster.proofs.Living.{all_near, none_of}
+use Rattle.mu_cluster.proofs.Living.{none_of}
 use Rattle.mu_cluster.proofs.Lives.{done_or_not}
 use Rattle.mu_cluster.proofs.Naming.{AreUnpaused, part_before, part_step, unpaused_of}
 use Rattle.mu_cluster.proofs.Onward.{AreNodes, in_turn, journal_part, names_own, nodes_of, score-part, stays_named}
 use Rattle.mu_cluster.proofs.Outrunning.{none_outrun}
+use Rattle.mu_cluster.proofs.Taken.{TakenAt, fetches_at, moments_of, taken_at}
 use Rattle.mu_cluster.proofs.Turning.{outlasted}
 
 -- who makes no events has none
@@ -124,75 +123,57 @@ begun_named c events lengths rounds a newer older run nodes is begun =
     let named = asker_named c k.event.by 0 (part k.event.by k.older) k.event made k.asks in
     ap (λ l. leader c a (part a l)) k.is ∙ subst (λ i. leader c i (part i (k.newer ++ k.event ∷ k.older)) ≡ i) k.own (stays_named c events lengths rounds newer k.newer k.older k.event run nodes.reads whole k.asks named)
 
--- what holds of each beginning of the list holds at each moment of a part
-pub moments_of : (a : ℕ) (P : List Event → Type 0) (past : List Event) → ((newer older : List Event) → past ≡ newer ++ older → P (part a older)) → AtEachMoment P (part a past)
-moments_of a P [] all = all [] [] refl
-moments_of a P (e ∷ past) all = go (e.by == a) refl (moments_of a P past (λ newer older is. all (e ∷ newer) older (ap (λ l. e ∷ l) is)))
-  where
-    go : (t : Bool) → (e.by == a) ≡ t → AtEachMoment P (part a past) → AtEachMoment P (cond t (e ∷ part a past) (part a past))
-    go true own rest = (rest, subst P (ap (λ t. cond t (e ∷ part a past) (part a past)) own) (all [] (e ∷ past) refl))
-    go false other rest = rest
-
--- so it leads last up to its last event
-leads_last : (c : Config) (live : ℕ → Bool) (events front older : List Event) (last : Event) (lengths : List ℕ) (rounds a k : ℕ) → IsConfig c → AreUnpaused c events lengths rounds → AreNodes c events → a < c.replicas → live a ≡ true → majority_of c.replicas ≤ count_below c.replicas live
-    → ((r : ℕ) → r < c.replicas → live r ≡ true → slice_index lengths r ≡ c.budget) → ((q : ℕ) → q < a → length (part_of q events) ≤ k) → ((r : ℕ) → r < c.replicas → IsDiligent c r (part_of r events)) → history events ≡ front ++ last ∷ older → last.by ≡ a → part a (last ∷ older) ≡ part_of a events
-    → LeadsLast c live a (k + failing_steps c) (last ∷ older)
-leads_last c live events front older last lengths rounds a k good run nodes inside lives majority all short diligent is own same = record {
+-- so it leads last up to each of its events
+pub leads_last : (c : Config) (live : ℕ → Bool) (events : List Event) (lengths : List ℕ) (rounds a k most : ℕ) → IsConfig c → AreUnpaused c events lengths rounds → AreNodes c events → a < c.replicas → live a ≡ true → majority_of c.replicas ≤ count_below c.replicas live
+    → ((q : ℕ) → q < a → length (part_of q events) ≤ k) → ((r : ℕ) → r < c.replicas → IsDiligent c r (part_of r events)) → (t : TakenAt c live a events most) → LeadsLast c live a (k + failing_steps c) (t.last ∷ t.older)
+leads_last c live events lengths rounds a k most good run nodes inside lives majority short diligent t = record {
   inside = inside;
   lives = lives;
   majority = majority;
-  legal = legal_older c front (last ∷ older) (subst (IsLegalHistory c) is run.legal);
+  legal = legal_older c t.front past (subst (IsLegalHistory c) t.is run.legal);
   turns = turns;
-  highest = λ w above. none_higher w above (begins_leadership w last) refl;
-  near = moments_before (IsNear c live a) front (last ∷ older) (subst (AtEachMoment (IsNear c live a)) is (all_near c live a events lengths rounds c.budget run inside lives all));
-  reads = λ r low _. reads_before c r (part r front) (part r (last ∷ older)) (subst (ReadsInTime c r) (split r) (diligent r low).heartbeat_pace);
-  grants = λ r low _. grants_before c r (part r front) (part r (last ∷ older)) (subst (GrantsInTime c r) (split r) (diligent r low).grant_pace);
-  asks = subst (AsksInTime c a) (sym same) (diligent a inside).election_pace;
-  led = subst (AtEachStep (LeaderKeeps c a)) (sym same) (nodes.led a inside);
-  named = moments_of a (NamesItself c a (k + failing_steps c)) (last ∷ older) (λ newer before split. itself newer before split);
-  going = ap (outrun c a) same ∙ none_of c a (part_of a events) (outrun c a (part_of a events)) refl (λ p i. none_outrun c events lengths rounds a p i good run inside);
+  highest = λ w above. none_higher w above (begins_leadership w t.last) refl;
+  near = t.near;
+  reads = λ r low _. reads_before c r (part r t.front) (part r past) (subst (ReadsInTime c r) (split r) (diligent r low).heartbeat_pace);
+  grants = λ r low _. grants_before c r (part r t.front) (part r past) (subst (GrantsInTime c r) (split r) (diligent r low).grant_pace);
+  asks = asks_before c a (part a t.front) (part a past) (subst (AsksInTime c a) (split a) (diligent a inside).election_pace);
+  led = steps_before (LeaderKeeps c a) (part a t.front) (part a past) (subst (AtEachStep (LeaderKeeps c a)) (split a) (nodes.led a inside));
+  named = moments_of a (NamesItself c a (k + failing_steps c)) past (λ newer before split. itself newer before split);
+  going = outrun_before c a (part a t.front) (part a past) (sym (ap (outrun c a) (split a)) ∙ none_of c a (part_of a events) (outrun c a (part_of a events)) refl (λ p i. none_outrun c events lengths rounds a p i good run inside));
 }
   where
-    turns : AreInTurn (last ∷ older)
-    turns = turns_before front (last ∷ older) (subst AreInTurn is (in_turn c events lengths rounds [] (history events) (let most = good.replicas.1 in omega (arith, most)) run nodes refl))
+    past : List Event
+    past = t.last ∷ t.older
 
-    none_higher : (w : ℕ) → a < w → (t : Bool) → begins_leadership w last ≡ t → has_begun w (last ∷ older) ≡ false
-    none_higher w above false not_it = ap (λ t. cond t true (has_begun w older)) not_it ∙ turns.1.last w (omega (arith, own, above))
-    none_higher w above true it = let by_w = (begins_ask w last.by last.verb last.answer it).0 in absurd (omega (arith, by_w, own, above))
+    turns : AreInTurn past
+    turns = turns_before t.front past (subst AreInTurn t.is (in_turn c events lengths rounds [] (history events) (let most = good.replicas.1 in omega (arith, most)) run nodes refl))
 
-    split : (r : ℕ) → part_of r events ≡ part r front ++ part r (last ∷ older)
-    split r = ap (part r) is ∙ filter-append (λ e. e.by == r) front (last ∷ older)
+    none_higher : (w : ℕ) → a < w → (b : Bool) → begins_leadership w t.last ≡ b → has_begun w past ≡ false
+    none_higher w above false not_it = ap (λ b. cond b true (has_begun w t.older)) not_it ∙ turns.1.last w (let own = t.own in omega (arith, own, above))
+    none_higher w above true it = let by_w = (begins_ask w t.last.by t.last.verb t.last.answer it).0 in absurd (let own = t.own in omega (arith, by_w, own, above))
 
-    itself : (newer before : List Event) → last ∷ older ≡ newer ++ before → NamesItself c a (k + failing_steps c) (part a before)
+    split : (r : ℕ) → part_of r events ≡ part r t.front ++ part r past
+    split r = ap (part r) t.is ∙ filter-append (λ e. e.by == r) t.front past
+
+    itself : (newer before : List Event) → past ≡ newer ++ before → NamesItself c a (k + failing_steps c) (part a before)
     itself newer before cuts (inl late) =
         eq-eqb (leader c a (part a before)) a
-        (named_then c events lengths rounds a (front ++ newer) before run (nodes.reads a inside) (is ∙ ap (λ l. front ++ l) cuts ∙ sym (append_assoc front newer before)) inside
+        (named_then c events lengths rounds a (t.front ++ newer) before run (nodes.reads a inside) (t.is ∙ ap (λ l. t.front ++ l) cuts ∙ sym (append_assoc t.front newer before)) inside
         (λ q below. let few = short q below in omega (arith, few, late)))
     itself newer before cuts (inr begun) =
-        eq-eqb (leader c a (part a before)) a (begun_named c events lengths rounds a (front ++ newer) before run nodes (is ∙ ap (λ l. front ++ l) cuts ∙ sym (append_assoc front newer before)) begun)
+        eq-eqb (leader c a (part a before)) a (begun_named c events lengths rounds a (t.front ++ newer) before run nodes (t.is ∙ ap (λ l. t.front ++ l) cuts ∙ sym (append_assoc t.front newer before)) begun)
 
 -- and has every row in its log
 holds_after : (c : Config) (live : ℕ → Bool) (events : List Event) (lengths : List ℕ) (rounds a k : ℕ) → IsConfig c → AreUnpaused c events lengths rounds → AreNodes c events → a < c.replicas → live a ≡ true → majority_of c.replicas ≤ count_below c.replicas live → ((r : ℕ) → r < c.replicas → live r ≡ true → slice_index lengths r ≡ c.budget)
     → ((q : ℕ) → q < a → length (part_of q events) ≤ k) → ((r : ℕ) → r < c.replicas → IsDiligent c r (part_of r events)) → HasLargeRing c → k + steps_after c a ≤ c.budget → holds_all c (applied c a (part_of a events)) ≡ true
-holds_after c live events lengths rounds a k good run nodes inside lives majority all short diligent large enough = go (part_of a events) refl
+holds_after c live events lengths rounds a k good run nodes inside lives majority all short diligent large enough =
+    subst (λ l. holds_all c (applied c a l) ≡ true) (sym (ap (part a) t.is ∙ filter-append (λ e. e.by == a) t.front (t.last ∷ t.older)))
+    (applied_on c a (part a t.front) (part a (t.last ∷ t.older))
+    (last_applies_all c live a (k + failing_steps c) (t.last ∷ t.older) good large (leads_last c live events lengths rounds a k c.budget good run nodes inside lives majority short diligent t) (fetches_at c live a events lengths rounds c.budget good run inside t)
+    (let n = t.taken in omega (arith, n, enough))))
   where
-    long : k + failing_steps c + last_steps c a + fetching_steps c ≤ length (part_of a events)
-    long = let taken = run.taken a inside in let is = all a inside lives in omega (arith, taken, is, enough)
-
-    possible : IsPossible c a (part_of a events)
-    possible = part_is_possible c a (history events) run.legal
-
-    fetches : FetchesInTime c a (part_of a events)
-    fetches = λ window older stretch many low. rows_fetched c a (part_of a events) window older good possible (run.made a inside) stretch many low
-
-    go : (mine : List Event) → part_of a events ≡ mine → holds_all c (applied c a (part_of a events)) ≡ true
-    go [] is = absurd (let none = ap length is in omega (arith, long, none))
-    go (last ∷ mine) is =
-        let at = located a (history events) [] mine last is in
-        let same : part a (last ∷ at.older) ≡ part_of a events = ap (λ t. cond t (last ∷ part a at.older) (part a at.older)) (eq-eqb last.by a at.own) ∙ ap (λ l. last ∷ l) at.before ∙ sym is in
-        let leads = leads_last c live events at.newer at.older last lengths rounds a k good run nodes inside lives majority all short diligent at.is at.own same in
-        ap (λ l. holds_all c (applied c a l)) (sym same)
-        ∙ last_applies_all c live a (k + failing_steps c) (last ∷ at.older) good large leads (subst (FetchesInTime c a) (sym same) fetches) (subst (λ l. k + failing_steps c + last_steps c a + fetching_steps c ≤ length l) (sym same) long)
+    t : TakenAt c live a events c.budget
+    t = taken_at c live a events lengths rounds c.budget run inside lives (omega (arith, enough)) (λ r low there. let is = all r low there in omega (arith, is))
 
 -- in what a replay leaves
 not_stopped : (t : Bool) → not t ≡ true → t ≡ false

@@ -1,11 +1,10 @@
--- In a replay without a pause in which replica 0 isn't stopped, all that weren't stopped have raised their heads to all commands in time.
-use Rattle.std.proofs.Common.{◌≡◌, ◌∙◌, ◌≢◌, ◌⊎◌, ℕ, zero, suc, ◌+◌, ◌<◌, ◌≤◌, ◌==◌, ◌||◌, inl, inr, Bool, true, false, cond, None, Some, List, [], ◌∷◌, ◌++◌, ap, append_assoc, arith, eqb-true, length, refl, subst, sym, take}
+-- In a replay without a pause all that weren't stopped have raised their heads to all commands in time.
+use Rattle.std.proofs.Common.{◌≡◌, ◌∙◌, ◌≢◌, ◌⊎◌, ℕ, zero, suc, ◌+◌, ◌<◌, ◌≤◌, ◌==◌, ◌||◌, inl, inr, Bool, true, false, cond, None, Some, List, [], ◌∷◌, ◌++◌, ap, arith, eqb-true, length, refl, subst, sym, take}
 use Rattle.std.specs.declared.option.Option.{Option}
-use Rattle.std.specs.Prelude.{min, nat_le, not, slice_index}
+use Rattle.std.specs.Prelude.{nat_le, not, slice_index}
 use Rattle.std.proofs.lemmas.Bool.{and_parts, cases_eq, cases_lt, eq-eqb, leb-true, ne_eqb, true≢false}
-use Rattle.std.proofs.lemmas.List.{length-append, length-take}
+use Rattle.std.proofs.lemmas.List.{length-take}
 use Rattle.mu_agree.proofs.Legal.{event_after, legal_induction, legal_older}
-use Rattle.mu_agree.proofs.Possible.{parts_shorten_law}
 use Rattle.mu_agree.proofs.Prefixes.{known_agree}
 use Rattle.mu_agree.proofs.Room.{heads_read}
 use Rattle.mu_model.specs.declared.config.Config.{Config}
@@ -13,44 +12,39 @@ use Rattle.mu_model.specs.declared.event.Event.{Event}
 use Rattle.mu_model.specs.declared.event.Verb.{Verb}
 use Rattle.mu_model.specs.Allowed.{Needs}
 use Rattle.mu_model.specs.Contents.{IsConfig, holds_all}
-use Rattle.mu_model.specs.Diligence.{AsksInTime, GrantsInTime, IsDiligent, ReadsInTime, Replays, TellsHeads}
+use Rattle.mu_model.specs.Diligence.{AsksInTime, GrantsInTime, ReadsInTime}
 use Rattle.mu_model.specs.Ends.{full_length, is_at_least, is_finished, is_full, outrun}
-use Rattle.mu_model.specs.Histories.{all_below, count_below, has, history, max_with, newest, or_zero, part}
+use Rattle.mu_model.specs.Histories.{all_below, has, history, max_with, newest, or_zero, part}
 use Rattle.mu_model.specs.Knowledge.{applied, has_entry, known}
-use Rattle.mu_model.specs.Leaderships.{majority_of}
 use Rattle.mu_model.specs.Legal.{IsLegalHistory}
-use Rattle.mu_model.specs.Parts.{IsPossible}
 use Rattle.mu_model.specs.Regions.{head_raised, region_head}
 use Rattle.mu_model.specs.Room.{head_read}
 use Rattle.mu_model.specs.Scores.{is_failed, least_below}
-use Rattle.mu_model.specs.Steps.{is_named}
 use Rattle.mu_model.proofs.Owned.{greatest-part}
-use Rattle.mu_model.proofs.Parts.{filter-append, part_is_possible}
+use Rattle.mu_model.proofs.Parts.{filter-append}
 use Rattle.mu_model.proofs.Scans.{all_at, least_below_fits}
-use Rattle.mu_node.specs.Journal.{WasMade}
-use Rattle.mu_node.proofs.Asked.{asks_all_first}
-use Rattle.mu_node.proofs.HeadRaises.{raises_to_all}
-use Rattle.mu_node.proofs.Naming.{first_named}
 use Rattle.mu_pace.specs.Collecting.{LeaderKeeps}
-use Rattle.mu_pace.specs.Counters.{AtEachMoment, AtEachStep}
+use Rattle.mu_pace.specs.Counters.{AtEachStep}
 use Rattle.mu_pace.proofs.Counting.{steps_before}
 use Rattle.mu_alive.specs.Alone.{WritesAlone}
-use Rattle.mu_alive.specs.Finishing.{AsksAllFirst, HaveAllRaised, KeepUp}
-use Rattle.mu_alive.specs.Following.{RaisesToAll}
+use Rattle.mu_alive.specs.Enough.{HasLargeRing}
+use Rattle.mu_alive.specs.Failing.{failing_steps}
+use Rattle.mu_alive.specs.Finishing.{HaveAllRaised, KeepUp, last_raising_steps}
 use Rattle.mu_alive.specs.Lone.{LeadsAlone}
 use Rattle.mu_alive.proofs.Beginning.{grants_before, reads_before}
-use Rattle.mu_alive.proofs.Cutting.{Cut, Located, cut, located}
 use Rattle.mu_alive.proofs.Enough.{asks_before, outrun_before}
 use Rattle.mu_alive.proofs.Fetching.{applied_grows}
-use Rattle.mu_alive.proofs.Finishing.{get_of_front, get_take, heads-own, heads_before, replays_before, same_lists}
+use Rattle.mu_alive.proofs.LastRaising.{last_raises_all}
+use Rattle.mu_alive.proofs.Spreading.{get_of_front, get_take, heads-own, same_lists}
 use Rattle.mu_cluster.specs.Rounds.{part_of}
 use Rattle.mu_cluster.specs.Naming.{NamesFirst}
-use Rattle.mu_cluster.proofs.InStep.{StaysAhead, in_step}
-use Rattle.mu_cluster.proofs.Living.{asks_alone, each_near, more_front, names_itself, near_both, near_one, near_self, none_of, writes_alone}
-use Rattle.mu_cluster.proofs.Naming.{AreUnpaused, few_steps, names_in, part_before, trusts_then}
-use Rattle.mu_cluster.proofs.Outliving.{moments_of}
+use Rattle.mu_cluster.proofs.Living.{asks_alone, more_front, names_itself, none_of, writes_alone}
+use Rattle.mu_cluster.proofs.Naming.{AreUnpaused, few_steps, names_in, trusts_then}
+use Rattle.mu_cluster.proofs.Onward.{AreNodes}
+use Rattle.mu_cluster.proofs.Outliving.{leads_last}
 use Rattle.mu_cluster.proofs.Outrunning.{none_outrun}
 use Rattle.mu_cluster.proofs.Passes.{has_later}
+use Rattle.mu_cluster.proofs.Taken.{GoOn, TakenAt, fetches_at, keep_at, opens_at, taken_at}
 
 -- the least of the numbers of those that pass
 record Least (n : ℕ) (live : ℕ → Bool) (f : ℕ → ℕ) : Type 0 where
@@ -126,18 +120,6 @@ same_taken c r s l past legal one other =
     (λ i v w at there.
     known_agree c r s past legal i v w (get_of_front (λ x. has_entry c r x (part r past)) (known c r (part r past)) i v (get_take l (applied c r (part r past)) i v at)) (get_of_front (λ x. has_entry c s x (part s past)) (known c s (part s past)) i w (get_take l (applied c s (part s past)) i w there)))
 
-raises_steps : (c : Config) (r : ℕ) (mine : List Event) → AtEachStep (WasMade c r) mine → AtEachStep (RaisesToAll c r) mine
-raises_steps c r [] made = tt
-raises_steps c r (e ∷ mine) made = (raises_steps c r mine made.0, λ h is. raises_to_all c r h mine e made.1 is)
-
--- those that weren't stopped: replica 0 and a majority; each spent its budget or finished
-pub record GoOn (c : Config) (live : ℕ → Bool) (events : List Event) : Type 0 where
-  pub first : live 0 ≡ true
-  pub majority : majority_of c.replicas ≤ count_below c.replicas live
-  pub diligent : (r : ℕ) → r < c.replicas → IsDiligent c r (part_of r events)
-  pub led : AtEachStep (LeaderKeeps c 0) (part_of 0 events)
-  pub ended : (r : ℕ) → r < c.replicas → live r ≡ true → (length (part_of r events) ≡ c.budget) ⊎ (is_finished c r (part_of r events) ≡ true)
-
 -- a moment at which all have, after at most so many steps of each
 pub record RaisedBy (c : Config) (live : ℕ → Bool) (events : List Event) (most : ℕ) : Type 0 where
   pub front : List Event
@@ -148,136 +130,73 @@ pub record RaisedBy (c : Config) (live : ℕ → Bool) (events : List Event) (mo
 
 -- replica 0 leads alone up to some moment, and all keep up with it
 pub record LoneAt (c : Config) (live : ℕ → Bool) (events : List Event) (most : ℕ) : Type 0 where
-  pub front : List Event
-  pub past : List Event
-  pub is : history events ≡ front ++ past
-  pub taken : length (part 0 past) ≡ most
-  pub few : (r : ℕ) → r < c.replicas → live r ≡ true → length (part r past) ≤ most
-  pub lone : LeadsAlone c live 0 past
-  pub writes : WritesAlone 0 past
-  pub keep : KeepUp c live 0 past
+  pub moment : TakenAt c live 0 events most
+  pub lone : LeadsAlone c live 0 (moment.last ∷ moment.older)
+  pub writes : WritesAlone 0 (moment.last ∷ moment.older)
+  pub keep : KeepUp c live 0 (moment.last ∷ moment.older)
 
 -- where none finished before replica 0 has taken so many steps
-pub lone_at : (c : Config) (live : ℕ → Bool) (events : List Event) (lengths : List ℕ) (rounds most : ℕ) → IsConfig c → AreUnpaused c events lengths rounds → GoOn c live events → 1 ≤ most → ((r : ℕ) → r < c.replicas → live r ≡ true → most ≤ slice_index lengths r) → LoneAt c live events most
-lone_at c live events lengths rounds most good run on one_more late = at (bottom.rest) refl
+pub lone_at : (c : Config) (live : ℕ → Bool) (events : List Event) (lengths : List ℕ) (rounds most : ℕ) → IsConfig c → AreUnpaused c events lengths rounds → GoOn c live 0 events → 1 ≤ most → ((r : ℕ) → r < c.replicas → live r ≡ true → most ≤ slice_index lengths r) → LoneAt c live events most
+lone_at c live events lengths rounds most good run on one_more late = record { moment = t; lone = lone; writes = writes; keep = keep_at c live 0 events lengths rounds most run on t late }
   where
     some : 0 < c.replicas
     some = (let l = good.replicas.0 in omega (arith, l))
 
-    bottom : Cut most (part_of 0 events)
-    bottom = cut most (part_of 0 events) (let taken = run.taken 0 some in let l = late 0 some on.first in omega (arith, taken, l))
+    t : TakenAt c live 0 events most
+    t = taken_at c live 0 events lengths rounds most run some on.lives one_more late
 
-    at : (rest : List Event) → bottom.rest ≡ rest → LoneAt c live events most
-    at [] is = absurd (let count = bottom.count in let none = ap length is in omega (arith, count, none, one_more))
-    at (last ∷ mine) is = there (located 0 (history events) bottom.newer mine last (bottom.is ∙ ap (λ l. bottom.newer ++ l) is))
-      where
-        there : Located 0 (history events) last mine → LoneAt c live events most
-        there l = record { front = l.newer; past = past; is = l.is; taken = taken; few = few; lone = lone; writes = writes; keep = keep }
-          where
-            past : List Event
-            past = last ∷ l.older
+    split : (r : ℕ) → part_of r events ≡ part r t.front ++ part r (t.last ∷ t.older)
+    split r = ap (part r) t.is ∙ filter-append (λ e. e.by == r) t.front (t.last ∷ t.older)
 
-            own_part : part 0 past ≡ last ∷ mine
-            own_part = ap (λ t. cond t (last ∷ part 0 l.older) (part 0 l.older)) (eq-eqb last.by 0 l.own) ∙ ap (λ x. last ∷ x) l.before
+    names : NamesFirst c events
+    names = names_in c events lengths rounds run
 
-            taken : length (part 0 past) ≡ most
-            taken = let same = ap length own_part in let count = bottom.count in let e = ap length is in omega (arith, same, count, e)
+    first_there : has (λ f. f.by == 0) (t.front ++ t.last ∷ []) ≡ true
+    first_there = has_later (λ f. f.by == 0) t.front (t.last ∷ []) (ap (λ t. cond t true false) (eq-eqb t.last.by 0 t.own))
 
-            few : (r : ℕ) → r < c.replicas → live r ≡ true → length (part r past) ≤ most
-            few r low lives = elim (cases_eq r 0) [
-              | inl same ↦ (let e = ap (λ x. length (part x past)) same in let n = taken in omega (arith, e, n))
-              | inr other ↦
-                  let steps = few_steps c events lengths rounds r 0 l.newer l.older last run l.is l.own low other in
-                  let mine_is = ap length l.before in
-                  let n = taken in
-                  let own = ap length own_part in
-                  let same : length (part r past) ≡ length (part r l.older) = ap (λ t. length (cond t (last ∷ part r l.older) (part r l.older))) (ne_eqb last.by r (λ e. other (sym (sym l.own ∙ e)))) in
-                  omega (arith, steps, mine_is, n, own, same)
-            ]
+    lone : LeadsAlone c live 0 (t.last ∷ t.older)
+    lone = record {
+      inside = some;
+      lives = on.lives;
+      majority = on.majority;
+      legal = legal_older c t.front (t.last ∷ t.older) (subst (IsLegalHistory c) t.is run.legal);
+      alone = (asks_alone c events (t.front ++ t.last ∷ []) t.older names (more_front events t.front t.older t.last t.is) first_there, λ p asked. t.own);
+      near = t.near;
+      reads = λ r low _. reads_before c r (part r t.front) (part r (t.last ∷ t.older)) (subst (ReadsInTime c r) (split r) (on.diligent r low).heartbeat_pace);
+      grants = λ r low _. grants_before c r (part r t.front) (part r (t.last ∷ t.older)) (subst (GrantsInTime c r) (split r) (on.diligent r low).grant_pace);
+      asks = asks_before c 0 (part 0 t.front) (part 0 (t.last ∷ t.older)) (subst (AsksInTime c 0) (split 0) (on.diligent 0 some).election_pace);
+      led = steps_before (LeaderKeeps c 0) (part 0 t.front) (part 0 (t.last ∷ t.older)) (subst (AtEachStep (LeaderKeeps c 0)) (split 0) on.led);
+      named = names_itself c (part 0 (t.last ∷ t.older)) some;
+      going = outrun_before c 0 (part 0 t.front) (part 0 (t.last ∷ t.older)) (sym (ap (outrun c 0) (split 0)) ∙ none_of c 0 (part_of 0 events) (outrun c 0 (part_of 0 events)) refl (λ p i. none_outrun c events lengths rounds 0 p i good run some));
+    }
 
-            legal : IsLegalHistory c past
-            legal = legal_older c l.newer past (subst (IsLegalHistory c) l.is run.legal)
-
-            split : (r : ℕ) → part_of r events ≡ part r l.newer ++ part r past
-            split r = ap (part r) l.is ∙ filter-append (λ e. e.by == r) l.newer past
-
-            made : (r : ℕ) → r < c.replicas → AtEachStep (WasMade c r) (part r past)
-            made r low = part_before (WasMade c r) r l.newer past (subst (λ x. AtEachStep (WasMade c r) (part r x)) l.is (run.made r low))
-
-            names : NamesFirst c events
-            names = names_in c events lengths rounds run
-
-            first_there : has (λ f. f.by == 0) (l.newer ++ last ∷ []) ≡ true
-            first_there = has_later (λ f. f.by == 0) l.newer (last ∷ []) (ap (λ t. cond t true false) (eq-eqb last.by 0 l.own))
-
-            behind : (q r : ℕ) → q ≢ r → q < c.replicas → live q ≡ true → r < c.replicas → live r ≡ true → AtEachMoment (λ now. length (part r now) ≤ length (part q now) + 1) past
-            behind q r other low lives inside here =
-                let count = run.count in
-                let step = in_step lengths rounds q r events other (omega (arith, low, count)) run.order in
-                let enough = late q low lives in
-                let limit = few r inside here in
-                near_one step.lead q (slice_index lengths q) r past (steps_before (StaysAhead step.lead q (slice_index lengths q) r) l.newer past (subst (AtEachStep (StaysAhead step.lead q (slice_index lengths q) r)) l.is step.each)) (omega (arith, limit, enough))
-
-            one : (r : ℕ) → r < c.replicas → live r ≡ true → (r ≡ 0) ⊎ (r ≢ 0) → AtEachMoment (λ now. (length (part r now) ≤ length (part 0 now) + 1) × (length (part 0 now) ≤ length (part r now) + 1)) past
-            one r low lives (inl same) = subst (λ i. AtEachMoment (λ now. (length (part i now) ≤ length (part 0 now) + 1) × (length (part 0 now) ≤ length (part i now) + 1)) past) (sym same) (near_self 0 past)
-            one r low lives (inr other) =
-                near_both (λ now. length (part r now) ≤ length (part 0 now) + 1) (λ now. length (part 0 now) ≤ length (part r now) + 1) (λ now. (length (part r now) ≤ length (part 0 now) + 1) × (length (part 0 now) ≤ length (part r now) + 1)) (λ now x y. (x, y)) past
-                (behind 0 r (λ same. other (sym same)) some on.first low lives) (behind r 0 other low lives some on.first)
-
-            lone : LeadsAlone c live 0 past
-            lone = record {
-              inside = some;
-              lives = on.first;
-              majority = on.majority;
-              legal = legal;
-              alone = (asks_alone c events (l.newer ++ last ∷ []) l.older names (more_front events l.newer l.older last l.is) first_there, λ p asked. l.own);
-              near = each_near c.replicas live (λ r now. (length (part r now) ≤ length (part 0 now) + 1) × (length (part 0 now) ≤ length (part r now) + 1)) past (λ r low lives. one r low lives (cases_eq r 0));
-              reads = λ r low _. reads_before c r (part r l.newer) (part r past) (subst (ReadsInTime c r) (split r) (on.diligent r low).heartbeat_pace);
-              grants = λ r low _. grants_before c r (part r l.newer) (part r past) (subst (GrantsInTime c r) (split r) (on.diligent r low).grant_pace);
-              asks = asks_before c 0 (part 0 l.newer) (part 0 past) (subst (AsksInTime c 0) (split 0) (on.diligent 0 some).election_pace);
-              led = steps_before (LeaderKeeps c 0) (part 0 l.newer) (part 0 past) (subst (AtEachStep (LeaderKeeps c 0)) (split 0) on.led);
-              named = names_itself c (part 0 past) some;
-              going = outrun_before c 0 (part 0 l.newer) (part 0 past) (sym (ap (outrun c 0) (split 0)) ∙ none_of c 0 (part_of 0 events) (outrun c 0 (part_of 0 events)) refl (λ p i. none_outrun c events lengths rounds 0 p i good run some));
-            }
-
-            writes : WritesAlone 0 past
-            writes = (writes_alone c events (l.newer ++ last ∷ []) l.older lengths rounds names run (more_front events l.newer l.older last l.is) first_there, λ j k x wrote. l.own)
-
-            off : (r : ℕ) → r < c.replicas → live r ≡ true → r ≢ 0 → (newer older : List Event) → past ≡ newer ++ older → is_named c r (part r older) ≡ false
-            off r low lives other newer older cuts =
-                let whole : history events ≡ (l.newer ++ newer) ++ older = l.is ∙ ap (λ x. l.newer ++ x) cuts ∙ sym (append_assoc l.newer newer older) in
-                let sum = ap length (ap (part r) cuts ∙ filter-append (λ e. e.by == r) newer older) ∙ length-append (part r newer) (part r older) in
-                let limit = few r low lives in
-                let enough = late 0 some on.first in
-                let all = run.taken 0 some in
-                let named = first_named c r (part r older) some (λ _. trusts_then c events lengths rounds 0 r (l.newer ++ newer) older run whole some low (λ same. other (sym same)) (omega (arith, sum, limit, enough, all))) in
-                ap (λ x. x == r) named ∙ ne_eqb 0 r (λ same. other (sym same))
-
-            asked : AsksAllFirst c 0 (part 0 past)
-            asked newer older e p cuts min waits over low =
-                asks_all_first c 0 older e some (possible_here newer (e ∷ older) (subst (IsPossible c 0) cuts (part_is_possible c 0 past legal))) (steps_before (WasMade c 0) newer (e ∷ older) (subst (AtEachStep (WasMade c 0)) cuts (made 0 some))).0 waits over min p low
-              where
-                possible_here : (xs ys : List Event) → IsPossible c 0 (xs ++ ys) → IsPossible c 0 ys
-                possible_here [] ys is = is
-                possible_here (x ∷ xs) ys is = possible_here xs ys (parts_shorten_law c 0 (xs ++ ys) x is).before
-
-            keep : KeepUp c live 0 past
-            keep = record {
-              replays = λ r low _. replays_before c r (part r l.newer) (part r past) (subst (Replays c r) (split r) (on.diligent r low).replayer_pace);
-              heads = λ r low _. heads_before c r (part r l.newer) (part r past) (subst (TellsHeads c r) (split r) (on.diligent r low).head_pace);
-              raises = λ r low _. raises_steps c r (part r past) (made r low);
-              unnamed = λ r low lives other. moments_of r (λ now. is_named c r now ≡ false) past (off r low lives other);
-              asked = asked;
-            }
+    writes : WritesAlone 0 (t.last ∷ t.older)
+    writes = (writes_alone c events (t.front ++ t.last ∷ []) t.older lengths rounds names run (more_front events t.front t.older t.last t.is) first_there, λ j k x wrote. t.own)
 
 -- where replica 0 leads alone for so many steps, all have raised their heads
 abbrev pub RaisesAll : Config → (ℕ → Bool) → ℕ → Type 0
 RaisesAll c live most = (past : List Event) → LeadsAlone c live 0 past → WritesAlone 0 past → KeepUp c live 0 past → most ≤ length (part 0 past) → HaveAllRaised c live past
 
-none_before : (c : Config) (live : ℕ → Bool) (events : List Event) (lengths : List ℕ) (rounds most : ℕ) → IsConfig c → AreUnpaused c events lengths rounds → GoOn c live events → 1 ≤ most → RaisesAll c live most → ((r : ℕ) → r < c.replicas → live r ≡ true → most ≤ slice_index lengths r) → RaisedBy c live events most
-none_before c live events lengths rounds most good run on one raises late =
+-- so they have where none finished before
+pub raised_alone : (c : Config) (live : ℕ → Bool) (events : List Event) (lengths : List ℕ) (rounds most : ℕ) → IsConfig c → AreUnpaused c events lengths rounds → GoOn c live 0 events → 1 ≤ most → RaisesAll c live most → ((r : ℕ) → r < c.replicas → live r ≡ true → most ≤ slice_index lengths r) → RaisedBy c live events most
+raised_alone c live events lengths rounds most good run on one raises late =
     let l = lone_at c live events lengths rounds most good run on one late in
-    record { front = l.front; past = l.past; is = l.is; few = l.few; raised = raises l.past l.lone l.writes l.keep (let n = l.taken in omega (arith, n)) }
+    record { front = l.moment.front; past = (l.moment.last ∷ l.moment.older); is = l.moment.is; few = l.moment.few; raised = raises (l.moment.last ∷ l.moment.older) l.lone l.writes l.keep (let n = l.moment.taken in omega (arith, n)) }
+
+-- and so they have where s leads last
+pub raised_last : (c : Config) (live : ℕ → Bool) (s : ℕ) (events : List Event) (lengths : List ℕ) (rounds k : ℕ) → IsConfig c → HasLargeRing c → AreUnpaused c events lengths rounds → AreNodes c events → GoOn c live s events → ((q : ℕ) → q < s → length (part_of q events) ≤ k)
+    → ((r : ℕ) → r < c.replicas → live r ≡ true → k + failing_steps c + last_raising_steps c s ≤ slice_index lengths r) → RaisedBy c live events (k + failing_steps c + last_raising_steps c s)
+raised_last c live s events lengths rounds k good large run nodes on short late = record {
+  front = t.front;
+  past = (t.last ∷ t.older);
+  is = t.is;
+  few = t.few;
+  raised = last_raises_all c live s (k + failing_steps c) (t.last ∷ t.older) good large (leads_last c live events lengths rounds s k (k + failing_steps c + last_raising_steps c s) good run nodes on.inside on.lives on.majority short on.diligent t)
+      (opens_at c live s events lengths rounds (k + failing_steps c + last_raising_steps c s) run on.inside t) (fetches_at c live s events lengths rounds (k + failing_steps c + last_raising_steps c s) good run on.inside t) (keep_at c live s events lengths rounds (k + failing_steps c + last_raising_steps c s) run on t late) (let n = t.taken in omega (arith, n));
+}
+  where
+    t : TakenAt c live s events (k + failing_steps c + last_raising_steps c s)
+    t = taken_at c live s events lengths rounds (k + failing_steps c + last_raising_steps c s) run on.inside on.lives (omega arith) late
 
 -- the history up to the last event of q
 record UpTo (q : ℕ) (whole : List Event) : Type 0 where
@@ -368,11 +287,11 @@ one_before c live events lengths rounds most run least short finished = at (up_t
         held : (r : ℕ) → r < c.replicas → live r ≡ true → holds_all c (take upto (applied c r (part r u.past))) ≡ true
         held r low lives = ap (holds_all c) (same_taken c r q upto u.past legal (reached r low lives) (reached q least.low least.lives)) ∙ full_holds c q (part q u.past) full
 
-pub raised_by : (c : Config) (live : ℕ → Bool) (events : List Event) (lengths : List ℕ) (rounds most : ℕ) → IsConfig c → AreUnpaused c events lengths rounds → GoOn c live events → 1 ≤ most → RaisesAll c live most → most ≤ c.budget → RaisedBy c live events most
-raised_by c live events lengths rounds most good run on one raises enough = elim (least_or_none c.replicas live (λ r. slice_index lengths r)) [
-  | inr none ↦ absurd (true≢false (sym on.first ∙ none 0 (let l = good.replicas.0 in omega (arith, l))))
+pub raised_by : (c : Config) (live : ℕ → Bool) (s : ℕ) (events : List Event) (lengths : List ℕ) (rounds most : ℕ) → AreUnpaused c events lengths rounds → GoOn c live s events → (((r : ℕ) → r < c.replicas → live r ≡ true → most ≤ slice_index lengths r) → RaisedBy c live events most) → most ≤ c.budget → RaisedBy c live events most
+raised_by c live s events lengths rounds most run on raised enough = elim (least_or_none c.replicas live (λ r. slice_index lengths r)) [
+  | inr none ↦ absurd (true≢false (sym on.lives ∙ none s on.inside))
   | inl q ↦ elim (cases_lt (slice_index lengths q.at) most) [
-    | inr late ↦ none_before c live events lengths rounds most good run on one raises (λ r low lives. let l = q.least r low lives in omega (arith, l, late))
+    | inr late ↦ raised (λ r low lives. let l = q.least r low lives in omega (arith, l, late))
     | inl early ↦ elim (on.ended q.at q.low q.lives) [
       | inl spent ↦ absurd (let taken = run.taken q.at q.low in omega (arith, spent, taken, early, enough))
       | inr finished ↦ one_before c live events lengths rounds most run q (omega (arith, early)) finished

@@ -1,11 +1,11 @@
 -- finishing steps, has finished: the steps with which each replica of a replay has applied all,
--- raised its head, and read the others' heads; it finished with every command, and replied as is
--- told.
+-- raised its head, and read the others' heads, also after leaders stopped; it finished with every
+-- command, and replied as is told.
 use Rattle.std.specs.Prelude.{List, Some, [], false, length, true, ℕ, ◌*◌, ◌+◌, ◌<◌, ◌≡◌, ◌≤◌}
 use Rattle.std.specs.List.{slice_get}
 use Rattle.mu_alive.specs.Enough.{HasLargeRing}
 use Rattle.mu_alive.specs.Failing.{failing_steps}
-use Rattle.mu_alive.specs.Finishing.{raising_steps}
+use Rattle.mu_alive.specs.Finishing.{last_raising_steps, raising_steps}
 use Rattle.mu_alive.specs.Lagging.{raising_in_any_ring}
 use Rattle.mu_model.specs.declared.config.Config.{Config}
 use Rattle.mu_model.specs.declared.script.End.{End}
@@ -42,6 +42,27 @@ AppliesEachInTime o =
     o.job.script.pauses ≡ [] → (k : ℕ) → GoesOnWith o 0 → HasTimeToFinish o k
     → (r : ℕ) → r < o.job.config.replicas → was_stopped o r ≡ false → HasApplied o r
 
+-- the steps after the last one of each lower replica until each that goes on has done so
+abbrev pub finishing_after : Config → ℕ → ℕ
+finishing_after c s = failing_steps c + last_raising_steps c s + c.replicas * cycle c
+
+-- each replica below s took at most k steps, and the budget is above k + `finishing_after`; each
+-- that was stopped leaves time to hold it failed; and the ring has a place for each entry
+pub record HasTimeToFinishAfter (o : Outcome) (s k : ℕ) : Type 0 where
+  pub ended : (r : ℕ) → r < s → length (journal_of o r) ≤ k
+  pub large : HasLargeRing o.job.config
+  pub enough : k + finishing_after o.job.config s < o.job.config.budget
+  pub failing :
+      (r : ℕ) → r < o.job.config.replicas → was_stopped o r ≡ true
+      → length (journal_of o r) + failing_steps o.job.config < o.job.config.budget
+
+-- if the script has no pause, and s is the least that goes on with a majority, each replica that
+-- wasn't stopped finishes with every row
+abbrev pub AppliesEachAfterStops : Outcome → Type 0
+AppliesEachAfterStops o =
+    o.job.script.pauses ≡ [] → (s k : ℕ) → GoesOnWith o s → HasTimeToFinishAfter o s k
+    → (r : ℕ) → r < o.job.config.replicas → was_stopped o r ≡ false → HasApplied o r
+
 -- the same in any ring
 abbrev pub finishing_in_any_ring : Config → ℕ
 finishing_in_any_ring c = raising_in_any_ring c + c.replicas * cycle c
@@ -74,3 +95,9 @@ FinishesInAnyRing o =
     o.job.script.pauses ≡ [] → o.job.script.stops ≡ []
     → finishing_in_any_ring o.job.config < o.job.config.budget
     → (r : ℕ) → r < o.job.config.replicas → HasFinished o r
+
+-- and after leaders stopped, one after another too
+abbrev pub FinishesAfterStops : Outcome → Type 0
+FinishesAfterStops o =
+    o.job.script.pauses ≡ [] → (s k : ℕ) → GoesOnWith o s → HasTimeToFinishAfter o s k
+    → (r : ℕ) → r < o.job.config.replicas → was_stopped o r ≡ false → HasFinished o r

@@ -13,7 +13,7 @@ use Rattle.mu_model.specs.Leaderships.{majority_of}
 use Rattle.mu_outcome.specs.declared.outcome.Outcome.{Outcome}
 use Rattle.mu_outcome.specs.Completion.{HasAllCommands}
 use Rattle.mu_outcome.specs.Outcomes.{log_of}
-use Rattle.mu_cluster.specs.Finishing.{AppliesEachInAnyRing, AppliesEachInTime, FinishesInAnyRing, FinishesInTime}
+use Rattle.mu_cluster.specs.Finishing.{AppliesEachAfterStops, AppliesEachInAnyRing, AppliesEachInTime, FinishesAfterStops, FinishesInAnyRing, FinishesInTime}
 use Rattle.mu_cluster.specs.Outliving.{AppliesAllAfterStops, HasAllAfterStops}
 
 -- a line of the script stops r
@@ -69,13 +69,15 @@ pub record AppliesAllUnpaused (o : Outcome) : Type 0 where
   pub last : AppliesAllAfterStops o
   pub any : AppliesAllInAnyRing o
   pub each : AppliesEachInTime o
+  pub each_after_stops : AppliesEachAfterStops o
   pub each_in_any_ring : AppliesEachInAnyRing o
 
 -- a replay stays alive: it has every command if replica 0 isn't stopped, if leaders are, and in any
--- ring if none is; and in the first case and the last each replica that isn't stopped finishes
+-- ring if none is; and in each case each replica that isn't stopped finishes
 pub record HasAllInTime (o : Outcome) : Type 0 where
   pub first : HasAllWithFirst o
   pub last : HasAllAfterStops o
   pub any : HasAllInAnyRing o
   pub each : FinishesInTime o
+  pub each_after_stops : FinishesAfterStops o
   pub each_in_any_ring : FinishesInAnyRing o

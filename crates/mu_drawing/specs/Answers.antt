@@ -1,8 +1,7 @@
 -- What the call tells, and when each answer comes.
-use Rattle.std.specs.Prelude.{ℕ, ◌-◌, ◌≡◌, ◌<◌, ◌≤◌, ◌==◌, ◌⊎◌, ◌++◌, ◌+◌, Bool, true, false, List, [], ◌∷◌, codes, length, take, ⊤, None, Some, Err, Ok, IfSome, MatchBool}
+use Rattle.std.specs.Prelude.{ℕ, ◌-◌, ◌≡◌, ◌<◌, ◌≤◌, ◌⊎◌, ◌+◌, Bool, true, false, List, [], ◌∷◌, codes, length, take, ⊤, None, Some, Err, Ok, IfSome}
 use Rattle.std.specs.declared.option.Option.{Option}
 use Rattle.std.specs.declared.result.Result.{Result}
-use Rattle.std.specs.Io.KnownBytes.{Appends}
 use Rattle.mu_io.specs.Faults.{Rose}
 use Rattle.mu_io.specs.Whole.{TakesAtMost}
 use Rattle.mu_input.specs.declared.TheConstants.{TRACE_LIMIT}
@@ -11,7 +10,6 @@ use Rattle.mu_input.specs.Readings.{Fits, Leaves}
 use Rattle.mu_input.specs.Traces.{Trace, trace}
 use Rattle.mu_model.specs.declared.event.Event.{Event}
 use Rattle.mu_model.specs.Legal.{IsLegal}
-use Rattle.mu_outcome.specs.Statuses.{code_of}
 use Rattle.mu_outcome.specs.declared.status.Status.{Status}
 use Rattle.mu_picture.specs.Drawing.{svg_of}
 use Rattle.mu_picture.specs.Marks.{IsPictureOf}
@@ -27,6 +25,7 @@ use Rattle.mu_judging.specs.Explained.{IsLineOf}
 use Rattle.mu_reasons.specs.Breaks.{Explains}
 use Rattle.mu_reasons.specs.declared.fault.Broken.{Broken}
 use Rattle.mu_report.specs.Reasons.{fault_words}
+use Rattle.mu_report.specs.Statuses.{status_for as status_for_said}
 use Rattle.mu_report.specs.Said.{text, said_of_end, IsShort}
 use Rattle.mu_report.specs.declared.said.Said.{Said}
 use Rattle.mu_drawing.specs.declared.drawing.Told.{Told}
@@ -139,40 +138,12 @@ text_of (Told.Said said) = text said
 text_of (Told.Drawn sheet) = sheet
 text_of (Told.Broken sheet) = sheet
 
--- the status of why there is no picture
-abbrev pub status_said : Said → Status
-status_said (Said.Refused line cause) = Status.Refused
-status_said Said.ReadFault = Status.ReadFault
-status_said Said.TooLong = Status.TooLong
-status_said _ = Status.NoMemory
-
 -- the status of what is told, once it is written
 abbrev pub status_for : Told → Status
 status_for Told.Usage = Status.Usage
-status_for (Told.Said said) = status_said said
+status_for (Told.Said said) = status_for_said said
 status_for (Told.Drawn sheet) = Status.Done
 status_for (Told.Broken sheet) = Status.Illegal
-
--- all of the text was written, and the sink counted no fault
-pub record IsWhole (written now : Option (List ℕ)) (before after : ℕ) (told : Told)
-    (status : ℕ) : Type 0 where
-  pub code : status ≡ code_of (status_for told)
-  pub bytes : Appends written now (text_of told)
-  pub faults : after ≡ before
-
--- the sink counted a fault, after this many bytes of the text
-pub record IsCut (written now : Option (List ℕ)) (before after : ℕ) (told : Told)
-    (taken : ℕ) : Type 0 where
-  pub short : taken < length (text_of told)
-  pub bytes : Appends written now (take taken (text_of told))
-  pub faults : Rose before after
-
--- the text was written whole, or the status is that of a write fault and it was cut
-abbrev pub Wrote : Option (List ℕ) → Option (List ℕ) → ℕ → ℕ → Told → ℕ → ℕ → Type 0
-Wrote written now before after told status taken =
-    MatchBool (status == code_of Status.WriteFault)
-    (IsCut written now before after told taken)
-    (IsWhole written now before after told status)
 
 -- what is said can be printed
 abbrev pub IsSayable : Told → Type 0

@@ -1,42 +1,25 @@
 //! The call of the program: from the words of the command line and the bytes of a source to the
 //! bytes of a sink.
-ghost use Rattle.std.specs.Prelude.{◌≡◌, ◌<◌, ◌≤◌, [], ◌∷◌, length, take, codes, IfErr, IfOk, OnErr, OnOk, ⊤};
+ghost use Rattle.std.specs.Prelude.{◌≡◌, ◌<◌, length, take, IfErr, IfOk, OnErr, OnOk};
 ghost use Rattle.std.specs.Io.KnownBytes.{Appends};
-ghost use Rattle.std.specs.Process.{exit_status};
 ghost use Rattle.mu_io.specs.Faults.{Rose};
-ghost use Rattle.mu_drawing.specs.Answers.{IsSayable, Tells, TellsOfSource, Wrote, status_for, text_of};
+ghost use Rattle.mu_drawing.specs.Answers.{IsSayable, Tells, TellsOfSource, status_for, text_of};
+ghost use Rattle.mu_shell.specs.Written.{Wrote};
 ghost use Rattle.mu_drawing.specs.Words.{asked_of as asked_of_words};
 
 use crate::asking::asked_of;
 use crate::drawing::{Told, told_of};
 use mu_input::TRACE_LIMIT;
-use mu_io::{ReadEnd, Sink, Source, WriteFault, read_all, write_all};
+use mu_io::{Sink, Source, WriteFault, read_all, write_all};
 use mu_outcome::Status;
 use mu_picture::Extent;
-use mu_report::{Said, print};
+use mu_report::{Said, print_counted, status_for as status_for_said};
+use mu_shell::Answered;
 use std::alloc::Global;
-use std::process::ExitCode;
 
-/// What the call answers.
-#[derive(Drop)]
-pub struct Answered {
-    /// The status that the program ends with: 0 drawn, 1 usage, 2 refused, 4 read fault, 5 write
-    /// fault, 6 want of memory, 7 illegal, 8 too long.
-    pub status: u8,
-    /// What there was to tell.
-    pub told: Told,
-    /// How many bytes of it were written if the status is 5.
-    pub taken: usize,
-}
-
-impl Answered {
-    /// What the program ends with. What there was to tell is let go.
-    pub fn into_exit_code(self) -> ExitCode
-        ensures { exit_status result ≡ self.status }
-    {
-        ExitCode::from(self.status)
-    }
-}
+/// How the program is called.
+const USAGE: &[u8] =
+    b"usage: mu_draw, mu_draw FIRST LAST, mu_draw brief, mu_draw brief FIRST LAST\n";
 
 /// Draws the trace that the source has left, and writes its picture; or says why there is none.
 /// The words say which steps are drawn.
@@ -45,11 +28,12 @@ pub fn draw<S: Source, K: Sink>(
     words: &[String],
     source: &mut S,
     sink: &mut K,
-) -> Answered
+) -> Answered<Told>
     ensures told { Tells (asked_of_words words.now) (S.left source.old) (S.left source.new)
-        (S.faults source.old) (S.faults source.new) result.told }
+        (S.faults source.old) (S.faults source.new) result.said }
     ensures wrote { Wrote (K.written sink.old) (K.written sink.new)
-        (K.faults sink.old) (K.faults sink.new) result.told result.status result.taken }
+        (K.faults sink.old) (K.faults sink.new)
+        (text_of result.said) (status_for result.said) result.status result.taken }
 {
     answer(sink, told(alloc, asked_of(words), source))
 }
@@ -74,40 +58,40 @@ fn told_of_source<S: Source>(alloc: Global, asked: Extent, source: &mut S) -> To
 {
     match read_all(alloc, source, TRACE_LIMIT) {
         Ok(bytes) => told_of(alloc, bytes.as_slice(), asked),
-        Err(ReadEnd::Fault) => Told::Said(Said::ReadFault),
-        Err(ReadEnd::TooLong) => Told::Said(Said::TooLong),
-        Err(ReadEnd::NoMemory) => Told::Said(Said::NoMemory),
+        Err(end) => Told::Said(Said::from(end)),
     }
 }
 
 /// Writes what is told, and answers how that went.
-pub fn answer<K: Sink>(sink: &mut K, told: Told) -> Answered
+pub fn answer<K: Sink>(sink: &mut K, told: Told) -> Answered<Told>
     requires { IsSayable told }
-    ensures told { result.told ≡ told }
+    ensures told { result.said ≡ told }
     ensures wrote { Wrote (K.written sink.old) (K.written sink.new)
-        (K.faults sink.old) (K.faults sink.new) result.told result.status result.taken }
+        (K.faults sink.old) (K.faults sink.new)
+        (text_of result.said) (status_for result.said) result.status result.taken }
 {
     match tell(sink, &told) {
-        Ok(()) => Answered {
+        Ok(taken) => Answered {
             status: status_of(&told).code(),
-            told,
-            taken: 0,
+            said: told,
+            taken,
         },
         Err(WriteFault { taken }) => Answered {
             status: Status::WriteFault.code(),
-            told,
+            said: told,
             taken,
         },
     }
 }
 
-/// Writes what is told.
+/// Writes what is told, and answers how many bytes that is.
 ///
 /// # Errors
 ///
 /// `WriteFault` if the sink counted a fault, with the number of bytes that it had taken.
-fn tell<K: Sink>(sink: &mut K, told: &Told) -> Result<(), WriteFault>
+fn tell<K: Sink>(sink: &mut K, told: &Told) -> Result<usize, WriteFault>
     requires { IsSayable told.now }
+    ensures count { IfOk result (λ count. count ≡ length (text_of told.now)) }
     ensures whole { OnOk result
         (Appends (K.written sink.old) (K.written sink.new) (text_of told.now)) }
     ensures same_faults { OnOk result (K.faults sink.new ≡ K.faults sink.old) }
@@ -117,14 +101,29 @@ fn tell<K: Sink>(sink: &mut K, told: &Told) -> Result<(), WriteFault>
     ensures fault { OnErr result (Rose (K.faults sink.old) (K.faults sink.new)) }
 {
     match told {
-        Told::Usage => write_all(
-            sink,
-            b"usage: mu_draw, mu_draw FIRST LAST, mu_draw brief, mu_draw brief FIRST LAST\n",
-        ),
-        Told::Said(said) => print(sink, said),
-        Told::Drawn(sheet) => write_all(sink, sheet.as_slice()),
-        Told::Broken(sheet) => write_all(sink, sheet.as_slice()),
+        Told::Usage => write_counted(sink, USAGE),
+        Told::Said(said) => print_counted(sink, said),
+        Told::Drawn(sheet) => write_counted(sink, sheet.as_slice()),
+        Told::Broken(sheet) => write_counted(sink, sheet.as_slice()),
     }
+}
+
+/// Writes bytes, and answers how many these are.
+///
+/// # Errors
+///
+/// `WriteFault` if the sink counted a fault, with the number of bytes that it had taken.
+fn write_counted<K: Sink>(sink: &mut K, bytes: &[u8]) -> Result<usize, WriteFault>
+    ensures count { IfOk result (λ count. count ≡ length bytes.now) }
+    ensures whole { OnOk result (Appends (K.written sink.old) (K.written sink.new) bytes.now) }
+    ensures same_faults { OnOk result (K.faults sink.new ≡ K.faults sink.old) }
+    ensures part { IfErr result (λ fault.
+        Appends (K.written sink.old) (K.written sink.new) (take fault.taken bytes.now)) }
+    ensures short { IfErr result (λ fault. fault.taken < length bytes.now) }
+    ensures fault { OnErr result (Rose (K.faults sink.old) (K.faults sink.new)) }
+{
+    write_all(sink, bytes)?;
+    Ok(bytes.len())
 }
 
 /// The status of what is told, once it is written.
@@ -133,10 +132,7 @@ pub fn status_of(told: &Told) -> Status
 {
     match told {
         Told::Usage => Status::Usage,
-        Told::Said(Said::Refused { .. }) => Status::Refused,
-        Told::Said(Said::ReadFault) => Status::ReadFault,
-        Told::Said(Said::TooLong) => Status::TooLong,
-        Told::Said(_) => Status::NoMemory,
+        Told::Said(said) => status_for_said(said),
         Told::Drawn(_) => Status::Done,
         Told::Broken(_) => Status::Illegal,
     }

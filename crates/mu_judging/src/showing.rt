@@ -55,7 +55,7 @@ fn is_broken_before(broken: &Option<Broken>, count: u32) -> bool
     }
 }
 
-/// How many events the first `count` are, of so many.
+/// How many events stand among the first `count`: no more than there are.
 fn first_of(count: u32, events: usize) -> usize
     ensures { result ≡ min count events }
 {

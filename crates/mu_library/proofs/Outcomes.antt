@@ -13,7 +13,8 @@ use Rattle.mu_outcome.specs.Statuses.{code_of}
 use Rattle.mu_model.specs.declared.event.Event.{Event}
 use Rattle.mu_report.specs.Said.{said_of_end}
 use Rattle.mu_report.specs.declared.said.Said.{Said}
-use Rattle.mu_top.specs.Answers.{Tells, status_for}
+use Rattle.mu_report.specs.Statuses.{status_for}
+use Rattle.mu_top.specs.Answers.{Tells}
 use Rattle.mu_top.specs.declared.asking.Asked.{Asked}
 
 pub answered : (asked : Option Asked) (said : Said) (input before after : List ℕ) (status taken : ℕ) → Tells asked (Some input) (Some input) 0 0 said

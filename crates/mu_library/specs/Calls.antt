@@ -22,7 +22,8 @@ use Rattle.mu_report.specs.Said.{text}
 use Rattle.mu_report.specs.declared.said.Said.{Said}
 use Rattle.mu_text.specs.Lines.{words}
 use Rattle.mu_text.specs.Numbers.{number_of, within}
-use Rattle.mu_top.specs.Answers.{status_for, Tells}
+use Rattle.mu_report.specs.Statuses.{status_for}
+use Rattle.mu_top.specs.Answers.{Tells}
 use Rattle.mu_top.specs.OneThread.{task_alone}
 use Rattle.mu_top.specs.Words.{of_count}
 use Rattle.mu_top.specs.declared.asking.Asked.{Asked}

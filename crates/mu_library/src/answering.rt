@@ -8,8 +8,8 @@ ghost use Rattle.mu_top.specs.Answers.{Tells};
 use crate::front::{put_bytes, put_said};
 use crate::tasks::{Asked, asked_after, asked_of};
 use mu_outcome::Status;
-use mu_report::Said;
-use mu_top::{status_for, told_alone, told_of_bulk};
+use mu_report::{Said, status_for};
+use mu_top::{told_alone, told_of_bulk};
 use std::alloc::Global;
 
 /// How a call ended.

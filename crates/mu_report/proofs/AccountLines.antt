@@ -1,11 +1,11 @@
 -- The lines of an account, in parts, and how many there are.
-use Rattle.std.proofs.Common.{◌≡◌, ℕ, zero, suc, ◌+◌, ◌-◌, ◌*◌, ◌<◌, ◌≤◌, ◌^◌, List, [], ◌∷◌, ◌++◌, sym, ap, ◌∙◌, length, arith, length-append, refl}
+use Rattle.std.proofs.Common.{◌≡◌, ℕ, zero, suc, ◌+◌, ◌-◌, ◌*◌, ◌<◌, ◌^◌, List, [], ◌∷◌, ◌++◌, sym, ap, ◌∙◌, length, arith, length-append, refl}
 use Rattle.std.specs.Fmt.{decimal}
 use Rattle.std.specs.Prelude.{codes}
-use Rattle.mu_outcome.specs.Outcomes.{log_of, status_of}
+use Rattle.mu_outcome.specs.Outcomes.{status_of}
 use Rattle.mu_report.specs.declared.line.TheConstants.{LINE_BYTES}
-use Rattle.mu_report.specs.Accounts.{account_body_lines, account_line, account_lines, account_log_lines, account_logs_lines}
-use Rattle.mu_report.specs.Report.{body_lines, entry_lines, log_lines, logs_lines, replies_lines, HasShortLists}
+use Rattle.mu_report.specs.Accounts.{account_body_lines, account_lines, account_log_lines, account_logs_lines}
+use Rattle.mu_report.specs.Report.{body_lines, log_lines, logs_lines, replies_lines, HasShortLists}
 use Rattle.mu_report.proofs.Sizes.{few_lines}
 use Rattle.mu_telling.specs.declared.account.Account.{Account}
 
@@ -14,24 +14,6 @@ pub account_logs-next : (a : Account) (r replicas : ℕ) → r < replicas → ac
 account_logs-next a r replicas below =
     let next : replicas - r ≡ suc (replicas - (r + 1)) = omega arith in
     ap (account_logs_lines a r) next
-
--- what is told of a log, and its entries
-pub account_log-parts : (a : Account) (r : ℕ) (line log : List ℕ) → line ≡ account_line a r → log ≡ log_of a.outcome r → account_log_lines a r ≡ (line ∷ []) ++ entry_lines a.outcome.job 0 log
-account_log-parts a r line log spelled is = ap (λ l. l ∷ entry_lines a.outcome.job 0 (log_of a.outcome r)) (sym spelled) ∙ ap (λ l. line ∷ entry_lines a.outcome.job 0 l) (sym is)
-
--- the version, and what follows
-pub account_body-parts : (a : Account) (version : ℕ) (first : List ℕ) → version ≡ a.outcome.job.config.version → first ≡ codes "report " ++ decimal version
-    → account_body_lines a ≡ (first ∷ []) ++ (account_logs_lines a 0 a.outcome.job.config.replicas ++ replies_lines a.outcome)
-account_body-parts a version first is spelled =
-    ap (λ n. (codes "report " ++ decimal n) ∷ (account_logs_lines a 0 a.outcome.job.config.replicas ++ replies_lines a.outcome)) (sym is)
-    ∙ ap (λ l. l ∷ (account_logs_lines a 0 a.outcome.job.config.replicas ++ replies_lines a.outcome)) (sym spelled)
-
--- the status, and what was before
-pub account_lines-parts : (a : Account) (status : ℕ) (last : List ℕ) → status ≡ status_of a.outcome → last ≡ codes "status " ++ decimal status
-    → account_lines a ≡ account_body_lines a ++ (last ∷ [])
-account_lines-parts a status last ended closed =
-    ap (λ n. account_body_lines a ++ ((codes "status " ++ decimal n) ∷ [])) (sym ended)
-    ∙ ap (λ l. account_body_lines a ++ (l ∷ [])) (sym closed)
 
 -- the logs have as many lines as those of a run
 as_many_lines : (a : Account) (r replicas : ℕ) → length (account_logs_lines a r replicas) ≡ length (logs_lines a.outcome r replicas)
@@ -51,11 +33,7 @@ account_few a short low =
     let other : length (account_body_lines a) ≡ 1 + length (account_logs_lines a 0 n ++ replies_lines a.outcome) = omega arith in
     omega (arith, few, told, ran, whole, other, as_many_lines a 0 n)
 
--- the bytes of the report can be counted, and those of all its lines but the last
-pub account_body_fits : (a : Account) → length (account_body_lines a) < 2 ^ 56 + 2 ^ 10 → 0 + LINE_BYTES * length (account_body_lines a) < 2 ^ 64
-account_body_fits a few = omega (arith, few)
-
-pub account_fits : (a : Account) → length (account_body_lines a) < 2 ^ 56 + 2 ^ 10 → 0 + LINE_BYTES * length (account_lines a) < 2 ^ 64
+pub account_fits : (a : Account) → length (account_body_lines a) < 2 ^ 56 + 2 ^ 10 → LINE_BYTES * length (account_lines a) < 2 ^ 64
 account_fits a few =
     let status : List (List ℕ) = (codes "status " ++ decimal (status_of a.outcome)) ∷ [] in
     omega (arith, few, length-append (account_body_lines a) status)

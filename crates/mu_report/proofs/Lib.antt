@@ -1,9 +1,7 @@
 mod AccountLines
 mod BookLines
-mod FactLines
 mod Lists
 mod LiveLines
-mod MisreadLines
 mod Pages
 mod Prints
 mod Pushes

@@ -1,16 +1,14 @@
 -- The lines of lists, taken from the front, and the longest log.
-use Rattle.std.proofs.Common.{◌≡◌, ℕ, zero, suc, ◌+◌, ◌-◌, ◌%◌, ◌<◌, ◌≤◌, true, false, subst, List, [], ◌∷◌, ◌++◌, refl, sym, ap, ◌∙◌, length, take, drop, map, min, get_or, arith}
+use Rattle.std.proofs.Common.{◌≡◌, ℕ, zero, suc, ◌+◌, ◌-◌, ◌<◌, ◌≤◌, List, [], ◌∷◌, ◌++◌, refl, sym, ap, ◌∙◌, length, take, drop, map, min, get_or, arith}
 use Rattle.std.specs.Fmt.{decimal}
 use Rattle.std.specs.Prelude.{codes}
 use Rattle.std.proofs.lemmas.List.{drop_all, drop_min, drop_more, take_rest}
 use Rattle.kv_store.specs.Commands.{Request}
 use Rattle.kv_store.specs.declared.store.Reply.{Reply}
-use Rattle.mu_model.specs.Contents.{is_mark}
 use Rattle.mu_input.specs.declared.job.Job.{Job}
 use Rattle.mu_outcome.specs.declared.outcome.Outcome.{Outcome}
 use Rattle.mu_outcome.specs.Entries.{commands_of, commands_in, longest}
-use Rattle.mu_outcome.specs.Outcomes.{log_of, status_of}
-use Rattle.mu_report.specs.Report.{entry_line, entry_lines, log_line, log_lines, logs_lines, answer_line, answer_lines, body_lines, replies_lines, report_lines, gone_line, lines_of_entry}
+use Rattle.mu_report.specs.Report.{entry_lines, log_lines, logs_lines, answer_line, answer_lines, replies_lines, lines_of_entry}
 
 -- the line of the next element, and those of the others
 pub map-drop : {A : Type 0} (f : A → List ℕ) (commands : List A) (i : ℕ) (command : A) (line : List ℕ) → i < length commands
@@ -29,31 +27,11 @@ pub entry_lines-drop : (job : Job) (log : List ℕ) (i : ℕ) → i < length log
     → entry_lines job i (drop i log) ≡ lines_of_entry job i (get_or log i 0) ++ entry_lines job (i + 1) (drop (i + 1) log)
 entry_lines-drop job log i within = ap (entry_lines job i) (drop_more log i 0 within)
 
--- the lines of an entry that is a mark, and of another
-pub gone_lines : (job : Job) (i v q : ℕ) (line : List ℕ) → is_mark job.config q v ≡ true → q ≡ v % 4096 - 4080 → line ≡ gone_line i q → line ∷ [] ≡ lines_of_entry job i v
-gone_lines job i v q line mark is spelled = let here = subst (λ n. is_mark job.config n v ≡ true) is mark in ap (λ l. l ∷ []) (spelled ∙ ap (gone_line i) is) ∙ sym (rw here refl)
-
-pub command_lines : (job : Job) (i v q : ℕ) (commands : List Request) → is_mark job.config q v ≡ false → q ≡ v % 4096 - 4080 → commands ≡ commands_of job v → map (entry_line i) commands ≡ lines_of_entry job i v
-command_lines job i v q commands mark is same = let here = subst (λ n. is_mark job.config n v ≡ false) is mark in ap (map (entry_line i)) same ∙ sym (rw here refl)
-
 -- the lines of the next log, and those of the others
 pub logs_lines-next : (o : Outcome) (r replicas : ℕ) → r < replicas → logs_lines o r (replicas - r) ≡ log_lines o r ++ logs_lines o (r + 1) (replicas - (r + 1))
 logs_lines-next o r replicas below =
     let next : replicas - r ≡ suc (replicas - (r + 1)) = omega arith in
     ap (logs_lines o r) next
-
--- what is told of a log, and its entries
-pub log_lines-parts : (o : Outcome) (r : ℕ) (line log : List ℕ) → line ≡ log_line o r → log ≡ log_of o r → log_lines o r ≡ (line ∷ []) ++ entry_lines o.job 0 log
-log_lines-parts o r line log spelled is = ap (λ l. l ∷ entry_lines o.job 0 (log_of o r)) (sym spelled) ∙ ap (λ l. line ∷ entry_lines o.job 0 l) (sym is)
-
--- the number of replies, and the replies
-pub replies_lines-parts : (o : Outcome) (log : List ℕ) (count : ℕ) (line : List ℕ) (replies : List Reply) → log ≡ longest o.logs → count ≡ length (commands_in o.job log)
-    → line ≡ codes "replies " ++ decimal count → replies ≡ o.replies → replies_lines o ≡ (line ∷ []) ++ answer_lines (commands_in o.job log) replies
-replies_lines-parts o log count line replies is counted spelled answers =
-    ap (λ l. (codes "replies " ++ decimal (length (commands_in o.job l))) ∷ answer_lines (commands_in o.job l) o.replies) (sym is)
-    ∙ ap (λ n. (codes "replies " ++ decimal n) ∷ answer_lines (commands_in o.job log) o.replies) (sym counted)
-    ∙ ap (λ l. l ∷ answer_lines (commands_in o.job log) o.replies) (sym spelled)
-    ∙ ap (λ l. line ∷ answer_lines (commands_in o.job log) l) (sym answers)
 
 answer_lines-nil : (commands : List Request) → answer_lines commands [] ≡ []
 answer_lines-nil [] = refl
@@ -94,16 +72,10 @@ answer_lines-past (command ∷ commands) [] i past =
 answer_lines-past (command ∷ commands) (reply ∷ replies) zero past = absurd (omega arith)
 answer_lines-past (command ∷ commands) (reply ∷ replies) (suc i) past = answer_lines-past commands replies i (omega arith)
 
--- the version, and what follows
-pub body_lines-parts : (o : Outcome) (version : ℕ) (first : List ℕ) → version ≡ o.job.config.version → first ≡ codes "report " ++ decimal version
-    → body_lines o ≡ (first ∷ []) ++ (logs_lines o 0 o.job.config.replicas ++ replies_lines o)
-body_lines-parts o version first is spelled =
-    ap (λ n. (codes "report " ++ decimal n) ∷ (logs_lines o 0 o.job.config.replicas ++ replies_lines o)) (sym is)
-    ∙ ap (λ l. l ∷ (logs_lines o 0 o.job.config.replicas ++ replies_lines o)) (sym spelled)
-
--- the status, and what was before
-pub report_lines-parts : (o : Outcome) (status : ℕ) (last : List ℕ) → status ≡ status_of o → last ≡ codes "status " ++ decimal status
-    → report_lines o ≡ body_lines o ++ (last ∷ [])
-report_lines-parts o status last ended closed =
-    ap (λ n. body_lines o ++ ((codes "status " ++ decimal n) ∷ [])) (sym ended)
-    ∙ ap (λ l. body_lines o ++ (l ∷ [])) (sym closed)
+-- the number of replies, and the replies
+pub replies_lines-parts : (o : Outcome) (log : List ℕ) (count : ℕ) (replies : List Reply) → log ≡ longest o.logs → count ≡ length (commands_in o.job log)
+    → replies ≡ o.replies → (codes "replies " ++ decimal count) ∷ answer_lines (commands_in o.job log) replies ≡ replies_lines o
+replies_lines-parts o log count replies is counted answers =
+    ap (λ n. (codes "replies " ++ decimal n) ∷ answer_lines (commands_in o.job log) replies) counted
+    ∙ ap (λ l. (codes "replies " ++ decimal (length (commands_in o.job l))) ∷ answer_lines (commands_in o.job l) replies) is
+    ∙ ap (λ l. (codes "replies " ++ decimal (length (commands_in o.job (longest o.logs)))) ∷ answer_lines (commands_in o.job (longest o.logs)) l) answers

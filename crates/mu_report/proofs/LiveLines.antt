@@ -1,5 +1,5 @@
 -- The lines of readers, taken from the front, and how many they are.
-use Rattle.std.proofs.Common.{◌≡◌, ℕ, suc, ◌+◌, ◌*◌, ◌<◌, ◌≤◌, ◌^◌, List, [], ◌∷◌, ◌++◌, sym, ap, ◌∙◌, length, drop, map, get_or, arith, length-append, All}
+use Rattle.std.proofs.Common.{◌≡◌, ℕ, suc, ◌+◌, ◌*◌, ◌<◌, ◌≤◌, ◌^◌, List, [], ◌∷◌, ◌++◌, sym, ap, ◌∙◌, length, drop, get_or, arith, length-append, All}
 use Rattle.std.specs.Fmt.{decimal}
 use Rattle.std.specs.Prelude.{codes}
 use Rattle.std.proofs.lemmas.List.{drop_more, length-drop, length-map}
@@ -17,22 +17,6 @@ pub readers_lines-drop : (lists : List (List Sight)) (i : ℕ) (next sights : Li
 readers_lines-drop lists i next sights within is same =
     ap (readers_lines i) (drop_more lists i next within) ∙ ap (λ ss. reader_lines i ss ++ readers_lines (i + 1) (drop (i + 1) lists)) (sym (same ∙ is))
 
--- how many sights there are, and the last of them
-pub reader_lines-parts : (reader : ℕ) (sights last : List Sight) (line : List ℕ)
-    → line ≡ codes "reader " ++ decimal reader ++ codes " sights " ++ decimal (length sights) → last ≡ drop GETS sights
-    → reader_lines reader sights ≡ (line ∷ []) ++ map sight_line last
-reader_lines-parts reader sights last line spelled is =
-    ap (λ l. l ∷ map sight_line (drop GETS sights)) (sym spelled) ∙ ap (λ ss. line ∷ map sight_line ss) (sym is)
-
--- the report, the readers and the status
-pub lived_lines-parts : (o : Outcome) (lists others : List (List Sight)) (status : ℕ) (last : List ℕ)
-    → others ≡ lists → status ≡ status_of o → last ≡ codes "status " ++ decimal status
-    → lived_lines o lists ≡ body_lines o ++ (readers_lines 0 others ++ (last ∷ []))
-lived_lines-parts o lists others status last same ended closed =
-    ap (λ ls. body_lines o ++ (readers_lines 0 ls ++ ((codes "status " ++ decimal (status_of o)) ∷ []))) (sym same)
-    ∙ ap (λ n. body_lines o ++ (readers_lines 0 others ++ ((codes "status " ++ decimal n) ∷ []))) (sym ended)
-    ∙ ap (λ l. body_lines o ++ (readers_lines 0 others ++ (l ∷ []))) (sym closed)
-
 length-reader_lines : (reader : ℕ) (sights : List Sight) → length (reader_lines reader sights) ≤ 1 + length sights
 length-reader_lines reader sights = omega (arith, length-map (drop GETS sights) sight_line, length-drop GETS sights)
 
@@ -44,7 +28,7 @@ length-readers_lines reader (sights ∷ lists) short =
     omega (arith, first, rest, length-reader_lines reader sights, length-append (reader_lines reader sights) (readers_lines (reader + 1) lists))
 
 -- all bytes can be counted
-pub lived_fits : (o : Outcome) (lists : List (List Sight)) → length (body_lines o) < 2 ^ 56 + 2 ^ 10 → HasShortSights lists → 0 + LINE_BYTES * length (lived_lines o lists) < 2 ^ 64
+pub lived_fits : (o : Outcome) (lists : List (List Sight)) → length (body_lines o) < 2 ^ 56 + 2 ^ 10 → HasShortSights lists → LINE_BYTES * length (lived_lines o lists) < 2 ^ 64
 lived_fits o lists few seen =
     let status : List (List ℕ) = (codes "status " ++ decimal (status_of o)) ∷ [] in
     let readers : length lists ≤ 4 = seen.0 in

@@ -97,11 +97,7 @@ few_lines o short low =
     let whole : length (body_lines o) ≡ 1 + (length (logs_lines o 0 replicas) + length (replies_lines o)) = ap (λ n. suc n) (length-append (logs_lines o 0 replicas) (replies_lines o)) ∙ omega arith in
     omega arith
 
--- the bytes of the report can be counted, and those of all its lines but the last
-pub body_fits : (o : Outcome) → length (body_lines o) < 2 ^ 56 + 2 ^ 10 → 0 + LINE_BYTES * length (body_lines o) < 2 ^ 64
-body_fits o few = omega (arith, few)
-
-pub report_fits : (o : Outcome) → length (body_lines o) < 2 ^ 56 + 2 ^ 10 → 0 + LINE_BYTES * length (report_lines o) < 2 ^ 64
+pub report_fits : (o : Outcome) → length (body_lines o) < 2 ^ 56 + 2 ^ 10 → LINE_BYTES * length (report_lines o) < 2 ^ 64
 report_fits o few =
     let status : List (List ℕ) = (codes "status " ++ decimal (status_of o)) ∷ [] in
     omega (arith, few, length-append (body_lines o) status)

@@ -15,23 +15,12 @@ head_lines-next o r replicas line below spelled =
     let next : replicas - r ≡ suc (replicas - (r + 1)) = omega arith in
     ap (head_lines o r) next ∙ ap (λ l. l ∷ head_lines o (r + 1) (replicas - (r + 1))) (sym spelled)
 
--- the lines of a summary, as they are printed
-pub summary_lines-parts : (o : Outcome) (commands : ℕ) (first counts : List ℕ) (status : ℕ) (last : List ℕ) → commands ≡ length o.job.commands
-    → first ≡ codes "bulk " ++ decimal commands → counts ≡ counts_line o.replies → status ≡ status_of o → last ≡ codes "status " ++ decimal status
-    → summary_lines o ≡ (first ∷ []) ++ (head_lines o 0 o.job.config.replicas ++ ((counts ∷ []) ++ (last ∷ [])))
-summary_lines-parts o commands first counts status last is spelled told ended closed =
-    ap (λ n. (codes "bulk " ++ decimal n) ∷ (head_lines o 0 o.job.config.replicas ++ counts_line o.replies ∷ (codes "status " ++ decimal (status_of o)) ∷ [])) (sym is)
-    ∙ ap (λ l. l ∷ (head_lines o 0 o.job.config.replicas ++ counts_line o.replies ∷ (codes "status " ++ decimal (status_of o)) ∷ [])) (sym spelled)
-    ∙ ap (λ l. first ∷ (head_lines o 0 o.job.config.replicas ++ l ∷ (codes "status " ++ decimal (status_of o)) ∷ [])) (sym told)
-    ∙ ap (λ n. first ∷ (head_lines o 0 o.job.config.replicas ++ counts ∷ (codes "status " ++ decimal n) ∷ [])) (sym ended)
-    ∙ ap (λ l. first ∷ (head_lines o 0 o.job.config.replicas ++ counts ∷ l ∷ [])) (sym closed)
-
 pub length-head_lines : (o : Outcome) (r replicas : ℕ) → length (head_lines o r replicas) ≡ replicas
 length-head_lines o r zero = refl
 length-head_lines o r (suc replicas) = ap (λ n. suc n) (length-head_lines o (r + 1) replicas)
 
 -- the bytes of the whole summary can be counted
-pub summary_fits : (o : Outcome) → o.job.config.replicas < 2 ^ 8 → 0 + LINE_BYTES * length (summary_lines o) < 2 ^ 64
+pub summary_fits : (o : Outcome) → o.job.config.replicas < 2 ^ 8 → LINE_BYTES * length (summary_lines o) < 2 ^ 64
 summary_fits o few =
     let ending : List (List ℕ) = counts_line o.replies ∷ (codes "status " ++ decimal (status_of o)) ∷ [] in
     let whole : length (summary_lines o) ≡ 1 + (length (head_lines o 0 o.job.config.replicas) + length ending) =

@@ -1,49 +1,18 @@
 -- The lines of a trace, taken from the front.
-use Rattle.std.proofs.Common.{◌≡◌, ℕ, zero, suc, ◌+◌, ◌*◌, ◌-◌, ◌<◌, ◌≤◌, ◌^◌, ◌==◌, Bool, true, false, cond, List, [], ◌∷◌, ◌++◌, sym, ap, ◌∙◌, length, drop, map, get_or, arith, length-append}
+use Rattle.std.proofs.Common.{◌≡◌, ℕ, zero, suc, ◌+◌, ◌*◌, ◌-◌, ◌<◌, ◌≤◌, ◌^◌, ◌==◌, Bool, true, false, cond, List, [], ◌∷◌, ◌++◌, refl, sym, ap, ◌∙◌, length, drop, map, get_or, arith, length-append}
 use Rattle.std.specs.Fmt.{decimal}
 use Rattle.std.specs.Prelude.{codes, nat_lt}
 use Rattle.std.proofs.lemmas.Bool.{ltb-true}
 use Rattle.std.proofs.lemmas.List.{drop_more, length-map}
 use Rattle.std.proofs.Math.Nat.{mul-le-mul_left}
 use Rattle.kv_store.specs.Commands.{Request}
-use Rattle.mu_model.specs.declared.config.Config.{Config}
 use Rattle.mu_model.specs.declared.event.Event.{Event}
 use Rattle.mu_model.specs.declared.script.Pause.{Pause}
 use Rattle.mu_model.specs.declared.script.Script.{Script}
 use Rattle.mu_model.specs.declared.script.Stop.{Stop}
 use Rattle.mu_outcome.specs.declared.outcome.Outcome.{Outcome}
-use Rattle.mu_report.specs.declared.line.TheConstants.{LINE_BYTES}
 use Rattle.mu_report.specs.Words.{op_words}
-use Rattle.mu_report.specs.Trace.{has_lines, event_line, batch_lines, setting_lines, client_count, client_lines, command_lines, commands_lines, stop_line, pause_line, script_lines, events_of, trace_lines, IsCountable}
-
-pub countable : (o : Outcome) → IsCountable o → 0 + LINE_BYTES * length (trace_lines o) < 2 ^ 64
-countable o fits = omega (arith, fits)
-
--- the lines of a trace, as they are printed
-pub trace_lines-parts : (o : Outcome) (commands : List Request) (count : ℕ) (events : List Event) → commands ≡ o.job.commands → count ≡ client_count 0 commands → events ≡ events_of o.order
-    → trace_lines o ≡ setting_lines o.job.config ++ (client_lines commands 0 count ++ (script_lines o.job.script ++ ((codes "end" ∷ []) ++ (map event_line events ++ (codes "end" ∷ [])))))
-trace_lines-parts o commands count events asked counted given =
-    ap (λ l. setting_lines o.job.config ++ (client_lines l 0 (client_count 0 l) ++ (script_lines o.job.script ++ (codes "end" ∷ (map event_line (events_of o.order) ++ codes "end" ∷ []))))) (sym asked)
-    ∙ ap (λ n. setting_lines o.job.config ++ (client_lines commands 0 n ++ (script_lines o.job.script ++ (codes "end" ∷ (map event_line (events_of o.order) ++ codes "end" ∷ []))))) (sym counted)
-    ∙ ap (λ l. setting_lines o.job.config ++ (client_lines commands 0 count ++ (script_lines o.job.script ++ (codes "end" ∷ (map event_line l ++ codes "end" ∷ []))))) (sym given)
-
-numbered : (words : List ℕ) (wanted n : ℕ) (line : List ℕ) → n ≡ wanted → line ≡ words ++ decimal n → words ++ decimal wanted ≡ line
-numbered words wanted n line is spelled = ap (λ m. words ++ decimal m) (sym is) ∙ sym spelled
-
--- the first lines of a job, as they are printed
-pub setting_lines-parts : (c : Config) (version replicas ring budget : ℕ) (first second third fourth : List ℕ)
-    → version ≡ c.version → replicas ≡ c.replicas → ring ≡ c.ring → budget ≡ c.budget
-    → first ≡ codes "mu " ++ decimal version → second ≡ codes "replicas " ++ decimal replicas → third ≡ codes "ring " ++ decimal ring → fourth ≡ codes "budget " ++ decimal budget
-    → setting_lines c ≡ (first ∷ []) ++ ((second ∷ []) ++ ((third ∷ []) ++ ((fourth ∷ []) ++ batch_lines c)))
-setting_lines-parts c version replicas ring budget first second third fourth v r k b one two three four =
-    ap (λ l. l ∷ (codes "replicas " ++ decimal c.replicas) ∷ (codes "ring " ++ decimal c.ring) ∷ (codes "budget " ++ decimal c.budget) ∷ batch_lines c) (numbered (codes "mu ") c.version version first v one)
-    ∙ ap (λ l. first ∷ l ∷ (codes "ring " ++ decimal c.ring) ∷ (codes "budget " ++ decimal c.budget) ∷ batch_lines c) (numbered (codes "replicas ") c.replicas replicas second r two)
-    ∙ ap (λ l. first ∷ second ∷ l ∷ (codes "budget " ++ decimal c.budget) ∷ batch_lines c) (numbered (codes "ring ") c.ring ring third k three)
-    ∙ ap (λ l. first ∷ second ∷ third ∷ l ∷ batch_lines c) (numbered (codes "budget ") c.budget budget fourth b four)
-
--- the line of a client, and its commands
-pub client_parts : (client n : ℕ) (line : List ℕ) (more : List (List ℕ)) → n ≡ client → line ≡ codes "client " ++ decimal n → (codes "client " ++ decimal client) ∷ more ≡ (line ∷ []) ++ more
-client_parts client n line more is spelled = ap (λ l. l ∷ more) (numbered (codes "client ") client n line is spelled)
+use Rattle.mu_report.specs.Trace.{has_lines, event_line, setting_lines, client_count, client_lines, command_lines, commands_lines, stop_line, pause_line, script_lines, events_of, trace_lines, IsCountable}
 
 -- the lines of the next client, and those of the others
 pub client_lines-next : (commands : List Request) (client count : ℕ) → client < count
@@ -58,19 +27,9 @@ pub commands_lines-drop : (client : ℕ) (commands : List Request) (i : ℕ) (co
 commands_lines-drop client commands i command within is =
     ap (commands_lines client) (drop_more commands i command within) ∙ ap (λ c. command_lines client c ++ commands_lines client (drop (i + 1) commands)) (sym is)
 
--- the head line of a script, its stops and its pauses
-pub script_parts : (script : Script) (stops : List Stop) (pauses : List Pause) → stops ≡ script.stops → pauses ≡ script.pauses
-    → codes "script" ∷ (map stop_line script.stops ++ map pause_line script.pauses) ≡ (codes "script" ∷ []) ++ (map stop_line stops ++ map pause_line pauses)
-script_parts script stops pauses is are =
-    ap (λ l. codes "script" ∷ (map stop_line l ++ map pause_line script.pauses)) (sym is) ∙ ap (λ l. codes "script" ∷ (map stop_line stops ++ map pause_line l)) (sym are)
-
 length-one : (b : Bool) (line : List ℕ) → length (cond b (line ∷ []) []) ≤ 1
 length-one true line = omega arith
 length-one false line = omega arith
-
--- the bytes of the first lines can be counted
-pub settings_fit : (o : Outcome) → 0 + LINE_BYTES * length (setting_lines o.job.config) < 2 ^ 64
-settings_fit o = omega (arith, length-one (o.job.config.version == 2) (codes "batch " ++ decimal o.job.config.width))
 
 length-commands_lines : (client : ℕ) (commands : List Request) → length (commands_lines client commands) ≤ length commands
 length-commands_lines client [] = omega arith
@@ -128,3 +87,12 @@ counts_fit o asked clients commands stops pauses events is counted few told shor
     let many : length events ≡ length (events_of o.order) = ap length given in
     let below : length events < 4294967296 = ltb-true (length events) 4294967296 less in
     trace_fits o (omega (arith, told, short)) (omega (arith, all, few)) (omega (arith, stopped, halts)) (omega (arith, paused, waits)) (omega (arith, many, below))
+
+-- the clients of these commands, by their count
+pub asked_clients : (commands others : List Request) (count : ℕ) → commands ≡ others → count ≡ client_count 0 commands → client_lines commands 0 count ≡ client_lines others 0 (client_count 0 others)
+asked_clients commands others count is counted = ap (client_lines commands 0) counted ∙ ap (λ l. client_lines l 0 (client_count 0 l)) is
+
+-- the script, if it has a line
+pub lines_told : (script : Script) (stops : List Stop) (pauses : List Pause) → has_lines script ≡ true → stops ≡ script.stops → pauses ≡ script.pauses
+    → codes "script" ∷ (map stop_line stops ++ map pause_line pauses) ≡ script_lines script
+lines_told script stops pauses some is are = rw is (rw are (rw some refl))

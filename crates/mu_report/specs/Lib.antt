@@ -4,10 +4,12 @@ pub mod Books
 pub mod Facts
 pub mod Lives
 pub mod Printing
+pub mod Prints
 pub mod Reasons
 pub mod Report
 pub mod Said
 pub mod Sentences
+pub mod Statuses
 pub mod Summary
 pub mod Trace
 pub mod Words

@@ -1,6 +1,7 @@
 -- text: what the program prints of each answer.
 use Rattle.std.specs.Prelude.{ℕ, List, [], ◌∷◌, ◌++◌, ◌<◌, ◌^◌, ⊤, codes, length}
 use Rattle.mu_input.specs.declared.job.InputEnd.{InputEnd}
+use Rattle.mu_io.specs.declared.whole.ReadEnd.{ReadEnd}
 use Rattle.mu_mistakes.specs.Misreads.{HasShortLines, misread_lines, refusal_words}
 use Rattle.mu_report.specs.declared.said.Said.{Said}
 use Rattle.mu_report.specs.declared.said.Said.TheVariants.{Usage, Refused, Ran, Traced, Summed, Booked, Lived, Judged, Explained, Noted, Told, Shown, Misread, ReadFault, NoMemory, TooLong}
@@ -46,6 +47,12 @@ text said = ended (lines_of said)
 abbrev pub said_of_end : InputEnd → Said
 said_of_end (InputEnd.Refused line cause) = Refused line cause
 said_of_end InputEnd.NoMemory = NoMemory
+
+-- what is said if the input was not read
+abbrev pub said_of_read : ReadEnd → Said
+said_of_read ReadEnd.Fault = ReadFault
+said_of_read ReadEnd.TooLong = TooLong
+said_of_read ReadEnd.NoMemory = NoMemory
 
 -- a run that is reported has short lists, as have its readers, the bytes of a trace and of a moment
 -- can be counted, and lines of words are short

@@ -3,28 +3,15 @@
 --
 -- short trace: a trace of few clients, commands, stops, pauses and events, so that its bytes can be
 -- counted.
-use Rattle.std.specs.Fmt.{decimal}
-use Rattle.std.specs.Prelude.{ℕ, ◌*◌, ◌≤◌, ◌<◌, ◌^◌, List, [], ◌∷◌, ◌++◌, codes, length, map, None, Some}
+use Rattle.std.specs.Prelude.{ℕ, ◌*◌, ◌≤◌, ◌<◌, ◌^◌, List, [], length, None, Some}
 use Rattle.std.specs.declared.option.Option.{Option}
-use Rattle.kv_store.specs.Commands.{Request}
 use Rattle.mu_model.specs.declared.event.Event.{Event}
-use Rattle.mu_model.specs.declared.script.Script.{Script}
 use Rattle.mu_model.specs.Journals.{Record}
 pub use Rattle.mu_events.specs.Lines.{event_line, verb_words}
 pub use Rattle.mu_input.specs.JobLines.{batch_lines, client_count, client_lines, command_lines, commands_lines, has_lines, pause_line, script_lines, setting_lines, stop_line}
 use Rattle.mu_input.specs.JobLines.{lines_of_trace}
 use Rattle.mu_outcome.specs.declared.outcome.Outcome.{Outcome}
 use Rattle.mu_report.specs.declared.line.TheConstants.{LINE_BYTES}
-
--- a client with its commands
-abbrev pub lines_of_client : ℕ → List Request → List (List ℕ)
-lines_of_client client commands =
-    (codes "client " ++ decimal client) ∷ commands_lines client commands
-
--- a script, with its head line
-abbrev pub lines_of_script : Script → List (List ℕ)
-lines_of_script script =
-    codes "script" ∷ (map stop_line script.stops ++ map pause_line script.pauses)
 
 -- the events in their order, if it is given
 abbrev pub events_of : Option Record → List Event

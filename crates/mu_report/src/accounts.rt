@@ -1,86 +1,45 @@
 //! The report of what a legal list of events comes to.
-ghost use Rattle.std.specs.Prelude.{◌≡◌, ◌+◌, ◌*◌, ◌<◌, ◌≤◌, ◌^◌, ◌++◌, length, slice_get, IfErr, IfOk};
+ghost use Rattle.std.specs.Prelude.{◌≡◌, ◌+◌, ◌*◌, ◌<◌, ◌≤◌, ◌^◌, ◌++◌, length, slice_get};
 ghost use Rattle.mu_report.specs.declared.line.TheConstants.{LINE_BYTES};
-ghost use Rattle.mu_report.specs.Accounts.{account_body_lines, account_line as account_line_of, account_lines, account_log_lines, account_logs_lines, so_far_words};
-ghost use Rattle.mu_report.specs.Printing.{PrintsAll, PrintsPart};
+ghost use Rattle.mu_report.specs.Accounts.{account_line as account_line_of, account_lines, account_log_lines, account_logs_lines, so_far_words};
 ghost use Rattle.mu_report.specs.Report.{HasShortLists};
 
-use crate::line::{Line, print_line};
-use crate::report::{
-    commit_count, log_at, numbered_line, print_entries, print_replies, status_code,
-};
+use crate::line::{Line, print_numbered};
+use crate::printer::Printer;
+use crate::report::{commit_count, log_at, print_entries, print_replies, print_status};
 use mu_course::EndSoFar;
-use mu_io::{Sink, WriteFault};
 use mu_telling::Account;
 
-/// Writes the report. Takes no memory.
-pub fn print_account<K: Sink>(sink: &mut K, account: &Account) -> Result<usize, WriteFault>
+/// Prints the report. Takes no memory.
+pub fn print_account<P: Printer>(out: &mut P, account: &Account)
     requires { HasShortLists account.now.outcome }
-    ensures all { IfOk result (PrintsAll (K.written sink.old) (K.written sink.new)
-        (K.faults sink.old) (K.faults sink.new) 0 (account_lines account.now)) }
-    ensures part { IfErr result (λ fault. PrintsPart (K.written sink.old) (K.written sink.new)
-        (K.faults sink.old) (K.faults sink.new) 0 (account_lines account.now) fault.taken) }
-{
-    let taken = print_account_body(sink, account)?;
-    let status = u64::from(status_code(&account.outcome));
-    print_line(sink, taken, numbered_line(b"status ", status))
-}
-
-/// Writes the report except its last line.
-fn print_account_body<K: Sink>(sink: &mut K, account: &Account) -> Result<usize, WriteFault>
-    requires { HasShortLists account.now.outcome }
-    ensures all { IfOk result (PrintsAll (K.written sink.old) (K.written sink.new)
-        (K.faults sink.old) (K.faults sink.new) 0 (account_body_lines account.now)) }
-    ensures part { IfErr result (λ fault. PrintsPart (K.written sink.old) (K.written sink.new)
-        (K.faults sink.old) (K.faults sink.new) 0 (account_body_lines account.now) fault.taken) }
-    ensures few { length (account_body_lines account.now) < 2 ^ 56 + 2 ^ 10 }
+    ensures lines { P.Prints out.old (account_lines account.now) out.new }
+    ensures fits { LINE_BYTES * length (account_lines account.now) < 2 ^ 64 }
 {
     let replicas = account.outcome.job.config.replicas;
     let version = u64::from(account.outcome.job.config.version);
-    let taken = print_line(sink, 0, numbered_line(b"report ", version))?;
-    let taken = print_account_logs(sink, taken, account, replicas)?;
-    print_replies(sink, taken, &account.outcome)
+    print_numbered(out, b"report ", version);
+    print_account_logs(out, account, replicas);
+    print_replies(out, &account.outcome);
+    print_status(out, &account.outcome);
 }
 
-/// Writes the logs of the first `replicas` replicas.
-fn print_account_logs<K: Sink>(
-    sink: &mut K,
-    taken: usize,
-    account: &Account,
-    replicas: u8,
-) -> Result<usize, WriteFault>
-    requires { taken + LINE_BYTES * length (account_logs_lines account.now 0 replicas) < 2 ^ 64 }
-    ensures all { IfOk result (PrintsAll (K.written sink.old) (K.written sink.new)
-        (K.faults sink.old) (K.faults sink.new) taken
-        (account_logs_lines account.now 0 replicas)) }
-    ensures part { IfErr result (λ fault. PrintsPart (K.written sink.old) (K.written sink.new)
-        (K.faults sink.old) (K.faults sink.new) taken
-        (account_logs_lines account.now 0 replicas) fault.taken) }
+/// Prints the logs of the first `replicas` replicas.
+fn print_account_logs<P: Printer>(out: &mut P, account: &Account, replicas: u8)
+    ensures { P.Prints out.old (account_logs_lines account.now 0 replicas) out.new }
 {
-    let mut total = taken;
     for replica in 0..replicas {
-        total = print_account_log(sink, total, account, replica)?;
+        print_account_log(out, account, replica);
     }
-    Ok(total)
 }
 
-/// Writes the log of a replica.
-fn print_account_log<K: Sink>(
-    sink: &mut K,
-    taken: usize,
-    account: &Account,
-    replica: u8,
-) -> Result<usize, WriteFault>
-    requires { taken + LINE_BYTES * length (account_log_lines account.now replica) < 2 ^ 64 }
-    ensures all { IfOk result (PrintsAll (K.written sink.old) (K.written sink.new)
-        (K.faults sink.old) (K.faults sink.new) taken (account_log_lines account.now replica)) }
-    ensures part { IfErr result (λ fault. PrintsPart (K.written sink.old) (K.written sink.new)
-        (K.faults sink.old) (K.faults sink.new) taken
-        (account_log_lines account.now replica) fault.taken) }
+/// Prints the log of a replica.
+fn print_account_log<P: Printer>(out: &mut P, account: &Account, replica: u8)
+    ensures { P.Prints out.old (account_log_lines account.now replica) out.new }
 {
     let outcome = &account.outcome;
-    let taken = print_line(sink, taken, account_line(account, replica))?;
-    print_entries(sink, taken, &outcome.job, log_at(outcome, replica))
+    out.print_line(account_line(account, replica));
+    print_entries(out, &outcome.job, log_at(outcome, replica));
 }
 
 /// What is told of the log of a replica as a whole.

@@ -1,138 +1,63 @@
 //! The book of orders after a run: its logs without their entries, the trades, and the orders that
 //! rest.
-ghost use Rattle.std.specs.Prelude.{◌≡◌, ◌+◌, ◌*◌, ◌<◌, ◌≤◌, ◌^◌, ◌++◌, length, map, IfErr, IfOk};
+ghost use Rattle.std.specs.Prelude.{◌≡◌, ◌+◌, ◌*◌, ◌<◌, ◌≤◌, ◌^◌, ◌++◌, length};
 ghost use Rattle.mu_report.specs.declared.line.TheConstants.{LINE_BYTES};
-ghost use Rattle.mu_report.specs.Books.{book_lines, id_words, resting_line as resting_line_of, resting_lines, side_words, terms_words, trade_line as trade_line_of, trades_lines};
-ghost use Rattle.mu_report.specs.Printing.{PrintsAll, PrintsPart};
+ghost use Rattle.mu_report.specs.Books.{book_lines, id_words, resting_line, side_words, terms_words, trade_line};
 
-use crate::line::{Line, print_line, print_words};
-use crate::report::{numbered_line, status_code};
+use crate::line::{HasLine, Line, print_each, print_numbered, print_words};
+use crate::printer::Printer;
+use crate::report::print_status;
 use crate::summary::print_heads;
 use match_book::{Book, Id, Resting, Side, Trade};
-use mu_io::{Sink, WriteFault};
 use mu_outcome::Outcome;
 
-/// Writes what is told of the logs as a whole, and the book. Takes no memory.
-pub fn print_book<K: Sink>(
-    sink: &mut K,
-    outcome: &Outcome,
-    book: &Book,
-) -> Result<usize, WriteFault>
-    ensures all { IfOk result (PrintsAll (K.written sink.old) (K.written sink.new)
-        (K.faults sink.old) (K.faults sink.new) 0 (book_lines outcome.now book.now)) }
-    ensures part { IfErr result (λ fault. PrintsPart (K.written sink.old) (K.written sink.new)
-        (K.faults sink.old) (K.faults sink.new) 0 (book_lines outcome.now book.now) fault.taken) }
+/// Prints what is told of the logs as a whole, and the book. Takes no memory.
+pub fn print_book<P: Printer>(out: &mut P, outcome: &Outcome, book: &Book)
+    ensures lines { P.Prints out.old (book_lines outcome.now book.now) out.new }
+    ensures fits { LINE_BYTES * length (book_lines outcome.now book.now) < 2 ^ 64 }
 {
-    let traded = book.trades();
+    let trades = book.trades();
     let orders = book.resting();
-    let taken = print_words(sink, 0, b"book 1")?;
-    let taken = print_heads(sink, taken, outcome, outcome.job.config.replicas)?;
-    let taken = print_trades(sink, taken, traded)?;
-    let taken = print_orders(sink, taken, orders)?;
-    let status = u64::from(status_code(outcome));
-    print_line(sink, taken, numbered_line(b"status ", status))
+    print_words(out, b"book 1");
+    print_heads(out, outcome, outcome.job.config.replicas);
+    print_numbered(out, b"trades ", trades.len() as u64);
+    print_each(out, trades);
+    print_numbered(out, b"resting ", orders.len() as u64);
+    print_each(out, orders);
+    print_status(out, outcome);
 }
 
-/// Writes how many trades there are, and the trades.
-fn print_trades<K: Sink>(sink: &mut K, taken: usize, trades: &[Trade]) -> Result<usize, WriteFault>
-    requires { taken + LINE_BYTES * length (trades_lines trades.now) < 2 ^ 64 }
-    ensures all { IfOk result (PrintsAll (K.written sink.old) (K.written sink.new)
-        (K.faults sink.old) (K.faults sink.new) taken (trades_lines trades.now)) }
-    ensures part { IfErr result (λ fault. PrintsPart (K.written sink.old) (K.written sink.new)
-        (K.faults sink.old) (K.faults sink.new) taken (trades_lines trades.now) fault.taken) }
-{
-    let count = trades.len();
-    let headed = print_line(sink, taken, numbered_line(b"trades ", count as u64))?;
-    print_each_trade(sink, headed, trades)
-}
+impl HasLine for Trade {
+    ghost words = { trade_line };
 
-/// Writes trades.
-fn print_each_trade<K: Sink>(
-    sink: &mut K,
-    taken: usize,
-    trades: &[Trade],
-) -> Result<usize, WriteFault>
-    requires { taken + LINE_BYTES * length (map trade_line_of trades.now) < 2 ^ 64 }
-    ensures all { IfOk result (PrintsAll (K.written sink.old) (K.written sink.new)
-        (K.faults sink.old) (K.faults sink.new) taken (map trade_line_of trades.now)) }
-    ensures part { IfErr result (λ fault. PrintsPart (K.written sink.old) (K.written sink.new)
-        (K.faults sink.old) (K.faults sink.new) taken (map trade_line_of trades.now) fault.taken) }
-{
-    let mut total = taken;
-    for trade in trades {
-        total = print_line(sink, total, trade_line(trade))?;
+    fn line(&self) -> Line {
+        let mut line = Line::new();
+        line.push_number(u64::from(self.index));
+        line.push(b" ");
+        push_id(&mut line, self.buy);
+        line.push(b" ");
+        push_id(&mut line, self.sell);
+        line.push(b" ");
+        line.push(self.symbol.as_bytes());
+        line.push(b" ");
+        push_terms(&mut line, self.price, self.quantity);
+        line
     }
-    Ok(total)
 }
 
-/// Writes how many orders rest, and the orders.
-fn print_orders<K: Sink>(
-    sink: &mut K,
-    taken: usize,
-    orders: &[Resting],
-) -> Result<usize, WriteFault>
-    requires { taken + LINE_BYTES * length (resting_lines orders.now) < 2 ^ 64 }
-    ensures all { IfOk result (PrintsAll (K.written sink.old) (K.written sink.new)
-        (K.faults sink.old) (K.faults sink.new) taken (resting_lines orders.now)) }
-    ensures part { IfErr result (λ fault. PrintsPart (K.written sink.old) (K.written sink.new)
-        (K.faults sink.old) (K.faults sink.new) taken (resting_lines orders.now) fault.taken) }
-{
-    let count = orders.len();
-    let headed = print_line(sink, taken, numbered_line(b"resting ", count as u64))?;
-    print_each_order(sink, headed, orders)
-}
+impl HasLine for Resting {
+    ghost words = { resting_line };
 
-/// Writes orders that rest.
-fn print_each_order<K: Sink>(
-    sink: &mut K,
-    taken: usize,
-    orders: &[Resting],
-) -> Result<usize, WriteFault>
-    requires { taken + LINE_BYTES * length (map resting_line_of orders.now) < 2 ^ 64 }
-    ensures all { IfOk result (PrintsAll (K.written sink.old) (K.written sink.new)
-        (K.faults sink.old) (K.faults sink.new) taken (map resting_line_of orders.now)) }
-    ensures part { IfErr result (λ fault. PrintsPart (K.written sink.old) (K.written sink.new)
-        (K.faults sink.old) (K.faults sink.new) taken
-        (map resting_line_of orders.now) fault.taken) }
-{
-    let mut total = taken;
-    for order in orders {
-        total = print_line(sink, total, resting_line(order))?;
+    fn line(&self) -> Line {
+        let mut line = Line::new();
+        line.push(self.symbol.as_bytes());
+        line.push(b" ");
+        line.push(side_word(self.side));
+        push_terms(&mut line, self.price, self.left);
+        line.push(b" ");
+        push_id(&mut line, self.id);
+        line
     }
-    Ok(total)
-}
-
-/// A trade.
-fn trade_line(trade: &Trade) -> Line
-    ensures bytes { result ≡ trade_line_of trade.now }
-    ensures room { length result < LINE_BYTES }
-{
-    let mut line = Line::new();
-    line.push_number(u64::from(trade.index));
-    line.push(b" ");
-    push_id(&mut line, trade.buy);
-    line.push(b" ");
-    push_id(&mut line, trade.sell);
-    line.push(b" ");
-    line.push(trade.symbol.as_bytes());
-    line.push(b" ");
-    push_terms(&mut line, trade.price, trade.quantity);
-    line
-}
-
-/// An order that rests.
-fn resting_line(order: &Resting) -> Line
-    ensures bytes { result ≡ resting_line_of order.now }
-    ensures room { length result < LINE_BYTES }
-{
-    let mut line = Line::new();
-    line.push(order.symbol.as_bytes());
-    line.push(b" ");
-    line.push(side_word(order.side));
-    push_terms(&mut line, order.price, order.left);
-    line.push(b" ");
-    push_id(&mut line, order.id);
-    line
 }
 
 /// What an order is for.

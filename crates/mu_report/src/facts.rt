@@ -1,14 +1,13 @@
 //! What holds after the first events of a list, a line each; and a legal list whose replicas don't
 //! all obey their script.
-ghost use Rattle.std.specs.Prelude.{◌≡◌, ◌+◌, ◌*◌, ◌<◌, ◌≤◌, ◌^◌, length, map, IfErr, IfOk};
+ghost use Rattle.std.specs.Prelude.{◌≡◌, ◌*◌, ◌<◌, ◌≤◌, length, map};
 ghost use Rattle.mu_report.specs.declared.line.TheConstants.{LINE_BYTES};
-ghost use Rattle.mu_report.specs.Facts.{fact_words, legal_words, moment_lines, moment_words, noted_lines, stray_words};
-ghost use Rattle.mu_report.specs.Printing.{PrintsAll, PrintsPart};
+ghost use Rattle.mu_report.specs.Facts.{fact_words, moment_lines, moment_words, noted_lines, stray_words};
 ghost use Rattle.mu_report.specs.Sentences.{sentence_room, sentence_words};
 
-use crate::line::{Line, print_line};
+use crate::line::{HasLine, Line, print_each, print_numbered};
+use crate::printer::Printer;
 use crate::sentence::{Sentence, Value, push_sentence};
-use mu_io::{Sink, WriteFault};
 use mu_model::Stop;
 use mu_telling::{Fact, Moment};
 
@@ -18,13 +17,19 @@ fn sentence_of(fact: Fact) -> Sentence
     ensures room { sentence_room result ≤ 156 }
 {
     match fact {
-        Fact::Fence(region, fence) => Sentence::Two(
+        Fact::Fence { region, fence } => Sentence::Two(
             b"region ",
             Value::Byte(region),
             b" ",
             Value::Seen(fence),
         ),
-        Fact::Numbers(region, minimum, fuo, head, beats) => Sentence::Five(
+        Fact::Numbers {
+            region,
+            minimum,
+            fuo,
+            head,
+            beats,
+        } => Sentence::Five(
             b"region ",
             Value::Byte(region),
             b" min ",
@@ -36,7 +41,7 @@ fn sentence_of(fact: Fact) -> Sentence
             b" beats ",
             Value::Long(beats),
         ),
-        Fact::Asks(region, by, count) => Sentence::Three(
+        Fact::Asks { region, by, count } => Sentence::Three(
             b"region ",
             Value::Byte(region),
             b" asks of ",
@@ -44,7 +49,12 @@ fn sentence_of(fact: Fact) -> Sentence
             b": ",
             Value::Long(count),
         ),
-        Fact::Entry(region, position, number, value) => Sentence::Four(
+        Fact::Entry {
+            region,
+            position,
+            number,
+            value,
+        } => Sentence::Four(
             b"region ",
             Value::Byte(region),
             b" log ",
@@ -54,7 +64,13 @@ fn sentence_of(fact: Fact) -> Sentence
             b" ",
             Value::Short(value),
         ),
-        Fact::Reached(replica, steps, known, applied, named) => Sentence::Five(
+        Fact::Reached {
+            replica,
+            steps,
+            known,
+            applied,
+            named,
+        } => Sentence::Five(
             b"replica ",
             Value::Byte(replica),
             b" steps ",
@@ -66,25 +82,29 @@ fn sentence_of(fact: Fact) -> Sentence
             b" names ",
             Value::Byte(named),
         ),
-        Fact::Leadership(replica, leads) => Sentence::Two(
+        Fact::Leadership { replica, leads } => Sentence::Two(
             b"replica ",
             Value::Byte(replica),
             b" leadership ",
             Value::Leads(leads),
         ),
-        Fact::Member(replica, region) => Sentence::Two(
+        Fact::Member { replica, region } => Sentence::Two(
             b"replica ",
             Value::Byte(replica),
             b" member ",
             Value::Byte(region),
         ),
-        Fact::Failed(replica, other) => Sentence::Two(
+        Fact::Failed { replica, other } => Sentence::Two(
             b"replica ",
             Value::Byte(replica),
             b" failed ",
             Value::Byte(other),
         ),
-        Fact::Known(replica, position, value) => Sentence::Three(
+        Fact::Known {
+            replica,
+            position,
+            value,
+        } => Sentence::Three(
             b"replica ",
             Value::Byte(replica),
             b" knows ",
@@ -95,14 +115,14 @@ fn sentence_of(fact: Fact) -> Sentence
     }
 }
 
-/// A fact, as a line.
-fn fact_line(fact: &Fact) -> Line
-    ensures bytes { result ≡ fact_words fact.now }
-    ensures room { length result < LINE_BYTES }
-{
-    let mut line = Line::new();
-    push_sentence(&mut line, sentence_of(*fact));
-    line
+impl HasLine for Fact {
+    ghost words = { fact_words };
+
+    fn line(&self) -> Line {
+        let mut line = Line::new();
+        push_sentence(&mut line, sentence_of(*self));
+        line
+    }
 }
 
 /// After how many of how many events.
@@ -118,31 +138,12 @@ fn moment_line(moment: &Moment) -> Line
     line
 }
 
-/// Writes facts.
-fn print_facts<K: Sink>(sink: &mut K, taken: usize, facts: &[Fact]) -> Result<usize, WriteFault>
-    requires { taken + LINE_BYTES * length (map fact_words facts.now) < 2 ^ 64 }
-    ensures all { IfOk result (PrintsAll (K.written sink.old) (K.written sink.new)
-        (K.faults sink.old) (K.faults sink.new) taken (map fact_words facts.now)) }
-    ensures part { IfErr result (λ fault. PrintsPart (K.written sink.old) (K.written sink.new)
-        (K.faults sink.old) (K.faults sink.new) taken (map fact_words facts.now) fault.taken) }
+/// Prints what holds after some events. Takes no memory.
+pub fn print_moment<P: Printer>(out: &mut P, moment: &Moment)
+    ensures { P.Prints out.old (moment_lines moment.now) out.new }
 {
-    let mut total = taken;
-    for fact in facts {
-        total = print_line(sink, total, fact_line(fact))?;
-    }
-    Ok(total)
-}
-
-/// Writes what holds after some events. Takes no memory.
-pub fn print_moment<K: Sink>(sink: &mut K, moment: &Moment) -> Result<usize, WriteFault>
-    requires { length moment.now.facts < 2 ^ 32 }
-    ensures all { IfOk result (PrintsAll (K.written sink.old) (K.written sink.new)
-        (K.faults sink.old) (K.faults sink.new) 0 (moment_lines moment.now)) }
-    ensures part { IfErr result (λ fault. PrintsPart (K.written sink.old) (K.written sink.new)
-        (K.faults sink.old) (K.faults sink.new) 0 (moment_lines moment.now) fault.taken) }
-{
-    let taken = print_line(sink, 0, moment_line(moment))?;
-    print_facts(sink, taken, moment.facts.as_slice())
+    out.print_line(moment_line(moment));
+    print_each(out, moment.facts.as_slice());
 }
 
 /// A stop after which its replica goes on, as a line.
@@ -163,40 +164,19 @@ fn stray_line(stop: &Stop) -> Line
     line
 }
 
-/// A legal list of this many events.
-fn legal_line(events: u32) -> Line
-    ensures bytes { result ≡ legal_words events }
-    ensures room { length result < LINE_BYTES }
+/// Prints after which stops replicas go on.
+fn print_strays<P: Printer>(out: &mut P, strays: &[Stop])
+    ensures { P.Prints out.old (map stray_words strays.now) out.new }
 {
-    let mut line = Line::new();
-    line.push(b"legal ");
-    line.push_number(u64::from(events));
-    line
-}
-
-/// Writes after which stops replicas go on.
-fn print_strays<K: Sink>(sink: &mut K, taken: usize, strays: &[Stop]) -> Result<usize, WriteFault>
-    requires { taken + LINE_BYTES * length (map stray_words strays.now) < 2 ^ 64 }
-    ensures all { IfOk result (PrintsAll (K.written sink.old) (K.written sink.new)
-        (K.faults sink.old) (K.faults sink.new) taken (map stray_words strays.now)) }
-    ensures part { IfErr result (λ fault. PrintsPart (K.written sink.old) (K.written sink.new)
-        (K.faults sink.old) (K.faults sink.new) taken (map stray_words strays.now) fault.taken) }
-{
-    let mut total = taken;
     for stop in strays {
-        total = print_line(sink, total, stray_line(stop))?;
+        out.print_line(stray_line(stop));
     }
-    Ok(total)
 }
 
-/// Writes that a list is legal, and after which stops replicas go on.
-pub fn print_noted<K: Sink>(sink: &mut K, events: u32, strays: &[Stop]) -> Result<usize, WriteFault>
-    requires { length strays.now < 2 ^ 8 }
-    ensures all { IfOk result (PrintsAll (K.written sink.old) (K.written sink.new)
-        (K.faults sink.old) (K.faults sink.new) 0 (noted_lines events strays.now)) }
-    ensures part { IfErr result (λ fault. PrintsPart (K.written sink.old) (K.written sink.new)
-        (K.faults sink.old) (K.faults sink.new) 0 (noted_lines events strays.now) fault.taken) }
+/// Prints that a list is legal, and after which stops replicas go on.
+pub fn print_noted<P: Printer>(out: &mut P, events: u32, strays: &[Stop])
+    ensures { P.Prints out.old (noted_lines events strays.now) out.new }
 {
-    let taken = print_line(sink, 0, legal_line(events))?;
-    print_strays(sink, taken, strays)
+    print_numbered(out, b"legal ", u64::from(events));
+    print_strays(out, strays);
 }

@@ -1,51 +1,50 @@
-//! The way of a line to a sink.
-ghost use Rattle.std.specs.Prelude.{◌≡◌, ◌+◌, ◌<◌, ◌≤◌, ◌^◌, [], ◌∷◌, ◌++◌, length, IfErr, IfOk};
-ghost use Rattle.mu_report.specs.Printing.{PrintsAll, PrintsPart};
+//! A line, and its way to a printer.
+ghost use Rattle.std.specs.Prelude.{◌≡◌, ◌<◌, ◌≤◌, ℕ, List, [], ◌∷◌, ◌++◌, length, map};
+ghost use Rattle.std.specs.Fmt.{decimal};
 
-use mu_io::{Sink, WriteFault, write_all};
+use crate::printer::Printer;
 pub use mu_text::Line;
 
 /// The room for a line with its end, in bytes.
 pub const LINE_BYTES: usize = mu_text::LINE_BYTES;
 
-/// Ends the line and writes it, in one call if the sink takes it whole. `taken` bytes were taken
-/// before.
-///
-/// # Errors
-///
-/// `WriteFault` if the sink counted a fault, with the number of all bytes that were taken.
-pub fn print_line<K: Sink>(sink: &mut K, taken: usize, mut line: Line) -> Result<usize, WriteFault>
-    requires room { length line < LINE_BYTES }
-    requires fits { taken + LINE_BYTES < 2 ^ 64 }
-    ensures all { IfOk result (PrintsAll (K.written sink.old) (K.written sink.new)
-        (K.faults sink.old) (K.faults sink.new) taken (line ∷ [])) }
-    ensures part { IfErr result (λ fault. PrintsPart (K.written sink.old) (K.written sink.new)
-        (K.faults sink.old) (K.faults sink.new) taken (line ∷ []) fault.taken) }
+/// What is told in one line.
+pub trait HasLine {
+    // Its words.
+    ghost words: { Self → List ℕ };
+
+    /// Its line.
+    fn line(&self) -> Line
+        ensures bytes { result ≡ words self.now }
+        ensures room { length result < LINE_BYTES };
+}
+
+/// Prints the line of each of them.
+pub fn print_each<P: Printer, T: HasLine>(out: &mut P, items: &[T])
+    ensures { P.Prints out.old (map T.words items.now) out.new }
 {
-    line.push(b"\n");
-    let bytes = line.as_slice();
-    match write_all(sink, bytes) {
-        Ok(()) => Ok(taken + bytes.len()),
-        Err(fault) => Err(WriteFault {
-            taken: taken + fault.taken,
-        }),
+    for item in items {
+        out.print_line(item.line());
     }
 }
 
-/// Writes a line of these words, as [`print_line`] does.
-///
-/// # Errors
-///
-/// Those of [`print_line`].
-pub fn print_words<K: Sink>(sink: &mut K, taken: usize, words: &[u8]) -> Result<usize, WriteFault>
-    requires room { length words.now < LINE_BYTES }
-    requires fits { taken + LINE_BYTES < 2 ^ 64 }
-    ensures all { IfOk result (PrintsAll (K.written sink.old) (K.written sink.new)
-        (K.faults sink.old) (K.faults sink.new) taken (words.now ∷ [])) }
-    ensures part { IfErr result (λ fault. PrintsPart (K.written sink.old) (K.written sink.new)
-        (K.faults sink.old) (K.faults sink.new) taken (words.now ∷ []) fault.taken) }
+/// Prints a line of these words.
+pub fn print_words<P: Printer>(out: &mut P, words: &[u8])
+    requires { length words.now < LINE_BYTES }
+    ensures { P.Prints out.old (words.now ∷ []) out.new }
 {
     let mut line = Line::new();
     line.push(words);
-    print_line(sink, taken, line)
+    out.print_line(line);
+}
+
+/// Prints a line of these words and a number.
+pub fn print_numbered<P: Printer>(out: &mut P, words: &[u8], number: u64)
+    requires { length words.now ≤ 100 }
+    ensures { P.Prints out.old ((words.now ++ decimal number) ∷ []) out.new }
+{
+    let mut line = Line::new();
+    line.push(words);
+    line.push_number(number);
+    out.print_line(line);
 }

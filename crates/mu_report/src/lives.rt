@@ -1,85 +1,44 @@
 //! A run with what readers saw alongside a writer of its longest log.
-ghost use Rattle.std.specs.Prelude.{◌≡◌, ◌+◌, ◌*◌, ◌<◌, ◌^◌, ◌++◌, length, map, drop, codes, IfErr, IfOk};
+ghost use Rattle.std.specs.Prelude.{◌≡◌, ◌+◌, ◌*◌, ◌<◌, ◌^◌, ◌++◌, length, drop, codes};
 ghost use Rattle.std.specs.Fmt.{decimal};
 ghost use Rattle.mu_report.specs.declared.line.TheConstants.{LINE_BYTES};
-ghost use Rattle.mu_report.specs.Lives.{lived_lines, reader_lines, readers_lines, sight_line as sight_line_of, HasShortSights};
-ghost use Rattle.mu_report.specs.Printing.{PrintsAll, PrintsPart};
+ghost use Rattle.mu_report.specs.Lives.{lived_lines, reader_lines, readers_lines, sight_line, HasShortSights};
 ghost use Rattle.mu_report.specs.Report.{HasShortLists};
 ghost use Rattle.snap_reads.specs.declared.watching.TheConstants.{GETS as GETS_BESIDE};
 
-use crate::line::{Line, print_line};
-use crate::report::{numbered_line, print_body, status_code};
-use mu_io::{Sink, WriteFault};
+use crate::line::{HasLine, Line, print_each};
+use crate::printer::Printer;
+use crate::report::{print_body, print_status};
 use mu_outcome::Outcome;
 use snap_reads::{GETS, Lived, Sight, Sights};
 
-/// Writes the report, and before its last line what each reader saw last. Takes no memory.
-pub fn print_lived<K: Sink>(
-    sink: &mut K,
-    outcome: &Outcome,
-    lived: &Lived,
-) -> Result<usize, WriteFault>
+/// Prints the report, and before its last line what each reader saw last. Takes no memory.
+pub fn print_lived<P: Printer>(out: &mut P, outcome: &Outcome, lived: &Lived)
     requires report { HasShortLists outcome.now }
     requires sights { HasShortSights lived.now.sights }
-    ensures all { IfOk result (PrintsAll (K.written sink.old) (K.written sink.new)
-        (K.faults sink.old) (K.faults sink.new) 0 (lived_lines outcome.now lived.now.sights)) }
-    ensures part { IfErr result (λ fault. PrintsPart (K.written sink.old) (K.written sink.new)
-        (K.faults sink.old) (K.faults sink.new) 0 (lived_lines outcome.now lived.now.sights)
-        fault.taken) }
+    ensures lines { P.Prints out.old (lived_lines outcome.now lived.now.sights) out.new }
+    ensures fits { LINE_BYTES * length (lived_lines outcome.now lived.now.sights) < 2 ^ 64 }
 {
-    let lists = lived.sights.as_slice();
-    let taken = print_body(sink, outcome)?;
-    let taken = print_readers(sink, taken, lists)?;
-    let status = u64::from(status_code(outcome));
-    print_line(sink, taken, numbered_line(b"status ", status))
+    print_body(out, outcome);
+    print_readers(out, lived.sights.as_slice());
+    print_status(out, outcome);
 }
 
-/// Writes what readers saw last.
-fn print_readers<K: Sink>(sink: &mut K, taken: usize, lists: &[Sights]) -> Result<usize, WriteFault>
-    requires { taken + LINE_BYTES * length (readers_lines 0 lists.now) < 2 ^ 64 }
-    ensures all { IfOk result (PrintsAll (K.written sink.old) (K.written sink.new)
-        (K.faults sink.old) (K.faults sink.new) taken (readers_lines 0 lists.now)) }
-    ensures part { IfErr result (λ fault. PrintsPart (K.written sink.old) (K.written sink.new)
-        (K.faults sink.old) (K.faults sink.new) taken (readers_lines 0 lists.now) fault.taken) }
+/// Prints what readers saw last.
+fn print_readers<P: Printer>(out: &mut P, lists: &[Sights])
+    ensures { P.Prints out.old (readers_lines 0 lists.now) out.new }
 {
-    let mut total = taken;
     for (reader, sights) in lists.iter().enumerate() {
-        total = print_reader(sink, total, reader, sights.as_slice())?;
+        print_reader(out, reader, sights.as_slice());
     }
-    Ok(total)
 }
 
-/// Writes how many sights a reader had, and the last ones.
-fn print_reader<K: Sink>(
-    sink: &mut K,
-    taken: usize,
-    reader: usize,
-    sights: &[Sight],
-) -> Result<usize, WriteFault>
-    requires { taken + LINE_BYTES * length (reader_lines reader sights.now) < 2 ^ 64 }
-    ensures all { IfOk result (PrintsAll (K.written sink.old) (K.written sink.new)
-        (K.faults sink.old) (K.faults sink.new) taken (reader_lines reader sights.now)) }
-    ensures part { IfErr result (λ fault. PrintsPart (K.written sink.old) (K.written sink.new)
-        (K.faults sink.old) (K.faults sink.new) taken
-        (reader_lines reader sights.now) fault.taken) }
+/// Prints how many sights a reader had, and the last ones.
+fn print_reader<P: Printer>(out: &mut P, reader: usize, sights: &[Sight])
+    ensures { P.Prints out.old (reader_lines reader sights.now) out.new }
 {
-    let headed = print_line(sink, taken, reader_line(reader, sights.len()))?;
-    print_sights(sink, headed, last_of(sights))
-}
-
-/// Writes sights.
-fn print_sights<K: Sink>(sink: &mut K, taken: usize, sights: &[Sight]) -> Result<usize, WriteFault>
-    requires { taken + LINE_BYTES * length (map sight_line_of sights.now) < 2 ^ 64 }
-    ensures all { IfOk result (PrintsAll (K.written sink.old) (K.written sink.new)
-        (K.faults sink.old) (K.faults sink.new) taken (map sight_line_of sights.now)) }
-    ensures part { IfErr result (λ fault. PrintsPart (K.written sink.old) (K.written sink.new)
-        (K.faults sink.old) (K.faults sink.new) taken (map sight_line_of sights.now) fault.taken) }
-{
-    let mut total = taken;
-    for sight in sights {
-        total = print_line(sink, total, sight_line(sight))?;
-    }
-    Ok(total)
+    out.print_line(reader_line(reader, sights.len()));
+    print_each(out, last_of(sights));
 }
 
 /// The sights of a reader after its gets alongside the writer.
@@ -103,19 +62,19 @@ fn reader_line(reader: usize, sights: usize) -> Line
     line
 }
 
-/// A key, and what it held.
-fn sight_line(sight: &Sight) -> Line
-    ensures bytes { result ≡ sight_line_of sight.now }
-    ensures room { length result < LINE_BYTES }
-{
-    let mut line = Line::new();
-    line.push(sight.key.as_bytes());
-    match sight.seen.value() {
-        Some(text) => {
-            line.push(b" value ");
-            line.push(text.as_bytes());
+impl HasLine for Sight {
+    ghost words = { sight_line };
+
+    fn line(&self) -> Line {
+        let mut line = Line::new();
+        line.push(self.key.as_bytes());
+        match self.seen.value() {
+            Some(text) => {
+                line.push(b" value ");
+                line.push(text.as_bytes());
+            }
+            None => line.push(b" none"),
         }
-        None => line.push(b" none"),
+        line
     }
-    line
 }

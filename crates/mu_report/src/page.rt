@@ -1,13 +1,12 @@
-//! Several lines on their way to a sink.
-ghost use Rattle.std.specs.Prelude.{◌≡◌, ◌+◌, ◌*◌, ◌<◌, ◌≤◌, ◌^◌, [], ◌∷◌, ◌++◌, length, map, min, IfErr, IfOk};
+//! Lines of events, up to 256 at a time.
+ghost use Rattle.std.specs.Prelude.{◌≡◌, ◌+◌, ◌*◌, ◌<◌, ◌≤◌, [], ◌∷◌, ◌++◌, length, map, min};
 ghost use Rattle.mu_report.specs.declared.line.TheConstants.{LINE_BYTES};
 ghost use Rattle.mu_report.specs.declared.page.TheConstants.{PAGE_LINES, PAGE_BYTES};
-ghost use Rattle.mu_report.specs.Printing.{PrintsAll, PrintsPart, ended};
+ghost use Rattle.mu_report.specs.Printing.{ended};
 ghost use Rattle.mu_report.specs.Trace.{event_line as event_line_of};
 
 use crate::line::{LINE_BYTES, Line};
 use mu_events::event_line;
-use mu_io::{Sink, WriteFault, write_all};
 use mu_model::Event;
 use std::marker::Model;
 
@@ -46,6 +45,19 @@ impl Page {
         }
     }
 
+    /// Has the lines of these events, in place of what it had.
+    pub fn fill(&mut self, events: &[Event])
+        requires { length events.now ≤ PAGE_LINES }
+        ensures bytes { self.new ≡ ended (map event_line_of events.now) }
+        ensures bound { length self.new ≤ LINE_BYTES * length events.now }
+    {
+        self.clear();
+        for event in events {
+            let line = ended_line(event_line(event));
+            self.push(line.as_slice());
+        }
+    }
+
     /// Takes all lines away.
     fn clear(&mut self)
         ensures { self.new ≡ [] }
@@ -65,7 +77,7 @@ impl Page {
     }
 
     /// The bytes so far.
-    fn as_slice(&self) -> &[u8]
+    pub fn as_slice(&self) -> &[u8]
         ensures { result.now ≡ self.now }
     {
         &self.bytes[..self.len]
@@ -82,19 +94,6 @@ fn ended_line(mut line: Line) -> Line
     line
 }
 
-/// Puts the lines of these events on the page, in place of what was there.
-fn fill_page(page: &mut Page, events: &[Event])
-    requires { length events.now ≤ PAGE_LINES }
-    ensures bytes { page.new ≡ ended (map event_line_of events.now) }
-    ensures bound { length page.new ≤ LINE_BYTES * length events.now }
-{
-    page.clear();
-    for event in events {
-        let line = ended_line(event_line(event));
-        page.push(line.as_slice());
-    }
-}
-
 /// The events of the next page, and those after them.
 pub fn split_page(events: &[Event]) -> (&[Event], &[Event])
     ensures all { events.now ≡ result.0.now ++ result.1.now }
@@ -103,33 +102,4 @@ pub fn split_page(events: &[Event]) -> (&[Event], &[Event])
     ensures shorter { 0 < length events.now → length result.1.now < length events.now }
 {
     events.split_at(events.len().min(PAGE_LINES))
-}
-
-/// Writes the lines of these events by this page, in one call if the sink takes them whole. `taken`
-/// bytes were taken before.
-///
-/// # Errors
-///
-/// `WriteFault` if the sink counted a fault, with the number of all bytes that were taken.
-pub fn print_page<K: Sink>(
-    sink: &mut K,
-    taken: usize,
-    page: &mut Page,
-    events: &[Event],
-) -> Result<usize, WriteFault>
-    requires few { length events.now ≤ PAGE_LINES }
-    requires fits { taken + LINE_BYTES * length (map event_line_of events.now) < 2 ^ 64 }
-    ensures all { IfOk result (PrintsAll (K.written sink.old) (K.written sink.new)
-        (K.faults sink.old) (K.faults sink.new) taken (map event_line_of events.now)) }
-    ensures part { IfErr result (λ fault. PrintsPart (K.written sink.old) (K.written sink.new)
-        (K.faults sink.old) (K.faults sink.new) taken (map event_line_of events.now) fault.taken) }
-{
-    fill_page(page, events);
-    let bytes = page.as_slice();
-    match write_all(sink, bytes) {
-        Ok(()) => Ok(taken + bytes.len()),
-        Err(fault) => Err(WriteFault {
-            taken: taken + fault.taken,
-        }),
-    }
 }

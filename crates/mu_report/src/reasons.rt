@@ -1,15 +1,13 @@
 //! Where a list of events breaks and why, as lines.
-ghost use Rattle.std.specs.Prelude.{◌≡◌, ◌+◌, ◌<◌, ◌≤◌, ◌++◌, [], ◌∷◌, length, codes, IfErr, IfOk, Some};
-ghost use Rattle.std.specs.Fmt.{decimal};
+ghost use Rattle.std.specs.Prelude.{◌≡◌, ◌+◌, ◌<◌, ◌≤◌, ◌++◌, length, Some};
 ghost use Rattle.mu_report.specs.declared.line.TheConstants.{LINE_BYTES};
-ghost use Rattle.mu_report.specs.Printing.{PrintsAll, PrintsPart};
 ghost use Rattle.mu_report.specs.Reasons.{explained_lines, fault_words, first_words, reason_words};
 ghost use Rattle.mu_report.specs.Sentences.{sentence_room, sentence_words};
 
-use crate::line::{Line, print_line};
+use crate::line::Line;
+use crate::printer::Printer;
 use crate::sentence::{Sentence, Value, push_sentence};
 use mu_events::{event_line, push_answer};
-use mu_io::{Sink, WriteFault};
 use mu_reasons::{Broken, Fault, Reason};
 
 /// The point that isn't met, as a sentence.
@@ -392,25 +390,13 @@ pub fn fault_line(broken: &Broken) -> Line
     line
 }
 
-/// Writes where the list breaks and why, if it does.
-pub fn print_explained<K: Sink>(
-    sink: &mut K,
-    events: u32,
-    line: u32,
-    broken: &Option<Broken>,
-) -> Result<usize, WriteFault>
-    ensures all { IfOk result (PrintsAll (K.written sink.old) (K.written sink.new)
-        (K.faults sink.old) (K.faults sink.new) 0 (explained_lines events line broken.now)) }
-    ensures part { IfErr result (λ fault. PrintsPart (K.written sink.old) (K.written sink.new)
-        (K.faults sink.old) (K.faults sink.new) 0 (explained_lines events line broken.now)
-        fault.taken) }
+/// Prints where the list breaks and why, if it does.
+pub fn print_explained<P: Printer>(out: &mut P, events: u32, line: u32, broken: &Option<Broken>)
+    ensures { P.Prints out.old (explained_lines events line broken.now) out.new }
 {
-    let taken = print_line(sink, 0, first_line(events, line, broken))?;
-    match broken {
-        None => Ok(taken),
-        Some(broken) => {
-            let taken = print_line(sink, taken, event_line(&broken.event))?;
-            print_line(sink, taken, fault_line(broken))
-        }
+    out.print_line(first_line(events, line, broken));
+    if let Some(broken) = broken {
+        out.print_line(event_line(&broken.event));
+        out.print_line(fault_line(broken));
     }
 }

@@ -1,17 +1,16 @@
 //! The report of a run, and the status of the program after it.
-ghost use Rattle.std.specs.Prelude.{◌≡◌, ◌+◌, ◌-◌, ◌*◌, ◌%◌, ◌<◌, ◌≤◌, ◌^◌, ◌==◌, ◌++◌, length, map, slice_get, codes, IfErr, IfOk};
+ghost use Rattle.std.specs.Prelude.{◌≡◌, ◌+◌, ◌-◌, ◌*◌, ◌%◌, ◌<◌, ◌^◌, ◌==◌, [], ◌∷◌, ◌++◌, length, map, slice_get, codes};
 ghost use Rattle.std.specs.Fmt.{decimal};
-ghost use Rattle.mu_outcome.specs.Entries.{commands_in, longest as longest_of};
+ghost use Rattle.mu_outcome.specs.Entries.{commands_in};
 ghost use Rattle.mu_outcome.specs.Outcomes.{log_of, commits_of, status_after, status_of};
 ghost use Rattle.mu_report.specs.declared.line.TheConstants.{LINE_BYTES};
-ghost use Rattle.mu_report.specs.Printing.{PrintsAll, PrintsPart};
 ghost use Rattle.mu_report.specs.Report.{entry_line as entry_line_of, entry_lines, gone_line as gone_line_of, lines_of_entry, log_line as log_line_of, log_lines, logs_lines, answer_line as answer_line_of, answer_lines, body_lines, replies_lines, report_lines, HasShortLists};
 
-use crate::line::{Line, print_line};
+use crate::line::{Line, print_numbered};
+use crate::printer::Printer;
 use crate::words::{push_end, push_name, push_op, push_reply};
 use kv_store::{Command, Reply};
 use mu_input::Job;
-use mu_io::{Sink, WriteFault};
 use mu_model::{End, FIRST_MARK, PAYLOADS, stands_for_mark};
 use mu_outcome::{Outcome, Status, commands_of, longest};
 
@@ -34,112 +33,70 @@ pub fn status_code(outcome: &Outcome) -> u8
     status(outcome).code()
 }
 
-/// Writes the report. Takes no memory.
-pub fn print_report<K: Sink>(sink: &mut K, outcome: &Outcome) -> Result<usize, WriteFault>
+/// Prints the report. Takes no memory.
+pub fn print_report<P: Printer>(out: &mut P, outcome: &Outcome)
     requires { HasShortLists outcome.now }
-    ensures all { IfOk result (PrintsAll (K.written sink.old) (K.written sink.new)
-        (K.faults sink.old) (K.faults sink.new) 0 (report_lines outcome.now)) }
-    ensures part { IfErr result (λ fault. PrintsPart (K.written sink.old) (K.written sink.new)
-        (K.faults sink.old) (K.faults sink.new) 0 (report_lines outcome.now) fault.taken) }
+    ensures lines { P.Prints out.old (report_lines outcome.now) out.new }
+    ensures fits { LINE_BYTES * length (report_lines outcome.now) < 2 ^ 64 }
 {
-    let taken = print_body(sink, outcome)?;
-    let status = u64::from(status_code(outcome));
-    print_line(sink, taken, numbered_line(b"status ", status))
+    print_body(out, outcome);
+    print_status(out, outcome);
 }
 
-/// Writes the report except its last line.
-pub fn print_body<K: Sink>(sink: &mut K, outcome: &Outcome) -> Result<usize, WriteFault>
+/// Prints the report except its last line.
+pub fn print_body<P: Printer>(out: &mut P, outcome: &Outcome)
     requires { HasShortLists outcome.now }
-    ensures all { IfOk result (PrintsAll (K.written sink.old) (K.written sink.new)
-        (K.faults sink.old) (K.faults sink.new) 0 (body_lines outcome.now)) }
-    ensures part { IfErr result (λ fault. PrintsPart (K.written sink.old) (K.written sink.new)
-        (K.faults sink.old) (K.faults sink.new) 0 (body_lines outcome.now) fault.taken) }
+    ensures lines { P.Prints out.old (body_lines outcome.now) out.new }
     ensures few { length (body_lines outcome.now) < 2 ^ 56 + 2 ^ 10 }
 {
     let replicas = outcome.job.config.replicas;
     let version = u64::from(outcome.job.config.version);
-    let taken = print_line(sink, 0, numbered_line(b"report ", version))?;
-    let taken = print_logs(sink, taken, outcome, replicas)?;
-    print_replies(sink, taken, outcome)
+    print_numbered(out, b"report ", version);
+    print_logs(out, outcome, replicas);
+    print_replies(out, outcome);
 }
 
-/// Writes the logs of the first `replicas` replicas.
-fn print_logs<K: Sink>(
-    sink: &mut K,
-    taken: usize,
-    outcome: &Outcome,
-    replicas: u8,
-) -> Result<usize, WriteFault>
-    requires { taken + LINE_BYTES * length (logs_lines outcome.now 0 replicas) < 2 ^ 64 }
-    ensures all { IfOk result (PrintsAll (K.written sink.old) (K.written sink.new)
-        (K.faults sink.old) (K.faults sink.new) taken (logs_lines outcome.now 0 replicas)) }
-    ensures part { IfErr result (λ fault. PrintsPart (K.written sink.old) (K.written sink.new)
-        (K.faults sink.old) (K.faults sink.new) taken
-        (logs_lines outcome.now 0 replicas) fault.taken) }
+/// Prints the last line.
+pub fn print_status<P: Printer>(out: &mut P, outcome: &Outcome)
+    ensures { P.Prints out.old ((codes "status " ++ decimal (status_of outcome.now)) ∷ []) out.new }
 {
-    let mut total = taken;
+    print_numbered(out, b"status ", u64::from(status_code(outcome)));
+}
+
+/// Prints the logs of the first `replicas` replicas.
+fn print_logs<P: Printer>(out: &mut P, outcome: &Outcome, replicas: u8)
+    ensures { P.Prints out.old (logs_lines outcome.now 0 replicas) out.new }
+{
     for replica in 0..replicas {
-        total = print_log(sink, total, outcome, replica)?;
+        print_log(out, outcome, replica);
     }
-    Ok(total)
 }
 
-/// Writes the log of a replica.
-fn print_log<K: Sink>(
-    sink: &mut K,
-    taken: usize,
-    outcome: &Outcome,
-    replica: u8,
-) -> Result<usize, WriteFault>
-    requires { taken + LINE_BYTES * length (log_lines outcome.now replica) < 2 ^ 64 }
-    ensures all { IfOk result (PrintsAll (K.written sink.old) (K.written sink.new)
-        (K.faults sink.old) (K.faults sink.new) taken (log_lines outcome.now replica)) }
-    ensures part { IfErr result (λ fault. PrintsPart (K.written sink.old) (K.written sink.new)
-        (K.faults sink.old) (K.faults sink.new) taken (log_lines outcome.now replica) fault.taken) }
+/// Prints the log of a replica.
+fn print_log<P: Printer>(out: &mut P, outcome: &Outcome, replica: u8)
+    ensures { P.Prints out.old (log_lines outcome.now replica) out.new }
 {
-    let taken = print_line(sink, taken, log_line(outcome, replica))?;
-    print_entries(sink, taken, &outcome.job, log_at(outcome, replica))
+    out.print_line(log_line(outcome, replica));
+    print_entries(out, &outcome.job, log_at(outcome, replica));
 }
 
-/// Writes the commands of all entries of a log.
-pub fn print_entries<K: Sink>(
-    sink: &mut K,
-    taken: usize,
-    job: &Job,
-    log: &[u16],
-) -> Result<usize, WriteFault>
-    requires { taken + LINE_BYTES * length (entry_lines job.now 0 log.now) < 2 ^ 64 }
-    ensures all { IfOk result (PrintsAll (K.written sink.old) (K.written sink.new)
-        (K.faults sink.old) (K.faults sink.new) taken (entry_lines job.now 0 log.now)) }
-    ensures part { IfErr result (λ fault. PrintsPart (K.written sink.old) (K.written sink.new)
-        (K.faults sink.old) (K.faults sink.new) taken (entry_lines job.now 0 log.now) fault.taken) }
+/// Prints the commands of all entries of a log.
+pub fn print_entries<P: Printer>(out: &mut P, job: &Job, log: &[u16])
+    ensures { P.Prints out.old (entry_lines job.now 0 log.now) out.new }
 {
-    let mut total = taken;
     for (position, value) in log.iter().enumerate() {
-        total = print_entry(sink, total, position, job, *value)?;
+        print_entry(out, position, job, *value);
     }
-    Ok(total)
 }
 
-/// Writes one entry: its commands, or the mark that it is.
-fn print_entry<K: Sink>(
-    sink: &mut K,
-    taken: usize,
-    position: usize,
-    job: &Job,
-    value: u16,
-) -> Result<usize, WriteFault>
-    requires { taken + LINE_BYTES * length (lines_of_entry job.now position value) < 2 ^ 64 }
-    ensures all { IfOk result (PrintsAll (K.written sink.old) (K.written sink.new)
-        (K.faults sink.old) (K.faults sink.new) taken (lines_of_entry job.now position value)) }
-    ensures part { IfErr result (λ fault. PrintsPart (K.written sink.old) (K.written sink.new)
-        (K.faults sink.old) (K.faults sink.new) taken
-        (lines_of_entry job.now position value) fault.taken) }
+/// Prints one entry: its commands, or the mark that it is.
+fn print_entry<P: Printer>(out: &mut P, position: usize, job: &Job, value: u16)
+    ensures { P.Prints out.old (lines_of_entry job.now position value) out.new }
 {
     if stands_for_mark(&job.config, gone_in(value), value) {
-        print_line(sink, taken, gone_line(position, gone_in(value)))
+        out.print_line(gone_line(position, gone_in(value)));
     } else {
-        print_commands(sink, taken, position, commands_of(job, value))
+        print_commands(out, position, commands_of(job, value));
     }
 }
 
@@ -162,105 +119,45 @@ fn gone_line(position: usize, q: u8) -> Line
     line
 }
 
-/// Writes the commands of one entry.
-fn print_commands<K: Sink>(
-    sink: &mut K,
-    taken: usize,
-    position: usize,
-    commands: &[Command],
-) -> Result<usize, WriteFault>
-    requires { taken + LINE_BYTES * length (map (entry_line_of position) commands.now) < 2 ^ 64 }
-    ensures all { IfOk result (PrintsAll (K.written sink.old) (K.written sink.new)
-        (K.faults sink.old) (K.faults sink.new) taken (map (entry_line_of position) commands.now)) }
-    ensures part { IfErr result (λ fault. PrintsPart (K.written sink.old) (K.written sink.new)
-        (K.faults sink.old) (K.faults sink.new) taken
-        (map (entry_line_of position) commands.now) fault.taken) }
+/// Prints the commands of one entry.
+fn print_commands<P: Printer>(out: &mut P, position: usize, commands: &[Command])
+    ensures { P.Prints out.old (map (entry_line_of position) commands.now) out.new }
 {
-    let mut total = taken;
     for command in commands {
-        total = print_line(sink, total, entry_line(position, command))?;
+        out.print_line(entry_line(position, command));
     }
-    Ok(total)
 }
 
-/// Writes the replies to the commands of the longest log.
-pub fn print_replies<K: Sink>(
-    sink: &mut K,
-    taken: usize,
-    outcome: &Outcome,
-) -> Result<usize, WriteFault>
-    requires short { HasShortLists outcome.now }
-    requires fits { taken + LINE_BYTES * length (replies_lines outcome.now) < 2 ^ 64 }
-    ensures all { IfOk result (PrintsAll (K.written sink.old) (K.written sink.new)
-        (K.faults sink.old) (K.faults sink.new) taken (replies_lines outcome.now)) }
-    ensures part { IfErr result (λ fault. PrintsPart (K.written sink.old) (K.written sink.new)
-        (K.faults sink.old) (K.faults sink.new) taken (replies_lines outcome.now) fault.taken) }
+/// Prints the replies to the commands of the longest log.
+pub fn print_replies<P: Printer>(out: &mut P, outcome: &Outcome)
+    requires { HasShortLists outcome.now }
+    ensures { P.Prints out.old (replies_lines outcome.now) out.new }
 {
     let log = longest(outcome.logs.as_slice());
     let count = command_count(&outcome.job, log);
-    let taken = print_line(sink, taken, numbered_line(b"replies ", count as u64))?;
-    print_answers(sink, taken, &outcome.job, log, outcome.replies.as_slice())
+    print_numbered(out, b"replies ", count as u64);
+    print_answers(out, &outcome.job, log, outcome.replies.as_slice());
 }
 
-/// Writes the commands of all entries of a log, each with its reply.
-fn print_answers<K: Sink>(
-    sink: &mut K,
-    taken: usize,
-    job: &Job,
-    log: &[u16],
-    replies: &[Reply],
-) -> Result<usize, WriteFault>
-    requires { taken + LINE_BYTES * length (answer_lines (commands_in job.now log.now) replies.now)
-        < 2 ^ 64 }
-    ensures all { IfOk result (PrintsAll (K.written sink.old) (K.written sink.new)
-        (K.faults sink.old) (K.faults sink.new) taken
-        (answer_lines (commands_in job.now log.now) replies.now)) }
-    ensures part { IfErr result (λ fault. PrintsPart (K.written sink.old) (K.written sink.new)
-        (K.faults sink.old) (K.faults sink.new) taken
-        (answer_lines (commands_in job.now log.now) replies.now) fault.taken) }
+/// Prints the commands of all entries of a log, each with its reply.
+fn print_answers<P: Printer>(out: &mut P, job: &Job, log: &[u16], replies: &[Reply])
+    ensures { P.Prints out.old (answer_lines (commands_in job.now log.now) replies.now) out.new }
 {
-    let mut total = taken;
     let mut left = replies;
     for value in log {
         let commands = commands_of(job, *value);
-        total = print_answered(sink, total, commands, left)?;
+        print_answered(out, commands, left);
         left = &left[commands.len().min(left.len())..];
     }
-    Ok(total)
 }
 
-/// Writes commands, each with its reply, up to the end of the shorter list.
-fn print_answered<K: Sink>(
-    sink: &mut K,
-    taken: usize,
-    commands: &[Command],
-    replies: &[Reply],
-) -> Result<usize, WriteFault>
-    requires { taken + LINE_BYTES * length (answer_lines commands.now replies.now) < 2 ^ 64 }
-    ensures all { IfOk result (PrintsAll (K.written sink.old) (K.written sink.new)
-        (K.faults sink.old) (K.faults sink.new) taken (answer_lines commands.now replies.now)) }
-    ensures part { IfErr result (λ fault. PrintsPart (K.written sink.old) (K.written sink.new)
-        (K.faults sink.old) (K.faults sink.new) taken
-        (answer_lines commands.now replies.now) fault.taken) }
+/// Prints commands, each with its reply, up to the end of the shorter list.
+fn print_answered<P: Printer>(out: &mut P, commands: &[Command], replies: &[Reply])
+    ensures { P.Prints out.old (answer_lines commands.now replies.now) out.new }
 {
-    let mut total = taken;
     for index in 0..commands.len().min(replies.len()) {
-        let line = answer_line(&commands[index], &replies[index]);
-        total = print_line(sink, total, line)?;
+        out.print_line(answer_line(&commands[index], &replies[index]));
     }
-    Ok(total)
-}
-
-/// A line of words and a number.
-pub fn numbered_line(words: &[u8], number: u64) -> Line
-    requires { length words.now ≤ 100 }
-    ensures bytes { result ≡ words.now ++ decimal number }
-    ensures room { length result < LINE_BYTES }
-{
-    let mut line = Line::new();
-    line.push(words);
-    line.push_number(number);
-    line
 }
 
 /// What is told of the log of a replica as a whole.

@@ -1,24 +1,25 @@
 //! What the program says.
-ghost use Rattle.std.specs.Prelude.{◌≡◌, ◌<◌, ◌≤◌, length, take, IfErr, IfOk, OnErr, OnOk};
+ghost use Rattle.std.specs.Prelude.{◌≡◌, ◌*◌, ◌<◌, ◌≤◌, ◌^◌, length, take, IfErr, IfOk, OnErr, OnOk};
 ghost use Rattle.std.specs.Io.KnownBytes.{Appends};
 ghost use Rattle.mu_io.specs.Faults.{Rose};
-ghost use Rattle.mu_report.specs.Printing.{PrintsAll, PrintsPart};
-ghost use Rattle.mu_report.specs.Said.{text, lines_of, said_of_end, IsShort};
+ghost use Rattle.mu_report.specs.declared.line.TheConstants.{LINE_BYTES};
+ghost use Rattle.mu_report.specs.Said.{text, lines_of, said_of_end, said_of_read, IsShort};
 
 use crate::accounts::print_account;
 use crate::answers::verdict_line;
 use crate::book::print_book;
 use crate::facts::{print_moment, print_noted};
-use crate::line::{print_line, print_words};
+use crate::line::print_words;
 use crate::lives::print_lived;
 use crate::misreads::{print_misread, refusal};
+use crate::printer::{Printer, SinkPrinter};
 use crate::reasons::print_explained;
 use crate::report::print_report;
 use crate::summary::print_summary;
 use crate::trace::print_trace;
 use match_book::Book;
 use mu_input::InputEnd;
-use mu_io::{Sink, WriteFault};
+use mu_io::{ReadEnd, Sink, WriteFault};
 use mu_mistakes::Misread;
 use mu_model::Stops;
 use mu_outcome::{Outcome, Verdict};
@@ -142,6 +143,19 @@ impl From<InputEnd> for Said {
     }
 }
 
+impl From<ReadEnd> for Said {
+    ghost from_gives = { λ end said. said ≡ said_of_read end };
+
+    /// What is said if the input was not read.
+    fn from(end: ReadEnd) -> Said {
+        match end {
+            ReadEnd::Fault => Said::ReadFault,
+            ReadEnd::TooLong => Said::TooLong,
+            ReadEnd::NoMemory => Said::NoMemory,
+        }
+    }
+}
+
 /// Writes the text of what is said, each line in one call if the sink takes it whole, and of the
 /// events of a trace up to 256 lines in one. Takes no memory.
 ///
@@ -181,36 +195,37 @@ pub fn print_counted<K: Sink>(sink: &mut K, said: &Said) -> Result<usize, WriteF
     ensures fault { OnErr result (Rose (K.faults sink.old) (K.faults sink.new)) }
     ensures never_falls { K.faults sink.old ≤ K.faults sink.new }
 {
-    print_said(sink, said)
+    let mut printer = SinkPrinter::new(sink);
+    print_said(&mut printer, said);
+    printer.taken()
 }
 
-fn print_said<K: Sink>(sink: &mut K, said: &Said) -> Result<usize, WriteFault>
+/// Prints what is said.
+fn print_said<P: Printer>(out: &mut P, said: &Said)
     requires { IsShort said.now }
-    ensures all { IfOk result (PrintsAll (K.written sink.old) (K.written sink.new)
-        (K.faults sink.old) (K.faults sink.new) 0 (lines_of said.now)) }
-    ensures part { IfErr result (λ fault. PrintsPart (K.written sink.old) (K.written sink.new)
-        (K.faults sink.old) (K.faults sink.new) 0 (lines_of said.now) fault.taken) }
+    ensures lines { P.Prints out.old (lines_of said.now) out.new }
+    ensures fits { LINE_BYTES * length (lines_of said.now) < 2 ^ 64 }
 {
     match said {
-        Said::Usage => print_words(sink, 0, USAGE),
-        Said::Refused { line, cause } => print_line(sink, 0, refusal(*line, *cause)),
-        Said::Ran(outcome) => print_report(sink, outcome),
-        Said::Traced(outcome) => print_trace(sink, outcome),
-        Said::Summed(outcome) => print_summary(sink, outcome),
-        Said::Booked(outcome, book) => print_book(sink, outcome, book),
-        Said::Lived(outcome, lived) => print_lived(sink, outcome, lived),
-        Said::Judged { events, verdict } => print_line(sink, 0, verdict_line(*events, verdict)),
+        Said::Usage => print_words(out, USAGE),
+        Said::Refused { line, cause } => out.print_line(refusal(*line, *cause)),
+        Said::Ran(outcome) => print_report(out, outcome),
+        Said::Traced(outcome) => print_trace(out, outcome),
+        Said::Summed(outcome) => print_summary(out, outcome),
+        Said::Booked(outcome, book) => print_book(out, outcome, book),
+        Said::Lived(outcome, lived) => print_lived(out, outcome, lived),
+        Said::Judged { events, verdict } => out.print_line(verdict_line(*events, verdict)),
         Said::Explained {
             events,
             line,
             broken,
-        } => print_explained(sink, *events, *line, broken),
-        Said::Noted { events, strays } => print_noted(sink, *events, strays.as_slice()),
-        Said::Told(account) => print_account(sink, account),
-        Said::Shown(moment) => print_moment(sink, moment),
-        Said::Misread(misread) => print_misread(sink, misread),
-        Said::ReadFault => print_words(sink, 0, b"read fault"),
-        Said::NoMemory => print_words(sink, 0, b"no memory"),
-        Said::TooLong => print_words(sink, 0, b"too long"),
+        } => print_explained(out, *events, *line, broken),
+        Said::Noted { events, strays } => print_noted(out, *events, strays.as_slice()),
+        Said::Told(account) => print_account(out, account),
+        Said::Shown(moment) => print_moment(out, moment),
+        Said::Misread(misread) => print_misread(out, misread),
+        Said::ReadFault => print_words(out, b"read fault"),
+        Said::NoMemory => print_words(out, b"no memory"),
+        Said::TooLong => print_words(out, b"too long"),
     }
 }

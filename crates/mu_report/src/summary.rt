@@ -1,14 +1,13 @@
 //! The summary of a run: its logs without their entries, and how many replies there are of each
 //! kind.
-ghost use Rattle.std.specs.Prelude.{◌≡◌, ◌+◌, ◌*◌, ◌<◌, ◌≤◌, ◌^◌, length, IfErr, IfOk};
+ghost use Rattle.std.specs.Prelude.{◌≡◌, ◌+◌, ◌*◌, ◌<◌, ◌≤◌, ◌^◌, length};
 ghost use Rattle.mu_report.specs.declared.line.TheConstants.{LINE_BYTES};
-ghost use Rattle.mu_report.specs.Printing.{PrintsAll, PrintsPart};
 ghost use Rattle.mu_report.specs.Summary.{one_of, count_of as count_of_kind, counts_line as counts_line_of, head_lines, summary_lines};
 
-use crate::line::{Line, print_line};
-use crate::report::{log_line, numbered_line, status_code};
+use crate::line::{Line, print_numbered};
+use crate::printer::Printer;
+use crate::report::{log_line, print_status};
 use kv_store::Reply;
-use mu_io::{Sink, WriteFault};
 use mu_outcome::Outcome;
 
 /// What a reply tells.
@@ -24,43 +23,24 @@ pub enum Kind {
     Kept,
 }
 
-/// Writes the summary. Takes no memory.
-pub fn print_summary<K: Sink>(sink: &mut K, outcome: &Outcome) -> Result<usize, WriteFault>
-    ensures all { IfOk result (PrintsAll (K.written sink.old) (K.written sink.new)
-        (K.faults sink.old) (K.faults sink.new) 0 (summary_lines outcome.now)) }
-    ensures part { IfErr result (λ fault. PrintsPart (K.written sink.old) (K.written sink.new)
-        (K.faults sink.old) (K.faults sink.new) 0 (summary_lines outcome.now) fault.taken) }
+/// Prints the summary. Takes no memory.
+pub fn print_summary<P: Printer>(out: &mut P, outcome: &Outcome)
+    ensures lines { P.Prints out.old (summary_lines outcome.now) out.new }
+    ensures fits { LINE_BYTES * length (summary_lines outcome.now) < 2 ^ 64 }
 {
-    let commands = outcome.job.commands.len() as u64;
-    let taken = print_line(sink, 0, numbered_line(b"bulk ", commands))?;
-    let taken = print_heads(sink, taken, outcome, outcome.job.config.replicas)?;
-    let taken = print_line(sink, taken, counts_line(outcome.replies.as_slice()))?;
-    print_line(
-        sink,
-        taken,
-        numbered_line(b"status ", u64::from(status_code(outcome))),
-    )
+    print_numbered(out, b"bulk ", outcome.job.commands.len() as u64);
+    print_heads(out, outcome, outcome.job.config.replicas);
+    out.print_line(counts_line(outcome.replies.as_slice()));
+    print_status(out, outcome);
 }
 
-/// Writes what is told of the logs of the first `replicas` replicas as a whole.
-pub fn print_heads<K: Sink>(
-    sink: &mut K,
-    taken: usize,
-    outcome: &Outcome,
-    replicas: u8,
-) -> Result<usize, WriteFault>
-    requires { taken + LINE_BYTES * length (head_lines outcome.now 0 replicas) < 2 ^ 64 }
-    ensures all { IfOk result (PrintsAll (K.written sink.old) (K.written sink.new)
-        (K.faults sink.old) (K.faults sink.new) taken (head_lines outcome.now 0 replicas)) }
-    ensures part { IfErr result (λ fault. PrintsPart (K.written sink.old) (K.written sink.new)
-        (K.faults sink.old) (K.faults sink.new) taken
-        (head_lines outcome.now 0 replicas) fault.taken) }
+/// Prints what is told of the logs of the first `replicas` replicas as a whole.
+pub fn print_heads<P: Printer>(out: &mut P, outcome: &Outcome, replicas: u8)
+    ensures { P.Prints out.old (head_lines outcome.now 0 replicas) out.new }
 {
-    let mut total = taken;
     for replica in 0..replicas {
-        total = print_line(sink, total, log_line(outcome, replica))?;
+        out.print_line(log_line(outcome, replica));
     }
-    Ok(total)
 }
 
 /// How many replies there are of each kind, as a line.

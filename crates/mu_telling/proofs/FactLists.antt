@@ -1,11 +1,11 @@
 -- Lists of facts, piece by piece, and how many facts there are.
-use Rattle.std.proofs.Common.{◌≡◌, ℕ, zero, suc, ◌+◌, ◌*◌, ◌<◌, ◌≤◌, ◌^◌, Bool, true, false, if◌then◌else◌, ◌==◌, List, [], ◌∷◌, ◌++◌, Option, None, Some, Result, Ok, Err, ap, append_assoc, arith, length, length-append, subst, sym, ◌∙◌}
+use Rattle.std.proofs.Common.{◌≡◌, ℕ, zero, suc, ◌+◌, ◌*◌, ◌<◌, ◌≤◌, ◌^◌, Bool, true, false, if◌then◌else◌, ◌==◌, List, [], ◌∷◌, ◌++◌, Option, None, Some, Result, Ok, Err, ap, append_assoc, arith, length, length-append, refl, subst, sym, ◌∙◌}
 use Rattle.std.specs.Prelude.{OnOk}
 use Rattle.std.specs.List.{slice_get}
 use Rattle.mu_model.specs.Answers.{answer_of}
 use Rattle.mu_model.specs.Contents.{IsConfig}
 use Rattle.mu_model.specs.Histories.{part}
-use Rattle.mu_model.specs.Knowledge.{known}
+use Rattle.mu_model.specs.Knowledge.{grown, known}
 use Rattle.mu_model.specs.Leaderships.{is_member}
 use Rattle.mu_model.specs.Regions.{asks}
 use Rattle.mu_model.specs.Scores.{is_failed}
@@ -13,20 +13,24 @@ use Rattle.mu_model.specs.declared.config.Config.{Config}
 use Rattle.mu_model.specs.declared.event.Event.{Event}
 use Rattle.mu_model.specs.declared.event.Verb.{Verb}
 use Rattle.mu_telling.specs.declared.facts.Fact.{Fact}
-use Rattle.mu_telling.specs.Shown.{asks_fact, entry_fact, facts_of, failed_fact, given_below, joined_below, known_fact, list_of, member_fact, positions, region_facts, replica_facts}
+use Rattle.mu_telling.specs.Shown.{asks_fact, entry_fact, facts_of, failed_fact, given_below, joined_below, known_fact, member_fact, positions, region_facts, replica_facts}
 
 -- what holds if a call went well, and follows from what does
 pub on_ok : {A E : Type 0} (P Q : Type 0) (r : Result A E) → (P → Q) → OnOk r P → OnOk r Q
 on_ok P Q (Ok a) follows p = follows p
 on_ok P Q (Err e) follows p = tt
 
+grown_append : {A : Type 0} (xs ys : List A) (x : Option A) → grown (xs ++ ys) x ≡ xs ++ grown ys x
+grown_append xs ys None = refl
+grown_append xs ys (Some x) = append_assoc xs ys (x ∷ [])
+
 -- one more that is given
-pub given_next : {A : Type 0} (had all now : List A) (r : ℕ) (f : ℕ → Option A) (x : Option A) → all ≡ had ++ given_below r f → now ≡ all ++ list_of x → x ≡ f r → now ≡ had ++ given_below (r + 1) f
+pub given_next : {A : Type 0} (had all now : List A) (r : ℕ) (f : ℕ → Option A) (x : Option A) → all ≡ had ++ given_below r f → now ≡ grown all x → x ≡ f r → now ≡ had ++ given_below (r + 1) f
 given_next had all now r f x before added is =
     let next : suc r ≡ r + 1 = omega arith in
     added
-    ∙ (ap (λ l. l ++ list_of x) before
-    ∙ (append_assoc had (given_below r f) (list_of x) ∙ (ap (λ y. had ++ (given_below r f ++ list_of y)) is ∙ ap (λ n. had ++ given_below n f) next)))
+    ∙ (ap (λ l. grown l x) before
+    ∙ (grown_append had (given_below r f) x ∙ (ap (λ y. had ++ grown (given_below r f) y) is ∙ ap (λ n. had ++ given_below n f) next)))
 
 -- one more list
 pub joined_next : {A : Type 0} (had all now : List A) (r : ℕ) (f : ℕ → List A) → all ≡ had ++ joined_below r f → now ≡ all ++ f r → now ≡ had ++ joined_below (r + 1) f
@@ -45,13 +49,13 @@ two_and_two old one two three four x y a b first second third fourth =
     whole = append_assoc (old ++ x ∷ []) (y ∷ []) (a ++ b) ∙ append_assoc old (x ∷ []) (y ∷ (a ++ b))
 
 -- no more facts than there are numbers
-length_list_of : {A : Type 0} (x : Option A) → length (list_of x) ≤ 1
-length_list_of None = omega arith
-length_list_of (Some x) = omega arith
+length_grown : {A : Type 0} (xs : List A) (x : Option A) → length (grown xs x) ≤ length xs + 1
+length_grown xs None = omega arith
+length_grown xs (Some x) = omega (arith, length-append xs (x ∷ []))
 
 pub length_given : {A : Type 0} (n : ℕ) (f : ℕ → Option A) → length (given_below n f) ≤ n
 length_given zero f = omega arith
-length_given (suc n) f = omega (arith, length_given n f, length_list_of (f n), length-append (given_below n f) (list_of (f n)))
+length_given (suc n) f = omega (arith, length_given n f, length_grown (given_below n f) (f n))
 
 length_joined : {A : Type 0} (n m : ℕ) (f : ℕ → List A) → ((r : ℕ) → length (f r) ≤ m) → length (joined_below n f) ≤ n * m
 length_joined zero m f few = omega arith

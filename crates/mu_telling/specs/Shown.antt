@@ -10,7 +10,7 @@ use Rattle.mu_model.specs.declared.event.Verb.{Verb}
 use Rattle.mu_model.specs.Answers.{answer_of}
 use Rattle.mu_model.specs.Contents.{row_count}
 use Rattle.mu_model.specs.Histories.{history, part}
-use Rattle.mu_model.specs.Knowledge.{applied, known}
+use Rattle.mu_model.specs.Knowledge.{applied, grown, known}
 use Rattle.mu_model.specs.Leaderships.{has_begun, is_member, is_over, proposal_number}
 use Rattle.mu_model.specs.Regions.{asks, beats, fence, region_fuo, region_head, region_min}
 use Rattle.mu_model.specs.Room.{reserve}
@@ -19,15 +19,10 @@ use Rattle.mu_telling.specs.declared.facts.Fact.{Fact}
 use Rattle.mu_telling.specs.declared.facts.Leads.{Leads}
 use Rattle.mu_telling.specs.declared.showing.Moment.{Moment}
 
--- what is given, as a list
-abbrev pub list_of : {A : Type 0} → Option A → List A
-list_of None = []
-list_of (Some x) = x ∷ []
-
 -- what f gives of the numbers below n, in order
 abbrev pub given_below : {A : Type 0} → ℕ → (ℕ → Option A) → List A
 given_below zero f = []
-given_below (suc n) f = given_below n f ++ list_of (f n)
+given_below (suc n) f = grown (given_below n f) (f n)
 
 -- the lists that f gives of the numbers below n, one after the other
 abbrev pub joined_below : {A : Type 0} → ℕ → (ℕ → List A) → List A

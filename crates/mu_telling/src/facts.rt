@@ -21,25 +21,88 @@ pub enum Leads {
 #[derive(Clone, Copy, Debug, PartialEq, Eq)]
 pub enum Fact {
     /// The fence of a region.
-    Fence(u8, Fence),
-    /// The minimum, the FUO, the head and the beats of a region.
-    Numbers(u8, u64, u64, u64, u64),
-    /// How often a replica asked for a region: the region, the replica and the count.
-    Asks(u8, u8, u64),
-    /// An entry that a look finds: the region, the position, the proposal number and the payload
-    /// number.
-    Entry(u8, u16, u32, u16),
-    /// How many steps a replica made, how many entries it knows and has applied, and whom its
-    /// scores name.
-    Reached(u8, u32, usize, usize, u8),
+    Fence {
+        /// The region.
+        region: u8,
+        /// Its fence.
+        fence: Fence,
+    },
+    /// The numbers of a region.
+    Numbers {
+        /// The region.
+        region: u8,
+        /// The least proposal number that it still takes.
+        minimum: u64,
+        /// Up to where its log is known to be filled (FUO).
+        fuo: u64,
+        /// Up to where its log was applied.
+        head: u64,
+        /// How often its replica has beaten.
+        beats: u64,
+    },
+    /// How often a replica asked for a region.
+    Asks {
+        /// The region.
+        region: u8,
+        /// The replica that asked.
+        by: u8,
+        /// How often.
+        count: u64,
+    },
+    /// An entry that a look finds.
+    Entry {
+        /// The region.
+        region: u8,
+        /// The position in its log.
+        position: u16,
+        /// The proposal number.
+        number: u32,
+        /// The payload number.
+        value: u16,
+    },
+    /// How far a replica has come.
+    Reached {
+        /// The replica.
+        replica: u8,
+        /// How many steps it made.
+        steps: u32,
+        /// How many entries it knows.
+        known: usize,
+        /// How many entries it has applied.
+        applied: usize,
+        /// Whom its scores name.
+        named: u8,
+    },
     /// The leadership of a replica.
-    Leadership(u8, Leads),
-    /// A member in the leadership of a replica: the replica and the region.
-    Member(u8, u8),
-    /// A replica and another that it holds to be failed.
-    Failed(u8, u8),
-    /// An entry that a replica knows: the replica, the position and the payload number.
-    Known(u8, u16, u16),
+    Leadership {
+        /// The replica.
+        replica: u8,
+        /// What its last leadership has come to.
+        leads: Leads,
+    },
+    /// A member in the leadership of a replica.
+    Member {
+        /// The replica.
+        replica: u8,
+        /// The region that is a member.
+        region: u8,
+    },
+    /// A replica that another holds to be failed.
+    Failed {
+        /// The replica that holds it to be failed.
+        replica: u8,
+        /// The one that is held to be failed.
+        other: u8,
+    },
+    /// An entry that a replica knows.
+    Known {
+        /// The replica.
+        replica: u8,
+        /// The position in the log.
+        position: u16,
+        /// The payload number.
+        value: u16,
+    },
 }
 
 /// How often a replica asked for a region, if it did.
@@ -49,7 +112,7 @@ pub(crate) fn asks_fact(region: u8, by: u8, count: u64) -> Option<Fact>
     if count == 0 {
         None
     } else {
-        Some(Fact::Asks(region, by, count))
+        Some(Fact::Asks { region, by, count })
     }
 }
 
@@ -58,7 +121,12 @@ pub(crate) fn entry_fact(region: u8, position: u16, answer: Answer) -> Option<Fa
     ensures { result ≡ entry_fact_of region position answer }
 {
     match answer {
-        Answer::Entry { number, value } => Some(Fact::Entry(region, position, number, value)),
+        Answer::Entry { number, value } => Some(Fact::Entry {
+            region,
+            position,
+            number,
+            value,
+        }),
         _ => None,
     }
 }
@@ -93,7 +161,7 @@ pub(crate) fn member_fact(replica: u8, region: u8, member: bool) -> Option<Fact>
     ensures { result ≡ member_fact_of replica region member }
 {
     if member {
-        Some(Fact::Member(replica, region))
+        Some(Fact::Member { replica, region })
     } else {
         None
     }
@@ -104,7 +172,7 @@ pub(crate) fn failed_fact(replica: u8, other: u8, failed: bool) -> Option<Fact>
     ensures { result ≡ failed_fact_of replica other failed }
 {
     if failed {
-        Some(Fact::Failed(replica, other))
+        Some(Fact::Failed { replica, other })
     } else {
         None
     }
@@ -116,6 +184,10 @@ pub(crate) fn known_fact(replica: u8, position: u16, value: Option<u16>) -> Opti
 {
     match value {
         None => None,
-        Some(value) => Some(Fact::Known(replica, position, value)),
+        Some(value) => Some(Fact::Known {
+            replica,
+            position,
+            value,
+        }),
     }
 }

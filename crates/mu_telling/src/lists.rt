@@ -1,10 +1,10 @@
 //! What each replica has come to, in order of id.
-ghost use Rattle.std.specs.Prelude.{IfOk, List, map, ◌≡◌};
+ghost use Rattle.std.specs.Prelude.{IfOk, List, OnOk, map, ◌≡◌};
 ghost use Rattle.mu_model.specs.declared.config.Config.{Config as Settings};
 ghost use Rattle.mu_model.specs.declared.event.Event.{Event as Made};
 ghost use Rattle.mu_model.specs.Contents.{IsConfig};
 ghost use Rattle.mu_model.specs.Histories.{part};
-ghost use Rattle.mu_model.specs.Knowledge.{applied, commits as commits_by};
+ghost use Rattle.mu_model.specs.Knowledge.{applied, commits as commits_by, grown};
 ghost use Rattle.mu_course.specs.Walks.{StandsForWalk};
 ghost use Rattle.mu_known.specs.Commits.{pair_of};
 ghost use Rattle.mu_telling.specs.Accounts.{AreEnds, each_below};
@@ -13,6 +13,23 @@ use mu_course::{EndSoFar, Walk};
 use mu_model::{Config, NoMemory, Script, Sequence};
 use mu_outcome::{AllCommits, Commit, Commits, Log, Logs};
 use std::alloc::Global;
+
+/// Adds a value, if there is one.
+///
+/// # Errors
+///
+/// Only for want of memory.
+pub(crate) fn push_given<T: Drop>(list: &mut Vec<T>, given: Option<T>) -> Result<(), NoMemory>
+    ensures { OnOk result (list.new.items ≡ grown list.old.items given) }
+{
+    match given {
+        None => Ok(()),
+        Some(value) => {
+            list.push(value)?;
+            Ok(())
+        }
+    }
+}
 
 /// A copy of the values.
 fn log_of(alloc: Global, values: &[u16]) -> Result<Log, NoMemory>

@@ -15,9 +15,10 @@ ghost use Rattle.mu_model.specs.Scores.{is_failed, leader};
 ghost use Rattle.mu_course.specs.Courses.{StandsForCourse};
 ghost use Rattle.mu_course.specs.Walks.{StandsForWalk};
 ghost use Rattle.mu_telling.specs.declared.facts.Fact.TheVariants as fact;
-ghost use Rattle.mu_telling.specs.Shown.{IsMoment, asks_fact as asks_fact_of, entry_fact as entry_fact_of, facts_of as facts_of_all, failed_fact as failed_fact_of, given_below, joined_below, known_fact as known_fact_of, leads_by as leads_by_these, list_of, member_fact as member_fact_of, number_shown, positions as positions_of, region_facts, replica_facts};
+ghost use Rattle.mu_telling.specs.Shown.{IsMoment, asks_fact as asks_fact_of, entry_fact as entry_fact_of, facts_of as facts_of_all, failed_fact as failed_fact_of, given_below, joined_below, known_fact as known_fact_of, leads_by as leads_by_these, member_fact as member_fact_of, number_shown, positions as positions_of, region_facts, replica_facts};
 
 use crate::facts::{Fact, asks_fact, entry_fact, failed_fact, known_fact, leads_by, member_fact};
+use crate::lists::push_given;
 use mu_course::{Course, Walk, walked};
 use mu_model::{Answer, Config, Event, NoMemory, Sequence, Verb, positions_in};
 use std::alloc::Global;
@@ -40,19 +41,6 @@ fn number_in(answer: Answer) -> u64
     match answer {
         Answer::Number(number) => number,
         _ => 0,
-    }
-}
-
-/// Adds a fact, if there is one.
-fn push_given(facts: &mut Vec<Fact>, fact: Option<Fact>) -> Result<(), NoMemory>
-    ensures { OnOk result (facts.new.items ≡ facts.old.items ++ list_of fact) }
-{
-    match fact {
-        None => Ok(()),
-        Some(fact) => {
-            facts.push(fact)?;
-            Ok(())
-        }
     }
 }
 
@@ -97,13 +85,13 @@ fn numbers_of(walk: &Walk, region: u8) -> Fact
         → result ≡ fact.Numbers region (region_min region past) (region_fuo region past)
         (region_head region past) (beats region past) }
 {
-    Fact::Numbers(
+    Fact::Numbers {
         region,
-        number_in(walk.answer(region, &Verb::Min(region))),
-        number_in(walk.answer(region, &Verb::Fuo(region))),
-        number_in(walk.answer(region, &Verb::Head(region))),
-        number_in(walk.answer(region, &Verb::ReadBeat(region))),
-    )
+        minimum: number_in(walk.answer(region, &Verb::Min(region))),
+        fuo: number_in(walk.answer(region, &Verb::Fuo(region))),
+        head: number_in(walk.answer(region, &Verb::Head(region))),
+        beats: number_in(walk.answer(region, &Verb::ReadBeat(region))),
+    }
 }
 
 /// The fence of a region, if there is such a region.
@@ -114,7 +102,7 @@ fn fence_of(walk: &Walk, region: u8) -> Option<Fact>
 {
     match walk.fence(region) {
         None => None,
-        Some(fence) => Some(Fact::Fence(region, fence)),
+        Some(fence) => Some(Fact::Fence { region, fence }),
     }
 }
 
@@ -195,13 +183,13 @@ fn reached_by(course: &Course, replica: u8) -> Fact
         → result ≡ fact.Reached replica (length mine) (length (known c replica mine))
         (length (applied c replica mine)) (leader c replica mine) }
 {
-    Fact::Reached(
+    Fact::Reached {
         replica,
-        course.steps(),
-        course.known().len(),
-        course.applied().len(),
-        course.named(),
-    )
+        steps: course.steps(),
+        known: course.known().len(),
+        applied: course.applied().len(),
+        named: course.named(),
+    }
 }
 
 /// The leadership of a replica.
@@ -210,10 +198,10 @@ fn leadership_of(course: &Course, replica: u8) -> Fact
         → result ≡ fact.Leadership replica (leads_by_these (has_begun replica mine)
         (is_over replica mine) (proposal_number replica mine)) }
 {
-    Fact::Leadership(
+    Fact::Leadership {
         replica,
-        leads_by(course.has_begun(), course.is_over(), course.number()),
-    )
+        leads: leads_by(course.has_begun(), course.is_over(), course.number()),
+    }
 }
 
 /// Adds what a replica has come to.

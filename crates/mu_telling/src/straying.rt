@@ -1,10 +1,10 @@
 //! Where a list of events doesn't obey the script of its job.
-ghost use Rattle.std.specs.Prelude.{IfOk, List, OnOk, length, ◌++◌, ◌+◌, ◌<◌, ◌∷◌, ◌≡◌, ◌≤◌, ◌^◌};
+ghost use Rattle.std.specs.Prelude.{IfOk, List, length, ◌+◌, ◌<◌, ◌∷◌, ◌≡◌, ◌≤◌, ◌^◌};
 ghost use Rattle.mu_model.specs.declared.event.Event.{Event as Made};
 ghost use Rattle.mu_model.specs.Histories.{history, part};
-ghost use Rattle.mu_telling.specs.Shown.{list_of};
 ghost use Rattle.mu_telling.specs.Straying.{stop_of as stop_of_these, stray as stray_after, strays as strays_of_these};
 
+use crate::lists::push_given;
 use mu_model::{Event, NoMemory, Sequence, Stop};
 use std::alloc::Global;
 
@@ -61,19 +61,6 @@ fn stray(stop: Option<Stop>, events: &[Event]) -> Option<Stop>
     }
 }
 
-/// Adds the stop, if there is one.
-fn push_stray(strays: &mut Vec<Stop>, stop: Option<Stop>) -> Result<(), NoMemory>
-    ensures { OnOk result (strays.new.items ≡ strays.old.items ++ list_of stop) }
-{
-    match stop {
-        None => Ok(()),
-        Some(stop) => {
-            strays.push(stop)?;
-            Ok(())
-        }
-    }
-}
-
 /// The stops of the first `n` replicas after which they go on.
 ///
 /// # Errors
@@ -91,7 +78,7 @@ pub fn strays_of(
 {
     let mut strays = Vec::new(alloc);
     for replica in 0..n {
-        push_stray(&mut strays, stray(stop_of(replica, stops), events))?;
+        push_given(&mut strays, stray(stop_of(replica, stops), events))?;
     }
     Ok(Sequence::from_vec(strays))
 }

@@ -2,4 +2,3 @@ mod Arrived
 mod BookedLogs
 mod Completed
 mod Sighted
-mod Telling

@@ -1,5 +1,5 @@
 -- What readers saw of a replay is short enough to be printed.
-use Rattle.std.proofs.Common.{◌≡◌, ℕ, ◌+◌, ◌<◌, ◌≤◌, ◌^◌, List, [], ◌∷◌, ap, ◌∙◌, sym, length, length-append, arith, All}
+use Rattle.std.proofs.Common.{◌≡◌, ℕ, ◌+◌, ◌<◌, ◌≤◌, ◌^◌, List, [], ◌∷◌, ap, length, length-append, arith}
 use Rattle.std.proofs.lemmas.List.{length-map}
 use Rattle.kv_store.specs.Commands.{Request}
 use Rattle.mu_outcome.specs.declared.outcome.Outcome.{Outcome}

@@ -1,9 +1,10 @@
 //! The top call: from the words of the command line and the bytes of the input to the bytes of the
 //! output.
 ghost use Rattle.std.specs.Prelude.{◌≡◌, ◌≤◌, length, IfSome};
-ghost use Rattle.std.specs.Process.{exit_status};
-ghost use Rattle.mu_report.specs.Said.{IsShort};
-ghost use Rattle.mu_top.specs.Answers.{Does, Tells, TellsOf, Wrote};
+ghost use Rattle.mu_report.specs.Said.{text, IsShort};
+ghost use Rattle.mu_report.specs.Statuses.{status_for as status_for_said};
+ghost use Rattle.mu_shell.specs.Written.{Wrote};
+ghost use Rattle.mu_top.specs.Answers.{Does, Tells, TellsOf};
 ghost use Rattle.mu_top.specs.Words.{asked_of as asked_of_words, limit_of, HasReaders, IsInReach};
 
 use crate::asking::{Asked, Task, asked_of};
@@ -12,39 +13,17 @@ use crate::living::told_of_live;
 use crate::replaying::told_of_replay;
 use crate::running::told_of_run;
 use crate::serving::told_of_desk;
-use crate::statuses::status_for;
 use crate::summing::told_of_bulk;
 use crate::tracing::told_of_trace;
 use mu_cluster::Gate;
-use mu_io::{ReadEnd, Sink, Source, WriteFault, read_all};
+use mu_io::{Sink, Source, WriteFault, read_all};
 use mu_judging::{explain_trace, judge, show_trace, tell_trace};
 use mu_outcome::Status;
-use mu_report::{Said, print_counted};
+use mu_report::{Said, print_counted, status_for};
+use mu_shell::Answered;
 use std::alloc::Global;
-use std::process::ExitCode;
 use std::sync::Wait;
 use std::thread::Threads;
-
-/// What the top call answers.
-#[derive(Drop)]
-pub struct Answered {
-    /// The status that the program ends with: 0 done or legal, 1 usage, 2 refused, 3 unfinished,
-    /// 4 read fault, 5 write fault, 6 want of memory, 7 illegal, 8 too long.
-    pub status: u8,
-    /// What was to be said.
-    pub said: Said,
-    /// How many bytes of its text were written: all of them unless the status is 5.
-    pub taken: usize,
-}
-
-impl Answered {
-    /// The exit code of the program. What was to be said is dropped.
-    pub fn into_exit_code(self) -> ExitCode
-        ensures { exit_status result ≡ self.status }
-    {
-        ExitCode::from(self.status)
-    }
-}
 
 /// Does what the words ask for: reads all of the source if they need input, runs the job or judges
 /// the trace, and writes what is said. Memory is wanted only before the first step of a replica or
@@ -61,23 +40,23 @@ pub fn mu<R: Threads + Wait + Sync, S: Source, K: Sink, G: Gate + Sync>(
     source: &mut S,
     sink: &mut K,
     gate: &G,
-) -> Answered
+) -> Answered<Said>
     ensures said { Tells (asked_of_words words.now) (S.left source.old) (S.left source.new)
         (S.faults source.old) (S.faults source.new) result.said }
-    ensures wrote { Wrote (K.written sink.old) (K.written sink.new) (K.faults sink.old)
-        (K.faults sink.new)
-        result.said result.status result.taken }
+    ensures wrote { Wrote (K.written sink.old) (K.written sink.new)
+        (K.faults sink.old) (K.faults sink.new)
+        (text result.said) (status_for_said result.said) result.status result.taken }
 {
     answer(sink, told(rt, alloc, asked_of(words), source, gate))
 }
 
 /// Writes what is said, and answers how that went.
-pub(crate) fn answer<K: Sink>(sink: &mut K, said: Said) -> Answered
+pub(crate) fn answer<K: Sink>(sink: &mut K, said: Said) -> Answered<Said>
     requires { IsShort said }
     ensures said { result.said ≡ said }
-    ensures wrote { Wrote (K.written sink.old) (K.written sink.new) (K.faults sink.old)
-        (K.faults sink.new)
-        result.said result.status result.taken }
+    ensures wrote { Wrote (K.written sink.old) (K.written sink.new)
+        (K.faults sink.old) (K.faults sink.new)
+        (text result.said) (status_for_said result.said) result.status result.taken }
 {
     match print_counted(sink, &said) {
         Ok(taken) => Answered {
@@ -128,9 +107,7 @@ fn told_of_input<R: Threads + Wait + Sync, S: Source, G: Gate + Sync>(
 {
     let bytes = match read_all(alloc, source, task.limit()) {
         Ok(bytes) => bytes,
-        Err(ReadEnd::Fault) => return Said::ReadFault,
-        Err(ReadEnd::TooLong) => return Said::TooLong,
-        Err(ReadEnd::NoMemory) => return Said::NoMemory,
+        Err(end) => return Said::from(end),
     };
     told_of_bytes(rt, alloc, task, bytes.as_slice(), gate)
 }

@@ -328,11 +328,19 @@ fn follow_on(outcome: &Outcome) -> bool {
         && log(outcome, 1).starts_with(log(outcome, 0))
 }
 
-/// Whether all six commands are replicated after replica 0 stopped, and its own replies are those
-/// of its log, which begin these.
+/// Whether replicas 1 and 2 of three finished.
+fn others_finish(outcome: &Outcome) -> bool {
+    matches!(
+        outcome.ends.as_slice(),
+        [_, End::Finished { .. }, End::Finished { .. }]
+    )
+}
+
+/// Whether all six commands are replicated after replica 0 stopped, the others finish, and its own
+/// replies are those of its log, which begin these.
 fn leader_stopped(alloc: Global, steps: u32, whole: &[Reply]) -> Result<bool, Fail> {
     let outcome = left(alloc, TWO_CLIENTS, &[Stop { replica: 0, steps }], &[])?;
-    Ok(follow_on(&outcome) && replied(&outcome, 0, whole))
+    Ok(follow_on(&outcome) && others_finish(&outcome) && replied(&outcome, 0, whole))
 }
 
 #[test]

@@ -1,58 +1,13 @@
-use Rattle.std.proofs.Common.{◌∷◌, [], refl, ◌∙◌, arith}
-use Rattle.std.proofs.lemmas.Result.{err_from_is_err_and}
-use Rattle.mu_outcome.specs.Outcomes.{status_of}
-use Rattle.mu_report.proofs.LiveLines.{lived_fits, lived_lines-parts}
-use Rattle.mu_report.proofs.Prints.{print_fault, print_fits, print_last, print_last_fault, print_last_fits, print_start, print_step}
+use Rattle.std.proofs.Common.{ap}
+use Rattle.mu_report.specs.Lives.{readers_lines}
+use Rattle.mu_report.proofs.LiveLines.{lived_fits}
+use Rattle.mu_report.proofs.Prints.{same_lines}
 use Rattle.mu_report.proofs.lives.print_lived.Goals as goal
 
-pub returns-in_err-taken-clause-part : goal.returns-in_err-taken-clause-part
-returns-in_err-taken-clause-part g c =
-    let failed = err_from_is_err_and c.from_residual.result c.from_residual.ensures.1 in
-    rw (failed.1, failed.2)
-    (print_fault _ _ _ _ _ _ _ _ _ _ _ _ _ (print_start _ _ _ _)
-    (lived_lines-parts c.args.outcome.now c.args.lived.now.sights _ (status_of c.args.outcome.now) _ refl refl refl)
-    c.in_err-taken.ensures.part)
+pub returns-clause-lines : goal.returns-clause-lines
+returns-clause-lines g c =
+    let then = g.met.P.Printer.append in
+    then _ _ _ _ _ c.print_body.ensures.lines (then _ _ _ _ _ (same_lines g.P.Printer.Prints (ap (readers_lines 0) c.as_slice.ensures) c.print_readers.ensures) c.print_status.ensures)
 
-pub print_readers-requires : goal.print_readers-requires
-print_readers-requires g c =
-    print_fits _ _ _ _ _ _ _ _ _ _
-    (print_step _ _ _ _ _ _ _ _ _ _ _ _ _ (print_start _ _ _ _)
-    (lived_lines-parts c.args.outcome.now c.args.lived.now.sights _ (status_of c.args.outcome.now) _ c.as_slice-lists.ensures refl refl) c.in_ok-taken.ensures.all)
-    refl (lived_fits c.args.outcome.now c.args.lived.now.sights c.in_ok-taken.ensures.few c.requires.sights)
-
-pub returns-in_err-taken-2-clause-part : goal.returns-in_err-taken-2-clause-part
-returns-in_err-taken-2-clause-part g c =
-    let failed = err_from_is_err_and c.from_residual-in_err-taken-2.result c.from_residual-in_err-taken-2.ensures.1 in
-    rw (failed.1, failed.2)
-    (print_fault _ _ _ _ _ _ _ _ _ _ _ _ _
-    (print_step _ _ _ _ _ _ _ _ _ _ _ _ _ (print_start _ _ _ _)
-    (lived_lines-parts c.args.outcome.now c.args.lived.now.sights _ (status_of c.args.outcome.now) _ c.as_slice-lists.ensures refl refl) c.in_ok-taken.ensures.all)
-    refl c.in_err-taken-2.ensures.part)
-
-pub print_line-requires-clause-fits : goal.print_line-requires-clause-fits
-print_line-requires-clause-fits g c =
-    let fits = print_last_fits _ _ _ _ _ _ _ (c.numbered_line.result ∷ [])
-    (print_step _ _ _ _ _ _ _ _ _ _ _ _ _
-    (print_step _ _ _ _ _ _ _ _ _ _ _ _ _ (print_start _ _ _ _)
-    (lived_lines-parts c.args.outcome.now c.args.lived.now.sights _ _ _ c.as_slice-lists.ensures (c.from-status.ensures ∙ c.status_code.ensures) c.numbered_line.ensures.bytes) c.in_ok-taken.ensures.all)
-    refl c.in_ok-taken-2.ensures.all)
-    (lived_fits c.args.outcome.now c.args.lived.now.sights c.in_ok-taken.ensures.few c.requires.sights) in
-    omega arith
-
-pub returns-clause-all : goal.returns-clause-all
-returns-clause-all g c =
-    print_last _ _ _ _ _ _ _ _ _ _ _
-    (print_step _ _ _ _ _ _ _ _ _ _ _ _ _
-    (print_step _ _ _ _ _ _ _ _ _ _ _ _ _ (print_start _ _ _ _)
-    (lived_lines-parts c.args.outcome.now c.args.lived.now.sights _ _ _ c.as_slice-lists.ensures (c.from-status.ensures ∙ c.status_code.ensures) c.numbered_line.ensures.bytes) c.in_ok-taken.ensures.all)
-    refl c.in_ok-taken-2.ensures.all)
-    c.print_line.ensures.all
-
-pub returns-clause-part : goal.returns-clause-part
-returns-clause-part g c =
-    print_last_fault _ _ _ _ _ _ _ _ _ _ _
-    (print_step _ _ _ _ _ _ _ _ _ _ _ _ _
-    (print_step _ _ _ _ _ _ _ _ _ _ _ _ _ (print_start _ _ _ _)
-    (lived_lines-parts c.args.outcome.now c.args.lived.now.sights _ _ _ c.as_slice-lists.ensures (c.from-status.ensures ∙ c.status_code.ensures) c.numbered_line.ensures.bytes) c.in_ok-taken.ensures.all)
-    refl c.in_ok-taken-2.ensures.all)
-    c.print_line.ensures.part
+pub returns-clause-fits : goal.returns-clause-fits
+returns-clause-fits g c = lived_fits c.args.outcome.now c.args.lived.now.sights c.print_body.ensures.few c.requires.sights

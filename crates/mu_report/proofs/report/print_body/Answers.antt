@@ -1,66 +1,13 @@
-use Rattle.std.proofs.Common.{refl, arith}
-use Rattle.std.proofs.lemmas.Result.{err_from_is_err_and}
-use Rattle.mu_report.proofs.Lists.{body_lines-parts}
-use Rattle.mu_report.proofs.Prints.{print_fault, print_fits, print_last, print_last_fault, print_last_fits, print_start, print_step}
-use Rattle.mu_report.proofs.Sizes.{body_fits, few_lines}
+use Rattle.std.proofs.Common.{arith}
+use Rattle.mu_report.proofs.Prints.{same_number}
+use Rattle.mu_report.proofs.Sizes.{few_lines}
+use Rattle.std.specs.Prelude.{codes}
 use Rattle.mu_report.proofs.report.print_body.Goals as goal
 
-pub returns-in_err-taken-clause-part : goal.returns-in_err-taken-clause-part
-returns-in_err-taken-clause-part g c =
-    let failed = err_from_is_err_and c.from_residual.result c.from_residual.ensures.1 in
-    rw (failed.1, failed.2)
-    (print_fault _ _ _ _ _ _ _ _ _ _ _ _ _ (print_start _ _ _ _)
-    (body_lines-parts c.args.outcome.now _ _ c.from-version.ensures c.numbered_line.ensures.bytes)
-    c.in_err-taken.ensures.part)
-
-pub print_logs-requires : goal.print_logs-requires
-print_logs-requires g c =
-    print_fits _ _ _ _ _ _ _ _ _ _
-    (print_step _ _ _ _ _ _ _ _ _ _ _ _ _ (print_start _ _ _ _)
-    (body_lines-parts c.args.outcome.now _ _ c.from-version.ensures c.numbered_line.ensures.bytes) c.in_ok-taken.ensures.all)
-    refl (body_fits c.args.outcome.now (few_lines c.args.outcome.now c.requires (omega arith)))
-
-pub returns-in_err-taken-2-clause-part : goal.returns-in_err-taken-2-clause-part
-returns-in_err-taken-2-clause-part g c =
-    let failed = err_from_is_err_and c.from_residual-in_err-taken-2.result c.from_residual-in_err-taken-2.ensures.1 in
-    rw (failed.1, failed.2)
-    (print_fault _ _ _ _ _ _ _ _ _ _ _ _ _
-    (print_step _ _ _ _ _ _ _ _ _ _ _ _ _ (print_start _ _ _ _)
-    (body_lines-parts c.args.outcome.now _ _ c.from-version.ensures c.numbered_line.ensures.bytes) c.in_ok-taken.ensures.all)
-    refl c.in_err-taken-2.ensures.part)
-
-pub print_replies-requires-clause-fits : goal.print_replies-requires-clause-fits
-print_replies-requires-clause-fits g c =
-    print_last_fits _ _ _ _ _ _ _ _
-    (print_step _ _ _ _ _ _ _ _ _ _ _ _ _
-    (print_step _ _ _ _ _ _ _ _ _ _ _ _ _ (print_start _ _ _ _)
-    (body_lines-parts c.args.outcome.now _ _ c.from-version.ensures c.numbered_line.ensures.bytes) c.in_ok-taken.ensures.all)
-    refl c.in_ok-taken-2.ensures.all)
-    (body_fits c.args.outcome.now (few_lines c.args.outcome.now c.requires (omega arith)))
-
-pub returns-clause-all : goal.returns-clause-all
-returns-clause-all g c =
-    print_last _ _ _ _ _ _ _ _ _ _ _
-    (print_step _ _ _ _ _ _ _ _ _ _ _ _ _
-    (print_step _ _ _ _ _ _ _ _ _ _ _ _ _ (print_start _ _ _ _)
-    (body_lines-parts c.args.outcome.now _ _ c.from-version.ensures c.numbered_line.ensures.bytes) c.in_ok-taken.ensures.all)
-    refl c.in_ok-taken-2.ensures.all)
-    c.print_replies.ensures.all
-
-pub returns-clause-part : goal.returns-clause-part
-returns-clause-part g c =
-    print_last_fault _ _ _ _ _ _ _ _ _ _ _
-    (print_step _ _ _ _ _ _ _ _ _ _ _ _ _
-    (print_step _ _ _ _ _ _ _ _ _ _ _ _ _ (print_start _ _ _ _)
-    (body_lines-parts c.args.outcome.now _ _ c.from-version.ensures c.numbered_line.ensures.bytes) c.in_ok-taken.ensures.all)
-    refl c.in_ok-taken-2.ensures.all)
-    c.print_replies.ensures.part
+pub returns-clause-lines : goal.returns-clause-lines
+returns-clause-lines g c =
+    let then = g.met.P.Printer.append in
+    then _ _ _ _ _ (same_number g.P.Printer.Prints (codes "report ") c.from-version.ensures c.print_numbered.ensures) (then _ _ _ _ _ c.print_logs.ensures c.print_replies.ensures)
 
 pub returns-clause-few : goal.returns-clause-few
 returns-clause-few g c = few_lines c.args.outcome.now c.requires (omega arith)
-
-pub returns-in_err-taken-clause-few : goal.returns-in_err-taken-clause-few
-returns-in_err-taken-clause-few g c = few_lines c.args.outcome.now c.requires (omega arith)
-
-pub returns-in_err-taken-2-clause-few : goal.returns-in_err-taken-2-clause-few
-returns-in_err-taken-2-clause-few g c = few_lines c.args.outcome.now c.requires (omega arith)

@@ -1,23 +1,10 @@
-use Rattle.std.proofs.Common.{refl}
-use Rattle.std.proofs.lemmas.Result.{err_from_is_err_and}
-use Rattle.mu_report.proofs.Lists.{log_lines-parts}
-use Rattle.mu_report.proofs.Prints.{print_fault, print_last, print_last_fault, print_start, print_step}
+use Rattle.std.proofs.Common.{ap}
+use Rattle.mu_report.specs.Report.{entry_lines}
+use Rattle.mu_report.proofs.Prints.{same_line, same_lines}
 use Rattle.mu_report.proofs.report.print_log.Goals as goal
 
-pub returns-in_err-taken-clause-part : goal.returns-in_err-taken-clause-part
-returns-in_err-taken-clause-part g c =
-    let failed = err_from_is_err_and c.from_residual.result c.from_residual.ensures.1 in
-    rw (failed.1, failed.2)
-    (print_fault _ _ _ _ _ _ _ _ _ _ _ _ _ (print_start _ _ _ _) (log_lines-parts c.args.outcome.now c.args.replica _ _ c.log_line.ensures.bytes refl) c.in_err-taken.ensures.part)
-
-pub returns-clause-all : goal.returns-clause-all
-returns-clause-all g c =
-    print_last _ _ _ _ _ _ _ _ _ _ _
-    (print_step _ _ _ _ _ _ _ _ _ _ _ _ _ (print_start _ _ _ _) (log_lines-parts c.args.outcome.now c.args.replica _ _ c.log_line.ensures.bytes c.log_at.ensures) c.in_ok-taken.ensures.all)
-    c.print_entries.ensures.all
-
-pub returns-clause-part : goal.returns-clause-part
-returns-clause-part g c =
-    print_last_fault _ _ _ _ _ _ _ _ _ _ _
-    (print_step _ _ _ _ _ _ _ _ _ _ _ _ _ (print_start _ _ _ _) (log_lines-parts c.args.outcome.now c.args.replica _ _ c.log_line.ensures.bytes c.log_at.ensures) c.in_ok-taken.ensures.all)
-    c.print_entries.ensures.part
+pub returns : goal.returns
+returns g c =
+    let prints = g.P.Printer.Prints in
+    g.met.P.Printer.append _ _ _ _ _ (same_line prints c.log_line.ensures.bytes c.print_line.ensures)
+    (same_lines prints (ap (entry_lines c.args.outcome.now.job 0) c.log_at.ensures) c.print_entries.ensures)

@@ -1,36 +1,8 @@
-use Rattle.std.proofs.Common.{◌∷◌, [], refl, ◌∙◌, arith}
-use Rattle.std.proofs.lemmas.Result.{err_from_is_err_and}
-use Rattle.mu_outcome.specs.Outcomes.{status_of}
-use Rattle.mu_report.proofs.Lists.{report_lines-parts}
-use Rattle.mu_report.proofs.Prints.{print_fault, print_last, print_last_fault, print_last_fits, print_start, print_step}
 use Rattle.mu_report.proofs.Sizes.{report_fits}
 use Rattle.mu_report.proofs.report.print_report.Goals as goal
 
-pub returns-in_err-taken-clause-part : goal.returns-in_err-taken-clause-part
-returns-in_err-taken-clause-part g c =
-    let failed = err_from_is_err_and c.from_residual.result c.from_residual.ensures.1 in
-    rw (failed.1, failed.2)
-    (print_fault _ _ _ _ _ _ _ _ _ _ _ _ _ (print_start _ _ _ _)
-    (report_lines-parts c.args.outcome.now (status_of c.args.outcome.now) _ refl refl) c.in_err-taken.ensures.part)
+pub returns-clause-lines : goal.returns-clause-lines
+returns-clause-lines g c = g.met.P.Printer.append _ _ _ _ _ c.print_body.ensures.lines c.print_status.ensures
 
-pub print_line-requires-clause-fits : goal.print_line-requires-clause-fits
-print_line-requires-clause-fits g c =
-    let fits = print_last_fits _ _ _ _ _ _ _ (c.numbered_line.result ∷ [])
-    (print_step _ _ _ _ _ _ _ _ _ _ _ _ _ (print_start _ _ _ _)
-    (report_lines-parts c.args.outcome.now _ _ (c.from-status.ensures ∙ c.status_code.ensures) c.numbered_line.ensures.bytes) c.in_ok-taken.ensures.all)
-    (report_fits c.args.outcome.now c.in_ok-taken.ensures.few) in
-    omega arith
-
-pub returns-clause-all : goal.returns-clause-all
-returns-clause-all g c =
-    print_last _ _ _ _ _ _ _ _ _ _ _
-    (print_step _ _ _ _ _ _ _ _ _ _ _ _ _ (print_start _ _ _ _)
-    (report_lines-parts c.args.outcome.now _ _ (c.from-status.ensures ∙ c.status_code.ensures) c.numbered_line.ensures.bytes) c.in_ok-taken.ensures.all)
-    c.print_line.ensures.all
-
-pub returns-clause-part : goal.returns-clause-part
-returns-clause-part g c =
-    print_last_fault _ _ _ _ _ _ _ _ _ _ _
-    (print_step _ _ _ _ _ _ _ _ _ _ _ _ _ (print_start _ _ _ _)
-    (report_lines-parts c.args.outcome.now _ _ (c.from-status.ensures ∙ c.status_code.ensures) c.numbered_line.ensures.bytes) c.in_ok-taken.ensures.all)
-    c.print_line.ensures.part
+pub returns-clause-fits : goal.returns-clause-fits
+returns-clause-fits g c = report_fits c.args.outcome.now c.print_body.ensures.few

@@ -11,8 +11,8 @@ pub returns : goal.returns
 returns c = λ mine s is long held.
     let r = c.args.replica in
     let old = c.args.facts.now.items in
-    let one = c.push_given.new.facts.items in
-    let two = c.push_given-2.new.facts.items in
+    let one = c.push_given.new.list.items in
+    let two = c.push_given-2.new.list.items in
     let three = c.push_members.new.facts.items in
     let four = c.push_failed.new.facts.items in
     let failed = given_below s.replicas (λ q. failed_fact r q (is_failed r q mine)) in

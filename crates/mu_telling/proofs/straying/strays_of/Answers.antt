@@ -9,7 +9,7 @@ loop-replica-preserved c =
     let past = history c.args.events.now in
     let r = c.loop-replica.replica in
     given_next [] c.loop-replica.strays.items _ r (λ r. stray past (stop_of r c.args.stops.now)) c.stray.result
-    c.loop-replica.invariant c.in_ok-push_stray.ensures (c.stray.ensures ∙ ap (stray past) c.stop_of.ensures)
+    c.loop-replica.invariant c.in_ok-push_given.ensures (c.stray.ensures ∙ ap (stray past) c.stop_of.ensures)
 
 pub returns-clause-are : goal.returns-clause-are
 returns-clause-are c =

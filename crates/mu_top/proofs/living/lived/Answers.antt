@@ -1,4 +1,3 @@
-use Rattle.std.proofs.Common.{arith}
 use Rattle.mu_cluster.proofs.FewCommands.{few_replayed}
 use Rattle.mu_top.proofs.Completed.{replay_of}
 use Rattle.mu_top.proofs.Sighted.{short_sights}
