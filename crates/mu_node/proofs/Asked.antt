@@ -1,44 +1,49 @@
--- A leader asks every region before it reads a fence, and so before it reads a minimum.
-use Rattle.std.proofs.Common.{◌≡◌, ◌∙◌, ℕ, ◌+◌, ◌-◌, ◌*◌, ◌<◌, ◌≤◌, ◌==◌, ◌&&◌, ◌||◌, inl, inr, Bool, true, false, cond, None, Some, List, [], ◌∷◌, ◌++◌, ◌⊎◌, ap, arith, eqb-true, length, refl, subst, sym}
+-- A replica that names itself asks each region in turn, reads a minimum only after that, and then puts its number soon.
+use Rattle.std.proofs.Common.{◌≡◌, ◌∙◌, ◌≢◌, ℕ, suc, zero, ◌+◌, ◌-◌, ◌*◌, ◌<◌, ◌≤◌, ◌==◌, ◌&&◌, ◌||◌, ◌⊎◌, inl, inr, Bool, true, false, cond, None, Some, List, [], ◌∷◌, ◌++◌, ap, arith, length, refl, subst, sym}
 use Rattle.std.specs.declared.option.Option.{Option}
 use Rattle.std.specs.Prelude.{if◌then◌else◌, is_some, nat_lt, not}
-use Rattle.std.proofs.lemmas.Bool.{cases_eq, cases_lt, eq-eqb, true≢false}
+use Rattle.std.proofs.Math.Nat.{mul-le-mul_right}
+use Rattle.std.proofs.lemmas.Bool.{and_from, and_parts, cases_eq, cases_lt, eq-eqb, ltb-false, ltb-true, true≢false}
 use Rattle.mu_agree.specs.Possible.{CameBy}
 use Rattle.mu_agree.proofs.Landings.{has_more}
 use Rattle.mu_agree.proofs.Possible.{parts_shorten_law}
 use Rattle.mu_model.specs.declared.config.Config.{Config}
 use Rattle.mu_model.specs.declared.event.Answer.{Answer}
 use Rattle.mu_model.specs.declared.event.Event.{Event}
+use Rattle.mu_model.specs.declared.event.Target.{Target}
 use Rattle.mu_model.specs.declared.event.Verb.{Verb}
-use Rattle.mu_model.specs.Allowed.{Needs, last_ask}
-use Rattle.mu_model.specs.Diligence.{has_to_ask}
-use Rattle.mu_model.specs.Histories.{has, how_many, newer_or, newest}
+use Rattle.mu_model.specs.Allowed.{Needs}
+use Rattle.mu_model.specs.Diligence.{is_confirmed}
+use Rattle.mu_model.specs.Histories.{has, or_zero}
 use Rattle.mu_model.specs.Knowledge.{known}
-use Rattle.mu_model.specs.Leaderships.{begins_leadership, fence_seen, grant_for, has_begun, is_first_ask, is_over, leadership}
+use Rattle.mu_model.specs.Leaderships.{begins_leadership, has_begun, is_first_ask, is_over, leadership, noted_grant, number_put, proposal_number}
 use Rattle.mu_model.specs.Parts.{IsPossible}
 use Rattle.mu_model.specs.Scores.{leader}
-use Rattle.mu_model.specs.Steps.{has_min, is_any_fencing, is_any_fencing_verb, is_asking, is_asking_verb, is_fencing, is_fencing_verb, is_min, is_min_verb, is_named, knows_all}
-use Rattle.mu_model.specs.Stretches.{is_odd}
-use Rattle.mu_model.proofs.Basics.{none_some, same_some}
+use Rattle.mu_model.specs.Steps.{has_min, is_asking, is_asking_verb, is_min, is_min_verb, is_named, named_throughout, replicates}
+use Rattle.mu_model.specs.Stretches.{is_odd, replications}
+use Rattle.mu_model.proofs.Basics.{same_some}
 use Rattle.mu_grant.specs.Pace.{host_place}
 use Rattle.mu_grant.specs.Stands.{is_of_place}
+use Rattle.mu_known.specs.Offers.{IsFirst}
+use Rattle.mu_known.proofs.Firsts.{first_in_is}
 use Rattle.mu_lead.specs.declared.place.Place.{Place}
 use Rattle.mu_lead.specs.Beside.{leads_at}
-use Rattle.mu_lead.specs.Elections.{since_ask}
 use Rattle.mu_lead.specs.Journal.{number_due, place_after, tables_at}
+use Rattle.mu_lead.specs.Listing.{after_round, is_lost, next_place, noted_from, or_else}
 use Rattle.mu_lead.specs.Standing.{verb_at}
 use Rattle.mu_pace.specs.Counters.{AtEachMoment, AtEachStep}
-use Rattle.mu_pace.proofs.Counting.{last_moment, moments_before, steps_before}
+use Rattle.mu_pace.proofs.Counting.{last_moment}
 use Rattle.mu_node.proofs.CatchingUp.{catches_reading, made_led, reading_fails}
 use Rattle.mu_node.specs.Cycle.{other_at, place_now}
 use Rattle.mu_node.specs.Due.{or_ahead, verb_or_beat}
 use Rattle.mu_node.specs.Journal.{WasMade}
-use Rattle.mu_node.specs.Paced.{PacesAt}
+use Rattle.mu_node.proofs.Failing.{Fails}
 use Rattle.mu_node.proofs.Rounding.{FailsBackground, background_fails}
 
 -- such a verb is one of the leader, in a turn of its own
 record OfLead (c : Config) (r : ℕ) (mine : List Event) (e : Event) (held : WasMade c r mine e) : Type 0 where
   odd : is_odd (length mine) ≡ true
+  named : is_named c r mine ≡ true
   verb : verb_at c (number_due r mine) (known c r mine) (tables_at c r mine).up (tables_at c r mine).written (place_after c r mine) ≡ Some e.verb
 
 of_lead : (test : Verb → Bool) (c : Config) (r : ℕ) (mine : List Event) (e : Event) (held : WasMade c r mine e) → FailsBackground test → ((j k x : ℕ) → test (Verb.WriteRow j k x) ≡ false) → test Verb.Beat ≡ false → ((q : ℕ) → test (Verb.ReadBeat q) ≡ false) → ((w : ℕ) → test (Verb.ReadAsk w) ≡ false) → test e.verb ≡ true → OfLead c r mine e held
@@ -60,9 +65,13 @@ of_lead test c r mine e held fails write beat beats asks is = go (is_odd (length
     read false true = beats (other_at r (place_now c mine))
     read false false = asks (place_now c mine - c.replicas)
 
+    is_mine : (t : Bool) → e.verb ≡ verb_or_beat (if t then placed else None) → t ≡ true
+    is_mine true made = refl
+    is_mine false made = absurd (true≢false (sym is ∙ (ap test made ∙ beat)))
+
     go : (t : Bool) → is_odd (length mine) ≡ t → OfLead c r mine e held
     go true odd = elim (made_led held.zeal c r mine e.verb (held.made.replication odd)) [
-      | inl listed ↦ record { odd = odd; verb = named (leader c r mine == r) listed }
+      | inl listed ↦ record { odd = odd; named = is_mine (leader c r mine == r) listed; verb = named (leader c r mine == r) listed }
       | inr caught ↦ absurd (true≢false (sym is ∙ reading_fails test e.verb (catches_reading c r mine e.verb caught.due) fails.replays.look fails.replays.row))
     ]
     go false even =
@@ -71,52 +80,6 @@ of_lead test c r mine e held fails write beat beats asks is = go (is_odd (length
           | inl low ↦ absurd (true≢false (sym is ∙ (ap test (made.2 ∙ ap (or_ahead held.zeal c r mine) (made.1.read low)) ∙ read (place_now c mine == 0) (nat_lt (place_now c mine) c.replicas))))
           | inr high ↦ absurd (true≢false (sym is ∙ (ap test made.2 ∙ background_fails test fails write held.zeal c r mine (leads_at (place_after c r mine)) made.0 high made.1)))
         ]
-
-fences_fail : FailsBackground is_any_fencing_verb
-fences_fail = record {
-  replays = record { beat = refl; fuo = λ q. refl; look = λ q i. refl; row = λ v k. refl; raise = λ q u. refl; raise_head = λ h. refl; head = λ q. refl };
-  host = host;
-}
-  where
-    host : (d : ℕ) (verb : Verb) → is_of_place d verb ≡ true → is_any_fencing_verb verb ≡ false
-    host d (Verb.Fence q) is = absurd (true≢false (sym is))
-    host d verb is = refl
-
--- the first fence of a leadership without a minimum comes right after the regions were asked
-none_fenced : (q : ℕ) (events : List Event) → has is_any_fencing events ≡ false → how_many (is_fencing q) events ≡ 0
-none_fenced q [] none = refl
-none_fenced q (e ∷ events) none = go (is_any_fencing e) refl none (none_fenced q events)
-  where
-    other : (verb : Verb) → is_any_fencing_verb verb ≡ false → is_fencing_verb q verb ≡ false
-    other (Verb.Fence p) none = absurd (true≢false none)
-    other verb none = refl
-
-    go : (t : Bool) → is_any_fencing e ≡ t → cond t true (has is_any_fencing events) ≡ false → (has is_any_fencing events ≡ false → how_many (is_fencing q) events ≡ 0) → (if is_fencing q e then how_many (is_fencing q) events + 1 else how_many (is_fencing q) events) ≡ 0
-    go true is none ih = absurd (true≢false none)
-    go false is none ih = ap (λ t. if t then how_many (is_fencing q) events + 1 else how_many (is_fencing q) events) (other e.verb is) ∙ ih none
-
-abbrev is_fence_due : Option Verb → Bool
-is_fence_due None = false
-is_fence_due (Some verb) = is_any_fencing_verb verb
-
-at_place : (c k : Config) (r b : ℕ) (mine : List Event) (values up written all : List ℕ) (place : Place) → is_fence_due (verb_at k b values up written place) ≡ true → PacesAt c r mine all place → 0 < c.replicas → has is_any_fencing (leadership r mine) ≡ false → has_min r mine ≡ false → is_over r mine ≡ false
-    → since_ask c r (c.replicas - 1) mine ≡ 0
-at_place c k r b mine values up written all (Place.Confirm round p) due paces some none no_min on =
-    let zero_fences = none_fenced 0 (leadership r mine) none in
-    let each = paces.causes.each 0 some in
-    let first : p ≡ 0 = elim (cases_lt 0 p) [
-      | inl more ↦ absurd (let below = paces.causes.below 0 more in omega (arith, below, zero_fences))
-      | inr low ↦ omega (arith, low)
-    ] in
-    let few = paces.elects.asks (c.replicas - 1) (omega (arith, some)) in
-    sums round c.replicas p (since_ask c r (c.replicas - 1) mine) (omega (arith, each, zero_fences)) first some few
-  where
-    sums : (k n p s : ℕ) → k ≡ 0 → p ≡ 0 → 0 < n → s + (n - 1) < (k + 1) * n + p → s ≡ 0
-    sums k n p s zero_k zero_p some few = let one : (k + 1) * n ≡ n = ap (λ x. (x + 1) * n) zero_k ∙ (let unit : (0 + 1) * n ≡ n = omega arith in unit) in omega (arith, one, zero_p, some, few)
-at_place c k r b mine values up written all (Place.FenceBehind p after) due paces some none no_min on = absurd (true≢false (sym paces.elects.read ∙ no_min))
-at_place c k r b mine values up written all (Place.LateFence p) due paces some none no_min on = absurd (true≢false (sym paces.elects.read ∙ no_min))
-at_place c k r b mine values up written all (Place.Evidence p) due paces some none no_min on = absurd (true≢false (sym paces.causes ∙ on))
-at_place c k r b mine values up written all place due paces some none no_min on = absurd (true≢false (sym due))
 
 -- an ask is none of the background
 abbrev is_any_ask : Verb → Bool
@@ -133,148 +96,387 @@ any_asks_fail = record {
     host d (Verb.Ask q) is = absurd (true≢false (sym is))
     host d verb is = refl
 
--- where it has to ask at each moment, and no step came since it asked k or didn't have to, k was asked last
-newest_ask : (c : Config) (r k : ℕ) (mine : List Event) → AtEachStep (WasMade c r) mine → AtEachMoment (λ now. has_to_ask c r now ≡ true) mine → since_ask c r k mine ≡ 0 → has_begun r mine ≡ true → newest (λ e. last_ask r e.by e.verb) mine ≡ Some k
-newest_ask c r k [] made waits since begun = absurd (true≢false (sym begun))
-newest_ask c r k (e ∷ mine) made waits since begun = go (is_odd (length mine)) refl (is_asking k e) refl since (λ x y. newest_ask c r k mine made.0 waits.0 x y)
+-- a minimum is read by the leader too
+mins_fail : FailsBackground is_min_verb
+mins_fail = record {
+  replays = record { beat = refl; fuo = λ q. refl; look = λ q i. refl; row = λ v k. refl; raise = λ q u. refl; raise_head = λ h. refl; head = λ q. refl };
+  host = host;
+}
   where
-    told : (by : ℕ) (verb : Verb) → by ≡ r → is_asking_verb k verb ≡ true → last_ask r by verb ≡ Some k
-    told by (Verb.Ask q) own is = ap (λ t. if t then Some q else None) (eq-eqb by r own) ∙ ap (λ x. Some x) (eqb-true q k is)
-    told by verb own is = absurd (true≢false (sym is))
+    host : (d : ℕ) (verb : Verb) → is_of_place d verb ≡ true → is_min_verb verb ≡ false
+    host d (Verb.Min q) is = absurd (true≢false (sym is))
+    host d verb is = refl
 
-    untold : (by : ℕ) (verb : Verb) → is_any_ask verb ≡ false → (last_ask r by verb ≡ None) × (is_first_ask r by verb ≡ false)
-    untold by (Verb.Ask q) none = absurd (true≢false none)
-    untold by verb none = (refl, refl)
+-- the verb of the place
+abbrev placed : Config → ℕ → List Event → Place → Option Verb
+placed c r mine place = verb_at c (number_due r mine) (known c r mine) (tables_at c r mine).up (tables_at c r mine).written place
 
-    last : (past : List Event) → AtEachMoment (λ now. has_to_ask c r now ≡ true) past → has_to_ask c r past ≡ true
-    last [] h = h
-    last (f ∷ past) h = h.1
+-- in a turn of its own a replica that names itself makes it
+made_verb : (c : Config) (r : ℕ) (mine : List Event) (e : Event) (verb : Verb) → WasMade c r mine e → is_odd (length mine) ≡ true → is_named c r mine ≡ true → placed c r mine (place_after c r mine) ≡ Some verb → e.verb ≡ verb
+made_verb c r mine e verb held odd named is = elim (made_led held.zeal c r mine e.verb (held.made.replication odd)) [
+  | inl listed ↦ listed ∙ ap verb_or_beat (ap (λ t. if t then placed c r mine (place_after c r mine) else None) named ∙ is)
+  | inr caught ↦ absurd (true≢false (sym named ∙ caught.unnamed))
+]
 
-    not_ask : is_odd (length mine) ≡ false → (t : Bool) → is_any_ask e.verb ≡ t → t ≡ false
-    not_ask even true is = absurd (true≢false (sym (of_lead is_any_ask c r mine e made.1 any_asks_fail (λ j k x. refl) refl (λ q. refl) (λ w. refl) is).odd ∙ even))
-    not_ask even false is = refl
+-- and the next place follows; another turn leaves the place, or begins again
+abbrev follows : Config → ℕ → List Event → Event → Place → Place
+follows c r mine e place = next_place c r (or_zero (proposal_number r mine)) (e ∷ mine) (tables_at c r (e ∷ mine)) e.answer place
 
-    go : (t : Bool) → is_odd (length mine) ≡ t → (u : Bool) → is_asking k e ≡ u → (if (is_odd (length mine) && (is_asking k e || not (has_to_ask c r mine))) then 0 else (if is_odd (length mine) then since_ask c r k mine + 1 else since_ask c r k mine)) ≡ 0
-        → (since_ask c r k mine ≡ 0 → has_begun r mine ≡ true → newest (λ f. last_ask r f.by f.verb) mine ≡ Some k) → newer_or (last_ask r e.by e.verb) (newest (λ f. last_ask r f.by f.verb) mine) ≡ Some k
-    go t odd true asks since ih = ap (λ o. newer_or o (newest (λ f. last_ask r f.by f.verb) mine)) (told e.by e.verb made.1.own asks)
-    go true odd false other since ih = absurd (stays (is_odd (length mine)) (is_asking k e) (has_to_ask c r mine) odd other (last mine waits.0) since)
-      where
-        stays : (t u w : Bool) → t ≡ true → u ≡ false → w ≡ true → (if (t && (u || not w)) then 0 else (if t then since_ask c r k mine + 1 else since_ask c r k mine)) ≡ 0 → ⊥
-        stays true false true ht hu hw since = omega (arith, since)
-        stays false u w ht hu hw since = true≢false (sym ht)
-        stays t true w ht hu hw since = true≢false hu
-        stays t u false ht hu hw since = true≢false (sym hw)
-    go false even false other since ih =
-        let none = untold e.by e.verb (not_ask even (is_any_ask e.verb) refl) in
-        ap (λ o. newer_or o (newest (λ f. last_ask r f.by f.verb) mine)) none.0
-        ∙ ih (sym (ap (λ t. if (t && (is_asking k e || not (has_to_ask c r mine))) then 0 else (if t then since_ask c r k mine + 1 else since_ask c r k mine)) even) ∙ since) (sym (ap (λ t. if t then true else has_begun r mine) none.1) ∙ begun)
+place_on : (c : Config) (r : ℕ) (mine : List Event) (e : Event) → is_odd (length mine) ≡ true → is_named c r mine ≡ true → place_after c r (e ∷ mine) ≡ follows c r mine e (place_after c r mine)
+place_on c r mine e odd named = ap (λ t. if t then (if is_named c r mine then follows c r mine e (place_after c r mine) else Place.Ask 0) else place_after c r mine) odd ∙ ap (λ t. if t then follows c r mine e (place_after c r mine) else Place.Ask 0) named
 
--- whoever asked k asked all below
-asked_each : (c : Config) (r k p : ℕ) (mine : List Event) → IsPossible c r mine → newest (λ e. last_ask r e.by e.verb) mine ≡ Some k → p ≤ k → has (is_asking p) mine ≡ true
-asked_each c r k p [] possible last low = absurd (none_some k last)
-asked_each c r k p (e ∷ mine) possible last low = go (last_ask r e.by e.verb) refl last (λ j was fits. asked_each c r j p mine (parts_shorten_law c r mine e possible).before was fits)
+place_anew : (c : Config) (r : ℕ) (mine : List Event) (e : Event) → is_odd (length mine) ≡ true → is_named c r mine ≡ false → place_after c r (e ∷ mine) ≡ Place.Ask 0
+place_anew c r mine e odd named = ap (λ t. if t then (if is_named c r mine then follows c r mine e (place_after c r mine) else Place.Ask 0) else place_after c r mine) odd ∙ ap (λ t. if t then follows c r mine e (place_after c r mine) else Place.Ask 0) named
+
+place_still : (c : Config) (r : ℕ) (mine : List Event) (e : Event) → is_odd (length mine) ≡ false → place_after c r (e ∷ mine) ≡ place_after c r mine
+place_still c r mine e even = ap (λ t. if t then (if is_named c r mine then follows c r mine e (place_after c r mine) else Place.Ask 0) else place_after c r mine) even
+
+-- of the noted grants from a region on there is a first one, if one is there
+first_noted : (c : Config) (r from p : ℕ) (now : List Event) (P : Place → Type 0) (there : ℕ → Place) (other : Place) → from ≤ p → p < c.replicas → is_some (noted_grant r p now) ≡ true → ((q : ℕ) → from ≤ q → q < c.replicas → P (there q)) → P (or_else (noted_from c r now from) there other)
+first_noted c r from p now P there other low inside some all = go (noted_from c r now from) (first_in_is (λ q. is_some (noted_grant r q now)) from c.replicas)
   where
-    came : CameBy c r mine e
-    came = parts_shorten_law c r mine e possible
+    go : (o : Option ℕ) → IsFirst (λ q. is_some (noted_grant r q now)) from c.replicas o → P (or_else o there other)
+    go None none = absurd (true≢false (sym some ∙ none p low inside))
+    go (Some q) first = all q first.0 first.1
 
-    asks : (verb : Verb) → Needs c r mine verb → last_ask r e.by verb ≡ Some k → (is_asking_verb k verb ≡ true) × ((k ≡ 0) ⊎ (newest (λ f. last_ask r f.by f.verb) mine ≡ Some (k - 1)))
-    asks (Verb.Ask q) needs told = here (e.by == r) told
+-- the events of r: who asked region 0 has begun, and a minimum is the first of the leadership then
+begun_asked : (c : Config) (r : ℕ) (mine : List Event) → AtEachStep (WasMade c r) mine → has (is_asking 0) mine ≡ true → has_begun r mine ≡ true
+begun_asked c r [] made some = absurd (true≢false (sym some))
+begun_asked c r (e ∷ mine) made some = go (is_asking 0 e) refl some (begun_asked c r mine made.0)
+  where
+    begins : (by : ℕ) (verb : Verb) → by ≡ r → is_asking_verb 0 verb ≡ true → is_first_ask r by verb ≡ true
+    begins by (Verb.Ask q) own is = and_from (by == r) (q == 0) (eq-eqb by r own) is
+    begins by verb own is = absurd (true≢false (sym is))
+
+    go : (t : Bool) → is_asking 0 e ≡ t → cond t true (has (is_asking 0) mine) ≡ true → (has (is_asking 0) mine ≡ true → has_begun r mine ≡ true) → has_begun r (e ∷ mine) ≡ true
+    go true is some ih = ap (λ t. cond t true (has_begun r mine)) (begins e.by e.verb made.1.own is)
+    go false is some ih = has_more (begins_leadership r) e mine (ih some)
+
+min_now : (r : ℕ) (e : Event) (mine : List Event) → is_min e ≡ true → has_begun r mine ≡ true → has_min r (e ∷ mine) ≡ true
+min_now r e mine is begun = go e.by e.verb e.answer is
+  where
+    go : (by : ℕ) (verb : Verb) (answer : Answer) → is_min_verb verb ≡ true → has_min r (record { by = by; verb = verb; answer = answer } ∷ mine) ≡ true
+    go by (Verb.Min q) answer is = and_from (has_begun r mine) true begun refl
+    go by verb answer is = absurd (true≢false (sym is))
+
+-- the places before the first minimum: those below were asked, then all
+abbrev Opens : Config → List Event → Place → Type 0
+Opens c mine (Place.Ask p) = (p < c.replicas) × ((q : ℕ) → q < p → has (is_asking q) mine ≡ true)
+Opens c mine (Place.Confirm k p) = (k < 16) × (p < c.replicas) × ((q : ℕ) → q < c.replicas → has (is_asking q) mine ≡ true)
+Opens c mine (Place.ReadMin p) = (q : ℕ) → q < c.replicas → has (is_asking q) mine ≡ true
+Opens c mine place = ⊥
+
+opens_more : (c : Config) (e : Event) (mine : List Event) (place : Place) → Opens c mine place → Opens c (e ∷ mine) place
+opens_more c e mine (Place.Ask p) o = (o.0, λ q low. has_more (is_asking q) e mine (o.1 q low))
+opens_more c e mine (Place.Confirm k p) o = (o.0, o.1, λ q low. has_more (is_asking q) e mine (o.2 q low))
+opens_more c e mine (Place.ReadMin p) o = λ q low. has_more (is_asking q) e mine (o q low)
+opens_more c e mine place o = absurd o
+
+verb_asks : (q p : ℕ) (e : Event) → e.verb ≡ Verb.Ask p → q ≡ p → is_asking q e ≡ true
+verb_asks q p e is same = ap (is_asking_verb q) is ∙ eq-eqb p q (sym same)
+
+-- in a turn of its own
+opens_on : (c : Config) (r : ℕ) (mine : List Event) (e : Event) (place : Place) → r < c.replicas → ((verb : Verb) → placed c r mine place ≡ Some verb → e.verb ≡ verb) → AtEachStep (WasMade c r) mine → has_min r (e ∷ mine) ≡ false → Opens c mine place → Opens c (e ∷ mine) (follows c r mine e place)
+opens_on c r mine e (Place.Ask p) inside verb made none o = go (nat_lt (p + 1) c.replicas) refl
+  where
+    asked : (q : ℕ) → q < p + 1 → has (is_asking q) (e ∷ mine) ≡ true
+    asked q low = elim (cases_eq q p) [
+      | inl same ↦ ap (λ t. cond t true (has (is_asking q) mine)) (verb_asks q p e (verb (Verb.Ask p) refl) same)
+      | inr other ↦ has_more (is_asking q) e mine (o.1 q (omega (arith, low, other)))
+    ]
+
+    go : (t : Bool) → nat_lt (p + 1) c.replicas ≡ t → Opens c (e ∷ mine) (if t then Place.Ask (p + 1) else Place.Confirm 0 0)
+    go true low = (ltb-true (p + 1) c.replicas low, asked)
+    go false high = let most = ltb-false (p + 1) c.replicas high in let l = o.0 in (omega arith, omega (arith, l), λ q low. asked q (omega (arith, most, low)))
+opens_on c r mine e (Place.Confirm k p) inside verb made none o = go (nat_lt (p + 1) c.replicas) refl
+  where
+    asked : (q : ℕ) → q < c.replicas → has (is_asking q) (e ∷ mine) ≡ true
+    asked q low = has_more (is_asking q) e mine (o.2 q low)
+
+    again : (t : Bool) → nat_lt k 15 ≡ t → Opens c (e ∷ mine) (if t then Place.Confirm (k + 1) 0 else Place.Ask 0)
+    again true low = let few = ltb-true k 15 low in (omega (arith, few), omega (arith, inside), asked)
+    again false high = (omega (arith, inside), λ q low. absurd (omega (arith, low)))
+
+    confirmed : (t : Bool) → is_confirmed c r (e ∷ mine) ≡ t → Opens c (e ∷ mine) (if t then or_else (noted_from c r (e ∷ mine) 0) Place.ReadMin Place.Rest else (if nat_lt k 15 then Place.Confirm (k + 1) 0 else Place.Ask 0))
+    confirmed true is = first_noted c r 0 r (e ∷ mine) (Opens c (e ∷ mine)) Place.ReadMin Place.Rest (omega arith) inside (and_parts (is_some (noted_grant r r (e ∷ mine))) _ is).0 (λ q low few. asked)
+    confirmed false is = again (nat_lt k 15) refl
+
+    go : (t : Bool) → nat_lt (p + 1) c.replicas ≡ t → Opens c (e ∷ mine) (if t then Place.Confirm k (p + 1) else after_round c r (e ∷ mine) k)
+    go true low = (o.0, ltb-true (p + 1) c.replicas low, asked)
+    go false high = confirmed (is_confirmed c r (e ∷ mine)) refl
+opens_on c r mine e (Place.ReadMin p) inside verb made none o = absurd (true≢false (sym (min_now r e mine (ap is_min_verb (verb (Verb.Min p) refl)) (begun_asked c r mine made (o 0 (omega (arith, inside))))) ∙ none))
+opens_on c r mine e place inside verb made none o = absurd o
+
+-- so before it reads a minimum it is at one of them
+opens : (c : Config) (r : ℕ) (mine : List Event) → r < c.replicas → AtEachStep (WasMade c r) mine → AtEachMoment (λ now. has_min r now ≡ false) mine → Opens c mine (place_after c r mine)
+opens c r [] inside made none = (omega (arith, inside), λ q low. absurd (omega (arith, low)))
+opens c r (e ∷ mine) inside made none = go (is_odd (length mine)) refl (is_named c r mine) refl (opens c r mine inside made.0 none.0)
+  where
+    go : (t : Bool) → is_odd (length mine) ≡ t → (u : Bool) → is_named c r mine ≡ u → Opens c mine (place_after c r mine) → Opens c (e ∷ mine) (place_after c r (e ∷ mine))
+    go true odd true named o = subst (Opens c (e ∷ mine)) (sym (place_on c r mine e odd named)) (opens_on c r mine e (place_after c r mine) inside (λ verb is. made_verb c r mine e verb made.1 odd named is) made.0 none.1 o)
+    go true odd false named o = subst (Opens c (e ∷ mine)) (sym (place_anew c r mine e odd named)) (omega (arith, inside), λ q low. absurd (omega (arith, low)))
+    go false even u named o = subst (Opens c (e ∷ mine)) (sym (place_still c r mine e even)) (opens_more c e mine (place_after c r mine) o)
+
+-- before its first minimum it has asked each region
+pub asks_all_first : (c : Config) (r : ℕ) (mine : List Event) (e : Event) → r < c.replicas → AtEachStep (WasMade c r) (e ∷ mine) → AtEachMoment (λ now. has_min r now ≡ false) mine → is_min e ≡ true → (p : ℕ) → p < c.replicas → has (is_asking p) mine ≡ true
+asks_all_first c r mine e inside made none min p low = go (place_after c r mine) (ap due_min turn.verb ∙ min) (opens c r mine inside made.0 none)
+  where
+    turn : OfLead c r mine e made.1
+    turn = of_lead is_min_verb c r mine e made.1 mins_fail (λ j k x. refl) refl (λ q. refl) (λ w. refl) min
+
+    due_min : Option Verb → Bool
+    due_min None = false
+    due_min (Some verb) = is_min_verb verb
+
+    go : (place : Place) → due_min (placed c r mine place) ≡ true → Opens c mine place → has (is_asking p) mine ≡ true
+    go (Place.ReadMin q) is o = o p low
+    go (Place.Ask q) is o = absurd (true≢false (sym is))
+    go (Place.Confirm k q) is o = absurd (true≢false (sym is))
+    go place is o = absurd o
+
+-- within d steps p is asked, or a minimum is read
+abbrev ToAsk : Config → ℕ → ℕ → Place → Type 0
+ToAsk c p d (Place.Ask q) = ((q ≤ p) × (p < q + d)) ⊎ (17 * c.replicas + p < q + d)
+ToAsk c p d (Place.Confirm k q) = 17 * c.replicas + p < c.replicas + k * c.replicas + q + d
+ToAsk c p d (Place.ReadMin q) = 0 < d
+ToAsk c p d place = ⊥
+
+at_most : (c : Config) (p : ℕ) (mine : List Event) (place : Place) → p < c.replicas → Opens c mine place → ToAsk c p (17 * c.replicas + 1) place
+at_most c p mine (Place.Ask q) low o = elim (cases_lt p q) [
+  | inl below ↦ inr (omega (arith, below))
+  | inr above ↦ inl (above, omega (arith, low))
+]
+at_most c p mine (Place.Confirm k q) low o = let l = low in few c.replicas (k * c.replicas) p q low
+  where
+    few : (n kn p q : ℕ) → p < n → 17 * n + p < n + kn + q + (17 * n + 1)
+    few n kn p q low = omega (arith, low)
+at_most c p mine (Place.ReadMin q) low o = omega arith
+at_most c p mine place low o = absurd o
+
+few_rounds : (k n : ℕ) → k < 16 → k * n ≤ 15 * n
+few_rounds k n few = mul-le-mul_right n (let l : k ≤ 15 = omega (arith, few) in l)
+
+-- each step of a replica that names itself takes one
+nearer : (c : Config) (r p d : ℕ) (mine : List Event) (e : Event) (place : Place) → r < c.replicas → p < c.replicas → ((verb : Verb) → placed c r mine place ≡ Some verb → e.verb ≡ verb) → AtEachStep (WasMade c r) mine → has_min r (e ∷ mine) ≡ false → Opens c mine place → is_asking p e ≡ false → ToAsk c p (suc d) place → ToAsk c p d (follows c r mine e place)
+nearer c r p d mine e (Place.Ask q) inside low verb made none o not_asked near = go (nat_lt (q + 1) c.replicas) refl
+  where
+    other : q ≢ p
+    other same = true≢false (sym (verb_asks p q e (verb (Verb.Ask q) refl) (sym same)) ∙ not_asked)
+
+    go : (t : Bool) → nat_lt (q + 1) c.replicas ≡ t → ToAsk c p d (if t then Place.Ask (q + 1) else Place.Confirm 0 0)
+    go true more = elim near [
+      | inl k ↦ let a = k.0 in let b = k.1 in inl (omega (arith, a, other), omega (arith, b))
+      | inr k ↦ inr (omega (arith, k))
+    ]
+    go false high = let most = ltb-false (q + 1) c.replicas high in let few = o.0 in elim near [
+      | inl k ↦ absurd (let a = k.0 in omega (arith, a, other, most, low))
+      | inr k ↦ omega (arith, k, most, few)
+    ]
+nearer c r p d mine e (Place.Confirm k q) inside low verb made none o not_asked near = go (nat_lt (q + 1) c.replicas) refl
+  where
+    rounds : k * c.replicas ≤ 15 * c.replicas
+    rounds = few_rounds k c.replicas o.0
+
+    again : (t : Bool) → nat_lt k 15 ≡ t → ToAsk c p d (if t then Place.Confirm (k + 1) 0 else Place.Ask 0)
+    again true few = let l = o.1 in let next : (k + 1) * c.replicas ≡ k * c.replicas + c.replicas = omega arith in omega (arith, near, next, l)
+    again false many = let l = o.1 in let r = rounds in inl (omega arith, omega (arith, near, l, r))
+
+    confirmed : (t : Bool) → is_confirmed c r (e ∷ mine) ≡ t → ToAsk c p d (if t then or_else (noted_from c r (e ∷ mine) 0) Place.ReadMin Place.Rest else (if nat_lt k 15 then Place.Confirm (k + 1) 0 else Place.Ask 0))
+    confirmed true is =
+        first_noted c r 0 r (e ∷ mine) (ToAsk c p d) Place.ReadMin Place.Rest (omega arith) inside (and_parts (is_some (noted_grant r r (e ∷ mine))) _ is).0
+        (λ _ _ _. let l = o.1 in let r = rounds in omega (arith, near, l, r))
+    confirmed false is = again (nat_lt k 15) refl
+
+    go : (t : Bool) → nat_lt (q + 1) c.replicas ≡ t → ToAsk c p d (if t then Place.Confirm k (q + 1) else after_round c r (e ∷ mine) k)
+    go true more = omega (arith, near)
+    go false high = confirmed (is_confirmed c r (e ∷ mine)) refl
+nearer c r p d mine e (Place.ReadMin q) inside low verb made none o not_asked near = absurd (true≢false (sym (min_now r e mine (ap is_min_verb (verb (Verb.Min q) refl)) (begun_asked c r mine made (o 0 (omega (arith, inside))))) ∙ none))
+nearer c r p d mine e place inside low verb made none o not_asked near = absurd o
+
+toward : (c : Config) (r p d : ℕ) (window older : List Event) → r < c.replicas → p < c.replicas → AtEachStep (WasMade c r) (window ++ older) → AtEachMoment (λ now. has_min r now ≡ false) (window ++ older) → named_throughout c r window older ≡ true → d + replications window older ≡ 17 * c.replicas + 1
+    → (replicates (λ before e. is_asking p e) window older ≡ true) ⊎ ToAsk c p d (place_after c r (window ++ older))
+toward c r p d [] older inside low made none named all = inr (subst (λ n. ToAsk c p n (place_after c r older)) (let is : 17 * c.replicas + 1 ≡ d = omega (arith, all) in is) (at_most c p older (place_after c r older) low (opens c r older inside made none)))
+toward c r p d (e ∷ window) older inside low made none named all = go (is_odd (length mine)) refl (is_named c r mine) refl (is_asking p e) refl named all (λ n. toward c r p n window older inside low made.0 none.0)
+  where
+    mine : List Event
+    mine = window ++ older
+
+    go : (t : Bool) → is_odd (length mine) ≡ t → (u : Bool) → is_named c r mine ≡ u → (w : Bool) → is_asking p e ≡ w → (if not t || u then named_throughout c r window older else false) ≡ true → d + (if t then replications window older + 1 else replications window older) ≡ 17 * c.replicas + 1
+        → ((n : ℕ) → named_throughout c r window older ≡ true → n + replications window older ≡ 17 * c.replicas + 1 → (replicates (λ before e. is_asking p e) window older ≡ true) ⊎ ToAsk c p n (place_after c r mine))
+        → ((if t && w then true else replicates (λ before e. is_asking p e) window older) ≡ true) ⊎ ToAsk c p d (place_after c r (e ∷ mine))
+    go true odd true is true asked named all ih = inl refl
+    go true odd true is false other named all ih = elim (ih (suc d) named (omega (arith, all))) [
+      | inl some ↦ inl some
+      | inr near ↦ inr (subst (ToAsk c p d) (sym (place_on c r mine e odd is)) (nearer c r p d mine e (place_after c r mine) inside low (λ verb due. made_verb c r mine e verb made.1 odd is due) made.0 none.1 (opens c r mine inside made.0 none.0) other near))
+    ]
+    go true odd false is w asked named all ih = absurd (true≢false (sym named))
+    go false even u is w asked named all ih = elim (ih d (throughout u named) all) [
+      | inl some ↦ inl some
+      | inr near ↦ inr (subst (ToAsk c p d) (sym (place_still c r mine e even)) near)
+    ]
       where
-        here : (t : Bool) → (if t then Some q else None) ≡ Some k → (is_asking_verb k (Verb.Ask q) ≡ true) × ((k ≡ 0) ⊎ (newest (λ f. last_ask r f.by f.verb) mine ≡ Some (k - 1)))
-        here true told = let same : q ≡ k = same_some q k told in (eq-eqb q k same, elim needs.1 [ inl zero_is ↦ inl (sym same ∙ zero_is) | inr before ↦ inr (before.1 ∙ ap (λ x. Some (x - 1)) same) ])
-        here false told = absurd (none_some k told)
-    asks verb needs told = absurd (none_some k told)
+        throughout : (u : Bool) → (if true || u then named_throughout c r window older else false) ≡ true → named_throughout c r window older ≡ true
+        throughout u named = named
 
-    go : (o : Option ℕ) → last_ask r e.by e.verb ≡ o → newer_or o (newest (λ f. last_ask r f.by f.verb) mine) ≡ Some k
-        → ((j : ℕ) → newest (λ f. last_ask r f.by f.verb) mine ≡ Some j → p ≤ j → has (is_asking p) mine ≡ true) → has (is_asking p) (e ∷ mine) ≡ true
-    go None told last ih = has_more (is_asking p) e mine (ih k last low)
-    go (Some q) told last ih =
-        let k_told : last_ask r e.by e.verb ≡ Some k = told ∙ last in
-        let it = asks e.verb came.allowed.may k_told in
-        elim (cases_eq p k) [
-          | inl same ↦ ap (λ t. if t then true else has (is_asking p) mine) (subst (λ x. is_asking_verb x e.verb ≡ true) (sym same) it.0)
-          | inr other ↦ elim it.1 [
-            | inl zero_is ↦ absurd (other (omega (arith, low, zero_is)))
-            | inr before ↦ has_more (is_asking p) e mine (ih (k - 1) before (let more : p < k = omega (arith, low, other) in omega (arith, more)))
-          ]
+-- in 17 n + 1 replication events it asks each region, if it names itself and reads no minimum
+pub asks_until_min : (c : Config) (r p : ℕ) (window older : List Event) → r < c.replicas → p < c.replicas → AtEachStep (WasMade c r) (window ++ older) → AtEachMoment (λ now. has_min r now ≡ false) (window ++ older) → replications window older ≡ 17 * c.replicas + 1 → named_throughout c r window older ≡ true
+    → replicates (λ before e. is_asking p e) window older ≡ true
+asks_until_min c r p window older inside low made none many named = elim (toward c r p 0 window older inside low made none named (omega (arith, many))) [
+  | inl some ↦ some
+  | inr near ↦ absurd (never (place_after c r (window ++ older)) (opens c r (window ++ older) inside made none) near)
+]
+  where
+    never : (place : Place) → Opens c (window ++ older) place → ToAsk c p 0 place → ⊥
+    never (Place.Ask q) o (inl k) = let a = k.0 in let b = k.1 in omega (arith, a, b)
+    never (Place.Ask q) o (inr k) = let l = o.0 in omega (arith, k, l)
+    never (Place.Confirm k q) o near = let l = o.1 in let r = few_rounds k c.replicas o.0 in omega (arith, near, l, r)
+    never (Place.ReadMin q) o near = omega (arith, near)
+    never place o near = o
+
+-- within d steps the number is put
+abbrev ToPut : Config → ℕ → Place → Type 0
+ToPut c d (Place.ReadMin q) = (q < c.replicas) × (c.replicas + 2 ≤ q + d)
+ToPut c d (Place.EnterMin q) = 2 ≤ d
+ToPut c d (Place.PutMin q) = 1 ≤ d
+ToPut c d place = ⊥
+
+-- the grant of a region whose minimum it read is noted
+still_noted : (c : Config) (r q : ℕ) (mine : List Event) (e : Event) → e.verb ≡ Verb.Min q → Needs c r mine e.verb → (q < c.replicas) × (is_some (noted_grant r q (e ∷ mine)) ≡ true)
+still_noted c r q mine e is needs = go e.by e.verb e.answer is needs
+  where
+    go : (by : ℕ) (verb : Verb) (answer : Answer) → verb ≡ Verb.Min q → Needs c r mine verb → (q < c.replicas) × (is_some (noted_grant r q (record { by = by; verb = verb; answer = answer } ∷ mine)) ≡ true)
+    go by verb answer is needs = let n = subst (Needs c r mine) is needs in (n.0, subst (λ v. is_some (noted_grant r q (record { by = by; verb = v; answer = answer } ∷ mine)) ≡ true) (sym is) n.1)
+
+after_min : (c : Config) (r d q : ℕ) (mine : List Event) (e : Event) → e.verb ≡ Verb.Min q → Needs c r mine e.verb → c.replicas + 2 ≤ q + 1 + d → 2 ≤ d → ToPut c d (follows c r mine e (Place.ReadMin q))
+after_min c r d q mine e is needs near two = go (noted_from c r (e ∷ mine) (q + 1)) (first_in_is (λ p. is_some (noted_grant r p (e ∷ mine))) (q + 1) c.replicas)
+  where
+    noted : (q < c.replicas) × (is_some (noted_grant r q (e ∷ mine)) ≡ true)
+    noted = still_noted c r q mine e is needs
+
+    go : (o : Option ℕ) → IsFirst (λ p. is_some (noted_grant r p (e ∷ mine))) (q + 1) c.replicas o → ToPut c d (or_else o Place.ReadMin (or_else (noted_from c r (e ∷ mine) 0) Place.EnterMin Place.Rest))
+    go (Some p) first = let l = first.0 in (first.1, omega (arith, near, l))
+    go None none = first_noted c r 0 q (e ∷ mine) (ToPut c d) Place.EnterMin Place.Rest (omega arith) noted.0 noted.1 (λ _ _ _. two)
+
+abbrev pub puts : ℕ → Event → Bool
+puts r e = is_some (number_put r e.by e.verb)
+
+-- who loses an entering is over
+lost_over : (r q : ℕ) (t : Target) (by : ℕ) (answer : Answer) (mine : List Event) → by ≡ r → is_lost answer ≡ true → is_over r (record { by = by; verb = Verb.Enter q t; answer = answer } ∷ mine) ≡ true
+lost_over r q t by (Answer.Lost f) mine own is = ap (λ t. t || is_over r mine) (eq-eqb by r own)
+lost_over r q t by answer mine own is = absurd (true≢false (sym is))
+
+-- each step of a replica that names itself takes one, unless it puts the number
+nearer_put : (c : Config) (r d : ℕ) (mine : List Event) (e : Event) (place : Place) → e.by ≡ r → ((verb : Verb) → placed c r mine place ≡ Some verb → e.verb ≡ verb) → Needs c r mine e.verb → is_over r (e ∷ mine) ≡ false → ToPut c (suc d) place → (puts r e ≡ true) ⊎ ToPut c d (follows c r mine e place)
+nearer_put c r d mine e (Place.ReadMin q) own verb needs on near = inr (let l = near.0 in let k = near.1 in after_min c r d q mine e (verb (Verb.Min q) refl) needs (omega (arith, k)) (omega (arith, k, l)))
+nearer_put c r d mine e (Place.EnterMin q) own verb needs on near = go (is_lost e.answer) refl
+  where
+    go : (t : Bool) → is_lost e.answer ≡ t → (puts r e ≡ true) ⊎ ToPut c d (if t then Place.Ask 0 else Place.PutMin q)
+    go true lost = absurd (true≢false (sym (subst (λ v. is_over r (record { by = e.by; verb = v; answer = e.answer } ∷ mine) ≡ true) (sym (verb (Verb.Enter q Target.Min) refl)) (lost_over r q Target.Min e.by e.answer mine own lost)) ∙ on))
+    go false entered = inr (omega (arith, near))
+nearer_put c r d mine e (Place.PutMin q) own verb needs on near = inl (ap (λ v. is_some (number_put r e.by v)) (verb (Verb.PutMin q (number_due r mine)) refl) ∙ ap (λ t. is_some (if t then Some (number_due r mine) else None)) (eq-eqb e.by r own))
+nearer_put c r d mine e place own verb needs on near = absurd near
+
+-- and begins no leadership
+asks_no_more : (c : Config) (r d : ℕ) (mine : List Event) (e : Event) → WasMade c r mine e → ToPut c d (place_after c r mine) → begins_leadership r e ≡ false
+asks_no_more c r d mine e held near = go (begins_leadership r e) refl
+  where
+    any : (by : ℕ) (verb : Verb) → is_first_ask r by verb ≡ true → is_any_ask verb ≡ true
+    any by (Verb.Ask q) is = refl
+    any by verb is = absurd (true≢false (sym is))
+
+    due_ask : Option Verb → Bool
+    due_ask None = false
+    due_ask (Some verb) = is_any_ask verb
+
+    none : (place : Place) → ToPut c d place → due_ask (placed c r mine place) ≡ false
+    none (Place.ReadMin q) near = refl
+    none (Place.EnterMin q) near = refl
+    none (Place.PutMin q) near = refl
+    none place near = absurd near
+
+    go : (t : Bool) → begins_leadership r e ≡ t → t ≡ false
+    go false is = refl
+    go true is =
+        let ask = any e.by e.verb is in
+        let turn = of_lead is_any_ask c r mine e held any_asks_fail (λ j k x. refl) refl (λ q. refl) (λ w. refl) ask in
+        absurd (true≢false (sym (ap due_ask turn.verb ∙ ask) ∙ none (place_after c r mine) near))
+
+min_on : (r : ℕ) (e : Event) (mine : List Event) → begins_leadership r e ≡ false → has_min r mine ≡ true → has_min r (e ∷ mine) ≡ true
+min_on r e mine same is =
+    let both = and_parts (has_begun r mine) (has is_min (leadership r mine)) is in
+    and_from (has_begun r (e ∷ mine)) (has is_min (leadership r (e ∷ mine))) (has_more (begins_leadership r) e mine both.0) (ap (λ t. has is_min (cond t [] (e ∷ leadership r mine))) same ∙ has_more is_min e (leadership r mine) both.1)
+
+-- so it is on its way to put its number after its first minimum
+record OnWay (c : Config) (r : ℕ) (window older : List Event) : Type 0 where
+  left : ℕ
+  near : ToPut c left (place_after c r (window ++ older))
+  all : left + replications window older ≡ c.replicas + 1
+  min : has_min r (window ++ older) ≡ true
+
+to_put : (c : Config) (r : ℕ) (e : Event) (window older : List Event) → r < c.replicas → IsPossible c r (window ++ e ∷ older) → AtEachStep (WasMade c r) (window ++ e ∷ older) → is_min e ≡ true → AtEachMoment (λ now. has_min r now ≡ false) older → AtEachMoment (λ now. is_over r now ≡ false) (window ++ e ∷ older)
+    → AtEachMoment (λ now. has_min r now ≡ true → is_named c r now ≡ true) (window ++ e ∷ older) → (has (puts r) window ≡ true) ⊎ OnWay c r window (e ∷ older)
+to_put c r e [] older inside possible made min none on named = inr (record { left = c.replicas + 1; near = near; all = omega arith; min = there })
+  where
+    turn : OfLead c r older e made.1
+    turn = of_lead is_min_verb c r older e made.1 mins_fail (λ j k x. refl) refl (λ q. refl) (λ w. refl) min
+
+    there : has_min r (e ∷ older) ≡ true
+    there = min_now r e older min (begun_asked c r older made.0 (asks_all_first c r older e inside made none min 0 (omega (arith, inside))))
+
+    due_min : Option Verb → Bool
+    due_min None = false
+    due_min (Some verb) = is_min_verb verb
+
+    go : (place : Place) → placed c r older place ≡ Some e.verb → due_min (placed c r older place) ≡ true → Opens c older place → ToPut c (c.replicas + 1) (follows c r older e place)
+    go (Place.ReadMin q) is due o = after_min c r (c.replicas + 1) q older e (same_some e.verb (Verb.Min q) (sym is)) (parts_shorten_law c r older e possible).allowed.may (omega arith) (omega (arith, inside))
+    go (Place.Ask q) is due o = absurd (true≢false (sym due))
+    go (Place.Confirm k q) is due o = absurd (true≢false (sym due))
+    go place is due o = absurd o
+
+    near : ToPut c (c.replicas + 1) (place_after c r (e ∷ older))
+    near = subst (ToPut c (c.replicas + 1)) (sym (place_on c r older e turn.odd turn.named)) (go (place_after c r older) turn.verb (ap due_min turn.verb ∙ min) (opens c r older inside made.0 none))
+to_put c r e (f ∷ window) older inside possible made min none on named = elim (to_put c r e window older inside came.before made.0 min none on.0 named.0) [
+  | inl some ↦ inl (has_more (puts r) f window some)
+  | inr k ↦ step k k.left k.near k.all (is_odd (length mine)) refl
+]
+  where
+    mine : List Event
+    mine = window ++ e ∷ older
+
+    came : CameBy c r mine f
+    came = parts_shorten_law c r mine f possible
+
+    never : (place : Place) → ToPut c 0 place → ⊥
+    never (Place.ReadMin q) near = let l = near.0 in let k = near.1 in omega (arith, l, k)
+    never (Place.EnterMin q) near = omega (arith, near)
+    never (Place.PutMin q) near = omega (arith, near)
+    never place near = near
+
+    step : (k : OnWay c r window (e ∷ older)) (d : ℕ) → ToPut c d (place_after c r mine) → d + replications window (e ∷ older) ≡ c.replicas + 1 → (t : Bool) → is_odd (length mine) ≡ t → (has (puts r) (f ∷ window) ≡ true) ⊎ OnWay c r (f ∷ window) (e ∷ older)
+    step k d near all false even =
+        inr (record {
+          left = d;
+          near = subst (ToPut c d) (sym (place_still c r mine f even)) near;
+          all = ap (λ t. d + (if t then replications window (e ∷ older) + 1 else replications window (e ∷ older))) even ∙ all;
+          min = min_on r f mine (asks_no_more c r d mine f made.1 near) k.min;
+        })
+    step k zero near all true odd = absurd (never (place_after c r mine) near)
+    step k (suc d) near all true odd =
+        let itself = last_moment (λ now. has_min r now ≡ true → is_named c r now ≡ true) mine named.0 k.min in
+        elim (nearer_put c r d mine f (place_after c r mine) made.1.own (λ verb is. made_verb c r mine f verb made.1 odd itself is) came.allowed.may on.1 near) [
+          | inl put ↦ inl (ap (λ t. cond t true (has (puts r) window)) put)
+          | inr on_way ↦ inr (record {
+            left = d;
+            near = subst (ToPut c d) (sym (place_on c r mine f odd itself)) on_way;
+            all = ap (λ t. d + (if t then replications window (e ∷ older) + 1 else replications window (e ∷ older))) odd ∙ (let one : d + (replications window (e ∷ older) + 1) ≡ c.replicas + 1 = omega (arith, all) in one);
+            min = min_on r f mine (asks_no_more c r (suc d) mine f made.1 near) k.min;
+          })
         ]
 
--- the first fence of the leadership under way
-record FirstFence (r : ℕ) (mine : List Event) : Type 0 where
-  newer : List Event
-  event : Event
-  older : List Event
-  is : mine ≡ newer ++ event ∷ older
-  fence : is_any_fencing event ≡ true
-  none : has is_any_fencing (leadership r older) ≡ false
-
-first_fence : (r : ℕ) (mine : List Event) → has is_any_fencing (leadership r mine) ≡ true → FirstFence r mine
-first_fence r [] some = absurd (true≢false (sym some))
-first_fence r (e ∷ mine) some = go (has is_any_fencing (leadership r mine)) refl (begins_leadership r e) some (first_fence r mine)
-  where
-    go : (t : Bool) → has is_any_fencing (leadership r mine) ≡ t → (b : Bool) → has is_any_fencing (cond b [] (e ∷ leadership r mine)) ≡ true → (has is_any_fencing (leadership r mine) ≡ true → FirstFence r mine) → FirstFence r (e ∷ mine)
-    go true is b some ih = let k = ih is in record { newer = e ∷ k.newer; event = k.event; older = k.older; is = ap (λ l. e ∷ l) k.is; fence = k.fence; none = k.none }
-    go false is true some ih = absurd (true≢false (sym some))
-    go false is false some ih = record { newer = []; event = e; older = mine; is = refl; fence = here (is_any_fencing e) some; none = is }
-      where
-        here : (t : Bool) → cond t true (has is_any_fencing (leadership r mine)) ≡ true → t ≡ true
-        here true some = refl
-        here false some = absurd (true≢false (sym some ∙ is))
-
-noted_fenced : (r p : ℕ) (events : List Event) → is_some (grant_for r (newest (λ e. fence_seen r p e.by e.verb e.answer) events)) ≡ true → has is_any_fencing events ≡ true
-noted_fenced r p [] some = absurd (true≢false (sym some))
-noted_fenced r p (e ∷ events) some = go (is_any_fencing e) refl some (noted_fenced r p events)
-  where
-    unseen : (by : ℕ) (verb : Verb) (answer : Answer) → is_any_fencing_verb verb ≡ false → fence_seen r p by verb answer ≡ None
-    unseen by (Verb.Fence q) answer none = absurd (true≢false none)
-    unseen by verb answer none = refl
-
-    go : (t : Bool) → is_any_fencing e ≡ t → is_some (grant_for r (newer_or (fence_seen r p e.by e.verb e.answer) (newest (λ f. fence_seen r p f.by f.verb f.answer) events))) ≡ true → (is_some (grant_for r (newest (λ f. fence_seen r p f.by f.verb f.answer) events)) ≡ true → has is_any_fencing events ≡ true) → cond t true (has is_any_fencing events) ≡ true
-    go true is some ih = refl
-    go false is some ih = ih (sym (ap (λ o. is_some (grant_for r (newer_or o (newest (λ f. fence_seen r p f.by f.verb f.answer) events)))) (unseen e.by e.verb e.answer is)) ∙ some)
-
--- before the first minimum that it reads it has asked each region, if it had to ask all the while
-pub asks_all_first : (c : Config) (r : ℕ) (mine : List Event) (e : Event) → 0 < c.replicas → IsPossible c r (e ∷ mine) → AtEachStep (WasMade c r) mine → AtEachMoment (λ now. has_to_ask c r now ≡ true) mine → AtEachMoment (λ now. is_over r now ≡ false) mine → is_min e ≡ true
-    → (p : ℕ) → p < c.replicas → has (is_asking p) mine ≡ true
-asks_all_first c r mine e some possible made waits on min p low = go e.verb came.allowed.may min
-  where
-    came : CameBy c r mine e
-    came = parts_shorten_law c r mine e possible
-
-    had : FirstFence r mine → has (is_asking p) mine ≡ true
-    had f =
-        let there = steps_before (WasMade c r) f.newer (f.event ∷ f.older) (subst (AtEachStep (WasMade c r)) f.is made) in
-        let held = there.1 in
-        let turn = of_lead is_any_fencing_verb c r f.older f.event held fences_fail (λ j k x. refl) refl (λ q. refl) (λ w. refl) f.fence in
-        let still = (moments_before (λ now. has_to_ask c r now ≡ true) f.newer (f.event ∷ f.older) (subst (AtEachMoment (λ now. has_to_ask c r now ≡ true)) f.is waits)).0 in
-        let over = last_moment (λ now. is_over r now ≡ false) f.older (moments_before (λ now. is_over r now ≡ false) f.newer (f.event ∷ f.older) (subst (AtEachMoment (λ now. is_over r now ≡ false)) f.is on)).0 in
-        let no_min = unread (is_named c r f.older) (knows_all c r f.older) (has_min r f.older) (is_over r f.older) over (last_moment (λ now. has_to_ask c r now ≡ true) f.older still) in
-        let zero_since = at_place c c r (number_due r f.older) f.older (known c r f.older) (tables_at c r f.older).up (tables_at c r f.older).written (tables_at c r f.older).written (place_after c r f.older) (ap is_fence_due turn.verb ∙ f.fence) held.paces some f.none no_min over in
-        let before = possible_older f.newer (f.event ∷ f.older) (subst (IsPossible c r) f.is came.before) in
-        let fence = parts_shorten_law c r f.older f.event before in
-        let last = newest_ask c r (c.replicas - 1) f.older there.0 still zero_since (begun f.event.verb fence.allowed.may f.fence) in
-        let asked = asked_each c r (c.replicas - 1) p f.older fence.before last (omega (arith, low)) in
-        subst (λ l. has (is_asking p) l ≡ true) (sym f.is) (more f.newer (has_more (is_asking p) f.event f.older asked) f.event f.older)
-      where
-        unread : (n k m o : Bool) → o ≡ false → (n && (not k && not (m && not o))) ≡ true → m ≡ false
-        unread true false true false off is = absurd (true≢false (sym is))
-        unread true false true true off is = absurd (true≢false off)
-        unread true false false o off is = refl
-        unread true true m o off is = absurd (true≢false (sym is))
-        unread false k m o off is = absurd (true≢false (sym is))
-
-        possible_older : (xs ys : List Event) → IsPossible c r (xs ++ ys) → IsPossible c r ys
-        possible_older [] ys is = is
-        possible_older (x ∷ xs) ys is = possible_older xs ys (parts_shorten_law c r (xs ++ ys) x is).before
-
-        begun : (verb : Verb) → Needs c r f.older verb → is_any_fencing_verb verb ≡ true → has_begun r f.older ≡ true
-        begun (Verb.Fence q) needs is = needs.1
-        begun verb needs is = absurd (true≢false (sym is))
-
-        more : (xs : List Event) → has (is_asking p) (f.event ∷ f.older) ≡ true → (x : Event) (ys : List Event) → has (is_asking p) (xs ++ f.event ∷ f.older) ≡ true
-        more [] there x ys = there
-        more (z ∷ xs) there x ys = has_more (is_asking p) z (xs ++ f.event ∷ f.older) (more xs there x ys)
-
-    go : (verb : Verb) → Needs c r mine verb → is_min_verb verb ≡ true → has (is_asking p) mine ≡ true
-    go (Verb.Min q) needs is = had (first_fence r mine (noted_fenced r q (leadership r mine) needs.1))
-    go verb needs is = absurd (true≢false (sym is))
+-- n + 2 replication events after its first minimum it has put a number, if it goes on naming itself and isn't over
+pub numbers_in_time : (c : Config) (r : ℕ) (e : Event) (window older : List Event) → r < c.replicas → IsPossible c r (window ++ e ∷ older) → AtEachStep (WasMade c r) (window ++ e ∷ older) → is_min e ≡ true → AtEachMoment (λ now. has_min r now ≡ false) older → AtEachMoment (λ now. is_over r now ≡ false) (window ++ e ∷ older)
+    → AtEachMoment (λ now. has_min r now ≡ true → is_named c r now ≡ true) (window ++ e ∷ older) → c.replicas + 2 ≤ replications window (e ∷ older) → has (puts r) window ≡ true
+numbers_in_time c r e window older inside possible made min none on named long = elim (to_put c r e window older inside possible made min none on named) [
+  | inl some ↦ some
+  | inr k ↦ absurd (let all = k.all in omega (arith, all, long))
+]
