@@ -68,7 +68,8 @@ uint32_t mu_show_answer(uint32_t events, const void *input, size_t length, void 
                         size_t *taken);
 
 /* What `mu_draw FIRST LAST` says if it reads this trace: with MU_DONE, its picture, of the steps
- * from `first` to `last` (all: from 0 to MU_LAST_STEP). */
+ * from `first` to `last` (all: from 0 to MU_LAST_STEP); with MU_ILLEGAL the same up to the event that
+ * breaks the list, and what is wrong with it. */
 uint32_t mu_draw_answer(uint32_t first, uint32_t last, const void *input, size_t length, void *out,
                         size_t room, size_t *taken);
 

@@ -109,7 +109,7 @@ static void pictures(void)
     expect("SVG", taken > 4 && memcmp(out, "<svg", 4) == 0);
     expect("picture of a broken list",
            mu_draw_answer(0, 3, BROKEN, strlen(BROKEN), out, sizeof out, &taken) == MU_ILLEGAL);
-    expect("its verdict", has(out, taken, "illegal 1 not allowed\n"));
+    expect("SVG of it", taken > 4 && memcmp(out, "<svg", 4) == 0);
     expect("no steps", mu_draw_answer(3, 1, TRACE, strlen(TRACE), out, sizeof out, &taken) == MU_USAGE);
 }
 

@@ -7,12 +7,14 @@ PROGRAM is out/bin/mu where none is named; name several that rest otherwise. For
 replicas and 100, 400 and 1,500 commands each program runs as often, one after the other in turn, so
 that what else the machine does meets all alike. A row tells of each program the least and the middle
 time of a command in nanoseconds (of the whole process, its start included), how many runs had all
-commands in the longest log, and the fewest entries that a longest log had. Above the table stand the
-processors, and the load of the machine before and after.
+commands in the longest log, the fewest entries that a longest log had, and how many processors the
+run used in the middle. Above the table stand the processors, and the load of the machine before and
+after.
 """
 import argparse
 import os
 import re
+import resource
 import statistics
 import subprocess
 import sys
@@ -25,14 +27,21 @@ COMMANDS = (100, 400, 1500)
 LIMIT_SECONDS = 300
 
 
+def used():
+    """The seconds of processors that ended runs have used."""
+    usage = resource.getrusage(resource.RUSAGE_CHILDREN)
+    return usage.ru_utime + usage.ru_stime
+
+
 class Run:
     """How a run went."""
 
     def __init__(self, program, given):
-        start = time.monotonic()
+        start, before = time.monotonic(), used()
         done = subprocess.run([program, "run"], input=given, stdout=subprocess.PIPE, check=False,
                               timeout=LIMIT_SECONDS)
         self.seconds = time.monotonic() - start
+        self.cores = (used() - before) / self.seconds
         logs = re.findall(rb"^log \d+ entries (\d+)", done.stdout, re.MULTILINE)
         self.entries = max((int(count) for count in logs), default=0)
 
@@ -42,7 +51,7 @@ def cell(runs, commands):
     times = [1e9 * run.seconds / commands for run in runs]
     finished = sum(run.entries == commands for run in runs)
     return (f"{min(times):,.0f} | {statistics.median(times):,.0f} | {finished} of {len(runs)} | "
-            f"{min(run.entries for run in runs)}")
+            f"{min(run.entries for run in runs)} | {statistics.median(run.cores for run in runs):.1f}")
 
 
 def load():
@@ -56,7 +65,7 @@ def main():
     parser.add_argument("programs", nargs="*", default=[os.path.join(TOP, "out", "bin", "mu")])
     given = parser.parse_args()
     print(f"{os.cpu_count()} processors, load {load()} before")
-    told = " | ".join(["least", "middle", "finished", "entries"] * len(given.programs))
+    told = " | ".join(["least", "middle", "finished", "entries", "cores"] * len(given.programs))
     print(f"| replicas | commands | {told} |", flush=True)
     for replicas in REPLICAS:
         for commands in COMMANDS:

@@ -134,11 +134,11 @@ def try_memory(mu_library):
     taken, events, first, began = 0, 0, None, time.monotonic()
     while taken < MEMORY_BYTES:
         job = b"".join(iter_to_end(made.stdout))
-        with library.Judge(job) as judge:
+        with mu_library.Judge(job) as judge:
             for line in made.stdout:
                 if line == b"end\n":
                     break
-                if judge.take(line[:-1]) != library.DONE:
+                if judge.take(line[:-1]) != mu_library.DONE:
                     print(judge.why()[1].decode(), end="")
                     return 1
                 taken, events = taken + len(line), events + 1

@@ -7,3 +7,4 @@ pub mod Naming
 pub mod Outliving
 pub mod Paces
 pub mod Rounds
+pub mod Silences

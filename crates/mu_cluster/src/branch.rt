@@ -3,14 +3,15 @@ ghost use Rattle.std.specs.Prelude.{All, IfOk, None, Some, [], length, map, slic
 ghost use Rattle.std.specs.List.{slice_get};
 ghost use Rattle.mu_model.specs.Contents.{IsConfig};
 ghost use Rattle.mu_model.specs.declared.script.Script.{Script as SomeScript};
-ghost use Rattle.mu_node.specs.Beats.{ends_by_beat};
 ghost use Rattle.mu_node.specs.Node.{StandsForNode};
 ghost use Rattle.mu_node.specs.Turns.{IsTurn};
 ghost use Rattle.mu_outcome.specs.Turns.{rounds_paused as rounds_paused_of};
 ghost use Rattle.shared_fabric.specs.Gathering.{IsSamePort, PortValue};
 ghost use Rattle.mu_cluster.specs.declared.branch.Branch.{Branch as SomeBranch};
 ghost use Rattle.mu_cluster.specs.Branches.{Drives, IsDriven, IsFreshPort};
+ghost use Rattle.mu_cluster.specs.Silences.{silence as silence_of};
 
+use crate::resting::{Rested, rest, silence};
 use crate::rounds::rounds_paused;
 use mu_gate::Gate;
 use mu_input::Job;
@@ -22,6 +23,7 @@ use std::alloc::Global;
 use std::sync::Wait;
 use std::thread;
 use std::thread::Threads;
+use std::time::Clock;
 
 /// A replica with a port of its own.
 #[derive(Drop)]
@@ -30,36 +32,13 @@ pub(crate) struct Branch {
     port: SharedPort,
 }
 
-/// How a thread let the others on before a turn of its replica.
-#[derive(Drop)]
-struct Rested {
-    /// For how many rounds of a pause.
-    paused: u32,
-    /// Whether for a beat.
-    beaten: bool,
-}
-
-/// Lets the other threads on: once for each round of a pause, and once for a beat.
-fn rest(paused: u32, beaten: bool) -> Rested
-    ensures paused { result.paused ≡ paused }
-    ensures beaten { result.beaten ≡ beaten }
-{
-    for _ in 0..paused {
-        thread::yield_now();
-    }
-    if beaten {
-        thread::yield_now();
-    }
-    Rested { paused, beaten }
-}
-
 /// The next turn of a replica that let the others on as its script and its last step have it.
 fn turn_rested(node: &mut Node, port: &mut SharedPort, script: &Script, rested: &Rested) -> Turn
     requires config { IsConfig port.old.config }
     requires stands { StandsForNode port.old.config port.old.id port.old.part node.old }
     requires paused { rested.now.paused
         ≡ rounds_paused_of script.now.pauses port.old.id (length port.old.part) }
-    requires beaten { rested.now.beaten ≡ ends_by_beat port.old.part }
+    requires silence { rested.now.silence ≡ silence_of port.old.part }
     ensures stands { StandsForNode port.new.config port.new.id port.new.part node.new }
     ensures same { IsSamePort port.old port.new }
     ensures stops { node.new.stops ≡ node.old.stops }
@@ -70,8 +49,8 @@ fn turn_rested(node: &mut Node, port: &mut SharedPort, script: &Script, rested: 
 }
 
 /// Turns of one replica until its journal has an end. It lets the others on at a pause and after a
-/// beat; nothing here waits for another replica.
-fn drive<R: Wait, G: Gate>(rt: &R, branch: &mut Branch, script: &Script, gate: &G)
+/// read of beats that finds no new one; nothing here waits for another replica.
+fn drive<R: Wait + Clock, G: Gate>(rt: &R, branch: &mut Branch, script: &Script, gate: &G)
     requires { Drives script.now branch.old }
     ensures { IsDriven script.now branch.old branch.new }
 {
@@ -79,7 +58,7 @@ fn drive<R: Wait, G: Gate>(rt: &R, branch: &mut Branch, script: &Script, gate: &
     for _ in rt.forever() {
         let steps = node.steps();
         let paused = rounds_paused(script.pauses.as_slice(), node.id(), steps);
-        let rested = rest(paused, node.has_beaten());
+        let rested = rest(rt, paused, silence(port.part()));
         gate.pass(node.id(), steps);
         match turn_rested(node, port, script, &rested) {
             Turn::Took(_) => {}
@@ -89,7 +68,7 @@ fn drive<R: Wait, G: Gate>(rt: &R, branch: &mut Branch, script: &Script, gate: &
 }
 
 /// The turns of all replicas, each in a thread of its own.
-fn drive_all<R: Threads + Wait + Sync, G: Gate + Sync>(
+fn drive_all<R: Threads + Wait + Clock + Sync, G: Gate + Sync>(
     rt: &R,
     branches: &mut [Branch],
     script: &Script,
@@ -112,7 +91,7 @@ fn drive_all<R: Threads + Wait + Sync, G: Gate + Sync>(
 }
 
 /// The replicas after all their turns.
-pub(crate) fn driven<R: Threads + Wait + Sync, G: Gate + Sync>(
+pub(crate) fn driven<R: Threads + Wait + Clock + Sync, G: Gate + Sync>(
     rt: &R,
     mut branches: Vec<Branch>,
     script: &Script,

@@ -5,6 +5,7 @@ mod branch;
 mod leaving;
 mod lists;
 mod playing;
+mod resting;
 mod rounds;
 mod running;
 mod spelling;

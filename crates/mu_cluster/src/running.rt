@@ -18,6 +18,7 @@ use shared_fabric::{Shared, SharedPorts};
 use std::alloc::Global;
 use std::sync::Wait;
 use std::thread::Threads;
+use std::time::Clock;
 
 /// Runs a job: each replica takes its turns in a thread of its own, over memory that all share, and
 /// calls the gate before each turn. All memory is taken before the first turn.
@@ -25,7 +26,7 @@ use std::thread::Threads;
 /// # Errors
 ///
 /// Only for want of memory. Then no replica has taken a turn.
-pub fn run<R: Threads + Wait + Sync, G: Gate + Sync>(
+pub fn run<R: Threads + Wait + Clock + Sync, G: Gate + Sync>(
     rt: &R,
     alloc: Global,
     job: Job,

@@ -13,9 +13,10 @@ use mu_report::Said;
 use std::alloc::Global;
 use std::sync::Wait;
 use std::thread::Threads;
+use std::time::Clock;
 
 /// What is said of a run by threads of the job of these bytes.
-pub(crate) fn told_of_run<R: Threads + Wait + Sync, G: Gate + Sync>(
+pub(crate) fn told_of_run<R: Threads + Wait + Clock + Sync, G: Gate + Sync>(
     rt: &R,
     alloc: Global,
     bytes: &[u8],
@@ -36,7 +37,7 @@ pub(crate) fn told_of_run<R: Threads + Wait + Sync, G: Gate + Sync>(
 ///
 /// `Refused` exactly if the bytes leave the grammar of jobs; `NoMemory` for want of memory, before
 /// the first step.
-fn ran<R: Threads + Wait + Sync, G: Gate + Sync>(
+fn ran<R: Threads + Wait + Clock + Sync, G: Gate + Sync>(
     rt: &R,
     alloc: Global,
     bytes: &[u8],

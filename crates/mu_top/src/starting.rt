@@ -17,11 +17,12 @@ use std::io::ErrorKind;
 use std::process::ExitCode;
 use std::sync::Wait;
 use std::thread::Threads;
+use std::time::Clock;
 
 /// Does what the words ask for, as [`mu`] does, and ends with its status. If one of them is no text
 /// (`InvalidData`), the usage is told, since no command has such a word. If there was no memory for
 /// them, nothing is read or written, and the status is 6.
-pub fn mu_from_words<R: Threads + Wait + Sync, S: Source, K: Sink, G: Gate + Sync>(
+pub fn mu_from_words<R: Threads + Wait + Clock + Sync, S: Source, K: Sink, G: Gate + Sync>(
     rt: &R,
     alloc: Global,
     words: Result<Vec<String>, ErrorKind>,

@@ -24,6 +24,7 @@ use mu_shell::Answered;
 use std::alloc::Global;
 use std::sync::Wait;
 use std::thread::Threads;
+use std::time::Clock;
 
 /// Does what the words ask for: reads all of the source if they need input, runs the job or judges
 /// the trace, and writes what is said. Memory is wanted only before the first step of a replica or
@@ -33,7 +34,7 @@ use std::thread::Threads;
 ///
 /// The words are `replay`, `run`, `trace`, `check`, `why`, `tell`, `desk` or `book`, with nothing
 /// after it, or `show`, `bulk` or `live` with a number.
-pub fn mu<R: Threads + Wait + Sync, S: Source, K: Sink, G: Gate + Sync>(
+pub fn mu<R: Threads + Wait + Clock + Sync, S: Source, K: Sink, G: Gate + Sync>(
     rt: &R,
     alloc: Global,
     words: &[String],
@@ -73,7 +74,7 @@ pub(crate) fn answer<K: Sink>(sink: &mut K, said: Said) -> Answered<Said>
 }
 
 /// What is said if this is asked of the source.
-fn told<R: Threads + Wait + Sync, S: Source, G: Gate + Sync>(
+fn told<R: Threads + Wait + Clock + Sync, S: Source, G: Gate + Sync>(
     rt: &R,
     alloc: Global,
     asked: Option<Asked>,
@@ -93,7 +94,7 @@ fn told<R: Threads + Wait + Sync, S: Source, G: Gate + Sync>(
 }
 
 /// What is said if this is asked of all that the source has left.
-fn told_of_input<R: Threads + Wait + Sync, S: Source, G: Gate + Sync>(
+fn told_of_input<R: Threads + Wait + Clock + Sync, S: Source, G: Gate + Sync>(
     rt: &R,
     alloc: Global,
     task: Task,
@@ -113,7 +114,7 @@ fn told_of_input<R: Threads + Wait + Sync, S: Source, G: Gate + Sync>(
 }
 
 /// What is said if this is asked of these bytes.
-fn told_of_bytes<R: Threads + Wait + Sync, G: Gate + Sync>(
+fn told_of_bytes<R: Threads + Wait + Clock + Sync, G: Gate + Sync>(
     rt: &R,
     alloc: Global,
     task: Task,

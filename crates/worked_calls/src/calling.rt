@@ -5,6 +5,7 @@ use mu_top::mu;
 use std::alloc::{AllocError, Global};
 use std::sync::Wait;
 use std::thread::Threads;
+use std::time::Clock;
 
 /// The most bytes that a row writes.
 const ROOM: usize = 4096;
@@ -51,7 +52,7 @@ fn sink_of(alloc: Global, failing_write: u32) -> Result<MemSink, AllocError> {
 }
 
 /// The status of the top call, and how many bytes the sink took.
-fn answer<R: Threads + Wait + Sync>(
+fn answer<R: Threads + Wait + Clock + Sync>(
     rt: &R,
     alloc: Global,
     words: &[String],
@@ -64,7 +65,7 @@ fn answer<R: Threads + Wait + Sync>(
 
 /// Calls the top call with these words over this source, and over a sink that fails at one write
 /// (0 for none).
-pub(crate) fn ask<R: Threads + Wait + Sync>(
+pub(crate) fn ask<R: Threads + Wait + Clock + Sync>(
     rt: &R,
     alloc: Global,
     asked: &[&str],
@@ -88,7 +89,7 @@ pub(crate) fn says(call: &Call, status: u8, text: &[u8]) -> bool {
 
 /// Whether the top call with these words over the input ends with this status and says this text,
 /// both in pieces.
-pub(crate) fn answers<R: Threads + Wait + Sync>(
+pub(crate) fn answers<R: Threads + Wait + Clock + Sync>(
     rt: &R,
     alloc: Global,
     asked: &[&str],
@@ -103,7 +104,7 @@ pub(crate) fn answers<R: Threads + Wait + Sync>(
 }
 
 /// Calls the top call with one word over the input; one read and one write fail (0 for none).
-pub(crate) fn told_with_faults<R: Threads + Wait + Sync>(
+pub(crate) fn told_with_faults<R: Threads + Wait + Clock + Sync>(
     rt: &R,
     alloc: Global,
     word: &str,

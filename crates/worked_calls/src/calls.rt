@@ -4,6 +4,7 @@ use std::alloc::{AllocError, Global};
 use std::sync::Wait;
 use std::test::Fail;
 use std::thread::Threads;
+use std::time::Clock;
 
 /// The job of a put and a get.
 const PUT_AND_GET: &str = "mu 1\nreplicas 3\nring 8\nbudget 1000\nclient 0\nput a 5\nget a\nend\n";
@@ -279,7 +280,7 @@ fn judges_lists(rt: HostRuntime) -> Result<(), Fail> {
 
 /// Whether the replay of the put and the get ends with this status and says this text, if one
 /// read fails (0 for none).
-fn ends_at_read<R: Threads + Wait + Sync>(
+fn ends_at_read<R: Threads + Wait + Clock + Sync>(
     rt: &R,
     alloc: Global,
     failing: u32,
@@ -304,7 +305,7 @@ fn tells_each_failing_read(rt: HostRuntime) -> Result<(), Fail> {
 
 /// The status, what was taken and how many bytes were written of the replay of the put and the get,
 /// if one write fails.
-fn end_at_write<R: Threads + Wait + Sync>(
+fn end_at_write<R: Threads + Wait + Clock + Sync>(
     rt: &R,
     alloc: Global,
     failing: u32,

@@ -6,6 +6,7 @@ use std::alloc::{AllocError, Global};
 use std::sync::Wait;
 use std::test::Fail;
 use std::thread::Threads;
+use std::time::Clock;
 
 /// Inputs that are no job, and what is said of them.
 const REFUSED: [(&str, &str); 14] = [
@@ -76,7 +77,7 @@ fn refuses_with_line_and_cause(rt: HostRuntime) -> Result<(), Fail> {
 }
 
 /// Whether the top call over this many line feeds ends with this status and says this text.
-fn answers_line_feeds<R: Threads + Wait + Sync>(
+fn answers_line_feeds<R: Threads + Wait + Clock + Sync>(
     rt: &R,
     alloc: Global,
     count: usize,

@@ -2,7 +2,7 @@
 use crate::replays::{ONE_PUT, TWO_CLIENTS, job_of};
 use kv_store::Reply;
 use mu_cluster::{Gate, OpenGate, Outcome, rows_spell_commands, run};
-use mu_model::End;
+use mu_model::{Answer, End, Event, Verb};
 use mu_outcome::Log;
 use std::alloc::Global;
 use std::sync::Wait;
@@ -10,6 +10,7 @@ use std::sync::atomic::{AtomicU64, Ordering};
 use std::test::Fail;
 use std::thread;
 use std::thread::Threads;
+use std::time::Clock;
 
 /// Two calls of a gate, and which of them were entered.
 #[derive(Drop)]
@@ -65,8 +66,31 @@ impl Gate for Crossed {
     }
 }
 
+/// Holds the first turn of replica 0 until that of replica 1 is entered, and that one until replica
+/// 0 has taken nine.
+#[derive(Drop)]
+struct Ahead {
+    first: Pair,
+    ninth: AtomicU64,
+    failures: AtomicU64,
+}
+
+impl Gate for Ahead {
+    fn pass(&self, replica: u8, step: u32) {
+        let met = match (replica, step) {
+            (0, 0) => meet(&self.first.one, &self.first.other),
+            (1, 0) => meet(&self.first.other, &self.ninth),
+            (0, 9) => meet(&self.ninth, &self.ninth),
+            _ => true,
+        };
+        if !met {
+            self.failures.fetch_add(1, Ordering::SeqCst);
+        }
+    }
+}
+
 /// What the job of a text leaves, whose replicas run in threads.
-fn ran<R: Threads + Wait + Sync, G: Gate + Sync>(
+fn ran<R: Threads + Wait + Clock + Sync, G: Gate + Sync>(
     rt: &R,
     alloc: Global,
     text: &str,
@@ -96,7 +120,7 @@ fn are_three(outcome: &Outcome) -> bool {
 }
 
 /// Whether three replicas' logs of a run of the two clients' job are so.
-fn three_agree<R: Threads + Wait + Sync, G: Gate + Sync>(
+fn three_agree<R: Threads + Wait + Clock + Sync, G: Gate + Sync>(
     rt: &R,
     alloc: Global,
     gate: &G,
@@ -115,6 +139,40 @@ fn three_replicas_run_at_once(rt: HostRuntime) -> Result<(), Fail> {
     };
     let are_right = three_agree(&rt, rt.alloc(), &gate)?;
     assert!(rt; are_right && gate.failures.load(Ordering::SeqCst) == 0);
+    Ok(())
+}
+
+/// What the first read of the beats of replica 1 found.
+fn beats_read(events: &[Event]) -> Option<Answer> {
+    let mut reads = events
+        .iter()
+        .filter(|event| event.verb == Verb::ReadBeat(1));
+    reads.next().map(|event| event.answer)
+}
+
+/// Whether replica 0 of the two clients' job reads the beats of replica 1 before it has beaten.
+fn reads_no_beat<R: Threads + Wait + Clock + Sync, G: Gate + Sync>(
+    rt: &R,
+    alloc: Global,
+    gate: &G,
+) -> Result<bool, Fail> {
+    let outcome = ran(rt, alloc, TWO_CLIENTS, gate)?;
+    let first = match outcome.journals.as_slice().first() {
+        Some(journal) => beats_read(journal.as_slice()),
+        None => None,
+    };
+    Ok(first == Some(Answer::Number(0)))
+}
+
+#[test]
+fn gate_comes_before_the_turn(rt: HostRuntime) -> Result<(), Fail> {
+    let gate = Ahead {
+        first: Pair::new(),
+        ninth: AtomicU64::new(0),
+        failures: AtomicU64::new(0),
+    };
+    let is_right = reads_no_beat(&rt, rt.alloc(), &gate)?;
+    assert!(rt; is_right && gate.failures.load(Ordering::SeqCst) == 0);
     Ok(())
 }
 
