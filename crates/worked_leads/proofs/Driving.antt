@@ -14,7 +14,7 @@ use Rattle.mu_model.specs.Legal.{IsLegal, IsLegalHistory}
 use Rattle.mu_model.proofs.Basics.{event_by, none_some}
 use Rattle.mu_detect.specs.declared.scores.Scores.{Scores}
 use Rattle.mu_lead.specs.declared.lead.Lead.{Lead}
-use Rattle.mu_lead.specs.Beside.{is_beside, leads_at}
+use Rattle.mu_lead.specs.Beside.{is_beside, leads_at, writes_row}
 use Rattle.mu_lead.specs.Standing.{StandsFor, known_told}
 use Rattle.mu_lead.proofs.Others.{others_kept}
 use Rattle.mu_parts.specs.declared.replica.Replica.{Replica}
@@ -58,9 +58,14 @@ due_if_named true due (Some verb) is = sym is
 due_if_named false due None is = tt
 due_if_named false due (Some verb) is = absurd (none_some verb (sym is))
 
+-- a verb that is beside the leader whether it leads or not writes no row
+aside_writes_none : (verb : Verb) → is_beside false verb ≡ true → writes_row verb ≡ false
+aside_writes_none (Verb.WriteRow j k x) beside = absurd (true≢false (sym beside))
+aside_writes_none verb beside = refl
+
 -- a step of another machine keeps what the leader stands for
-pub stands_aside : (past : List Event) (e : Event) (l : Lead) → e.by ≡ l.id → is_beside (leads_at l.place) e.verb ≡ true → IsLegalHistory l.config (e ∷ past) → StandsFor (part l.id past) l → StandsFor (part l.id (e ∷ past)) l
+pub stands_aside : (past : List Event) (e : Event) (l : Lead) → e.by ≡ l.id → ((leading : Bool) → is_beside leading e.verb ≡ true) → IsLegalHistory l.config (e ∷ past) → StandsFor (part l.id past) l → StandsFor (part l.id (e ∷ past)) l
 stands_aside past e l is beside legal stands =
     let own : part l.id (e ∷ past) ≡ event_by l.id e.verb e.answer ∷ part l.id past =
     subst (λ r. part r (e ∷ past) ≡ event_by r e.verb e.answer ∷ part r past) is (part_of_maker e past) in
-    subst (λ m. StandsFor m l) (sym own) (others_kept (part l.id past) l e.verb e.answer beside (record { past = e ∷ past; legal = legal; is = own }) stands)
+    subst (λ m. StandsFor m l) (sym own) (others_kept (part l.id past) l e.verb e.answer (aside_writes_none e.verb (beside false)) (beside (leads_at l.place)) (record { past = e ∷ past; legal = legal; is = own }) stands)
