@@ -139,8 +139,10 @@ writes_alone c events front (e ∷ past) lengths rounds names run is some =
         let at = reached events front past e is some in
         let there = subst (λ l. AtEachStep (WasMade c e.by) (part e.by l)) is (run.made e.by (inside (nat_lt e.by c.replicas) refl)) in
         let made = part_step (WasMade c e.by) past e (part_before (WasMade c e.by) e.by front (e ∷ past) there) in
+        let whole = subst (λ l. AtEachStep (WasMade c e.by) (part e.by l)) (more_front events front past e is) (run.made e.by (inside (nat_lt e.by c.replicas) refl)) in
+        let before = part_before (WasMade c e.by) e.by (front ++ e ∷ []) past whole in
         let named = ap (λ l. leader c e.by (part e.by l)) (sym (reverse-reverse past)) ∙ names.named (history past) e.by (before_end events (history past) e at) (inside (nat_lt e.by c.replicas) refl) in
-        sym (writer_named c e.by (part e.by past) e made (ap is_row_write wrote)) ∙ named
+        sym (writer_named c e.by (part e.by past) e before made (ap is_row_write wrote)) ∙ named
 
 -- replica 0 names itself
 pub names_itself : (c : Config) (mine : List Event) → 0 < c.replicas → AtEachMoment (λ now. is_named c 0 now ≡ true) mine

@@ -68,7 +68,7 @@ row_same c r u past (Verb.ReadRow w word) answer no_write of_known completes = e
 row_same c r u past verb answer no_write of_known completes = refl
 
 -- the values before the first that fails, by two tests that are the same for each of them
-front_same : (c : Config) (row_before row_now : ℕ → Bool) (xs : List ℕ) → ((u : ℕ) → is_row_of c u xs ≡ true → row_now u ≡ row_before u)
+pub front_same : (c : Config) (row_before row_now : ℕ → Bool) (xs : List ℕ) → ((u : ℕ) → is_row_of c u xs ≡ true → row_now u ≡ row_before u)
     → length (front (λ v. not (is_batch c v) || all_below (rest_of c (v % 4096) + 1) (λ t. row_now (v + t))) xs) ≡ length (front (λ v. not (is_batch c v) || all_below (rest_of c (v % 4096) + 1) (λ t. row_before (v + t))) xs)
 front_same c row_before row_now [] same = refl
 front_same c row_before row_now (v ∷ vs) same = go (is_batch c v) refl (front_same c row_before row_now vs (λ u is. same u (or_true (is_batch c v && (nat_le v u && nat_le u (v + rest_of c (v % 4096)))) (is_row_of c u vs) is)))
@@ -229,12 +229,7 @@ fuo_rises r past e = grows (fuo_read r r e.by e.verb e.answer) (greatest_fuo_rea
     grows None x = omega arith
     grows (Some y) x = omega arith
 
--- the same of an event that is r's own
-pub own_applied_same : (c : Config) (r : ℕ) (past : List Event) (e : Event) → e.by ≡ r → is_write e.verb ≡ false → knows_more c r past e ≡ false → completes_row c r past e ≡ false → length (applied c r (e ∷ past)) ≡ length (applied c r past)
-own_applied_same c r past e own =
-    subst (λ b. is_write e.verb ≡ false → knows_more c r past (event_by b e.verb e.answer) ≡ false → completes_row c r past (event_by b e.verb e.answer) ≡ false → length (applied c r (event_by b e.verb e.answer ∷ past)) ≡ length (applied c r past)) (sym own)
-    (λ no_write no_more completes. applied_same c r past e.verb e.answer no_write no_more completes)
-
+-- and of what rows it has
 pub own_row_same : (c : Config) (r u : ℕ) (past : List Event) (e : Event) → e.by ≡ r → is_write e.verb ≡ false → is_row_of c u (known c r past) ≡ true → completes_row c r past e ≡ false → has_row r u (e ∷ past) ≡ has_row r u past
 own_row_same c r u past e own =
     subst (λ b. is_write e.verb ≡ false → is_row_of c u (known c r past) ≡ true → completes_row c r past (event_by b e.verb e.answer) ≡ false → has_row r u (event_by b e.verb e.answer ∷ past) ≡ has_row r u past) (sym own)

@@ -1,9 +1,9 @@
 -- The leader's place, tables and number are those of its journal.
 use Rattle.mu_lead.proofs.Lates.{fence_ends}
 use Rattle.mu_lead.proofs.Says.{said_next}
-use Rattle.mu_lead.specs.Beside.{leads_at}
+use Rattle.mu_lead.specs.Beside.{leads_at, writes_row}
 use Rattle.mu_lead.specs.Going.{begins_at, going_after}
-use Rattle.mu_lead.specs.Journal.{HasLeft, IsWhere, PlacesNext, WritesDue, due_after, least_above, number_due, number_or, place_after, tables_at, tables_with}
+use Rattle.mu_lead.specs.Journal.{HasLeft, IsWhere, PlacesNext, WritesDue, due_after, least_above, number_due, number_or, place_after, tables_at, tables_beside, tables_with}
 use Rattle.mu_lead.specs.Lasting.{FollowsDue, tables_of}
 use Rattle.mu_lead.specs.Listing.{Tables, next_place}
 use Rattle.mu_lead.specs.Losses.{LosesEntering, LosesReading}
@@ -85,14 +85,29 @@ pub turn_tables : (c : Config) (r : ℕ) (mine : List Event) (e : Event) → is_
 turn_tables c r mine e turn = rw turn refl
 
 -- the background leaves the leader where it is
-pub where_beside : (c : Config) (r : ℕ) (mine : List Event) (e : Event) (l : Lead) → is_replication mine e ≡ false → IsWhere c r mine l → IsWhere c r (e ∷ mine) l
-where_beside c r mine e l off at = record { place = at.place ∙ same_place off; tables = at.tables ∙ same_tables off; idle = at.idle }
-  where
-    same_place : is_replication mine e ≡ false → place_after c r mine ≡ place_after c r (e ∷ mine)
-    same_place off = rw off refl
+beside_tables : (t : Tables) (verb : Verb) → writes_row verb ≡ false → t ≡ tables_beside t verb
+beside_tables t (Verb.WriteRow j k x) none = absurd (true≢false none)
+beside_tables t verb none = refl
 
-    same_tables : is_replication mine e ≡ false → tables_at c r mine ≡ tables_at c r (e ∷ mine)
-    same_tables off = rw off refl
+pub where_beside : (c : Config) (r : ℕ) (mine : List Event) (e : Event) (l : Lead) → is_replication mine e ≡ false → writes_row e.verb ≡ false → IsWhere c r mine l → IsWhere c r (e ∷ mine) l
+where_beside c r mine e l off none at = record { place = at.place ∙ same_place; tables = at.tables ∙ (beside_tables (tables_at c r mine) e.verb none ∙ same_tables); idle = at.idle }
+  where
+    same_place : place_after c r mine ≡ place_after c r (e ∷ mine)
+    same_place = rw off refl
+
+    same_tables : tables_beside (tables_at c r mine) e.verb ≡ tables_at c r (e ∷ mine)
+    same_tables = rw off refl
+
+-- and so does a word that is written ahead, with its tables
+pub where_ahead : (c : Config) (r : ℕ) (mine : List Event) (e : Event) (old new : Lead) → is_replication mine e ≡ false → new.place ≡ old.place → new.under_way ≡ old.under_way → tables_of new ≡ tables_beside (tables_of old) e.verb → IsWhere c r mine old → IsWhere c r (e ∷ mine) new
+where_ahead c r mine e old new off place going tables at = record {
+  place = place ∙ (at.place ∙ rw off refl);
+  tables = tables ∙ (ap (λ t. tables_beside t e.verb) at.tables ∙ same_tables);
+  idle = λ none. place ∙ at.idle (sym going ∙ none);
+}
+  where
+    same_tables : tables_beside (tables_at c r mine) e.verb ≡ tables_at c r (e ∷ mine)
+    same_tables = rw off refl
 
 -- a lost `Enter` begins anew
 enter_anew : (c : Config) (r b p : ℕ) (values up written : List ℕ) (now : List Event) (t : Tables) (f : Fence) (place : Place) (target : Target) → verb_at c b values up written place ≡ Some (Verb.Enter p target) → next_place c r b now t (Answer.Lost f) place ≡ Place.Ask 0

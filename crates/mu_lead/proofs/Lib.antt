@@ -1,3 +1,4 @@
+pub mod Ahead
 mod Allowing
 mod Asking
 mod Bringing

@@ -81,7 +81,7 @@ looking_row c r b j k x p mine up reach l = record {
   shows = l.shows;
 }
 
-more_all : (r i j k x : ℕ) (mine : List Event) → all_below 12 (λ w. wrote r i w mine) ≡ true → all_below 12 (λ w. wrote r i w (row_event r j k x ∷ mine)) ≡ true
+pub more_all : (r i j k x : ℕ) (mine : List Event) → all_below 12 (λ w. wrote r i w mine) ≡ true → all_below 12 (λ w. wrote r i w (row_event r j k x ∷ mine)) ≡ true
 more_all r i j k x mine is = each_all 12 (λ w. wrote r i w (row_event r j k x ∷ mine)) (λ w low. still (((r == r) && ((j == i) && (k == w)))) (wrote r i w mine) (all_at 12 (λ w. wrote r i w mine) is w low))
   where
     still : (t s : Bool) → s ≡ true → cond t true s ≡ true

@@ -1,5 +1,5 @@
 -- What other machines of the replica do keeps what its leader stands for.
-use Rattle.std.proofs.Common.{Bool, List, None, Some, ap, eq-eqb, false, inl, inr, is_some, refl, sym, true, true≢false, ℕ, ◌&&◌, ◌+◌, ◌-◌, ◌/◌, ◌==◌, ◌||◌, ◌∙◌, ◌∷◌, ◌≡◌, ◌≢◌}
+use Rattle.std.proofs.Common.{Bool, List, None, Some, ap, eq-eqb, false, inl, inr, is_some, refl, sym, true, true≢false, ℕ, ◌&&◌, ◌+◌, ◌-◌, ◌/◌, ◌%◌, ◌==◌, ◌||◌, ◌∙◌, ◌∷◌, ◌≡◌, ◌≢◌}
 use Rattle.std.specs.Prelude.{not}
 use Rattle.std.specs.declared.option.Option.{Option}
 use Rattle.std.proofs.lemmas.Bool.{and_from, and_parts}
@@ -8,20 +8,22 @@ use Rattle.mu_model.specs.declared.event.Answer.{Answer}
 use Rattle.mu_model.specs.declared.event.Event.{Event}
 use Rattle.mu_model.specs.declared.event.Verb.{Verb}
 use Rattle.mu_model.specs.Allowed.{last_ask}
-use Rattle.mu_model.specs.Contents.{is_mark, marked}
+use Rattle.mu_model.specs.Contents.{client_of, command_count, is_batch, is_mark, marked, number_of}
 use Rattle.mu_model.specs.Histories.{all_below, newest}
-use Rattle.mu_model.specs.Knowledge.{known}
+use Rattle.mu_model.specs.Knowledge.{known, wrote_batch}
 use Rattle.mu_model.specs.Leaderships.{begins_leadership, is_member, proposal_number}
 use Rattle.mu_model.specs.Parts.{IsPossible}
 use Rattle.mu_model.specs.Picks.{first_value, highest_accepted, is_mark_offer, is_offer, last_look, may_pick_at, may_propose, pick}
 use Rattle.mu_model.specs.Placing.{IsNew}
 use Rattle.mu_model.specs.Room.{head_read, is_mark_candidate, lacks_room, reserve}
 use Rattle.mu_model.specs.Scores.{is_failed}
-use Rattle.mu_model.proofs.Basics.{event_by, or_true}
+use Rattle.mu_model.proofs.Basics.{event_by, or_true, true_or}
+use Rattle.mu_agree.proofs.Sound.{wrote_more}
+use Rattle.mu_lead.proofs.Offers.{more_all}
 use Rattle.mu_model.proofs.Scans.{all_at, each_all}
 use Rattle.mu_lead.specs.declared.place.Place.{Place}
 use Rattle.mu_lead.specs.declared.lead.Lead.{Lead}
-use Rattle.mu_lead.specs.Beside.{OthersKeep, is_beside, leads_at, leaves_leader}
+use Rattle.mu_lead.specs.Beside.{OthersKeep, is_beside, leads_at, leaves_leader, writes_row}
 use Rattle.mu_lead.specs.Confirming.{AtEvidence, Fresh}
 use Rattle.mu_lead.specs.Leading.{end_of}
 use Rattle.mu_lead.specs.Offering.{leaves_room}
@@ -118,6 +120,32 @@ asked_beside c r (Verb.PutSlot q i n v) answer mine p beside h = absurd (true≢
 asked_beside c r (Verb.WriteRow j k x) answer mine p beside h = absurd (true≢false (sym beside))
 asked_beside c r verb answer mine p beside h = h
 
+-- and after a word of a row that was written in between
+offer_row_more : (c : Config) (r v : ℕ) (e : Event) (mine : List Event) → known c r (e ∷ mine) ≡ known c r mine → is_offer c r mine v ≡ true → is_offer c r (e ∷ mine) v ≡ true
+offer_row_more c r v e mine same is =
+    let a = and_parts (is_batch c v) ((v / 4096 == r) && (wrote_batch c r (v % 4096) mine && (number_of c (v % 4096) == command_count c (client_of c (v % 4096)) (known c r mine) + 1))) is in
+    let b = and_parts (v / 4096 == r) (wrote_batch c r (v % 4096) mine && (number_of c (v % 4096) == command_count c (client_of c (v % 4096)) (known c r mine) + 1)) a.1 in
+    let d = and_parts (wrote_batch c r (v % 4096) mine) (number_of c (v % 4096) == command_count c (client_of c (v % 4096)) (known c r mine) + 1) b.1 in
+    rw (a.0, b.0, wrote_more c r (v % 4096) e mine d.0) (ap (λ values. number_of c (v % 4096) == command_count c (client_of c (v % 4096)) values + 1) same ∙ d.1)
+
+picked_row : (c : Config) (r v j k x : ℕ) (answer : Answer) (mine : List Event) (o : Option (ℕ × ℕ)) → pick c r mine v o ≡ true → pick c r (event_by r (Verb.WriteRow j k x) answer ∷ mine) v o ≡ true
+picked_row c r v j k x answer mine (Some entry) is = is
+picked_row c r v j k x answer mine None is = go (is_offer c r mine v) refl (is_mark_offer c r mine v) refl is
+  where
+    now : List Event
+    now = event_by r (Verb.WriteRow j k x) answer ∷ mine
+
+    go : (s : Bool) → is_offer c r mine v ≡ s → (t : Bool) → is_mark_offer c r mine v ≡ t → (s || t) ≡ true → (is_offer c r now v || is_mark_offer c r now v) ≡ true
+    go true offered t marked is = true_or (is_offer c r now v) (is_mark_offer c r now v) (offer_row_more c r v (event_by r (Verb.WriteRow j k x) answer) mine refl offered)
+    go false offered true marked is = or_true (is_offer c r now v) (is_mark_offer c r now v) marked
+    go false offered false marked is = absurd (true≢false (sym is))
+
+proposed_row : (c : Config) (r i v j k x : ℕ) (answer : Answer) (mine : List Event) (o : Option ℕ) → may_propose c r mine i v o ≡ true → may_propose c r (event_by r (Verb.WriteRow j k x) answer ∷ mine) i v o ≡ true
+proposed_row c r i v j k x answer mine (Some first) is = is
+proposed_row c r i v j k x answer mine None is =
+    let parts = and_parts (all_below c.replicas (λ p. not (is_member r p mine) || is_some (last_look r p i mine))) (may_pick_at c r mine i v) is in
+    and_from (all_below c.replicas (λ p. not (is_member r p mine) || is_some (last_look r p i mine))) (may_pick_at c r (event_by r (Verb.WriteRow j k x) answer ∷ mine) i v) parts.0 (picked_row c r v j k x answer mine (highest_accepted r i mine c.replicas) parts.1)
+
 new_beside : (c : Config) (r : ℕ) (verb : Verb) (answer : Answer) (mine : List Event) (i v : ℕ) → is_beside true verb ≡ true → IsPossible c r (event_by r verb answer ∷ mine) → IsNew c r mine i v → IsNew c r (event_by r verb answer ∷ mine) i v
 new_beside c r (Verb.Ask q) answer mine i v beside possible n = absurd (true≢false (sym beside))
 new_beside c r (Verb.Fence q) answer mine i v beside possible n = absurd (true≢false (sym beside))
@@ -125,7 +153,7 @@ new_beside c r (Verb.Min q) answer mine i v beside possible n = absurd (true≢f
 new_beside c r (Verb.Enter q t) answer mine i v beside possible n = absurd (true≢false (sym beside))
 new_beside c r (Verb.PutMin q m) answer mine i v beside possible n = absurd (true≢false (sym beside))
 new_beside c r (Verb.PutSlot q u m w) answer mine i v beside possible n = absurd (true≢false (sym beside))
-new_beside c r (Verb.WriteRow j k x) answer mine i v beside possible n = absurd (true≢false (sym beside))
+new_beside c r (Verb.WriteRow j k x) answer mine i v beside possible n = record { next = n.next; room = n.room; reserve_kept = n.reserve_kept; none_past = n.none_past; value = proposed_row c r i v j k x answer mine (first_value r i mine) n.value }
 new_beside c r (Verb.Fuo q) answer mine i v beside possible n = absurd (true≢false (sym beside))
 new_beside c r (Verb.Look q u) answer mine i v beside possible n = absurd (true≢false (sym beside))
 new_beside c r (Verb.Head q) (Answer.Number h) mine i v beside possible n = new_head c r q h i v mine possible n
@@ -144,18 +172,16 @@ calm_beside leading (Verb.Min q) beside = absurd (true≢false (sym beside))
 calm_beside leading (Verb.Enter q t) beside = absurd (true≢false (sym beside))
 calm_beside leading (Verb.PutMin q n) beside = absurd (true≢false (sym beside))
 calm_beside leading (Verb.PutSlot q i n v) beside = absurd (true≢false (sym beside))
-calm_beside leading (Verb.WriteRow j k x) beside = absurd (true≢false (sym beside))
 calm_beside leading verb beside = refl
 
 -- while the replica leads
-at_on : (c : Config) (r b : ℕ) (verb : Verb) (answer : Answer) (mine : List Event) (up : List ℕ) (reach : List (Option ℕ)) (written : List ℕ) (place : Place) → leads_at place ≡ true → is_beside true verb ≡ true → IsPossible c r (event_by r verb answer ∷ mine) → At c r b mine up reach written place → At c r b (event_by r verb answer ∷ mine) up reach written place
+pub at_on : (c : Config) (r b : ℕ) (verb : Verb) (answer : Answer) (mine : List Event) (up : List ℕ) (reach : List (Option ℕ)) (written : List ℕ) (place : Place) → leads_at place ≡ true → is_beside true verb ≡ true → IsPossible c r (event_by r verb answer ∷ mine) → At c r b mine up reach written place → At c r b (event_by r verb answer ∷ mine) up reach written place
 at_on c r b (Verb.Ask q) answer mine up reach written place leading beside possible at = absurd (true≢false (sym beside))
 at_on c r b (Verb.Fence q) answer mine up reach written place leading beside possible at = absurd (true≢false (sym beside))
 at_on c r b (Verb.Min q) answer mine up reach written place leading beside possible at = absurd (true≢false (sym beside))
 at_on c r b (Verb.Enter q t) answer mine up reach written place leading beside possible at = absurd (true≢false (sym beside))
 at_on c r b (Verb.PutMin q n) answer mine up reach written place leading beside possible at = absurd (true≢false (sym beside))
 at_on c r b (Verb.PutSlot q i n v) answer mine up reach written place leading beside possible at = absurd (true≢false (sym beside))
-at_on c r b (Verb.WriteRow j k x) answer mine up reach written place leading beside possible at = absurd (true≢false (sym beside))
 at_on c r b (Verb.Fuo q) answer mine up reach written place leading beside possible at = absurd (true≢false (sym beside))
 at_on c r b (Verb.Look q i) answer mine up reach written place leading beside possible at = absurd (true≢false (sym beside))
 at_on c r b verb answer mine up reach written (Place.ReadMin p) leading beside possible at = record { region = at.region; granted = at.granted; telling = record { fresh = record { begun = at.telling.fresh.begun; goes_on = at.telling.fresh.goes_on; unnumbered = at.telling.fresh.unnumbered; alone = at.telling.fresh.alone; unput = at.telling.fresh.unput }; confirmed = record { own = at.telling.confirmed.own; many = at.telling.confirmed.many }; told = at.telling.told; low = at.telling.low } }
@@ -176,6 +202,7 @@ at_on c r b verb answer mine up reach written (Place.LateEnter p) leading beside
 at_on c r b verb answer mine up reach written (Place.LatePut p) leading beside possible at = record { entering = record { told = record { late = record { region = at.entering.told.late.region; stranger = at.entering.told.late.stranger; level = record { leads = leads_kept c r b r verb answer mine refl at.entering.told.late.level.leads; have = at.entering.told.late.level.have; raised = at.entering.told.late.level.raised; few = at.entering.told.late.level.few } }; granted = at.entering.told.granted; told = at.entering.told.told; low = at.entering.told.low }; short = at.entering.short; raised = at.entering.raised; read = at.entering.read; late = at.entering.late }; entered = at.entered; under = at.under }
 at_on c r b verb answer mine up reach written (Place.ReadHead p candidate) leading beside possible at = record { region = at.region; unmarked = at.unmarked; level = record { leads = leads_kept c r b r verb answer mine refl at.level.leads; have = at.level.have; raised = at.level.raised; few = at.level.few }; roomy = roomy_more c r p (event_by r verb answer) mine candidate possible refl refl at.roomy }
 at_on c r b verb answer mine up reach written (Place.Look p u candidate best) leading beside possible at = record { region = at.region; member = at.member; position = at.position; looking = record { level = record { leads = leads_kept c r b r verb answer mine refl at.looking.level.leads; have = at.looking.level.have; raised = at.looking.level.raised; few = at.looking.level.few }; roomy = roomy_more c r c.replicas (event_by r verb answer) mine candidate possible refl refl at.looking.roomy; looked = λ q low member. (let d = at.looking.looked q low member in record { good = rw member d.good; last = d.last; clear = d.clear; empty = d.empty }); shows = at.looking.shows } }
+at_on c r b (Verb.WriteRow j k x) answer mine up reach written (Place.Write u last offer) leading beside possible at = (let w = at.0.writing in (record { writing = record { looking = record { level = record { leads = leads_kept c r b r (Verb.WriteRow j k x) answer mine refl w.looking.level.leads; have = w.looking.level.have; raised = w.looking.level.raised; few = w.looking.level.few }; roomy = roomy_more c r c.replicas (event_by r (Verb.WriteRow j k x) answer) mine None possible refl refl w.looking.roomy; looked = λ q low member. (let d = w.looking.looked q low member in record { good = rw member d.good; last = d.last; clear = d.clear; empty = d.empty }); shows = w.looking.shows }; first = w.first; value = w.value; own = w.own; batch = record { batch = w.batch.batch; row = w.batch.row; next = w.batch.next }; last_row = w.last_row; from = w.from; to = w.to; below = λ i from low. more_all r i j k x mine (w.below i from low) }; inside = at.0.inside }, at.1))
 at_on c r b verb answer mine up reach written (Place.Write u last offer) leading beside possible at = (let w = at.0.writing in (record { writing = record { looking = record { level = record { leads = leads_kept c r b r verb answer mine refl w.looking.level.leads; have = w.looking.level.have; raised = w.looking.level.raised; few = w.looking.level.few }; roomy = roomy_more c r c.replicas (event_by r verb answer) mine None possible refl refl w.looking.roomy; looked = λ q low member. (let d = w.looking.looked q low member in record { good = rw member d.good; last = d.last; clear = d.clear; empty = d.empty }); shows = w.looking.shows }; first = w.first; value = w.value; own = w.own; batch = record { batch = w.batch.batch; row = w.batch.row; next = w.batch.next }; last_row = w.last_row; from = w.from; to = w.to; below = w.below }; inside = at.0.inside }, at.1))
 at_on c r b verb answer mine up reach written (Place.Enter p offer) leading beside possible at = (record { region = at.0.region; member = at.0.member; offering = record { begun = at.0.offering.begun; goes_on = at.0.offering.goes_on; numbered = at.0.offering.numbered; carried = at.0.offering.carried; held = λ q region member. (let h = at.0.offering.held q region member in record { grant = h.grant; noted = h.noted; joined = h.joined }); have = at.0.offering.have; raised = at.0.offering.raised; few = at.0.offering.few; within = at.0.offering.within; new = new_beside c r verb answer mine (end_of c r mine) offer.value beside possible at.0.offering.new; below = at.0.offering.below; above = at.0.offering.above; unput = at.0.offering.unput }; looked = λ q more region member. rw member (at.0.looked q more region member) }, shows_kept c r (end_of c r mine) r verb answer mine offer.adopted (keeps_beside verb beside) at.1)
 at_on c r b verb answer mine up reach written (Place.Put p offer) leading beside possible at = (record { entering = record { region = at.0.entering.region; member = at.0.entering.member; offering = record { begun = at.0.entering.offering.begun; goes_on = at.0.entering.offering.goes_on; numbered = at.0.entering.offering.numbered; carried = at.0.entering.offering.carried; held = λ q region member. (let h = at.0.entering.offering.held q region member in record { grant = h.grant; noted = h.noted; joined = h.joined }); have = at.0.entering.offering.have; raised = at.0.entering.offering.raised; few = at.0.entering.offering.few; within = at.0.entering.offering.within; new = new_beside c r verb answer mine (end_of c r mine) offer.value beside possible at.0.entering.offering.new; below = at.0.entering.offering.below; above = at.0.entering.offering.above; unput = at.0.entering.offering.unput }; looked = λ q more region member. rw member (at.0.entering.looked q more region member) }; entered = at.0.entered; under = at.0.under; looked_before = rw at.0.entering.member at.0.looked_before }, shows_kept c r (end_of c r mine) r verb answer mine offer.adopted (keeps_beside verb beside) at.1)
@@ -200,16 +227,17 @@ begins_none : (leading : Bool) (r : ℕ) (verb : Verb) (answer : Answer) → is_
 begins_none leading r (Verb.Ask q) answer beside = absurd (true≢false (sym beside))
 begins_none leading r verb answer beside = refl
 
-writes_none : (leading : Bool) (verb : Verb) → is_beside leading verb ≡ true → is_write verb ≡ false
-writes_none leading (Verb.WriteRow j k x) beside = absurd (true≢false (sym beside))
-writes_none leading verb beside = refl
+writes_none : (leading : Bool) (verb : Verb) → leading ≡ false → is_beside leading verb ≡ true → is_write verb ≡ false
+writes_none leading (Verb.WriteRow j k x) unled beside = absurd (true≢false (sym beside ∙ unled))
+writes_none leading verb unled beside = refl
 
 -- such a verb leaves the leader
-pub beside_leaves : (leading : Bool) (known : ℕ) (verb : Verb) → is_beside leading verb ≡ true → leaves_leader leading known verb ≡ true
-beside_leaves leading known (Verb.Fuo p) beside = refl
-beside_leaves true known (Verb.Look p i) beside = absurd (true≢false (sym beside))
-beside_leaves false known (Verb.Look p i) beside = refl
-beside_leaves leading known verb beside = beside
+pub beside_leaves : (leading : Bool) (known : ℕ) (verb : Verb) → writes_row verb ≡ false → is_beside leading verb ≡ true → leaves_leader leading known verb ≡ true
+beside_leaves leading known (Verb.WriteRow j k x) none beside = absurd (true≢false none)
+beside_leaves leading known (Verb.Fuo p) none beside = refl
+beside_leaves true known (Verb.Look p i) none beside = absurd (true≢false (sym beside))
+beside_leaves false known (Verb.Look p i) none beside = refl
+beside_leaves leading known verb none beside = beside
 
 -- a look that leaves the leader is at another position than the first unknown one
 looks_apart : (i known : ℕ) → not (i == known) ≡ true → i ≢ known
@@ -217,17 +245,20 @@ looks_apart i known apart same = true≢false (sym apart ∙ ap not (eq-eqb i kn
 
 -- while the replica leads, and while it doesn't
 at_leading : (c : Config) (r b : ℕ) (verb : Verb) (answer : Answer) (mine : List Event) (up : List ℕ) (reach : List (Option ℕ)) (written : List ℕ) (place : Place) → leads_at place ≡ true → leaves_leader true (end_of c r mine) verb ≡ true → IsPossible c r (event_by r verb answer ∷ mine) → At c r b mine up reach written place → At c r b (event_by r verb answer ∷ mine) up reach written place
+at_leading c r b (Verb.WriteRow j k x) answer mine up reach written place leading leaves possible at = absurd (true≢false (sym leaves))
 at_leading c r b (Verb.Fuo q) answer mine up reach written place leading leaves possible at = at_fuo c r b q answer mine up reach written place leading possible at
 at_leading c r b (Verb.Look q i) answer mine up reach written place leading leaves possible at = at_looked c r b q i answer mine up reach written place leading (looks_apart i (end_of c r mine) leaves) at
 at_leading c r b verb answer mine up reach written place leading leaves possible at = at_on c r b verb answer mine up reach written place leading leaves possible at
 
 at_resting : (c : Config) (r b known : ℕ) (verb : Verb) (answer : Answer) (mine : List Event) (up : List ℕ) (reach : List (Option ℕ)) (written : List ℕ) (place : Place) → leads_at place ≡ false → leaves_leader false known verb ≡ true → At c r b mine up reach written place → At c r b (event_by r verb answer ∷ mine) up reach written place
+at_resting c r b known (Verb.WriteRow j k x) answer mine up reach written place leading leaves at = absurd (true≢false (sym leaves))
 at_resting c r b known (Verb.Fuo q) answer mine up reach written place leading leaves at = at_off c r b (Verb.Fuo q) answer mine up reach written place leading refl at
 at_resting c r b known (Verb.Look q i) answer mine up reach written place leading leaves at = at_off c r b (Verb.Look q i) answer mine up reach written place leading refl at
 at_resting c r b known verb answer mine up reach written place leading leaves at = at_off c r b verb answer mine up reach written place leading leaves at
 
 -- it is a calm verb
 leaves_calm : (leading : Bool) (known : ℕ) (verb : Verb) → leaves_leader leading known verb ≡ true → is_beside false verb ≡ true
+leaves_calm leading known (Verb.WriteRow j k x) leaves = absurd (true≢false (sym leaves))
 leaves_calm leading known (Verb.Fuo p) leaves = refl
 leaves_calm leading known (Verb.Look p i) leaves = refl
 leaves_calm leading known verb leaves = leaves
@@ -239,7 +270,7 @@ others_keep_law mine lead verb answer leaves possible s =
       config = s.config;
       inside = s.inside;
       leading = leading_calm lead.id lead.id verb answer mine lead.leading (calm_beside false verb beside) s.leading;
-      tables = tables_kept lead.config lead.id (event_by lead.id verb answer) mine lead.up lead.reach lead.heads lead.written.items possible (begins_none false lead.id verb answer beside) (writes_none false verb beside) s.tables;
+      tables = tables_kept lead.config lead.id (event_by lead.id verb answer) mine lead.up lead.reach lead.heads lead.written.items possible (begins_none false lead.id verb answer beside) (writes_none false verb refl beside) s.tables;
       at = go (leads_at lead.place) refl leaves;
     }
   where
@@ -248,5 +279,5 @@ others_keep_law mine lead verb answer leaves possible s =
     go false leading leaves = at_resting lead.config lead.id lead.number (end_of lead.config lead.id mine) verb answer mine lead.up lead.reach lead.written.items lead.place leading leaves s.at
 
 -- so does what the program's other machines do
-pub others_kept : (mine : List Event) (lead : Lead) (verb : Verb) (answer : Answer) → is_beside (leads_at lead.place) verb ≡ true → IsPossible lead.config lead.id (event_by lead.id verb answer ∷ mine) → StandsFor mine lead → StandsFor (event_by lead.id verb answer ∷ mine) lead
-others_kept mine lead verb answer beside possible s = others_keep_law mine lead verb answer (beside_leaves (leads_at lead.place) (end_of lead.config lead.id mine) verb beside) possible s
+pub others_kept : (mine : List Event) (lead : Lead) (verb : Verb) (answer : Answer) → writes_row verb ≡ false → is_beside (leads_at lead.place) verb ≡ true → IsPossible lead.config lead.id (event_by lead.id verb answer ∷ mine) → StandsFor mine lead → StandsFor (event_by lead.id verb answer ∷ mine) lead
+others_kept mine lead verb answer none beside possible s = others_keep_law mine lead verb answer (beside_leaves (leads_at lead.place) (end_of lead.config lead.id mine) verb none beside) possible s

@@ -16,7 +16,7 @@ use Rattle.mu_lead.specs.Rooms.{IsLed, sizes_of, words_left}
 use Rattle.mu_lead.proofs.RoomsQuiet.{silent_verbs_are_silent, steps_on}
 
 -- the words of rows that are the same
-words_same : (written written' : List ℕ) (j rows : ℕ) → ((i : ℕ) → j ≤ i → i < j + rows → get_or written' i 12 ≡ get_or written i 12) → words_left written' j rows ≡ words_left written j rows
+pub words_same : (written written' : List ℕ) (j rows : ℕ) → ((i : ℕ) → j ≤ i → i < j + rows → get_or written' i 12 ≡ get_or written i 12) → words_left written' j rows ≡ words_left written j rows
 words_same written written' j zero same = refl
 words_same written written' j (suc rows) same =
     let here = same j (omega arith) (omega arith) in

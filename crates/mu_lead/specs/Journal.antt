@@ -75,6 +75,15 @@ tables_with c r past now t verb answer = record {
   written = written_with t.written verb;
 }
 
+-- the tables of the leader, by an event in the background: it may write ahead
+abbrev pub tables_beside : Tables → Verb → Tables
+tables_beside t verb = record {
+  up = t.up;
+  reach = t.reach;
+  heads = t.heads;
+  written = written_with t.written verb;
+}
+
 -- the tables of the leader, by the journal
 abbrev pub tables_at : Config → ℕ → List Event → Tables
 tables_at c r [] = record {
@@ -86,7 +95,7 @@ tables_at c r [] = record {
 tables_at c r (e ∷ past) =
     if is_replication past e
     then tables_with c r past (e ∷ past) (tables_at c r past) e.verb e.answer
-    else tables_at c r past
+    else tables_beside (tables_at c r past) e.verb
 
 -- by this step the leader's tables become those with it
 abbrev pub WritesTo : Lead → List Event → Verb → Answer → Lead → Type 0

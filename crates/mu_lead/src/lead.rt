@@ -269,7 +269,7 @@ impl Lead {
     }
 
     /// The write of the next word of row `j`.
-    fn write_next(&self, j: u16) -> Verb
+    pub(crate) fn write_next(&self, j: u16) -> Verb
         ensures { get_or self.now.written.items j 12 < 12
             → result
             ≡ SomeVerb.WriteRow j (get_or self.now.written.items j 12)

@@ -1,12 +1,18 @@
 //! The rows of a batch that is offered.
-ghost use Rattle.std.specs.Prelude.{List, None, Some, get_or, if◌then◌else◌, length, nat_lt, set, ℕ, ◌+◌, ◌-◌, ◌<◌, ◌≡◌, ◌≢◌};
+ghost use Rattle.std.specs.Prelude.{List, None, Some, get_or, if◌then◌else◌, length, nat_lt, set, ℕ, ◌+◌, ◌-◌, ◌<◌, ◌≡◌, ◌≢◌, ◌%◌, ◌&&◌, ◌/◌, ◌==◌, ◌∷◌};
 ghost use Rattle.std.specs.declared.option.Option.{Option};
 ghost use Rattle.mu_model.specs.declared.event.Answer.{Answer as SomeAnswer};
 ghost use Rattle.mu_model.specs.declared.event.Event.{Event as SomeEvent};
 ghost use Rattle.mu_model.specs.declared.event.Verb.{Verb as SomeVerb};
-ghost use Rattle.mu_model.specs.Contents.{config_word};
+ghost use Rattle.std.specs.List.{slice_get};
+ghost use Rattle.mu_model.specs.declared.config.Config.{Config as SomeConfig};
+ghost use Rattle.mu_model.specs.Contents.{config_word, is_batch, rest_of};
+ghost use Rattle.mu_model.specs.Parts.{IsPossible};
+ghost use Rattle.mu_lead.specs.Ahead.{IsAhead, ahead_at, ahead_event, ahead_verb, entry_before, word_after, word_from};
+ghost use Rattle.mu_lead.specs.Lasting.{tables_of};
+ghost use Rattle.mu_lead.specs.Resigning.{CountsAt};
 ghost use Rattle.mu_lead.specs.declared.place.Place.{Place as SomePlace};
-ghost use Rattle.mu_lead.specs.Journal.{WritesFrom};
+ghost use Rattle.mu_lead.specs.Journal.{WritesFrom, tables_beside};
 ghost use Rattle.mu_lead.specs.Lasting.{FollowsFrom};
 ghost use Rattle.mu_lead.specs.Listing.{write_from};
 ghost use Rattle.mu_lead.specs.Offering.{Writing};
@@ -18,8 +24,90 @@ ghost use Rattle.mu_lead.specs.Rooms.{words_left};
 use crate::lead::Lead;
 use crate::note::Note;
 use crate::place::{Offer, Place};
+use mu_model::{Config, PAYLOADS, Verb, row_rest, stands_for_batch};
 
 impl Lead {
+    /// The word of an own row that a leader writes ahead, if it leads and there is one: the next of
+    /// the batch after the one that is offered, or after the last known one.
+    pub fn ahead(&self, known: &[u16]) -> Option<Verb>
+        ensures { length known.now < 65536
+            → result ≡ ahead_at self.now.config self.now.id known.now self.now.written.items
+            self.now.place }
+    {
+        if self.is_leading() {
+            self.word_after(self.entry_before(known))
+        } else {
+            None
+        }
+    }
+
+    /// The entry that is offered, else the last known one.
+    fn entry_before(&self, known: &[u16]) -> Option<u16>
+        ensures { result ≡ entry_before known.now self.now.place }
+    {
+        match self.place {
+            Place::Write(_, _, offer) => Some(offer.value),
+            Place::Enter(_, offer) => Some(offer.value),
+            Place::Put(_, offer) => Some(offer.value),
+            _ => last_of(known),
+        }
+    }
+
+    /// The next word of the batch after the entry, if that is an own batch.
+    fn word_after(&self, entry: Option<u16>) -> Option<Verb>
+        ensures { result ≡ word_after self.now.config self.now.id self.now.written.items entry }
+    {
+        match entry {
+            Some(v) => {
+                if self.is_own_batch(v) {
+                    self.word_from(row_after(&self.config, v % PAYLOADS))
+                } else {
+                    None
+                }
+            }
+            None => None,
+        }
+    }
+
+    /// Whether the entry is an own batch.
+    fn is_own_batch(&self, v: u16) -> bool
+        ensures { result ≡ (is_batch self.now.config v && (v / 4096 == self.now.id)) }
+    {
+        stands_for_batch(&self.config, v) && v / PAYLOADS == u16::from(self.id)
+    }
+
+    /// The next word of the batch that begins with the row.
+    fn word_from(&self, from: u16) -> Option<Verb>
+        ensures { from < 8192 → result ≡ word_from self.now.config self.now.written.items from }
+    {
+        let last = from.saturating_add(u16::from(row_rest(&self.config, from)));
+        match self.next_unwritten(from, last) {
+            Some(j) => Some(self.write_next(j)),
+            None => None,
+        }
+    }
+
+    /// A word of row `j` was written ahead.
+    pub fn wrote_ahead(&mut self, j: u16)
+        ensures stands { (mine : List SomeEvent) → (answer : SomeAnswer) → StandsFor mine self.old
+            → IsAhead self.old j
+            → IsPossible self.old.config self.old.id
+            (ahead_event self.old j answer ∷ mine)
+            → StandsFor (ahead_event self.old j answer ∷ mine) self.new }
+        ensures tables { IsAhead self.old j
+            → tables_of self.new ≡ tables_beside (tables_of self.old) (ahead_verb self.old j) }
+        ensures counts { (c : SomeConfig) → (r : ℕ) → (mine : List SomeEvent) → IsAhead self.old j
+            → CountsAt c r mine self.old.written.items self.old.place
+            → CountsAt c r mine self.new.written.items self.new.place }
+        ensures config { self.new.config ≡ self.old.config }
+        ensures id { self.new.id ≡ self.old.id }
+        ensures place { self.new.place ≡ self.old.place }
+        ensures going { self.new.under_way ≡ self.old.under_way }
+    {
+        let count = self.next_word(j).saturating_add(1);
+        note_words(&mut self.written, j, count);
+    }
+
     /// The first row from `first` to `last` that isn't written.
     fn next_unwritten(&self, first: u16, last: u16) -> Option<u16>
         ensures { last < 65535
@@ -75,6 +163,25 @@ impl Lead {
         self.place = self.write_from(j, last, offer);
         Note::Working
     }
+}
+
+/// The last of these values.
+fn last_of(values: &[u16]) -> Option<u16>
+    ensures { result ≡ slice_get values.now (length values.now - 1) }
+{
+    match values.get(values.len().saturating_sub(1)) {
+        Some(value) => Some(*value),
+        None => None,
+    }
+}
+
+/// The first row of the next batch.
+fn row_after(config: &Config, j: u16) -> u16
+    ensures is { j < 4096 → result ≡ j + rest_of config.now j + 1 }
+    ensures few { j < 4096 → result < 8192 }
+{
+    j.saturating_add(u16::from(row_rest(config, j)))
+        .saturating_add(1)
 }
 
 /// Notes how many words of row `j` are written.

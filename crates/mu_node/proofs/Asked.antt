@@ -35,9 +35,10 @@ use Rattle.mu_pace.specs.Counters.{AtEachMoment, AtEachStep}
 use Rattle.mu_pace.proofs.Counting.{last_moment}
 use Rattle.mu_node.proofs.CatchingUp.{catches_reading, made_led, reading_fails}
 use Rattle.mu_node.specs.Cycle.{other_at, place_now}
-use Rattle.mu_node.specs.Due.{verb_or_beat}
+use Rattle.mu_node.specs.Due.{or_ahead, verb_or_beat}
 use Rattle.mu_node.specs.Journal.{WasMade}
-use Rattle.mu_node.proofs.Rounding.{Fails, FailsBackground, background_fails}
+use Rattle.mu_node.proofs.Failing.{Fails}
+use Rattle.mu_node.proofs.Rounding.{FailsBackground, background_fails}
 
 -- such a verb is one of the leader, in a turn of its own
 record OfLead (c : Config) (r : ℕ) (mine : List Event) (e : Event) (held : WasMade c r mine e) : Type 0 where
@@ -45,13 +46,9 @@ record OfLead (c : Config) (r : ℕ) (mine : List Event) (e : Event) (held : Was
   named : is_named c r mine ≡ true
   verb : verb_at c (number_due r mine) (known c r mine) (tables_at c r mine).up (tables_at c r mine).written (place_after c r mine) ≡ Some e.verb
 
-of_lead : (test : Verb → Bool) (c : Config) (r : ℕ) (mine : List Event) (e : Event) (held : WasMade c r mine e) → FailsBackground test → test Verb.Beat ≡ false → ((q : ℕ) → test (Verb.ReadBeat q) ≡ false) → ((w : ℕ) → test (Verb.ReadAsk w) ≡ false) → test e.verb ≡ true → OfLead c r mine e held
-of_lead test c r mine e held fails beat beats asks is = go (is_odd (length mine)) refl
+of_lead : (test : Verb → Bool) (c : Config) (r : ℕ) (mine : List Event) (e : Event) (held : WasMade c r mine e) → FailsBackground test → ((j k x : ℕ) → test (Verb.WriteRow j k x) ≡ false) → test Verb.Beat ≡ false → ((q : ℕ) → test (Verb.ReadBeat q) ≡ false) → ((w : ℕ) → test (Verb.ReadAsk w) ≡ false) → test e.verb ≡ true → OfLead c r mine e held
+of_lead test c r mine e held fails write beat beats asks is = go (is_odd (length mine)) refl
   where
-    not_due : (due : Option Verb) → Fails test due → e.verb ≡ verb_or_beat due → ⊥
-    not_due None none made = true≢false (sym is ∙ (ap test made ∙ beat))
-    not_due (Some verb) none made = true≢false (sym is ∙ (ap test made ∙ none))
-
     mine_due : (o : Option Verb) → e.verb ≡ verb_or_beat o → o ≡ Some e.verb
     mine_due None made = absurd (true≢false (sym is ∙ (ap test made ∙ beat)))
     mine_due (Some verb) made = ap Some (sym made)
@@ -80,8 +77,8 @@ of_lead test c r mine e held fails beat beats asks is = go (is_odd (length mine)
     go false even =
         let made = held.made.background even in
         elim (cases_lt (place_now c mine) (host_place c 0)) [
-          | inl low ↦ absurd (not_due made.0 (subst (Fails test) (sym (made.1.read low)) (read (place_now c mine == 0) (nat_lt (place_now c mine) c.replicas))) made.2)
-          | inr high ↦ absurd (not_due made.0 (background_fails test fails c r mine (leads_at (place_after c r mine)) made.0 high made.1) made.2)
+          | inl low ↦ absurd (true≢false (sym is ∙ (ap test (made.2 ∙ ap (or_ahead held.zeal c r mine) (made.1.read low)) ∙ read (place_now c mine == 0) (nat_lt (place_now c mine) c.replicas))))
+          | inr high ↦ absurd (true≢false (sym is ∙ (ap test made.2 ∙ background_fails test fails write held.zeal c r mine (leads_at (place_after c r mine)) made.0 high made.1)))
         ]
 
 -- an ask is none of the background
@@ -225,7 +222,7 @@ pub asks_all_first : (c : Config) (r : ℕ) (mine : List Event) (e : Event) → 
 asks_all_first c r mine e inside made none min p low = go (place_after c r mine) (ap due_min turn.verb ∙ min) (opens c r mine inside made.0 none)
   where
     turn : OfLead c r mine e made.1
-    turn = of_lead is_min_verb c r mine e made.1 mins_fail refl (λ q. refl) (λ w. refl) min
+    turn = of_lead is_min_verb c r mine e made.1 mins_fail (λ j k x. refl) refl (λ q. refl) (λ w. refl) min
 
     due_min : Option Verb → Bool
     due_min None = false
@@ -401,7 +398,7 @@ asks_no_more c r d mine e held near = go (begins_leadership r e) refl
     go false is = refl
     go true is =
         let ask = any e.by e.verb is in
-        let turn = of_lead is_any_ask c r mine e held any_asks_fail refl (λ q. refl) (λ w. refl) ask in
+        let turn = of_lead is_any_ask c r mine e held any_asks_fail (λ j k x. refl) refl (λ q. refl) (λ w. refl) ask in
         absurd (true≢false (sym (ap due_ask turn.verb ∙ ask) ∙ none (place_after c r mine) near))
 
 min_on : (r : ℕ) (e : Event) (mine : List Event) → begins_leadership r e ≡ false → has_min r mine ≡ true → has_min r (e ∷ mine) ≡ true
@@ -421,7 +418,7 @@ to_put : (c : Config) (r : ℕ) (e : Event) (window older : List Event) → r < 
 to_put c r e [] older inside possible made min none on named = inr (record { left = c.replicas + 1; near = near; all = omega arith; min = there })
   where
     turn : OfLead c r older e made.1
-    turn = of_lead is_min_verb c r older e made.1 mins_fail refl (λ q. refl) (λ w. refl) min
+    turn = of_lead is_min_verb c r older e made.1 mins_fail (λ j k x. refl) refl (λ q. refl) (λ w. refl) min
 
     there : has_min r (e ∷ older) ≡ true
     there = min_now r e older min (begun_asked c r older made.0 (asks_all_first c r older e inside made none min 0 (omega (arith, inside))))

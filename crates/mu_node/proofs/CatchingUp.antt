@@ -27,7 +27,7 @@ use Rattle.mu_pace.proofs.Placed.{asks_anew, shut, unnamed_leaves}
 use Rattle.mu_pace.proofs.Rooms.{kinds_of_step}
 use Rattle.mu_lead.specs.declared.lead.Lead.{Lead}
 use Rattle.mu_lead.specs.declared.place.Place.{Place}
-use Rattle.mu_lead.specs.Beside.{is_beside, leads_at}
+use Rattle.mu_lead.specs.Beside.{is_beside, leads_at, writes_row}
 use Rattle.mu_lead.specs.Journal.{due_after, place_after, tables_at, tables_with}
 use Rattle.mu_lead.specs.Resigning.{CountsAt}
 use Rattle.mu_lead.proofs.Causes.{leaders_ask_with_cause}
@@ -118,8 +118,8 @@ idle_is Zeal.Eager c r mine due is = go (leads_at (place_after c r mine)) refl (
 
 pub idle_fits : (zeal : Zeal) (c : Config) (r : ℕ) (mine : List Event) (lead : Lead) (due : Option Verb) → due ≡ idle_due zeal c r mine → lead_due c r mine lead ≡ None → (leads_at lead.place ≡ true → is_named c r mine ≡ true) → FitsLead c r mine lead false due
 idle_fits zeal c r mine lead due is none named = elim (idle_is zeal c r mine due is) [
-  | inl nothing ↦ subst (FitsLead c r mine lead false) (sym nothing) (refl, λ odd. (none, inl refl))
-  | inr some ↦ subst (FitsLead c r mine lead false) (sym some.1.0) (reading_beside (leads_at lead.place) some.0 (unled some.1.1.unnamed (leads_at lead.place) named) (catches_reading c r mine some.0 some.1.1.due), λ odd. (none, inr some.1.1))
+  | inl nothing ↦ subst (FitsLead c r mine lead false) (sym nothing) (refl, ((λ writes. absurd (true≢false (sym writes))), λ odd. (none, inl refl)))
+  | inr some ↦ subst (FitsLead c r mine lead false) (sym some.1.0) (reading_beside (leads_at lead.place) some.0 (unled some.1.1.unnamed (leads_at lead.place) named) (catches_reading c r mine some.0 some.1.1.due), ((λ writes. absurd (true≢false (sym writes ∙ reading_fails writes_row some.0 (catches_reading c r mine some.0 some.1.1.due) (λ p i. refl) (λ v k. refl)))), λ odd. (none, inr some.1.1)))
 ]
   where
     unled : is_named c r mine ≡ false → (t : Bool) → (t ≡ true → is_named c r mine ≡ true) → t ≡ false

@@ -21,11 +21,13 @@ use Rattle.mu_lead.specs.declared.place.Place.{Place}
 use Rattle.mu_lead.specs.Beside.{leads_at}
 use Rattle.mu_lead.specs.Journal.{due_after, number_due, place_after, tables_at}
 use Rattle.mu_lead.specs.Standing.{verb_at}
+use Rattle.mu_node.specs.Due.{write_due, or_ahead}
+use Rattle.mu_node.proofs.Failing.{ahead_fails}
 use Rattle.mu_node.proofs.CatchingUp.{catches_reading, made_led, reading_fails}
 use Rattle.mu_node.specs.Cycle.{handed, other_at, place_now}
 use Rattle.mu_node.specs.Due.{verb_or_beat}
 use Rattle.mu_node.specs.Journal.{WasMade}
-use Rattle.mu_node.proofs.Rounding.{Fails, either}
+use Rattle.mu_node.proofs.Failing.{Fails, either}
 use Rattle.mu_node.proofs.Turning.{handed_here}
 
 -- what is due raises no head
@@ -107,6 +109,10 @@ raises_to_all c r h mine e held raises = go (is_odd (length mine)) refl
     given d None gives = refl
     given d (Some verb) gives = host d verb (gives.given verb refl).0
 
+    raised : (due : Option Verb) → or_ahead held.zeal c r mine due ≡ Verb.RaiseHead h → verb_or_beat due ≡ Verb.RaiseHead h
+    raised (Some verb) is = is
+    raised None is = absurd (not_raised (write_due held.zeal c r mine) h (ahead_fails is_head_raise_verb refl (λ j k x. refl) held.zeal c r mine) is)
+
     go : (t : Bool) → is_odd (length mine) ≡ t → min (length (applied c r mine)) (own_fuo r mine) ≤ h
     go true odd = elim (made_led held.zeal c r mine e.verb (held.made.replication odd)) [
       | inl listed ↦ absurd (not_raised (due_after c r mine) h (led_none c r mine) (sym listed ∙ raises))
@@ -115,12 +121,12 @@ raises_to_all c r h mine e held raises = go (is_odd (length mine)) refl
     go false even =
         let made = held.made.background even in
         elim (cases_lt (place_now c mine) (host_place c 0)) [
-          | inl low ↦ absurd (not_raised made.0 h (subst NoRaise (sym (made.1.read low)) (read (place_now c mine == 0) (nat_lt (place_now c mine) c.replicas))) (sym made.2 ∙ raises))
+          | inl low ↦ absurd (not_raised made.0 h (subst NoRaise (sym (made.1.read low)) (read (place_now c mine == 0) (nat_lt (place_now c mine) c.replicas))) (raised made.0 (sym made.2 ∙ raises)))
           | inr high ↦ (elim (cases_lt (place_now c mine) (host_place c 4)) [
             | inl near ↦ (let at : place_now c mine ≡ host_place c (place_now c mine - host_place c 0) = omega (arith, high) in
-                absurd (not_raised made.0 h (given (place_now c mine - host_place c 0) made.0 (made.1.host (place_now c mine - host_place c 0) (omega (arith, near, high)) at)) (sym made.2 ∙ raises)))
+                absurd (not_raised made.0 h (given (place_now c mine - host_place c 0) made.0 (made.1.host (place_now c mine - host_place c 0) (omega (arith, near, high)) at)) (raised made.0 (sym made.2 ∙ raises))))
             | inr far ↦ (let at = made.1.replay (place_now c mine - host_place c 4) (omega (arith, far)) in
-                let value = raised_value c r mine (handed c r mine) (place_now c mine - host_place c 4) (leads_at (place_after c r mine)) h (sym (ap verb_or_beat at) ∙ (sym made.2 ∙ raises)) in
+                let value = raised_value c r mine (handed c r mine) (place_now c mine - host_place c 4) (leads_at (place_after c r mine)) h (sym (ap verb_or_beat at) ∙ (raised made.0 (sym made.2 ∙ raises))) in
                 let place = value.0 in
                 let here : place_now c mine ≡ 2 * c.replicas + 20 = omega (arith, place, far) in
                 let all = handed_here c r mine even (eq-eqb (place_now c mine) (2 * c.replicas + 20) here) in

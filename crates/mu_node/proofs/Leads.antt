@@ -24,8 +24,9 @@ use Rattle.mu_follow.specs.Follow.{AwaitsEntry, HoldsFollow, StandsForFollow, co
 use Rattle.mu_follow.proofs.Putting.{is_committed, put_known}
 use Rattle.mu_known.specs.declared.known_log.KnownLog.{KnownLog}
 use Rattle.mu_known.specs.KnownLog.{HoldsValues}
+use Rattle.mu_lead.specs.Ahead.{ahead_event, ahead_verb}
 use Rattle.mu_lead.specs.declared.lead.Lead.{Lead}
-use Rattle.mu_lead.specs.Beside.{is_beside, leads_at}
+use Rattle.mu_lead.specs.Beside.{is_beside, leads_at, writes_row}
 use Rattle.mu_lead.specs.declared.note.Note.{Note}
 use Rattle.mu_lead.specs.Notes.{value_committed}
 use Rattle.mu_lead.specs.Saying.{Says, SaysNext}
@@ -38,7 +39,7 @@ use Rattle.mu_model.specs.Contents.{holds_all}
 use Rattle.mu_node.specs.Notes.{note_at}
 use Rattle.mu_node.specs.declared.node.Node.{Node}
 use Rattle.mu_node.specs.Cycle.{other_at, read_at}
-use Rattle.mu_node.specs.Due.{FitsLead, IsIdle, MayBeside, lead_due, verb_or_beat}
+use Rattle.mu_node.specs.Due.{FitsLead, IsIdle, MayBeside, WritesAhead, lead_due, verb_or_beat}
 use Rattle.mu_node.specs.Node.{AwaitsBeside, HoldsBeside, HoldsWith, StandsForLead}
 use Rattle.mu_node.specs.Notes.{heed_note}
 use Rattle.mu_node.proofs.Moving.{event_by}
@@ -94,15 +95,15 @@ replay_beside leading (Verb.Head q) is = refl
 replay_beside leading verb is = absurd (true≢false (sym is))
 
 -- such an event keeps what the leader stands for
-pub lead_stays : (c : Config) (r : ℕ) (mine : List Event) (lead : Lead) (verb : Verb) (answer : Answer) → is_beside (leads_at lead.place) verb ≡ true → IsPossible c r (event_by r verb answer ∷ mine) → StandsForLead c r mine lead
+pub lead_stays : (c : Config) (r : ℕ) (mine : List Event) (lead : Lead) (verb : Verb) (answer : Answer) → writes_row verb ≡ false → is_beside (leads_at lead.place) verb ≡ true → IsPossible c r (event_by r verb answer ∷ mine) → StandsForLead c r mine lead
     → StandsForLead c r (event_by r verb answer ∷ mine) lead
-lead_stays c r mine lead verb answer beside possible held =
+lead_stays c r mine lead verb answer none beside possible held =
     let a = subst (λ k. IsPossible k r (event_by r verb answer ∷ mine)) (sym held.config) possible in
     let b = subst (λ i. IsPossible lead.config i (event_by i verb answer ∷ mine)) (sym held.id) a in
     record {
       config = held.config;
       id = held.id;
-      stands = subst (λ i. StandsFor (event_by i verb answer ∷ mine) lead) held.id (others_kept mine lead verb answer beside b held.stands);
+      stands = subst (λ i. StandsFor (event_by i verb answer ∷ mine) lead) held.id (others_kept mine lead verb answer none beside b held.stands);
     }
 
 asks : (t : Bool) (due : Option Verb) (verb : Verb) → (if t then due else None) ≡ Some verb → due ≡ Some verb
@@ -134,11 +135,6 @@ made_allowed c r mine (Some verb) short inside may = may
 pub allowed_of : (c : Config) (r : ℕ) (mine : List Event) (due : Option Verb) → IfSome due (λ verb. Allowed c r mine verb × IsReplay false verb) → IfSome due (λ verb. Allowed c r mine verb)
 allowed_of c r mine None may = tt
 allowed_of c r mine (Some verb) may = may.0
-
-pub beside_allowed : (c : Config) (r : ℕ) (mine : List Event) (lead : Lead) (due : Option Verb) → length mine < c.budget → r < c.replicas → IfSome due (λ verb. MayBeside c r mine lead verb)
-    → Allowed c r mine (verb_or_beat due) × (is_beside (leads_at lead.place) (verb_or_beat due) ≡ true)
-beside_allowed c r mine lead None short inside may = (record { budget = short; replica = inside; may = tt }, refl)
-beside_allowed c r mine lead (Some verb) short inside may = (may.allowed, may.beside)
 
 -- the allowed verb of the leader is one of r
 pub lead_allowed : (c : Config) (r : ℕ) (mine : List Event) (lead : Lead) (due : Option Verb) → lead.config ≡ c → lead.id ≡ r → IfSome due (λ verb. Allowed lead.config lead.id mine verb) → IfSome due (λ verb. Allowed c r mine verb)
@@ -172,6 +168,14 @@ pub replay_may : (c : Config) (r : ℕ) (mine : List Event) (lead : Lead) (leadi
 replay_may c r mine lead leading None same may = tt
 replay_may c r mine lead leading (Some verb) same may = record { allowed = may.0; beside = subst (λ t. is_beside t verb ≡ true) same (replay_beside leading verb may.1) }
 
+-- nor does a word that is written ahead
+pub lead_ahead : (c : Config) (r j : ℕ) (mine : List Event) (lead next : Lead) (answer : Answer) → next.config ≡ lead.config → next.id ≡ lead.id → IsPossible c r (event_by r (ahead_verb lead j) answer ∷ mine) → StandsForLead c r mine lead
+    → (IsPossible lead.config lead.id (ahead_event lead j answer ∷ mine) → StandsFor (ahead_event lead j answer ∷ mine) next) → StandsForLead c r (event_by r (ahead_verb lead j) answer ∷ mine) next
+lead_ahead c r j mine lead next answer same_c same_r possible held stands =
+    let a = subst (λ k. IsPossible k r (event_by r (ahead_verb lead j) answer ∷ mine)) (sym held.config) possible in
+    let b = subst (λ i. IsPossible lead.config i (event_by i (ahead_verb lead j) answer ∷ mine)) (sym held.id) a in
+    record { config = same_c ∙ held.config; id = same_r ∙ held.id; stands = subst (λ i. StandsFor (event_by i (ahead_verb lead j) answer ∷ mine) next) held.id (stands b) }
+
 -- in a turn of the leader its verb is due
 pub fits_led : (c : Config) (r : ℕ) (mine : List Event) (lead : Lead) (leads : Bool) (due : Option Verb) (verb : Verb) → FitsLead c r mine lead leads due → leads ≡ true → due ≡ Some verb → HasHeeded mine lead × (lead_due c r mine lead ≡ Some verb)
 fits_led c r mine lead true due verb fits is some = (fits.0, sym fits.1 ∙ some)
@@ -180,12 +184,15 @@ fits_led c r mine lead false due verb fits is some = absurd (true≢false (sym i
 -- where none is, the turn is idle
 pub fits_idle : (c : Config) (r : ℕ) (mine : List Event) (lead : Lead) (leads : Bool) (due : Option Verb) → FitsLead c r mine lead leads due → due ≡ None → IsIdle c r mine lead Verb.Beat
 fits_idle c r mine lead true due fits none = λ odd. (sym fits.1 ∙ none, inl refl)
-fits_idle c r mine lead false due fits none = subst (λ d. IsIdle c r mine lead (verb_or_beat d)) none fits.1
+fits_idle c r mine lead false due fits none = subst (λ d. IsIdle c r mine lead (verb_or_beat d)) none fits.1.1
 
--- in another turn the verb is not of the leader
-pub fits_other : (c : Config) (r : ℕ) (mine : List Event) (lead : Lead) (leads : Bool) (due : Option Verb) (verb : Verb) → FitsLead c r mine lead leads due → leads ≡ false → due ≡ Some verb → (is_beside (leads_at lead.place) verb ≡ true) × IsIdle c r mine lead verb
+-- in another turn the verb is not of the listing
+abbrev pub IsOther : Config → ℕ → List Event → Lead → Verb → Type 0
+IsOther c r mine lead verb = (is_beside (leads_at lead.place) verb ≡ true) × (WritesAhead lead verb × IsIdle c r mine lead verb)
+
+pub fits_other : (c : Config) (r : ℕ) (mine : List Event) (lead : Lead) (leads : Bool) (due : Option Verb) (verb : Verb) → FitsLead c r mine lead leads due → leads ≡ false → due ≡ Some verb → IsOther c r mine lead verb
 fits_other c r mine lead true due verb fits is some = absurd (true≢false is)
-fits_other c r mine lead false due verb fits is some = subst (λ d. (is_beside (leads_at lead.place) (verb_or_beat d) ≡ true) × IsIdle c r mine lead (verb_or_beat d)) some fits
+fits_other c r mine lead false due verb fits is some = subst (λ d. IsOther c r mine lead (verb_or_beat d)) some fits
 
 -- what the leader tells of what its put made known is so of r
 pub lead_tells : (c : Config) (r : ℕ) (mine : List Event) (old : Lead) (verb : Verb) (answer : Answer) (values : List ℕ) (note : Note) → StandsForLead c r mine old → TellsNext mine old values answer note

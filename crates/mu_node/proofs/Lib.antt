@@ -3,17 +3,18 @@ pub mod Asked
 mod CatchingUp
 mod Bits
 mod Diligent
+mod Failing
 pub mod Fetching
 pub mod FewRows
 pub mod HeadRaises
 mod Heads
-mod Lasts
 mod Leading
 mod Leads
 pub mod Left
 mod Moving
 pub mod Naming
 mod Open
+mod OwnRows
 mod Paces
 mod Pacing
 mod Reading
@@ -21,3 +22,4 @@ mod Replaying
 pub mod Rounding
 mod Turning
 mod Watching
+mod Writing

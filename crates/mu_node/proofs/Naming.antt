@@ -3,7 +3,7 @@ use Rattle.std.proofs.Common.{◌≡◌, ◌∙◌, ◌≢◌, ℕ, ◌+◌, ◌
 use Rattle.std.specs.Prelude.{if◌then◌else◌, nat_lt, not}
 use Rattle.std.specs.declared.option.Option.{Option}
 use Rattle.std.proofs.Math.Nat.{mod-eq_of_lt}
-use Rattle.std.proofs.lemmas.Bool.{cases_eq, cases_lt, ne_eqb, true≢false}
+use Rattle.std.proofs.lemmas.Bool.{cases_eq, cases_lt, ne_eqb, true≢false, and_parts}
 use Rattle.std.proofs.lemmas.List.{length-take, take-append-drop}
 use Rattle.mu_model.specs.declared.config.Config.{Config}
 use Rattle.mu_model.specs.declared.event.Answer.{Answer}
@@ -14,7 +14,7 @@ use Rattle.mu_model.specs.Bounds.{cycle}
 use Rattle.mu_model.specs.Histories.{has, how_many, newer_or, newest, or_zero, part, since}
 use Rattle.mu_model.specs.Regions.{beats, is_beat_by}
 use Rattle.mu_model.specs.Scores.{beat_read, leader, next_score, score, score_after_read}
-use Rattle.mu_model.specs.Steps.{is_asking, is_asking_verb, is_beat, is_beat_read, is_beat_read_verb, is_beat_verb}
+use Rattle.mu_model.specs.Steps.{is_asking, is_asking_verb, is_beat, is_beat_read, is_beat_read_verb, is_beat_verb, is_named}
 use Rattle.mu_model.specs.Stretches.{is_odd}
 use Rattle.mu_detect.specs.Stands.{last_count}
 use Rattle.mu_detect.proofs.Leaders.{alive_leads, may_lead, own_leads}
@@ -25,12 +25,20 @@ use Rattle.mu_lead.specs.Beside.{leads_at}
 use Rattle.mu_pace.specs.Counters.{AtEachStep}
 use Rattle.mu_pace.proofs.Cycles.{rounds_read_in_time}
 use Rattle.mu_pace.proofs.Rounds.{rounds_keep_pace}
+use Rattle.mu_lead.specs.declared.place.Place.{Place}
+use Rattle.mu_lead.specs.Standing.{verb_at}
+use Rattle.mu_model.specs.Knowledge.{known}
+use Rattle.mu_node.specs.declared.zeal.Zeal.{Zeal}
+use Rattle.mu_node.specs.Watch.{is_beat_read as reads_beat}
+use Rattle.mu_node.proofs.Rounding.{cycle_fails}
+use Rattle.mu_lead.specs.Ahead.{entry_before, word_after}
 use Rattle.mu_node.proofs.CatchingUp.{catches_reading, made_led, reading_fails}
 use Rattle.mu_node.specs.Cycle.{other_at, place_now}
-use Rattle.mu_node.specs.Due.{verb_or_beat}
-use Rattle.mu_node.specs.Journal.{WasMade}
-use Rattle.mu_node.proofs.Rounding.{Fails, FailsBackground, background_fails, keeps_rounds, read_here}
-use Rattle.mu_lead.specs.Journal.{place_after}
+use Rattle.mu_node.specs.Due.{or_ahead, verb_or_beat}
+use Rattle.mu_node.specs.Journal.{WasMade, was_named}
+use Rattle.mu_node.proofs.Rounding.{FailsBackground, background_fails, keeps_rounds, read_here}
+use Rattle.mu_node.proofs.Failing.{Fails}
+use Rattle.mu_lead.specs.Journal.{place_after, tables_at, number_due}
 use Rattle.mu_node.specs.Due.{listed_due}
 
 -- how often q has beaten is how many beats its part has
@@ -178,8 +186,8 @@ asker_named c r p mine e held asks = go (is_odd (length mine)) refl
     go false even =
         let made = held.made.background even in
         elim (cases_lt (place_now c mine) (host_place c 0)) [
-          | inl low ↦ absurd (not_due made.0 (subst (Fails (is_asking_verb p)) (sym (made.1.read low)) (read (place_now c mine == 0) (nat_lt (place_now c mine) c.replicas))) made.2)
-          | inr high ↦ absurd (not_due made.0 (background_fails (is_asking_verb p) (asks_fail p) c r mine (leads_at (place_after c r mine)) made.0 high made.1) made.2)
+          | inl low ↦ absurd (true≢false (sym asks ∙ (ap (is_asking_verb p) (made.2 ∙ ap (or_ahead held.zeal c r mine) (made.1.read low)) ∙ read (place_now c mine == 0) (nat_lt (place_now c mine) c.replicas))))
+          | inr high ↦ absurd (true≢false (sym asks ∙ (ap (is_asking_verb p) made.2 ∙ background_fails (is_asking_verb p) (asks_fail p) (λ j k x. refl) held.zeal c r mine (leads_at (place_after c r mine)) made.0 high made.1)))
         ]
 
 -- the verb writes a word of a row
@@ -187,7 +195,7 @@ abbrev pub is_row_write : Verb → Bool
 is_row_write (Verb.WriteRow j k x) = true
 is_row_write _ = false
 
--- which is none of the background
+-- which is none of the cycle
 writes_fail : FailsBackground is_row_write
 writes_fail = record {
   replays = record { beat = refl; fuo = λ q. refl; look = λ q i. refl; row = λ v k. refl; raise = λ q u. refl; raise_head = λ h. refl; head = λ q. refl };
@@ -198,9 +206,35 @@ writes_fail = record {
     host d (Verb.WriteRow j k x) is = absurd (true≢false (sym is))
     host d verb is = refl
 
+-- no beat is read in a turn of the leader
+odd_no_read : (c : Config) (r : ℕ) (mine : List Event) (e : Event) → WasMade c r mine e → is_odd (length mine) ≡ true → reads_beat e.verb ≡ false
+odd_no_read c r mine e held odd = elim (made_led held.zeal c r mine e.verb (held.made.replication odd)) [
+  | inl listed ↦ ap reads_beat listed ∙ named (leader c r mine == r)
+  | inr caught ↦ reading_fails reads_beat e.verb (catches_reading c r mine e.verb caught.due) (λ q i. refl) (λ v k. refl)
+]
+  where
+    at : (c : Config) (b : ℕ) (values up written : List ℕ) (place : Place) → reads_beat (verb_or_beat (verb_at c b values up written place)) ≡ false
+    at c b values up written Place.Rest = refl
+    at c b values up written place = refl
+
+    named : (t : Bool) → reads_beat (verb_or_beat (if t then listed_due c r mine else None)) ≡ false
+    named true = at c (number_due r mine) (known c r mine) (tables_at c r mine).up (tables_at c r mine).written (place_after c r mine)
+    named false = refl
+
+-- so whom the scores name stays
+leader_kept : (c : Config) (r by : ℕ) (verb : Verb) (answer : Answer) (mine : List Event) → reads_beat verb ≡ false → leader c r (record { by = by; verb = verb; answer = answer } ∷ mine) ≡ leader c r mine
+leader_kept c r by (Verb.ReadBeat q) answer mine none = absurd (true≢false none)
+leader_kept c r by verb answer mine none = refl
+
+still_named : (c : Config) (r : ℕ) (mine : List Event) → AtEachStep (WasMade c r) mine → was_named c r mine ≡ true → leader c r mine ≡ r
+still_named c r [] made named = absurd (true≢false (sym named))
+still_named c r (e ∷ mine) made named =
+    let parts = and_parts (is_odd (length mine)) (is_named c r mine) named in
+    leader_kept c r e.by e.verb e.answer mine (odd_no_read c r mine e made.1 parts.0) ∙ eqb-true (leader c r mine) r parts.1
+
 -- who writes a row names itself
-pub writer_named : (c : Config) (r : ℕ) (mine : List Event) (e : Event) → WasMade c r mine e → is_row_write e.verb ≡ true → leader c r mine ≡ r
-writer_named c r mine e held writes = go (is_odd (length mine)) refl
+pub writer_named : (c : Config) (r : ℕ) (mine : List Event) (e : Event) → AtEachStep (WasMade c r) mine → WasMade c r mine e → is_row_write e.verb ≡ true → leader c r mine ≡ r
+writer_named c r mine e before held writes = go (is_odd (length mine)) refl
   where
     not_due : (due : Option Verb) → Fails is_row_write due → e.verb ≡ verb_or_beat due → ⊥
     not_due due fails made = true≢false (sym writes ∙ (ap is_row_write made ∙ fails))
@@ -214,6 +248,15 @@ writer_named c r mine e held writes = go (is_odd (length mine)) refl
     read false true = refl
     read false false = refl
 
+    leads : is_odd (length mine) ≡ false → (t : Bool) → leads_at (place_after c r mine) ≡ t → (other : Option Verb) → e.verb ≡ verb_or_beat (if t then other else None) → leader c r mine ≡ r
+    leads even true led other made = still_named c r mine before (held.leads even led)
+    leads even false led other made = absurd (not_due None refl made)
+
+    ahead : is_odd (length mine) ≡ false → (zeal : Zeal) (due : Option Verb) → Fails is_row_write due → e.verb ≡ or_ahead zeal c r mine due → leader c r mine ≡ r
+    ahead even zeal (Some verb) none made = absurd (not_due (Some verb) none made)
+    ahead even Zeal.Plain None none made = absurd (not_due None refl made)
+    ahead even Zeal.Eager None none made = leads even (leads_at (place_after c r mine)) refl (word_after c r (tables_at c r mine).written (entry_before (known c r mine) (place_after c r mine))) made
+
     go : (t : Bool) → is_odd (length mine) ≡ t → leader c r mine ≡ r
     go true odd = elim (made_led held.zeal c r mine e.verb (held.made.replication odd)) [
       | inl listed ↦ named (leader c r mine == r) refl listed
@@ -222,6 +265,6 @@ writer_named c r mine e held writes = go (is_odd (length mine)) refl
     go false even =
         let made = held.made.background even in
         elim (cases_lt (place_now c mine) (host_place c 0)) [
-          | inl low ↦ absurd (not_due made.0 (subst (Fails is_row_write) (sym (made.1.read low)) (read (place_now c mine == 0) (nat_lt (place_now c mine) c.replicas))) made.2)
-          | inr high ↦ absurd (not_due made.0 (background_fails is_row_write writes_fail c r mine (leads_at (place_after c r mine)) made.0 high made.1) made.2)
+          | inl low ↦ absurd (true≢false (sym writes ∙ (ap is_row_write (made.2 ∙ ap (or_ahead held.zeal c r mine) (made.1.read low)) ∙ read (place_now c mine == 0) (nat_lt (place_now c mine) c.replicas))))
+          | inr high ↦ ahead even held.zeal made.0 (cycle_fails is_row_write writes_fail c r mine (leads_at (place_after c r mine)) made.0 high made.1) made.2
         ]

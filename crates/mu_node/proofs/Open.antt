@@ -1,6 +1,6 @@
 -- The counts of a replayer: what closes them, and what an event leaves that closes none.
-use Rattle.std.proofs.Common.{◌≡◌, ◌∙◌, ℕ, ◌+◌, ◌-◌, ◌*◌, ◌/◌, ◌%◌, ◌<◌, ◌≤◌, ◌==◌, ◌&&◌, ◌||◌, ◌⊎◌, inl, inr, Bool, true, false, None, Some, List, [], ◌∷◌, ap, arith, length, refl, sym}
-use Rattle.std.specs.Prelude.{if◌then◌else◌, nat_lt, not}
+use Rattle.std.proofs.Common.{◌≡◌, ◌∙◌, ℕ, ◌+◌, ◌*◌, ◌%◌, ◌<◌, ◌≤◌, ◌==◌, ◌&&◌, ◌||◌, ◌⊎◌, inl, inr, Bool, true, false, None, Some, List, [], ◌∷◌, ap, arith, length, refl, sym}
+use Rattle.std.specs.Prelude.{if◌then◌else◌, not}
 use Rattle.std.specs.declared.option.Option.{Option}
 use Rattle.std.proofs.lemmas.Bool.{cases_lt, eq-eqb, lt-ltb, ltb-true, true≢false, or_parts}
 use Rattle.mu_model.specs.declared.config.Config.{Config}
@@ -8,29 +8,32 @@ use Rattle.mu_model.specs.declared.event.Event.{Event}
 use Rattle.mu_model.specs.declared.event.Verb.{Verb}
 use Rattle.mu_model.specs.Bounds.{cycle}
 use Rattle.mu_model.specs.Diligence.{completes_row, completes_row_verb, is_row_of}
-use Rattle.mu_model.specs.Histories.{has}
-use Rattle.mu_model.specs.Knowledge.{applied, greatest_fuo_read, has_row, has_word, is_read, is_written, known, wrote}
+use Rattle.mu_model.specs.Knowledge.{applied, greatest_fuo_read, has_row, has_word, known}
 use Rattle.mu_model.specs.Steps.{is_fuo_of, is_fuo_of_verb, is_named, knows_more}
 use Rattle.mu_model.specs.Stretches.{is_odd}
 use Rattle.mu_model.proofs.Basics.{none_some, or_true, same_number, same_some, true_or}
 use Rattle.mu_model.proofs.Scans.{each_all}
-use Rattle.mu_agree.proofs.Landings.{has_more}
-use Rattle.mu_grant.specs.Pace.{host_place}
-use Rattle.mu_grant.specs.Stands.{is_of_place}
 use Rattle.mu_known.proofs.Fetched.{read_word}
 use Rattle.mu_follow.specs.CatchingUp.{catch_up_due, entry_due, lacked_word_of, or_else, words_had}
 use Rattle.mu_follow.specs.Due.{replay_due, row_read, row_under_way}
 use Rattle.mu_follow.proofs.Due.{least_below_fails}
-use Rattle.mu_follow.proofs.Waiting.{fuo_rises, is_write, known_same, own_applied_same, own_row_same}
+use Rattle.mu_follow.proofs.Waiting.{fuo_rises, known_same}
 use Rattle.mu_lead.specs.Beside.{leads_at}
 use Rattle.mu_pace.specs.Counters.{AtEachMoment, AtEachStep, HasRoom, IsInTime, fewer, left_after, steps_left}
 use Rattle.mu_pace.specs.Watches.{is_named_turn, is_replay_due, reading_own, replaying}
 use Rattle.mu_pace.proofs.Cycles.{closed_moments, steps_give, while_allows}
-use Rattle.mu_node.specs.Cycle.{handed, other_at, place_now}
+use Rattle.mu_model.specs.Contents.{IsConfig}
+use Rattle.mu_model.specs.Knowledge.{front, has_entry}
+use Rattle.mu_model.specs.Parts.{IsPossible}
+use Rattle.mu_agree.proofs.Possible.{parts_shorten_law}
+use Rattle.mu_follow.proofs.Waiting.{front_same}
+use Rattle.mu_node.specs.Due.{or_ahead}
+use Rattle.mu_node.proofs.OwnRows.{rows_stay, word_on}
+use Rattle.mu_node.specs.Cycle.{handed}
 use Rattle.mu_node.specs.Due.{CatchesUp, verb_or_beat}
-use Rattle.mu_node.proofs.CatchingUp.{catches_reading, closes_anew, made_led, reading_fails}
+use Rattle.mu_node.proofs.CatchingUp.{closes_anew, made_led}
 use Rattle.mu_node.specs.Journal.{WasMade, was_named}
-use Rattle.mu_node.proofs.Rounding.{FailsBackground, background_fails, replayed_at}
+use Rattle.mu_node.proofs.Rounding.{replayed_at}
 use Rattle.mu_lead.specs.Journal.{place_after}
 use Rattle.mu_node.specs.Due.{listed_due}
 
@@ -53,13 +56,13 @@ rows_anew c r n (e ∷ past) low named = closes_anew (replaying c r) n past e (o
 own_closed : (c : Config) (r : ℕ) (past : List Event) (e : Event) → WasMade c r past e → length past % cycle c ≡ 2 * (2 * c.replicas + 4) → ((reading_own c r).closes past e ≡ true) ⊎ HasRoom (reading_own c r) (cycle c + 1) past
 own_closed c r past e held at = go (leads_at (place_after c r past)) refl
   where
-    here : (is_odd (length past) ≡ false) × (e.verb ≡ verb_or_beat (replay_due c r past (handed c r past) 0 (leads_at (place_after c r past))))
+    here : (is_odd (length past) ≡ false) × (e.verb ≡ or_ahead held.zeal c r past (replay_due c r past (handed c r past) 0 (leads_at (place_after c r past))))
     here = replayed_at c r 0 past e held (at ∙ omega arith)
 
     go : (t : Bool) → leads_at (place_after c r past) ≡ t → ((reading_own c r).closes past e ≡ true) ⊎ HasRoom (reading_own c r) (cycle c + 1) past
     go true leading = inr (own_anew c r (cycle c + 1) past (omega arith) (held.leads here.0 leading))
     go false other =
-        let reads : e.verb ≡ Verb.Fuo r = here.1 ∙ ap (λ t. verb_or_beat (replay_due c r past (handed c r past) 0 t)) other in
+        let reads : e.verb ≡ Verb.Fuo r = here.1 ∙ ap (λ t. or_ahead held.zeal c r past (replay_due c r past (handed c r past) 0 t)) other in
         inl (true_or (is_fuo_of r e) (is_named_turn c r past e) (ap (is_fuo_of_verb r) reads ∙ same_number r))
 
 pub own_in_time : (c : Config) (r : ℕ) (past : List Event) → AtEachStep (WasMade c r) past → AtEachMoment (IsInTime (reading_own c r)) past
@@ -75,40 +78,6 @@ unnamed_made c r past e held unnamed odd =
       | inl listed ↦ inl (listed ∙ ap (λ t. verb_or_beat (if t then listed_due c r past else None)) other)
       | inr caught ↦ inr caught
     ]
-
--- no word of a row is written in a background turn, nor where r isn't named
-write_fails : FailsBackground is_write
-write_fails = record {
-  replays = record { beat = refl; fuo = λ p. refl; look = λ p i. refl; row = λ v k. refl; raise = λ p u. refl; raise_head = λ h. refl; head = λ q. refl };
-  host = host;
-}
-  where
-    host : (d : ℕ) (verb : Verb) → is_of_place d verb ≡ true → is_write verb ≡ false
-    host d (Verb.WriteRow j k x) is = absurd (true≢false (sym is))
-    host d verb is = refl
-
-made_no_write : (c : Config) (r : ℕ) (past : List Event) (e : Event) → WasMade c r past e → is_named_turn c r past e ≡ false → is_write e.verb ≡ false
-made_no_write c r past e held unnamed = go (is_odd (length past)) refl
-  where
-    place : ℕ
-    place = place_now c past
-
-    read : (s t : Bool) → is_write (if s then Verb.Beat else if t then Verb.ReadBeat (other_at r place) else Verb.ReadAsk (place - c.replicas)) ≡ false
-    read true t = refl
-    read false true = refl
-    read false false = refl
-
-    go : (t : Bool) → is_odd (length past) ≡ t → is_write e.verb ≡ false
-    go true odd = elim (unnamed_made c r past e held unnamed odd) [
-      | inl beats ↦ ap is_write beats
-      | inr caught ↦ reading_fails is_write e.verb (catches_reading c r past e.verb caught.due) (λ p i. refl) (λ v k. refl)
-    ]
-    go false even =
-        let made = held.made.background even in
-        elim (cases_lt place (host_place c 0)) [
-          | inl low ↦ ap is_write (made.2 ∙ ap verb_or_beat (made.1.read low)) ∙ read (place == 0) (nat_lt place c.replicas)
-          | inr high ↦ ap is_write made.2 ∙ background_fails is_write write_fails c r past (leads_at (place_after c r past)) made.0 high made.1
-        ]
 
 -- an event that doesn't close the count
 pub record IsOpenStep (c : Config) (r : ℕ) (past : List Event) (e : Event) : Type 0 where
@@ -126,11 +95,13 @@ open_step c r past e none =
 pub still_known : (c : Config) (r : ℕ) (past : List Event) (e : Event) → IsOpenStep c r past e → known c r (e ∷ past) ≡ known c r past
 still_known c r past e still = known_same c r past e still.learns
 
-pub still_applied : (c : Config) (r : ℕ) (past : List Event) (e : Event) → WasMade c r past e → IsOpenStep c r past e → length (applied c r (e ∷ past)) ≡ length (applied c r past)
-still_applied c r past e held still = own_applied_same c r past e held.own (made_no_write c r past e held still.unnamed) still.learns still.completes
+pub still_row : (c : Config) (r u : ℕ) (past : List Event) (e : Event) → IsConfig c → IsPossible c r past → WasMade c r past e → IsOpenStep c r past e → is_row_of c u (known c r past) ≡ true → has_row r u (e ∷ past) ≡ has_row r u past
+still_row c r u past e good possible held still of_known = rows_stay c r u past e good possible held.own still.completes of_known
 
-pub still_row : (c : Config) (r u : ℕ) (past : List Event) (e : Event) → WasMade c r past e → IsOpenStep c r past e → is_row_of c u (known c r past) ≡ true → has_row r u (e ∷ past) ≡ has_row r u past
-still_row c r u past e held still of_known = own_row_same c r u past e held.own (made_no_write c r past e held still.unnamed) of_known still.completes
+pub still_applied : (c : Config) (r : ℕ) (past : List Event) (e : Event) → IsConfig c → IsPossible c r past → WasMade c r past e → IsOpenStep c r past e → length (applied c r (e ∷ past)) ≡ length (applied c r past)
+still_applied c r past e good possible held still =
+    ap (λ xs. length (front (λ v. has_entry c r v (e ∷ past)) xs)) (known_same c r past e still.learns)
+    ∙ front_same c (λ u. has_row r u past) (λ u. has_row r u (e ∷ past)) (known c r past) (λ u is. still_row c r u past e good possible held still is)
 
 -- an event that leaves what of the rows of known entries r has, and which row is under way, if r
 -- lacks it and the event isn't the cycle's own
@@ -140,16 +111,6 @@ pub record IsStill (c : Config) (r : ℕ) (past : List Event) (e : Event) : Type
   pub words : (u k : ℕ) → has_word r u k past ≡ true → has_word r u k (e ∷ past) ≡ true
   pub same : length (applied c r (e ∷ past)) ≡ length (applied c r past)
   pub under : is_odd (length past) ≡ true → (u : ℕ) → row_under_way past ≡ Some u → is_row_of c u (known c r past) ≡ true → has_row r u past ≡ false → row_under_way (e ∷ past) ≡ Some u
-
--- a word that r has it goes on having
-pub word_on : (r u k : ℕ) (e : Event) (past : List Event) → has_word r u k past ≡ true → has_word r u k (e ∷ past) ≡ true
-word_on r u k e past is = go (u / 4096 == r) (wrote r (u % 4096) k past) refl (has (λ f. is_read r u k f.by f.verb) past) refl is
-  where
-    go : (t w : Bool) → wrote r (u % 4096) k past ≡ w → (x : Bool) → has (λ f. is_read r u k f.by f.verb) past ≡ x → ((t && w) || x) ≡ true → ((t && wrote r (u % 4096) k (e ∷ past)) || has (λ f. is_read r u k f.by f.verb) (e ∷ past)) ≡ true
-    go t w hw true hx is = or_true (t && wrote r (u % 4096) k (e ∷ past)) (has (λ f. is_read r u k f.by f.verb) (e ∷ past)) (has_more (λ f. is_read r u k f.by f.verb) e past hx)
-    go true true hw false hx is = true_or (wrote r (u % 4096) k (e ∷ past)) (has (λ f. is_read r u k f.by f.verb) (e ∷ past)) (has_more (λ f. is_written r (u % 4096) k f.by f.verb) e past hw)
-    go true false hw false hx is = absurd (true≢false (sym is))
-    go false w hw false hx is = absurd (true≢false (sym is))
 
 -- a word that was there or is read
 pub word_had : (c : Config) (r row j k : ℕ) (past : List Event) (e : Event) → e.by ≡ r → e.verb ≡ Verb.ReadRow row k → (j ≡ k) ⊎ (has_word r row j past ≡ true) → has_word r row j (e ∷ past) ≡ true
@@ -193,12 +154,12 @@ under_caught c r u past e own caught under of_known missing none = elim (cases_l
     reads = same_some e.verb (Verb.ReadRow u k) (sym caught.due ∙ due)
 
 -- one that doesn't close the count is
-pub still_open : (c : Config) (r : ℕ) (past : List Event) (e : Event) → WasMade c r past e → IsOpenStep c r past e → IsStill c r past e
-still_open c r past e held still = record {
+pub still_open : (c : Config) (r : ℕ) (past : List Event) (e : Event) → IsConfig c → IsPossible c r past → WasMade c r past e → IsOpenStep c r past e → IsStill c r past e
+still_open c r past e good possible held still = record {
   of_known = λ u is. ap (is_row_of c u) (still_known c r past e still) ∙ is;
-  rows = λ u is. still_row c r u past e held still is;
+  rows = λ u is. still_row c r u past e good possible held still is;
   words = λ u k had. word_on r u k e past had;
-  same = still_applied c r past e held still;
+  same = still_applied c r past e good possible held still;
   under = λ odd u under of_known missing. elim (unnamed_made c r past e held still.unnamed odd) [
     | inl beats ↦ ap (λ v. row_read v (row_under_way past)) beats ∙ under
     | inr caught ↦ under_caught c r u past e held.own caught under of_known missing still.completes
@@ -206,23 +167,23 @@ still_open c r past e held still = record {
 }
 
 -- what is due to be replayed stays due
-due_stays : (c : Config) (r : ℕ) (past : List Event) (e : Event) → WasMade c r past e → IsOpenStep c r past e → is_replay_due c r past ≡ true → is_replay_due c r (e ∷ past) ≡ true
-due_stays c r past e held still due =
+due_stays : (c : Config) (r : ℕ) (past : List Event) (e : Event) → IsConfig c → IsPossible c r past → WasMade c r past e → IsOpenStep c r past e → is_replay_due c r past ≡ true → is_replay_due c r (e ∷ past) ≡ true
+due_stays c r past e good possible held still due =
     let low = ltb-true (length (applied c r past)) (greatest_fuo_read r r past) due in
-    let same = still_applied c r past e held still in
+    let same = still_applied c r past e good possible held still in
     let more = fuo_rises r past e in
     lt-ltb (length (applied c r (e ∷ past))) (greatest_fuo_read r r (e ∷ past)) (omega (arith, low, same, more))
 
 -- while the count is open something is due
-open_due : (c : Config) (r : ℕ) (past : List Event) (left : ℕ) → AtEachStep (WasMade c r) past → steps_left (replaying c r) past ≡ Some left → is_replay_due c r past ≡ true
-open_due c r [] left made is = go (is_replay_due c r []) is
+open_due : (c : Config) (r : ℕ) (past : List Event) (left : ℕ) → IsConfig c → IsPossible c r past → AtEachStep (WasMade c r) past → steps_left (replaying c r) past ≡ Some left → is_replay_due c r past ≡ true
+open_due c r [] left good possible made is = go (is_replay_due c r []) is
   where
     go : (t : Bool) → (if t then Some (8 * c.replicas + 88) else None) ≡ Some left → t ≡ true
     go true is = refl
     go false is = absurd (none_some left is)
-open_due c r (e ∷ past) left made is = elim (step (is_replay_due c r (e ∷ past)) ((replaying c r).closes past e) (steps_left (replaying c r) past) is) [
+open_due c r (e ∷ past) left good possible made is = elim (step (is_replay_due c r (e ∷ past)) ((replaying c r).closes past e) (steps_left (replaying c r) past) is) [
   | inl due ↦ due
-  | inr still ↦ due_stays c r past e made.1 (open_step c r past e still.0) (open_due c r past still.1.0 made.0 still.1.1)
+  | inr still ↦ (let before = (parts_shorten_law c r past e possible).before in due_stays c r past e good before made.1 (open_step c r past e still.0) (open_due c r past still.1.0 good before made.0 still.1.1))
 ]
   where
     step : (t u : Bool) (o : Option ℕ) → fewer (if t then Some (8 * c.replicas + 88) else None) (left_after u true 0 o) ≡ Some left → (t ≡ true) ⊎ ((u ≡ false) × ((l : ℕ) × (o ≡ Some l)))
@@ -232,5 +193,5 @@ open_due c r (e ∷ past) left made is = elim (step (is_replay_due c r (e ∷ pa
     step false false (Some l) is = inr (refl, (l, refl))
 
 -- where nothing is due there is any room
-pub undue_room : (c : Config) (r n : ℕ) (past : List Event) → AtEachStep (WasMade c r) past → is_replay_due c r past ≡ false → HasRoom (replaying c r) n past
-undue_room c r n past made none left is = absurd (true≢false (sym (open_due c r past left made is) ∙ none))
+pub undue_room : (c : Config) (r n : ℕ) (past : List Event) → IsConfig c → IsPossible c r past → AtEachStep (WasMade c r) past → is_replay_due c r past ≡ false → HasRoom (replaying c r) n past
+undue_room c r n past good possible made none left is = absurd (true≢false (sym (open_due c r past left good possible made is) ∙ none))

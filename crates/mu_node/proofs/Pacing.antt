@@ -25,7 +25,7 @@ use Rattle.mu_pace.specs.Keeping.{AsksLately, HasCause}
 use Rattle.mu_pace.specs.Watches.{confirming}
 use Rattle.mu_lead.specs.declared.lead.Lead.{Lead}
 use Rattle.mu_lead.specs.declared.place.Place.{Place}
-use Rattle.mu_lead.specs.Beside.{is_beside, leads_at}
+use Rattle.mu_lead.specs.Beside.{is_beside, leads_at, writes_row}
 use Rattle.mu_lead.specs.Confirmations.{ConfirmsAt}
 use Rattle.mu_lead.specs.Evidence.{ExplainsAt}
 use Rattle.mu_lead.specs.Going.{begins_at}
@@ -35,16 +35,16 @@ use Rattle.mu_lead.specs.Standing.{At, known_told, verb_at, verb_of}
 use Rattle.mu_lead.specs.Welcomes.{JoinsAt}
 use Rattle.mu_lead.proofs.Confirms.{minima_come_in_time}
 use Rattle.mu_lead.specs.Causes.{CausesAt}
-use Rattle.mu_lead.specs.Journal.{HasLeft, IsWhere, PlacesNext, due_after}
-use Rattle.mu_lead.specs.Lasting.{KeepsNext}
+use Rattle.mu_lead.specs.Journal.{HasLeft, IsWhere, PlacesNext, due_after, tables_beside}
+use Rattle.mu_lead.specs.Lasting.{KeepsNext, tables_of}
 use Rattle.mu_lead.specs.Elections.{ElectsAt}
 use Rattle.mu_lead.specs.Resigning.{CountsAt, IsTold, KeepsCounts}
 use Rattle.mu_lead.proofs.Causes.{leaders_ask_with_cause}
 use Rattle.mu_lead.proofs.Elections.{elections_come_in_time}
-use Rattle.mu_lead.proofs.Folding.{due_is, rests_at, turn_tables, unnamed_place, where_beside, where_left, where_named, where_rests, where_unnamed}
+use Rattle.mu_lead.proofs.Folding.{due_is, rests_at, turn_tables, unnamed_place, where_ahead, where_beside, where_left, where_named, where_rests, where_unnamed}
 use Rattle.mu_lead.proofs.Resigning.{beats_keep_counts, counts_are_in_time}
 use Rattle.mu_node.specs.Due.{CatchesUp, IsIdle, lead_due}
-use Rattle.mu_node.proofs.CatchingUp.{catches_reading, is_reading, paces_caught, reading_tables}
+use Rattle.mu_node.proofs.CatchingUp.{catches_reading, is_reading, paces_caught, reading_fails, reading_tables}
 use Rattle.mu_node.specs.Node.{StandsForLead}
 use Rattle.mu_node.specs.Paced.{HadPaces, HasPaces, HasPlannedPaces, PacesAt, PacesTold}
 use Rattle.mu_node.proofs.Leading.{lower_named}
@@ -62,17 +62,32 @@ pub paces_first : (c : Config) (r : ℕ) (lead : Lead) → lead.config ≡ c →
 paces_first c r lead same_c same_r paces = of_node (λ k i. HasPaces k i [] lead) c r lead same_c same_r paces
 
 -- a background event of another machine leaves the room of each
-pub paces_beside : (c : Config) (r : ℕ) (mine : List Event) (lead : Lead) (verb : Verb) (answer : Answer) → is_odd (length mine) ≡ false → is_beside (leads_at lead.place) verb ≡ true → StandsForLead c r mine lead → HasPaces c r mine lead
-    → HasPaces c r (event_by r verb answer ∷ mine) lead
-paces_beside c r mine lead verb answer even beside held paces = record {
-  paces = record {
-    counts = of_node (λ k i. CountsAt k i mine lead.written.items lead.place → CountsAt k i (event_by i verb answer ∷ mine) lead.written.items lead.place) c r lead held.config held.id
-        (counts_are_in_time.beside mine lead verb answer even beside held.stands) paces.paces.counts;
-    causes = leaders_ask_with_cause.beside c r mine lead.place verb answer beside paces.paces.causes;
-    elects = elections_come_in_time.beside c r mine lead.place verb answer even beside paces.paces.elects;
-  };
-  listed = where_beside c r mine (event_by r verb answer) lead even paces.listed;
+paces_kept : (c : Config) (r : ℕ) (mine : List Event) (lead : Lead) (verb : Verb) (answer : Answer) → is_odd (length mine) ≡ false → is_beside (leads_at lead.place) verb ≡ true → StandsForLead c r mine lead → HasPaces c r mine lead
+    → PacesAt c r (event_by r verb answer ∷ mine) lead.written.items lead.place
+paces_kept c r mine lead verb answer even beside held paces = record {
+  counts = of_node (λ k i. CountsAt k i mine lead.written.items lead.place → CountsAt k i (event_by i verb answer ∷ mine) lead.written.items lead.place) c r lead held.config held.id
+      (counts_are_in_time.beside mine lead verb answer even beside held.stands) paces.paces.counts;
+  causes = leaders_ask_with_cause.beside c r mine lead.place verb answer beside paces.paces.causes;
+  elects = elections_come_in_time.beside c r mine lead.place verb answer even beside paces.paces.elects;
 }
+
+pub paces_beside : (c : Config) (r : ℕ) (mine : List Event) (lead : Lead) (verb : Verb) (answer : Answer) → is_odd (length mine) ≡ false → writes_row verb ≡ false → is_beside (leads_at lead.place) verb ≡ true → StandsForLead c r mine lead → HasPaces c r mine lead
+    → HasPaces c r (event_by r verb answer ∷ mine) lead
+paces_beside c r mine lead verb answer even none beside held paces = record { paces = paces_kept c r mine lead verb answer even beside held paces; listed = where_beside c r mine (event_by r verb answer) lead even none paces.listed }
+
+-- and so does a word that is written ahead
+pub paces_ahead : (c : Config) (r : ℕ) (mine : List Event) (lead next : Lead) (verb : Verb) (answer : Answer) → is_odd (length mine) ≡ false → is_beside (leads_at lead.place) verb ≡ true → next.place ≡ lead.place → next.under_way ≡ lead.under_way → tables_of next ≡ tables_beside (tables_of lead) verb
+    → (CountsAt c r (event_by r verb answer ∷ mine) lead.written.items lead.place → CountsAt c r (event_by r verb answer ∷ mine) next.written.items next.place) → StandsForLead c r mine lead → HasPaces c r mine lead → HasPaces c r (event_by r verb answer ∷ mine) next
+paces_ahead c r mine lead next verb answer even beside place going tables counts held paces =
+    let kept = paces_kept c r mine lead verb answer even beside held paces in
+    record {
+      paces = record {
+        counts = counts kept.counts;
+        causes = subst (CausesAt c r (event_by r verb answer ∷ mine)) (sym place) kept.causes;
+        elects = subst (ElectsAt c r (event_by r verb answer ∷ mine)) (sym place) kept.elects;
+      };
+      listed = where_ahead c r mine (event_by r verb answer) lead next even place going tables paces.listed;
+    }
 
 -- what the contract of the leader says of the answer to its verb
 pub record TakesPaces (mine : List Event) (old : Lead) (values : List ℕ) (answer : Answer) (new : Lead) : Type 0 where
@@ -146,7 +161,7 @@ paces_told c r mine old new named inside is same told going paces = go (is_named
 pub paces_even : (c : Config) (r : ℕ) (mine : List Event) (lead : Lead) → is_odd (length mine) ≡ false → HasPaces c r mine lead → HasPlannedPaces c r mine lead
 paces_even c r mine lead even paces = subst (λ t. PacesTold (t && not (is_named c r mine)) c r mine lead) (sym even) paces
 
-even_paces : (c : Config) (r : ℕ) (mine : List Event) (lead : Lead) → is_odd (length mine) ≡ false → HasPlannedPaces c r mine lead → HasPaces c r mine lead
+pub even_paces : (c : Config) (r : ℕ) (mine : List Event) (lead : Lead) → is_odd (length mine) ≡ false → HasPlannedPaces c r mine lead → HasPaces c r mine lead
 even_paces c r mine lead even paces = subst (λ t. PacesTold (t && not (is_named c r mine)) c r mine lead) even paces
 
 -- in one of the leader it is
@@ -218,16 +233,27 @@ caught_on c r mine lead verb answer odd caught planned = record {
     reads = catches_reading c r mine verb caught.due
 
 -- and so does each event that is not of the leader
-pub paces_other : (c : Config) (r : ℕ) (mine : List Event) (lead : Lead) (verb : Verb) (answer : Answer) → IsConfig c → outrun c r mine ≡ None → is_beside (leads_at lead.place) verb ≡ true → IsIdle c r mine lead verb → StandsForLead c r mine lead
+pub paces_other : (c : Config) (r : ℕ) (mine : List Event) (lead : Lead) (verb : Verb) (answer : Answer) → IsConfig c → outrun c r mine ≡ None → writes_row verb ≡ false → is_beside (leads_at lead.place) verb ≡ true → IsIdle c r mine lead verb → StandsForLead c r mine lead
     → HasPlannedPaces c r mine lead → HasPaces c r (event_by r verb answer ∷ mine) lead
-paces_other c r mine lead verb answer good going beside idle held paces = go (is_odd (length mine)) refl
+paces_other c r mine lead verb answer good going none beside idle held paces = go (is_odd (length mine)) refl
   where
     go : (t : Bool) → is_odd (length mine) ≡ t → HasPaces c r (event_by r verb answer ∷ mine) lead
     go true odd = elim (idle odd).1 [
       | inl beats ↦ subst (λ v. HasPaces c r (event_by r v answer ∷ mine) lead) (sym beats) (beats_on c r mine lead answer good odd going (idle odd).0 held paces)
       | inr caught ↦ caught_on c r mine lead verb answer odd caught paces
     ]
-    go false even = paces_beside c r mine lead verb answer even beside held (even_paces c r mine lead even paces)
+    go false even = paces_beside c r mine lead verb answer even none beside held (even_paces c r mine lead even paces)
+
+-- a word of a row is written ahead in the background
+pub writes_even : (c : Config) (r : ℕ) (mine : List Event) (lead : Lead) (verb : Verb) → IsIdle c r mine lead verb → writes_row verb ≡ true → is_odd (length mine) ≡ false
+writes_even c r mine lead verb idle writes = go (is_odd (length mine)) refl
+  where
+    go : (t : Bool) → is_odd (length mine) ≡ t → t ≡ false
+    go true odd = elim (idle odd).1 [
+      | inl beats ↦ absurd (true≢false (sym writes ∙ ap writes_row beats))
+      | inr caught ↦ absurd (true≢false (sym writes ∙ reading_fails writes_row verb (catches_reading c r mine verb caught.due) (λ p i. refl) (λ v k. refl)))
+    ]
+    go false even = refl
 
 -- what the leader keeps with an event
 kept_with : (c : Config) (r : ℕ) (mine : List Event) (e : Event) (lead : Lead) → StandsForLead c r (e ∷ mine) lead → HasPaces c r (e ∷ mine) lead → HasCause c r mine e

@@ -23,6 +23,9 @@ use Rattle.mu_lead.specs.declared.place.Place.{Place}
 use Rattle.mu_lead.specs.Beside.{leads_at}
 use Rattle.mu_lead.specs.Standing.{verb_at}
 use Rattle.mu_pace.specs.Counters.{AtEachStep}
+use Rattle.mu_node.specs.declared.zeal.Zeal.{Zeal}
+use Rattle.mu_node.specs.Due.{write_due, or_ahead}
+use Rattle.mu_node.proofs.Failing.{ahead_fails}
 use Rattle.mu_node.proofs.CatchingUp.{made_led}
 use Rattle.mu_follow.specs.CatchingUp.{catch_up_due, entry_due, lacked_word_due, lacked_word_of, or_else, words_had}
 use Rattle.mu_node.specs.Cycle.{IsBackgroundDue, handed, other_at, place_now, read_at}
@@ -187,6 +190,10 @@ background_reads c r mine leading due reads is = elim (cases_lt place (host_plac
     place : ℕ
     place = place_now c mine
 
+ahead_reads : (c : Config) (r : ℕ) (mine : List Event) (zeal : Zeal) (due : Option Verb) → Reads c r mine due → IsReadKnown c r mine (or_ahead zeal c r mine due)
+ahead_reads c r mine zeal (Some verb) is = is
+ahead_reads c r mine zeal None is = reads_other c r mine (verb_or_beat (write_due zeal c r mine)) (ahead_fails is_row_read refl (λ j k x. refl) zeal c r mine)
+
 made_reads : (c : Config) (r : ℕ) (mine : List Event) (e : Event) → ReadsKnown c r mine → WasMade c r mine e → IsReadKnown c r mine e.verb
 made_reads c r mine e reads was = go (is_odd (length mine)) refl
   where
@@ -195,7 +202,7 @@ made_reads c r mine e reads was = go (is_odd (length mine)) refl
       | inl listed ↦ subst (IsReadKnown c r mine) (sym listed) (reads_other c r mine (verb_or_beat (due_after c r mine)) (led_reads c r mine))
       | inr caught ↦ subst (Reads c r mine) caught.due (catch_reads c r mine reads)
     ]
-    go false even = let made = was.made.background even in subst (IsReadKnown c r mine) (sym made.2) (background_reads c r mine (leads_at (place_after c r mine)) made.0 reads made.1)
+    go false even = let made = was.made.background even in subst (IsReadKnown c r mine) (sym made.2) (ahead_reads c r mine was.zeal made.0 (background_reads c r mine (leads_at (place_after c r mine)) made.0 reads made.1))
 
 -- a node reads rows of known batches alone
 pub reads_known : (c : Config) (r : ℕ) (mine : List Event) → AtEachStep (WasMade c r) mine → ReadsKnown c r mine

@@ -28,7 +28,8 @@ use Rattle.mu_pace.specs.Watches.{is_named_turn, is_replay_due, replaying}
 use Rattle.mu_pace.proofs.Cycles.{closed_moments}
 use Rattle.mu_pace.proofs.Rooms.{kinds_of_step}
 use Rattle.mu_node.specs.Cycle.{handed, handed_before, hands_on, place_now}
-use Rattle.mu_node.specs.Due.{verb_or_beat}
+use Rattle.mu_node.specs.Due.{or_ahead}
+use Rattle.mu_model.specs.Contents.{IsConfig}
 use Rattle.mu_node.specs.Journal.{WasMade}
 use Rattle.mu_node.proofs.Rounding.{at_place, place_index, replayed_at}
 use Rattle.mu_node.proofs.Open.{IsOpenStep, IsStill, open_step, rows_allow, rows_anew, still_applied, still_known, still_open, undue_room, word_had}
@@ -153,7 +154,7 @@ words_due c r past count f k leading is some low =
 word_read : (c : Config) (r k row : ℕ) (past : List Event) (e : Event) → WasMade c r past e → length past % cycle c ≡ 4 * c.replicas + 14 + 2 * k → 1 ≤ k → k < 12 → row_under_way past ≡ Some row → e.verb ≡ Verb.ReadRow row k
 word_read c r k row past e held at some low under_way =
     let here = replayed_at c r (3 + k) past e held (at ∙ omega arith) in
-    here.1 ∙ (ap verb_or_beat (words_due c r past (handed c r past) (3 + k) k (leads_at (place_after c r past)) refl some low) ∙ ap (λ o. verb_or_beat (next_word_of k o)) under_way)
+    here.1 ∙ (ap (or_ahead held.zeal c r past) (words_due c r past (handed c r past) (3 + k) k (leads_at (place_after c r past)) refl some low) ∙ ap (λ o. or_ahead held.zeal c r past (next_word_of k o)) under_way)
 
 -- the last word completes the row
 last_completes : (c : Config) (r : ℕ) (past : List Event) (e : Event) → WasMade c r past e → length past % cycle c ≡ 4 * c.replicas + 36 → IsReading c r 11 past → completes_row c r past e ≡ true
@@ -176,7 +177,7 @@ first_read c r past e held still at count low =
     ∙ (ap (first_word_of c r past) next.at
     ∙ (ap (λ t. if t then (if nat_lt (rows_had c r past next.value) (rest_of c (next.value % 4096) + 1) then Some (Verb.ReadRow u 0) else None) else None) row.batch
     ∙ ap (λ t. if t then Some (Verb.ReadRow u 0) else None) (lt-ltb (rows_had c r past next.value) (rest_of c (next.value % 4096) + 1) row.within))) in
-    let reads : e.verb ≡ Verb.ReadRow u 0 = here.1 ∙ ap verb_or_beat due in
+    let reads : e.verb ≡ Verb.ReadRow u 0 = here.1 ∙ ap (or_ahead held.zeal c r past) due in
     let within = row.within in
     let of_known = row_of_known c (length (applied c r past)) next.value u (known c r past) next.at row.batch (omega arith) (omega (arith, within)) in
     record {
@@ -225,14 +226,14 @@ reads_on c r x y past e held still at next low high old = go (cases_eq (x % 2) 1
 
 -- what r knows isn't applied yet, or there is room, or r was outrun, after the look at the next
 -- position
-looks_next : (c : Config) (r : ℕ) (past : List Event) (e : Event) → AtEachStep (WasMade c r) past → WasMade c r past e → IsOpenStep c r past e → IsPossible c r (e ∷ past) → length past % cycle c ≡ 4 * c.replicas + 12
+looks_next : (c : Config) (r : ℕ) (past : List Event) (e : Event) → IsConfig c → AtEachStep (WasMade c r) past → WasMade c r past e → IsOpenStep c r past e → IsPossible c r (e ∷ past) → length past % cycle c ≡ 4 * c.replicas + 12
     → (length (applied c r (e ∷ past)) < length (known c r (e ∷ past))) ⊎ (IsEased c r (e ∷ past) ⊎ (outrun c r (e ∷ past) ≡ None → ⊥))
-looks_next c r past e made held still possible at = elim (cases_lt (length (applied c r past)) (length (known c r past))) [
-  | inl low ↦ (let same = still_applied c r past e held still in let long = ap length (still_known c r past e still) in inl (omega (arith, low, same, long)))
+looks_next c r past e good made held still possible at = elim (cases_lt (length (applied c r past)) (length (known c r past))) [
+  | inl low ↦ (let same = still_applied c r past e good (parts_shorten_law c r past e possible).before held still in let long = ap length (still_known c r past e still) in inl (omega (arith, low, same, long)))
   | inr high ↦ inr (by_due (is_replay_due c r past) refl high)
 ]
   where
-    here : (is_odd (length past) ≡ false) × (e.verb ≡ verb_or_beat (replay_due c r past (handed c r past) 2 (leads_at (place_after c r past))))
+    here : (is_odd (length past) ≡ false) × (e.verb ≡ or_ahead held.zeal c r past (replay_due c r past (handed c r past) 2 (leads_at (place_after c r past))))
     here = replayed_at c r 2 past e held (at ∙ omega arith)
 
     eased : ((n : ℕ) → n ≤ 8 * c.replicas + 88 → HasRoom (replaying c r) n past) → IsEased c r (e ∷ past)
@@ -243,14 +244,14 @@ looks_next c r past e made held still possible at = elim (cases_lt (length (appl
     teaches below false other =
         let decided : is_known_decided r past r (length (known c r past)) ≡ true = true_or (nat_lt (length (known c r past)) (greatest_fuo_read r r past)) _ (lt-ltb (length (known c r past)) (greatest_fuo_read r r past) below) in
         let looks : e.verb ≡ Verb.Look r (length (known c r past)) =
-        here.1 ∙ (ap (λ t. verb_or_beat (replay_due c r past (handed c r past) 2 t)) other ∙ ap (λ t. verb_or_beat (if t then Some (Verb.Look r (length (known c r past))) else None)) decided) in
+        here.1 ∙ (ap (λ t. or_ahead held.zeal c r past (replay_due c r past (handed c r past) 2 t)) other ∙ ap (λ t. or_ahead held.zeal c r past (if t then Some (Verb.Look r (length (known c r past))) else None)) decided) in
         let same : e ≡ event_by r (Verb.Look r (length (known c r past))) e.answer = ap (λ b. event_by b e.verb e.answer) held.own ∙ ap (λ v. event_by r v e.answer) looks in
         let found = subst (λ z. (knows_more c r past z ≡ true) ⊎ (outrun c r (z ∷ past) ≡ None → ⊥)) (sym same) (look_teaches c r past e.answer below (subst (λ z. IsPossible c r (z ∷ past)) same possible)) in
         elim found [ inl more ↦ absurd (true≢false (sym more ∙ still.learns)) | inr over ↦ inr over ]
 
     by_due : (t : Bool) → is_replay_due c r past ≡ t → length (known c r past) ≤ length (applied c r past) → IsEased c r (e ∷ past) ⊎ (outrun c r (e ∷ past) ≡ None → ⊥)
     by_due true due high = let low = ltb-true (length (applied c r past)) (greatest_fuo_read r r past) due in teaches (omega (arith, low, high)) (leads_at (place_after c r past)) refl
-    by_due false none high = inl (eased (λ n few. undue_room c r n past made none))
+    by_due false none high = inl (eased (λ n few. undue_room c r n past good (parts_shorten_law c r past e possible).before made none))
 
 -- what is done at the next place
 pub at_next : (c : Config) (r x y : ℕ) (past : List Event) (e : Event) → WasMade c r past e → IsStill c r past e → length past % cycle c ≡ x → IsAfter c x y → x ≢ 4 * c.replicas + 36 → IsAt c r x past
@@ -306,26 +307,26 @@ last_whole c r past e held last old =
     last_completes c r past e held last (subst (λ n. IsReading c r n past) eleven (old.reads (omega (arith, last)) (omega (arith, last))))
 
 -- one event
-goes_on : (c : Config) (r : ℕ) (past : List Event) (e : Event) → IsPossible c r (e ∷ past) → AtEachStep (WasMade c r) past → WasMade c r past e → Goes c r past → Goes c r (e ∷ past)
-goes_on c r past e possible made held old = go ((replaying c r).closes past e) refl old
+goes_on : (c : Config) (r : ℕ) (past : List Event) (e : Event) → IsConfig c → IsPossible c r (e ∷ past) → AtEachStep (WasMade c r) past → WasMade c r past e → Goes c r past → Goes c r (e ∷ past)
+goes_on c r past e good possible made held old = go ((replaying c r).closes past e) refl old
   where
     after : IsAfter c (length past % cycle c) (length (e ∷ past) % cycle c)
     after = next_place c past e
 
     placed : IsOpenStep c r past e → IsAt c r (length past % cycle c) past → length past % cycle c ≢ 4 * c.replicas + 36 → Goes c r (e ∷ past)
     placed still at other = elim (cases_eq (length past % cycle c) (4 * c.replicas + 12)) [
-      | inl here ↦ elim (looks_next c r past e made held still possible here) [
-        | inl low ↦ inr (inl (at_next c r (length past % cycle c) (length (e ∷ past) % cycle c) past e held (still_open c r past e held still) refl after other at (λ from to. low)))
+      | inl here ↦ elim (looks_next c r past e good made held still possible here) [
+        | inl low ↦ inr (inl (at_next c r (length past % cycle c) (length (e ∷ past) % cycle c) past e held (still_open c r past e good (parts_shorten_law c r past e possible).before held still) refl after other at (λ from to. low)))
         | inr rest ↦ elim rest [ inl eased ↦ inl eased | inr over ↦ inr (inr over) ]
       ]
-      | inr away ↦ inr (inl (at_next c r (length past % cycle c) (length (e ∷ past) % cycle c) past e held (still_open c r past e held still) refl after other at (λ from to. waits_on (length past % cycle c) (length (e ∷ past) % cycle c) after away from to at)))
+      | inr away ↦ inr (inl (at_next c r (length past % cycle c) (length (e ∷ past) % cycle c) past e held (still_open c r past e good (parts_shorten_law c r past e possible).before held still) refl after other at (λ from to. waits_on (length past % cycle c) (length (e ∷ past) % cycle c) after away from to at)))
     ]
       where
         waits_on : (x y : ℕ) → IsAfter c x y → x ≢ 4 * c.replicas + 12 → 4 * c.replicas + 13 ≤ y → y ≤ 4 * c.replicas + 14 → IsAt c r x past → length (applied c r (e ∷ past)) < length (known c r (e ∷ past))
         waits_on x y (inl next) away from to at =
             let more : 4 * c.replicas + 13 ≤ x = elim (cases_lt (4 * c.replicas + 12) x) [ inl l ↦ omega (arith, l) | inr l ↦ absurd (away (omega (arith, l, from, next))) ] in
             let low = at.waits more (omega (arith, to, next)) in
-            let same = still_applied c r past e held still in let long = ap length (still_known c r past e still) in omega (arith, low, same, long)
+            let same = still_applied c r past e good (parts_shorten_law c r past e possible).before held still in let long = ap length (still_known c r past e still) in omega (arith, low, same, long)
         waits_on x y (inr round) away from to at = let zero = round.1 in absurd (omega (arith, from, zero))
 
     go : (t : Bool) → (replaying c r).closes past e ≡ t → Goes c r past → Goes c r (e ∷ past)
@@ -337,9 +338,9 @@ goes_on c r past e possible made held old = go ((replaying c r).closes past e) r
         elim (cases_eq (length past % cycle c) (4 * c.replicas + 36)) [ inl last ↦ absurd (true≢false (sym (last_whole c r past e held last at) ∙ still.completes)) | inr other ↦ placed still at other ]
 
 -- throughout
-goes : (c : Config) (r : ℕ) (past : List Event) → IsPossible c r past → AtEachStep (WasMade c r) past → Goes c r past
-goes c r [] possible made = inr (inl (record { handed = λ side. refl; waits = λ low high. absurd (omega (arith, low)); reads = λ low high. absurd (omega (arith, low)) }))
-goes c r (e ∷ past) possible made = goes_on c r past e possible made.0 made.1 (goes c r past (parts_shorten_law c r past e possible).before made.0)
+goes : (c : Config) (r : ℕ) (past : List Event) → IsConfig c → IsPossible c r past → AtEachStep (WasMade c r) past → Goes c r past
+goes c r [] good possible made = inr (inl (record { handed = λ side. refl; waits = λ low high. absurd (omega (arith, low)); reads = λ low high. absurd (omega (arith, low)) }))
+goes c r (e ∷ past) good possible made = goes_on c r past e good possible made.0 made.1 (goes c r past good (parts_shorten_law c r past e possible).before made.0)
 
 -- the last word closes the count, or there is room for a round more
 rows_closed : (c : Config) (r : ℕ) (past : List Event) (e : Event) → WasMade c r past e → Goes c r past → length past % cycle c ≡ 4 * c.replicas + 36 → ((replaying c r).closes past e ≡ true) ⊎ HasRoom (replaying c r) (cycle c + 1) past
@@ -347,12 +348,12 @@ rows_closed c r past e held (inl eased) last = inr (kinds_of_step.less (replayin
 rows_closed c r past e held (inr (inl at)) last = inl (true_or (knows_more c r past e || completes_row c r past e) (is_named_turn c r past e) (or_true (knows_more c r past e) (completes_row c r past e) (last_whole c r past e held last at)))
 rows_closed c r past e held (inr (inr over)) last = absurd (over held.going)
 
-closed_steps : (c : Config) (r : ℕ) (past : List Event) → IsPossible c r past → AtEachStep (WasMade c r) past → IsClosedAt (cycle c) (4 * c.replicas + 36) (replaying c r) past
-closed_steps c r [] possible made = tt
-closed_steps c r (e ∷ past) possible made =
+closed_steps : (c : Config) (r : ℕ) (past : List Event) → IsConfig c → IsPossible c r past → AtEachStep (WasMade c r) past → IsClosedAt (cycle c) (4 * c.replicas + 36) (replaying c r) past
+closed_steps c r [] good possible made = tt
+closed_steps c r (e ∷ past) good possible made =
     let before = (parts_shorten_law c r past e possible).before in
-    (closed_steps c r past before made.0, λ last. rows_closed c r past e made.1 (goes c r past before made.0) last)
+    (closed_steps c r past good before made.0, λ last. rows_closed c r past e made.1 (goes c r past good before made.0) last)
 
-pub rows_in_time : (c : Config) (r : ℕ) (past : List Event) → IsPossible c r past → AtEachStep (WasMade c r) past → AtEachMoment (IsInTime (replaying c r)) past
-rows_in_time c r past possible made =
-    closed_moments (cycle c) (4 * c.replicas + 36) (replaying c r) past (omega arith) (λ now allowed is. let whole = rows_allow c r now allowed is in omega (arith, whole)) (closed_steps c r past possible made)
+pub rows_in_time : (c : Config) (r : ℕ) (past : List Event) → IsConfig c → IsPossible c r past → AtEachStep (WasMade c r) past → AtEachMoment (IsInTime (replaying c r)) past
+rows_in_time c r past good possible made =
+    closed_moments (cycle c) (4 * c.replicas + 36) (replaying c r) past (omega arith) (λ now allowed is. let whole = rows_allow c r now allowed is in omega (arith, whole)) (closed_steps c r past good possible made)

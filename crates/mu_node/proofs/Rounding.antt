@@ -23,7 +23,7 @@ use Rattle.mu_grant.specs.Stands.{Gives, is_of_place}
 use Rattle.mu_follow.specs.Due.{ahead_due, filled_known, first_word_of, fuo_due, head_due, look_due, next_due, next_word_of, other_head_due, other_of, own_fuo, raise_due, replay_due, row_under_way, rows_had, word_due}
 use Rattle.mu_follow.specs.Paces.{RaisesHeadAt}
 use Rattle.mu_lead.specs.declared.place.Place.{Place}
-use Rattle.mu_lead.specs.Beside.{leads_at}
+use Rattle.mu_lead.specs.Beside.{leads_at, writes_row}
 use Rattle.mu_lead.specs.Standing.{verb_at}
 use Rattle.mu_pace.specs.Collecting.{KeepsRounds}
 use Rattle.mu_pace.specs.Counters.{AtEachMoment, AtEachStep, IsInTime}
@@ -31,9 +31,11 @@ use Rattle.mu_pace.specs.Watches.{is_head_due, raising_head}
 use Rattle.mu_pace.proofs.Cycles.{steps_give}
 use Rattle.mu_pace.proofs.Rounds.{places_are_indices}
 use Rattle.mu_node.specs.Cycle.{IsBackgroundDue, handed, other_at, place_now, read_at}
-use Rattle.mu_node.specs.Due.{verb_or_beat}
+use Rattle.mu_node.specs.declared.zeal.Zeal.{Zeal}
+use Rattle.mu_node.specs.Due.{write_due, or_ahead, verb_or_beat}
 use Rattle.mu_node.specs.Journal.{WasMade}
 use Rattle.mu_follow.proofs.Paces.{heads_rise_in_time}
+use Rattle.mu_node.proofs.Failing.{Fails, ahead_fails, either, else_fails}
 use Rattle.mu_node.proofs.CatchingUp.{catches_reading, made_led, reading_fails}
 use Rattle.mu_node.proofs.Turning.{handed_here}
 use Rattle.mu_lead.specs.Journal.{due_after, number_due, place_after, tables_at}
@@ -87,16 +89,16 @@ read_here c r x mine e held at low =
     let here = at_place c x mine at in
     let made = held.made.background here.0 in
     let same = here.1 in
-    made.2 ∙ (ap verb_or_beat (made.1.read (omega (arith, same, low))) ∙ ap (λ z. read_at c.replicas r z) same)
+    made.2 ∙ (ap (or_ahead held.zeal c r mine) (made.1.read (omega (arith, same, low))) ∙ ap (λ z. read_at c.replicas r z) same)
 
 -- what the replayer has due is what was made
 pub replayed_at : (c : Config) (r f : ℕ) (mine : List Event) (e : Event) (held : WasMade c r mine e) → length mine % cycle c ≡ 2 * (2 * c.replicas + 4 + f)
-    → (is_odd (length mine) ≡ false) × (e.verb ≡ verb_or_beat (replay_due c r mine (handed c r mine) f (leads_at (place_after c r mine))))
+    → (is_odd (length mine) ≡ false) × (e.verb ≡ or_ahead held.zeal c r mine (replay_due c r mine (handed c r mine) f (leads_at (place_after c r mine))))
 replayed_at c r f mine e held at =
     let here = at_place c (2 * c.replicas + 4 + f) mine at in
     let made = held.made.background here.0 in
     let same = here.1 in
-    (here.0, made.2 ∙ ap verb_or_beat (made.1.replay f same))
+    (here.0, made.2 ∙ ap (or_ahead held.zeal c r mine) (made.1.replay f same))
 
 -- the beat
 beat_here : (c : Config) (r : ℕ) (mine : List Event) (e : Event) → r < c.replicas → WasMade c r mine e → length mine % cycle c ≡ 2 * 0 → is_beat e ≡ true
@@ -160,14 +162,6 @@ asks_here c r w mine e low held at =
     let number : c.replicas + w - c.replicas ≡ w = omega arith in
     ap (is_ask_read_verb w) (read_here c r (c.replicas + w) mine e held at (omega (arith, low)) ∙ (read_ask c.replicas r (c.replicas + w) (λ none. omega (arith, none, low)) (omega arith) ∙ ap Verb.ReadAsk number)) ∙ same_number w
 
--- what is due, or else a beat, fails a test
-abbrev pub Fails : (Verb → Bool) → Option Verb → Type 0
-Fails test due = test (verb_or_beat due) ≡ false
-
-pub either : (test : Verb → Bool) (t : Bool) (a b : Option Verb) → Fails test a → Fails test b → Fails test (if t then a else b)
-either test true a b left right = left
-either test false a b left right = right
-
 -- a test that all verbs of the replayer fail, and a beat
 pub record FailsReplays (test : Verb → Bool) : Type 0 where
   pub beat : test Verb.Beat ≡ false
@@ -220,8 +214,8 @@ pub record FailsBackground (test : Verb → Bool) : Type 0 where
   pub host : (d : ℕ) (verb : Verb) → is_of_place d verb ≡ true → test verb ≡ false
 
 -- what is due in a background turn fails it, but for the reads before the places of the host
-pub background_fails : (test : Verb → Bool) → FailsBackground test → (c : Config) (r : ℕ) (mine : List Event) (leading : Bool) (due : Option Verb) → host_place c 0 ≤ place_now c mine → IsBackgroundDue c r mine leading due → Fails test due
-background_fails test fails c r mine leading due high is = elim (cases_lt (place_now c mine) (host_place c 4)) [
+pub cycle_fails : (test : Verb → Bool) → FailsBackground test → (c : Config) (r : ℕ) (mine : List Event) (leading : Bool) (due : Option Verb) → host_place c 0 ≤ place_now c mine → IsBackgroundDue c r mine leading due → Fails test due
+cycle_fails test fails c r mine leading due high is = elim (cases_lt (place_now c mine) (host_place c 4)) [
   | inl near ↦ (let at : place_now c mine ≡ host_place c (place_now c mine - host_place c 0) = omega (arith, high) in
       given (place_now c mine - host_place c 0) due (is.host (place_now c mine - host_place c 0) (omega (arith, near, high)) at))
   | inr far ↦ (let at = is.replay (place_now c mine - host_place c 4) (omega (arith, far)) in
@@ -231,6 +225,32 @@ background_fails test fails c r mine leading due high is = elim (cases_lt (place
     given : (d : ℕ) (due : Option Verb) → Gives c r mine d due → Fails test due
     given d None gives = fails.replays.beat
     given d (Some verb) gives = fails.host d verb (gives.given verb refl).0
+
+-- and so does what is made
+pub background_fails : (test : Verb → Bool) → FailsBackground test → ((j k x : ℕ) → test (Verb.WriteRow j k x) ≡ false) → (zeal : Zeal) (c : Config) (r : ℕ) (mine : List Event) (leading : Bool) (due : Option Verb) → host_place c 0 ≤ place_now c mine → IsBackgroundDue c r mine leading due → test (or_ahead zeal c r mine due) ≡ false
+background_fails test fails write zeal c r mine leading due high is = else_fails test due (write_due zeal c r mine) (cycle_fails test fails c r mine leading due high is) (ahead_fails test fails.replays.beat write zeal c r mine)
+
+-- no word of a row is written in the cycle
+pub cycle_writes_none : (c : Config) (r : ℕ) (mine : List Event) (leading : Bool) (due : Option Verb) → IsBackgroundDue c r mine leading due → writes_row (verb_or_beat due) ≡ false
+cycle_writes_none c r mine leading due is = elim (cases_lt (place_now c mine) (host_place c 0)) [
+  | inl low ↦ ap (λ d. writes_row (verb_or_beat d)) (is.read low) ∙ read (place_now c mine == 0) (nat_lt (place_now c mine) c.replicas)
+  | inr high ↦ cycle_fails writes_row fails c r mine leading due high is
+]
+  where
+    host : (d : ℕ) (verb : Verb) → is_of_place d verb ≡ true → writes_row verb ≡ false
+    host d (Verb.WriteRow j k x) is = absurd (true≢false (sym is))
+    host d verb is = refl
+
+    fails : FailsBackground writes_row
+    fails = record {
+      replays = record { beat = refl; fuo = λ p. refl; look = λ p i. refl; row = λ v k. refl; raise = λ p u. refl; raise_head = λ h. refl; head = λ q. refl };
+      host = host;
+    }
+
+    read : (s t : Bool) → writes_row (if s then Verb.Beat else if t then Verb.ReadBeat (other_at r (place_now c mine)) else Verb.ReadAsk (place_now c mine - c.replicas)) ≡ false
+    read true t = refl
+    read false true = refl
+    read false false = refl
 
 -- such is the read of a beat
 beat_fails : (q : ℕ) → FailsBackground (is_beat_read_verb q)
@@ -274,9 +294,9 @@ apart_here c r q mine e held reads = go (is_odd (length mine)) refl
     go false even =
         let made = held.made.background even in
         elim (cases_lt place (host_place c 0)) [
-          | inl low ↦ (let is : e.verb ≡ read_at c.replicas r place = made.2 ∙ ap verb_or_beat (made.1.read low) in
+          | inl low ↦ (let is : e.verb ≡ read_at c.replicas r place = made.2 ∙ ap (or_ahead held.zeal c r mine) (made.1.read low) in
               place_index c (beat_place r q) mine even (of_read (place == 0) refl (nat_lt place c.replicas) (sym (ap (is_beat_read_verb q) is) ∙ reads)))
-          | inr high ↦ absurd (not_due made.0 (background_fails (is_beat_read_verb q) (beat_fails q) c r mine (leads_at (place_after c r mine)) made.0 high made.1) made.2)
+          | inr high ↦ absurd (true≢false (sym reads ∙ (ap (is_beat_read_verb q) made.2 ∙ background_fails (is_beat_read_verb q) (beat_fails q) (λ j k x. refl) held.zeal c r mine (leads_at (place_after c r mine)) made.0 high made.1)))
         ]
 
 -- the place of q among the others, counted from 0
@@ -308,7 +328,7 @@ heads_here c r q mine e inside low other held at =
     let rounds : length mine / 2 / (2 * c.replicas + 22) % (c.replicas - 1) ≡ head_turn r q = ap (λ z. z % (c.replicas - 1)) (div-div-eq-div-mul (length mine) 2 (2 * c.replicas + 22) ∙ ap (λ z. length mine / z) whole) ∙ split.1 in
     let due : other_head_due c r mine ≡ Some (Verb.Head q) =
     ap (λ t. if t then None else Some (Verb.Head (other_of r (length mine / 2 / (2 * c.replicas + 22) % (c.replicas - 1))))) (ne_eqb c.replicas 1 many) ∙ ap (λ z. Some (Verb.Head (other_of r z))) rounds ∙ ap (λ z. Some (Verb.Head z)) turn.0 in
-    ap (is_head_of_verb q) (here.1 ∙ ap verb_or_beat due) ∙ same_number q
+    ap (is_head_of_verb q) (here.1 ∙ ap (or_ahead held.zeal c r mine) due) ∙ same_number q
 
 -- the reads of a node stand at places of their own
 pub keeps_rounds : (c : Config) (r : ℕ) (mine : List Event) → r < c.replicas → AtEachStep (WasMade c r) mine → KeepsRounds c r mine
@@ -349,7 +369,7 @@ head_raised c r mine e held at due =
     let all : handed c r mine ≡ length (applied c r mine) = handed_here c r mine here.0 (eq-eqb (place_now c mine) (2 * c.replicas + 20) here.1) in
     let raise : head_due r mine (handed c r mine) ≡ Some (Verb.RaiseHead (min (length (applied c r mine)) (own_fuo r mine))) =
     ap (head_due r mine) all ∙ ap (λ t. if t then Some (Verb.RaiseHead (min (length (applied c r mine)) (own_fuo r mine))) else None) due in
-    ap is_head_raise_verb (made.1 ∙ ap verb_or_beat raise)
+    ap is_head_raise_verb (made.1 ∙ ap (or_ahead held.zeal c r mine) raise)
 
 raises_head : (c : Config) (r : ℕ) (mine : List Event) → AtEachStep (WasMade c r) mine → RaisesHeadAt c r (2 * (2 * c.replicas + 20)) mine
 raises_head c r mine made =

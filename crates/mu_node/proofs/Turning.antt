@@ -29,9 +29,10 @@ use Rattle.mu_lead.specs.Saying.{Says}
 use Rattle.mu_lead.specs.Standing.{verb_at, verb_of}
 use Rattle.mu_node.specs.declared.node.Node.{Node}
 use Rattle.mu_node.specs.Answers.{HoldsAnswers}
-use Rattle.mu_node.specs.Cycle.{IsBackgroundDue, handed, handed_before, other_at, place_now, read_at}
+use Rattle.mu_node.specs.Cycle.{IsBackgroundDue, IsCycleDue, handed, handed_before, other_at, place_now, read_at}
 use Rattle.mu_node.specs.declared.zeal.Zeal.{Zeal}
-use Rattle.mu_node.specs.Due.{idle_due, lead_due, verb_or_beat}
+use Rattle.mu_node.specs.Due.{write_due, idle_due, lead_due, or_ahead, verb_or_beat}
+use Rattle.mu_node.proofs.Failing.{ahead_fails, else_fails}
 use Rattle.mu_follow.specs.CatchingUp.{catch_up_due, or_else}
 use Rattle.mu_model.specs.Steps.{is_named}
 use Rattle.std.proofs.Math.Bool.{and-false}
@@ -140,7 +141,7 @@ read_follows c r mine answer even low = go (place_now c mine == 0) refl (nat_lt 
 
 -- what is made as it is due follows the cycle
 pub made_follows : (zeal : Zeal) (c : Config) (r : ℕ) (mine : List Event) (lead : Lead) (leading : Bool) (due : Option Verb) (answer : Answer)
-    → (is_odd (length mine) ≡ true → due ≡ or_else (lead_due c r mine lead) (idle_due zeal c r mine)) → (is_odd (length mine) ≡ false → IsBackgroundDue c r mine leading due)
+    → (is_odd (length mine) ≡ true → due ≡ or_else (lead_due c r mine lead) (idle_due zeal c r mine)) → (is_odd (length mine) ≡ false → IsCycleDue zeal c r mine leading due)
     → ((f : ℕ) → IfSome (replay_due c r mine (handed c r mine) f leading) (λ verb. IsReplay leading verb))
     → FollowsCycle c r mine (event_by r (verb_or_beat due) answer)
 made_follows zeal c r mine lead leading due answer led cycle replays = go (is_odd (length mine)) refl
@@ -151,23 +152,29 @@ made_follows zeal c r mine lead leading due answer led cycle replays = go (is_od
     place : ℕ
     place = place_now c mine
 
-    idle_beat : due ≡ None → (is_host_verb (verb_or_beat due) ≡ false) × ((w : ℕ) → verb_or_beat due ≡ Verb.ReadAsk w → ⊥)
-    idle_beat none = subst (λ d. (is_host_verb (verb_or_beat d) ≡ false) × ((w : ℕ) → verb_or_beat d ≡ Verb.ReadAsk w → ⊥)) (sym none) (plain_verb Verb.Beat refl)
-
     go : (t : Bool) → is_odd (length mine) ≡ t → FollowsCycle c r mine e
     go true odd =
         let plain = plain_verb (verb_or_beat due) (subst (λ d. IsPlain (verb_or_beat d)) (sym (led odd)) (turn_plain zeal c r mine (lead_due c r mine lead) (led_plain c r mine lead))) in
         other_is_next c r mine e refl (inl odd) plain.0 (λ w is. absurd (plain.1 w is))
-    go false even = elim (cases_lt place (host_place c 0)) [
-      | inl low ↦ subst (λ v. FollowsCycle c r mine (event_by r v answer)) (sym (made_as due (read_at c.replicas r place) ((cycle even).read low))) (read_follows c r mine answer even low)
-      | inr high ↦ (elim (cases_lt place (host_place c 4)) [
-        | inl near ↦ (let at : place ≡ host_place c (place - host_place c 0) = omega (arith, high) in
-            due_is_next c r (place - host_place c 0) mine e due refl (omega (arith, near, high)) (record { background = even; place_is = at }) ((cycle even).host (place - host_place c 0) (omega (arith, near, high)) at) (λ wanted is. made_as due wanted is) idle_beat)
-        | inr far ↦ (let is = (cycle even).replay (place - host_place c 4) (omega (arith, far)) in
-            let plain = plain_verb (verb_or_beat due) (subst (λ d. IsPlain (verb_or_beat d)) (sym is) (due_plain leading (replay_due c r mine (handed c r mine) (place - host_place c 4) leading) (replays (place - host_place c 4)))) in
-            other_is_next c r mine e refl (inr (inr far)) plain.0 (λ w same. absurd (plain.1 w same)))
-      ])
-    ]
+    go false even = subst (λ d. FollowsCycle c r mine (event_by r (verb_or_beat d) answer)) (sym (cycle even).whole) (cycled even (cycle even).first (cycle even).background)
+      where
+        ahead_plain : IsPlain (verb_or_beat (write_due zeal c r mine))
+        ahead_plain = ahead_fails is_host_step refl (λ j k x. refl) zeal c r mine
+
+        idle_beat : (first : Option Verb) → first ≡ None → (is_host_verb (or_ahead zeal c r mine first) ≡ false) × ((w : ℕ) → or_ahead zeal c r mine first ≡ Verb.ReadAsk w → ⊥)
+        idle_beat first none = subst (λ d. (is_host_verb (or_ahead zeal c r mine d) ≡ false) × ((w : ℕ) → or_ahead zeal c r mine d ≡ Verb.ReadAsk w → ⊥)) (sym none) (plain_verb (verb_or_beat (write_due zeal c r mine)) ahead_plain)
+
+        cycled : is_odd (length mine) ≡ false → (first : Option Verb) → IsBackgroundDue c r mine leading first → FollowsCycle c r mine (event_by r (or_ahead zeal c r mine first) answer)
+        cycled even first is = elim (cases_lt place (host_place c 0)) [
+          | inl low ↦ subst (λ v. FollowsCycle c r mine (event_by r v answer)) (sym (ap (or_ahead zeal c r mine) (is.read low))) (read_follows c r mine answer even low)
+          | inr high ↦ (elim (cases_lt place (host_place c 4)) [
+            | inl near ↦ (let at : place ≡ host_place c (place - host_place c 0) = omega (arith, high) in
+                due_is_next c r (place - host_place c 0) mine (event_by r (or_ahead zeal c r mine first) answer) first refl (omega (arith, near, high)) (record { background = even; place_is = at }) (is.host (place - host_place c 0) (omega (arith, near, high)) at) (λ wanted some. ap (or_ahead zeal c r mine) some) (idle_beat first))
+            | inr far ↦ (let plain = plain_verb (or_ahead zeal c r mine first) (else_fails is_host_step first (write_due zeal c r mine)
+                (subst (λ d. IsPlain (verb_or_beat d)) (sym (is.replay (place - host_place c 4) (omega (arith, far)))) (due_plain leading (replay_due c r mine (handed c r mine) (place - host_place c 4) leading) (replays (place - host_place c 4)))) ahead_plain) in
+                other_is_next c r mine (event_by r (or_ahead zeal c r mine first) answer) refl (inr (inr far)) plain.0 (λ w same. absurd (plain.1 w same)))
+          ])
+        ]
 
 -- in a turn of the leader nothing is handed on
 pub odd_planned : (c : Config) (r : ℕ) (mine : List Event) (node : Node) → is_odd (length mine) ≡ true → (leads_at node.lead.place ≡ true → is_named c r mine ≡ true) → HasHeard c r mine node → HasPlanned c r mine node

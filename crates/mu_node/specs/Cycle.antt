@@ -13,7 +13,8 @@ use Rattle.mu_follow.specs.Due.{replay_due}
 use Rattle.mu_lead.specs.Beside.{leads_at}
 use Rattle.mu_lead.specs.Journal.{place_after}
 use Rattle.mu_node.specs.declared.zeal.Zeal.{Zeal}
-use Rattle.mu_node.specs.Due.{turn_due, verb_or_beat}
+use Rattle.mu_node.specs.Due.{write_due, or_ahead, turn_due, verb_or_beat}
+use Rattle.mu_follow.specs.CatchingUp.{or_else}
 
 -- the place of the cycle at the background turn after these events
 abbrev pub place_now : Config → List Event → ℕ
@@ -57,8 +58,15 @@ pub record IsDueAt (c : Config) (r : ℕ) (mine : List Event) (leading : Bool) (
 abbrev pub IsBackgroundDue : Config → ℕ → List Event → Bool → Option Verb → Type 0
 IsBackgroundDue c r mine leading due = IsDueAt c r mine leading (place_now c mine) due
 
+-- the same with what such a node writes ahead if nothing is due
+pub record IsCycleDue (zeal : Zeal) (c : Config) (r : ℕ) (mine : List Event) (leading : Bool)
+    (due : Option Verb) : Type 0 where
+  pub first : Option Verb
+  pub background : IsBackgroundDue c r mine leading first
+  pub whole : due ≡ or_else first (write_due zeal c r mine)
+
 -- the verb that a plain or an eager node makes: in a turn of the leader what the listing has due by
--- the journal, else what such a node does then, and in another turn what the cycle has due; and a
+-- the journal, and in another turn what the cycle has due, else what such a node does then; and a
 -- beat exactly if nothing is due
 pub record IsMade (zeal : Zeal) (c : Config) (r : ℕ) (mine : List Event)
     (verb : Verb) : Type 0 where
@@ -66,4 +74,4 @@ pub record IsMade (zeal : Zeal) (c : Config) (r : ℕ) (mine : List Event)
   pub background :
       is_odd (length mine) ≡ false
       → (due : Option Verb) × IsBackgroundDue c r mine (leads_at (place_after c r mine)) due
-      × (verb ≡ verb_or_beat due)
+      × (verb ≡ or_ahead zeal c r mine due)

@@ -11,7 +11,8 @@ use Rattle.mu_model.specs.Steps.{is_named}
 use Rattle.mu_model.specs.Stretches.{is_odd}
 use Rattle.mu_follow.specs.CatchingUp.{catch_up_due, or_else}
 use Rattle.mu_lead.specs.declared.lead.Lead.{Lead}
-use Rattle.mu_lead.specs.Beside.{is_beside, leads_at}
+use Rattle.mu_lead.specs.Ahead.{IsAhead, ahead_at, ahead_verb}
+use Rattle.mu_lead.specs.Beside.{is_beside, leads_at, writes_row}
 use Rattle.mu_lead.specs.Journal.{due_after, number_due, place_after, tables_at}
 use Rattle.mu_lead.specs.Standing.{HasHeeded, verb_at, verb_of}
 use Rattle.mu_node.specs.declared.zeal.Zeal.{Zeal}
@@ -44,6 +45,16 @@ idle_due Zeal.Plain c r mine = None
 idle_due Zeal.Eager c r mine =
     if leads_at (place_after c r mine) || is_named c r mine then None else catch_up_due c r mine
 
+-- what an eager node writes ahead in a background turn in which nothing is due, by the journal
+abbrev pub write_due : Zeal → Config → ℕ → List Event → Option Verb
+write_due Zeal.Plain c r mine = None
+write_due Zeal.Eager c r mine =
+    ahead_at c r (known c r mine) (tables_at c r mine).written (place_after c r mine)
+
+-- the verb of a background turn in which this is due in the cycle
+abbrev pub or_ahead : Zeal → Config → ℕ → List Event → Option Verb → Verb
+or_ahead zeal c r mine due = verb_or_beat (or_else due (write_due zeal c r mine))
+
 -- what is due in a turn of the leader, by the journal only
 abbrev pub turn_due : Zeal → Config → ℕ → List Event → Option Verb
 turn_due zeal c r mine = or_else (due_after c r mine) (idle_due zeal c r mine)
@@ -60,10 +71,20 @@ IsIdle c r mine lead verb =
     is_odd (length mine) ≡ true
     → (lead_due c r mine lead ≡ None) × ((verb ≡ Verb.Beat) ⊎ CatchesUp c r mine verb)
 
--- the leader's verb is what it has due, and it heeded the scores; any other is not of the leader,
--- and in a turn of the leader this one is idle
+-- the row of which the verb writes a word
+abbrev pub written_row : Verb → Option ℕ
+written_row (Verb.WriteRow j k x) = Some j
+written_row verb = None
+
+-- a word that is written is the next one of a row that the leader writes ahead
+abbrev pub WritesAhead : Lead → Verb → Type 0
+WritesAhead lead verb =
+    writes_row verb ≡ true → (row : ℕ) × ((verb ≡ ahead_verb lead row) × IsAhead lead row)
+
+-- the leader's verb is what it has due, and it heeded the scores; any other is not of its listing, a
+-- word is written ahead, and in a turn of the leader the verb is idle
 abbrev pub FitsLead : Config → ℕ → List Event → Lead → Bool → Option Verb → Type 0
 FitsLead c r mine lead true due = HasHeeded mine lead × (due ≡ lead_due c r mine lead)
 FitsLead c r mine lead false due =
     (is_beside (leads_at lead.place) (verb_or_beat due) ≡ true)
-    × IsIdle c r mine lead (verb_or_beat due)
+    × (WritesAhead lead (verb_or_beat due) × IsIdle c r mine lead (verb_or_beat due))

@@ -1,6 +1,5 @@
 pub mod Answering
 pub mod Answers
-pub mod Beats
 pub mod Cycle
 pub mod Due
 pub mod Journal

@@ -10,7 +10,6 @@ ghost use Rattle.mu_model.specs.Parts.{IsPossible};
 ghost use Rattle.mu_node.specs.Journal.{IsListed};
 ghost use Rattle.mu_node.specs.Node.{StandsForNode};
 ghost use Rattle.mu_node.specs.Notes.{HasMade, MovesGoing, MovesTurn, TellsTurn};
-ghost use Rattle.mu_node.specs.Beats.{ends_by_beat};
 ghost use Rattle.mu_node.specs.Turns.{IsOneStep, IsResult, IsTurn, TellsEnd};
 ghost use Rattle.mu_pace.specs.Counters.{AtEachStep};
 ghost use Rattle.mu_pace.specs.Cycles.{KeepsBeside};
@@ -61,16 +60,6 @@ pub struct Node {
     pub(crate) commits: Vec<Commit>,
     /// Its store, and its replies.
     pub(crate) answers: Answers,
-}
-
-/// Whether the verb is a beat.
-fn is_beat(verb: &Verb) -> bool
-    ensures { result ≡ is_beat_verb verb.now }
-{
-    match *verb {
-        Verb::Beat => true,
-        _ => false,
-    }
 }
 
 /// The first values, or all if there are fewer.
@@ -148,17 +137,6 @@ impl Node {
             → result ≡ length mine }
     {
         self.follow.steps()
-    }
-
-    /// Whether its last step was a beat.
-    pub fn has_beaten(&self) -> bool
-        ensures { (c : Config) → (r : ℕ) → (mine : List SomeEvent) → StandsForNode c r mine self.now
-            → result ≡ ends_by_beat mine }
-    {
-        match self.journal.as_slice().last() {
-            Some(event) => is_beat(&event.verb),
-            None => false,
-        }
     }
 
     /// The end of its journal, if it has one: by the script, by the budget, because it was outrun,

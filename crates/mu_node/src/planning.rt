@@ -16,8 +16,8 @@ ghost use Rattle.mu_lead.specs.Beside.{is_beside, leads_at};
 ghost use Rattle.mu_lead.specs.Journal.{place_after};
 ghost use Rattle.mu_lead.specs.Notes.{value_committed};
 ghost use Rattle.mu_lead.specs.Standing.{HasHeeded, TellsNext};
-ghost use Rattle.mu_node.specs.Cycle.{IsBackgroundDue};
-ghost use Rattle.mu_node.specs.Due.{FitsLead, IsIdle, idle_due, lead_due, verb_or_beat};
+ghost use Rattle.mu_node.specs.Cycle.{IsCycleDue};
+ghost use Rattle.mu_node.specs.Due.{FitsLead, IsIdle, WritesAhead, write_due, idle_due, lead_due, verb_or_beat, written_row};
 ghost use Rattle.mu_node.specs.Journal.{FollowsTurn};
 ghost use Rattle.mu_node.specs.Node.{AwaitsBeside, HasHeard, HasPlanned, HoldsBeside, StandsForNode};
 ghost use Rattle.mu_node.specs.Notes.{HasTold, SaysTook, TellsTook, heed_note, note_before};
@@ -68,6 +68,16 @@ fn committed_in(note: Note) -> Option<u16>
     }
 }
 
+/// The row of which the verb writes a word.
+fn row_written(verb: &Verb) -> Option<u16>
+    ensures { result ≡ written_row verb.now }
+{
+    match *verb {
+        Verb::WriteRow(row, _, _) => Some(row),
+        _ => None,
+    }
+}
+
 /// A resignation, else the other note.
 fn told(heeded: Note, note: Note) -> Note
     ensures { heeded ≡ SomeNote.Working → result ≡ note }
@@ -104,7 +114,7 @@ impl Node {
             ≡ or_else (lead_due self.old.follow.config self.old.id mine self.old.lead)
             (idle_due self.old.zeal self.old.follow.config self.old.id mine) }
         ensures cycle { is_odd (length mine) ≡ false
-            → IsBackgroundDue self.old.follow.config self.old.id mine
+            → IsCycleDue self.old.zeal self.old.follow.config self.old.id mine
             (leads_at self.old.lead.place) result.due }
         ensures heeded { result.heeded
             ≡ note_before self.old.follow.config self.old.id mine self.old.lead }
@@ -208,15 +218,31 @@ impl Node {
         ensures fits { FitsLead self.old.follow.config self.old.id mine self.new.lead false
             result.due }
         ensures leads { result.leads ≡ false }
-        ensures cycle { IsBackgroundDue self.old.follow.config self.old.id mine
+        ensures cycle { IsCycleDue self.old.zeal self.old.follow.config self.old.id mine
             (leads_at self.old.lead.place) result.due }
         ensures heeded { result.heeded ≡ SomeNote.Working }
         ensures lead { self.new.lead ≡ self.old.lead }
     {
+        let due = self.background();
         Plan {
-            due: self.background(),
+            due: self.or_ahead(due),
             leads: false,
             heeded: Note::Working,
+        }
+    }
+
+    /// What is due in the cycle, else what an eager leader writes ahead.
+    fn or_ahead(&self, due: Option<Verb>) -> Option<Verb>
+        ensures { (c : Config) → (r : ℕ) → (mine : List SomeEvent) → IsConfig c
+            → IsPossible c r mine → HasPlanned c r mine self.now → is_odd (length mine) ≡ false
+            → result ≡ or_else due (write_due self.now.zeal c r mine) }
+    {
+        match due {
+            Some(verb) => Some(verb),
+            None => match self.zeal {
+                Zeal::Plain => None,
+                Zeal::Eager => self.lead.ahead(self.follow.known()),
+            },
         }
     }
 
@@ -352,6 +378,7 @@ impl Node {
         requires room { 0 < self.old.journal.room }
         ensures stands { (mine : List SomeEvent)
             → is_beside (leads_at self.old.lead.place) verb ≡ true
+            → WritesAhead self.old.lead verb
             → IsIdle self.old.follow.config by mine self.old.lead verb
             → FollowsTurn self.old.zeal self.old.follow.config by mine
             (record { by = by; verb = verb; answer = answer })
@@ -362,9 +389,13 @@ impl Node {
             (record { by = by; verb = verb; answer = answer } ∷ mine) self.new }
         ensures zeal { self.new.zeal ≡ self.old.zeal }
         ensures stops { self.new.stops ≡ self.old.stops }
-        ensures lead { self.new.lead ≡ self.old.lead }
+        ensures going { self.new.lead.under_way ≡ self.old.lead.under_way }
     {
         self.note(by, verb, answer);
+        match row_written(&verb) {
+            Some(row) => self.lead.wrote_ahead(row),
+            None => {}
+        }
     }
 
     /// Takes an event of the leader, and tells it the answer. A resignation is told before all

@@ -1,7 +1,9 @@
 -- How what a leader has with it follows the events.
-use Rattle.std.proofs.Common.{◌≡◌, ◌∙◌, ℕ, ap, true, false, List, ◌∷◌, ◌++◌, [], refl, sym, subst}
-use Rattle.std.proofs.lemmas.Bool.{true≢false}
+use Rattle.std.proofs.Common.{◌≡◌, ◌≢◌, ◌∙◌, ℕ, ◌==◌, Bool, ap, true, false, List, ◌∷◌, ◌++◌, [], Some, None, refl, sym, subst}
+use Rattle.std.proofs.lemmas.Bool.{ne_eqb, true≢false}
 use Rattle.std.proofs.lemmas.List.{reverse-append}
+use Rattle.std.specs.Prelude.{IfSome, if◌then◌else◌}
+use Rattle.std.specs.declared.option.Option.{Option}
 use Rattle.mu_model.specs.declared.config.Config.{Config}
 use Rattle.mu_model.specs.declared.event.Event.{Event}
 use Rattle.mu_model.specs.declared.event.Answer.{Answer}
@@ -9,10 +11,10 @@ use Rattle.mu_model.specs.declared.event.Verb.{Verb}
 use Rattle.mu_model.specs.Histories.{history, part}
 use Rattle.mu_model.specs.Knowledge.{known}
 use Rattle.mu_model.specs.Legal.{IsLegal, IsLegalHistory}
-use Rattle.mu_model.proofs.Basics.{event_by}
+use Rattle.mu_model.proofs.Basics.{event_by, none_some}
 use Rattle.mu_detect.specs.declared.scores.Scores.{Scores}
 use Rattle.mu_lead.specs.declared.lead.Lead.{Lead}
-use Rattle.mu_lead.specs.Beside.{is_beside, leads_at}
+use Rattle.mu_lead.specs.Beside.{is_beside, leads_at, writes_row}
 use Rattle.mu_lead.specs.Standing.{StandsFor, known_told}
 use Rattle.mu_lead.proofs.Others.{others_kept}
 use Rattle.mu_parts.specs.declared.replica.Replica.{Replica}
@@ -20,6 +22,10 @@ use Rattle.mu_parts.specs.declared.replicas.Replicas.{Replicas}
 use Rattle.worked_leads.specs.Driven.{Beside}
 use Rattle.mu_model.specs.Steps.{is_slot_put_verb}
 use Rattle.mu_model.proofs.Parts.{part_of_maker}
+
+-- the part of another replica than the one that made the newest event
+pub part_of_other : (r : ℕ) (e : Event) (past : List Event) → e.by ≢ r → part r (e ∷ past) ≡ part r past
+part_of_other r e past differ = let other : (e.by == r) ≡ false = ne_eqb e.by r differ in rw other refl
 
 -- the history of a list with one event more
 pub history_after : (events now past : List Event) (e : Event) → history events ≡ past → now ≡ events ++ e ∷ [] → history now ≡ e ∷ past
@@ -45,9 +51,14 @@ pub told_other : (c : Config) (r : ℕ) (mine : List Event) (verb : Verb) (answe
 told_other c r mine (Verb.PutSlot p i b v) answer other = absurd (true≢false other)
 told_other c r mine verb answer other = refl
 
+-- a verb that is beside the leader whether it leads or not writes no row
+aside_writes_none : (verb : Verb) → is_beside false verb ≡ true → writes_row verb ≡ false
+aside_writes_none (Verb.WriteRow j k x) beside = absurd (true≢false (sym beside))
+aside_writes_none verb beside = refl
+
 -- a step of another machine keeps what the leader stands for
-pub stands_aside : (past : List Event) (e : Event) (l : Lead) → e.by ≡ l.id → is_beside (leads_at l.place) e.verb ≡ true → IsLegalHistory l.config (e ∷ past) → StandsFor (part l.id past) l → StandsFor (part l.id (e ∷ past)) l
+pub stands_aside : (past : List Event) (e : Event) (l : Lead) → e.by ≡ l.id → ((leading : Bool) → is_beside leading e.verb ≡ true) → IsLegalHistory l.config (e ∷ past) → StandsFor (part l.id past) l → StandsFor (part l.id (e ∷ past)) l
 stands_aside past e l is beside legal stands =
     let own : part l.id (e ∷ past) ≡ event_by l.id e.verb e.answer ∷ part l.id past =
     subst (λ r. part r (e ∷ past) ≡ event_by r e.verb e.answer ∷ part r past) is (part_of_maker e past) in
-    subst (λ m. StandsFor m l) (sym own) (others_kept (part l.id past) l e.verb e.answer beside (record { past = e ∷ past; legal = legal; is = own }) stands)
+    subst (λ m. StandsFor m l) (sym own) (others_kept (part l.id past) l e.verb e.answer (aside_writes_none e.verb (beside false)) (beside (leads_at l.place)) (record { past = e ∷ past; legal = legal; is = own }) stands)

@@ -9,7 +9,7 @@ ghost use Rattle.mu_model.specs.Knowledge.{known as known_of};
 ghost use Rattle.mu_model.specs.Legal.{IsLegalHistory};
 ghost use Rattle.mu_model.specs.Scores.{is_failed};
 ghost use Rattle.mu_detect.specs.Stands.{StandsFor as ScoresStandFor};
-ghost use Rattle.mu_lead.specs.Beside.{is_beside, leads_at};
+ghost use Rattle.mu_lead.specs.Beside.{is_beside};
 ghost use Rattle.mu_lead.specs.Sets.{bit, is_bit};
 ghost use Rattle.mu_lead.specs.Standing.{HasHeeded, verb_of};
 ghost use Rattle.worked_leads.specs.Driven.{Beside, Drives};
@@ -288,7 +288,7 @@ impl Driven {
             → Drives past self.now → IsTrue result
             → Allowed self.now.lead.config by (part by past) verb.now }
         ensures beside { IsTrue result → by ≡ self.now.lead.id
-            → is_beside (leads_at self.now.lead.place) verb.now ≡ true }
+            → (leading : Bool) → is_beside leading verb.now ≡ true }
     {
         self.all.allows(&self.lead.config, by, verb) && (by != self.lead.id || is_aside(verb))
     }
@@ -299,7 +299,7 @@ impl Driven {
         ensures drives { (past : List SomeEvent) → Drives past self.old
             → IsLegalHistory self.old.lead.config (event.now ∷ past)
             → (event.now.by ≡ self.old.lead.id
-            → is_beside (leads_at self.old.lead.place) event.now.verb ≡ true)
+            → (leading : Bool) → is_beside leading event.now.verb ≡ true)
             → Drives (event.now ∷ past) self.new }
         ensures lead { self.new.lead ≡ self.old.lead }
     {

@@ -1,33 +1,51 @@
-use Rattle.std.proofs.Common.{◌≡◌, ◌∙◌, subst, sym, true}
-use Rattle.std.proofs.lemmas.Bool.{true≢false}
-use Rattle.mu_lead.specs.Beside.{is_beside, leads_at}
-use Rattle.mu_node.specs.Due.{verb_or_beat}
-use Rattle.mu_node.proofs.Leads.{beside_allowed}
+use Rattle.std.proofs.Common.{◌∙◌, ap, false, subst, sym}
+use Rattle.mu_model.specs.Allowed.{Allowed}
+use Rattle.mu_follow.specs.CatchingUp.{or_else}
+use Rattle.mu_lead.specs.declared.lead.Lead.{Lead}
+use Rattle.mu_lead.specs.Beside.{leads_at}
+use Rattle.mu_node.specs.Due.{FitsLead, write_due, verb_or_beat}
+use Rattle.mu_node.proofs.Rounding.{cycle_writes_none}
+use Rattle.mu_node.proofs.Writing.{cycle_fits}
 use Rattle.mu_node.proofs.node.Node.plan_cycle.Goals as goal
 
 pub returns-clause-planned : goal.returns-clause-planned
 returns-clause-planned g c =
     let node = c.args.self.now in
-    c.background.ensures.stands node.follow.config node.id g.mine c.requires.1.1.1.0 c.requires.1.0 c.requires.1.1.1.1
+    c.background-due.ensures.stands node.follow.config node.id g.mine c.requires.1.1.1.0 c.requires.1.0 c.requires.1.1.1.1
 
 pub returns-clause-allowed : goal.returns-clause-allowed
 returns-clause-allowed g c =
     let node = c.args.self.now in
     let held = c.requires.1.1.1.1 in
-    let may = c.background.ensures.may node.follow.config node.id g.mine c.requires.1.0 c.requires.1.1.0 c.requires.1.1.1.0 held in
-    (beside_allowed node.follow.config node.id g.mine node.lead c.background.result c.requires.1.1.0 held.beside.follow.inside may).0
+    let k = node.follow.config in
+    let may = c.background-due.ensures.may k node.id g.mine c.requires.1.0 c.requires.1.1.0 c.requires.1.1.1.0 held in
+    let due = c.background-due.ensures.due k node.id g.mine c.requires.1.0 c.requires.1.1.0 c.requires.1.1.1.0 held in
+    let planned = c.background-due.ensures.stands k node.id g.mine c.requires.1.1.1.0 c.requires.1.0 held in
+    let is = c.or_ahead.ensures k node.id g.mine c.requires.0 c.requires.1.0 planned c.requires.1.1.1.0 in
+    subst (λ d. Allowed k node.id g.mine (verb_or_beat d)) (sym is)
+    (cycle_fits c.background-due.new.self.zeal k node.id g.mine node.lead c.background-due.result held.lead held.paces.listed c.requires.1.1.0 held.beside.follow.inside c.requires.1.1.1.0 may (cycle_writes_none k node.id g.mine (leads_at node.lead.place) c.background-due.result due)).allowed
 
 pub returns-clause-fits : goal.returns-clause-fits
 returns-clause-fits g c =
     let node = c.args.self.now in
     let held = c.requires.1.1.1.1 in
-    let may = c.background.ensures.may node.follow.config node.id g.mine c.requires.1.0 c.requires.1.1.0 c.requires.1.1.1.0 held in (
-      subst (λ l. is_beside (leads_at l.place) (verb_or_beat c.background.result) ≡ true) (sym c.background.ensures.lead)
-          (beside_allowed node.follow.config node.id g.mine node.lead c.background.result c.requires.1.1.0 held.beside.follow.inside may).1,
-      λ odd. absurd (true≢false (sym odd ∙ c.requires.1.1.1.0)),
-    )
+    let k = node.follow.config in
+    let may = c.background-due.ensures.may k node.id g.mine c.requires.1.0 c.requires.1.1.0 c.requires.1.1.1.0 held in
+    let due = c.background-due.ensures.due k node.id g.mine c.requires.1.0 c.requires.1.1.0 c.requires.1.1.1.0 held in
+    let planned = c.background-due.ensures.stands k node.id g.mine c.requires.1.1.1.0 c.requires.1.0 held in
+    let is = c.or_ahead.ensures k node.id g.mine c.requires.0 c.requires.1.0 planned c.requires.1.1.1.0 in
+    subst (λ (l : Lead). FitsLead k node.id g.mine l false c.or_ahead.result) (sym c.background-due.ensures.lead)
+    (subst (λ d. FitsLead k node.id g.mine node.lead false d) (sym is)
+    (cycle_fits c.background-due.new.self.zeal k node.id g.mine node.lead c.background-due.result held.lead held.paces.listed c.requires.1.1.0 held.beside.follow.inside c.requires.1.1.1.0 may (cycle_writes_none k node.id g.mine (leads_at node.lead.place) c.background-due.result due)).fits)
 
 pub returns-clause-cycle : goal.returns-clause-cycle
 returns-clause-cycle g c =
     let node = c.args.self.now in
-    c.background.ensures.due node.follow.config node.id g.mine c.requires.1.0 c.requires.1.1.0 c.requires.1.1.1.0 c.requires.1.1.1.1
+    let held = c.requires.1.1.1.1 in
+    let k = node.follow.config in
+    let planned = c.background-due.ensures.stands k node.id g.mine c.requires.1.1.1.0 c.requires.1.0 held in
+    record {
+      first = c.background-due.result;
+      background = c.background-due.ensures.due k node.id g.mine c.requires.1.0 c.requires.1.1.0 c.requires.1.1.1.0 held;
+      whole = c.or_ahead.ensures k node.id g.mine c.requires.0 c.requires.1.0 planned c.requires.1.1.1.0 ∙ ap (λ z. or_else c.background-due.result (write_due z k node.id g.mine)) c.background-due.ensures.zeal;
+    }

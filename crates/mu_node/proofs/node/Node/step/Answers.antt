@@ -13,7 +13,7 @@ use Rattle.mu_model.specs.Parts.{IsPossible}
 use Rattle.mu_model.specs.Stretches.{is_odd}
 use Rattle.mu_lead.specs.Beside.{leads_at}
 use Rattle.mu_node.specs.declared.node.Node.{Node}
-use Rattle.mu_node.specs.Cycle.{IsBackgroundDue, IsMade}
+use Rattle.mu_node.specs.Cycle.{IsBackgroundDue, IsCycleDue, IsMade}
 use Rattle.mu_node.specs.Due.{FitsLead, idle_due, lead_due, turn_due, verb_or_beat}
 use Rattle.mu_follow.specs.CatchingUp.{or_else}
 use Rattle.mu_lead.specs.Journal.{tables_at}
@@ -86,7 +86,7 @@ turn_listed c r mine old due stands led odd = led odd ∙ ap (λ o. or_else o (i
 
 -- what is due follows the turn
 follows_of : (c : Config) (r : ℕ) (mine : List Event) (old planned : Node) (due : Option Verb) (answer : Answer) → IsConfig c → IsPossible c r mine → length mine < c.budget → outrun c r mine ≡ None → StandsForNode c r mine old → HasPlanned c r mine planned
-    → IsTurnDue old.zeal c r mine old.lead due → (is_odd (length mine) ≡ false → IsBackgroundDue c r mine (leads_at old.lead.place) due)
+    → IsTurnDue old.zeal c r mine old.lead due → (is_odd (length mine) ≡ false → IsCycleDue old.zeal c r mine (leads_at old.lead.place) due)
     → FollowsTurn old.zeal c r mine (event_by r (verb_or_beat due) answer)
 follows_of c r mine old planned due answer good possible short going stands held led cycle = record {
   cycle = made_follows old.zeal c r mine old.lead (leads_at old.lead.place) due answer led cycle (replays c r mine (leads_at old.lead.place) good possible held.beside.follow.inside short (omega (arith, held.handed, held.beside.follow.progress.handed)));
@@ -96,7 +96,7 @@ follows_of c r mine old planned due answer good possible short going stands held
     zeal = old.zeal;
     made = record {
       replication = listed;
-      background = λ even. (due, subst (λ l. IsBackgroundDue c r mine l due) (ap leads_at stands.paces.listed.place) (cycle even), refl);
+      background = λ even. ((cycle even).first, subst (λ l. IsBackgroundDue c r mine l (cycle even).first) (ap leads_at stands.paces.listed.place) (cycle even).background, ap verb_or_beat (cycle even).whole);
     };
     paces = subst (λ p. PacesAt c r mine (tables_at c r mine).written p) stands.paces.listed.place (subst (λ (t : Tables). PacesAt c r mine t.written old.lead.place) stands.paces.listed.tables stands.paces.paces);
     leads = λ even leads. even_may c r mine even (stands.leads (ap leads_at stands.paces.listed.place ∙ leads));
@@ -157,7 +157,7 @@ returns-clause-made g c =
       answer = answer;
       part = c.step-answer.ensures.part;
       made = to_port (λ x i l. IsMade node.zeal x i l c.or_beat-verb.result) k node.follow.config r node.id mine g.mine own id c.requires.1.0
-          (subst (λ v. IsMade node.zeal node.follow.config node.id g.mine v) (sym c.or_beat-verb.ensures) (record { replication = λ odd. ap verb_or_beat (turn_listed node.follow.config node.id g.mine node due stands plan.led odd); background = λ even. (due, subst (λ l. IsBackgroundDue node.follow.config node.id g.mine l due) (ap leads_at listed.place) (plan.cycle even), refl) }));
+          (subst (λ v. IsMade node.zeal node.follow.config node.id g.mine v) (sym c.or_beat-verb.ensures) (record { replication = λ odd. ap verb_or_beat (turn_listed node.follow.config node.id g.mine node due stands plan.led odd); background = λ even. ((plan.cycle even).first, subst (λ l. IsBackgroundDue node.follow.config node.id g.mine l (plan.cycle even).first) (ap leads_at listed.place) (plan.cycle even).background, ap verb_or_beat (plan.cycle even).whole) }));
       tells = to_port (λ x i l. TellsNote x i l node.lead answer c.took.result) k node.follow.config r node.id mine g.mine own id c.requires.1.0
           (note_told node.zeal node.follow.config node.id g.mine node.lead new.lead c.took.new.self.lead c.plan-plan.result.leads due c.plan-plan.result.heeded answer c.took.result plan.leads plan.led plan.heeded possible took plan.told says stands.lead listed);
     }

@@ -6,7 +6,6 @@ use Rattle.mu_model.proofs.Basics.{none_some}
 use Rattle.mu_node.specs.Due.{FitsLead, verb_or_beat}
 use Rattle.mu_node.specs.Journal.{FollowsTurn}
 use Rattle.mu_node.specs.Node.{HasPlanned, StandsForNode}
-use Rattle.mu_lead.specs.declared.lead.Lead.{Lead}
 use Rattle.mu_node.specs.Notes.{SaysTook, TellsTook}
 use Rattle.mu_node.proofs.Leads.{fits_idle, fits_led, fits_other}
 use Rattle.mu_node.proofs.Moving.{event_by}
@@ -46,7 +45,7 @@ returns-else-plan-clause-stands g c =
     let beside = fits_other k id g.mine node.lead c.args.plan.leads c.args.plan.due c.in-Some.verb fits c.if-plan.false c.in-Some.is in
     let held = subst (λ i. HasPlanned k i g.mine node) (sym c.requires.0) c.requires.1.1.1.1.1 in
     subst (λ v. FollowsTurn node.zeal k id g.mine (event_by id v c.args.answer) → IsPossible k id (event_by id v c.args.answer ∷ g.mine) → StandsForNode k id (event_by id v c.args.answer ∷ g.mine) c.note_other.new.self) (sym made)
-    (λ follows possible. c.note_other.ensures.stands g.mine beside.0 beside.1 follows possible held)
+    (λ follows possible. c.note_other.ensures.stands g.mine beside.0 beside.1.0 beside.1.1 follows possible held)
 
 pub returns-else-plan-clause-note : goal.returns-else-plan-clause-note
 returns-else-plan-clause-note g c = record {
@@ -64,7 +63,7 @@ returns-in-None-clause-stands g c =
     let fits = subst (λ i. FitsLead k i g.mine node.lead c.args.plan.leads c.args.plan.due) (sym c.requires.0) c.requires.1.1.1.0 in
     let held = subst (λ i. HasPlanned k i g.mine node) (sym c.requires.0) c.requires.1.1.1.1.1 in
     subst (λ v. FollowsTurn node.zeal k id g.mine (event_by id v c.args.answer) → IsPossible k id (event_by id v c.args.answer ∷ g.mine) → StandsForNode k id (event_by id v c.args.answer ∷ g.mine) c.note_other-in-None.new.self) (sym made)
-    (λ follows possible. c.note_other-in-None.ensures.stands g.mine refl (fits_idle k id g.mine node.lead c.args.plan.leads c.args.plan.due fits c.in-None.is) follows possible held)
+    (λ follows possible. c.note_other-in-None.ensures.stands g.mine refl (λ writes. absurd (true≢false (sym writes))) (fits_idle k id g.mine node.lead c.args.plan.leads c.args.plan.due fits c.in-None.is) follows possible held)
 
 pub returns-in-None-clause-note : goal.returns-in-None-clause-note
 returns-in-None-clause-note g c = record {
@@ -84,7 +83,7 @@ returns-then-plan-clause-says g c =
 
 pub returns-else-plan-clause-says : goal.returns-else-plan-clause-says
 returns-else-plan-clause-says g c =
-    let same = ap (λ (l : Lead). l.under_way) c.note_other.ensures.lead in
+    let same = c.note_other.ensures.going in
     record {
       idle = λ none. same;
       beside = λ off. same;
@@ -95,7 +94,7 @@ returns-else-plan-clause-says g c =
 
 pub returns-in-None-clause-says : goal.returns-in-None-clause-says
 returns-in-None-clause-says g c =
-    let same = ap (λ (l : Lead). l.under_way) c.note_other-in-None.ensures.lead in
+    let same = c.note_other-in-None.ensures.going in
     record {
       idle = λ none. same;
       beside = λ off. same;

@@ -5,7 +5,7 @@ use Rattle.mu_grant.proofs.Rounds.{cycles}
 use Rattle.mu_node.proofs.Diligent.{journal_is_diligent}
 use Rattle.mu_node.proofs.Leading.{is_going}
 use Rattle.mu_node.proofs.Left.{is_left, steps_within}
-use Rattle.mu_node.proofs.Paces.{keeps_beside, replays_in_time}
+use Rattle.mu_node.proofs.Paces.{good_of, keeps_beside, replays_in_time}
 use Rattle.mu_node.proofs.Rounding.{keeps_rounds, raised_in_time}
 use Rattle.mu_pace.proofs.Cycles.{rounds_read_in_time, rounds_tell_heads}
 use Rattle.mu_node.proofs.node.Node.turn.Goals as goal
@@ -78,7 +78,7 @@ returns-in-Some-clause-replays g c =
     let mine = g.P.Port.part c.args.port.now in
     let stands = c.requires.stands in
     let possible = c.id-id.ensures.possible in
-    replays_in_time k r mine possible stands.made
+    replays_in_time k r mine (good_of k r mine _ stands.lead) possible stands.made
 
 pub returns-in-Some-clause-keeps : goal.returns-in-Some-clause-keeps
 returns-in-Some-clause-keeps g c =
@@ -87,7 +87,7 @@ returns-in-Some-clause-keeps g c =
     let mine = g.P.Port.part c.args.port.now in
     let stands = c.requires.stands in
     let possible = c.id-id.ensures.possible in
-    keeps_beside k r mine stands.beside.follow.inside possible stands.cycle stands.made
+    keeps_beside k r mine (good_of k r mine _ stands.lead) stands.beside.follow.inside possible stands.cycle stands.made
 
 pub returns-in-None-clause-replays : goal.returns-in-None-clause-replays
 returns-in-None-clause-replays g c =
@@ -97,7 +97,7 @@ returns-in-None-clause-replays g c =
     let mine = g.P.Port.part now in
     let stands = c.step.ensures.stands in
     let possible = c.step.ensures.possible in
-    replays_in_time k r mine possible stands.made
+    replays_in_time k r mine (good_of k r mine _ stands.lead) possible stands.made
 
 pub returns-in-None-clause-keeps : goal.returns-in-None-clause-keeps
 returns-in-None-clause-keeps g c =
@@ -107,7 +107,7 @@ returns-in-None-clause-keeps g c =
     let mine = g.P.Port.part now in
     let stands = c.step.ensures.stands in
     let possible = c.step.ensures.possible in
-    keeps_beside k r mine stands.beside.follow.inside possible stands.cycle stands.made
+    keeps_beside k r mine (good_of k r mine _ stands.lead) stands.beside.follow.inside possible stands.cycle stands.made
 
 pub returns-in-Some-clause-diligent : goal.returns-in-Some-clause-diligent
 returns-in-Some-clause-diligent g c =
