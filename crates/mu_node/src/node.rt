@@ -13,7 +13,6 @@ ghost use Rattle.mu_node.specs.Notes.{HasMade, MovesGoing, MovesTurn, TellsTurn}
 ghost use Rattle.mu_node.specs.Turns.{IsOneStep, IsResult, IsTurn, TellsEnd};
 ghost use Rattle.mu_pace.specs.Counters.{AtEachStep};
 ghost use Rattle.mu_pace.specs.Cycles.{KeepsBeside};
-ghost use Rattle.mu_model.specs.Steps.{is_beat_verb};
 
 use crate::answers::{Answers, apply_ready};
 use crate::ending::{end_of_going, is_stop};
@@ -27,7 +26,7 @@ use mu_grant::Grants;
 use mu_input::Job;
 use mu_known::Commit;
 use mu_lead::{Lead, Note};
-use mu_model::{End, Journal, NoMemory, Sequence, Stop, Verb, positions_in};
+use mu_model::{End, Journal, NoMemory, Sequence, Stop, positions_in};
 use mu_port::Port;
 use std::alloc::Global;
 

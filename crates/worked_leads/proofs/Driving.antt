@@ -23,10 +23,6 @@ use Rattle.worked_leads.specs.Driven.{Beside}
 use Rattle.mu_model.specs.Steps.{is_slot_put_verb}
 use Rattle.mu_model.proofs.Parts.{part_of_maker}
 
--- the part of another replica than the one that made the newest event
-pub part_of_other : (r : ℕ) (e : Event) (past : List Event) → e.by ≢ r → part r (e ∷ past) ≡ part r past
-part_of_other r e past differ = let other : (e.by == r) ≡ false = ne_eqb e.by r differ in rw other refl
-
 -- the history of a list with one event more
 pub history_after : (events now past : List Event) (e : Event) → history events ≡ past → now ≡ events ++ e ∷ [] → history now ≡ e ∷ past
 history_after events now past e was is = ap (λ l. history l) is ∙ (reverse-append events (e ∷ []) ∙ ap (λ l. e ∷ l) was)
