@@ -175,6 +175,7 @@ impl Node {
 
     /// What is due in a turn of the leader in which the leader has nothing due: what an eager node
     /// reads on with, unless it is named, or led before that turn.
+    #[inline(always)]
     fn idle(&self, leading: bool) -> Option<Verb>
         ghost mine: { List SomeEvent }
         requires config { IsConfig self.now.follow.config }
@@ -232,6 +233,7 @@ impl Node {
     }
 
     /// What is due in the cycle, else what an eager leader writes ahead.
+    #[inline(always)]
     fn or_ahead(&self, due: Option<Verb>) -> Option<Verb>
         ensures { (c : Config) → (r : ℕ) → (mine : List SomeEvent) → IsConfig c
             → IsPossible c r mine → HasPlanned c r mine self.now → is_odd (length mine) ≡ false
