@@ -19,8 +19,6 @@ CRATES = os.path.join(TOP, "crates")
 LEMMA_FILE = re.compile(r"Rattle\.(\w+)\.proofs\.(\w+)")
 # Files of proofs whose names the prover looks for, or that are examples.
 OTHER_PROOFS = ("Answers.antt", "Invariants.antt", "Measures.antt", "Proof.antt", "Examples.antt")
-# Laws that functions are to cite next.
-AWAITED = {"stands_along"}
 LEMMA = re.compile(r"^(?:pub )?([A-Za-z_][\w'-]*) :", re.MULTILINE)
 WORD = re.compile(r"[A-Za-z_][\w'-]*")
 NAMES = re.compile(r"\b(\w+)::(\{[^}]*\}|\w+)")
@@ -94,7 +92,7 @@ def uncited(crates):
     for path, text in all_sources:
         if f"{os.sep}proofs{os.sep}" in path and not path.endswith(OTHER_PROOFS):
             here = collections.Counter(WORD.findall(text))
-            for name in set(LEMMA.findall(text)) - AWAITED:
+            for name in set(LEMMA.findall(text)):
                 if counts[name] == here[name] and not cited_beside(text, name):
                     yield f"{os.path.relpath(path, TOP)}: {name} is cited nowhere"
 

@@ -369,7 +369,3 @@ config_small c config = let rows = config.few in let few = config.replicas.1 in 
     at_most : (t : Bool) (n : ℕ) → (cond t n 0) ≤ n
     at_most true n = omega arith
     at_most false n = omega arith
-
--- where a late follower is brought up all others are done
-pub all_done : (on : Then) → on ≡ Then.Joined → (q p : ℕ) → IsDone on q p
-all_done on is q p = subst (λ t. IsDone t q p) (sym is) tt

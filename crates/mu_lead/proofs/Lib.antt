@@ -74,6 +74,7 @@ mod StandsLate
 mod StandsOnward
 mod StandsPutting
 mod StandsTables
+mod StandsTaken
 mod Tables
 mod Taking
 mod Telling

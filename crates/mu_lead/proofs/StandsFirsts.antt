@@ -15,11 +15,11 @@ use Rattle.mu_model.specs.Leaderships.{is_member, noted_grant}
 use Rattle.mu_model.specs.Parts.{IsPossible}
 use Rattle.mu_model.proofs.Basics.{event_by, same_number}
 use Rattle.mu_lead.specs.declared.place.Place.{Place}
-use Rattle.mu_lead.specs.Confirming.{AtAsk, AtPutMin, AtReadMin, Fresh, Numbered, Telling}
+use Rattle.mu_lead.specs.Confirming.{AtAsk, AtPutMin, AtReadMin, Fresh}
 use Rattle.mu_lead.specs.Lasting.{step_of}
 use Rattle.mu_lead.specs.Listing.{Tables, after_round, member_from, next_place, noted_from, or_else, or_own}
 use Rattle.mu_known.specs.Offers.{IsFirst}
-use Rattle.mu_lead.specs.Standing.{At}
+use Rattle.mu_lead.specs.Standing.{At, NumberAfter}
 use Rattle.mu_lead.proofs.Asking.{asked_all, asked_on, first_to_read, fresh_fenced}
 use Rattle.mu_lead.proofs.Confirms.{is_majority}
 use Rattle.mu_known.proofs.Firsts.{first_in_is}
@@ -54,14 +54,6 @@ asks_stand c r b p a mine up reach written place is at = subst (At c r b (event_
     go true more = asked_on c r p (p + 1) a mine at refl (ltb-true (p + 1) c.replicas more)
     go false last = (omega arith, asked_all c r p a mine at)
 
--- the first noted region is entered
-pub entering_min_stands : (c : Config) (r b : ℕ) (now : List Event) (t : Tables) → r < c.replicas → Telling c r now c.replicas → Numbered c r b now → At c r b now t.up t.reach t.written (or_else (noted_from c r now 0) Place.EnterMin Place.Rest)
-entering_min_stands c r b now t inside telling numbered = go (noted_from c r now 0) (first_in_is (λ k. is_some (noted_grant r k now)) 0 c.replicas)
-  where
-    go : (o : Option ℕ) → IsFirst (λ k. is_some (noted_grant r k now)) 0 c.replicas o → At c r b now t.up t.reach t.written (or_else o Place.EnterMin Place.Rest)
-    go (Some q) first = enters_first c r b q now telling numbered first
-    go None none = absurd (true≢false (sym telling.confirmed.own ∙ none r (omega arith) inside))
-
 min_stands : (c : Config) (r b p x : ℕ) (mine : List Event) (t : Tables) (o f : Option ℕ) → r < c.replicas → AtReadMin c r mine p → (o ≡ None → number_allowed r (event_by r (Verb.Min p) (Answer.Number x) ∷ mine) b None) → IsFirst (λ k. is_some (noted_grant r k mine)) (p + 1) c.replicas o
     → IsFirst (λ k. is_some (noted_grant r k mine)) 0 c.replicas f → At c r b (event_by r (Verb.Min p) (Answer.Number x) ∷ mine) t.up t.reach t.written (or_else o Place.ReadMin (or_else f Place.EnterMin Place.Rest))
 min_stands c r b p x mine t (Some q) f inside at number next first = reads_next c r p q (p + 1) x mine at refl next
@@ -75,16 +67,6 @@ join_stands : (c : Config) (r b p : ℕ) (mine : List Event) (t : Tables) (o f :
 join_stands c r b p mine t (Some q) f inside at next first = joins_next c r b p q (p + 1) mine at refl next
 join_stands c r b p mine t None (Some q) inside at next first = reads_first c r b q (landed_min r p b ∷ mine) t.up t.reach (joins_all c r b p (p + 1) mine inside at refl next) at.entering.numbered.unput first
 join_stands c r b p mine t None None inside at next none = absurd (true≢false (sym (member_now r p b mine) ∙ none p (omega arith) at.entering.region))
-
--- a minimum is read at the place
-abbrev pub reads_min : Place → Bool
-reads_min (Place.ReadMin p) = true
-reads_min place = false
-
--- the number d after the step is b, or is picked by the last minimum
-pub record NumberAfter (c : Config) (r b d : ℕ) (now : List Event) (place : Place) : Type 0 where
-  pub kept : reads_min place ≡ false → d ≡ b
-  pub picked : (p : ℕ) → place ≡ Place.ReadMin p → noted_from c r now (p + 1) ≡ None → number_allowed r now d None
 
 pub stands_last : (c : Config) (r b d : ℕ) (mine : List Event) (up : List ℕ) (reach : List (Option ℕ)) (written : List ℕ) (t : Tables) (place : Place) (a : Answer) → is_first_place place ≡ true → IsConfig c → r < c.replicas → At c r b mine up reach written place
     → IsPossible c r (step_of c r b mine up written place a ∷ mine) → NumberAfter c r b d (step_of c r b mine up written place a ∷ mine) place
@@ -101,18 +83,18 @@ stands_last c r b d mine up reach written t (Place.ReadMin p) a one is inside at
     let told = tells_min c r p a mine possible in
     let test = λ (k : ℕ). is_some (noted_grant r k mine) in
     subst (λ y. (noted_from c r (event_by r (Verb.Min p) y ∷ mine) (p + 1) ≡ None → number_allowed r (event_by r (Verb.Min p) y ∷ mine) d None) → At c r d (event_by r (Verb.Min p) y ∷ mine) t.up t.reach t.written (next_place c r b (event_by r (Verb.Min p) y ∷ mine) t y (Place.ReadMin p))) (sym told.1)
-    (λ allowed. min_stands c r d p told.0 mine t (noted_from c r (event_by r (Verb.Min p) (Answer.Number told.0) ∷ mine) (p + 1)) (noted_from c r (event_by r (Verb.Min p) (Answer.Number told.0) ∷ mine) 0) inside at allowed (first_in_is test (p + 1) c.replicas) (first_in_is test 0 c.replicas)) (number.picked p refl)
+    (λ allowed. min_stands c r d p told.0 mine t (noted_from c r (event_by r (Verb.Min p) (Answer.Number told.0) ∷ mine) (p + 1)) (noted_from c r (event_by r (Verb.Min p) (Answer.Number told.0) ∷ mine) 0) inside at allowed (first_in_is test (p + 1) c.replicas) (first_in_is test 0 c.replicas)) number
 stands_last c r b d mine up reach written t (Place.EnterMin p) a one is inside at possible number =
     let goal = λ (y : Answer). At c r d (event_by r (Verb.Enter p Target.Min) y ∷ mine) t.up t.reach t.written (next_place c r b (event_by r (Verb.Enter p Target.Min) y ∷ mine) t y (Place.EnterMin p)) in
     elim (enters_or c r p Target.Min a mine possible) [
-      | inl entered ↦ subst goal (sym entered) (subst (λ n. At c r n (event_by r (Verb.Enter p Target.Min) Answer.Entered ∷ mine) t.up t.reach t.written (Place.PutMin p)) (sym (number.kept refl)) (puts_now c r b p mine at))
+      | inl entered ↦ subst goal (sym entered) (subst (λ n. At c r n (event_by r (Verb.Enter p Target.Min) Answer.Entered ∷ mine) t.up t.reach t.written (Place.PutMin p)) (sym number) (puts_now c r b p mine at))
       | inr lost ↦ subst goal (sym lost.1) (asks_anew c r d (event_by r (Verb.Enter p Target.Min) (Answer.Lost lost.0) ∷ mine) t.up t.reach t.written inside)
     ]
 stands_last c r b d mine up reach written t (Place.PutMin p) a one is inside at possible number =
     let now = λ (y : Answer). event_by r (Verb.PutMin p b) y ∷ mine in
     let goal = λ (y : Answer). At c r d (now y) t.up t.reach t.written (next_place c r b (now y) t y (Place.PutMin p)) in
     elim (puts_min_or c r p b a mine possible) [
-      | inl done ↦ subst goal (sym done) (subst (λ n. At c r n (now Answer.Done) t.up t.reach t.written (next_place c r b (now Answer.Done) t Answer.Done (Place.PutMin p))) (sym (number.kept refl))
+      | inl done ↦ subst goal (sym done) (subst (λ n. At c r n (now Answer.Done) t.up t.reach t.written (next_place c r b (now Answer.Done) t Answer.Done (Place.PutMin p))) (sym number)
           (join_stands c r b p mine t (noted_from c r (now Answer.Done) (p + 1)) (member_from c r (now Answer.Done) 0) inside at (first_in_is (λ k. is_some (noted_grant r k mine)) (p + 1) c.replicas) (first_in_is (λ k. is_member r k (now Answer.Done)) 0 c.replicas)))
       | inr missed ↦ subst goal (sym missed) (record { region = at.entering.region; begun = at.entering.numbered.begun; missed = record { since = []; put = event_by r (Verb.PutMin p b) Answer.Missed; before = mine; is = refl; missed = same_number p; under = at.under } })
     ]

@@ -8,7 +8,7 @@ use Rattle.mu_lead.proofs.Puts.{known_more, known_same, took_all}
 use Rattle.mu_lead.proofs.Replies.{answer_is, enters_or, puts_min_or, puts_slot_or, sees_fence, tells_fuo, tells_head, tells_min}
 use Rattle.mu_lead.proofs.RoomsFirsts.{is_first_place}
 use Rattle.mu_lead.proofs.StandsBringing.{copied_stands, entered_behind_stands, fenced_behind_stands, fuo_stands, learning_stands, look_behind_stands, lost_stands, missed_slot_stands, raised_behind_stands, widening_stands}
-use Rattle.mu_lead.proofs.StandsFirsts.{NumberAfter, stands_last}
+use Rattle.mu_lead.proofs.StandsFirsts.{stands_last}
 use Rattle.mu_lead.proofs.StandsLate.{entered_late_stands, joined_late_stands, late_fenced_stands, late_left_stands, late_read_stands, late_told_stands, missed_min_stands}
 use Rattle.mu_lead.proofs.StandsOnward.{Stand, Stood, keeps}
 use Rattle.mu_lead.proofs.StandsPutting.{entered_new_stands, head_stands, look_stands, put_last_stands, put_next_stands, raised_stands, word_stands}
@@ -19,7 +19,7 @@ use Rattle.mu_lead.specs.Lasting.{step_of, verb_or}
 use Rattle.mu_lead.specs.Leading.{AtLateFuo, HoldsTables, end_of, most_replicas}
 use Rattle.mu_lead.specs.Listing.{Tables, first_member, late_from, member_from, next_place, or_else}
 use Rattle.mu_lead.specs.Offering.{AtPut, LooksShow}
-use Rattle.mu_lead.specs.Standing.{At, verb_at}
+use Rattle.mu_lead.specs.Standing.{At, NumberAfter, verb_at}
 use Rattle.mu_lead.specs.declared.place.Offer.{Offer}
 use Rattle.mu_lead.specs.declared.place.Place.{Place}
 use Rattle.mu_model.proofs.Basics.{event_by}
@@ -160,4 +160,4 @@ stands_along c r b d mine old (Place.ReadMin p) a some s at possible number = fi
 stands_along c r b d mine old (Place.EnterMin p) a some s at possible number = first_comes c r b d mine old (Place.EnterMin p) a refl s at possible number (keeps c r (event_by r (Verb.Enter p Target.Min) a) mine old s possible refl refl)
 stands_along c r b d mine old (Place.PutMin p) a some s at possible number = first_comes c r b d mine old (Place.PutMin p) a refl s at possible number (keeps c r (event_by r (Verb.PutMin p b) a) mine old s possible refl refl)
 stands_along c r b d mine old (Place.Evidence p) a some s at possible number = first_comes c r b d mine old (Place.Evidence p) a refl s at possible number (keeps c r (event_by r (Verb.Fence p) a) mine old s possible refl refl)
-stands_along c r b d mine old place a some s at possible number = subst (λ n. Comes c r b n mine old place a) (sym (number.kept refl)) (later_comes c r b mine old place a refl some s at possible)
+stands_along c r b d mine old place a some s at possible number = subst (λ n. Comes c r b n mine old place a) (sym number) (later_comes c r b mine old place a refl some s at possible)

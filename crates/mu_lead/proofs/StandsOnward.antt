@@ -61,10 +61,6 @@ ready c r mine now old t s possible h = record { is = s.is; inside = s.inside; p
 pub keeps : (c : Config) (r : ℕ) (e : Event) (mine : List Event) (t : Tables) → Stand c r mine t → IsPossible c r (e ∷ mine) → begins_leadership r e ≡ false → is_write e.verb ≡ false → HoldsTables c r (e ∷ mine) t.up t.reach t.heads t.written
 keeps c r e mine t s possible goes_on none = tables_kept c r e mine t.up t.reach t.heads t.written possible goes_on none s.tables
 
--- a place that is another
-pub stands_there : (c : Config) (r b : ℕ) (now : List Event) (t : Tables) (place same : Place) → place ≡ same → StandsAt c r b now t same → StandsAt c r b now t place
-stands_there c r b now t place same is at = subst (StandsAt c r b now t) (sym is) at
-
 -- r is a member in its leadership
 pub own_member : (c : Config) (r b : ℕ) (now : List Event) → Leads c r b now → is_member r r now ≡ true
 own_member c r b now leads = (and_parts (is_member r r now) (nat_le (majority_of c.replicas) (count_below c.replicas (λ p. is_member r p now))) leads.carried).0

@@ -1,6 +1,5 @@
--- From what each place takes to what the leader takes of the verb that was due.
-use Rattle.std.proofs.Common.{List, Some, ap, refl, subst, sym, ℕ, ◌∙◌, ◌∷◌, ◌≡◌}
-use Rattle.std.specs.declared.option.Option.{Option}
+-- From what each place makes of the leaderships to what the verb that was due makes of them.
+use Rattle.std.proofs.Common.{List, Some, ap, subst, sym, ℕ, ◌∙◌, ◌∷◌, ◌≡◌}
 use Rattle.mu_model.specs.declared.event.Answer.{Answer}
 use Rattle.mu_model.specs.declared.event.Event.{Event}
 use Rattle.mu_model.specs.declared.event.Verb.{Verb}
@@ -9,8 +8,7 @@ use Rattle.mu_model.specs.Parts.{IsPossible}
 use Rattle.mu_model.proofs.Basics.{event_by, same_some}
 use Rattle.mu_lead.specs.declared.lead.Lead.{Lead}
 use Rattle.mu_lead.specs.declared.place.Place.{Place}
-use Rattle.mu_lead.specs.Leading.{end_of}
-use Rattle.mu_lead.specs.Standing.{HasHeeded, StandsFor, Takes, TakesDue, TakesLook, known_told, verb_at}
+use Rattle.mu_lead.specs.Standing.{Led, LedDue, LedFrom, known_told, verb_at}
 
 -- the verb of a place as the known values make it
 abbrev pub HasVerb : Lead → Place → (List ℕ → Verb) → Type 0
@@ -19,45 +17,29 @@ HasVerb old place verb = (values : List ℕ) → verb_at old.config old.number v
 pub verb_is : (old : Lead) (place : Place) (vf : List ℕ → Verb) (verb : Verb) (values : List ℕ) → old.place ≡ place → HasVerb old place vf → verb_at old.config old.number values old.up old.written.items old.place ≡ Some verb → vf values ≡ verb
 verb_is old place vf verb values at is due = same_some (vf values) verb (sym (is values) ∙ sym (ap (verb_at old.config old.number values old.up old.written.items) at) ∙ due)
 
+-- a verb that is always answered so
+pub led_done : (old new : Lead) (place : Place) (values : List ℕ) (verb : Verb) (answer : Answer) → ((mine : List Event) → IsPossible old.config old.id (event_by old.id verb answer ∷ mine) → answer ≡ Answer.Done) → LedFrom old place values verb Answer.Done new → LedFrom old place values verb answer new
+led_done old new place values verb answer done leads mine s at possible told =
+    let is = done mine possible in
+    subst (λ a. Led old place (event_by old.id verb a ∷ mine) new) (sym is)
+    (leads mine s at (subst (λ a. IsPossible old.config old.id (event_by old.id verb a ∷ mine)) is possible) (subst (λ a. values ≡ known_told old.config old.id mine old.id verb a) is told))
+
+-- a place whose step doesn't rest on the values that are told
+pub led_so : (old new : Lead) (place : Place) (values : List ℕ) (vf : List ℕ → Verb) (answer : Answer) → old.place ≡ place → HasVerb old place vf → ((xs : List ℕ) → LedFrom old place values (vf xs) answer new) → LedDue old values answer new
+led_so old new place values vf answer at is leads mine verb s due possible told =
+    let xs = known old.config old.id mine in
+    let same = verb_is old place vf verb xs at is due in
+    subst (λ w. Led old old.place (event_by old.id w answer ∷ mine) new) same
+    (subst (λ k. Led old k (event_by old.id (vf xs) answer ∷ mine) new) (sym at)
+    (leads xs mine s at (subst (λ w. IsPossible old.config old.id (event_by old.id w answer ∷ mine)) (sym same) possible) (subst (λ w. values ≡ known_told old.config old.id mine old.id w answer) (sym same) told)))
+
 -- a place whose answer teaches nothing that its put does not
-pub takes_known : (old new : Lead) (place : Place) (values : List ℕ) (vf : List ℕ → Verb) (answer : Answer) → old.place ≡ place → HasVerb old place vf
-    → ((mine : List Event) (xs : List ℕ) → known_told old.config old.id mine old.id (vf xs) answer ≡ known old.config old.id mine) → Takes old place values (vf values) answer new → TakesDue old values answer new
-takes_known old new place values vf answer at is quiet takes mine verb heeded s due possible told =
+pub led_known : (old new : Lead) (place : Place) (values : List ℕ) (vf : List ℕ → Verb) (answer : Answer) → old.place ≡ place → HasVerb old place vf
+    → ((mine : List Event) (xs : List ℕ) → known_told old.config old.id mine old.id (vf xs) answer ≡ known old.config old.id mine) → LedFrom old place values (vf values) answer new → LedDue old values answer new
+led_known old new place values vf answer at is quiet leads mine verb s due possible told =
     let same = verb_is old place vf verb (known old.config old.id mine) at is due in
     let known_is : values ≡ known old.config old.id mine = subst (λ w. values ≡ known_told old.config old.id mine old.id w answer) (sym same) told ∙ quiet mine (known old.config old.id mine) in
     let verb_now : vf values ≡ verb = ap vf known_is ∙ same in
-    subst (λ w. StandsFor (event_by old.id w answer ∷ mine) new) verb_now
-    (takes mine s at (subst (λ w. IsPossible old.config old.id (event_by old.id w answer ∷ mine)) (sym verb_now) possible) (known_is ∙ sym (quiet mine values)))
-
--- a look at a position that is known already
-pub takes_any : (old new : Lead) (place : Place) (values : List ℕ) (v : Verb) (answer : Answer) → old.place ≡ place → HasVerb old place (λ xs. v) → Takes old place values v answer new → TakesDue old values answer new
-takes_any old new place values v answer at is takes mine verb heeded s due possible told =
-    let same = verb_is old place (λ xs. v) verb (known old.config old.id mine) at is due in
-    subst (λ w. StandsFor (event_by old.id w answer ∷ mine) new) same
-    (takes mine s at (subst (λ w. IsPossible old.config old.id (event_by old.id w answer ∷ mine)) (sym same) possible) (subst (λ w. values ≡ known_told old.config old.id mine old.id w answer) (sym same) told))
-
--- a look at the first unknown position
-pub takes_look : (old new : Lead) (place : Place) (values : List ℕ) (p : ℕ) (at_position : List ℕ → ℕ) (answer : Answer) → old.place ≡ place → HasVerb old place (λ xs. Verb.Look p (at_position xs))
-    → ((mine : List Event) → StandsFor mine old → at_position (known old.config old.id mine) ≡ end_of old.config old.id mine) → ((i : ℕ) → TakesLook old place values p i answer new) → TakesDue old values answer new
-takes_look old new place values p at_position answer at is position takes mine verb heeded s due possible told =
-    let i = at_position (known old.config old.id mine) in
-    let same = verb_is old place (λ xs. Verb.Look p (at_position xs)) verb (known old.config old.id mine) at is due in
-    subst (λ w. StandsFor (event_by old.id w answer ∷ mine) new) same
-    (takes i mine s at (position mine s) (subst (λ w. IsPossible old.config old.id (event_by old.id w answer ∷ mine)) (sym same) possible) (subst (λ w. values ≡ known_told old.config old.id mine old.id w answer) (sym same) told))
-
--- a look whose position the place carries
-pub takes_look_at : (old new : Lead) (place : Place) (values : List ℕ) (p i : ℕ) (answer : Answer) → old.place ≡ place → HasVerb old place (λ xs. Verb.Look p i)
-    → ((mine : List Event) → StandsFor mine old → i ≡ end_of old.config old.id mine) → TakesLook old place values p i answer new → TakesDue old values answer new
-takes_look_at old new place values p i answer at is position takes mine verb heeded s due possible told =
-    let same = verb_is old place (λ xs. Verb.Look p i) verb (known old.config old.id mine) at is due in
-    subst (λ w. StandsFor (event_by old.id w answer ∷ mine) new) same
-    (takes mine s at (position mine s) (subst (λ w. IsPossible old.config old.id (event_by old.id w answer ∷ mine)) (sym same) possible) (subst (λ w. values ≡ known_told old.config old.id mine old.id w answer) (sym same) told))
-
--- a head
-pub takes_head : (old new : Lead) (q : ℕ) (candidate : Option ℕ) (values : List ℕ) (answer : Answer) → old.place ≡ Place.ReadHead q candidate
-    → ((mine : List Event) → HasHeeded mine old → StandsFor mine old → old.place ≡ Place.ReadHead q candidate → IsPossible old.config old.id (event_by old.id (Verb.Head q) answer ∷ mine) → values ≡ known old.config old.id mine → StandsFor (event_by old.id (Verb.Head q) answer ∷ mine) new)
-    → TakesDue old values answer new
-takes_head old new q candidate values answer at takes mine verb heeded s due possible told =
-    let same = verb_is old (Place.ReadHead q candidate) (λ xs. Verb.Head q) verb (known old.config old.id mine) at (λ xs. refl) due in
-    subst (λ w. StandsFor (event_by old.id w answer ∷ mine) new) same
-    (takes mine heeded s at (subst (λ w. IsPossible old.config old.id (event_by old.id w answer ∷ mine)) (sym same) possible) (subst (λ w. values ≡ known_told old.config old.id mine old.id w answer) (sym same) told))
+    subst (λ w. Led old old.place (event_by old.id w answer ∷ mine) new) verb_now
+    (subst (λ k. Led old k (event_by old.id (vf values) answer ∷ mine) new) (sym at)
+    (leads mine s at (subst (λ w. IsPossible old.config old.id (event_by old.id w answer ∷ mine)) (sym verb_now) possible) (known_is ∙ sym (quiet mine values))))

@@ -1,6 +1,6 @@
 -- stands for (leader), place, verb of a place: a leader's state stands for its replica's events:
 -- its leaderships, its tables, and what holds at its place; and the verb of the place.
-use Rattle.std.specs.Prelude.{List, None, Some, get_or, length, ℕ, ◌%◌, ◌<◌, ◌∷◌, ◌≡◌}
+use Rattle.std.specs.Prelude.{List, None, Some, get_or, length, ℕ, ◌%◌, ◌+◌, ◌<◌, ◌∷◌, ◌≡◌}
 use Rattle.std.specs.declared.option.Option.{Option}
 use Rattle.mu_model.specs.declared.config.Config.{Config}
 use Rattle.mu_model.specs.declared.event.Answer.{Answer}
@@ -8,6 +8,7 @@ use Rattle.mu_model.specs.declared.event.Event.{Event}
 use Rattle.mu_model.specs.declared.event.Target.{Target}
 use Rattle.mu_model.specs.declared.event.Verb.{Verb}
 use Rattle.mu_model.specs.Contents.{IsConfig, config_word}
+use Rattle.mu_model.specs.Entering.{number_allowed}
 use Rattle.mu_model.specs.Knowledge.{grown, known}
 use Rattle.mu_model.specs.Parts.{IsPossible}
 use Rattle.mu_model.specs.Scores.{is_failed}
@@ -16,6 +17,7 @@ use Rattle.mu_lead.specs.declared.lead.Lead.{Lead}
 use Rattle.mu_lead.specs.declared.place.Place.{Place}
 use Rattle.mu_lead.specs.Confirming.{AtAsk, AtConfirm, AtEnterMin, AtEvidence, AtPutMin, AtReadMin}
 use Rattle.mu_lead.specs.Leading.{AtEnterBehind, AtFenceBehind, AtLateEnter, AtLateFuo, AtLateMin, AtLatePut, AtLearn, AtPutBehind, AtRaise, AtRaiseBehind, AtReadFuo, AtWiden, HoldsTables, Late, Level, Near, end_of}
+use Rattle.mu_lead.specs.Listing.{noted_from}
 use Rattle.mu_lead.specs.Sets.{is_bit}
 use Rattle.mu_lead.specs.Notes.{value_committed}
 use Rattle.mu_lead.specs.declared.note.Note.{Note}
@@ -111,27 +113,6 @@ verb_at c b values up written (Place.Evidence p) = Some (Verb.Fence p)
 verb_at c b values up written Place.Outrun = None
 verb_at c b values up written Place.Rest = None
 
--- the same from any place
-abbrev pub TakesAt : List Event → Lead → Verb → Answer → Lead → Type 0
-TakesAt mine old verb answer new =
-    StandsFor mine old
-    → IsPossible old.config old.id (record { by = old.id; verb = verb; answer = answer } ∷ mine)
-    → StandsFor (record { by = old.id; verb = verb; answer = answer } ∷ mine) new
-
--- the same for all events before
-abbrev pub TakesFrom : Lead → Verb → Answer → Lead → Type 0
-TakesFrom old verb answer new = (mine : List Event) → TakesAt mine old verb answer new
-
--- the same for a look at the first unknown position, and with what was heeded of failed replicas
-abbrev pub TakesLook : Lead → Place → List ℕ → ℕ → ℕ → Answer → Lead → Type 0
-TakesLook old place values p i answer new =
-    (mine : List Event) → StandsFor mine old → old.place ≡ place → i ≡ end_of old.config old.id mine
-    → IsPossible old.config old.id
-    (record { by = old.id; verb = Verb.Look p i; answer = answer } ∷ mine)
-    → values ≡ known old.config old.id
-    (record { by = old.id; verb = Verb.Look p i; answer = answer } ∷ mine)
-    → StandsFor (record { by = old.id; verb = Verb.Look p i; answer = answer } ∷ mine) new
-
 -- the leader has heeded which replicas its scores hold to be failed
 abbrev pub HasHeeded : List Event → Lead → Type 0
 HasHeeded mine l = (q : ℕ) → q < l.config.replicas → is_bit q l.failed ≡ is_failed l.id q mine
@@ -146,14 +127,42 @@ known_told c r mine by (Verb.PutSlot p i b v) answer = known c r mine
 known_told c r mine by verb answer =
     known c r (record { by = by; verb = verb; answer = answer } ∷ mine)
 
--- from its place, by the event and with these values known, the leader comes to what stands for the
--- events with it
-abbrev pub Takes : Lead → Place → List ℕ → Verb → Answer → Lead → Type 0
-Takes old place values verb answer new =
+-- the number d after a step of the place: what the last minimum lets r pick, else the same
+abbrev pub NumberAfter : Config → ℕ → ℕ → ℕ → List Event → Place → Type 0
+NumberAfter c r b d now (Place.ReadMin p) =
+    noted_from c r now (p + 1) ≡ None → number_allowed r now d None
+NumberAfter c r b d now place = d ≡ b
+
+-- after a step of the place the leaderships that the leader keeps are those of the events with it,
+-- and its number is the one after it
+pub record Led (old : Lead) (place : Place) (now : List Event) (new : Lead) : Type 0 where
+  pub leading : StandsForLeadership old.id now new.leading
+  pub number : NumberAfter old.config old.id old.number new.number now place
+
+-- so it is from its place, by the event and with these values known
+abbrev pub LedFrom : Lead → Place → List ℕ → Verb → Answer → Lead → Type 0
+LedFrom old place values verb answer new =
     (mine : List Event) → StandsFor mine old → old.place ≡ place
     → IsPossible old.config old.id (record { by = old.id; verb = verb; answer = answer } ∷ mine)
     → values ≡ known_told old.config old.id mine old.id verb answer
-    → StandsFor (record { by = old.id; verb = verb; answer = answer } ∷ mine) new
+    → Led old place (record { by = old.id; verb = verb; answer = answer } ∷ mine) new
+
+-- the leaderships are, by the event from any place
+abbrev pub LedBy : Lead → Verb → Answer → Lead → Type 0
+LedBy old verb answer new =
+    (mine : List Event) → StandsFor mine old
+    → IsPossible old.config old.id (record { by = old.id; verb = verb; answer = answer } ∷ mine)
+    → StandsForLeadership old.id (record { by = old.id; verb = verb; answer = answer } ∷ mine)
+    new.leading
+
+-- both are, by the answer to the verb that was due
+abbrev pub LedDue : Lead → List ℕ → Answer → Lead → Type 0
+LedDue old values answer new =
+    (mine : List Event) (verb : Verb) → StandsFor mine old
+    → verb_of old (known old.config old.id mine) ≡ Some verb
+    → IsPossible old.config old.id (record { by = old.id; verb = verb; answer = answer } ∷ mine)
+    → values ≡ known_told old.config old.id mine old.id verb answer
+    → Led old old.place (record { by = old.id; verb = verb; answer = answer } ∷ mine) new
 
 -- by the answer to the verb that was due the leader comes to what stands for the events with it
 abbrev pub TakesDue : Lead → List ℕ → Answer → Lead → Type 0

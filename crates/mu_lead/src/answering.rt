@@ -12,7 +12,7 @@ ghost use Rattle.mu_lead.specs.declared.place.Place.{Place as SomePlace};
 ghost use Rattle.mu_lead.specs.Sets.{NamesFence, NamesLost, NamesNumber, is_bit};
 ghost use Rattle.mu_lead.specs.Notes.{note_of_head, note_of_min};
 ghost use Rattle.mu_lead.specs.Noting.{note_in_round, note_of_enter, note_of_evidence, note_of_number, note_of_past, note_of_put};
-ghost use Rattle.mu_lead.specs.Standing.{HasHeeded, StandsFor, Takes};
+ghost use Rattle.mu_lead.specs.Standing.{LedFrom, StandsFor};
 ghost use Rattle.mu_lead.specs.declared.note.Note.{Note as SomeNote};
 ghost use Rattle.mu_lead.specs.Journal.{WritesFrom};
 ghost use Rattle.mu_lead.specs.Lasting.{FollowsFrom, FollowsHead, tables_of};
@@ -56,8 +56,9 @@ fn number_in(answer: Answer) -> Option<u64>
 impl Lead {
     /// Takes the answer at this place.
     pub(crate) fn at_confirm(&mut self, round: u8, p: u8, answer: Answer) -> Note
-        ensures stands { (values : List ℕ)
-            → Takes self.old (SomePlace.Confirm round p) values (SomeVerb.Fence p) answer self.new }
+        ensures leading { (values : List ℕ)
+            → LedFrom self.old (SomePlace.Confirm round p) values (SomeVerb.Fence p) answer
+            self.new }
         ensures config { self.new.config ≡ self.old.config }
         ensures id { self.new.id ≡ self.old.id }
         ensures named { self.new.named ≡ self.old.named }
@@ -81,8 +82,8 @@ impl Lead {
 
     /// Takes the answer at this place.
     pub(crate) fn at_read_min(&mut self, p: u8, answer: Answer) -> Note
-        ensures stands { (values : List ℕ)
-            → Takes self.old (SomePlace.ReadMin p) values (SomeVerb.Min p) answer self.new }
+        ensures leading { (values : List ℕ)
+            → LedFrom self.old (SomePlace.ReadMin p) values (SomeVerb.Min p) answer self.new }
         ensures config { self.new.config ≡ self.old.config }
         ensures id { self.new.id ≡ self.old.id }
         ensures named { self.new.named ≡ self.old.named }
@@ -100,9 +101,9 @@ impl Lead {
 
     /// Takes the answer at this place.
     pub(crate) fn at_enter_min(&mut self, p: u8, answer: Answer) -> Note
-        ensures stands { (values : List ℕ)
-            → Takes self.old (SomePlace.EnterMin p) values (SomeVerb.Enter p SomeTarget.Min) answer
-            self.new }
+        ensures leading { (values : List ℕ)
+            → LedFrom self.old (SomePlace.EnterMin p) values (SomeVerb.Enter p SomeTarget.Min)
+            answer self.new }
         ensures config { self.new.config ≡ self.old.config }
         ensures id { self.new.id ≡ self.old.id }
         ensures named { self.new.named ≡ self.old.named }
@@ -120,9 +121,9 @@ impl Lead {
 
     /// Takes the answer at this place.
     pub(crate) fn at_put_min(&mut self, p: u8, answer: Answer) -> Note
-        ensures stands { (values : List ℕ)
-            → Takes self.old (SomePlace.PutMin p) values (SomeVerb.PutMin p self.old.number) answer
-            self.new }
+        ensures leading { (values : List ℕ)
+            → LedFrom self.old (SomePlace.PutMin p) values (SomeVerb.PutMin p self.old.number)
+            answer self.new }
         ensures config { self.new.config ≡ self.old.config }
         ensures id { self.new.id ≡ self.old.id }
         ensures named { self.new.named ≡ self.old.named }
@@ -146,7 +147,7 @@ impl Lead {
         answer: Answer,
         known: &[u16],
     ) -> Note
-        ensures stands { Takes self.old (SomePlace.ReadFuo p source) known.now
+        ensures leading { LedFrom self.old (SomePlace.ReadFuo p source) known.now
             (SomeVerb.Fuo p) answer self.new }
         ensures config { self.new.config ≡ self.old.config }
         ensures id { self.new.id ≡ self.old.id }
@@ -166,8 +167,8 @@ impl Lead {
 
     /// Takes the answer at this place.
     pub(crate) fn at_enter_behind(&mut self, p: u8, then: Then, answer: Answer) -> Note
-        ensures stands { (values : List ℕ)
-            → Takes self.old (SomePlace.EnterBehind p then) values
+        ensures leading { (values : List ℕ)
+            → LedFrom self.old (SomePlace.EnterBehind p then) values
             (SomeVerb.Enter p
             (SomeTarget.Place (get_or self.old.up p 0 % self.old.config.ring)))
             answer self.new }
@@ -189,7 +190,7 @@ impl Lead {
 
     /// Takes the answer at this place.
     pub(crate) fn at_put_behind(&mut self, p: u8, then: Then, answer: Answer, known: &[u16]) -> Note
-        ensures stands { Takes self.old (SomePlace.PutBehind p then) known.now
+        ensures leading { LedFrom self.old (SomePlace.PutBehind p then) known.now
             (SomeVerb.PutSlot p (get_or self.old.up p 0) self.old.number
             (get_or known.now (get_or self.old.up p 0) 0))
             answer self.new }
@@ -214,8 +215,8 @@ impl Lead {
 
     /// Takes the answer at this place.
     pub(crate) fn at_fence_behind(&mut self, p: u8, then: Then, answer: Answer) -> Note
-        ensures stands { (values : List ℕ)
-            → Takes self.old (SomePlace.FenceBehind p then) values (SomeVerb.Fence p) answer
+        ensures leading { (values : List ℕ)
+            → LedFrom self.old (SomePlace.FenceBehind p then) values (SomeVerb.Fence p) answer
             self.new }
         ensures config { self.new.config ≡ self.old.config }
         ensures id { self.new.id ≡ self.old.id }
@@ -240,7 +241,7 @@ impl Lead {
 
     /// Takes the answer at this place.
     pub(crate) fn at_late_fence(&mut self, p: u8, answer: Answer, known: &[u16]) -> Note
-        ensures stands { Takes self.old (SomePlace.LateFence p) known.now
+        ensures leading { LedFrom self.old (SomePlace.LateFence p) known.now
             (SomeVerb.Fence p) answer self.new }
         ensures config { self.new.config ≡ self.old.config }
         ensures id { self.new.id ≡ self.old.id }
@@ -258,8 +259,8 @@ impl Lead {
 
     /// Takes the answer at this place.
     pub(crate) fn at_late_min(&mut self, p: u8, answer: Answer) -> Note
-        ensures stands { (values : List ℕ)
-            → Takes self.old (SomePlace.LateMin p) values (SomeVerb.Min p) answer self.new }
+        ensures leading { (values : List ℕ)
+            → LedFrom self.old (SomePlace.LateMin p) values (SomeVerb.Min p) answer self.new }
         ensures config { self.new.config ≡ self.old.config }
         ensures id { self.new.id ≡ self.old.id }
         ensures named { self.new.named ≡ self.old.named }
@@ -278,7 +279,7 @@ impl Lead {
 
     /// Takes the answer at this place.
     pub(crate) fn at_late_fuo(&mut self, p: u8, answer: Answer, known: &[u16]) -> Note
-        ensures stands { Takes self.old (SomePlace.LateFuo p) known.now
+        ensures leading { LedFrom self.old (SomePlace.LateFuo p) known.now
             (SomeVerb.Fuo p) answer self.new }
         ensures config { self.new.config ≡ self.old.config }
         ensures id { self.new.id ≡ self.old.id }
@@ -297,9 +298,9 @@ impl Lead {
 
     /// Takes the answer at this place.
     pub(crate) fn at_late_enter(&mut self, p: u8, answer: Answer) -> Note
-        ensures stands { (values : List ℕ)
-            → Takes self.old (SomePlace.LateEnter p) values (SomeVerb.Enter p SomeTarget.Min) answer
-            self.new }
+        ensures leading { (values : List ℕ)
+            → LedFrom self.old (SomePlace.LateEnter p) values (SomeVerb.Enter p SomeTarget.Min)
+            answer self.new }
         ensures config { self.new.config ≡ self.old.config }
         ensures id { self.new.id ≡ self.old.id }
         ensures named { self.new.named ≡ self.old.named }
@@ -317,7 +318,7 @@ impl Lead {
 
     /// Takes the answer at this place.
     pub(crate) fn at_late_put(&mut self, p: u8, answer: Answer, known: &[u16]) -> Note
-        ensures stands { Takes self.old (SomePlace.LatePut p) known.now
+        ensures leading { LedFrom self.old (SomePlace.LatePut p) known.now
             (SomeVerb.PutMin p self.old.number)
             answer self.new }
         ensures config { self.new.config ≡ self.old.config }
@@ -345,14 +346,8 @@ impl Lead {
         answer: Answer,
         known: &[u16],
     ) -> Note
-        ensures stands { (mine : List SomeEvent) → HasHeeded mine self.old → StandsFor mine self.old
-            → self.old.place ≡ SomePlace.ReadHead q candidate
-            → IsPossible self.old.config self.old.id
-            (record { by = self.old.id; verb = SomeVerb.Head q; answer = answer } ∷ mine)
-            → known.now ≡ known_of self.old.config self.old.id mine
-            → StandsFor
-            (record { by = self.old.id; verb = SomeVerb.Head q; answer = answer } ∷ mine)
-            self.new }
+        ensures leading { LedFrom self.old (SomePlace.ReadHead q candidate) known.now
+            (SomeVerb.Head q) answer self.new }
         ensures config { self.new.config ≡ self.old.config }
         ensures id { self.new.id ≡ self.old.id }
         ensures named { self.new.named ≡ self.old.named }
@@ -375,7 +370,7 @@ impl Lead {
 
     /// Takes the answer at this place.
     pub(crate) fn at_enter(&mut self, p: u8, offer: Offer, answer: Answer, known: &[u16]) -> Note
-        ensures stands { Takes self.old (SomePlace.Enter p offer) known.now
+        ensures leading { LedFrom self.old (SomePlace.Enter p offer) known.now
             (SomeVerb.Enter p (SomeTarget.Place (length known.now % self.old.config.ring))) answer
             self.new }
         ensures config { self.new.config ≡ self.old.config }
@@ -395,7 +390,7 @@ impl Lead {
 
     /// Takes the answer at this place.
     pub(crate) fn at_put(&mut self, p: u8, offer: Offer, answer: Answer, known: &[u16]) -> Note
-        ensures stands { Takes self.old (SomePlace.Put p offer) known.now
+        ensures leading { LedFrom self.old (SomePlace.Put p offer) known.now
             (SomeVerb.PutSlot p (length known.now) self.old.number offer.value) answer self.new }
         ensures note { (mine : List SomeEvent) → StandsFor mine self.old
             → self.old.place ≡ SomePlace.Put p offer
@@ -434,8 +429,8 @@ impl Lead {
 
     /// Takes the answer at this place.
     pub(crate) fn at_evidence(&mut self, p: u8, answer: Answer) -> Note
-        ensures stands { (values : List ℕ)
-            → Takes self.old (SomePlace.Evidence p) values (SomeVerb.Fence p) answer self.new }
+        ensures leading { (values : List ℕ)
+            → LedFrom self.old (SomePlace.Evidence p) values (SomeVerb.Fence p) answer self.new }
         ensures config { self.new.config ≡ self.old.config }
         ensures id { self.new.id ≡ self.old.id }
         ensures named { self.new.named ≡ self.old.named }

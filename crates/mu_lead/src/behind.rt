@@ -17,7 +17,7 @@ ghost use Rattle.mu_known.specs.Offers.{IsFirst};
 ghost use Rattle.mu_lead.specs.Journal.{WritesFrom};
 ghost use Rattle.mu_lead.specs.Lasting.{FollowsFrom, FollowsLook, tables_of};
 ghost use Rattle.mu_lead.specs.Listing.{after_copy, after_fuo, after_members, bring_up, bring_up_from, farther, learn_from};
-ghost use Rattle.mu_lead.specs.Standing.{HoldsAt, Stands, StandsFor, Takes, TakesLook};
+ghost use Rattle.mu_lead.specs.Standing.{HoldsAt, LedFrom, Stands, StandsFor};
 ghost use Rattle.mu_lead.specs.Saying.{note_of_fence, note_of_learning, note_of_raise, value_seen};
 ghost use Rattle.mu_lead.specs.declared.note.Note.{Note as SomeNote};
 
@@ -42,7 +42,7 @@ impl Lead {
 
     /// The FUO of the member `p`.
     pub(crate) fn took_fuo(&mut self, p: u8, source: Option<u8>, u: u64, known: &[u16]) -> Note
-        ensures stands { Takes self.old (SomePlace.ReadFuo p source) known.now (SomeVerb.Fuo p)
+        ensures leading { LedFrom self.old (SomePlace.ReadFuo p source) known.now (SomeVerb.Fuo p)
             (SomeAnswer.Number u) self.new }
         ensures config { self.new.config ≡ self.old.config }
         ensures id { self.new.id ≡ self.old.id }
@@ -90,8 +90,9 @@ impl Lead {
 
     /// A look at the first unknown position.
     pub(crate) fn took_learning(&mut self, source: u8, answer: Answer, known: &[u16]) -> Note
-        ensures stands { (i : ℕ)
-            → TakesLook self.old (SomePlace.Learn source) known.now source i answer self.new }
+        ensures leading { (i : ℕ)
+            → LedFrom self.old (SomePlace.Learn source) known.now (SomeVerb.Look source i) answer
+            self.new }
         ensures config { self.new.config ≡ self.old.config }
         ensures id { self.new.id ≡ self.old.id }
         ensures named { self.new.named ≡ self.old.named }
@@ -188,8 +189,8 @@ impl Lead {
 
     /// The FUO of `p` was raised so far as it was brought up.
     pub(crate) fn took_widening(&mut self, p: u8, then: Then) -> Note
-        ensures stands { (values : List ℕ)
-            → Takes self.old (SomePlace.WidenBehind p then) values
+        ensures leading { (values : List ℕ)
+            → LedFrom self.old (SomePlace.WidenBehind p then) values
             (SomeVerb.RaiseFuo p (get_or self.old.up p 0)) SomeAnswer.Done self.new }
         ensures config { self.new.config ≡ self.old.config }
         ensures id { self.new.id ≡ self.old.id }
@@ -210,8 +211,8 @@ impl Lead {
 
     /// A look at what `p` lacks.
     pub(crate) fn took_look_behind(&mut self, p: u8, then: Then, answer: Answer) -> Note
-        ensures stands { (values : List ℕ)
-            → Takes self.old (SomePlace.LookBehind p then) values
+        ensures leading { (values : List ℕ)
+            → LedFrom self.old (SomePlace.LookBehind p then) values
             (SomeVerb.Look p (get_or self.old.up p 0)) answer self.new }
         ensures config { self.new.config ≡ self.old.config }
         ensures id { self.new.id ≡ self.old.id }
@@ -234,8 +235,8 @@ impl Lead {
 
     /// The region `p` was entered for what it lacks.
     pub(crate) fn entered_behind(&mut self, p: u8, then: Then) -> Note
-        ensures stands { (values : List ℕ)
-            → Takes self.old (SomePlace.EnterBehind p then) values
+        ensures leading { (values : List ℕ)
+            → LedFrom self.old (SomePlace.EnterBehind p then) values
             (SomeVerb.Enter p
             (SomeTarget.Place (get_or self.old.up p 0 % self.old.config.ring)))
             SomeAnswer.Entered self.new }
@@ -261,7 +262,7 @@ impl Lead {
 
     /// What `p` lacked was put.
     pub(crate) fn took_put_behind(&mut self, p: u8, then: Then, known: &[u16]) -> Note
-        ensures stands { Takes self.old (SomePlace.PutBehind p then) known.now
+        ensures leading { LedFrom self.old (SomePlace.PutBehind p then) known.now
             (SomeVerb.PutSlot p (get_or self.old.up p 0) self.old.number
             (get_or known.now (get_or self.old.up p 0) 0))
             SomeAnswer.Done self.new }
@@ -307,7 +308,7 @@ impl Lead {
 
     /// The FUO of `p` was raised over all that is known.
     pub(crate) fn took_raise_behind(&mut self, p: u8, then: Then, known: &[u16]) -> Note
-        ensures stands { Takes self.old (SomePlace.RaiseBehind p then) known.now
+        ensures leading { LedFrom self.old (SomePlace.RaiseBehind p then) known.now
             (SomeVerb.RaiseFuo p (get_or self.old.up p 0)) SomeAnswer.Done self.new }
         ensures config { self.new.config ≡ self.old.config }
         ensures id { self.new.id ≡ self.old.id }
@@ -334,8 +335,8 @@ impl Lead {
 
     /// The fence after a look that found what `p` lacks overwritten.
     pub(crate) fn took_fence_behind(&mut self, p: u8, then: Then, fence: Fence) -> Note
-        ensures stands { (values : List ℕ)
-            → Takes self.old (SomePlace.FenceBehind p then) values (SomeVerb.Fence p)
+        ensures leading { (values : List ℕ)
+            → LedFrom self.old (SomePlace.FenceBehind p then) values (SomeVerb.Fence p)
             (SomeAnswer.Seen fence) self.new }
         ensures config { self.new.config ≡ self.old.config }
         ensures id { self.new.id ≡ self.old.id }

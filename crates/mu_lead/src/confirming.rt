@@ -11,7 +11,7 @@ ghost use Rattle.mu_model.specs.Leaderships.{is_member};
 ghost use Rattle.mu_known.specs.Offers.{IsFirst};
 ghost use Rattle.mu_model.specs.Parts.{IsPossible};
 ghost use Rattle.mu_lead.specs.Noting.{note_in_round, note_of_round};
-ghost use Rattle.mu_lead.specs.Standing.{At, StandsFor, Takes};
+ghost use Rattle.mu_lead.specs.Standing.{At, LedFrom, StandsFor};
 ghost use Rattle.mu_leading.specs.Leadership.{StandsForLeadership};
 ghost use Rattle.mu_lead.specs.declared.note.Note.{Note as SomeNote};
 ghost use Rattle.mu_model.specs.Diligence.{is_confirmed as is_confirmed_by};
@@ -43,8 +43,8 @@ impl Lead {
 
     /// The region `p` was asked.
     pub(crate) fn took_ask(&mut self, p: u8) -> Note
-        ensures stands { (values : List ℕ)
-            → Takes self.old (SomePlace.Ask p) values (SomeVerb.Ask p) SomeAnswer.Done self.new }
+        ensures leading { (values : List ℕ)
+            → LedFrom self.old (SomePlace.Ask p) values (SomeVerb.Ask p) SomeAnswer.Done self.new }
         ensures config { self.new.config ≡ self.old.config }
         ensures id { self.new.id ≡ self.old.id }
         ensures named { self.new.named ≡ self.old.named }
@@ -74,8 +74,8 @@ impl Lead {
     }
     /// The fence of `p` in a round.
     pub(crate) fn took_fence(&mut self, round: u8, p: u8, fence: Fence) -> Note
-        ensures stands { (values : List ℕ)
-            → Takes self.old (SomePlace.Confirm round p) values (SomeVerb.Fence p)
+        ensures leading { (values : List ℕ)
+            → LedFrom self.old (SomePlace.Confirm round p) values (SomeVerb.Fence p)
             (SomeAnswer.Seen fence) self.new }
         ensures config { self.new.config ≡ self.old.config }
         ensures id { self.new.id ≡ self.old.id }
@@ -167,8 +167,8 @@ impl Lead {
 
     /// The minimum of `p`.
     pub(crate) fn took_min(&mut self, p: u8, min: u64) -> Note
-        ensures stands { (values : List ℕ)
-            → Takes self.old (SomePlace.ReadMin p) values (SomeVerb.Min p) (SomeAnswer.Number min)
+        ensures leading { (values : List ℕ)
+            → LedFrom self.old (SomePlace.ReadMin p) values (SomeVerb.Min p) (SomeAnswer.Number min)
             self.new }
         ensures config { self.new.config ≡ self.old.config }
         ensures id { self.new.id ≡ self.old.id }
@@ -214,8 +214,8 @@ impl Lead {
 
     /// The region `p` was entered for its minimum.
     pub(crate) fn entered_min(&mut self, p: u8) -> Note
-        ensures stands { (values : List ℕ)
-            → Takes self.old (SomePlace.EnterMin p) values (SomeVerb.Enter p SomeTarget.Min)
+        ensures leading { (values : List ℕ)
+            → LedFrom self.old (SomePlace.EnterMin p) values (SomeVerb.Enter p SomeTarget.Min)
             SomeAnswer.Entered self.new }
         ensures config { self.new.config ≡ self.old.config }
         ensures id { self.new.id ≡ self.old.id }
@@ -238,8 +238,8 @@ impl Lead {
 
     /// The region `p` became a member.
     pub(crate) fn took_put_min(&mut self, p: u8) -> Note
-        ensures stands { (values : List ℕ)
-            → Takes self.old (SomePlace.PutMin p) values (SomeVerb.PutMin p self.old.number)
+        ensures leading { (values : List ℕ)
+            → LedFrom self.old (SomePlace.PutMin p) values (SomeVerb.PutMin p self.old.number)
             SomeAnswer.Done self.new }
         ensures config { self.new.config ≡ self.old.config }
         ensures id { self.new.id ≡ self.old.id }

@@ -11,7 +11,7 @@ ghost use Rattle.mu_lead.specs.Journal.{WritesFrom};
 ghost use Rattle.mu_lead.specs.Lasting.{FollowsFrom, tables_of};
 ghost use Rattle.mu_lead.specs.Listing.{late_from};
 ghost use Rattle.mu_lead.specs.Notes.{note_of_min};
-ghost use Rattle.mu_lead.specs.Standing.{HoldsAt, Stands, Takes};
+ghost use Rattle.mu_lead.specs.Standing.{HoldsAt, LedFrom, Stands};
 ghost use Rattle.mu_lead.specs.Saying.{note_of_join};
 ghost use Rattle.mu_lead.specs.declared.note.Note.{Note as SomeNote};
 
@@ -37,7 +37,7 @@ impl Lead {
 
     /// The fence of the late follower `p`.
     pub(crate) fn took_late_fence(&mut self, p: u8, fence: Fence, known: &[u16]) -> Note
-        ensures stands { Takes self.old (SomePlace.LateFence p) known.now (SomeVerb.Fence p)
+        ensures leading { LedFrom self.old (SomePlace.LateFence p) known.now (SomeVerb.Fence p)
             (SomeAnswer.Seen fence) self.new }
         ensures config { self.new.config ≡ self.old.config }
         ensures id { self.new.id ≡ self.old.id }
@@ -64,8 +64,8 @@ impl Lead {
 
     /// The minimum of the late follower `p`.
     pub(crate) fn took_late_min(&mut self, p: u8, min: u64) -> Note
-        ensures stands { (values : List ℕ)
-            → Takes self.old (SomePlace.LateMin p) values (SomeVerb.Min p) (SomeAnswer.Number min)
+        ensures leading { (values : List ℕ)
+            → LedFrom self.old (SomePlace.LateMin p) values (SomeVerb.Min p) (SomeAnswer.Number min)
             self.new }
         ensures tells { min < 2 ^ 32 → result ≡ note_of_min p self.old.number min }
         ensures config { self.new.config ≡ self.old.config }
@@ -96,7 +96,7 @@ impl Lead {
 
     /// The FUO of the late follower `p`.
     pub(crate) fn took_late_fuo(&mut self, p: u8, u: u64, known: &[u16]) -> Note
-        ensures stands { Takes self.old (SomePlace.LateFuo p) known.now (SomeVerb.Fuo p)
+        ensures leading { LedFrom self.old (SomePlace.LateFuo p) known.now (SomeVerb.Fuo p)
             (SomeAnswer.Number u)
             self.new }
         ensures config { self.new.config ≡ self.old.config }
@@ -121,8 +121,8 @@ impl Lead {
 
     /// The late follower `p` was entered for its minimum.
     pub(crate) fn entered_late(&mut self, p: u8) -> Note
-        ensures stands { (values : List ℕ)
-            → Takes self.old (SomePlace.LateEnter p) values (SomeVerb.Enter p SomeTarget.Min)
+        ensures leading { (values : List ℕ)
+            → LedFrom self.old (SomePlace.LateEnter p) values (SomeVerb.Enter p SomeTarget.Min)
             SomeAnswer.Entered self.new }
         ensures config { self.new.config ≡ self.old.config }
         ensures id { self.new.id ≡ self.old.id }
@@ -145,7 +145,7 @@ impl Lead {
 
     /// The late follower `p` became a member.
     pub(crate) fn took_late_put(&mut self, p: u8, known: &[u16]) -> Note
-        ensures stands { Takes self.old (SomePlace.LatePut p) known.now
+        ensures leading { LedFrom self.old (SomePlace.LatePut p) known.now
             (SomeVerb.PutMin p self.old.number)
             SomeAnswer.Done self.new }
         ensures config { self.new.config ≡ self.old.config }

@@ -19,7 +19,7 @@ ghost use Rattle.mu_lead.specs.Lasting.{Follows, FollowsDue, KeepsNext};
 ghost use Rattle.mu_lead.specs.Raising.{RaisesAt};
 ghost use Rattle.mu_lead.specs.Resigning.{IsTold};
 ghost use Rattle.mu_lead.specs.Rooms.{HasRooms, RoomsNext, gives_up};
-ghost use Rattle.mu_lead.specs.Standing.{HasHeeded, StandsFor, TakesDue, TakesNext, TellsFailed, TellsNext, verb_of};
+ghost use Rattle.mu_lead.specs.Standing.{HasHeeded, LedDue, StandsFor, TakesNext, TellsFailed, TellsNext, verb_of};
 ghost use Rattle.mu_lead.specs.Going.{begins_at, going_after};
 ghost use Rattle.mu_lead.specs.Noting.{NotedDue, NotedNext};
 ghost use Rattle.mu_lead.specs.Saying.{SaysNext, is_working as is_working_note};
@@ -326,8 +326,7 @@ impl Lead {
 
     /// Takes the answer, and notes whether the leadership goes on.
     fn take_answer(&mut self, answer: Answer, known: &[u16], log: &KnownLog) -> Note
-        ensures stands { HoldsValues self.old.config known.now log.now
-            → TakesDue self.old known.now answer self.new }
+        ensures leading { LedDue self.old known.now answer self.new }
         ensures writes { WritesDue self.old known.now answer self.new }
         ensures config { self.new.config ≡ self.old.config }
         ensures id { self.new.id ≡ self.old.id }
@@ -345,10 +344,8 @@ impl Lead {
     }
 
     /// Goes on by the answer, from the place that asked.
-    #[tactic(auto, using(crate::proofs::Taking::takes_head))]
     fn go_on(&mut self, answer: Answer, known: &[u16], log: &KnownLog) -> Note
-        ensures stands { HoldsValues self.old.config known.now log.now
-            → TakesDue self.old known.now answer self.new }
+        ensures leading { LedDue self.old known.now answer self.new }
         ensures writes { WritesDue self.old known.now answer self.new }
         ensures config { self.new.config ≡ self.old.config }
         ensures id { self.new.id ≡ self.old.id }

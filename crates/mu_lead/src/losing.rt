@@ -1,14 +1,11 @@
 //! Leaderships that end.
-ghost use Rattle.std.specs.Prelude.{false, None, List, true, ◌%◌, ◌<◌, ◌≡◌};
+ghost use Rattle.std.specs.Prelude.{false, None, ◌%◌, ◌<◌, ◌≡◌};
 ghost use Rattle.mu_model.specs.declared.event.Answer.{Answer as SomeAnswer};
-ghost use Rattle.mu_model.specs.declared.event.Event.{Event as SomeEvent};
 ghost use Rattle.mu_model.specs.declared.event.Target.{Target as SomeTarget};
 ghost use Rattle.mu_model.specs.declared.event.Verb.{Verb as SomeVerb};
-ghost use Rattle.mu_model.specs.Leaderships.{has_begun};
 ghost use Rattle.mu_lead.specs.declared.note.AbortCause.{AbortCause as SomeCause};
 ghost use Rattle.mu_lead.specs.declared.note.Note.{Note as SomeNote};
-ghost use Rattle.mu_lead.specs.Confirming.{IsEnteredNow};
-ghost use Rattle.mu_lead.specs.Standing.{TakesAt, TakesFrom};
+ghost use Rattle.mu_lead.specs.Standing.{LedBy};
 ghost use Rattle.mu_lead.specs.Lasting.{tables_of};
 ghost use Rattle.mu_lead.specs.declared.place.Place.{Place as SomePlace};
 
@@ -20,7 +17,8 @@ use mu_model::{Answer, Event, Fence, Target, Verb};
 impl Lead {
     /// The fence after a put that missed.
     pub(crate) fn took_evidence(&mut self, p: u8, fence: Fence) -> Note
-        ensures stands { TakesFrom self.old (SomeVerb.Fence p) (SomeAnswer.Seen fence) self.new }
+        ensures leading { LedBy self.old (SomeVerb.Fence p) (SomeAnswer.Seen fence) self.new }
+        ensures number { self.new.number ≡ self.old.number }
         ensures ended { self.new.place ≡ SomePlace.Ask 0 }
         ensures tells { result ≡ SomeNote.Aborted (SomeCause.Lost p fence) }
         ensures config { self.new.config ≡ self.old.config }
@@ -40,8 +38,9 @@ impl Lead {
 
     /// The enter of `p` was lost.
     fn lost(&mut self, p: u8, target: Target, fence: Fence) -> Note
-        ensures stands { TakesFrom self.old (SomeVerb.Enter p target)
-            (SomeAnswer.Lost fence) self.new }
+        ensures leading { LedBy self.old (SomeVerb.Enter p target) (SomeAnswer.Lost fence)
+            self.new }
+        ensures number { self.new.number ≡ self.old.number }
         ensures tells { result ≡ SomeNote.Aborted (SomeCause.Lost p fence) }
         ensures config { self.new.config ≡ self.old.config }
         ensures id { self.new.id ≡ self.old.id }
@@ -61,8 +60,9 @@ impl Lead {
 
     /// The enter for the minimum of `p` was lost.
     pub(crate) fn lost_min(&mut self, p: u8, fence: Fence) -> Note
-        ensures stands { TakesFrom self.old (SomeVerb.Enter p SomeTarget.Min)
-            (SomeAnswer.Lost fence) self.new }
+        ensures leading { LedBy self.old (SomeVerb.Enter p SomeTarget.Min) (SomeAnswer.Lost fence)
+            self.new }
+        ensures number { self.new.number ≡ self.old.number }
         ensures config { self.new.config ≡ self.old.config }
         ensures id { self.new.id ≡ self.old.id }
         ensures named { self.new.named ≡ self.old.named }
@@ -75,10 +75,11 @@ impl Lead {
 
     /// The enter of `p` for the place of a position was lost.
     pub(crate) fn lost_place(&mut self, p: u8, position: u64, fence: Fence) -> Note
-        ensures stands { 0 < self.old.config.ring
-            → TakesFrom self.old
+        ensures leading { 0 < self.old.config.ring
+            → LedBy self.old
             (SomeVerb.Enter p (SomeTarget.Place (position % self.old.config.ring)))
             (SomeAnswer.Lost fence) self.new }
+        ensures number { self.new.number ≡ self.old.number }
         ensures config { self.new.config ≡ self.old.config }
         ensures id { self.new.id ≡ self.old.id }
         ensures named { self.new.named ≡ self.old.named }
@@ -91,9 +92,9 @@ impl Lead {
 
     /// The put of the number at `p` missed.
     pub(crate) fn missed_min(&mut self, p: u8) -> Note
-        ensures stands { (mine : List SomeEvent) → p < self.old.config.replicas
-            → has_begun self.old.id mine ≡ true → IsEnteredNow self.old.id p mine
-            → TakesAt mine self.old (SomeVerb.PutMin p self.old.number) SomeAnswer.Missed self.new }
+        ensures leading { LedBy self.old (SomeVerb.PutMin p self.old.number) SomeAnswer.Missed
+            self.new }
+        ensures number { self.new.number ≡ self.old.number }
         ensures missed { self.new.place ≡ SomePlace.Evidence p }
         ensures config { self.new.config ≡ self.old.config }
         ensures id { self.new.id ≡ self.old.id }
@@ -113,10 +114,9 @@ impl Lead {
 
     /// The put at `p` missed.
     pub(crate) fn missed_slot(&mut self, p: u8, i: u16, value: u16) -> Note
-        ensures stands { (mine : List SomeEvent) → p < self.old.config.replicas
-            → has_begun self.old.id mine ≡ true → IsEnteredNow self.old.id p mine
-            → TakesAt mine self.old (SomeVerb.PutSlot p i self.old.number value) SomeAnswer.Missed
-            self.new }
+        ensures leading { LedBy self.old (SomeVerb.PutSlot p i self.old.number value)
+            SomeAnswer.Missed self.new }
+        ensures number { self.new.number ≡ self.old.number }
         ensures missed { self.new.place ≡ SomePlace.Evidence p }
         ensures config { self.new.config ≡ self.old.config }
         ensures id { self.new.id ≡ self.old.id }

@@ -21,7 +21,7 @@ ghost use Rattle.mu_lead.specs.Listing.{first_member, heads_from, least_candidat
 ghost use Rattle.mu_lead.specs.Notes.{TellsPut, note_of_commit, note_of_head};
 ghost use Rattle.mu_lead.specs.Offering.{Looking, LooksShow, MayBeMarked, MayOffer, Roomy};
 ghost use Rattle.mu_lead.specs.Sets.{is_bit};
-ghost use Rattle.mu_lead.specs.Standing.{HasHeeded, HoldsAt, Stands, StandsFor, Takes, TakesLook};
+ghost use Rattle.mu_lead.specs.Standing.{HoldsAt, LedFrom, Stands, StandsFor};
 ghost use Rattle.mu_lead.specs.Saying.{note_of_look};
 ghost use Rattle.mu_lead.specs.declared.note.Note.{Note as SomeNote};
 
@@ -127,16 +127,8 @@ impl Lead {
         head: u64,
         known: &[u16],
     ) -> Note
-        ensures stands { (mine : List SomeEvent) → HasHeeded mine self.old → StandsFor mine self.old
-            → self.old.place ≡ SomePlace.ReadHead q candidate
-            → IsPossible self.old.config self.old.id
-            (record { by = self.old.id; verb = SomeVerb.Head q; answer = SomeAnswer.Number head }
-            ∷ mine)
-            → known.now ≡ known_of self.old.config self.old.id mine
-            → StandsFor
-            (record { by = self.old.id; verb = SomeVerb.Head q; answer = SomeAnswer.Number head }
-            ∷ mine)
-            self.new }
+        ensures leading { LedFrom self.old (SomePlace.ReadHead q candidate) known.now
+            (SomeVerb.Head q) (SomeAnswer.Number head) self.new }
         ensures config { self.new.config ≡ self.old.config }
         ensures id { self.new.id ≡ self.old.id }
         ensures named { self.new.named ≡ self.old.named }
@@ -191,10 +183,8 @@ impl Lead {
         known: &[u16],
         log: &KnownLog,
     ) -> Note
-        ensures stands { HoldsValues self.old.config known.now log.now
-            → TakesLook self.old
-            (SomePlace.Look p position candidate best) known.now p position
-            answer self.new }
+        ensures leading { LedFrom self.old (SomePlace.Look p position candidate best) known.now
+            (SomeVerb.Look p position) answer self.new }
         ensures config { self.new.config ≡ self.old.config }
         ensures id { self.new.id ≡ self.old.id }
         ensures named { self.new.named ≡ self.old.named }
@@ -308,7 +298,7 @@ impl Lead {
 
     /// The region `p` was entered for the offer.
     pub(crate) fn entered_new(&mut self, p: u8, offer: Offer, known: &[u16]) -> Note
-        ensures stands { Takes self.old (SomePlace.Enter p offer) known.now
+        ensures leading { LedFrom self.old (SomePlace.Enter p offer) known.now
             (SomeVerb.Enter p (SomeTarget.Place (length known.now % self.old.config.ring)))
             SomeAnswer.Entered self.new }
         ensures config { self.new.config ≡ self.old.config }
@@ -332,7 +322,7 @@ impl Lead {
 
     /// The offer was put at `p`.
     pub(crate) fn took_put(&mut self, p: u8, offer: Offer, known: &[u16]) -> Note
-        ensures stands { Takes self.old (SomePlace.Put p offer) known.now
+        ensures leading { LedFrom self.old (SomePlace.Put p offer) known.now
             (SomeVerb.PutSlot p (length known.now) self.old.number offer.value) SomeAnswer.Done
             self.new }
         ensures tells { (mine : List SomeEvent) → StandsFor mine self.old
@@ -386,7 +376,7 @@ impl Lead {
 
     /// The FUO of `p` was raised over what was committed.
     pub(crate) fn took_raise(&mut self, p: u8, known: &[u16]) -> Note
-        ensures stands { Takes self.old (SomePlace.Raise p) known.now
+        ensures leading { LedFrom self.old (SomePlace.Raise p) known.now
             (SomeVerb.RaiseFuo p (length known.now))
             SomeAnswer.Done self.new }
         ensures config { self.new.config ≡ self.old.config }

@@ -17,7 +17,7 @@ ghost use Rattle.mu_lead.specs.Lasting.{FollowsFrom};
 ghost use Rattle.mu_lead.specs.Listing.{write_from};
 ghost use Rattle.mu_lead.specs.Offering.{Writing};
 ghost use Rattle.mu_known.specs.Offers.{IsFirst};
-ghost use Rattle.mu_lead.specs.Standing.{HoldsAt, Stands, StandsFor, Takes};
+ghost use Rattle.mu_lead.specs.Standing.{HoldsAt, LedFrom, Stands, StandsFor};
 ghost use Rattle.mu_lead.specs.declared.note.Note.{Note as SomeNote};
 ghost use Rattle.mu_lead.specs.Rooms.{words_left};
 
@@ -138,8 +138,8 @@ impl Lead {
 
     /// A word of row `j` was written.
     pub(crate) fn took_write(&mut self, j: u16, last: u16, offer: Offer) -> Note
-        ensures stands { (values : List ℕ)
-            → Takes self.old (SomePlace.Write j last offer) values
+        ensures leading { (values : List ℕ)
+            → LedFrom self.old (SomePlace.Write j last offer) values
             (SomeVerb.WriteRow j (get_or self.old.written.items j 12)
             (config_word self.old.config j (get_or self.old.written.items j 12)))
             SomeAnswer.Done self.new }

@@ -10,8 +10,8 @@ use Rattle.std.proofs.Common.{subst, sym, ◌+◌, ◌∷◌, ◌≡◌}
 use Rattle.std.specs.Prelude.{if◌then◌else◌, nat_lt}
 use Rattle.mu_lead.proofs.lead.Lead.at_confirm.Goals as goal
 
-pub returns-in-None-clause-stands : goal.returns-in-None-clause-stands
-returns-in-None-clause-stands c = λ values mine s is possible told. let l = c.args.self.now in let x = sees_fence l.config l.id c.args.p c.args.answer mine possible in absurd (c.in-None.ensures x.0 x.1)
+pub returns-in-None-clause-leading : goal.returns-in-None-clause-leading
+returns-in-None-clause-leading c = λ values mine s is possible told. let l = c.args.self.now in let x = sees_fence l.config l.id c.args.p c.args.answer mine possible in absurd (c.in-None.ensures x.0 x.1)
 
 pub returns-in-None-clause-listed : goal.returns-in-None-clause-listed
 returns-in-None-clause-listed c = λ values mine s is possible told. let l = c.args.self.now in let x = sees_fence l.config l.id c.args.p c.args.answer mine possible in absurd (c.in-None.ensures x.0 x.1)

@@ -1,7 +1,7 @@
 use Rattle.mu_lead.proofs.Replies.{sees_fence}
 use Rattle.mu_lead.specs.Lasting.{GoesTo}
 use Rattle.mu_lead.specs.Noting.{note_of_past}
-use Rattle.mu_lead.specs.Standing.{StandsFor}
+use Rattle.mu_lead.specs.Standing.{Led}
 use Rattle.mu_lead.specs.declared.place.Place.{Place}
 use Rattle.mu_model.proofs.Basics.{event_by}
 use Rattle.mu_model.specs.Leaderships.{is_over}
@@ -10,13 +10,13 @@ use Rattle.mu_model.specs.declared.event.Verb.{Verb}
 use Rattle.std.proofs.Common.{subst, sym, ◌∷◌, ◌≡◌}
 use Rattle.mu_lead.proofs.lead.Lead.at_fence_behind.Goals as goal
 
-pub returns-in-None-clause-stands : goal.returns-in-None-clause-stands
-returns-in-None-clause-stands c = λ values mine s is possible told. let l = c.args.self.now in let x = sees_fence l.config l.id c.args.p c.args.answer mine possible in absurd (c.in-None.ensures x.0 x.1)
+pub returns-in-None-clause-leading : goal.returns-in-None-clause-leading
+returns-in-None-clause-leading c = λ values mine s is possible told. let l = c.args.self.now in let x = sees_fence l.config l.id c.args.p c.args.answer mine possible in absurd (c.in-None.ensures x.0 x.1)
 
-pub returns-in-Some-clause-stands : goal.returns-in-Some-clause-stands
-returns-in-Some-clause-stands c = λ values mine s is possible told.
+pub returns-in-Some-clause-leading : goal.returns-in-Some-clause-leading
+returns-in-Some-clause-leading c = λ values mine s is possible told.
     let l = c.args.self.now in
-    subst (λ a. StandsFor (event_by l.id (Verb.Fence c.args.p) a ∷ mine) c.took_fence_behind.new.self) (sym c.in-Some.ensures) (c.took_fence_behind.ensures.stands values mine s is (subst (λ a. IsPossible l.config l.id (event_by l.id (Verb.Fence c.args.p) a ∷ mine)) c.in-Some.ensures possible) told)
+    subst (λ a. Led l (Place.FenceBehind c.args.p c.args.then) (event_by l.id (Verb.Fence c.args.p) a ∷ mine) c.took_fence_behind.new.self) (sym c.in-Some.ensures) (c.took_fence_behind.ensures.leading values mine s is (subst (λ a. IsPossible l.config l.id (event_by l.id (Verb.Fence c.args.p) a ∷ mine)) c.in-Some.ensures possible) told)
 
 pub returns-in-None-clause-listed : goal.returns-in-None-clause-listed
 returns-in-None-clause-listed c = λ values mine s is possible told.

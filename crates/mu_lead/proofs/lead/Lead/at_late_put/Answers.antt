@@ -1,9 +1,10 @@
+use Rattle.mu_leading.specs.Leadership.{StandsForLeadership}
 use Rattle.mu_lead.proofs.Noted.{not_missed}
 use Rattle.mu_lead.proofs.Replies.{puts_min_or}
 use Rattle.mu_lead.specs.Lasting.{GoesTo}
 use Rattle.mu_lead.specs.Listing.{is_missed}
 use Rattle.mu_lead.specs.Saying.{note_of_join}
-use Rattle.mu_lead.specs.Standing.{StandsFor}
+use Rattle.mu_lead.specs.Standing.{Led}
 use Rattle.mu_lead.specs.declared.note.Note.{Note}
 use Rattle.mu_lead.specs.declared.place.Place.{Place}
 use Rattle.mu_model.proofs.Basics.{event_by}
@@ -13,21 +14,20 @@ use Rattle.std.proofs.Common.{ap, get_or, inl, inr, length, subst, sym, ◌∙�
 use Rattle.std.specs.Prelude.{if◌then◌else◌, nat_lt}
 use Rattle.mu_lead.proofs.lead.Lead.at_late_put.Goals as goal
 
-pub returns-in_default-clause-stands : goal.returns-in_default-clause-stands
-returns-in_default-clause-stands c = λ mine s is possible told.
+pub returns-in_default-clause-leading : goal.returns-in_default-clause-leading
+returns-in_default-clause-leading c = λ mine s is possible told.
     let l = c.args.self.now in
     elim (puts_min_or l.config l.id c.args.p l.number c.args.answer mine possible) [
-      | inl done ↦ subst (λ a. StandsFor (event_by l.id (Verb.PutMin c.args.p l.number) a ∷ mine) c.took_late_put.new.self) (sym done) (c.took_late_put.ensures.stands mine s is (subst (λ a. IsPossible l.config l.id (event_by l.id (Verb.PutMin c.args.p l.number) a ∷ mine)) done possible) told)
+      | inl done ↦ subst (λ a. Led l (Place.LatePut c.args.p) (event_by l.id (Verb.PutMin c.args.p l.number) a ∷ mine) c.took_late_put.new.self) (sym done) (c.took_late_put.ensures.leading mine s is (subst (λ a. IsPossible l.config l.id (event_by l.id (Verb.PutMin c.args.p l.number) a ∷ mine)) done possible) told)
       | inr missed ↦ absurd (c.in_default.not-Missed missed)
     ]
 
-pub returns-in-Missed-clause-stands : goal.returns-in-Missed-clause-stands
-returns-in-Missed-clause-stands c = λ mine s is possible told.
+pub returns-in-Missed-clause-leading : goal.returns-in-Missed-clause-leading
+returns-in-Missed-clause-leading c = λ mine s is possible told.
     let l = c.args.self.now in
-    let here = rw is at s.at in
     let missed = c.in-Missed.is in
     let now = subst (λ a. IsPossible l.config l.id (event_by l.id (Verb.PutMin c.args.p l.number) a ∷ mine)) missed possible in
-    subst (λ a. StandsFor (event_by l.id (Verb.PutMin c.args.p l.number) a ∷ mine) c.missed_min.new.self) (sym missed) (c.missed_min.ensures.stands mine here.entering.told.late.region here.entering.told.late.level.leads.begun here.under s now)
+    record { number = c.missed_min.ensures.number; leading = subst (λ a. StandsForLeadership l.id (event_by l.id (Verb.PutMin c.args.p l.number) a ∷ mine) c.missed_min.new.self.leading) (sym missed) (c.missed_min.ensures.leading mine s now) }
 
 pub returns-in_default-clause-listed : goal.returns-in_default-clause-listed
 returns-in_default-clause-listed c = λ mine s is possible told.

@@ -1,3 +1,4 @@
+use Rattle.mu_leading.specs.Leadership.{StandsForLeadership}
 use Rattle.mu_model.specs.declared.event.Event.{Event}
 use Rattle.mu_agree.proofs.Possible.{parts_shorten_law}
 use Rattle.mu_lead.proofs.Noted.{put_noted}
@@ -6,7 +7,7 @@ use Rattle.mu_lead.specs.Journal.{WritesTo}
 use Rattle.mu_lead.specs.Lasting.{GoesTo}
 use Rattle.mu_lead.specs.Leading.{end_of}
 use Rattle.mu_lead.specs.Notes.{note_of_commit}
-use Rattle.mu_lead.specs.Standing.{StandsFor}
+use Rattle.mu_lead.specs.Standing.{Led}
 use Rattle.mu_lead.specs.declared.note.Note.{Note}
 use Rattle.mu_lead.specs.declared.place.Place.{Place}
 use Rattle.mu_leading.proofs.Within.{known_few}
@@ -19,25 +20,27 @@ use Rattle.std.proofs.lemmas.Bool.{le-ltb}
 use Rattle.std.specs.Prelude.{if◌then◌else◌, nat_lt}
 use Rattle.mu_lead.proofs.lead.Lead.at_put.Goals as goal
 
-pub returns-in_default-clause-stands : goal.returns-in_default-clause-stands
-returns-in_default-clause-stands c = λ mine s is possible told.
+pub returns-in_default-clause-leading : goal.returns-in_default-clause-leading
+returns-in_default-clause-leading c = λ mine s is possible told.
     let l = c.args.self.now in
     elim (puts_slot_or l.config l.id c.args.p (length c.args.known.now) l.number c.args.offer.value c.args.answer mine possible) [
-      | inl done ↦ subst (λ a. StandsFor (event_by l.id (Verb.PutSlot c.args.p (length c.args.known.now) l.number c.args.offer.value) a ∷ mine) c.took_put.new.self) (sym done) (c.took_put.ensures.stands mine s is (subst (λ a. IsPossible l.config l.id (event_by l.id (Verb.PutSlot c.args.p (length c.args.known.now) l.number c.args.offer.value) a ∷ mine)) done possible) told)
+      | inl done ↦ subst (λ a. Led l (Place.Put c.args.p c.args.offer) (event_by l.id (Verb.PutSlot c.args.p (length c.args.known.now) l.number c.args.offer.value) a ∷ mine) c.took_put.new.self) (sym done) (c.took_put.ensures.leading mine s is (subst (λ a. IsPossible l.config l.id (event_by l.id (Verb.PutSlot c.args.p (length c.args.known.now) l.number c.args.offer.value) a ∷ mine)) done possible) told)
       | inr missed ↦ absurd (c.in_default.not-Missed missed)
     ]
 
-pub returns-in-Missed-clause-stands : goal.returns-in-Missed-clause-stands
-returns-in-Missed-clause-stands c = λ mine s is possible told.
+pub returns-in-Missed-clause-leading : goal.returns-in-Missed-clause-leading
+returns-in-Missed-clause-leading c = λ mine s is possible told.
     let l = c.args.self.now in
-    let here = rw is at s.at in
     let missed = c.in-Missed.is in
     let now = subst (λ a. IsPossible l.config l.id (event_by l.id (Verb.PutSlot c.args.p (length c.args.known.now) l.number c.args.offer.value) a ∷ mine)) missed possible in
-    subst (λ a. StandsFor (event_by l.id (Verb.PutSlot c.args.p (length c.args.known.now) l.number c.args.offer.value) a ∷ mine) c.missed_slot.new.self) (sym missed) ((let before = (parts_shorten_law l.config l.id mine (event_by l.id (Verb.PutSlot c.args.p (length c.args.known.now) l.number c.args.offer.value) Answer.Missed) now).before in
-    let few_known = known_few l.config l.id mine s.config before in
-    let position = c.end_of.ensures (subst (λ values. length values < 65536) (sym told) few_known) in
-    subst (λ i. StandsFor (event_by l.id (Verb.PutSlot c.args.p i l.number c.args.offer.value) Answer.Missed ∷ mine) c.missed_slot.new.self) position
-    (c.missed_slot.ensures.stands mine here.0.entering.region here.0.entering.offering.begun here.0.under s (subst (λ i. IsPossible l.config l.id (event_by l.id (Verb.PutSlot c.args.p i l.number c.args.offer.value) Answer.Missed ∷ mine)) (sym position) now))))
+    record {
+      number = c.missed_slot.ensures.number;
+      leading = subst (λ a. StandsForLeadership l.id (event_by l.id (Verb.PutSlot c.args.p (length c.args.known.now) l.number c.args.offer.value) a ∷ mine) c.missed_slot.new.self.leading) (sym missed) ((let before = (parts_shorten_law l.config l.id mine (event_by l.id (Verb.PutSlot c.args.p (length c.args.known.now) l.number c.args.offer.value) Answer.Missed) now).before in
+          let few_known = known_few l.config l.id mine s.config before in
+          let position = c.end_of.ensures (subst (λ values. length values < 65536) (sym told) few_known) in
+          subst (λ i. StandsForLeadership l.id (event_by l.id (Verb.PutSlot c.args.p i l.number c.args.offer.value) Answer.Missed ∷ mine) c.missed_slot.new.self.leading) position
+          (c.missed_slot.ensures.leading mine s (subst (λ i. IsPossible l.config l.id (event_by l.id (Verb.PutSlot c.args.p i l.number c.args.offer.value) Answer.Missed ∷ mine)) (sym position) now))));
+    }
 
 pub returns-in_default-clause-listed : goal.returns-in_default-clause-listed
 returns-in_default-clause-listed c = λ mine s is possible told.

@@ -5,16 +5,11 @@ use Rattle.mu_model.specs.declared.event.Verb.{Verb}
 use Rattle.std.proofs.Common.{subst, sym, ◌∷◌}
 use Rattle.mu_model.specs.Parts.{IsPossible}
 use Rattle.mu_lead.proofs.Replies.{tells_fuo}
-use Rattle.mu_lead.proofs.Replies.{tells_fuo}
-use Rattle.std.proofs.Common.{subst, sym, ◌∷◌}
-use Rattle.mu_model.proofs.Basics.{event_by}
-use Rattle.mu_model.specs.declared.event.Verb.{Verb}
-use Rattle.mu_model.specs.Parts.{IsPossible}
 use Rattle.mu_lead.specs.Journal.{WritesTo}
 use Rattle.mu_lead.proofs.lead.Lead.at_read_fuo.Goals as goal
 
-pub returns-in-None-clause-stands : goal.returns-in-None-clause-stands
-returns-in-None-clause-stands c = λ mine s is possible told. let l = c.args.self.now in let x = tells_fuo l.config l.id c.args.p c.args.answer mine possible in absurd (c.in-None.ensures x.0 x.1)
+pub returns-in-None-clause-leading : goal.returns-in-None-clause-leading
+returns-in-None-clause-leading c = λ mine s is possible told. let l = c.args.self.now in let x = tells_fuo l.config l.id c.args.p c.args.answer mine possible in absurd (c.in-None.ensures x.0 x.1)
 
 pub returns-in-None-clause-listed : goal.returns-in-None-clause-listed
 returns-in-None-clause-listed c = λ mine s is possible told.

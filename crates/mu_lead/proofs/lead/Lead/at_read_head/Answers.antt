@@ -1,3 +1,4 @@
+use Rattle.mu_lead.specs.Standing.{Led}
 use Rattle.mu_lead.specs.Lasting.{GoesTo}
 use Rattle.mu_lead.specs.declared.place.Place.{Place}
 use Rattle.mu_model.proofs.Basics.{event_by}
@@ -5,16 +6,16 @@ use Rattle.mu_model.specs.declared.event.Verb.{Verb}
 use Rattle.std.proofs.Common.{subst, sym, ◌∷◌}
 use Rattle.mu_model.specs.Parts.{IsPossible}
 use Rattle.mu_lead.proofs.Replies.{tells_head}
-use Rattle.mu_lead.proofs.Replies.{tells_head}
-use Rattle.std.proofs.Common.{subst, sym, ◌∷◌}
-use Rattle.mu_model.proofs.Basics.{event_by}
-use Rattle.mu_model.specs.declared.event.Verb.{Verb}
-use Rattle.mu_model.specs.Parts.{IsPossible}
 use Rattle.mu_lead.specs.Journal.{WritesTo}
 use Rattle.mu_lead.proofs.lead.Lead.at_read_head.Goals as goal
 
-pub returns-in-None-clause-stands : goal.returns-in-None-clause-stands
-returns-in-None-clause-stands c = λ mine heeded s is possible told. let l = c.args.self.now in let x = tells_head l.config l.id c.args.q c.args.answer mine possible in absurd (c.in-None.ensures x.0 x.1)
+pub returns-in-None-clause-leading : goal.returns-in-None-clause-leading
+returns-in-None-clause-leading c = λ mine s is possible told. let l = c.args.self.now in let x = tells_head l.config l.id c.args.q c.args.answer mine possible in absurd (c.in-None.ensures x.0 x.1)
+
+pub returns-in-Some-clause-leading : goal.returns-in-Some-clause-leading
+returns-in-Some-clause-leading c = λ mine s is possible told.
+    let l = c.args.self.now in
+    subst (λ a. Led l (Place.ReadHead c.args.q c.args.candidate) (event_by l.id (Verb.Head c.args.q) a ∷ mine) c.took_head.new.self) (sym c.in-Some.ensures) (c.took_head.ensures.leading mine s is (subst (λ a. IsPossible l.config l.id (event_by l.id (Verb.Head c.args.q) a ∷ mine)) c.in-Some.ensures possible) told)
 
 pub returns-in-None-clause-listed : goal.returns-in-None-clause-listed
 returns-in-None-clause-listed c = λ mine heeded s is possible told.

@@ -1,115 +1,107 @@
 use Rattle.mu_lead.proofs.Listed.{listed_any, listed_done, listed_head, listed_known, listed_look, listed_look_at}
 use Rattle.mu_lead.proofs.Noted.{noted_head, noted_join, noted_learning, noted_look, noted_min, noted_past, noted_put, noted_round, noted_so}
 use Rattle.mu_lead.proofs.Replies.{answer_is}
-use Rattle.mu_lead.proofs.Taking.{takes_any, takes_head, takes_known, takes_look, takes_look_at}
+use Rattle.mu_lead.proofs.Taking.{led_done, led_known, led_so}
 use Rattle.mu_lead.proofs.Writes.{writes_done, writes_known, writes_quiet}
 use Rattle.mu_lead.specs.Noting.{note_of_enter, note_of_evidence}
 use Rattle.mu_lead.specs.Saying.{note_of_raise}
-use Rattle.mu_lead.specs.Standing.{StandsFor}
 use Rattle.mu_lead.specs.declared.note.Note.{Note}
 use Rattle.mu_lead.specs.declared.place.Place.{Place}
-use Rattle.mu_model.proofs.Basics.{event_by}
 use Rattle.mu_model.specs.Contents.{config_word}
-use Rattle.mu_model.specs.Parts.{IsPossible}
 use Rattle.mu_model.specs.declared.event.Target.{Target}
 use Rattle.mu_model.specs.declared.event.Verb.{Verb}
-use Rattle.std.proofs.Common.{get_or, inl, inr, length, refl, subst, sym, ◌%◌, ◌∷◌}
+use Rattle.std.proofs.Common.{get_or, inl, inr, length, refl, ◌%◌}
 use Rattle.mu_lead.proofs.lead.Lead.go_on.Goals as goal
 
-pub returns-in-Ask-clause-stands : goal.returns-in-Ask-clause-stands
-returns-in-Ask-clause-stands c = λ counts. λ mine verb heeded s due possible told.
+pub returns-in-Ask-clause-leading : goal.returns-in-Ask-clause-leading
+returns-in-Ask-clause-leading c =
     let l = c.args.self.now in
-    takes_known l c.took_ask.new.self (Place.Ask c.in-Ask.p) c.args.known.now (λ xs. Verb.Ask c.in-Ask.p) c.args.answer c.in-Ask.is (λ xs. refl) (λ mine xs. refl)
-    (λ mine s is possible told. (let x = answer_is l.config l.id (Verb.Ask c.in-Ask.p) c.args.answer mine possible in
-    subst (λ a. StandsFor (event_by l.id (Verb.Ask c.in-Ask.p) a ∷ mine) c.took_ask.new.self) (sym x.1) (c.took_ask.ensures.stands c.args.known.now mine s is (subst (λ a. IsPossible l.config l.id (event_by l.id (Verb.Ask c.in-Ask.p) a ∷ mine)) x.1 possible) told))) mine verb heeded s due possible told
+    led_so l c.took_ask.new.self (Place.Ask c.in-Ask.p) c.args.known.now (λ xs. Verb.Ask c.in-Ask.p) c.args.answer c.in-Ask.is (λ xs. refl)
+    (λ xs. led_done l c.took_ask.new.self (Place.Ask c.in-Ask.p) c.args.known.now (Verb.Ask c.in-Ask.p) c.args.answer (λ mine possible. (answer_is l.config l.id (Verb.Ask c.in-Ask.p) c.args.answer mine possible).1) (c.took_ask.ensures.leading c.args.known.now))
 
-pub returns-in-Confirm-clause-stands : goal.returns-in-Confirm-clause-stands
-returns-in-Confirm-clause-stands c = λ counts. takes_known c.args.self.now c.at_confirm.new.self (Place.Confirm c.in-Confirm.round c.in-Confirm.p) c.args.known.now (λ xs. Verb.Fence c.in-Confirm.p) c.args.answer c.in-Confirm.is (λ xs. refl) (λ mine xs. refl) (c.at_confirm.ensures.stands c.args.known.now)
+pub returns-in-Confirm-clause-leading : goal.returns-in-Confirm-clause-leading
+returns-in-Confirm-clause-leading c = led_so c.args.self.now c.at_confirm.new.self (Place.Confirm c.in-Confirm.round c.in-Confirm.p) c.args.known.now (λ xs. Verb.Fence c.in-Confirm.p) c.args.answer c.in-Confirm.is (λ xs. refl) (λ xs. c.at_confirm.ensures.leading c.args.known.now)
 
-pub returns-in-ReadMin-clause-stands : goal.returns-in-ReadMin-clause-stands
-returns-in-ReadMin-clause-stands c = λ counts. takes_known c.args.self.now c.at_read_min.new.self (Place.ReadMin c.in-ReadMin.p) c.args.known.now (λ xs. Verb.Min c.in-ReadMin.p) c.args.answer c.in-ReadMin.is (λ xs. refl) (λ mine xs. refl) (c.at_read_min.ensures.stands c.args.known.now)
+pub returns-in-ReadMin-clause-leading : goal.returns-in-ReadMin-clause-leading
+returns-in-ReadMin-clause-leading c = led_so c.args.self.now c.at_read_min.new.self (Place.ReadMin c.in-ReadMin.p) c.args.known.now (λ xs. Verb.Min c.in-ReadMin.p) c.args.answer c.in-ReadMin.is (λ xs. refl) (λ xs. c.at_read_min.ensures.leading c.args.known.now)
 
-pub returns-in-EnterMin-clause-stands : goal.returns-in-EnterMin-clause-stands
-returns-in-EnterMin-clause-stands c = λ counts. takes_known c.args.self.now c.at_enter_min.new.self (Place.EnterMin c.in-EnterMin.p) c.args.known.now (λ xs. Verb.Enter c.in-EnterMin.p Target.Min) c.args.answer c.in-EnterMin.is (λ xs. refl) (λ mine xs. refl) (c.at_enter_min.ensures.stands c.args.known.now)
+pub returns-in-EnterMin-clause-leading : goal.returns-in-EnterMin-clause-leading
+returns-in-EnterMin-clause-leading c = led_so c.args.self.now c.at_enter_min.new.self (Place.EnterMin c.in-EnterMin.p) c.args.known.now (λ xs. Verb.Enter c.in-EnterMin.p Target.Min) c.args.answer c.in-EnterMin.is (λ xs. refl) (λ xs. c.at_enter_min.ensures.leading c.args.known.now)
 
-pub returns-in-PutMin-clause-stands : goal.returns-in-PutMin-clause-stands
-returns-in-PutMin-clause-stands c = λ counts. takes_known c.args.self.now c.at_put_min.new.self (Place.PutMin c.in-PutMin.p) c.args.known.now (λ xs. Verb.PutMin c.in-PutMin.p c.args.self.now.number) c.args.answer c.in-PutMin.is (λ xs. refl) (λ mine xs. refl) (c.at_put_min.ensures.stands c.args.known.now)
+pub returns-in-PutMin-clause-leading : goal.returns-in-PutMin-clause-leading
+returns-in-PutMin-clause-leading c = led_so c.args.self.now c.at_put_min.new.self (Place.PutMin c.in-PutMin.p) c.args.known.now (λ xs. Verb.PutMin c.in-PutMin.p c.args.self.now.number) c.args.answer c.in-PutMin.is (λ xs. refl) (λ xs. c.at_put_min.ensures.leading c.args.known.now)
 
-pub returns-in-ReadFuo-clause-stands : goal.returns-in-ReadFuo-clause-stands
-returns-in-ReadFuo-clause-stands c = λ counts. takes_known c.args.self.now c.at_read_fuo.new.self (Place.ReadFuo c.in-ReadFuo.p c.in-ReadFuo.source) c.args.known.now (λ xs. Verb.Fuo c.in-ReadFuo.p) c.args.answer c.in-ReadFuo.is (λ xs. refl) (λ mine xs. refl) (c.at_read_fuo.ensures.stands)
+pub returns-in-ReadFuo-clause-leading : goal.returns-in-ReadFuo-clause-leading
+returns-in-ReadFuo-clause-leading c = led_so c.args.self.now c.at_read_fuo.new.self (Place.ReadFuo c.in-ReadFuo.p c.in-ReadFuo.source) c.args.known.now (λ xs. Verb.Fuo c.in-ReadFuo.p) c.args.answer c.in-ReadFuo.is (λ xs. refl) (λ xs. c.at_read_fuo.ensures.leading)
 
-pub returns-in-Learn-clause-stands : goal.returns-in-Learn-clause-stands
-returns-in-Learn-clause-stands c = λ counts. takes_look c.args.self.now c.took_learning.new.self (Place.Learn c.in-Learn.p) c.args.known.now c.in-Learn.p (λ xs. length xs) c.args.answer c.in-Learn.is (λ xs. refl) (λ mine s. refl) c.took_learning.ensures.stands
+pub returns-in-Learn-clause-leading : goal.returns-in-Learn-clause-leading
+returns-in-Learn-clause-leading c = led_so c.args.self.now c.took_learning.new.self (Place.Learn c.in-Learn.p) c.args.known.now (λ xs. Verb.Look c.in-Learn.p (length xs)) c.args.answer c.in-Learn.is (λ xs. refl) (λ xs. c.took_learning.ensures.leading (length xs))
 
-pub returns-in-WidenBehind-clause-stands : goal.returns-in-WidenBehind-clause-stands
-returns-in-WidenBehind-clause-stands c = λ counts. λ mine verb heeded s due possible told.
+pub returns-in-WidenBehind-clause-leading : goal.returns-in-WidenBehind-clause-leading
+returns-in-WidenBehind-clause-leading c =
     let l = c.args.self.now in
-    takes_known l c.took_widening.new.self (Place.WidenBehind c.in-WidenBehind.p c.in-WidenBehind.then) c.args.known.now (λ xs. Verb.RaiseFuo c.in-WidenBehind.p (get_or c.args.self.now.up c.in-WidenBehind.p 0)) c.args.answer c.in-WidenBehind.is (λ xs. refl) (λ mine xs. refl)
-    (λ mine s is possible told. (let x = answer_is l.config l.id (Verb.RaiseFuo c.in-WidenBehind.p (get_or c.args.self.now.up c.in-WidenBehind.p 0)) c.args.answer mine possible in
-    subst (λ a. StandsFor (event_by l.id (Verb.RaiseFuo c.in-WidenBehind.p (get_or c.args.self.now.up c.in-WidenBehind.p 0)) a ∷ mine) c.took_widening.new.self) (sym x.1) (c.took_widening.ensures.stands c.args.known.now mine s is (subst (λ a. IsPossible l.config l.id (event_by l.id (Verb.RaiseFuo c.in-WidenBehind.p (get_or c.args.self.now.up c.in-WidenBehind.p 0)) a ∷ mine)) x.1 possible) told))) mine verb heeded s due possible told
+    led_so l c.took_widening.new.self (Place.WidenBehind c.in-WidenBehind.p c.in-WidenBehind.then) c.args.known.now (λ xs. Verb.RaiseFuo c.in-WidenBehind.p (get_or c.args.self.now.up c.in-WidenBehind.p 0)) c.args.answer c.in-WidenBehind.is (λ xs. refl)
+    (λ xs. led_done l c.took_widening.new.self (Place.WidenBehind c.in-WidenBehind.p c.in-WidenBehind.then) c.args.known.now (Verb.RaiseFuo c.in-WidenBehind.p (get_or c.args.self.now.up c.in-WidenBehind.p 0)) c.args.answer (λ mine possible. (answer_is l.config l.id (Verb.RaiseFuo c.in-WidenBehind.p (get_or c.args.self.now.up c.in-WidenBehind.p 0)) c.args.answer mine possible).1) (c.took_widening.ensures.leading c.args.known.now))
 
-pub returns-in-LookBehind-clause-stands : goal.returns-in-LookBehind-clause-stands
-returns-in-LookBehind-clause-stands c = λ counts. takes_any c.args.self.now c.took_look_behind.new.self (Place.LookBehind c.in-LookBehind.p c.in-LookBehind.then) c.args.known.now (Verb.Look c.in-LookBehind.p (get_or c.args.self.now.up c.in-LookBehind.p 0)) c.args.answer c.in-LookBehind.is (λ xs. refl) (c.took_look_behind.ensures.stands c.args.known.now)
+pub returns-in-LookBehind-clause-leading : goal.returns-in-LookBehind-clause-leading
+returns-in-LookBehind-clause-leading c = led_so c.args.self.now c.took_look_behind.new.self (Place.LookBehind c.in-LookBehind.p c.in-LookBehind.then) c.args.known.now (λ xs. Verb.Look c.in-LookBehind.p (get_or c.args.self.now.up c.in-LookBehind.p 0)) c.args.answer c.in-LookBehind.is (λ xs. refl) (λ xs. c.took_look_behind.ensures.leading c.args.known.now)
 
-pub returns-in-EnterBehind-clause-stands : goal.returns-in-EnterBehind-clause-stands
-returns-in-EnterBehind-clause-stands c = λ counts. takes_known c.args.self.now c.at_enter_behind.new.self (Place.EnterBehind c.in-EnterBehind.p c.in-EnterBehind.then) c.args.known.now (λ xs. Verb.Enter c.in-EnterBehind.p (Target.Place (get_or c.args.self.now.up c.in-EnterBehind.p 0 % c.args.self.now.config.ring))) c.args.answer c.in-EnterBehind.is (λ xs. refl) (λ mine xs. refl) (c.at_enter_behind.ensures.stands c.args.known.now)
+pub returns-in-EnterBehind-clause-leading : goal.returns-in-EnterBehind-clause-leading
+returns-in-EnterBehind-clause-leading c = led_so c.args.self.now c.at_enter_behind.new.self (Place.EnterBehind c.in-EnterBehind.p c.in-EnterBehind.then) c.args.known.now (λ xs. Verb.Enter c.in-EnterBehind.p (Target.Place (get_or c.args.self.now.up c.in-EnterBehind.p 0 % c.args.self.now.config.ring))) c.args.answer c.in-EnterBehind.is (λ xs. refl) (λ xs. c.at_enter_behind.ensures.leading c.args.known.now)
 
-pub returns-in-PutBehind-clause-stands : goal.returns-in-PutBehind-clause-stands
-returns-in-PutBehind-clause-stands c = λ counts. takes_known c.args.self.now c.at_put_behind.new.self (Place.PutBehind c.in-PutBehind.p c.in-PutBehind.then) c.args.known.now (λ xs. Verb.PutSlot c.in-PutBehind.p (get_or c.args.self.now.up c.in-PutBehind.p 0) c.args.self.now.number (get_or xs (get_or c.args.self.now.up c.in-PutBehind.p 0) 0)) c.args.answer c.in-PutBehind.is (λ xs. refl) (λ mine xs. refl) (c.at_put_behind.ensures.stands)
+pub returns-in-PutBehind-clause-leading : goal.returns-in-PutBehind-clause-leading
+returns-in-PutBehind-clause-leading c = led_known c.args.self.now c.at_put_behind.new.self (Place.PutBehind c.in-PutBehind.p c.in-PutBehind.then) c.args.known.now (λ xs. Verb.PutSlot c.in-PutBehind.p (get_or c.args.self.now.up c.in-PutBehind.p 0) c.args.self.now.number (get_or xs (get_or c.args.self.now.up c.in-PutBehind.p 0) 0)) c.args.answer c.in-PutBehind.is (λ xs. refl) (λ mine xs. refl) (c.at_put_behind.ensures.leading)
 
-pub returns-in-RaiseBehind-clause-stands : goal.returns-in-RaiseBehind-clause-stands
-returns-in-RaiseBehind-clause-stands c = λ counts. λ mine verb heeded s due possible told.
+pub returns-in-RaiseBehind-clause-leading : goal.returns-in-RaiseBehind-clause-leading
+returns-in-RaiseBehind-clause-leading c =
     let l = c.args.self.now in
-    takes_known l c.took_raise_behind.new.self (Place.RaiseBehind c.in-RaiseBehind.p c.in-RaiseBehind.then) c.args.known.now (λ xs. Verb.RaiseFuo c.in-RaiseBehind.p (get_or c.args.self.now.up c.in-RaiseBehind.p 0)) c.args.answer c.in-RaiseBehind.is (λ xs. refl) (λ mine xs. refl)
-    (λ mine s is possible told. (let x = answer_is l.config l.id (Verb.RaiseFuo c.in-RaiseBehind.p (get_or c.args.self.now.up c.in-RaiseBehind.p 0)) c.args.answer mine possible in
-    subst (λ a. StandsFor (event_by l.id (Verb.RaiseFuo c.in-RaiseBehind.p (get_or c.args.self.now.up c.in-RaiseBehind.p 0)) a ∷ mine) c.took_raise_behind.new.self) (sym x.1) (c.took_raise_behind.ensures.stands mine s is (subst (λ a. IsPossible l.config l.id (event_by l.id (Verb.RaiseFuo c.in-RaiseBehind.p (get_or c.args.self.now.up c.in-RaiseBehind.p 0)) a ∷ mine)) x.1 possible) told))) mine verb heeded s due possible told
+    led_so l c.took_raise_behind.new.self (Place.RaiseBehind c.in-RaiseBehind.p c.in-RaiseBehind.then) c.args.known.now (λ xs. Verb.RaiseFuo c.in-RaiseBehind.p (get_or c.args.self.now.up c.in-RaiseBehind.p 0)) c.args.answer c.in-RaiseBehind.is (λ xs. refl)
+    (λ xs. led_done l c.took_raise_behind.new.self (Place.RaiseBehind c.in-RaiseBehind.p c.in-RaiseBehind.then) c.args.known.now (Verb.RaiseFuo c.in-RaiseBehind.p (get_or c.args.self.now.up c.in-RaiseBehind.p 0)) c.args.answer (λ mine possible. (answer_is l.config l.id (Verb.RaiseFuo c.in-RaiseBehind.p (get_or c.args.self.now.up c.in-RaiseBehind.p 0)) c.args.answer mine possible).1) (c.took_raise_behind.ensures.leading))
 
-pub returns-in-FenceBehind-clause-stands : goal.returns-in-FenceBehind-clause-stands
-returns-in-FenceBehind-clause-stands c = λ counts. takes_known c.args.self.now c.at_fence_behind.new.self (Place.FenceBehind c.in-FenceBehind.p c.in-FenceBehind.then) c.args.known.now (λ xs. Verb.Fence c.in-FenceBehind.p) c.args.answer c.in-FenceBehind.is (λ xs. refl) (λ mine xs. refl) (c.at_fence_behind.ensures.stands c.args.known.now)
+pub returns-in-FenceBehind-clause-leading : goal.returns-in-FenceBehind-clause-leading
+returns-in-FenceBehind-clause-leading c = led_so c.args.self.now c.at_fence_behind.new.self (Place.FenceBehind c.in-FenceBehind.p c.in-FenceBehind.then) c.args.known.now (λ xs. Verb.Fence c.in-FenceBehind.p) c.args.answer c.in-FenceBehind.is (λ xs. refl) (λ xs. c.at_fence_behind.ensures.leading c.args.known.now)
 
-pub returns-in-LateFence-clause-stands : goal.returns-in-LateFence-clause-stands
-returns-in-LateFence-clause-stands c = λ counts. takes_known c.args.self.now c.at_late_fence.new.self (Place.LateFence c.in-LateFence.p) c.args.known.now (λ xs. Verb.Fence c.in-LateFence.p) c.args.answer c.in-LateFence.is (λ xs. refl) (λ mine xs. refl) (c.at_late_fence.ensures.stands)
+pub returns-in-LateFence-clause-leading : goal.returns-in-LateFence-clause-leading
+returns-in-LateFence-clause-leading c = led_so c.args.self.now c.at_late_fence.new.self (Place.LateFence c.in-LateFence.p) c.args.known.now (λ xs. Verb.Fence c.in-LateFence.p) c.args.answer c.in-LateFence.is (λ xs. refl) (λ xs. c.at_late_fence.ensures.leading)
 
-pub returns-in-LateMin-clause-stands : goal.returns-in-LateMin-clause-stands
-returns-in-LateMin-clause-stands c = λ counts. takes_known c.args.self.now c.at_late_min.new.self (Place.LateMin c.in-LateMin.p) c.args.known.now (λ xs. Verb.Min c.in-LateMin.p) c.args.answer c.in-LateMin.is (λ xs. refl) (λ mine xs. refl) (c.at_late_min.ensures.stands c.args.known.now)
+pub returns-in-LateMin-clause-leading : goal.returns-in-LateMin-clause-leading
+returns-in-LateMin-clause-leading c = led_so c.args.self.now c.at_late_min.new.self (Place.LateMin c.in-LateMin.p) c.args.known.now (λ xs. Verb.Min c.in-LateMin.p) c.args.answer c.in-LateMin.is (λ xs. refl) (λ xs. c.at_late_min.ensures.leading c.args.known.now)
 
-pub returns-in-LateFuo-clause-stands : goal.returns-in-LateFuo-clause-stands
-returns-in-LateFuo-clause-stands c = λ counts. takes_known c.args.self.now c.at_late_fuo.new.self (Place.LateFuo c.in-LateFuo.p) c.args.known.now (λ xs. Verb.Fuo c.in-LateFuo.p) c.args.answer c.in-LateFuo.is (λ xs. refl) (λ mine xs. refl) (c.at_late_fuo.ensures.stands)
+pub returns-in-LateFuo-clause-leading : goal.returns-in-LateFuo-clause-leading
+returns-in-LateFuo-clause-leading c = led_so c.args.self.now c.at_late_fuo.new.self (Place.LateFuo c.in-LateFuo.p) c.args.known.now (λ xs. Verb.Fuo c.in-LateFuo.p) c.args.answer c.in-LateFuo.is (λ xs. refl) (λ xs. c.at_late_fuo.ensures.leading)
 
-pub returns-in-LateEnter-clause-stands : goal.returns-in-LateEnter-clause-stands
-returns-in-LateEnter-clause-stands c = λ counts. takes_known c.args.self.now c.at_late_enter.new.self (Place.LateEnter c.in-LateEnter.p) c.args.known.now (λ xs. Verb.Enter c.in-LateEnter.p Target.Min) c.args.answer c.in-LateEnter.is (λ xs. refl) (λ mine xs. refl) (c.at_late_enter.ensures.stands c.args.known.now)
+pub returns-in-LateEnter-clause-leading : goal.returns-in-LateEnter-clause-leading
+returns-in-LateEnter-clause-leading c = led_so c.args.self.now c.at_late_enter.new.self (Place.LateEnter c.in-LateEnter.p) c.args.known.now (λ xs. Verb.Enter c.in-LateEnter.p Target.Min) c.args.answer c.in-LateEnter.is (λ xs. refl) (λ xs. c.at_late_enter.ensures.leading c.args.known.now)
 
-pub returns-in-LatePut-clause-stands : goal.returns-in-LatePut-clause-stands
-returns-in-LatePut-clause-stands c = λ counts. takes_known c.args.self.now c.at_late_put.new.self (Place.LatePut c.in-LatePut.p) c.args.known.now (λ xs. Verb.PutMin c.in-LatePut.p c.args.self.now.number) c.args.answer c.in-LatePut.is (λ xs. refl) (λ mine xs. refl) (c.at_late_put.ensures.stands)
+pub returns-in-LatePut-clause-leading : goal.returns-in-LatePut-clause-leading
+returns-in-LatePut-clause-leading c = led_so c.args.self.now c.at_late_put.new.self (Place.LatePut c.in-LatePut.p) c.args.known.now (λ xs. Verb.PutMin c.in-LatePut.p c.args.self.now.number) c.args.answer c.in-LatePut.is (λ xs. refl) (λ xs. c.at_late_put.ensures.leading)
 
-pub returns-in-ReadHead-clause-stands : goal.returns-in-ReadHead-clause-stands
-returns-in-ReadHead-clause-stands c = λ counts. takes_head c.args.self.now c.at_read_head.new.self c.in-ReadHead.q c.in-ReadHead.candidate c.args.known.now c.args.answer c.in-ReadHead.is c.at_read_head.ensures.stands
+pub returns-in-ReadHead-clause-leading : goal.returns-in-ReadHead-clause-leading
+returns-in-ReadHead-clause-leading c = led_so c.args.self.now c.at_read_head.new.self (Place.ReadHead c.in-ReadHead.q c.in-ReadHead.candidate) c.args.known.now (λ xs. Verb.Head c.in-ReadHead.q) c.args.answer c.in-ReadHead.is (λ xs. refl) (λ xs. c.at_read_head.ensures.leading)
 
-pub returns-in-Look-clause-stands : goal.returns-in-Look-clause-stands
-returns-in-Look-clause-stands c = λ counts. takes_look_at c.args.self.now c.took_look.new.self (Place.Look c.in-Look.p c.in-Look.i c.in-Look.candidate c.in-Look.best) c.args.known.now c.in-Look.p c.in-Look.i c.args.answer c.in-Look.is (λ xs. refl) (λ mine s. (rw c.in-Look.is at s.at).position) (c.took_look.ensures.stands counts)
+pub returns-in-Look-clause-leading : goal.returns-in-Look-clause-leading
+returns-in-Look-clause-leading c = led_so c.args.self.now c.took_look.new.self (Place.Look c.in-Look.p c.in-Look.i c.in-Look.candidate c.in-Look.best) c.args.known.now (λ xs. Verb.Look c.in-Look.p c.in-Look.i) c.args.answer c.in-Look.is (λ xs. refl) (λ xs. c.took_look.ensures.leading)
 
-pub returns-in-Write-clause-stands : goal.returns-in-Write-clause-stands
-returns-in-Write-clause-stands c = λ counts. λ mine verb heeded s due possible told.
+pub returns-in-Write-clause-leading : goal.returns-in-Write-clause-leading
+returns-in-Write-clause-leading c =
     let l = c.args.self.now in
-    takes_known l c.took_write.new.self (Place.Write c.in-Write.j c.in-Write.last c.in-Write.offer) c.args.known.now (λ xs. Verb.WriteRow c.in-Write.j (get_or c.args.self.now.written.items c.in-Write.j 12) (config_word c.args.self.now.config c.in-Write.j (get_or c.args.self.now.written.items c.in-Write.j 12))) c.args.answer c.in-Write.is (λ xs. refl) (λ mine xs. refl)
-    (λ mine s is possible told. (let x = answer_is l.config l.id (Verb.WriteRow c.in-Write.j (get_or c.args.self.now.written.items c.in-Write.j 12) (config_word c.args.self.now.config c.in-Write.j (get_or c.args.self.now.written.items c.in-Write.j 12))) c.args.answer mine possible in
-    subst (λ a. StandsFor (event_by l.id (Verb.WriteRow c.in-Write.j (get_or c.args.self.now.written.items c.in-Write.j 12) (config_word c.args.self.now.config c.in-Write.j (get_or c.args.self.now.written.items c.in-Write.j 12))) a ∷ mine) c.took_write.new.self) (sym x.1) (c.took_write.ensures.stands c.args.known.now mine s is (subst (λ a. IsPossible l.config l.id (event_by l.id (Verb.WriteRow c.in-Write.j (get_or c.args.self.now.written.items c.in-Write.j 12) (config_word c.args.self.now.config c.in-Write.j (get_or c.args.self.now.written.items c.in-Write.j 12))) a ∷ mine)) x.1 possible) told))) mine verb heeded s due possible told
+    led_so l c.took_write.new.self (Place.Write c.in-Write.j c.in-Write.last c.in-Write.offer) c.args.known.now (λ xs. Verb.WriteRow c.in-Write.j (get_or c.args.self.now.written.items c.in-Write.j 12) (config_word c.args.self.now.config c.in-Write.j (get_or c.args.self.now.written.items c.in-Write.j 12))) c.args.answer c.in-Write.is (λ xs. refl)
+    (λ xs. led_done l c.took_write.new.self (Place.Write c.in-Write.j c.in-Write.last c.in-Write.offer) c.args.known.now (Verb.WriteRow c.in-Write.j (get_or c.args.self.now.written.items c.in-Write.j 12) (config_word c.args.self.now.config c.in-Write.j (get_or c.args.self.now.written.items c.in-Write.j 12))) c.args.answer (λ mine possible. (answer_is l.config l.id (Verb.WriteRow c.in-Write.j (get_or c.args.self.now.written.items c.in-Write.j 12) (config_word c.args.self.now.config c.in-Write.j (get_or c.args.self.now.written.items c.in-Write.j 12))) c.args.answer mine possible).1) (c.took_write.ensures.leading c.args.known.now))
 
-pub returns-in-Enter-clause-stands : goal.returns-in-Enter-clause-stands
-returns-in-Enter-clause-stands c = λ counts. takes_known c.args.self.now c.at_enter.new.self (Place.Enter c.in-Enter.p c.in-Enter.offer) c.args.known.now (λ xs. Verb.Enter c.in-Enter.p (Target.Place (length xs % c.args.self.now.config.ring))) c.args.answer c.in-Enter.is (λ xs. refl) (λ mine xs. refl) (c.at_enter.ensures.stands)
+pub returns-in-Enter-clause-leading : goal.returns-in-Enter-clause-leading
+returns-in-Enter-clause-leading c = led_known c.args.self.now c.at_enter.new.self (Place.Enter c.in-Enter.p c.in-Enter.offer) c.args.known.now (λ xs. Verb.Enter c.in-Enter.p (Target.Place (length xs % c.args.self.now.config.ring))) c.args.answer c.in-Enter.is (λ xs. refl) (λ mine xs. refl) (c.at_enter.ensures.leading)
 
-pub returns-in-Put-clause-stands : goal.returns-in-Put-clause-stands
-returns-in-Put-clause-stands c = λ counts. takes_known c.args.self.now c.at_put.new.self (Place.Put c.in-Put.p c.in-Put.offer) c.args.known.now (λ xs. Verb.PutSlot c.in-Put.p (length xs) c.args.self.now.number c.in-Put.offer.value) c.args.answer c.in-Put.is (λ xs. refl) (λ mine xs. refl) (c.at_put.ensures.stands)
+pub returns-in-Put-clause-leading : goal.returns-in-Put-clause-leading
+returns-in-Put-clause-leading c = led_known c.args.self.now c.at_put.new.self (Place.Put c.in-Put.p c.in-Put.offer) c.args.known.now (λ xs. Verb.PutSlot c.in-Put.p (length xs) c.args.self.now.number c.in-Put.offer.value) c.args.answer c.in-Put.is (λ xs. refl) (λ mine xs. refl) (c.at_put.ensures.leading)
 
-pub returns-in-Raise-clause-stands : goal.returns-in-Raise-clause-stands
-returns-in-Raise-clause-stands c = λ counts. λ mine verb heeded s due possible told.
+pub returns-in-Raise-clause-leading : goal.returns-in-Raise-clause-leading
+returns-in-Raise-clause-leading c =
     let l = c.args.self.now in
-    takes_known l c.took_raise.new.self (Place.Raise c.in-Raise.p) c.args.known.now (λ xs. Verb.RaiseFuo c.in-Raise.p (length xs)) c.args.answer c.in-Raise.is (λ xs. refl) (λ mine xs. refl)
-    (λ mine s is possible told. (let x = answer_is l.config l.id (Verb.RaiseFuo c.in-Raise.p (length c.args.known.now)) c.args.answer mine possible in
-    subst (λ a. StandsFor (event_by l.id (Verb.RaiseFuo c.in-Raise.p (length c.args.known.now)) a ∷ mine) c.took_raise.new.self) (sym x.1) (c.took_raise.ensures.stands mine s is (subst (λ a. IsPossible l.config l.id (event_by l.id (Verb.RaiseFuo c.in-Raise.p (length c.args.known.now)) a ∷ mine)) x.1 possible) told))) mine verb heeded s due possible told
+    led_known l c.took_raise.new.self (Place.Raise c.in-Raise.p) c.args.known.now (λ xs. Verb.RaiseFuo c.in-Raise.p (length xs)) c.args.answer c.in-Raise.is (λ xs. refl) (λ mine xs. refl)
+    (led_done l c.took_raise.new.self (Place.Raise c.in-Raise.p) c.args.known.now (Verb.RaiseFuo c.in-Raise.p (length c.args.known.now)) c.args.answer (λ mine possible. (answer_is l.config l.id (Verb.RaiseFuo c.in-Raise.p (length c.args.known.now)) c.args.answer mine possible).1) (c.took_raise.ensures.leading))
 
-pub returns-in-Evidence-clause-stands : goal.returns-in-Evidence-clause-stands
-returns-in-Evidence-clause-stands c = λ counts. takes_known c.args.self.now c.at_evidence.new.self (Place.Evidence c.in-Evidence.p) c.args.known.now (λ xs. Verb.Fence c.in-Evidence.p) c.args.answer c.in-Evidence.is (λ xs. refl) (λ mine xs. refl) (c.at_evidence.ensures.stands c.args.known.now)
+pub returns-in-Evidence-clause-leading : goal.returns-in-Evidence-clause-leading
+returns-in-Evidence-clause-leading c = led_so c.args.self.now c.at_evidence.new.self (Place.Evidence c.in-Evidence.p) c.args.known.now (λ xs. Verb.Fence c.in-Evidence.p) c.args.answer c.in-Evidence.is (λ xs. refl) (λ xs. c.at_evidence.ensures.leading c.args.known.now)
 
 pub returns-in-Ask-clause-listed : goal.returns-in-Ask-clause-listed
 returns-in-Ask-clause-listed c = λ counts.

@@ -1,4 +1,4 @@
-use Rattle.mu_lead.proofs.lead.Lead.take.Goals as goal
+use Rattle.mu_lead.proofs.StandsTaken.{stands_due}
 use Rattle.mu_lead.proofs.Causes.{asks_have_cause}
 use Rattle.mu_lead.proofs.Elections.{elects_next}
 use Rattle.mu_lead.proofs.Folding.{where_led}
@@ -17,6 +17,7 @@ use Rattle.mu_lead.specs.Welcomes.{JoinsAt}
 use Rattle.mu_model.specs.Contents.{IsConfig}
 use Rattle.mu_model.specs.Knowledge.{grown}
 use Rattle.std.proofs.Common.{ap, subst, sym, ◌||◌, ◌∙◌}
+use Rattle.mu_lead.proofs.lead.Lead.take.Goals as goal
 
 pub returns-clause-says : goal.returns-clause-says
 returns-clause-says g c = says_told g.mine c.args.self.now c.args.known.now c.args.answer c.take_answer-note.result c.with_idle.result c.requires.1 c.requires.0 c.take_answer-note.ensures.noted c.with_idle.ensures.kind (subst (λ k. TellsAll k c.args.known.now c.take_answer-note.result c.with_idle.result) c.take_answer-note.ensures.config (λ few session. c.with_idle.ensures.all few (subst IsConfig (sym c.take_answer-note.ensures.config) c.requires.0.config) session))
@@ -46,16 +47,19 @@ pub returns-clause-causes : goal.returns-clause-causes
 returns-clause-causes g c = λ counts. let took = c.take_answer-note in kept CausesAt g.mine c.args.self.now took.new.self c.args.known.now c.args.answer asks_have_cause c.requires.0 c.requires.1 (took.ensures.listed counts)
 
 pub returns-clause-elects : goal.returns-clause-elects
-returns-clause-elects g c = λ counts. let took = c.take_answer-note in elects_next g.mine c.args.self.now took.new.self c.args.known.now c.args.answer c.requires.0 c.requires.1 (took.ensures.stands counts) (took.ensures.listed counts) took.ensures.config took.ensures.id
+returns-clause-elects g c = λ counts. let took = c.take_answer-note in elects_next g.mine c.args.self.now took.new.self c.args.known.now c.args.answer c.requires.0 c.requires.1 (stands_due c.args.self.now took.new.self c.args.known.now c.args.answer took.ensures.config took.ensures.id took.ensures.leading took.ensures.writes (took.ensures.listed counts)) (took.ensures.listed counts) took.ensures.config took.ensures.id
 
 pub returns-clause-listed : goal.returns-clause-listed
 returns-clause-listed g c = λ counts verb due possible told. c.take_answer-note.ensures.listed counts g.mine verb c.requires.1 c.requires.0 due possible told
 
 pub returns-clause-rooms : goal.returns-clause-rooms
-returns-clause-rooms g c = λ counts. let took = c.take_answer-note in rooms_next g.mine c.args.self.now took.new.self c.args.known.now c.args.answer c.requires.0 c.requires.1 took.ensures.config took.ensures.id took.ensures.writes (took.ensures.stands counts) (took.ensures.listed counts)
+returns-clause-rooms g c = λ counts. let took = c.take_answer-note in rooms_next g.mine c.args.self.now took.new.self c.args.known.now c.args.answer c.requires.0 c.requires.1 took.ensures.config took.ensures.id took.ensures.writes (stands_due c.args.self.now took.new.self c.args.known.now c.args.answer took.ensures.config took.ensures.id took.ensures.leading took.ensures.writes (took.ensures.listed counts)) (took.ensures.listed counts)
 
 pub returns-clause-writes : goal.returns-clause-writes
 returns-clause-writes g c = λ verb due possible told. c.take_answer-note.ensures.writes g.mine verb c.requires.0 due possible told
 
 pub returns-clause-placed : goal.returns-clause-placed
 returns-clause-placed g c = λ counts. let took = c.take_answer-note in where_led g.mine c.args.self.now took.new.self c.args.known.now c.args.answer took.result c.requires.0 c.requires.1 took.ensures.noted took.ensures.writes (took.ensures.listed counts) took.ensures.going
+
+pub returns-clause-stands : goal.returns-clause-stands
+returns-clause-stands g c = λ counts verb due possible told. let took = c.take_answer-note in stands_due c.args.self.now took.new.self c.args.known.now c.args.answer took.ensures.config took.ensures.id took.ensures.leading took.ensures.writes (took.ensures.listed counts) g.mine verb c.requires.1 c.requires.0 due possible told

@@ -1,8 +1,3 @@
-use Rattle.mu_lead.proofs.Asking.{fresh_fenced}
-use Rattle.mu_lead.proofs.StandsFirsts.{round_stands}
-use Rattle.mu_lead.proofs.StandsOnward.{stands_there}
-use Rattle.mu_lead.proofs.Tables.{tables_kept}
-use Rattle.mu_lead.specs.Lasting.{tables_of}
 use Rattle.mu_lead.specs.Noting.{note_of_round}
 use Rattle.mu_lead.specs.declared.note.Note.{Note}
 use Rattle.mu_lead.specs.declared.place.Place.{Place}
@@ -14,31 +9,11 @@ use Rattle.std.proofs.lemmas.Bool.{le-ltb, lt-ltb}
 use Rattle.std.specs.Prelude.{if◌then◌else◌}
 use Rattle.mu_lead.proofs.lead.Lead.took_fence.Goals as goal
 
-pub returns-then-next-self-clause-stands : goal.returns-then-next-self-clause-stands
-returns-then-next-self-clause-stands c = λ values mine s is possible told.
-    let l = c.args.self.now in
-    let here = rw is at s.at in
-    let leading = c.take.ensures l.config mine s.config.replicas.1 possible s.leading in
-    record {
-      config = s.config;
-      inside = s.inside;
-      leading = leading;
-      tables = tables_kept l.config l.id _ mine l.up l.reach l.heads l.written.items possible refl refl s.tables;
-      at = (here.0, record { region = c.if-next-self.true; fresh = fresh_fenced l.id c.args.p c.args.fence mine here.1.fresh });
-    }
+pub returns-then-next-self-clause-leading : goal.returns-then-next-self-clause-leading
+returns-then-next-self-clause-leading c = λ values mine s is possible told. record { leading = c.take.ensures c.args.self.now.config mine s.config.replicas.1 possible s.leading; number = refl }
 
-pub returns-else-next-self-clause-stands : goal.returns-else-next-self-clause-stands
-returns-else-next-self-clause-stands c = λ values mine s is possible told.
-    let l = c.args.self.now in
-    let here = rw is at s.at in
-    let leading = c.take.ensures l.config mine s.config.replicas.1 possible s.leading in
-    record {
-      config = s.config;
-      inside = s.inside;
-      leading = leading;
-      tables = tables_kept l.config l.id _ mine l.up l.reach l.heads l.written.items possible refl refl s.tables;
-      at = stands_there l.config l.id l.number _ (tables_of l) _ _ (c.after_round-self.ensures (event_by l.id (Verb.Fence c.args.p) (Answer.Seen c.args.fence) ∷ mine) s.config.replicas.1 s.inside leading) (round_stands l.config l.id l.number c.args.round _ (tables_of l) s.inside here.0 (fresh_fenced l.id c.args.p c.args.fence mine here.1.fresh));
-    }
+pub returns-else-next-self-clause-leading : goal.returns-else-next-self-clause-leading
+returns-else-next-self-clause-leading c = λ values mine s is possible told. record { leading = c.take.ensures c.args.self.now.config mine s.config.replicas.1 possible s.leading; number = refl }
 
 pub returns-then-next-self-clause-listed : goal.returns-then-next-self-clause-listed
 returns-then-next-self-clause-listed c = λ values mine s is possible told.
