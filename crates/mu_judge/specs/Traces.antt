@@ -56,12 +56,12 @@ are_legal [] = true
 are_legal (said ∷ saids) = is_legal said && are_legal saids
 
 -- the bytes of the first trace
-abbrev pub first_of : List ℕ → List ℕ
-first_of bytes = option_map_or (λ parts. parts.0) (cut bytes) bytes
+abbrev pub first_trace : List ℕ → List ℕ
+first_trace bytes = option_map_or (λ parts. parts.0) (cut bytes) bytes
 
 -- what is said of the first traces of the bytes, in order, and of the one after them
 abbrev pub SaysOfFirst : List ℕ → List Said → Said → Type 0
-SaysOfFirst bytes [] last = SaysOf (first_of bytes) last
+SaysOfFirst bytes [] last = SaysOf (first_trace bytes) last
 SaysOfFirst bytes (said ∷ saids) last =
     MatchOption (cut bytes) ⊥ (λ parts. SaysOf parts.0 said × SaysOfFirst parts.1 saids last)
 
