@@ -7,7 +7,7 @@ use Rattle.mu_io.specs.declared.whole.WriteFault.{WriteFault}
 use Rattle.mu_report.specs.declared.said.Said.{Said}
 use Rattle.mu_judging.specs.Judged.{SaysOf}
 use Rattle.mu_report.specs.Said.{text}
-use Rattle.mu_judge.specs.Traces.{JudgesAll, JudgesOne, JudgesPart, JudgesSome, SaysOfAll, SaysOfFirst, are_legal, cut, first_of, is_legal, texts}
+use Rattle.mu_judge.specs.Traces.{JudgesAll, JudgesOne, JudgesPart, JudgesSome, SaysOfAll, SaysOfFirst, are_legal, cut, first_trace, is_legal, texts}
 
 -- the traces before the rest were judged, and whether all of them are legal
 pub record JudgedUpTo (bytes rest : List ℕ) (before after : Option (List ℕ)) (legal : Bool) : Type 0 where
@@ -83,7 +83,7 @@ judged_end bytes rest a b c legal one p is q = record {
 }
 
 -- the sink failed at the line of the first trace of the rest
-pub judged_some : (bytes rest trace : List ℕ) (a b c : Option (List ℕ)) (legal : Bool) (taken : ℕ) → JudgedUpTo bytes rest a b legal → first_of rest ≡ trace → JudgesPart trace b c taken
+pub judged_some : (bytes rest trace : List ℕ) (a b c : Option (List ℕ)) (legal : Bool) (taken : ℕ) → JudgedUpTo bytes rest a b legal → first_trace rest ≡ trace → JudgesPart trace b c taken
     → JudgesSome bytes a c taken
 judged_some bytes rest trace a b c legal taken p is q = record {
   saids = p.saids;
@@ -94,14 +94,14 @@ judged_some bytes rest trace a b c legal taken p is q = record {
 }
 
 -- the first trace ends at the first separator, and is the whole where there is none
-pub first_cut : (rest trace more : List ℕ) → cut rest ≡ Some (trace, more) → first_of rest ≡ trace
+pub first_cut : (rest trace more : List ℕ) → cut rest ≡ Some (trace, more) → first_trace rest ≡ trace
 first_cut rest trace more is = ap (λ parts. option_map_or (λ (p : List ℕ × List ℕ). p.0) parts rest) is
 
-pub first_whole : (rest : List ℕ) → cut rest ≡ None → first_of rest ≡ rest
+pub first_whole : (rest : List ℕ) → cut rest ≡ None → first_trace rest ≡ rest
 first_whole rest is = ap (λ parts. option_map_or (λ (p : List ℕ × List ℕ). p.0) parts rest) is
 
 -- where its line was not written whole
 pub judged_some_of : {T : Type 0} (bytes rest trace : List ℕ) (a b c : Option (List ℕ)) (legal : Bool) (r : Result T WriteFault) → JudgedUpTo bytes rest a b legal
-    → first_of rest ≡ trace → IfErr r (λ fault. JudgesPart trace b c fault.taken) → IfErr r (λ fault. JudgesSome bytes a c fault.taken)
+    → first_trace rest ≡ trace → IfErr r (λ fault. JudgesPart trace b c fault.taken) → IfErr r (λ fault. JudgesSome bytes a c fault.taken)
 judged_some_of bytes rest trace a b c legal (Ok x) p is q = tt
 judged_some_of bytes rest trace a b c legal (Err fault) p is q = judged_some bytes rest trace a b c legal fault.taken p is q

@@ -7,12 +7,14 @@ use Rattle.std.specs.Option.{option_map, option_map_or}
 use Rattle.std.specs.Str.{bytes_eq}
 use Rattle.std.specs.Io.KnownBytes.{Appends}
 use Rattle.mu_io.specs.Faults.{Rose}
+use Rattle.mu_io.specs.declared.whole.ReadEnd.{ReadEnd}
 use Rattle.mu_outcome.specs.Statuses.{code_of}
 use Rattle.mu_outcome.specs.declared.status.Status.{Status}
 use Rattle.mu_outcome.specs.declared.verdict.Verdict.{Verdict}
 use Rattle.mu_report.specs.declared.said.Said.{Said}
 use Rattle.mu_judging.specs.Judged.{SaysOf}
-use Rattle.mu_report.specs.Said.{text}
+use Rattle.mu_report.specs.Said.{said_of_read, text}
+use Rattle.mu_report.specs.Statuses.{status_for}
 use Rattle.mu_judge.specs.declared.judging.TheConstants.{INPUT_LIMIT}
 use Rattle.mu_judge.specs.declared.judging.End.{End}
 
@@ -54,12 +56,12 @@ are_legal [] = true
 are_legal (said ∷ saids) = is_legal said && are_legal saids
 
 -- the bytes of the first trace
-abbrev pub first_of : List ℕ → List ℕ
-first_of bytes = option_map_or (λ parts. parts.0) (cut bytes) bytes
+abbrev pub first_trace : List ℕ → List ℕ
+first_trace bytes = option_map_or (λ parts. parts.0) (cut bytes) bytes
 
 -- what is said of the first traces of the bytes, in order, and of the one after them
 abbrev pub SaysOfFirst : List ℕ → List Said → Said → Type 0
-SaysOfFirst bytes [] last = SaysOf (first_of bytes) last
+SaysOfFirst bytes [] last = SaysOf (first_trace bytes) last
 SaysOfFirst bytes (said ∷ saids) last =
     MatchOption (cut bytes) ⊥ (λ parts. SaysOf parts.0 said × SaysOfFirst parts.1 saids last)
 
@@ -98,27 +100,28 @@ pub record JudgesSome (bytes : List ℕ) (before after : Option (List ℕ)) (tak
 abbrev pub Stops : Option (List ℕ) → Option (List ℕ) → Option (List ℕ) → End → Type 0
 Stops left before after End.WriteFault =
     IfSome left (λ bytes. (taken : ℕ) × JudgesSome bytes before after taken)
-Stops left before after End.TooLong =
+Stops left before after (End.Unread ReadEnd.TooLong) =
     IfSome left (λ bytes. INPUT_LIMIT < length bytes) × (after ≡ before)
-Stops left before after End.ReadFault = after ≡ before
-Stops left before after End.NoMemory = after ≡ before
+Stops left before after (End.Unread ReadEnd.Fault) = after ≡ before
+Stops left before after (End.Unread ReadEnd.NoMemory) = after ≡ before
 
 -- a fault comes if the count of the source's or the sink's faults rose; at each other end neither
 -- did
 abbrev pub HasFault : ℕ → ℕ → ℕ → ℕ → End → Type 0
-HasFault read now_read wrote now_wrote End.ReadFault = Rose read now_read
+HasFault read now_read wrote now_wrote (End.Unread ReadEnd.Fault) = Rose read now_read
 HasFault read now_read wrote now_wrote End.WriteFault = Rose wrote now_wrote
-HasFault read now_read wrote now_wrote End.NoMemory = (now_read ≡ read) × (now_wrote ≡ wrote)
-HasFault read now_read wrote now_wrote End.TooLong = (now_read ≡ read) × (now_wrote ≡ wrote)
+HasFault read now_read wrote now_wrote (End.Unread ReadEnd.NoMemory) =
+    (now_read ≡ read) × (now_wrote ≡ wrote)
+HasFault read now_read wrote now_wrote (End.Unread ReadEnd.TooLong) =
+    (now_read ≡ read) × (now_wrote ≡ wrote)
 
--- how the program ends: by whether all traces are legal, or by why not all were judged
+-- how the program ends: by whether all traces are legal, or by why not all were judged; if the
+-- input was not read, as `mu check` ends
 abbrev pub status_after : Result Bool End → Status
 status_after (Ok true) = Status.Done
 status_after (Ok false) = Status.Illegal
-status_after (Err End.ReadFault) = Status.ReadFault
+status_after (Err (End.Unread end)) = status_for (said_of_read end)
 status_after (Err End.WriteFault) = Status.WriteFault
-status_after (Err End.NoMemory) = Status.NoMemory
-status_after (Err End.TooLong) = Status.TooLong
 
 -- the number of that status
 abbrev pub status_of : Result Bool End → ℕ

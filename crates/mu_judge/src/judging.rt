@@ -3,6 +3,7 @@ ghost use Rattle.std.specs.Prelude.{◌≡◌, ◌<◌, ◌≤◌, length, take,
 ghost use Rattle.std.specs.Io.KnownBytes.{Appends};
 ghost use Rattle.mu_io.specs.Faults.{Rose};
 ghost use Rattle.mu_io.specs.Whole.{TakesAtMost};
+ghost use Rattle.mu_io.specs.declared.whole.ReadEnd.{ReadEnd as SomeReadEnd};
 ghost use Rattle.mu_input.specs.declared.TheConstants.{TRACE_LIMIT};
 ghost use Rattle.mu_report.specs.Said.{text, IsShort};
 ghost use Rattle.mu_judge.specs.Traces.{HasFault, JudgesAll, JudgesOne, JudgesPart, JudgesSome, Stops, is_legal as is_legal_said, status_after as status_after_end, status_of};
@@ -12,7 +13,7 @@ use crate::cutting::cut;
 use mu_io::{ReadEnd, Sink, Source, WriteFault, read_all};
 use mu_judging::judge;
 use mu_outcome::{Status, Verdict};
-use mu_report::{Said, print};
+use mu_report::{Said, print, status_for};
 use std::alloc::Global;
 
 /// The most bytes that an input may have.
@@ -26,14 +27,10 @@ pub fn limit_is_stated()
 /// Why not all traces were judged.
 #[derive(Clone, Copy, Debug, PartialEq, Eq)]
 pub enum End {
-    /// The input couldn't be read.
-    ReadFault,
+    /// The input was not read.
+    Unread(ReadEnd),
     /// A line couldn't be written.
     WriteFault,
-    /// There was no memory for the input.
-    NoMemory,
-    /// The input has more bytes than the limit.
-    TooLong,
 }
 
 /// The status that the program ends with: 0 if all traces are legal, 7 if one is not, else 4 read
@@ -51,10 +48,8 @@ fn status_after(end: Result<bool, End>) -> Status
     match end {
         Ok(true) => Status::Done,
         Ok(false) => Status::Illegal,
-        Err(End::ReadFault) => Status::ReadFault,
+        Err(End::Unread(end)) => status_for(&Said::from(end)),
         Err(End::WriteFault) => Status::WriteFault,
-        Err(End::NoMemory) => Status::NoMemory,
-        Err(End::TooLong) => Status::TooLong,
     }
 }
 
@@ -93,15 +88,14 @@ pub fn judge_input<S: Source, K: Sink>(
         (Stops (S.left source.old) (K.written sink.old) (K.written sink.new)) }
     ensures fault { IfErr result (HasFault
         (S.faults source.old) (S.faults source.new) (K.faults sink.old) (K.faults sink.new)) }
-    ensures memory { IfErr result (λ end. end ≡ SomeEnd.NoMemory → source.new ≡ source.old) }
-    ensures taken { IfErr result (λ end. end ≡ SomeEnd.ReadFault
+    ensures memory { IfErr result (λ end. end ≡ SomeEnd.Unread SomeReadEnd.NoMemory
+        → source.new ≡ source.old) }
+    ensures taken { IfErr result (λ end. end ≡ SomeEnd.Unread SomeReadEnd.Fault
         → TakesAtMost (S.left source.old) (S.left source.new) INPUT_LIMIT) }
 {
     let bytes = match read_all(alloc, source, INPUT_LIMIT) {
         Ok(bytes) => bytes,
-        Err(ReadEnd::Fault) => return Err(End::ReadFault),
-        Err(ReadEnd::TooLong) => return Err(End::TooLong),
-        Err(ReadEnd::NoMemory) => return Err(End::NoMemory),
+        Err(end) => return Err(End::Unread(end)),
     };
     match judge_bytes(alloc, bytes.as_slice(), sink) {
         Ok(legal) => Ok(legal),

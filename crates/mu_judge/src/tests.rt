@@ -1,6 +1,6 @@
 //! How an input is cut, and how a run ends, over a source and a sink in memory.
 use super::*;
-use mu_io::{MemSink, MemSource};
+use mu_io::{MemSink, MemSource, ReadEnd};
 use std::alloc::{AllocError, Global};
 use std::test::Fail;
 
@@ -62,7 +62,7 @@ fn judges_each_trace(rt: HostRuntime) -> Result<(), Fail> {
 #[test]
 fn ends_at_faults(rt: HostRuntime) -> Result<(), Fail> {
     let unread = after(rt.alloc(), TWO, 2, 0)?;
-    assert_eq!(rt; unread.end, Some(End::ReadFault));
+    assert_eq!(rt; unread.end, Some(End::Unread(ReadEnd::Fault)));
     assert_eq!(rt; unread.sink.written(), b"".as_slice());
     let unwritten = after(rt.alloc(), TWO, 0, 2)?;
     assert_eq!(rt; unwritten.end, Some(End::WriteFault));

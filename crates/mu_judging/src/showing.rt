@@ -39,7 +39,12 @@ pub fn show_trace(alloc: Global, bytes: &[u8], count: u32) -> Said
             broken,
         };
     }
-    match moment_of(alloc, &job.config, events, first_of(count, events.len())) {
+    match moment_of(
+        alloc,
+        &job.config,
+        events,
+        count_within(count, events.len()),
+    ) {
         Ok(moment) => Said::Shown(moment),
         Err(_) => Said::NoMemory,
     }
@@ -56,7 +61,7 @@ fn is_broken_before(broken: &Option<Broken>, count: u32) -> bool
 }
 
 /// How many events stand among the first `count`: no more than there are.
-fn first_of(count: u32, events: usize) -> usize
+fn count_within(count: u32, events: usize) -> usize
     ensures { result ≡ min count events }
 {
     (count as usize).min(events)

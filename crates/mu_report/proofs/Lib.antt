@@ -8,4 +8,4 @@ mod Pushes
 mod Sentences
 mod Sizes
 mod Summaries
-mod Traces
+pub mod Traces

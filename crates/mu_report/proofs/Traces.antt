@@ -1,16 +1,21 @@
 -- The lines of a trace, taken from the front.
 use Rattle.std.proofs.Common.{◌≡◌, ℕ, zero, suc, ◌+◌, ◌*◌, ◌-◌, ◌<◌, ◌≤◌, ◌^◌, ◌==◌, Bool, true, false, cond, List, [], ◌∷◌, ◌++◌, refl, sym, ap, ◌∙◌, length, drop, map, get_or, arith, length-append}
 use Rattle.std.specs.Fmt.{decimal}
-use Rattle.std.specs.Prelude.{codes, nat_lt}
-use Rattle.std.proofs.lemmas.Bool.{ltb-true}
-use Rattle.std.proofs.lemmas.List.{drop_more, length-map}
+use Rattle.std.specs.Prelude.{codes, nat_le}
+use Rattle.std.proofs.lemmas.List.{drop_more, length-map, length-reverse}
 use Rattle.std.proofs.Math.Nat.{mul-le-mul_left}
 use Rattle.kv_store.specs.Commands.{Request}
+use Rattle.mu_input.specs.Heads.{HasHead, HaveHeads}
+use Rattle.mu_model.specs.Contents.{IsConfig}
+use Rattle.mu_model.specs.Histories.{history}
+use Rattle.mu_model.specs.declared.config.Row.{Row}
 use Rattle.mu_model.specs.declared.event.Event.{Event}
 use Rattle.mu_model.specs.declared.script.Pause.{Pause}
 use Rattle.mu_model.specs.declared.script.Script.{Script}
 use Rattle.mu_model.specs.declared.script.Stop.{Stop}
+use Rattle.mu_model.proofs.Budgets.{short_history}
 use Rattle.mu_outcome.specs.declared.outcome.Outcome.{Outcome}
+use Rattle.mu_outcome.specs.Outcomes.{IsRun}
 use Rattle.mu_report.specs.Words.{op_words}
 use Rattle.mu_report.specs.Trace.{has_lines, event_line, setting_lines, client_count, client_lines, command_lines, commands_lines, stop_line, pause_line, script_lines, events_of, trace_lines, IsCountable}
 
@@ -61,8 +66,8 @@ clients_few clients commands few short =
     let bound : clients * (commands + 1) ≤ clients * 2 ^ 15 = mul-le-mul_left clients (omega arith) in
     omega arith
 
--- where the lists are short, the bytes of the trace can be counted
-pub trace_fits : (o : Outcome) → length o.job.commands < 2 ^ 15 → client_count 0 o.job.commands < 2 ^ 16
+-- if the lists are short, the bytes of the trace can be counted
+trace_fits : (o : Outcome) → length o.job.commands < 2 ^ 15 → client_count 0 o.job.commands < 2 ^ 16
     → length o.job.script.stops < 2 ^ 16 → length o.job.script.pauses < 2 ^ 16 → length (events_of o.order) < 2 ^ 32 → IsCountable o
 trace_fits o commands clients stops pauses events =
     let head : List (List ℕ) = setting_lines o.job.config in
@@ -78,15 +83,27 @@ trace_fits o commands clients stops pauses events =
     length-append head (asked ++ (script ++ last)) ∙ ap (λ n. length head + n) (length-append asked (script ++ last) ∙ ap (λ n. length asked + n) (length-append script last)) in
     omega (arith, first, second, third, fourth, whole)
 
--- the same, of the numbers that were counted
-pub counts_fit : (o : Outcome) (asked : List Request) (clients commands stops pauses : ℕ) (events : List Event) → asked ≡ o.job.commands → clients ≡ client_count 0 asked → clients ≤ 256
-    → commands ≡ length o.job.commands → commands < 32768 → stops ≡ length o.job.script.stops → stops < 65536 → pauses ≡ length o.job.script.pauses → pauses < 65536
-    → events ≡ events_of o.order → nat_lt (length events) 4294967296 ≡ true → IsCountable o
-counts_fit o asked clients commands stops pauses events is counted few told short stopped halts paused waits given less =
-    let all : clients ≡ client_count 0 o.job.commands = counted ∙ ap (client_count 0) is in
-    let many : length events ≡ length (events_of o.order) = ap length given in
-    let below : length events < 4294967296 = ltb-true (length events) 4294967296 less in
-    trace_fits o (omega (arith, told, short)) (omega (arith, all, few)) (omega (arith, stopped, halts)) (omega (arith, paused, waits)) (omega (arith, many, below))
+-- there are at most 256 clients, since a head word has 8 bits for one
+few_clients : (width count : ℕ) (commands : List Request) (rows : List Row) → HaveHeads width commands rows → count ≤ 256 → client_count count commands ≤ 256
+few_clients width count [] rows have few = few
+few_clients width count (command ∷ commands) [] have few = absurd have
+few_clients width count (command ∷ commands) (row ∷ rows) have few =
+    few_clients width (cond (nat_le count command.client) (command.client + 1) count) commands rows have.1 (next (nat_le count command.client))
+  where
+    next : (t : Bool) → cond t (command.client + 1) count ≤ 256
+    next true = let client = have.0.client in omega (arith, client)
+    next false = few
+
+-- the bytes of the trace of a run can be counted
+pub run_fits : (o : Outcome) → IsConfig o.job.config → HaveHeads o.job.config.width o.job.commands o.job.config.rows → length o.job.commands < 2 ^ 15
+    → length o.job.script.stops + length o.job.script.pauses < 2 ^ 16 → IsRun o → IsCountable o
+run_fits o good have few short run =
+    let events : List Event = run.order.events in
+    let clients : client_count 0 o.job.commands ≤ 256 = few_clients o.job.config.width 0 o.job.commands o.job.config.rows have (omega arith) in
+    let given : length (events_of o.order) ≡ length events = ap (λ order. length (events_of order)) run.given in
+    let turned : length (history events) ≡ length events = length-reverse events in
+    let least : length (history events) ≤ 917497 = short_history o.job.config (history events) run.legal good.replicas.1 good.budget.1 in
+    trace_fits o few (omega (arith, clients)) (omega (arith, short)) (omega (arith, short)) (omega (arith, given, turned, least))
 
 -- the clients of these commands, by their count
 pub asked_clients : (commands others : List Request) (count : ℕ) → commands ≡ others → count ≡ client_count 0 commands → client_lines commands 0 count ≡ client_lines others 0 (client_count 0 others)

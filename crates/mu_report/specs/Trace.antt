@@ -1,9 +1,6 @@
 -- trace text: the trace of a replay, as lines without their ends: those of its job, and its events
 -- in their order.
---
--- short trace: a trace of few clients, commands, stops, pauses and events, so that its bytes can be
--- counted.
-use Rattle.std.specs.Prelude.{ℕ, ◌*◌, ◌≤◌, ◌<◌, ◌^◌, List, [], length, None, Some}
+use Rattle.std.specs.Prelude.{ℕ, ◌*◌, ◌<◌, ◌^◌, List, [], length, None, Some}
 use Rattle.std.specs.declared.option.Option.{Option}
 use Rattle.mu_model.specs.declared.event.Event.{Event}
 use Rattle.mu_model.specs.Journals.{Record}
@@ -21,14 +18,6 @@ events_of (Some journal) = journal.events
 -- the whole trace
 abbrev pub trace_lines : Outcome → List (List ℕ)
 trace_lines o = lines_of_trace o.job (events_of o.order)
-
--- the lists of a trace are so short that its bytes can be counted
-pub record HasShortTrace (o : Outcome) : Type 0 where
-  pub clients : client_count 0 o.job.commands ≤ 256
-  pub commands : length o.job.commands < 2 ^ 15
-  pub stops : length o.job.script.stops < 2 ^ 16
-  pub pauses : length o.job.script.pauses < 2 ^ 16
-  pub events : length (events_of o.order) < 2 ^ 32
 
 -- the bytes of the trace can be counted in 64 bits
 abbrev pub IsCountable : Outcome → Type 0

@@ -24,4 +24,3 @@ pub use reasons::fault_line;
 pub use report::status;
 pub use said::{Said, print, print_counted};
 pub use statuses::status_for;
-pub use trace::is_countable;

@@ -1,8 +1,8 @@
 //! The trace of a replay: its job, and its events in their order.
-ghost use Rattle.std.specs.Prelude.{◌≡◌, ◌↔◌, ◌+◌, ◌<◌, ◌^◌, [], length, true, IsTrue};
+ghost use Rattle.std.specs.Prelude.{◌≡◌, ◌+◌, ◌<◌, [], length};
 ghost use Rattle.mu_report.specs.declared.line.TheConstants.{LINE_BYTES};
 ghost use Rattle.mu_report.specs.Words.{op_words};
-ghost use Rattle.mu_report.specs.Trace.{batch_lines, setting_lines, client_count, command_lines, commands_lines, client_lines, stop_line, pause_line, has_lines as has_lines_of, script_lines, events_of as events_of_order, trace_lines, HasShortTrace, IsCountable};
+ghost use Rattle.mu_report.specs.Trace.{batch_lines, setting_lines, client_count, command_lines, commands_lines, client_lines, stop_line, pause_line, has_lines as has_lines_of, script_lines, events_of as events_of_order, trace_lines};
 
 use crate::line::{HasLine, Line, print_each, print_numbered, print_words};
 use crate::printer::Printer;
@@ -23,29 +23,6 @@ pub fn print_trace<P: Printer>(out: &mut P, outcome: &Outcome)
     print_words(out, b"end");
     out.print_events(events_of(&outcome.order));
     print_words(out, b"end");
-}
-
-/// Whether the lists of a trace are so short that its bytes can be counted in 64 bits: at most 256
-/// clients, and fewer than 2^15 commands, 2^16 stops, 2^16 pauses and 2^32 events.
-pub fn is_countable(outcome: &Outcome) -> bool
-    ensures exact { IsTrue result ↔ HasShortTrace outcome.now }
-    ensures countable { result ≡ true → IsCountable outcome.now }
-{
-    let clients = count_of_clients(outcome.job.commands.as_slice());
-    let events = events_of(&outcome.order);
-    if clients > 256 {
-        return false;
-    }
-    if outcome.job.commands.len() >= 32_768 {
-        return false;
-    }
-    if outcome.job.script.stops.len() >= 65_536 {
-        return false;
-    }
-    if outcome.job.script.pauses.len() >= 65_536 {
-        return false;
-    }
-    events.len() < 4_294_967_296
 }
 
 /// The events in their order, and none if it isn't given.

@@ -1,8 +1,9 @@
 -- What a run of the job that was read, or that is stated, comes to.
-use Rattle.std.proofs.Common.{◌≡◌, ◌≤◌, None, length, subst, sym}
+use Rattle.std.proofs.Common.{◌≡◌, ◌+◌, ◌^◌, ◌<◌, ◌≤◌, None, arith, length, subst, sym}
 use Rattle.match_book.specs.Ledgers.{HaveDifferentIds}
 use Rattle.match_book.proofs.Session.{session_differs}
 use Rattle.mu_input.specs.Heads.{HaveHeads}
+use Rattle.mu_input.specs.declared.TheConstants.{MOST_COMMANDS, MOST_SCRIPT_LINES}
 use Rattle.mu_input.specs.declared.job.Job.{Job}
 use Rattle.mu_model.specs.Contents.{IsConfig}
 use Rattle.mu_outcome.specs.declared.outcome.Outcome.{Outcome}
@@ -15,6 +16,8 @@ use Rattle.mu_cluster.specs.Living.{HasAllInTime}
 use Rattle.mu_cluster.specs.Naming.{NamesFirstUnpaused, SpendsBudgets}
 use Rattle.mu_cluster.specs.Paces.{AreDiligent}
 use Rattle.mu_cluster.proofs.Agreeing.{over_order}
+use Rattle.mu_report.specs.Trace.{IsCountable}
+use Rattle.mu_report.proofs.Traces.{run_fits}
 use Rattle.mu_top.specs.Commands.{IsReplay, IsThreaded}
 
 pub replay_of : (o : Outcome) (job : Job) → o.job ≡ job → IsConfig job.config → HaveHeads job.config.width job.commands job.config.rows → IsRun o → AreDiligent o → NamesFirstUnpaused o → SpendsBudgets o → HasAllInTime o → LeadOnUnpaused o → Agrees o → o.gathered ≡ None → IsReplay o
@@ -37,6 +40,14 @@ threaded_of o job same good have run diligent agrees = record {
   agrees = agrees;
   completes = completes_over o run.events (subst (λ (j : Job). IsConfig j.config) (sym same) good) (subst (λ (j : Job). HaveHeads j.config.width j.commands j.config.rows) (sym same) have) run.over agrees;
 }
+
+-- the bytes of the trace of a replay can be counted
+pub countable_of : (o : Outcome) (job : Job) → o.job ≡ job → IsConfig job.config → HaveHeads job.config.width job.commands job.config.rows → length job.commands ≤ MOST_COMMANDS
+    → length job.script.stops + length job.script.pauses ≤ MOST_SCRIPT_LINES → IsRun o → IsCountable o
+countable_of o job same good have few short run =
+    run_fits o (subst (λ (j : Job). IsConfig j.config) (sym same) good) (subst (λ (j : Job). HaveHeads j.config.width j.commands j.config.rows) (sym same) have)
+    (subst (λ (j : Job). length j.commands < 2 ^ 15) (sym same) (omega (arith, few)))
+    (subst (λ (j : Job). length j.script.stops + length j.script.pauses < 2 ^ 16) (sym same) (omega (arith, short))) run
 
 -- the longest log of a replay has no more commands than the job
 pub few_of : (o : Outcome) (job : Job) → o.job ≡ job → IsConfig job.config → HaveHeads job.config.width job.commands job.config.rows → IsRun o → Agrees o → length (commands_in o.job (longest o.logs)) ≤ length job.commands

@@ -4,6 +4,7 @@ ghost use Rattle.mu_input.specs.Grammar.{job as job_of};
 ghost use Rattle.mu_input.specs.Readings.{Fits};
 ghost use Rattle.mu_outcome.specs.Outcomes.{IsWithinJob};
 ghost use Rattle.mu_report.specs.Said.{IsShort};
+ghost use Rattle.mu_report.specs.Trace.{IsCountable};
 ghost use Rattle.mu_top.specs.Commands.{IsEndOf, IsReplay, Replays};
 
 use mu_cluster::{replay, rows_spell_commands};
@@ -33,6 +34,7 @@ pub(crate) fn replayed(alloc: Global, bytes: &[u8]) -> Result<Outcome, InputEnd>
     ensures job { IfOk result (λ outcome. job_of bytes.now ≡ Fits outcome.job) }
     ensures replay { IfOk result IsReplay }
     ensures reach { IfOk result IsWithinJob }
+    ensures countable { IfOk result IsCountable }
     ensures end { IfErr result (IsEndOf bytes.now) }
 {
     let job = read(alloc, bytes)?;

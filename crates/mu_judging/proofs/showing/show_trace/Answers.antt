@@ -15,7 +15,7 @@ moment_of-requires-clause-legal c =
     let fits : trace c.args.bytes.now ≡ Fits spelled = c.in-Ok.ensures.reading in
     let explained = c.in-Ok-located.ensures spelled fits refl c.as_slice-events.ensures in
     let legal = firsts_legal c.args.bytes.now spelled n c.in-Ok-located.found.0 (length events) c.in-Ok-located.found.1 fits explained (sym c.is_broken_before.ensures ∙ c.if-is_broken_before.false) in
-    subst (λ l. IsLegal spelled.job.config l) (sym (ap (λ k. take k events) c.first_of.ensures ∙ (take_min n events ∙ ap (take n) c.as_slice-events.ensures))) legal
+    subst (λ l. IsLegal spelled.job.config l) (sym (ap (λ k. take k events) c.count_within.ensures ∙ (take_min n events ∙ ap (take n) c.as_slice-events.ensures))) legal
 
 pub returns-in-Ok-moment_of-clause-says : goal.returns-in-Ok-moment_of-clause-says
 returns-in-Ok-moment_of-clause-says c =
@@ -30,5 +30,5 @@ returns-in-Ok-moment_of-clause-says c =
       fits = fits;
       legal = firsts_legal c.args.bytes.now spelled n c.in-Ok-located.found.0 (length events) c.in-Ok-located.found.1 fits explained (sym c.is_broken_before.ensures ∙ c.if-is_broken_before.false);
       is = subst (λ es. IsMoment spelled.job.config es (min n (length es)) moment) c.as_slice-events.ensures
-          (subst (λ k. IsMoment spelled.job.config events k moment) c.first_of.ensures c.in-Ok-moment_of.ensures.is);
+          (subst (λ k. IsMoment spelled.job.config events k moment) c.count_within.ensures c.in-Ok-moment_of.ensures.is);
     }
