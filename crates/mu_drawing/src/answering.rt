@@ -17,8 +17,8 @@ use mu_report::{Said, print_counted, status_for as status_for_said};
 use mu_shell::Answered;
 use std::alloc::Global;
 
-/// How the program is called.
-const USAGE: &[u8] =
+/// How the program is called, as it is printed.
+pub const USAGE: &[u8] =
     b"usage: mu_draw, mu_draw FIRST LAST, mu_draw brief, mu_draw brief FIRST LAST\n";
 
 /// Draws the trace that the source has left, and writes its picture; or says why there is none.

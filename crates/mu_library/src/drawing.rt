@@ -8,12 +8,8 @@ ghost use Rattle.mu_report.specs.declared.said.Said.TheVariants.{NoMemory as NoM
 
 use crate::answering::{Answered, no_memory};
 use crate::front::{put_bytes, put_said};
-use mu_drawing::{Output, asked_between, status_of, told_in_memory};
+use mu_drawing::{Output, USAGE, asked_between, status_of, told_in_memory};
 use std::alloc::Global;
-
-/// How the program is called.
-const USAGE: &[u8] =
-    b"usage: mu_draw, mu_draw FIRST LAST, mu_draw brief, mu_draw brief FIRST LAST\n";
 
 /// What `mu_draw FIRST LAST` says if these are the bytes of its input, and the status that it
 /// ends with. Want of memory can come in place of any answer.
