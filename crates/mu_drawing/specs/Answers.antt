@@ -28,7 +28,7 @@ use Rattle.mu_report.specs.Reasons.{fault_words}
 use Rattle.mu_report.specs.Statuses.{status_for as status_for_said}
 use Rattle.mu_report.specs.Said.{text, said_of_end, IsShort}
 use Rattle.mu_report.specs.declared.said.Said.{Said}
-use Rattle.mu_drawing.specs.declared.drawing.Told.{Told}
+use Rattle.mu_drawing.specs.declared.drawing.Output.{Output}
 
 -- each mark is of the event at its step
 abbrev pub AreOfTheirSteps : List Event → List Mark → Type 0
@@ -73,10 +73,10 @@ pub record IsBroken (job : Job) (line : ℕ) (events : List Event) (asked : Exte
 
 -- what is told of events: a picture if they are legal, and else one up to the first
 -- that breaks the list; want of memory can come at any events
-abbrev pub TellsOfEvents : Job → ℕ → List Event → Extent → Told → Type 0
-TellsOfEvents job line events asked (Told.Drawn sheet) = IsDrawingOf job line events asked sheet
-TellsOfEvents job line events asked (Told.Broken sheet) = IsBroken job line events asked sheet
-TellsOfEvents job line events asked (Told.Said Said.NoMemory) = Unit {0}
+abbrev pub TellsOfEvents : Job → ℕ → List Event → Extent → Output → Type 0
+TellsOfEvents job line events asked (Output.Drawn sheet) = IsDrawingOf job line events asked sheet
+TellsOfEvents job line events asked (Output.Broken sheet) = IsBroken job line events asked sheet
+TellsOfEvents job line events asked (Output.Said Said.NoMemory) = Unit {0}
 TellsOfEvents job line events asked _ = ⊥
 
 -- each event of the trace is spelled by the line that its tooltip names
@@ -86,7 +86,7 @@ TooltipsNameLines bytes spelled =
     → IsLineOf bytes spelled (length (lines bytes) - length spelled.events + index) index event
 
 -- the bytes spell a trace, whose events stand in the last lines but one, and this is told of them
-pub record TellsOfTrace (bytes : List ℕ) (asked : Extent) (told : Told) : Type 0 where
+pub record TellsOfTrace (bytes : List ℕ) (asked : Extent) (told : Output) : Type 0 where
   pub spelled : Trace
   pub fits : trace bytes ≡ Fits spelled
   pub tells :
@@ -96,14 +96,14 @@ pub record TellsOfTrace (bytes : List ℕ) (asked : Extent) (told : Told) : Type
 
 -- what is told of bytes: the first line that leaves the grammar, or what is told of a
 -- trace; want of memory can come at any bytes
-abbrev pub Draws : List ℕ → Extent → Told → Type 0
-Draws bytes asked (Told.Said (Said.Refused line cause)) = trace bytes ≡ Leaves line cause
-Draws bytes asked (Told.Said Said.NoMemory) = Unit {0}
+abbrev pub Draws : List ℕ → Extent → Output → Type 0
+Draws bytes asked (Output.Said (Said.Refused line cause)) = trace bytes ≡ Leaves line cause
+Draws bytes asked (Output.Said Said.NoMemory) = Unit {0}
 Draws bytes asked told = TellsOfTrace bytes asked told
 
 -- bytes within the limit were read, all that the source had left if it tells them, and this is
 -- told of them
-pub record TellsOfInput (left : Option (List ℕ)) (asked : Extent) (told : Told) : Type 0 where
+pub record TellsOfInput (left : Option (List ℕ)) (asked : Extent) (told : Output) : Type 0 where
   pub bytes : List ℕ
   pub within : length bytes ≤ TRACE_LIMIT
   pub whole : IfSome left (λ all. all ≡ bytes)
@@ -111,41 +111,42 @@ pub record TellsOfInput (left : Option (List ℕ)) (asked : Extent) (told : Told
 
 -- the source failed, or had more bytes than the limit, or there was no memory to read any; or all
 -- were read
-abbrev pub TellsOfSource : Option (List ℕ) → Option (List ℕ) → ℕ → ℕ → Extent → Told → Type 0
+abbrev pub TellsOfSource : Option (List ℕ) → Option (List ℕ) → ℕ → ℕ → Extent → Output → Type 0
 TellsOfSource left now before after asked told =
-    ((told ≡ Told.Said Said.ReadFault) × Rose before after × TakesAtMost left now TRACE_LIMIT)
-    ⊎ (((told ≡ Told.Said Said.TooLong) × (after ≡ before)
+    ((told ≡ Output.Said Said.ReadFault) × Rose before after × TakesAtMost left now TRACE_LIMIT)
+    ⊎ (((told ≡ Output.Said Said.TooLong) × (after ≡ before)
     × IfSome left (λ bytes. TRACE_LIMIT < length bytes))
-    ⊎ (((told ≡ Told.Said Said.NoMemory) × (now ≡ left) × (after ≡ before))
+    ⊎ (((told ≡ Output.Said Said.NoMemory) × (now ≡ left) × (after ≡ before))
     ⊎ ((after ≡ before) × TellsOfInput left asked told)))
 
 -- the usage is told exactly if the words ask for nothing, and then nothing is read
-abbrev pub Tells : Option Extent → Option (List ℕ) → Option (List ℕ) → ℕ → ℕ → Told → Type 0
-Tells None left now before after told = (told ≡ Told.Usage) × (now ≡ left) × (after ≡ before)
-Tells (Some asked) left now before after told = TellsOfSource left now before after asked told
+abbrev pub TellsOfCall : Option Extent → Option (List ℕ) → Option (List ℕ) → ℕ → ℕ → Output → Type 0
+TellsOfCall None left now before after told =
+    (told ≡ Output.Usage) × (now ≡ left) × (after ≡ before)
+TellsOfCall (Some asked) left now before after told = TellsOfSource left now before after asked told
 
 -- what is told of a drawing of a trace that is legal or not, or of why there is none
-abbrev pub told_with : Result (List ℕ × Bool) InputEnd → Told
-told_with (Ok (sheet, true)) = Told.Drawn sheet
-told_with (Ok (sheet, false)) = Told.Broken sheet
-told_with (Err end) = Told.Said (said_of_end end)
+abbrev pub told_with : Result (List ℕ × Bool) InputEnd → Output
+told_with (Ok (sheet, true)) = Output.Drawn sheet
+told_with (Ok (sheet, false)) = Output.Broken sheet
+told_with (Err end) = Output.Said (said_of_end end)
 
 -- what is told, as the bytes that are written
-abbrev pub text_of : Told → List ℕ
-text_of Told.Usage =
+abbrev pub text_of : Output → List ℕ
+text_of Output.Usage =
     codes "usage: mu_draw, mu_draw FIRST LAST, mu_draw brief, mu_draw brief FIRST LAST\n"
-text_of (Told.Said said) = text said
-text_of (Told.Drawn sheet) = sheet
-text_of (Told.Broken sheet) = sheet
+text_of (Output.Said said) = text said
+text_of (Output.Drawn sheet) = sheet
+text_of (Output.Broken sheet) = sheet
 
 -- the status of what is told, once it is written
-abbrev pub status_for : Told → Status
-status_for Told.Usage = Status.Usage
-status_for (Told.Said said) = status_for_said said
-status_for (Told.Drawn sheet) = Status.Done
-status_for (Told.Broken sheet) = Status.Illegal
+abbrev pub status_for : Output → Status
+status_for Output.Usage = Status.Usage
+status_for (Output.Said said) = status_for_said said
+status_for (Output.Drawn sheet) = Status.Done
+status_for (Output.Broken sheet) = Status.Illegal
 
 -- what is said can be printed
-abbrev pub IsSayable : Told → Type 0
-IsSayable (Told.Said said) = IsShort said
+abbrev pub IsSayable : Output → Type 0
+IsSayable (Output.Said said) = IsShort said
 IsSayable _ = Unit {0}

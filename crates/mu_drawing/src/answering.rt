@@ -3,12 +3,12 @@
 ghost use Rattle.std.specs.Prelude.{◌≡◌, ◌<◌, length, take, IfErr, IfOk, OnErr, OnOk};
 ghost use Rattle.std.specs.Io.KnownBytes.{Appends};
 ghost use Rattle.mu_io.specs.Faults.{Rose};
-ghost use Rattle.mu_drawing.specs.Answers.{IsSayable, Tells, TellsOfSource, status_for, text_of};
+ghost use Rattle.mu_drawing.specs.Answers.{IsSayable, TellsOfCall, TellsOfSource, status_for, text_of};
 ghost use Rattle.mu_shell.specs.Written.{Wrote};
 ghost use Rattle.mu_drawing.specs.Words.{asked_of as asked_of_words};
 
 use crate::asking::asked_of;
-use crate::drawing::{Told, told_of};
+use crate::drawing::{Output, told_of};
 use mu_input::TRACE_LIMIT;
 use mu_io::{Sink, Source, WriteFault, read_all, write_all};
 use mu_outcome::Status;
@@ -17,8 +17,8 @@ use mu_report::{Said, print_counted, status_for as status_for_said};
 use mu_shell::Answered;
 use std::alloc::Global;
 
-/// How the program is called.
-const USAGE: &[u8] =
+/// How the program is called, as it is printed.
+pub const USAGE: &[u8] =
     b"usage: mu_draw, mu_draw FIRST LAST, mu_draw brief, mu_draw brief FIRST LAST\n";
 
 /// Draws the trace that the source has left, and writes its picture; or says why there is none.
@@ -28,8 +28,8 @@ pub fn draw<S: Source, K: Sink>(
     words: &[String],
     source: &mut S,
     sink: &mut K,
-) -> Answered<Told>
-    ensures told { Tells (asked_of_words words.now) (S.left source.old) (S.left source.new)
+) -> Answered<Output>
+    ensures told { TellsOfCall (asked_of_words words.now) (S.left source.old) (S.left source.new)
         (S.faults source.old) (S.faults source.new) result.said }
     ensures wrote { Wrote (K.written sink.old) (K.written sink.new)
         (K.faults sink.old) (K.faults sink.new)
@@ -39,31 +39,31 @@ pub fn draw<S: Source, K: Sink>(
 }
 
 /// What is told if this is asked of the source.
-fn told<S: Source>(alloc: Global, asked: Option<Extent>, source: &mut S) -> Told
-    ensures told { Tells asked (S.left source.old) (S.left source.new)
+fn told<S: Source>(alloc: Global, asked: Option<Extent>, source: &mut S) -> Output
+    ensures told { TellsOfCall asked (S.left source.old) (S.left source.new)
         (S.faults source.old) (S.faults source.new) result }
     ensures sayable { IsSayable result }
 {
     match asked {
-        None => Told::Usage,
+        None => Output::Usage,
         Some(asked) => told_of_source(alloc, asked, source),
     }
 }
 
 /// What is told of all that the source has left.
-fn told_of_source<S: Source>(alloc: Global, asked: Extent, source: &mut S) -> Told
+fn told_of_source<S: Source>(alloc: Global, asked: Extent, source: &mut S) -> Output
     ensures told { TellsOfSource (S.left source.old) (S.left source.new)
         (S.faults source.old) (S.faults source.new) asked result }
     ensures sayable { IsSayable result }
 {
     match read_all(alloc, source, TRACE_LIMIT) {
         Ok(bytes) => told_of(alloc, bytes.as_slice(), asked),
-        Err(end) => Told::Said(Said::from(end)),
+        Err(end) => Output::Said(Said::from(end)),
     }
 }
 
 /// Writes what is told, and answers how that went.
-pub fn answer<K: Sink>(sink: &mut K, told: Told) -> Answered<Told>
+pub fn answer<K: Sink>(sink: &mut K, told: Output) -> Answered<Output>
     requires { IsSayable told }
     ensures told { result.said ≡ told }
     ensures wrote { Wrote (K.written sink.old) (K.written sink.new)
@@ -89,7 +89,7 @@ pub fn answer<K: Sink>(sink: &mut K, told: Told) -> Answered<Told>
 /// # Errors
 ///
 /// `WriteFault` if the sink counted a fault, with the number of bytes that it had taken.
-fn tell<K: Sink>(sink: &mut K, told: &Told) -> Result<usize, WriteFault>
+fn tell<K: Sink>(sink: &mut K, told: &Output) -> Result<usize, WriteFault>
     requires { IsSayable told.now }
     ensures count { IfOk result (λ count. count ≡ length (text_of told.now)) }
     ensures whole { OnOk result
@@ -101,10 +101,10 @@ fn tell<K: Sink>(sink: &mut K, told: &Told) -> Result<usize, WriteFault>
     ensures fault { OnErr result (Rose (K.faults sink.old) (K.faults sink.new)) }
 {
     match told {
-        Told::Usage => write_counted(sink, USAGE),
-        Told::Said(said) => print_counted(sink, said),
-        Told::Drawn(sheet) => write_counted(sink, sheet.as_slice()),
-        Told::Broken(sheet) => write_counted(sink, sheet.as_slice()),
+        Output::Usage => write_counted(sink, USAGE),
+        Output::Said(said) => print_counted(sink, said),
+        Output::Drawn(sheet) => write_counted(sink, sheet.as_slice()),
+        Output::Broken(sheet) => write_counted(sink, sheet.as_slice()),
     }
 }
 
@@ -127,13 +127,13 @@ fn write_counted<K: Sink>(sink: &mut K, bytes: &[u8]) -> Result<usize, WriteFaul
 }
 
 /// The status of what is told, once it is written.
-pub fn status_of(told: &Told) -> Status
+pub fn status_of(told: &Output) -> Status
     ensures { result ≡ status_for told.now }
 {
     match told {
-        Told::Usage => Status::Usage,
-        Told::Said(said) => status_for_said(said),
-        Told::Drawn(_) => Status::Done,
-        Told::Broken(_) => Status::Illegal,
+        Output::Usage => Status::Usage,
+        Output::Said(said) => status_for_said(said),
+        Output::Drawn(_) => Status::Done,
+        Output::Broken(_) => Status::Illegal,
     }
 }

@@ -4,10 +4,10 @@ ghost use Rattle.std.specs.Str.{bytes_eq};
 ghost use Rattle.std.specs.declared.io.ErrorKind.TheVariants.{InvalidData};
 ghost use Rattle.mu_drawing.specs.Words.{all_steps, asked_of as asked_of_words, asked_of_one, asked_of_three, asked_of_two};
 ghost use Rattle.mu_drawing.specs.declared.asking.TheConstants.{LAST_STEP};
-ghost use Rattle.mu_drawing.specs.declared.drawing.Told.TheVariants.{Usage, Said as SaidOf};
+ghost use Rattle.mu_drawing.specs.declared.drawing.Output.TheVariants.{Usage, Said as SaidOf};
 ghost use Rattle.mu_report.specs.declared.said.Said.TheVariants.{NoMemory};
 
-use crate::drawing::Told;
+use crate::drawing::Output;
 use mu_picture::Extent;
 use mu_report::Said;
 use mu_text::limited;
@@ -88,13 +88,13 @@ fn asked_with(brief: bool, first: &[u8], last: &[u8]) -> Option<Extent>
 
 /// What is told if the words couldn't be read: the usage if one of them is no text, since no
 /// call has such a word, else want of memory.
-pub fn unread(kind: ErrorKind) -> Told
+pub fn unread(kind: ErrorKind) -> Output
     ensures no_text { kind ≡ InvalidData → result ≡ Usage }
     ensures no_memory { kind ≢ InvalidData → result ≡ SaidOf NoMemory }
 {
     if kind == ErrorKind::InvalidData {
-        Told::Usage
+        Output::Usage
     } else {
-        Told::Said(Said::NoMemory)
+        Output::Said(Said::NoMemory)
     }
 }

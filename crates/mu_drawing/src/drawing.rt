@@ -15,9 +15,9 @@ use mu_picture::{Breach, Extent, Sheet, drawn, picture_of};
 use mu_report::{Said, fault_line};
 use std::alloc::Global;
 
-/// What the program has to tell.
+/// What the program puts out.
 #[derive(Drop)]
-pub enum Told {
+pub enum Output {
     /// How it is called.
     Usage,
     /// Why there is no picture.
@@ -32,7 +32,7 @@ pub enum Told {
 /// with the first line that leaves it and the cause; `Broken` exactly if its events aren't
 /// legal, with the first that breaks them and why; else its picture, of the steps that are asked
 /// for. `NoMemory` for want of memory.
-pub fn told_of(alloc: Global, bytes: &[u8], asked: Extent) -> Told
+pub fn told_of(alloc: Global, bytes: &[u8], asked: Extent) -> Output
     requires { length bytes.now ≤ TRACE_LIMIT }
     ensures { Draws bytes.now asked result }
 {
@@ -40,13 +40,13 @@ pub fn told_of(alloc: Global, bytes: &[u8], asked: Extent) -> Told
 }
 
 /// What is told of a picture of a trace that is legal or not, or of why there is none.
-fn told_of_drawing(drawing: Result<(Sheet, bool), InputEnd>) -> Told
+fn told_of_drawing(drawing: Result<(Sheet, bool), InputEnd>) -> Output
     ensures { result ≡ told_with drawing }
 {
     match drawing {
-        Ok((sheet, true)) => Told::Drawn(sheet),
-        Ok((sheet, false)) => Told::Broken(sheet),
-        Err(end) => Told::Said(Said::from(end)),
+        Ok((sheet, true)) => Output::Drawn(sheet),
+        Ok((sheet, false)) => Output::Broken(sheet),
+        Err(end) => Output::Said(Said::from(end)),
     }
 }
 

@@ -1,10 +1,10 @@
 //! The picture of a trace in memory.
 ghost use Rattle.std.specs.Prelude.{◌≡◌, ◌≤◌, Some, length};
-ghost use Rattle.mu_drawing.specs.Answers.{IsSayable, Tells, TellsOfSource};
+ghost use Rattle.mu_drawing.specs.Answers.{IsSayable, TellsOfCall, TellsOfSource};
 ghost use Rattle.mu_drawing.specs.Words.{asked_steps};
 
 use crate::asking::LAST_STEP;
-use crate::drawing::{Told, told_of};
+use crate::drawing::{Output, told_of};
 use mu_input::TRACE_LIMIT;
 use mu_picture::Extent;
 use mu_report::Said;
@@ -26,23 +26,23 @@ pub fn asked_between(first: u32, last: u32) -> Option<Extent>
 }
 
 /// What the program tells if it is asked this, and these are the bytes of its input.
-pub fn told_in_memory(alloc: Global, asked: Option<Extent>, bytes: &[u8]) -> Told
-    ensures told { Tells asked (Some bytes.now) (Some bytes.now) 0 0 result }
+pub fn told_in_memory(alloc: Global, asked: Option<Extent>, bytes: &[u8]) -> Output
+    ensures told { TellsOfCall asked (Some bytes.now) (Some bytes.now) 0 0 result }
     ensures sayable { IsSayable result }
 {
     match asked {
-        None => Told::Usage,
+        None => Output::Usage,
         Some(asked) => told_of_bytes(alloc, asked, bytes),
     }
 }
 
 /// The same if steps are asked for.
-fn told_of_bytes(alloc: Global, asked: Extent, bytes: &[u8]) -> Told
+fn told_of_bytes(alloc: Global, asked: Extent, bytes: &[u8]) -> Output
     ensures told { TellsOfSource (Some bytes.now) (Some bytes.now) 0 0 asked result }
     ensures sayable { IsSayable result }
 {
     if bytes.len() > TRACE_LIMIT {
-        return Told::Said(Said::TooLong);
+        return Output::Said(Said::TooLong);
     }
     told_of(alloc, bytes, asked)
 }

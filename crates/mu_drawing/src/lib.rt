@@ -7,7 +7,7 @@ mod asking;
 mod drawing;
 mod in_memory;
 
-pub use answering::{answer, draw, status_of};
+pub use answering::{USAGE, answer, draw, status_of};
 pub use asking::{LAST_STEP, asked_of, limits_are_stated, unread};
-pub use drawing::Told;
+pub use drawing::Output;
 pub use in_memory::{asked_between, told_in_memory};

@@ -2,7 +2,7 @@
 use Rattle.std.proofs.Common.{◌≡◌, ◌⊎◌, inl, inr, ℕ, List, Option, None, Some, arith, refl, sym, subst, ◌∙◌}
 use Rattle.mu_drawing.specs.Answers as drawing
 use Rattle.mu_picture.specs.declared.pictures.Extent.{Extent}
-use Rattle.mu_drawing.specs.declared.drawing.Told.{Told}
+use Rattle.mu_drawing.specs.declared.drawing.Output.{Output}
 use Rattle.mu_input.specs.declared.job.InputEnd.{InputEnd}
 use Rattle.mu_judging.specs.LineJudges.{said_by, HasTaken, IsEndOfJob, Opens}
 use Rattle.mu_judging.specs.declared.line_judge.LineJudge.{LineJudge}
@@ -22,10 +22,10 @@ pub answered : (asked : Option Asked) (said : Said) (input before after : List �
 answered asked said input before after status taken tells (inl puts) = record { said = said; tells = inr tells; puts = puts }
 answered asked said input before after status taken tells (inr puts) = record { said = Said.NoMemory; tells = inl refl; puts = puts }
 
-pub drawn : (asked : Option Extent) (told : Told) (input before after : List ℕ) (status taken : ℕ) → drawing.Tells asked (Some input) (Some input) 0 0 told
-    → PutsTold told before after status taken ⊎ PutsTold (Told.Said Said.NoMemory) before after status taken → Draws asked input before after status taken
+pub drawn : (asked : Option Extent) (told : Output) (input before after : List ℕ) (status taken : ℕ) → drawing.TellsOfCall asked (Some input) (Some input) 0 0 told
+    → PutsTold told before after status taken ⊎ PutsTold (Output.Said Said.NoMemory) before after status taken → Draws asked input before after status taken
 drawn asked told input before after status taken tells (inl puts) = record { told = told; tells = inr tells; puts = puts }
-drawn asked told input before after status taken tells (inr puts) = record { told = Told.Said Said.NoMemory; tells = inl refl; puts = puts }
+drawn asked told input before after status taken tells (inr puts) = record { told = Output.Said Said.NoMemory; tells = inl refl; puts = puts }
 
 -- why no judge was made
 pub ends_job : (bytes : List ℕ) (end : InputEnd) → IsEndOfJob bytes end → EndsJob bytes (said_of_end end)

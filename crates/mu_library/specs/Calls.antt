@@ -5,7 +5,7 @@ use Rattle.std.specs.declared.option.Option.{Option}
 use Rattle.mu_drawing.specs.Answers.{text_of}
 use Rattle.mu_drawing.specs.Answers as drawing
 use Rattle.mu_picture.specs.declared.pictures.Extent.{Extent}
-use Rattle.mu_drawing.specs.declared.drawing.Told.{Told}
+use Rattle.mu_drawing.specs.declared.drawing.Output.{Output}
 use Rattle.mu_events.specs.Events.{event_of}
 use Rattle.mu_input.specs.Grammar.{job}
 use Rattle.mu_input.specs.Readings.{Leaves}
@@ -13,7 +13,7 @@ use Rattle.mu_input.specs.declared.TheConstants.{MOST_COMMANDS}
 use Rattle.mu_judging.specs.LineJudges.{event_in, said_by, status_with, HasTaken, Opens}
 use Rattle.mu_judging.specs.declared.line_judge.LineJudge.{LineJudge}
 use Rattle.mu_library.specs.Front.{Puts}
-use Rattle.mu_library.specs.declared.tasks.Asked.{Asked as Given}
+use Rattle.mu_library.specs.declared.tasks.Work.{Work}
 use Rattle.mu_model.specs.Contents.{IsConfig}
 use Rattle.mu_model.specs.declared.config.Config.{Config}
 use Rattle.mu_model.specs.declared.event.Event.{Event}
@@ -49,16 +49,16 @@ asked_after count =
     if nat_le count MOST_SHOWN then Some (Asked.Input (Task.Show count)) else None
 
 -- what is asked, as the program has it
-abbrev pub asked_as : Given → Option Asked
-asked_as Given.Nothing = None
-asked_as (Given.Input task) = Some (Asked.Input (task_alone task))
-asked_as (Given.Bulk count) = Some (Asked.Bulk count)
+abbrev pub asked_as : Work → Option Asked
+asked_as Work.Nothing = None
+asked_as (Work.Input task) = Some (Asked.Input (task_alone task))
+asked_as (Work.Bulk count) = Some (Asked.Bulk count)
 
 -- no more commands than a job may have
-abbrev pub HasRoom : Given → Type 0
-HasRoom Given.Nothing = ⊤
-HasRoom (Given.Input task) = ⊤
-HasRoom (Given.Bulk count) = count ≤ MOST_COMMANDS
+abbrev pub HasRoom : Work → Type 0
+HasRoom Work.Nothing = ⊤
+HasRoom (Work.Input task) = ⊤
+HasRoom (Work.Bulk count) = count ≤ MOST_COMMANDS
 
 -- the text of what is said is put, with the status that the program ends with
 abbrev pub PutsSaid : Said → List ℕ → List ℕ → ℕ → ℕ → Type 0
@@ -66,7 +66,7 @@ PutsSaid said before after status taken =
     Puts (text said) (code_of (status_for said)) before after status taken
 
 -- the same of what is told of a picture
-abbrev pub PutsTold : Told → List ℕ → List ℕ → ℕ → ℕ → Type 0
+abbrev pub PutsTold : Output → List ℕ → List ℕ → ℕ → ℕ → Type 0
 PutsTold told before after status taken =
     Puts (text_of told) (code_of (drawing.status_for told)) before after status taken
 
@@ -81,9 +81,10 @@ pub record Answers (asked : Option Asked) (input before after : List ℕ)
 -- the same of the program that draws
 pub record Draws (asked : Option Extent) (input before after : List ℕ)
     (status taken : ℕ) : Type 0 where
-  pub told : Told
+  pub told : Output
   pub tells :
-      (told ≡ Told.Said Said.NoMemory) ⊎ drawing.Tells asked (Some input) (Some input) 0 0 told
+      (told ≡ Output.Said Said.NoMemory)
+      ⊎ drawing.TellsOfCall asked (Some input) (Some input) 0 0 told
   pub puts : PutsTold told before after status taken
 
 -- why bytes spell no job that can be judged: they leave the grammar of jobs first at this line, or

@@ -6,7 +6,7 @@ ghost use Rattle.mu_report.specs.Said.{IsShort};
 ghost use Rattle.mu_top.specs.Answers.{Tells};
 
 use crate::front::{put_bytes, put_said};
-use crate::tasks::{Asked, asked_after, asked_of};
+use crate::tasks::{Work, asked_after, asked_of};
 use mu_outcome::Status;
 use mu_report::{Said, status_for};
 use mu_top::{told_alone, told_of_bulk};
@@ -43,15 +43,15 @@ pub fn show(alloc: Global, count: u32, input: &[u8], out: &mut [u8]) -> Answered
 }
 
 /// What the program says if it is asked this.
-fn said_of(alloc: Global, asked: Asked, input: &[u8]) -> Said
+fn said_of(alloc: Global, asked: Work, input: &[u8]) -> Said
     requires { HasRoom asked }
     ensures said { Tells (asked_as asked) (Some input.now) (Some input.now) 0 0 result }
     ensures short { IsShort result }
 {
     match asked {
-        Asked::Nothing => Said::Usage,
-        Asked::Bulk(count) => told_of_bulk(alloc, count),
-        Asked::Input(task) => told_alone(alloc, task, input),
+        Work::Nothing => Said::Usage,
+        Work::Bulk(count) => told_of_bulk(alloc, count),
+        Work::Input(task) => told_alone(alloc, task, input),
     }
 }
 

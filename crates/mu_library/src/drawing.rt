@@ -3,17 +3,13 @@ ghost use Rattle.mu_drawing.specs.Answers.{IsSayable};
 ghost use Rattle.mu_drawing.specs.Words.{asked_steps};
 ghost use Rattle.mu_library.specs.Calls.{Draws, PutsTold};
 ghost use Rattle.std.specs.Prelude.{◌⊎◌};
-ghost use Rattle.mu_drawing.specs.declared.drawing.Told.TheVariants.{Said as SaidOf};
+ghost use Rattle.mu_drawing.specs.declared.drawing.Output.TheVariants.{Said as SaidOf};
 ghost use Rattle.mu_report.specs.declared.said.Said.TheVariants.{NoMemory as NoMemorySaid};
 
 use crate::answering::{Answered, no_memory};
 use crate::front::{put_bytes, put_said};
-use mu_drawing::{Told, asked_between, status_of, told_in_memory};
+use mu_drawing::{Output, USAGE, asked_between, status_of, told_in_memory};
 use std::alloc::Global;
-
-/// How the program is called.
-const USAGE: &[u8] =
-    b"usage: mu_draw, mu_draw FIRST LAST, mu_draw brief, mu_draw brief FIRST LAST\n";
 
 /// What `mu_draw FIRST LAST` says if these are the bytes of its input, and the status that it
 /// ends with. Want of memory can come in place of any answer.
@@ -29,26 +25,26 @@ pub fn draw(alloc: Global, first: u32, last: u32, input: &[u8], out: &mut [u8]) 
 }
 
 /// Puts what is told into the room, or that there was no memory for its text.
-fn tell(alloc: Global, told: Told, out: &mut [u8]) -> Answered
+fn tell(alloc: Global, told: Output, out: &mut [u8]) -> Answered
     requires { IsSayable told }
     ensures { PutsTold told out.old out.new result.status result.taken
         ⊎ PutsTold (SaidOf NoMemorySaid) out.old out.new result.status result.taken }
 {
     let status = status_of(&told).code();
     match told {
-        Told::Usage => Answered {
+        Output::Usage => Answered {
             status,
             taken: put_bytes(USAGE, out),
         },
-        Told::Said(said) => match put_said(alloc, &said, out) {
+        Output::Said(said) => match put_said(alloc, &said, out) {
             Ok(taken) => Answered { status, taken },
             Err(_) => no_memory(out),
         },
-        Told::Drawn(sheet) => Answered {
+        Output::Drawn(sheet) => Answered {
             status,
             taken: put_bytes(sheet.as_slice(), out),
         },
-        Told::Broken(sheet) => Answered {
+        Output::Broken(sheet) => Answered {
             status,
             taken: put_bytes(sheet.as_slice(), out),
         },

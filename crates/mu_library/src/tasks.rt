@@ -6,10 +6,10 @@ use mu_input::MOST_COMMANDS;
 use mu_text::limited;
 use mu_top::{Alone, MOST_SHOWN};
 
-/// What is asked.
+/// What there is to do.
 #[derive(Clone, Copy, Debug)]
-pub(crate) enum Asked {
-    /// Nothing that is known.
+pub(crate) enum Work {
+    /// Nothing that is known: the usage is told.
     Nothing,
     /// Something with an input.
     Input(Alone),
@@ -18,33 +18,33 @@ pub(crate) enum Asked {
 }
 
 /// What the number asks for. The input of the stated large job is how many commands it has.
-pub(crate) fn asked_of(task: u32, input: &[u8]) -> Asked
+pub(crate) fn asked_of(task: u32, input: &[u8]) -> Work
     ensures exact { asked_as result ≡ asked_at task input.now }
     ensures reach { HasRoom result }
 {
     match task {
-        1 => Asked::Input(Alone::Replay),
-        2 => Asked::Input(Alone::Trace),
-        3 => Asked::Input(Alone::Check),
-        4 => Asked::Input(Alone::Why),
-        5 => Asked::Input(Alone::Book),
+        1 => Work::Input(Alone::Replay),
+        2 => Work::Input(Alone::Trace),
+        3 => Work::Input(Alone::Check),
+        4 => Work::Input(Alone::Why),
+        5 => Work::Input(Alone::Book),
         6 => match limited(input, 0, MOST_COMMANDS as u32) {
-            Some(count) => Asked::Bulk(count as u16),
-            None => Asked::Nothing,
+            Some(count) => Work::Bulk(count as u16),
+            None => Work::Nothing,
         },
-        7 => Asked::Input(Alone::Tell),
-        _ => Asked::Nothing,
+        7 => Work::Input(Alone::Tell),
+        _ => Work::Nothing,
     }
 }
 
 /// What is asked by the number of events after which a moment is to be shown.
-pub(crate) fn asked_after(count: u32) -> Asked
+pub(crate) fn asked_after(count: u32) -> Work
     ensures exact { asked_as result ≡ asked_after_these count }
     ensures reach { HasRoom result }
 {
     if count <= MOST_SHOWN {
-        Asked::Input(Alone::Show(count))
+        Work::Input(Alone::Show(count))
     } else {
-        Asked::Nothing
+        Work::Nothing
     }
 }
