@@ -27,24 +27,28 @@ def toolchain_named():
         return re.search(r"`(rattle-kit-[^`]+)`", text.read()).group(1)
 
 
-def toolchain_trouble():
-    """What keeps the toolchain from being used, in a line; else None."""
-    needed = toolchain_named()
+def toolchain_found():
+    """The toolchain in PATH, as `rt version` prints it; None without one."""
     if shutil.which("rt") is None:
-        return f"rt isn't found in PATH: it comes with {needed}; README.md, Two commands, says what is needed"
+        return None
     run = subprocess.run(["rt", "version"], stdout=subprocess.PIPE, check=False)
-    found = run.stdout.decode(errors="replace").strip() or "one that tells no version"
-    if found != needed:
-        return f"this needs {needed}, as README.md says, and rt is {found}"
-    return None
+    return run.stdout.decode(errors="replace").strip() or "one that tells no version"
+
+
+def logic_of(toolchain):
+    """What a toolchain proves by, which kits of several letters share; "" where none is told."""
+    return toolchain.partition(" logic ")[2]
 
 
 def need_toolchain(name):
-    """Ends with one line where the toolchain isn't the one that is needed."""
-    trouble = toolchain_trouble()
-    if trouble:
-        print(f"{name}: {trouble}", file=sys.stderr)
+    """Ends with one line without a toolchain; says so if it isn't the one that README.md names."""
+    needed, found = toolchain_named(), toolchain_found()
+    if found is None:
+        print(f"{name}: rt isn't found in PATH: it comes with {needed}; README.md, Two commands, says what is needed",
+              file=sys.stderr)
         sys.exit(NO_ANSWER)
+    if not logic_of(found) or logic_of(found) != logic_of(needed):
+        print(f"{name}: README.md names {needed}, and rt is {found}: nothing was tried with that one", file=sys.stderr)
 
 
 def sources_sum():
@@ -54,7 +58,7 @@ def sources_sum():
         if "out" in below:
             below.remove("out")
         paths += [os.path.join(folder, name) for name in files if name.endswith((".rt", ".antt"))]
-    whole = hashlib.sha256(toolchain_named().encode())
+    whole = hashlib.sha256((toolchain_found() or "").encode())
     for path in sorted(paths):
         with open(path, "rb") as source:
             digest = hashlib.sha256(source.read()).hexdigest()
