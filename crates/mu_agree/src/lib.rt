@@ -7,6 +7,7 @@ ghost use Rattle.mu_agree.specs.Journals.{BeginningsAreDiligent, ObeysOnce};
 ghost use Rattle.mu_agree.specs.Laws.{MinimumRises, MissesShutOut, NumbersDiffer, OnlyOwnersPut, SlotNumbersRise};
 ghost use Rattle.mu_agree.specs.Paces.{RecentAsksAreInTime, RecentReadsAreInTime};
 ghost use Rattle.mu_agree.specs.Possible.{PartsClimb, PartsCount, PartsFind, PartsFit, PartsHaveNext, PartsHold, PartsInSession, PartsKeep, PartsMarkOnce, PartsMove, PartsReach, PartsReadRight, PartsShorten, PartsShowMisses, PartsStand, PartsStayFilled, PartsStayPast};
+ghost use Rattle.mu_agree.specs.Reserve.{BatchesLeaveRoom, KnownLeavesRoom};
 ghost use Rattle.mu_agree.specs.Sessions.{KnownInSession, KnownMarkedOnce, KnownStands, MarkedOnce, RowsComeFirst, RowsReadRight};
 
 /// No two leaderships have the same number.
@@ -108,6 +109,16 @@ pub fn known_marked_once()
 /// A mark of a replica is chosen only after another replica held it to be failed.
 pub fn marks_have_cause()
     ensures { MarksHaveCause }
+{}
+
+/// Batches leave a place for the mark of each replica above them.
+pub fn batches_leave_room()
+    ensures { BatchesLeaveRoom }
+{}
+
+/// While a replica has no mark, a place for one is left above every known list.
+pub fn known_leaves_room()
+    ensures { KnownLeavesRoom }
 {}
 
 /// What came before the last event of a possible part is possible.

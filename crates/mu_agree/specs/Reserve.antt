@@ -1,0 +1,28 @@
+-- places for marks: batches leave as many places free as there are replicas, so in version 2 a
+-- replica without a mark can always be marked.
+use Rattle.std.specs.Prelude.{List, length, true, ℕ, ◌+◌, ◌<◌, ◌≡◌, ◌≤◌}
+use Rattle.mu_model.specs.declared.config.Config.{Config}
+use Rattle.mu_model.specs.declared.event.Event.{Event}
+use Rattle.mu_agree.specs.Agreement.{IsMarked}
+use Rattle.mu_model.specs.Chosen.{IsChosen}
+use Rattle.mu_model.specs.Contents.{IsConfig, is_mark}
+use Rattle.mu_model.specs.Histories.{history, part}
+use Rattle.mu_model.specs.Knowledge.{known}
+use Rattle.mu_model.specs.Legal.{IsLegal}
+use Rattle.mu_model.specs.Regions.{region_head}
+
+-- while no mark of q is chosen, only marks are chosen at the last places that the head of q and the
+-- ring leave, as many as there are replicas, and beyond
+abbrev pub BatchesLeaveRoom : Type 0
+BatchesLeaveRoom =
+    (c : Config) (events : List Event) (q i v : ℕ) → IsLegal c events → c.version ≡ 2
+    → q < c.replicas → (IsMarked c q (history events) → ⊥) → IsChosen c (history events) i v
+    → region_head q (history events) + c.ring ≤ i + c.replicas
+    → (w : ℕ) × (is_mark c w v ≡ true)
+
+-- while no mark of q is chosen, the head of q and the ring leave a place above every known list
+abbrev pub KnownLeavesRoom : Type 0
+KnownLeavesRoom =
+    (c : Config) (events : List Event) (q r : ℕ) → IsConfig c → IsLegal c events → c.version ≡ 2
+    → q < c.replicas → (IsMarked c q (history events) → ⊥)
+    → length (known c r (part r (history events))) + 1 ≤ region_head q (history events) + c.ring
