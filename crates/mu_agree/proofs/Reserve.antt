@@ -1,5 +1,5 @@
 -- Batches leave places for marks, and so a replica without a mark can always be marked.
-use Rattle.std.proofs.Common.{cond, Bool, false, refl, ◌≡◌, ℕ, zero, suc, ◌+◌, ◌-◌, ◌%◌, ◌<◌, ◌≤◌, ◌⊎◌, inl, inr, true, ◌&&◌, ◌||◌, ◌==◌, List, [], ◌∷◌, drop, length, sym, ◌∙◌, ap, arith, Some, None, subst, eqb-true, true≢false}
+use Rattle.std.proofs.Common.{Bool, false, refl, ◌≡◌, ℕ, zero, suc, ◌+◌, ◌-◌, ◌%◌, ◌<◌, ◌≤◌, ◌⊎◌, inl, inr, true, ◌&&◌, ◌||◌, ◌==◌, List, [], ◌∷◌, drop, length, sym, ◌∙◌, ap, arith, Some, None, subst, eqb-true, true≢false}
 use Rattle.std.specs.Prelude.{if◌then◌else◌, is_none, nat_lt, not}
 use Rattle.std.specs.List.{slice_get, IsDistinct}
 use Rattle.std.proofs.lemmas.Map.Steps.{length-le_from_distinct_below}
