@@ -98,7 +98,8 @@ abbrev pub ProgressGoesOn : Type 0
 ProgressGoesOn =
     (stops : List Event → Event → Bool) (c : Config) (r weight next : ℕ) (past : List Event)
     (e : Event)
-    → is_milestone c r past e ≡ false → next + 1 ≤ weight → HasRoom (progressing_by stops c r) weight past
+    → is_milestone c r past e ≡ false → next + 1 ≤ weight
+    → HasRoom (progressing_by stops c r) weight past
     → HasRoom (progressing_by stops c r) next (e ∷ past)
 
 -- one by which a region becomes a member leaves five more
@@ -108,7 +109,8 @@ ProgressWithJoining =
     (e : Event)
     → is_milestone c r past e ≡ false → members c r (e ∷ past) ≡ members c r past + 1
     → next ≤ weight + 5
-    → HasRoom (progressing_by stops c r) weight past → HasRoom (progressing_by stops c r) next (e ∷ past)
+    → HasRoom (progressing_by stops c r) weight past
+    → HasRoom (progressing_by stops c r) next (e ∷ past)
 
 -- one that learns or copies an entry leaves seven more
 abbrev pub ProgressWithCopying : Type 0
@@ -117,7 +119,8 @@ ProgressWithCopying =
     (e : Event)
     → is_milestone c r past e ≡ false → (is_learning c r past e || is_copying c r past e) ≡ true
     → next ≤ weight + 7
-    → HasRoom (progressing_by stops c r) weight past → HasRoom (progressing_by stops c r) next (e ∷ past)
+    → HasRoom (progressing_by stops c r) weight past
+    → HasRoom (progressing_by stops c r) next (e ∷ past)
 
 -- a milestone that is progress itself leaves what the bound allows
 abbrev pub ProgressAnew : Type 0
