@@ -1,7 +1,7 @@
 -- The laws for a possible part of one replica.
 use Rattle.std.proofs.Common.{◌≡◌, ℕ, ◌+◌, ◌<◌, ◌≤◌, inl, inr, Bool, true, false, cond, ◌==◌, List, [], ◌∷◌, ◌++◌, length, refl, sym, ◌∙◌, ap, arith, Some, None, subst, eqb-true}
 use Rattle.std.specs.declared.option.Option.{Option}
-use Rattle.std.specs.Prelude.{nat_lt, if◌then◌else◌}
+use Rattle.std.specs.Prelude.{nat_lt, if◌then◌else◌, not, ◌&&◌}
 use Rattle.std.specs.List.{slice_get}
 use Rattle.std.proofs.lemmas.Bool.{cases_eq}
 use Rattle.std.proofs.lemmas.List.{append_assoc}
@@ -10,19 +10,21 @@ use Rattle.mu_model.specs.declared.event.Event.{Event}
 use Rattle.mu_model.specs.declared.event.Verb.{Verb}
 use Rattle.mu_model.specs.declared.event.Answer.{Answer}
 use Rattle.mu_agree.specs.Agreement.{end_put, fuo_under, kept_if, lesser_or, put_end}
-use Rattle.mu_agree.specs.Possible.{PartsFind, PartsInSession, PartsKeep, PartsMarkOnce, PartsMove, PartsReadRight, PartsShorten, PartsStand}
-use Rattle.mu_model.specs.Allowed.{Allowed}
+use Rattle.mu_agree.specs.Possible.{PartsFind, PartsInSession, PartsKeep, PartsMarkOnce, PartsMove, PartsReadRight, PartsShorten, PartsStand, PartsTrustSelf}
+use Rattle.mu_model.specs.Allowed.{Allowed, Needs}
 use Rattle.mu_model.specs.Answers.{answer_of, shown}
 use Rattle.mu_model.specs.Contents.{IsInSession}
 use Rattle.mu_model.specs.Entering.{grant_seen}
-use Rattle.mu_model.specs.Histories.{has, part}
+use Rattle.mu_model.specs.Histories.{has, newest, or_zero, part}
 use Rattle.mu_model.specs.Knowledge.{fuo_read, greatest_fuo_read, known}
 use Rattle.mu_model.specs.Leaderships.{leadership, noted_grant}
 use Rattle.mu_model.specs.Legal.{IsLegalHistory, MayFollow}
 use Rattle.mu_model.specs.Parts.{IsPossible}
 use Rattle.mu_model.specs.Regions.{fence, fence_grant, is_grant_of, region_fuo, region_log}
+use Rattle.mu_model.specs.Scores.{beat_read, score, score_after_read}
 use Rattle.mu_model.specs.declared.event.Fence.{Fence}
-use Rattle.mu_agree.proofs.Landings.{no_gaps}
+use Rattle.mu_agree.proofs.Landings.{at_part, no_gaps}
+use Rattle.mu_agree.proofs.Legal.{event_after, legal_induction}
 use Rattle.mu_model.proofs.Lists.{item_below}
 use Rattle.mu_agree.proofs.Room.{look_kept, mark_version, past_long}
 use Rattle.mu_model.proofs.Owned.{IsOwn, has-part, greatest-part, noted-part}
@@ -206,3 +208,26 @@ parts_move_law c r p j g u mine between e f x poss l ev ea n fu ul pl fv fa same
 pub answered : (c : Config) (r : ℕ) (mine : List Event) (e : Event) (v : Verb) (p : IsPossible c r (e ∷ mine)) → e.verb ≡ v → e.answer ≡ answer_of c r (at_event c r mine e p).older v
 answered c r mine e v p is =
     let s = at_event c r mine e p in s.follows.answer ∙ ap (λ z. answer_of c z s.older e.verb) s.own ∙ ap (answer_of c r s.older) is
+
+-- nobody reads its own beats, and so each trusts itself
+abbrev TrustsSelf : ℕ → List Event → Type 0
+TrustsSelf r past = score r r (part r past) ≡ (15, true)
+
+no_own_beat : (c : Config) (r by q : ℕ) (a : Answer) (past : List Event) → Needs c by (part by past) (Verb.ReadBeat q) → (by == r) ≡ true → beat_read r r by (Verb.ReadBeat q) a ≡ None
+no_own_beat c r by q (Answer.Number x) past may own = go (by == r) (q == r) refl
+  where
+    go : (t u : Bool) → (q == r) ≡ u → (if t && u then Some x else None) ≡ None
+    go true true e = absurd (may.1 (eqb-true q r e ∙ sym (eqb-true by r own)))
+    go true false e = refl
+    go false u e = refl
+no_own_beat c r by q a past may own = refl
+
+trusts_step : (c : Config) (r by : ℕ) (v : Verb) (past : List Event) → Needs c by (part by past) v → TrustsSelf r past → TrustsSelf r (event_after c past by v ∷ past)
+trusts_step c r by (Verb.ReadBeat q) past may s = at_part (λ J. score r r J ≡ (15, true)) r (event_after c past by (Verb.ReadBeat q)) past s
+    (λ own. ap (score_after_read (score r r (part r past)) (or_zero (newest (λ f. beat_read r r f.by f.verb f.answer) (part r past)))) (no_own_beat c r by q (answer_of c by past (Verb.ReadBeat q)) past may own) ∙ s)
+trusts_step c r by v past may s = at_part (λ J. score r r J ≡ (15, true)) r (event_after c past by v) past s (λ _. s)
+
+pub parts_trust_self_law : PartsTrustSelf
+parts_trust_self_law c r mine p =
+    let s = legal_induction c (TrustsSelf r) refl (λ past by v h may s. trusts_step c r by v past may.may s) p.past p.legal in
+    ap (λ z. not z.1) (ap (score r r) (sym p.is) ∙ s)

@@ -1,6 +1,6 @@
 -- Batches leave places for marks, and so a replica without a mark can always be marked.
-use Rattle.std.proofs.Common.{Bool, false, refl, ◌≡◌, ℕ, zero, suc, ◌+◌, ◌-◌, ◌%◌, ◌<◌, ◌≤◌, ◌⊎◌, inl, inr, true, ◌&&◌, ◌||◌, ◌==◌, List, [], ◌∷◌, drop, length, sym, ◌∙◌, ap, arith, Some, None, subst, eqb-true, true≢false}
-use Rattle.std.specs.Prelude.{if◌then◌else◌, is_none, nat_lt, not}
+use Rattle.std.proofs.Common.{Bool, false, ◌≡◌, ℕ, zero, suc, ◌+◌, ◌-◌, ◌%◌, ◌<◌, ◌≤◌, ◌⊎◌, inl, inr, true, ◌&&◌, ◌||◌, ◌==◌, List, [], ◌∷◌, drop, length, sym, ◌∙◌, ap, arith, Some, None, subst, eqb-true, true≢false}
+use Rattle.std.specs.Prelude.{is_none, nat_lt}
 use Rattle.std.specs.List.{slice_get, IsDistinct}
 use Rattle.std.proofs.lemmas.Map.Steps.{length-le_from_distinct_below}
 use Rattle.std.proofs.lemmas.Map.Keys.{IsDistinct-cons}
@@ -13,21 +13,21 @@ use Rattle.mu_model.specs.declared.event.Event.{Event}
 use Rattle.mu_model.specs.declared.event.Verb.{Verb}
 use Rattle.mu_model.specs.declared.event.Answer.{Answer}
 use Rattle.mu_agree.specs.Agreement.{IsMarked}
-use Rattle.mu_agree.specs.Reserve.{BatchesLeaveRoom, KnownLeavesRoom, PartsLeaveRoom, PartsTrustSelf}
+use Rattle.mu_agree.specs.Reserve.{BatchesLeaveRoom, KnownLeavesRoom}
+use Rattle.mu_agree.specs.Possible.{PartsLeaveRoom}
 use Rattle.mu_model.specs.Allowed.{Needs}
-use Rattle.mu_model.specs.Answers.{answer_of, drained, put_answer}
+use Rattle.mu_model.specs.Answers.{drained, put_answer}
 use Rattle.mu_model.specs.Chosen.{IsChosen}
 use Rattle.mu_model.specs.Contents.{IsConfig, is_batch, is_mark, marked}
-use Rattle.mu_model.specs.Histories.{history, newest, or_zero, part}
+use Rattle.mu_model.specs.Histories.{history, part}
 use Rattle.mu_model.specs.Knowledge.{known}
 use Rattle.mu_model.specs.Legal.{IsLegalHistory}
 use Rattle.mu_model.specs.Picks.{highest_accepted}
 use Rattle.mu_model.specs.Placing.{IsNew, MayPutSlot}
 use Rattle.mu_model.specs.Regions.{head_raised, region_head}
 use Rattle.mu_model.specs.Room.{has_room, last_head, reserve}
-use Rattle.mu_model.specs.Scores.{beat_read, score, score_after_read}
 use Rattle.mu_agree.proofs.Legal.{event_after, legal_induction}
-use Rattle.mu_agree.proofs.Landings.{at_part, has_cases}
+use Rattle.mu_agree.proofs.Landings.{has_cases}
 use Rattle.mu_agree.proofs.Choice.{Found, none_accepted, takes_highest}
 use Rattle.mu_agree.proofs.Early.{PutValue, copies_known, repeats_offer, offers_first, put_value}
 use Rattle.mu_agree.proofs.Phases.{known_chosen, one_chosen}
@@ -232,26 +232,3 @@ parts_leave_room_law c r q h mine e g poss two v a unmarked =
     let k = known_leaves c q r s.older g s.legal two low (subst (λ z. marked c q (known c r z) ≡ false) (sym s.part_is) unmarked) in
     let same : length (known c r (part r s.older)) ≡ length (known c r mine) = ap (λ z. length (known c r z)) s.part_is in
     omega (arith, is, k, same)
-
--- nobody reads its own beats, and so each trusts itself
-abbrev TrustsSelf : ℕ → List Event → Type 0
-TrustsSelf r past = score r r (part r past) ≡ (15, true)
-
-no_own_beat : (c : Config) (r by q : ℕ) (a : Answer) (past : List Event) → Needs c by (part by past) (Verb.ReadBeat q) → (by == r) ≡ true → beat_read r r by (Verb.ReadBeat q) a ≡ None
-no_own_beat c r by q (Answer.Number x) past may own = go (by == r) (q == r) refl
-  where
-    go : (t u : Bool) → (q == r) ≡ u → (if t && u then Some x else None) ≡ None
-    go true true e = absurd (may.1 (eqb-true q r e ∙ sym (eqb-true by r own)))
-    go true false e = refl
-    go false u e = refl
-no_own_beat c r by q a past may own = refl
-
-trusts_step : (c : Config) (r by : ℕ) (v : Verb) (past : List Event) → Needs c by (part by past) v → TrustsSelf r past → TrustsSelf r (event_after c past by v ∷ past)
-trusts_step c r by (Verb.ReadBeat q) past may s = at_part (λ J. score r r J ≡ (15, true)) r (event_after c past by (Verb.ReadBeat q)) past s
-    (λ own. ap (score_after_read (score r r (part r past)) (or_zero (newest (λ f. beat_read r r f.by f.verb f.answer) (part r past)))) (no_own_beat c r by q (answer_of c by past (Verb.ReadBeat q)) past may own) ∙ s)
-trusts_step c r by v past may s = at_part (λ J. score r r J ≡ (15, true)) r (event_after c past by v) past s (λ _. s)
-
-pub parts_trust_self_law : PartsTrustSelf
-parts_trust_self_law c r mine p =
-    let s = legal_induction c (TrustsSelf r) refl (λ past by v h may s. trusts_step c r by v past may.may s) p.past p.legal in
-    ap (λ z. not z.1) (ap (score r r) (sym p.is) ∙ s)

@@ -10,7 +10,7 @@ use Rattle.mu_model.specs.declared.event.Verb.{Verb}
 use Rattle.mu_agree.specs.Agreement.{fuo_under, put_end}
 use Rattle.mu_model.specs.Allowed.{Allowed}
 use Rattle.mu_model.specs.Answers.{is_enter_of}
-use Rattle.mu_model.specs.Contents.{IsConfig, IsInSession, StandsForEntry, begins_batch, client_of, command_count, config_word, holds_all, is_batch, is_mark, number_of, rest_of, row_count}
+use Rattle.mu_model.specs.Contents.{IsConfig, IsInSession, StandsForEntry, begins_batch, client_of, command_count, config_word, holds_all, is_batch, is_mark, marked, number_of, rest_of, row_count}
 use Rattle.mu_model.specs.Knowledge.{entry_seen, greatest_fuo_read, known}
 use Rattle.mu_model.specs.Entering.{any_min_read}
 use Rattle.mu_model.specs.Histories.{greatest, has}
@@ -18,6 +18,7 @@ use Rattle.mu_model.specs.Leaderships.{leadership, noted_grant, number_put}
 use Rattle.mu_model.specs.Parts.{IsPossible}
 use Rattle.mu_model.specs.Picks.{is_past_look, look_answer}
 use Rattle.mu_model.specs.Room.{last_head, reserve}
+use Rattle.mu_model.specs.Scores.{is_failed}
 use Rattle.mu_model.specs.Steps.{is_missed_at}
 
 -- what came before the last event is possible, and the event was allowed after it
@@ -92,6 +93,20 @@ abbrev pub PartsClimb : Type 0
 PartsClimb =
     (c : Config) (r q h : ℕ) (mine : List Event) (e : Event) → IsPossible c r (e ∷ mine)
     → e.verb ≡ Verb.Head q → e.answer ≡ Answer.Number h → last_head r q mine ≤ h
+
+-- in version 2 a head that a possible part reads, and the ring, leave a place above what is known,
+-- if no mark of its replica is
+abbrev pub PartsLeaveRoom : Type 0
+PartsLeaveRoom =
+    (c : Config) (r q h : ℕ) (mine : List Event) (e : Event) → IsConfig c
+    → IsPossible c r (e ∷ mine) → c.version ≡ 2 → e.verb ≡ Verb.Head q
+    → e.answer ≡ Answer.Number h → marked c q (known c r mine) ≡ false
+    → length (known c r mine) + 1 ≤ h + c.ring
+
+-- no possible part holds its own replica to be failed
+abbrev pub PartsTrustSelf : Type 0
+PartsTrustSelf =
+    (c : Config) (r : ℕ) (mine : List Event) → IsPossible c r mine → is_failed r r mine ≡ false
 
 -- a FUO that a possible part reads is at most the number of positions
 abbrev pub PartsReach : Type 0

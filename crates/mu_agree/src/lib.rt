@@ -6,8 +6,8 @@ ghost use Rattle.mu_agree.specs.Agreement.{AtMostOneChosen, FuoIsChosen, FuoIsKe
 ghost use Rattle.mu_agree.specs.Journals.{BeginningsAreDiligent, ObeysOnce};
 ghost use Rattle.mu_agree.specs.Laws.{MinimumRises, MissesShutOut, NumbersDiffer, OnlyOwnersPut, SlotNumbersRise};
 ghost use Rattle.mu_agree.specs.Paces.{RecentAsksAreInTime, RecentReadsAreInTime};
-ghost use Rattle.mu_agree.specs.Possible.{PartsClimb, PartsCount, PartsFind, PartsFit, PartsHaveNext, PartsHold, PartsInSession, PartsKeep, PartsMarkOnce, PartsMove, PartsReach, PartsReadRight, PartsShorten, PartsShowMisses, PartsStand, PartsStayFilled, PartsStayPast};
-ghost use Rattle.mu_agree.specs.Reserve.{BatchesLeaveRoom, KnownLeavesRoom, PartsLeaveRoom, PartsTrustSelf};
+ghost use Rattle.mu_agree.specs.Possible.{PartsClimb, PartsCount, PartsFind, PartsFit, PartsHaveNext, PartsHold, PartsInSession, PartsKeep, PartsLeaveRoom, PartsMarkOnce, PartsMove, PartsReach, PartsReadRight, PartsShorten, PartsShowMisses, PartsStand, PartsStayFilled, PartsStayPast, PartsTrustSelf};
+ghost use Rattle.mu_agree.specs.Reserve.{BatchesLeaveRoom, KnownLeavesRoom};
 ghost use Rattle.mu_agree.specs.Sessions.{KnownInSession, KnownMarkedOnce, KnownStands, MarkedOnce, RowsComeFirst, RowsReadRight};
 
 /// No two leaderships have the same number.

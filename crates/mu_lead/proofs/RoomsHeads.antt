@@ -16,7 +16,8 @@ use Rattle.mu_model.specs.Scores.{is_failed}
 use Rattle.mu_model.specs.Steps.{is_lagging}
 use Rattle.mu_model.specs.Stretches.{is_replication}
 use Rattle.mu_model.proofs.Basics.{same_number}
-use Rattle.mu_agree.proofs.Reserve.{parts_leave_room_law, parts_trust_self_law}
+use Rattle.mu_agree.proofs.Possible.{parts_trust_self_law}
+use Rattle.mu_agree.proofs.Reserve.{parts_leave_room_law}
 use Rattle.mu_pace.specs.Asking.{far, is_far, turns}
 use Rattle.mu_pace.specs.Blocking.{can_be_marked, is_blocking}
 use Rattle.mu_pace.specs.Placed.{IsPlacedAt, is_level}

@@ -1,4 +1,4 @@
-use Rattle.mu_agree.proofs.Reserve.{parts_trust_self_law}
+use Rattle.mu_agree.proofs.Possible.{parts_trust_self_law}
 use Rattle.mu_agree.proofs.parts_trust_self.Goals as goal
 
 pub returns : goal.returns
