@@ -46,47 +46,6 @@ Follows mine old values answer new =
     → values ≡ known_told old.config old.id mine old.id verb answer
     → GoesTo old (record { by = old.id; verb = verb; answer = answer } ∷ mine) answer old.place new
 
--- the same from a place, by the event and with these values known
-abbrev pub FollowsFrom : Lead → Place → List ℕ → Verb → Answer → Lead → Type 0
-FollowsFrom old place values verb answer new =
-    (mine : List Event) → StandsFor mine old → old.place ≡ place
-    → IsPossible old.config old.id (record { by = old.id; verb = verb; answer = answer } ∷ mine)
-    → values ≡ known_told old.config old.id mine old.id verb answer
-    → GoesTo old (record { by = old.id; verb = verb; answer = answer } ∷ mine) answer place new
-
--- the same by the answer to the verb that was due
-abbrev pub FollowsDue : Lead → List ℕ → Answer → Lead → Type 0
-FollowsDue old values answer new =
-    (mine : List Event) (verb : Verb) → HasHeeded mine old → StandsFor mine old
-    → verb_at old.config old.number (known old.config old.id mine) old.up old.written.items
-    old.place
-    ≡ Some verb
-    → IsPossible old.config old.id (record { by = old.id; verb = verb; answer = answer } ∷ mine)
-    → values ≡ known_told old.config old.id mine old.id verb answer
-    → GoesTo old (record { by = old.id; verb = verb; answer = answer } ∷ mine) answer old.place new
-
--- the same of a look at the first unknown position
-abbrev pub FollowsLook : Lead → Place → List ℕ → ℕ → ℕ → Answer → Lead → Type 0
-FollowsLook old place values p i answer new =
-    (mine : List Event) → StandsFor mine old → old.place ≡ place → i ≡ end_of old.config old.id mine
-    → IsPossible old.config old.id
-    (record { by = old.id; verb = Verb.Look p i; answer = answer } ∷ mine)
-    → values ≡ known old.config old.id
-    (record { by = old.id; verb = Verb.Look p i; answer = answer } ∷ mine)
-    → GoesTo old (record { by = old.id; verb = Verb.Look p i; answer = answer } ∷ mine) answer place
-    new
-
--- the same of a head, with what was heeded of failed replicas
-abbrev pub FollowsHead : Lead → ℕ → Option ℕ → List ℕ → Answer → Lead → Type 0
-FollowsHead old q candidate values answer new =
-    (mine : List Event) → HasHeeded mine old → StandsFor mine old
-    → old.place ≡ Place.ReadHead q candidate
-    → IsPossible old.config old.id
-    (record { by = old.id; verb = Verb.Head q; answer = answer } ∷ mine)
-    → values ≡ known old.config old.id mine
-    → GoesTo old (record { by = old.id; verb = Verb.Head q; answer = answer } ∷ mine) answer
-    (Place.ReadHead q candidate) new
-
 -- what holds of a replica's events at a place lasts: each replication step of the listing leads to
 -- a place at which it holds again
 abbrev pub Lasts : (Config → ℕ → List Event → Place → Type 0) → Type 0
