@@ -1,6 +1,5 @@
 -- What lasts along the listing lasts at a leader that follows it.
-use Rattle.std.proofs.Common.{List, Some, ap, refl, subst, sym, true, ℕ, ◌∙◌, ◌∷◌, ◌≡◌}
-use Rattle.std.specs.declared.option.Option.{Option}
+use Rattle.std.proofs.Common.{List, Some, ap, subst, sym, true, ℕ, ◌∷◌, ◌≡◌}
 use Rattle.mu_model.specs.declared.config.Config.{Config}
 use Rattle.mu_model.specs.declared.event.Answer.{Answer}
 use Rattle.mu_model.specs.declared.event.Event.{Event}
@@ -13,7 +12,6 @@ use Rattle.mu_lead.specs.declared.lead.Lead.{Lead}
 use Rattle.mu_lead.specs.declared.place.Place.{Place}
 use Rattle.mu_lead.specs.Gathering.{GoesFrom}
 use Rattle.mu_lead.specs.Lasting.{Follows, KeepsNext, Lasts, tables_of, verb_or}
-use Rattle.mu_lead.specs.Leading.{end_of}
 use Rattle.mu_lead.specs.Listing.{next_place}
 use Rattle.mu_lead.specs.Standing.{StandsFor, known_told, verb_at}
 use Rattle.mu_lead.proofs.Onwards.{listing_goes}

@@ -1,37 +1,24 @@
 -- The note of each place is that of the listing.
-use Rattle.mu_lead.proofs.Replies.{tells_head, tells_min}
-use Rattle.mu_lead.proofs.Rows.{min_small, working_is}
+use Rattle.mu_lead.proofs.Rows.{working_is}
 use Rattle.mu_lead.proofs.Says.{IsToldAs, TellsAll, all_known, grew_next, holds_them, lacks_some, values_in_session}
 use Rattle.mu_lead.specs.Lasting.{tables_of}
-use Rattle.mu_lead.specs.Leading.{end_of}
-use Rattle.mu_lead.specs.Listing.{Tables, is_missed, may_mark, number_told}
-use Rattle.mu_lead.specs.Notes.{TellsPut, note_of_commit, note_of_head, note_of_min}
-use Rattle.mu_lead.specs.Noting.{NotesNext, NotedNext, next_note, note_of_enter, note_of_evidence, note_of_past, note_of_round, or_idle}
-use Rattle.mu_lead.specs.Saying.{is_working, note_of_join, note_of_learning, note_of_look}
-use Rattle.mu_lead.specs.Sets.{NamesFence, NamesLost, is_bit}
-use Rattle.mu_lead.specs.Standing.{At, HoldsAt, StandsFor, known_told, verb_at}
+use Rattle.mu_lead.specs.Listing.{Tables}
+use Rattle.mu_lead.specs.Noting.{NotesNext, NotedNext, next_note, or_idle}
+use Rattle.mu_lead.specs.Saying.{is_working}
+use Rattle.mu_lead.specs.Standing.{At, StandsFor}
 use Rattle.mu_lead.specs.declared.lead.Lead.{Lead}
 use Rattle.mu_lead.specs.declared.note.Note.{Note}
-use Rattle.mu_lead.specs.declared.place.Offer.{Offer}
 use Rattle.mu_lead.specs.declared.place.Place.{Place}
-use Rattle.mu_lead.specs.declared.place.Sight.{Sight}
-use Rattle.mu_lead.specs.declared.place.Then.{Then}
-use Rattle.mu_leading.proofs.Within.{known_few}
-use Rattle.mu_model.proofs.Basics.{event_by, same_some}
+use Rattle.mu_model.proofs.Basics.{event_by}
 use Rattle.mu_model.specs.Contents.{IsInSession, holds_all}
 use Rattle.mu_model.specs.Histories.{or_zero}
 use Rattle.mu_model.specs.Knowledge.{known}
-use Rattle.mu_model.specs.Leaderships.{is_over, proposal_number}
-use Rattle.mu_model.specs.Parts.{IsPossible}
-use Rattle.mu_model.specs.Room.{reserve}
-use Rattle.mu_model.specs.Scores.{is_failed}
+use Rattle.mu_model.specs.Leaderships.{proposal_number}
 use Rattle.mu_model.specs.declared.config.Config.{Config}
 use Rattle.mu_model.specs.declared.event.Answer.{Answer}
 use Rattle.mu_model.specs.declared.event.Event.{Event}
-use Rattle.mu_model.specs.declared.event.Verb.{Verb}
-use Rattle.std.proofs.Common.{Bool, List, None, Some, [], ap, arith, false, get_or, inl, inr, length, length-append, refl, subst, sym, true, ℕ, ◌&&◌, ◌+◌, ◌<◌, ◌==◌, ◌∙◌, ◌∷◌, ◌≡◌}
-use Rattle.std.proofs.lemmas.Bool.{le-ltb, lt-ltb}
-use Rattle.std.specs.Prelude.{if◌then◌else◌, min, nat_lt, not}
+use Rattle.std.proofs.Common.{Bool, List, ap, false, inl, inr, length, refl, subst, sym, true, ℕ, ◌&&◌, ◌<◌, ◌∙◌, ◌∷◌, ◌≡◌}
+use Rattle.std.specs.Prelude.{if◌then◌else◌}
 use Rattle.std.specs.declared.option.Option.{Option}
 
 -- a note that isn't told apart from `Idle`, and one that is

@@ -12,7 +12,7 @@ use Rattle.mu_lead.specs.Noting.{next_note}
 use Rattle.mu_lead.specs.Offering.{AtPut}
 use Rattle.mu_lead.specs.Sets.{is_bit}
 use Rattle.mu_lead.specs.Standing.{At, known_told, verb_at}
-use Rattle.mu_lead.specs.Stepping.{GoesBy, is_done, lands_last}
+use Rattle.mu_lead.specs.Stepping.{GoesBy, lands_last}
 use Rattle.mu_lead.specs.declared.place.Offer.{Offer}
 use Rattle.mu_lead.specs.declared.place.Place.{Place}
 use Rattle.mu_model.proofs.Basics.{event_by, same_some}
@@ -26,7 +26,7 @@ use Rattle.mu_model.specs.declared.config.Config.{Config}
 use Rattle.mu_model.specs.declared.event.Answer.{Answer}
 use Rattle.mu_model.specs.declared.event.Event.{Event}
 use Rattle.mu_model.specs.declared.event.Verb.{Verb}
-use Rattle.std.proofs.Common.{Bool, List, None, Some, [], ap, arith, false, get_or, inl, inr, is_some, length, length-append, refl, subst, sym, true, true≢false, ℕ, ◌+◌, ◌<◌, ◌∙◌, ◌∷◌, ◌≡◌}
+use Rattle.std.proofs.Common.{List, None, Some, [], ap, arith, false, get_or, inl, inr, is_some, length, length-append, refl, subst, sym, true≢false, ℕ, ◌+◌, ◌<◌, ◌∙◌, ◌∷◌, ◌≡◌}
 use Rattle.std.proofs.lemmas.Bool.{le-ltb, lt-ltb, ltb-false}
 use Rattle.std.specs.Prelude.{nat_lt, not}
 use Rattle.std.specs.declared.option.Option.{Option}

@@ -1,5 +1,5 @@
 -- The leader's tables after each step: what a place writes is what the step's verb does.
-use Rattle.std.proofs.Common.{Bool, List, Some, [], ap, arith, cond, false, get_or, length, refl, suc, subst, sym, true, true≢false, zero, ℕ, ◌+◌, ◌<◌, ◌||◌, ◌∙◌, ◌∷◌, ◌≡◌}
+use Rattle.std.proofs.Common.{Bool, List, [], ap, arith, cond, false, get_or, length, refl, suc, subst, sym, true, zero, ℕ, ◌+◌, ◌<◌, ◌||◌, ◌∙◌, ◌∷◌, ◌≡◌}
 use Rattle.std.specs.Prelude.{if◌then◌else◌, nat_le, nat_lt, set}
 use Rattle.std.specs.declared.option.Option.{Option}
 use Rattle.std.proofs.lemmas.Bool.{le-ltb, lt-ltb}
@@ -55,19 +55,6 @@ put_commits c r p i b v mine now up up' reach heads written here more ups =
     four_same up' (up_with c r mine now up (Verb.PutSlot p i b v) Answer.Done) reach reach heads heads written written
     (ups ∙ sym (left_out (nat_lt i (end_of c r mine)) (set up p (i + 1)) (if nat_lt (end_of c r mine) (end_of c r now) then all else up) (le-ltb i (end_of c r mine) (omega (arith, here)))
     ∙ chosen (nat_lt (end_of c r mine) (end_of c r now)) all up (lt-ltb (end_of c r mine) (end_of c r now) (omega (arith, more))))) refl refl refl
-
--- a FUO that is raised, a head that is read, and a word that is written
-pub fuo_raised : (c : Config) (r p u : ℕ) (mine now : List Event) (up : List ℕ) (reach reach' : List (Option ℕ)) (heads written : List ℕ) → reach' ≡ fuo_in reach p u
-    → four up reach' heads written ≡ tables_with c r mine now (four up reach heads written) (Verb.RaiseFuo p u) Answer.Done
-fuo_raised c r p u mine now up reach reach' heads written reaches = four_same up up reach' (fuo_in reach p u) heads heads written written refl reaches refl refl
-
-pub head_read_now : (c : Config) (r q h : ℕ) (mine now : List Event) (up : List ℕ) (reach : List (Option ℕ)) (heads heads' written : List ℕ) → heads' ≡ set heads q h
-    → four up reach heads' written ≡ tables_with c r mine now (four up reach heads written) (Verb.Head q) (Answer.Number h)
-head_read_now c r q h mine now up reach heads heads' written is = four_same up up reach reach heads' (set heads q h) written written refl refl is refl
-
-pub word_written : (c : Config) (r j k x : ℕ) (mine now : List Event) (up : List ℕ) (reach : List (Option ℕ)) (heads written written' : List ℕ) → written' ≡ set written j (get_or written j 12 + 1)
-    → four up reach heads written' ≡ tables_with c r mine now (four up reach heads written) (Verb.WriteRow j k x) Answer.Done
-word_written c r j k x mine now up reach heads written written' is = four_same up up reach reach heads heads written' (set written j (get_or written j 12 + 1)) refl refl refl is
 
 -- lists of as many numbers that agree at each place are the same
 same_lists : (xs ys : List ℕ) → length xs ≡ length ys → ((q : ℕ) → q < length xs → get_or xs q 0 ≡ get_or ys q 0) → xs ≡ ys

@@ -20,7 +20,7 @@ use Rattle.mu_lead.specs.declared.place.Place.{Place}
 use Rattle.mu_lead.specs.Lasting.{tables_of}
 use Rattle.mu_lead.specs.Leading.{end_of, most_replicas}
 use Rattle.mu_lead.specs.Listing.{Tables, next_place}
-use Rattle.mu_lead.specs.Standing.{StandsFor, known_told, verb_at, verb_of}
+use Rattle.mu_lead.specs.Standing.{known_told, verb_at, verb_of}
 
 -- the table with u at each place that passes; its first place is place k
 abbrev pub set_where : (ℕ → Bool) → ℕ → ℕ → List ℕ → List ℕ

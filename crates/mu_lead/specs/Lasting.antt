@@ -12,9 +12,8 @@ use Rattle.mu_model.specs.Parts.{IsPossible}
 use Rattle.mu_model.specs.Stretches.{is_replication}
 use Rattle.mu_lead.specs.declared.lead.Lead.{Lead}
 use Rattle.mu_lead.specs.declared.place.Place.{Place}
-use Rattle.mu_lead.specs.Leading.{end_of}
 use Rattle.mu_lead.specs.Listing.{Tables, next_place}
-use Rattle.mu_lead.specs.Standing.{At, HasHeeded, StandsFor, known_told, verb_at, verb_of}
+use Rattle.mu_lead.specs.Standing.{At, known_told, verb_at, verb_of}
 
 -- the verb, if there is one, else a beat
 abbrev pub verb_or : Option Verb → Verb

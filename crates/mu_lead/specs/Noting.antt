@@ -21,7 +21,7 @@ use Rattle.mu_lead.specs.Listing.{Tables, is_missed, may_mark, number_told}
 use Rattle.mu_lead.specs.Notes.{note_of_commit, note_of_head, note_of_min}
 use Rattle.mu_lead.specs.Saying.{is_working, note_of_fence, note_of_join, note_of_learning, note_of_look, note_of_raise}
 use Rattle.mu_lead.specs.Sets.{bits}
-use Rattle.mu_lead.specs.Standing.{HasHeeded, StandsFor, known_told, verb_of}
+use Rattle.mu_lead.specs.Standing.{known_told, verb_of}
 
 -- the note of an `Enter` of p, and of the fence that is read after a put at p that missed
 abbrev pub note_of_enter : ℕ → Answer → Note

@@ -74,10 +74,6 @@ pub record Stands (mine : List Event) (l : Lead) : Type 0 where
   pub leading : StandsForLeadership l.id mine l.leading
   pub tables : HoldsTables l.config l.id mine l.up l.reach l.heads l.written.items
 
--- what holds at a place, with what the leader keeps
-abbrev pub HoldsAt : List Event → Lead → Place → Type 0
-HoldsAt mine l place = At l.config l.id l.number mine l.up l.reach l.written.items place
-
 -- the verb of each place
 abbrev pub verb_at : Config → ℕ → List ℕ → List ℕ → List ℕ → Place → Option Verb
 verb_at c b values up written (Place.Ask p) = Some (Verb.Ask p)

@@ -352,7 +352,6 @@ impl Lead {
         self.place = next;
         note
     }
-
 }
 
 /// Tells the leaderships of the answer, if they rest on the verb.
@@ -364,7 +363,14 @@ fn tell(leading: &mut Leadership, id: u8, verb: Verb, answer: Answer)
         leading.new }
 {
     if !is_calm(verb) {
-        leading.take(id, &Event { by: id, verb, answer });
+        leading.take(
+            id,
+            &Event {
+                by: id,
+                verb,
+                answer,
+            },
+        );
     }
 }
 

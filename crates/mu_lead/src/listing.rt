@@ -103,7 +103,11 @@ fn unless_missed(answer: Answer, p: u8, place: Place) -> Place
 fn unless_past(answer: Answer, place: Place) -> Place
     ensures { result ≡ (if is_past_answer answer then SomePlace.Outrun else place) }
 {
-    if is_past(answer) { Place::Outrun } else { place }
+    if is_past(answer) {
+        Place::Outrun
+    } else {
+        place
+    }
 }
 
 /// The place after a look at what `p` lacks.

@@ -143,7 +143,8 @@ impl Lead {
             && (is_bit q self.now.failed
             && nat_lt (length known.now + 0) (head + self.now.config.ring))) }
     {
-        if self.leaves_room(head, reserve_of(&self.config), known) || self.may_mark(q, head, known)
+        if self.leaves_room(head, reserve_of(&self.config), known)
+            || self.may_mark(q, head, known)
         {
             Note::Working
         } else {

@@ -118,13 +118,7 @@ impl Lead {
     }
 
     /// The place after the head of `q`.
-    pub(crate) fn after_head(
-        &self,
-        q: u8,
-        candidate: Option<u8>,
-        head: u64,
-        known: &[u16],
-    ) -> Place
+    pub(crate) fn after_head(&self, q: u8, candidate: Option<u8>, head: u64, known: &[u16]) -> Place
         ensures { (now : List Event) → Stands now self.now
             → known.now ≡ known_of self.now.config self.now.id now
             → q < self.now.config.replicas

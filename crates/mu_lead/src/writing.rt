@@ -127,7 +127,6 @@ impl Lead {
             None => self.offer(offer),
         }
     }
-
 }
 
 /// The last of these values.

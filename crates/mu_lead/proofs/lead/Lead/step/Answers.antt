@@ -1,7 +1,6 @@
 use Rattle.mu_lead.proofs.StandsTaken.{stood_by}
 use Rattle.mu_lead.proofs.Steps.{fuo_inside, goes_by, put_offer, same_tables_note, word_lacks}
 use Rattle.mu_lead.proofs.Writes.{four, four_same}
-use Rattle.mu_lead.specs.Going.{going_after}
 use Rattle.mu_lead.specs.Journal.{heads_with, reach_with, tables_with, up_with, written_with}
 use Rattle.mu_lead.specs.Lasting.{tables_of}
 use Rattle.mu_lead.specs.Leading.{HoldsTables, end_of}
@@ -15,7 +14,7 @@ use Rattle.mu_lead.specs.declared.place.Place.{Place}
 use Rattle.mu_model.proofs.Basics.{event_by}
 use Rattle.mu_model.specs.Knowledge.{known}
 use Rattle.mu_model.specs.declared.event.Verb.{Verb}
-use Rattle.std.proofs.Common.{List, Some, ap, arith, refl, subst, sym, ℕ, ◌<◌, ◌∙◌, ◌∷◌, ◌≡◌}
+use Rattle.std.proofs.Common.{Some, ap, arith, refl, subst, sym, ℕ, ◌∙◌, ◌∷◌, ◌≡◌}
 use Rattle.std.specs.Prelude.{nat_lt}
 use Rattle.mu_lead.proofs.lead.Lead.step.Goals as goal
 
@@ -33,7 +32,7 @@ returns-clause-steps c = λ mine x.
     let leading = c.tell.ensures k mine few x.possible s.leading in
     let goes = goes_by k r l.number l.failed mine l.up l.reach l.written.items c.args.known.now verb a l.place s.config s.at x.due x.possible x.told x.heeded in
     let commits : (p : ℕ) (offer : Offer) → l.place ≡ Place.Put p offer → c.commits-commits.result ≡ nat_lt (end_of k r mine) (end_of k r now) = λ p offer is.
-        c.commits-commits.ensures p offer now is (subst (At k r l.number mine l.up l.reach l.written.items) is s.at).0.entering.region few leading ∙ sym (subst (GoesBy k r l.failed mine now c.args.known.now a) is goes).1 in
+    c.commits-commits.ensures p offer now is (subst (At k r l.number mine l.up l.reach l.written.items) is s.at).0.entering.region few leading ∙ sym (subst (GoesBy k r l.failed mine now c.args.known.now a) is goes).1 in
     let due_as : (w : Verb) → verb ≡ w → verb_at k l.number values l.up l.written.items l.place ≡ Some w = λ w is. x.due ∙ ap (λ v. Some v) is in
     let written : IsWritten k r mine verb a c.args.known.now c.commits-commits.result = record {
       told = x.told;
@@ -45,7 +44,7 @@ returns-clause-steps c = λ mine x.
     let heads = c.write_head.ensures s.tables.all_heads in
     let words = c.write_word.ensures (λ j w y is. word_lacks k r l.number j w y mine l.up l.reach l.written.items values l.place s.at (due_as (Verb.WriteRow j w y) is)) in
     let tables : four c.write_up.new.up c.write_reach.new.reach c.write_head.new.heads c.write_word.new.written.items ≡ tables_with k r mine now (tables_of l) verb a =
-        four_same c.write_up.new.up (up_with k r mine now l.up verb a) c.write_reach.new.reach (reach_with l.reach verb a) c.write_head.new.heads (heads_with l.heads verb a) c.write_word.new.written.items (written_with l.written.items verb) ups reaches heads words in
+    four_same c.write_up.new.up (up_with k r mine now l.up verb a) c.write_reach.new.reach (reach_with l.reach verb a) c.write_head.new.heads (heads_with l.heads verb a) c.write_word.new.written.items (written_with l.written.items verb) ups reaches heads words in
     let number = c.next_number-self.ensures now s.config s.inside x.possible leading in
     let stood = stood_by l mine l.place verb a c.next_number-self.result s refl x.due number x.possible in
     let told : Lead = record {

@@ -28,7 +28,7 @@ returns-clause-stands c = λ mine answer s ahead may.
     let written = c.count_word.new.written.items in
     let is = c.count_word.ensures lacks in
     let tables = tables_row l.config l.id j k (config_word l.config j k) mine l.up l.reach l.heads l.written.items written possible s.tables (sym (default_is l.written.items j there)) (ap length is ∙ length-set l.written.items j (k + 1)) (ap (λ xs. get_or xs j 0) is ∙ get_or-set_same l.written.items j (k + 1) 0 there)
-        (λ q other. ap (λ xs. get_or xs q 0) is ∙ get_or-set_other l.written.items j q (k + 1) 0 other) in
+    (λ q other. ap (λ xs. get_or xs q 0) is ∙ get_or-set_other l.written.items j q (k + 1) 0 other) in
     let on = at_on l.config l.id l.number verb Answer.Done mine l.up l.reach l.written.items l.place ahead.leads refl possible s.at in
     let new : Lead = record {
       config = l.config;
