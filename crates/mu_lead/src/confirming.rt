@@ -47,10 +47,8 @@ impl Lead {
 
     /// Whether a majority with its own region is noted.
     pub(crate) fn is_confirmed(&self) -> bool
-        ensures { (mine : List Event) → self.now.config.replicas ≤ 7
-            → self.now.id < self.now.config.replicas
-            → StandsForLeadership self.now.id mine self.now.leading
-            → result ≡ is_confirmed_by self.now.config self.now.id mine }
+        ensures { (now : List Event) → Stands now self.now
+            → result ≡ is_confirmed_by self.now.config self.now.id now }
     {
         let n = self.config.replicas;
         self.leading.noted(self.id).is_some() && majority(n) <= count_noted(&self.leading, n)
@@ -58,10 +56,8 @@ impl Lead {
 
     /// The place after a round of fences.
     fn after_round(&self, round: u8) -> Place
-        ensures { (mine : List Event) → self.now.config.replicas ≤ 7
-            → self.now.id < self.now.config.replicas
-            → StandsForLeadership self.now.id mine self.now.leading
-            → result ≡ after_round self.now.config self.now.id mine round }
+        ensures { (now : List Event) → Stands now self.now
+            → result ≡ after_round self.now.config self.now.id now round }
     {
         if self.is_confirmed() {
             self.first_to_read()
@@ -74,10 +70,8 @@ impl Lead {
 
     /// Begins to read the minima.
     fn first_to_read(&self) -> Place
-        ensures { (mine : List Event) → self.now.config.replicas ≤ 7
-            → self.now.id < self.now.config.replicas
-            → StandsForLeadership self.now.id mine self.now.leading
-            → result ≡ or_else (noted_from self.now.config self.now.id mine 0) SomePlace.ReadMin
+        ensures { (now : List Event) → Stands now self.now
+            → result ≡ or_else (noted_from self.now.config self.now.id now 0) SomePlace.ReadMin
             SomePlace.Rest }
     {
         match next_noted(&self.leading, 0, self.config.replicas) {
@@ -102,10 +96,8 @@ impl Lead {
 
     /// Begins to put the number.
     fn first_to_enter(&self) -> Place
-        ensures { (mine : List Event) → self.now.config.replicas ≤ 7
-            → self.now.id < self.now.config.replicas
-            → StandsForLeadership self.now.id mine self.now.leading
-            → result ≡ or_else (noted_from self.now.config self.now.id mine 0) SomePlace.EnterMin
+        ensures { (now : List Event) → Stands now self.now
+            → result ≡ or_else (noted_from self.now.config self.now.id now 0) SomePlace.EnterMin
             SomePlace.Rest }
     {
         match next_noted(&self.leading, 0, self.config.replicas) {
@@ -115,7 +107,7 @@ impl Lead {
     }
 
     /// The place after the number was put at `p`.
-    pub(crate) fn after_number(&self, p: u8) -> Place
+    pub(crate) fn after_put_min(&self, p: u8) -> Place
         ensures { (now : List Event) → Stands now self.now → p < self.now.config.replicas
             → result
             ≡ or_else (noted_from self.now.config self.now.id now (p + 1)) SomePlace.EnterMin
@@ -143,10 +135,8 @@ impl Lead {
 
     /// The first member, which there is.
     pub(crate) fn first_member(&self) -> u8
-        ensures { (mine : List Event) → self.now.config.replicas ≤ 7
-            → self.now.id < self.now.config.replicas
-            → StandsForLeadership self.now.id mine self.now.leading
-            → result ≡ first_member self.now.config self.now.id mine }
+        ensures { (now : List Event) → Stands now self.now
+            → result ≡ first_member self.now.config self.now.id now }
     {
         match next_member(&self.leading, 0, self.config.replicas) {
             Some(q) => q,

@@ -29,35 +29,44 @@ impl Lead {
             answer self.now.place }
     {
         match self.place {
+            // asks, and rounds of fences
             Place::Ask(p) => self.after_ask(p),
             Place::Confirm(round, p) => self.after_fence(round, p),
+            // minima, and the number
             Place::ReadMin(p) => self.after_min(p),
             Place::EnterMin(p) => unless_lost(answer, Place::PutMin(p)),
-            Place::PutMin(p) => unless_missed(answer, p, self.after_number(p)),
+            Place::PutMin(p) => unless_missed(answer, p, self.after_put_min(p)),
+            // FUOs, and what is known elsewhere
             Place::ReadFuo(p, source) => self.after_fuo(p, source, known),
             Place::Learn(source) => unless_past(answer, self.learn_from(source, known)),
+            // members that are behind
             Place::WidenBehind(p, then) => Place::LookBehind(p, then),
             Place::LookBehind(p, then) => after_look_behind(answer, p, then),
             Place::EnterBehind(p, then) => unless_lost(answer, Place::PutBehind(p, then)),
             Place::PutBehind(p, then) => unless_missed(answer, p, self.after_copy(p, then, known)),
             Place::RaiseBehind(p, then) => self.after_region(p, then, known),
             Place::FenceBehind(p, then) => self.after_fence_behind(p, then),
+            // late followers
             Place::LateFence(p) => self.after_late_fence(p, known),
             Place::LateMin(p) => self.after_late_min(p, number_told(answer)),
             Place::LateFuo(p) => self.after_late_fuo(p, number_told(answer), known),
             Place::LateEnter(p) => unless_lost(answer, Place::LatePut(p)),
             Place::LatePut(p) => unless_missed(answer, p, self.after_late_put(p, known)),
+            // heads
             Place::ReadHead(q, candidate) => {
                 self.after_head(q, candidate, number_told(answer), known)
             }
+            // looks, and the rows of an own batch
             Place::Look(p, i, candidate, best) => unless_past(
                 answer,
                 self.after_look(p, i, candidate, larger(best, sight_in(answer)), known, log),
             ),
             Place::Write(j, last, offer) => self.write_from(j, last, offer),
+            // the offer at each member, and its FUOs
             Place::Enter(p, offer) => unless_lost(answer, Place::Put(p, offer)),
             Place::Put(p, offer) => unless_missed(answer, p, self.after_put(p, offer)),
             Place::Raise(p) => self.after_raise(p, known),
+            // what ends
             Place::Evidence(_) => Place::Ask(0),
             Place::Outrun => Place::Outrun,
             Place::Rest => Place::Rest,

@@ -31,33 +31,28 @@ pub(crate) fn write_up(
         ≡ up_with c r past (record { by = r; verb = verb; answer = answer } ∷ past) up.old verb
         answer }
 {
-    match verb {
-        Verb::Ask(p) => {
+    match (verb, answer) {
+        (Verb::Ask(p), _) => {
             if p == 0 {
                 *up = [0; 7];
             }
         }
-        Verb::Fuo(p) => write_fuo(up, leading, p, answer, known),
-        Verb::PutSlot(p, i, _, _) => write_put(up, leading, p, i, answer, known, commits),
+        (Verb::Fuo(p), Answer::Number(u)) => write_fuo(up, leading, p, u, known),
+        (Verb::PutSlot(p, i, _, _), Answer::Done) => write_put(up, leading, p, i, known, commits),
         _ => {}
     }
 }
 
 /// Writes how far the region of a FUO is: a member, or one that is not ahead.
-fn write_fuo(up: &mut [u64; 7], leading: &Leadership, p: u8, answer: Answer, known: &[u16])
+fn write_fuo(up: &mut [u64; 7], leading: &Leadership, p: u8, u: u64, known: &[u16])
     ensures { (c : Config) → (r : ℕ) → (past now : List Event) → length up.old ≡ 7 → p < 7
         → known.now ≡ known_of c r past
         → StandsForLeadership r
-        (record { by = r; verb = SomeVerb.Fuo p; answer = answer } ∷ past) leading.now
-        → up.new ≡ up_with c r past now up.old (SomeVerb.Fuo p) answer }
+        (record { by = r; verb = SomeVerb.Fuo p; answer = SomeAnswer.Number u } ∷ past) leading.now
+        → up.new ≡ up_with c r past now up.old (SomeVerb.Fuo p) (SomeAnswer.Number u) }
 {
-    match answer {
-        Answer::Number(u) => {
-            if leading.is_member(p) || u <= known.len() as u64 {
-                set_at(up, p, u);
-            }
-        }
-        _ => {}
+    if leading.is_member(p) || u <= known.len() as u64 {
+        set_at(up, p, u);
     }
 }
 
@@ -67,28 +62,23 @@ fn write_put(
     leading: &Leadership,
     p: u8,
     i: u16,
-    answer: Answer,
     known: &[u16],
     commits: bool,
 )
     ensures { (c : Config) → (r : ℕ) → (past now : List Event) → (b v : ℕ) → length up.old ≡ 7
         → known.now ≡ known_of c r past
-        → (answer ≡ SomeAnswer.Done → nat_lt i (end_of c r past) ≡ false
+        → (nat_lt i (end_of c r past) ≡ false
         → commits ≡ nat_lt (end_of c r past) (end_of c r now))
         → StandsForLeadership r
-        (record { by = r; verb = SomeVerb.PutSlot p i b v; answer = answer } ∷ past) leading.now
-        → up.new ≡ up_with c r past now up.old (SomeVerb.PutSlot p i b v) answer }
+        (record { by = r; verb = SomeVerb.PutSlot p i b v; answer = SomeAnswer.Done } ∷ past)
+        leading.now
+        → up.new ≡ up_with c r past now up.old (SomeVerb.PutSlot p i b v) SomeAnswer.Done }
 {
-    match answer {
-        Answer::Done => {
-            let next = u64::from(i) + 1;
-            if usize::from(i) < known.len() {
-                set_at(up, p, next);
-            } else if commits {
-                set_members(up, leading, next);
-            }
-        }
-        _ => {}
+    let next = u64::from(i) + 1;
+    if usize::from(i) < known.len() {
+        set_at(up, p, next);
+    } else if commits {
+        set_members(up, leading, next);
     }
 }
 
@@ -96,25 +86,14 @@ fn write_put(
 pub(crate) fn write_reach(reach: &mut [Option<u64>; 7], verb: Verb, answer: Answer)
     ensures { length reach.old ≡ 7 → reach.new ≡ reach_with reach.old verb answer }
 {
-    match verb {
-        Verb::Ask(p) => {
+    match (verb, answer) {
+        (Verb::Ask(p), _) => {
             if p == 0 {
                 *reach = [None; 7];
             }
         }
-        Verb::Fuo(p) => write_read(reach, p, answer),
-        Verb::RaiseFuo(p, u) => set_farther(reach, p, u64::from(u)),
-        _ => {}
-    }
-}
-
-/// Writes the FUO that was read.
-fn write_read(reach: &mut [Option<u64>; 7], p: u8, answer: Answer)
-    ensures { length reach.old ≡ 7
-        → reach.new ≡ reach_with reach.old (SomeVerb.Fuo p) answer }
-{
-    match answer {
-        Answer::Number(u) => set_farther(reach, p, u),
+        (Verb::Fuo(p), Answer::Number(u)) => set_farther(reach, p, u),
+        (Verb::RaiseFuo(p, u), _) => set_farther(reach, p, u64::from(u)),
         _ => {}
     }
 }

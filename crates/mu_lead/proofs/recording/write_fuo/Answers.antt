@@ -8,11 +8,11 @@ pub returns-then-is_member : goal.returns-then-is_member
 returns-then-is_member c = λ k r past now seven low told held.
     let member = sym (c.is_member.ensures r _ low held) in
     elim c.then-is_member.branch [
-      | then-is_member-via-then-is_member w ↦ rw (c.in-Number.is, member ∙ w.if-is_member.true) (c.set_at.ensures seven)
+      | then-is_member-via-then-is_member w ↦ rw (member ∙ w.if-is_member.true) (c.set_at.ensures seven)
       | then-is_member-via-else-is_member+then-u-known w ↦
           let long = ap length told in
           let less = w.if-u-known.true in
-          rw (c.in-Number.is, member ∙ w.if-is_member.false, le-leb c.in-Number.u (end_of k r past) (omega (arith, less, long))) (c.set_at.ensures seven)
+          rw (member ∙ w.if-is_member.false, le-leb c.args.u (end_of k r past) (omega (arith, less, long))) (c.set_at.ensures seven)
     ]
 
 pub returns-else-u-known : goal.returns-else-u-known
@@ -20,4 +20,4 @@ returns-else-u-known c = λ k r past now seven low told held.
     let member = sym (c.is_member.ensures r _ low held) in
     let long = ap length told in
     let more = c.if-u-known.false in
-    rw (c.in-Number.is, member ∙ c.if-is_member.false, lt-leb c.in-Number.u (end_of k r past) (omega (arith, more, long))) refl
+    rw (member ∙ c.if-is_member.false, lt-leb c.args.u (end_of k r past) (omega (arith, more, long))) refl

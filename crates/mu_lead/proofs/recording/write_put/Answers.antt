@@ -13,4 +13,4 @@ returns-then-commits c = λ k r past now b v seven told grows held.
     let high = le-ltb c.args.i (end_of k r past) (omega (arith, from, long, above)) in
     let next = c.from-next.ensures in
     let one : c.from-next.result + 1 ≡ c.args.i + 1 = omega (arith, next) in
-    rw (c.in-Done.is, high, sym (grows c.in-Done.is high) ∙ c.if-commits.true) (c.set_members.ensures.is r _ seven held ∙ ap (λ n. set_where (λ q. is_member r q past) n 0 c.args.up.now) one)
+    rw (high, sym (grows high) ∙ c.if-commits.true) (c.set_members.ensures.is r _ seven held ∙ ap (λ n. set_where (λ q. is_member r q past) n 0 c.args.up.now) one)

@@ -15,4 +15,4 @@ returns-else-next-self c = λ now s.
     let few = s.config.replicas.1 in
     let next = c.saturating_add-next.ensures in
     let high = c.if-next-self.false in
-    rw (le-ltb (c.args.p + 1) c.args.self.now.config.replicas (omega (arith, next, high, few))) (c.after_round.ensures now few s.inside s.leading)
+    rw (le-ltb (c.args.p + 1) c.args.self.now.config.replicas (omega (arith, next, high, few))) (c.after_round.ensures now s)

@@ -17,5 +17,5 @@ returns-in-None c = λ now s region.
     let l = c.args.self.now in
     let few = s.config.replicas.1 in
     let next = c.saturating_add.ensures in
-    c.first_to_enter.ensures now few s.inside s.leading
+    c.first_to_enter.ensures now s
     ∙ found_place (λ k. is_some (noted_grant l.id k now)) (c.args.p + 1) c.saturating_add.result l.config.replicas None Place.ReadMin (or_else (noted_from l.config l.id now 0) Place.EnterMin Place.Rest) (omega (arith, next, region, few)) (c.in-None.ensures l.id now few s.leading)

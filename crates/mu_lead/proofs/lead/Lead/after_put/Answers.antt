@@ -17,5 +17,5 @@ returns-in-None c = λ now s region.
     let l = c.args.self.now in
     let few = s.config.replicas.1 in
     let more = c.saturating_add.ensures in
-    ap Place.Raise (c.first_member.ensures now few s.inside s.leading)
+    ap Place.Raise (c.first_member.ensures now s)
     ∙ found_place (λ k. is_member l.id k now) (c.args.p + 1) c.saturating_add.result l.config.replicas None (λ q. Place.Enter q c.args.offer) (Place.Raise (first_member l.config l.id now)) (omega (arith, more, region, few)) (c.in-None.ensures l.id now few s.leading)
