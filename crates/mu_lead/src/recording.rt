@@ -57,14 +57,7 @@ fn write_fuo(up: &mut [u64; 7], leading: &Leadership, p: u8, u: u64, known: &[u1
 }
 
 /// Writes the entry that was put at the region, or, if that made it known, at each member.
-fn write_put(
-    up: &mut [u64; 7],
-    leading: &Leadership,
-    p: u8,
-    i: u16,
-    known: &[u16],
-    commits: bool,
-)
+fn write_put(up: &mut [u64; 7], leading: &Leadership, p: u8, i: u16, known: &[u16], commits: bool)
     ensures { (c : Config) → (r : ℕ) → (past now : List Event) → (b v : ℕ) → length up.old ≡ 7
         → known.now ≡ known_of c r past
         → (nat_lt i (end_of c r past) ≡ false
