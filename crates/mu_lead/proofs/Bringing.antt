@@ -361,11 +361,3 @@ done_behind c r b p from mine up reach on is at k region member done = elim (cas
     less Then.Late other low = omega (arith, low, is, other)
     less Then.Position other low = omega (arith, low, is, other)
     less Then.Joined other low = tt
-
--- positions fit 16 bits
-pub config_small : (c : Config) → IsConfig c → row_count c + reserve c + 1 < 65535
-config_small c config = let rows = config.few in let few = config.replicas.1 in let spare = at_most (c.version == 2) c.replicas in omega (arith, rows, few, spare)
-  where
-    at_most : (t : Bool) (n : ℕ) → (cond t n 0) ≤ n
-    at_most true n = omega arith
-    at_most false n = omega arith

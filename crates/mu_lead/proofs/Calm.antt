@@ -16,7 +16,7 @@ use Rattle.mu_model.specs.Scores.{is_failed}
 use Rattle.mu_model.proofs.Basics.{event_by, or_true}
 use Rattle.mu_lead.specs.Leading.{end_of}
 use Rattle.mu_lead.specs.Offering.{MayBeMarked, Roomy, leaves_room}
-use Rattle.mu_lead.proofs.Keeping.{is_calm}
+use Rattle.mu_lead.specs.Stepping.{is_calm}
 use Rattle.mu_lead.proofs.Rooms.{higher}
 use Rattle.mu_lead.proofs.Tables.{head_kept}
 

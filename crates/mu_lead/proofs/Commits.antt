@@ -116,11 +116,3 @@ commit_says c r p b mine answer values offer note shows (inr is) tells same = go
             (λ row. absurd (not_empty c r end mine (subst (ShowsEntry c r mine) row.0.position row.1) shows)),
           );
         }
-
--- a commit is noted
-pub working_commits : (i : ℕ) (offer : Offer) → Note.Working ≡ note_of_commit i offer → ⊥
-working_commits i offer is = go offer.adopted is
-  where
-    go : (t : Bool) → Note.Working ≡ (if t then Note.Adopted i offer.value else Note.Committed i offer.value) → ⊥
-    go true is = cc
-    go false is = cc

@@ -15,13 +15,13 @@ use Rattle.mu_pace.specs.Keeping.{AsksLately}
 use Rattle.mu_pace.proofs.Countdowns.{countdowns_run}
 use Rattle.mu_lead.specs.declared.lead.Lead.{Lead}
 use Rattle.mu_lead.specs.declared.place.Place.{Place}
-use Rattle.mu_lead.specs.Lasting.{FollowsDue, KeepsNext}
+use Rattle.mu_lead.specs.Lasting.{Follows, KeepsNext}
 use Rattle.mu_lead.proofs.Listed.{goes}
 use Rattle.mu_lead.specs.Beside.{is_beside, leads_at}
 use Rattle.mu_lead.specs.Elections.{AsksNext, ElectionsComeInTime, ElectsAt, FencesNext, HasStepsLeft, ReadsNext, since_ask, since_fence}
 use Rattle.mu_lead.specs.Gathering.{GoesFrom}
 use Rattle.mu_lead.specs.Offering.{AtRest}
-use Rattle.mu_lead.specs.Standing.{At, HasHeeded, StandsFor, TakesDue, verb_at}
+use Rattle.mu_lead.specs.Standing.{At, StandsFor, TakesNext, verb_at}
 use Rattle.mu_lead.proofs.RoomsMin.{min_now}
 use Rattle.mu_lead.proofs.ElectionSteps.{all_rounds, anywhere, asked_last, asked_next, asks_quiet, ended_asks, fenced_asked, fenced_next, fenced_reads, fenced_round, is_ask, leads_on, led_anywhere, min_left, quiet_led, quiet_rest, quiet_unnamed, read_on, reads_on, stays_quiet, verb_asks_none}
 
@@ -78,11 +78,11 @@ rest_now c r now new config id s rest =
     subst (λ k. AtRest k r now) config (subst (λ k. AtRest new.config k now) id (subst (At new.config new.id new.number now new.up new.reach new.written.items) rest s.at).0)
 
 -- by the answer to the verb that was due
-pub elects_next : (mine : List Event) (old new : Lead) (values : List ℕ) (answer : Answer) → StandsFor mine old → HasHeeded mine old → TakesDue old values answer new → FollowsDue old values answer new → new.config ≡ old.config → new.id ≡ old.id
+pub elects_next : (mine : List Event) (old new : Lead) (values : List ℕ) (answer : Answer) → StandsFor mine old → TakesNext mine old values answer new → Follows mine old values answer new → new.config ≡ old.config → new.id ≡ old.id
     → KeepsNext ElectsAt mine old values answer new
-elects_next mine old new values answer s heeded stands follows config id verb due possible told turn elects =
-    elects_from old.config old.id old.number mine old.up old.reach old.written.items (known old.config old.id mine) verb answer old.place new.place s.inside s.at due elects turn (goes mine old new values answer verb s heeded follows due possible told)
-    (rest_now old.config old.id (event_by old.id verb answer ∷ mine) new config id (stands mine verb heeded s due possible told))
+elects_next mine old new values answer s stands follows config id verb due possible told turn elects =
+    elects_from old.config old.id old.number mine old.up old.reach old.written.items (known old.config old.id mine) verb answer old.place new.place s.inside s.at due elects turn (goes mine old new values answer verb s follows due possible told)
+    (rest_now old.config old.id (event_by old.id verb answer ∷ mine) new config id (stands verb due possible told))
 
 -- what another machine does in the background
 pub min_beside : (r : ℕ) (leading : Bool) (verb : Verb) (a : Answer) (mine : List Event) → is_beside leading verb ≡ true → has_min r (event_by r verb a ∷ mine) ≡ has_min r mine

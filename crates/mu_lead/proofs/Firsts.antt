@@ -45,3 +45,10 @@ joined_region c r now t p on is = ap (after_region c r now t p) (sym is)
 pub other_region : (c : Config) (r : ℕ) (now : List Event) (t : Tables) (p : ℕ) (on : Then) → (on ≡ Then.Joined → ⊥) → bring_up_from c r now t (p + 1) on ≡ after_region c r now t p on
 other_region c r now t p Then.Joined not = absurd (not refl)
 other_region c r now t p on not = refl
+
+-- nothing was found
+pub not_found : (t r : Bool) → t ≡ not r → r ≡ not t
+not_found true true is = absurd (true≢false is)
+not_found true false is = refl
+not_found false true is = refl
+not_found false false is = absurd (true≢false (sym is))

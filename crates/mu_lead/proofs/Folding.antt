@@ -3,14 +3,14 @@ use Rattle.mu_lead.proofs.Lates.{fence_ends}
 use Rattle.mu_lead.proofs.Says.{said_next}
 use Rattle.mu_lead.specs.Beside.{leads_at, writes_row}
 use Rattle.mu_lead.specs.Going.{begins_at, going_after}
-use Rattle.mu_lead.specs.Journal.{HasLeft, IsWhere, PlacesNext, WritesDue, due_after, least_above, number_due, number_or, place_after, tables_at, tables_beside, tables_with}
-use Rattle.mu_lead.specs.Lasting.{FollowsDue, tables_of}
+use Rattle.mu_lead.specs.Journal.{HasLeft, IsWhere, PlacesNext, WritesNext, due_after, least_above, number_due, number_or, place_after, tables_at, tables_beside, tables_with}
+use Rattle.mu_lead.specs.Lasting.{Follows, tables_of}
 use Rattle.mu_lead.specs.Listing.{Tables, next_place}
 use Rattle.mu_lead.specs.Losses.{LosesEntering, LosesReading}
-use Rattle.mu_lead.specs.Noting.{NotedDue}
+use Rattle.mu_lead.specs.Noting.{NotesNext}
 use Rattle.mu_lead.specs.Resigning.{IsTold, beat_of}
 use Rattle.mu_lead.specs.Saying.{ShowsHigher}
-use Rattle.mu_lead.specs.Standing.{At, HasHeeded, StandsFor, known_told, verb_at, verb_of}
+use Rattle.mu_lead.specs.Standing.{At, StandsFor, known_told, verb_at, verb_of}
 use Rattle.mu_lead.specs.declared.lead.Lead.{Lead}
 use Rattle.mu_lead.specs.declared.note.AbortCause.{AbortCause}
 use Rattle.mu_lead.specs.declared.note.Note.{Note}
@@ -154,9 +154,9 @@ goes_off was (Note.Aborted cause) off = inl refl
 goes_off was note off = inr off
 
 -- where it does, the leader asks anew
-aborts_anew : (mine : List Event) (old : Lead) (values : List ℕ) (answer : Answer) (note : Note) (verb : Verb) (t : Tables) → HasHeeded mine old → StandsFor mine old → NotedDue old values answer note → verb_of old (known old.config old.id mine) ≡ Some verb
+aborts_anew : (mine : List Event) (old : Lead) (values : List ℕ) (answer : Answer) (note : Note) (verb : Verb) (t : Tables) → StandsFor mine old → NotesNext mine old values answer note → verb_of old (known old.config old.id mine) ≡ Some verb
     → IsPossible old.config old.id (event_by old.id verb answer ∷ mine) → values ≡ known_told old.config old.id mine old.id verb answer → is_aborted note ≡ true → next_place old.config old.id old.number (event_by old.id verb answer ∷ mine) t answer old.place ≡ Place.Ask 0
-aborts_anew mine old values answer note verb t heeded s noted due possible told aborted = go note refl aborted
+aborts_anew mine old values answer note verb t s noted due possible told aborted = go note refl aborted
   where
     Anew : Verb → Answer → Type 0
     Anew w a = next_place old.config old.id old.number (event_by old.id w a ∷ mine) t a old.place ≡ Place.Ask 0
@@ -174,20 +174,20 @@ aborts_anew mine old values answer note verb t heeded s noted due possible told 
     told_higher p m l = subst (λ a. Anew verb a) (sym l.told) (min_anew old.config old.id old.number p m mine old.up old.reach old.written.items (event_by old.id verb (Answer.Number m) ∷ mine) t old.place s.at (due ∙ ap (λ v. Some v) l.asked) l.above)
 
     go : (n : Note) → note ≡ n → is_aborted n ≡ true → Anew verb answer
-    go (Note.Aborted (AbortCause.Lost p f)) is aborted = elim (((said_next mine old values answer note verb heeded s noted due possible told).lost p f).0 is) [ inl l ↦ entering p f l | inr l ↦ reading p f l ]
-    go (Note.Aborted (AbortCause.Higher p m)) is aborted = told_higher p m (((said_next mine old values answer note verb heeded s noted due possible told).reads.higher p m).0 is)
+    go (Note.Aborted (AbortCause.Lost p f)) is aborted = elim (((said_next mine old values answer note verb s noted due possible told).lost p f).0 is) [ inl l ↦ entering p f l | inr l ↦ reading p f l ]
+    go (Note.Aborted (AbortCause.Higher p m)) is aborted = told_higher p m (((said_next mine old values answer note verb s noted due possible told).reads.higher p m).0 is)
     go n is aborted = absurd (true≢false (sym aborted))
 
 -- a step of the leader, in a turn in which r is named
-pub where_led : (mine : List Event) (old new : Lead) (values : List ℕ) (answer : Answer) (note : Note) → StandsFor mine old → HasHeeded mine old → NotedDue old values answer note → WritesDue old values answer new → FollowsDue old values answer new
+pub where_led : (mine : List Event) (old new : Lead) (values : List ℕ) (answer : Answer) (note : Note) → StandsFor mine old → NotesNext mine old values answer note → WritesNext mine old values answer new → Follows mine old values answer new
     → new.under_way ≡ going_after (begins_at old.place || old.under_way) note → PlacesNext mine old values answer new
-where_led mine old new values answer note s heeded noted writes follows going verb due possible told turn named at =
+where_led mine old new values answer note s noted writes follows going verb due possible told turn named at =
     let c = old.config in
     let r = old.id in
     let e = event_by r verb answer in
     let b = or_zero (proposal_number r mine) in
-    let place = follows mine verb heeded s due possible told in
-    let tables : tables_of new ≡ tables_at c r (e ∷ mine) = writes mine verb s due possible told ∙ ap (λ t. tables_with c r mine (e ∷ mine) t verb answer) at.tables ∙ sym (turn_tables c r mine e turn) in
+    let place = follows verb due possible told in
+    let tables : tables_of new ≡ tables_at c r (e ∷ mine) = writes verb due possible told ∙ ap (λ t. tables_with c r mine (e ∷ mine) t verb answer) at.tables ∙ sym (turn_tables c r mine e turn) in
     record {
       place = place
           ∙ same_number_place c r old.number mine (e ∷ mine) old.up old.reach old.written.items (tables_of new) answer old.place s.at
@@ -196,7 +196,7 @@ where_led mine old new values answer note s heeded noted writes follows going ve
           ∙ sym (led_place c r mine e turn named);
       tables = tables;
       idle = λ off. elim (goes_off (begins_at old.place || old.under_way) note (sym going ∙ off)) [
-        | inl aborted ↦ place ∙ aborts_anew mine old values answer note verb (tables_of new) heeded s noted due possible told aborted
+        | inl aborted ↦ place ∙ aborts_anew mine old values answer note verb (tables_of new) s noted due possible told aborted
         | inr none ↦ absurd (begun old.place old.under_way none at.idle)
       ];
     }

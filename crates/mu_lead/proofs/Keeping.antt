@@ -16,17 +16,8 @@ use Rattle.mu_model.specs.Room.{reserve}
 use Rattle.mu_model.proofs.Basics.{event_by, same_number, true_or}
 use Rattle.mu_leading.specs.Leadership.{StandsForLeadership}
 use Rattle.mu_leading.specs.declared.leadership.Leadership.{Leadership}
+use Rattle.mu_lead.specs.Stepping.{is_calm}
 use Rattle.mu_lead.specs.Leading.{Brought, HasMost, HoldsTables, IsMember, IsRaised, IsReached, Leads, end_of}
-
--- a verb that changes nothing of a leadership but what is looked at, read and raised
-abbrev pub is_calm : Verb → Bool
-is_calm (Verb.Ask p) = false
-is_calm (Verb.Fence p) = false
-is_calm (Verb.Min p) = false
-is_calm (Verb.Enter p t) = false
-is_calm (Verb.PutMin p b) = false
-is_calm (Verb.PutSlot p i b v) = false
-is_calm _ = true
 
 -- the known list never gets shorter
 pub end_rises : (c : Config) (r : ℕ) (e : Event) (mine : List Event) → end_of c r mine ≤ end_of c r (e ∷ mine)

@@ -75,6 +75,7 @@ mod StandsOnward
 mod StandsPutting
 mod StandsTables
 mod StandsTaken
+mod Steps
 mod Tables
 mod Taking
 mod Telling

@@ -31,7 +31,8 @@ use Rattle.mu_lead.specs.Standing.{At, StandsFor}
 use Rattle.mu_lead.proofs.Calm.{number_calm, room_more, roomy_more}
 use Rattle.mu_lead.proofs.FuosBeside.{at_fuo}
 use Rattle.mu_lead.proofs.LooksBeside.{at_looked}
-use Rattle.mu_lead.proofs.Keeping.{is_calm, leading_calm, leads_kept, source_calm, most_on}
+use Rattle.mu_lead.specs.Stepping.{is_calm}
+use Rattle.mu_lead.proofs.Keeping.{leading_calm, leads_kept, source_calm, most_on}
 use Rattle.mu_lead.proofs.Looks.{head_event}
 use Rattle.mu_lead.proofs.Sights.{keeps_looks, shows_kept}
 use Rattle.mu_lead.proofs.Tables.{is_write, tables_kept}

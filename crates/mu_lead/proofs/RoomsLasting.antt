@@ -50,13 +50,13 @@ use Rattle.mu_lead.proofs.RoomsRaising.{rooms_all_brought, rooms_brought_joined,
 use Rattle.mu_lead.proofs.RoomsReading.{rooms_brings, rooms_learns, rooms_level, rooms_next_fuo}
 use Rattle.mu_lead.proofs.RoomsWriting.{one_word, rooms_last_word, rooms_next_word, skip_full, some_words}
 use Rattle.mu_lead.proofs.Rows.{learning_taught}
-use Rattle.mu_lead.specs.Journal.{WritesDue, WritesTo}
-use Rattle.mu_lead.specs.Lasting.{FollowsDue, step_of, tables_of}
+use Rattle.mu_lead.specs.Journal.{WritesNext, WritesTo}
+use Rattle.mu_lead.specs.Lasting.{Follows, step_of, tables_of}
 use Rattle.mu_lead.specs.Leading.{HoldsTables, end_of}
 use Rattle.mu_lead.specs.Listing.{Tables, after_look, bring_up, bring_up_from, farther, first_member, heads_from, larger_sight, late_from, learn_from, least_candidate, may_mark, member_from, next_place, or_else, pick, sight_of}
 use Rattle.mu_lead.specs.Onward.{MayBringUp}
 use Rattle.mu_lead.specs.Rooms.{IsLed, IsOut, IsPlaced, KeepsTables, RoomsAt, RoomsNext, lag_of, words_left}
-use Rattle.mu_lead.specs.Standing.{At, HasHeeded, StandsFor, TakesDue, verb_at, verb_of}
+use Rattle.mu_lead.specs.Standing.{At, StandsFor, TakesNext, verb_at, verb_of}
 use Rattle.mu_lead.specs.declared.lead.Lead.{Lead}
 use Rattle.mu_lead.specs.declared.place.Offer.{Offer}
 use Rattle.mu_lead.specs.declared.place.Place.{Place}
@@ -391,16 +391,16 @@ keeps_tables mine old new verb answer s due writes = go old.place s.at due
     go place at due = tt
 
 -- so they have where the leader comes by the verb that was due
-pub rooms_next : (mine : List Event) (old new : Lead) (values : List ℕ) (answer : Answer) → StandsFor mine old → HasHeeded mine old → new.config ≡ old.config → new.id ≡ old.id → WritesDue old values answer new → TakesDue old values answer new → FollowsDue old values answer new
+pub rooms_next : (mine : List Event) (old new : Lead) (values : List ℕ) (answer : Answer) → StandsFor mine old → new.config ≡ old.config → new.id ≡ old.id → WritesNext mine old values answer new → TakesNext mine old values answer new → Follows mine old values answer new
     → RoomsNext mine old values answer new
-rooms_next mine old new values answer s heeded config id writes takes follows verb due possible told turn rooms =
+rooms_next mine old new values answer s config id writes takes follows verb due possible told turn rooms =
     let c = old.config in
     let r = old.id in
     let b = old.number in
     let is = due_step old mine verb due in
     let now = event_by r verb answer ∷ mine in
-    let stands = takes mine verb heeded s due possible told in
-    let place = follows mine verb heeded s due possible told in
+    let stands = takes verb due possible told in
+    let place = follows verb due possible told in
     let held = subst (λ i. HoldsTables c i now new.up new.reach new.heads new.written.items) id (subst (λ k. HoldsTables k new.id now new.up new.reach new.heads new.written.items) config stands.tables) in
     let next = subst (At c r new.number now new.up new.reach new.written.items) place (subst (λ i. At c i new.number now new.up new.reach new.written.items new.place) id (subst (λ k. At k new.id new.number now new.up new.reach new.written.items new.place) config stands.at)) in
     let goes = rooms_last_along c r b new.number mine (tables_of old) (tables_of new) old.place answer (ap is_some due) (record {
@@ -410,7 +410,7 @@ rooms_next mine old new values answer s heeded config id writes takes follows ve
       at = s.at;
       possible = subst (λ w. IsPossible c r (event_by r w answer ∷ mine)) (sym is) possible;
       turn = subst (λ w. is_replication mine (event_by r w answer) ≡ true) (sym is) turn;
-      kept = keeps_tables mine old new verb answer s due (writes mine verb s due possible told);
+      kept = keeps_tables mine old new verb answer s due (writes verb due possible told);
       held = subst (λ w. HoldsTables c r (event_by r w answer ∷ mine) new.up new.reach new.heads new.written.items) (sym is) held;
       next = subst (λ w. At c r new.number (event_by r w answer ∷ mine) new.up new.reach new.written.items (next_place c r b (event_by r w answer ∷ mine) (tables_of new) answer old.place)) (sym is) next;
       rooms = rooms;

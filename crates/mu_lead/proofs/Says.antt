@@ -13,10 +13,10 @@ use Rattle.mu_lead.specs.Leading.{HoldsTables, end_of}
 use Rattle.mu_lead.specs.Listing.{Tables}
 use Rattle.mu_lead.specs.Losses.{SaysLost}
 use Rattle.mu_lead.specs.Notes.{note_of_commit, value_committed}
-use Rattle.mu_lead.specs.Noting.{NotedDue, next_note, note_of_round}
+use Rattle.mu_lead.specs.Noting.{NotesNext, next_note, note_of_round}
 use Rattle.mu_lead.specs.Saying.{SaysCommit, SaysNext, SaysReads, SaysRound, is_of_no_place}
 use Rattle.mu_lead.specs.Sets.{bits}
-use Rattle.mu_lead.specs.Standing.{At, HasHeeded, StandsFor, known_told, verb_at, verb_of}
+use Rattle.mu_lead.specs.Standing.{At, StandsFor, known_told, verb_at, verb_of}
 use Rattle.mu_lead.specs.declared.lead.Lead.{Lead}
 use Rattle.mu_lead.specs.declared.note.AbortCause.{AbortCause}
 use Rattle.mu_lead.specs.declared.note.Note.{Note}
@@ -105,19 +105,19 @@ notes_say c r b mine old a place is held at possible = record {
 }
 
 -- so has the leader's
-pub said_next : (mine : List Event) (old : Lead) (values : List ℕ) (answer : Answer) (note : Note) (verb : Verb) → HasHeeded mine old → StandsFor mine old → NotedDue old values answer note
+pub said_next : (mine : List Event) (old : Lead) (values : List ℕ) (answer : Answer) (note : Note) (verb : Verb) → StandsFor mine old → NotesNext mine old values answer note
     → verb_of old (known old.config old.id mine) ≡ Some verb → IsPossible old.config old.id (event_by old.id verb answer ∷ mine) → values ≡ known_told old.config old.id mine old.id verb answer → IsSaid old.config old.id mine old.up old.place verb answer note
-said_next mine old values answer note verb heeded s noted due possible told =
+said_next mine old values answer note verb s noted due possible told =
     let is = due_step old mine verb due in
-    subst (IsSaid old.config old.id mine old.up old.place verb answer) (sym (noted mine verb heeded s due possible told))
+    subst (IsSaid old.config old.id mine old.up old.place verb answer) (sym (noted verb due possible told))
     (subst (λ w. IsSaid old.config old.id mine old.up old.place w answer (next_note old.config old.id old.number mine (event_by old.id w answer ∷ mine) (tables_of old) answer old.place)) is
     (notes_say old.config old.id old.number mine (tables_of old) answer old.place s.config s.tables s.at (subst (λ w. IsPossible old.config old.id (event_by old.id w answer ∷ mine)) (sym is) possible)))
 
 -- and what is known grew as it tells
-pub grew_next : (mine : List Event) (old : Lead) (values : List ℕ) (answer : Answer) (note : Note) (verb : Verb) → HasHeeded mine old → StandsFor mine old → NotedDue old values answer note
+pub grew_next : (mine : List Event) (old : Lead) (values : List ℕ) (answer : Answer) (note : Note) (verb : Verb) → StandsFor mine old → NotesNext mine old values answer note
     → verb_of old (known old.config old.id mine) ≡ Some verb → IsPossible old.config old.id (event_by old.id verb answer ∷ mine) → values ≡ known_told old.config old.id mine old.id verb answer
     → known old.config old.id (event_by old.id verb answer ∷ mine) ≡ grown values (value_committed note)
-grew_next mine old values answer note verb heeded s noted due possible told = (said_next mine old values answer note verb heeded s noted due possible told).grew ∙ ap (λ xs. grown xs (value_committed note)) (sym told)
+grew_next mine old values answer note verb s noted due possible told = (said_next mine old values answer note verb s noted due possible told).grew ∙ ap (λ xs. grown xs (value_committed note)) (sym told)
 
 -- whether the values hold all commands is what is asked of the known list
 pub all_known : (mine : List Event) (old : Lead) (values : List ℕ) (answer : Answer) (verb : Verb) (note : Note) (all : Bool) → note ≡ Note.Working → known old.config old.id (event_by old.id verb answer ∷ mine) ≡ grown values (value_committed note)
@@ -132,11 +132,11 @@ values_in_session mine old values answer verb note s possible is tells =
     (subst (IsInSession old.config) same (parts_in_session_law old.config old.id (event_by old.id verb answer ∷ mine) s.config possible), subst (λ xs. length xs < 65536) same (known_few old.config old.id (event_by old.id verb answer ∷ mine) s.config possible))
 
 -- the note of `take_answer`, where it is told apart from `Idle`
-pub says_next : (mine : List Event) (old : Lead) (values : List ℕ) (answer : Answer) (note : Note) → HasHeeded mine old → StandsFor mine old → NotedDue old values answer note
+pub says_next : (mine : List Event) (old : Lead) (values : List ℕ) (answer : Answer) (note : Note) → StandsFor mine old → NotesNext mine old values answer note
     → (note ≡ Note.Working → length values < 65536 → IsInSession old.config values → holds_all old.config values ≡ false) → SaysNext mine old values answer note
-says_next mine old values answer note heeded s noted lacks verb due possible told =
-    let grew = grew_next mine old values answer note verb heeded s noted due possible told in
-    let said = said_next mine old values answer note verb heeded s noted due possible told in
+says_next mine old values answer note s noted lacks verb due possible told =
+    let grew = grew_next mine old values answer note verb s noted due possible told in
+    let said = said_next mine old values answer note verb s noted due possible told in
     let reads = said.reads in
     let placed = said.placed in
     record {
@@ -153,11 +153,11 @@ says_next mine old values answer note heeded s noted lacks verb due possible tol
     }
 
 -- `Idle` in place of `Working`, where all commands are known
-pub says_idle : (mine : List Event) (old : Lead) (values : List ℕ) (answer : Answer) (note : Note) → HasHeeded mine old → StandsFor mine old → NotedDue old values answer note → note ≡ Note.Working
+pub says_idle : (mine : List Event) (old : Lead) (values : List ℕ) (answer : Answer) (note : Note) → StandsFor mine old → NotesNext mine old values answer note → note ≡ Note.Working
     → (length values < 65536 → IsInSession old.config values → holds_all old.config values ≡ true) → SaysNext mine old values answer Note.Idle
-says_idle mine old values answer note heeded s noted is all verb due possible told =
-    let grew = grew_next mine old values answer note verb heeded s noted due possible told in
-    let said = said_next mine old values answer note verb heeded s noted due possible told in
+says_idle mine old values answer note s noted is all verb due possible told =
+    let grew = grew_next mine old values answer note verb s noted due possible told in
+    let said = said_next mine old values answer note verb s noted due possible told in
     let in_session = values_in_session mine old values answer verb note s possible is grew in
     let reads = said.reads in
     let rounds = said.rounds in
@@ -207,9 +207,9 @@ lacks_some c values note result tells same is few session = working_if (holds_al
 pub holds_them : (c : Config) (values : List ℕ) (note result : Note) → TellsAll c values note result → result ≡ Note.Idle → note ≡ Note.Working → length values < 65536 → IsInSession c values → holds_all c values ≡ true
 holds_them c values note result tells idle is few session = idle_if (holds_all c values) (sym idle ∙ tells few session is)
 
-pub says_told : (mine : List Event) (old : Lead) (values : List ℕ) (answer : Answer) (note result : Note) → HasHeeded mine old → StandsFor mine old → NotedDue old values answer note → IsToldAs note result → TellsAll old.config values note result → SaysNext mine old values answer result
-says_told mine old values answer note result heeded s noted (inl same) tells = subst (SaysNext mine old values answer) (sym same) (says_next mine old values answer note heeded s noted (lacks_some old.config values note result tells same))
-says_told mine old values answer note result heeded s noted (inr idle) tells = subst (SaysNext mine old values answer) (sym idle.0) (says_idle mine old values answer note heeded s noted idle.1 (holds_them old.config values note result tells idle.0 idle.1))
+pub says_told : (mine : List Event) (old : Lead) (values : List ℕ) (answer : Answer) (note result : Note) → StandsFor mine old → NotesNext mine old values answer note → IsToldAs note result → TellsAll old.config values note result → SaysNext mine old values answer result
+says_told mine old values answer note result s noted (inl same) tells = subst (SaysNext mine old values answer) (sym same) (says_next mine old values answer note s noted (lacks_some old.config values note result tells same))
+says_told mine old values answer note result s noted (inr idle) tells = subst (SaysNext mine old values answer) (sym idle.0) (says_idle mine old values answer note s noted idle.1 (holds_them old.config values note result tells idle.0 idle.1))
 
 -- it tells of the same value
 pub same_value : (note result : Note) → IsToldAs note result → value_committed result ≡ value_committed note

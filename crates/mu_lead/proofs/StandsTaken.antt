@@ -1,12 +1,16 @@
 -- What stands after the leader's step, by the law of its listing: with its leaderships, its tables and its place.
 use Rattle.mu_lead.proofs.StandsLasting.{stands_along}
 use Rattle.mu_lead.proofs.StandsOnward.{Stood}
-use Rattle.mu_lead.specs.Journal.{WritesDue, tables_with}
-use Rattle.mu_lead.specs.Lasting.{FollowsDue, tables_of, verb_or}
+use Rattle.mu_known.specs.KnownLog.{HoldsValues}
+use Rattle.mu_known.specs.declared.known_log.KnownLog.{KnownLog}
+use Rattle.mu_lead.proofs.Taking.{StepsNext}
+use Rattle.mu_lead.specs.Journal.{tables_with}
+use Rattle.mu_lead.specs.Lasting.{tables_of, verb_or}
 use Rattle.mu_lead.specs.Leading.{HoldsTables}
 use Rattle.mu_lead.specs.Listing.{Tables, next_place}
-use Rattle.mu_lead.specs.Standing.{At, LedDue, NumberAfter, StandsFor, TakesDue, verb_at}
+use Rattle.mu_lead.specs.Standing.{At, NumberAfter, StandsFor, TakesNext, verb_at}
 use Rattle.mu_lead.specs.declared.lead.Lead.{Lead}
+use Rattle.mu_lead.specs.declared.note.Note.{Note}
 use Rattle.mu_lead.specs.declared.place.Place.{Place}
 use Rattle.mu_leading.specs.Leadership.{StandsForLeadership}
 use Rattle.mu_model.proofs.Basics.{event_by}
@@ -20,7 +24,7 @@ use Rattle.mu_model.specs.declared.event.Verb.{Verb}
 use Rattle.std.proofs.Common.{List, Some, ap, is_some, refl, subst, sym, ℕ, ◌<◌, ◌∙◌, ◌∷◌, ◌≡◌}
 
 -- after the step of a verb that is due
-stood_by : (old : Lead) (mine : List Event) (place : Place) (verb : Verb) (answer : Answer) (d : ℕ) → StandsFor mine old → old.place ≡ place → verb_at old.config old.number (known old.config old.id mine) old.up old.written.items place ≡ Some verb
+pub stood_by : (old : Lead) (mine : List Event) (place : Place) (verb : Verb) (answer : Answer) (d : ℕ) → StandsFor mine old → old.place ≡ place → verb_at old.config old.number (known old.config old.id mine) old.up old.written.items place ≡ Some verb
     → NumberAfter old.config old.id old.number d (event_by old.id verb answer ∷ mine) place → IsPossible old.config old.id (event_by old.id verb answer ∷ mine)
     → Stood old.config old.id d (event_by old.id verb answer ∷ mine) (tables_with old.config old.id mine (event_by old.id verb answer ∷ mine) (tables_of old) verb answer) (next_place old.config old.id old.number (event_by old.id verb answer ∷ mine) (tables_with old.config old.id mine (event_by old.id verb answer ∷ mine) (tables_of old) verb answer) answer place)
 stood_by old mine place verb answer d s at due number possible =
@@ -31,12 +35,6 @@ stood_by old mine place verb answer d s at due number possible =
     subst (λ w. Stood c r d (event_by r w answer ∷ mine) (tables_with c r mine (event_by r w answer ∷ mine) (tables_of old) w answer) (next_place c r b (event_by r w answer ∷ mine) (tables_with c r mine (event_by r w answer ∷ mine) (tables_of old) w answer) answer place)) is
     (stands_along c r b d mine (tables_of old) place answer (ap is_some due) (record { is = s.config; inside = s.inside; tables = s.tables }) (subst (At c r b mine old.up old.reach old.written.items) at s.at)
     (subst (λ w. IsPossible c r (event_by r w answer ∷ mine)) (sym is) possible) (subst (λ w. NumberAfter c r b d (event_by r w answer ∷ mine) place) (sym is) number))
-
--- the tables hold after the step of a place that keeps the number
-pub tables_along : (old : Lead) (mine : List Event) (place : Place) (verb : Verb) (answer : Answer) (t : Tables) → StandsFor mine old → old.place ≡ place → verb_at old.config old.number (known old.config old.id mine) old.up old.written.items place ≡ Some verb
-    → NumberAfter old.config old.id old.number old.number (event_by old.id verb answer ∷ mine) place → IsPossible old.config old.id (event_by old.id verb answer ∷ mine) → t ≡ tables_with old.config old.id mine (event_by old.id verb answer ∷ mine) (tables_of old) verb answer
-    → HoldsTables old.config old.id (event_by old.id verb answer ∷ mine) t.up t.reach t.heads t.written
-tables_along old mine place verb answer t s at due number possible wrote = subst (λ x. HoldsTables old.config old.id (event_by old.id verb answer ∷ mine) x.up x.reach x.heads x.written) (sym wrote) (stood_by old mine place verb answer old.number s at due number possible).tables
 
 -- a leader with these tables at this place
 stands_with : (old new : Lead) (now : List Event) (t : Tables) (place : Place) → new.config ≡ old.config → new.id ≡ old.id → IsConfig old.config → old.id < old.config.replicas → StandsForLeadership old.id now new.leading → tables_of new ≡ t → new.place ≡ place → Stood old.config old.id new.number now t place → StandsFor now new
@@ -50,14 +48,14 @@ stands_with old new now t place config id is inside leading wrote goes stood =
       at = subst (λ k. At k new.id new.number now new.up new.reach new.written.items new.place) (sym config) (subst (λ r. At old.config r new.number now new.up new.reach new.written.items new.place) (sym id) there.at);
     }
 
--- a leader that follows the listing and writes what the step does stands for the events with it
-pub stands_due : (old new : Lead) (values : List ℕ) (answer : Answer) → new.config ≡ old.config → new.id ≡ old.id → LedDue old values answer new → WritesDue old values answer new → FollowsDue old values answer new → TakesDue old values answer new
-stands_due old new values answer config id leads writes follows mine verb heeded s due possible told =
+-- a leader that makes its step stands for the events with it
+pub stands_next : (mine : List Event) (old new : Lead) (values : List ℕ) (log : KnownLog) (answer : Answer) (note : Note) → StandsFor mine old → new.config ≡ old.config → new.id ≡ old.id → StepsNext mine old values log answer new note → HoldsValues old.config values log
+    → TakesNext mine old values answer new
+stands_next mine old new values log answer note s config id steps holds verb due possible told =
     let c = old.config in
     let r = old.id in
     let now = event_by r verb answer ∷ mine in
     let t = tables_with c r mine now (tables_of old) verb answer in
-    let led = leads mine verb s due possible told in
-    let wrote = writes mine verb s due possible told in
-    stands_with old new now t (next_place c r old.number now t answer old.place) config id s.config s.inside led.leading wrote
-    (follows mine verb heeded s due possible told ∙ ap (λ x. next_place c r old.number now x answer old.place) wrote) (stood_by old mine old.place verb answer new.number s refl due led.number possible)
+    let step = steps verb due possible told in
+    stands_with old new now t (next_place c r old.number now t answer old.place) config id s.config s.inside step.leading step.tables
+    (step.place holds ∙ ap (λ x. next_place c r old.number now x answer old.place) step.tables) (stood_by old mine old.place verb answer new.number s refl due step.number possible)

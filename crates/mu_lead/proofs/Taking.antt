@@ -1,45 +1,41 @@
--- From what each place makes of the leaderships to what the verb that was due makes of them.
-use Rattle.std.proofs.Common.{List, Some, ap, subst, sym, ℕ, ◌∙◌, ◌∷◌, ◌≡◌}
+-- The leader's step by the answer to the verb that was due, as what lasts along the listing has it.
+use Rattle.mu_known.specs.KnownLog.{HoldsValues}
+use Rattle.mu_known.specs.declared.known_log.KnownLog.{KnownLog}
+use Rattle.mu_lead.specs.Journal.{WritesNext}
+use Rattle.mu_lead.specs.Lasting.{Follows}
+use Rattle.mu_lead.specs.Noting.{NotesNext}
+use Rattle.mu_lead.specs.Standing.{HasHeeded, StandsFor, known_told, verb_of}
+use Rattle.mu_lead.specs.Stepping.{IsAnswered, Steps}
+use Rattle.mu_lead.specs.declared.lead.Lead.{Lead}
+use Rattle.mu_lead.specs.declared.note.Note.{Note}
+use Rattle.mu_model.proofs.Basics.{event_by, same_some}
+use Rattle.mu_model.specs.Knowledge.{known}
+use Rattle.mu_model.specs.Parts.{IsPossible}
 use Rattle.mu_model.specs.declared.event.Answer.{Answer}
 use Rattle.mu_model.specs.declared.event.Event.{Event}
 use Rattle.mu_model.specs.declared.event.Verb.{Verb}
-use Rattle.mu_model.specs.Knowledge.{known}
-use Rattle.mu_model.specs.Parts.{IsPossible}
-use Rattle.mu_model.proofs.Basics.{event_by, same_some}
-use Rattle.mu_lead.specs.declared.lead.Lead.{Lead}
-use Rattle.mu_lead.specs.declared.place.Place.{Place}
-use Rattle.mu_lead.specs.Standing.{Led, LedDue, LedFrom, known_told, verb_at}
+use Rattle.std.proofs.Common.{List, Some, subst, sym, ℕ, ◌∙◌, ◌∷◌, ◌≡◌}
 
--- the verb of a place as the known values make it
-abbrev pub HasVerb : Lead → Place → (List ℕ → Verb) → Type 0
-HasVerb old place verb = (values : List ℕ) → verb_at old.config old.number values old.up old.written.items place ≡ Some (verb values)
+-- by the answer to the verb that was due after these events the leader makes its step
+abbrev pub StepsNext : List Event → Lead → List ℕ → KnownLog → Answer → Lead → Note → Type 0
+StepsNext mine old values log answer new note =
+    (verb : Verb) → verb_of old (known old.config old.id mine) ≡ Some verb → IsPossible old.config old.id (event_by old.id verb answer ∷ mine)
+    → values ≡ known_told old.config old.id mine old.id verb answer → Steps mine old values log verb answer new note
 
-pub verb_is : (old : Lead) (place : Place) (vf : List ℕ → Verb) (verb : Verb) (values : List ℕ) → old.place ≡ place → HasVerb old place vf → verb_at old.config old.number values old.up old.written.items old.place ≡ Some verb → vf values ≡ verb
-verb_is old place vf verb values at is due = same_some (vf values) verb (sym (is values) ∙ sym (ap (verb_at old.config old.number values old.up old.written.items) at) ∙ due)
+-- the verb that was due is the one that was answered
+pub steps_next : (mine : List Event) (old new : Lead) (values : List ℕ) (log : KnownLog) (answered : Verb) (answer : Answer) (note : Note) → StandsFor mine old → HasHeeded mine old → verb_of old (known old.config old.id mine) ≡ Some answered
+    → ((past : List Event) → IsAnswered past old values answered answer → Steps past old values log answered answer new note) → StepsNext mine old values log answer new note
+steps_next mine old new values log answered answer note s heeded was steps verb due possible told =
+    let same = same_some answered verb (sym was ∙ due) in
+    let may = subst (λ v. IsPossible old.config old.id (event_by old.id v answer ∷ mine)) (sym same) possible in
+    let known_now = subst (λ v. values ≡ known_told old.config old.id mine old.id v answer) (sym same) told in
+    subst (λ v. Steps mine old values log v answer new note) same (steps mine (record { stands = s; heeded = heeded; due = was; possible = may; told = known_now }))
 
--- a verb that is always answered so
-pub led_done : (old new : Lead) (place : Place) (values : List ℕ) (verb : Verb) (answer : Answer) → ((mine : List Event) → IsPossible old.config old.id (event_by old.id verb answer ∷ mine) → answer ≡ Answer.Done) → LedFrom old place values verb Answer.Done new → LedFrom old place values verb answer new
-led_done old new place values verb answer done leads mine s at possible told =
-    let is = done mine possible in
-    subst (λ a. Led old place (event_by old.id verb a ∷ mine) new) (sym is)
-    (leads mine s at (subst (λ a. IsPossible old.config old.id (event_by old.id verb a ∷ mine)) is possible) (subst (λ a. values ≡ known_told old.config old.id mine old.id verb a) is told))
+pub follows_next : (mine : List Event) (old new : Lead) (values : List ℕ) (log : KnownLog) (answer : Answer) (note : Note) → StepsNext mine old values log answer new note → HoldsValues old.config values log → Follows mine old values answer new
+follows_next mine old new values log answer note steps holds verb due possible told = (steps verb due possible told).place holds
 
--- a place whose step doesn't rest on the values that are told
-pub led_so : (old new : Lead) (place : Place) (values : List ℕ) (vf : List ℕ → Verb) (answer : Answer) → old.place ≡ place → HasVerb old place vf → ((xs : List ℕ) → LedFrom old place values (vf xs) answer new) → LedDue old values answer new
-led_so old new place values vf answer at is leads mine verb s due possible told =
-    let xs = known old.config old.id mine in
-    let same = verb_is old place vf verb xs at is due in
-    subst (λ w. Led old old.place (event_by old.id w answer ∷ mine) new) same
-    (subst (λ k. Led old k (event_by old.id (vf xs) answer ∷ mine) new) (sym at)
-    (leads xs mine s at (subst (λ w. IsPossible old.config old.id (event_by old.id w answer ∷ mine)) (sym same) possible) (subst (λ w. values ≡ known_told old.config old.id mine old.id w answer) (sym same) told)))
+pub writes_next : (mine : List Event) (old new : Lead) (values : List ℕ) (log : KnownLog) (answer : Answer) (note : Note) → StepsNext mine old values log answer new note → WritesNext mine old values answer new
+writes_next mine old new values log answer note steps verb due possible told = (steps verb due possible told).tables
 
--- a place whose answer teaches nothing that its put does not
-pub led_known : (old new : Lead) (place : Place) (values : List ℕ) (vf : List ℕ → Verb) (answer : Answer) → old.place ≡ place → HasVerb old place vf
-    → ((mine : List Event) (xs : List ℕ) → known_told old.config old.id mine old.id (vf xs) answer ≡ known old.config old.id mine) → LedFrom old place values (vf values) answer new → LedDue old values answer new
-led_known old new place values vf answer at is quiet leads mine verb s due possible told =
-    let same = verb_is old place vf verb (known old.config old.id mine) at is due in
-    let known_is : values ≡ known old.config old.id mine = subst (λ w. values ≡ known_told old.config old.id mine old.id w answer) (sym same) told ∙ quiet mine (known old.config old.id mine) in
-    let verb_now : vf values ≡ verb = ap vf known_is ∙ same in
-    subst (λ w. Led old old.place (event_by old.id w answer ∷ mine) new) verb_now
-    (subst (λ k. Led old k (event_by old.id (vf values) answer ∷ mine) new) (sym at)
-    (leads mine s at (subst (λ w. IsPossible old.config old.id (event_by old.id w answer ∷ mine)) (sym verb_now) possible) (known_is ∙ sym (quiet mine values))))
+pub notes_next : (mine : List Event) (old new : Lead) (values : List ℕ) (log : KnownLog) (answer : Answer) (note : Note) → StepsNext mine old values log answer new note → NotesNext mine old values answer note
+notes_next mine old new values log answer note steps verb due possible told = (steps verb due possible told).note

@@ -1,5 +1,5 @@
 -- The leader's tables after each step: what a place writes is what the step's verb does.
-use Rattle.std.proofs.Common.{Bool, List, Some, [], ap, arith, cond, false, get_or, length, refl, suc, subst, sym, true, true≢false, zero, ℕ, ◌+◌, ◌<◌, ◌||◌, ◌∙◌, ◌∷◌, ◌≡◌}
+use Rattle.std.proofs.Common.{Bool, List, [], ap, arith, cond, false, get_or, length, refl, suc, subst, sym, true, zero, ℕ, ◌+◌, ◌<◌, ◌||◌, ◌∙◌, ◌∷◌, ◌≡◌}
 use Rattle.std.specs.Prelude.{if◌then◌else◌, nat_le, nat_lt, set}
 use Rattle.std.specs.declared.option.Option.{Option}
 use Rattle.std.proofs.lemmas.Bool.{le-ltb, lt-ltb}
@@ -7,24 +7,16 @@ use Rattle.mu_model.specs.declared.config.Config.{Config}
 use Rattle.mu_model.specs.declared.event.Answer.{Answer}
 use Rattle.mu_model.specs.declared.event.Event.{Event}
 use Rattle.mu_model.specs.declared.event.Verb.{Verb}
-use Rattle.mu_model.specs.Knowledge.{known}
 use Rattle.mu_model.specs.Leaderships.{is_member}
-use Rattle.mu_model.specs.Parts.{IsPossible}
-use Rattle.mu_model.proofs.Basics.{event_by, same_some}
-use Rattle.mu_lead.specs.declared.lead.Lead.{Lead}
-use Rattle.mu_lead.specs.declared.place.Place.{Place}
-use Rattle.mu_lead.specs.Journal.{WritesDue, WritesFrom, WritesTo, fuo_in, set_where, tables_with, up_with}
-use Rattle.mu_lead.specs.Lasting.{tables_of}
+use Rattle.mu_lead.specs.Journal.{fuo_in, set_where, tables_with, up_with}
 use Rattle.mu_lead.specs.Leading.{end_of}
 use Rattle.mu_lead.specs.Listing.{Tables}
-use Rattle.mu_lead.specs.Standing.{known_told, verb_at}
-use Rattle.mu_lead.proofs.Taking.{HasVerb, verb_is}
 
 -- tables of these lists
 abbrev pub four : List ℕ → List (Option ℕ) → List ℕ → List ℕ → Tables
 four up reach heads written = record { up = up; reach = reach; heads = heads; written = written }
 
-four_same : (u u' : List ℕ) (v v' : List (Option ℕ)) (h h' w w' : List ℕ) → u ≡ u' → v ≡ v' → h ≡ h' → w ≡ w' → four u v h w ≡ four u' v' h' w'
+pub four_same : (u u' : List ℕ) (v v' : List (Option ℕ)) (h h' w w' : List ℕ) → u ≡ u' → v ≡ v' → h ≡ h' → w ≡ w' → four u v h w ≡ four u' v' h' w'
 four_same u u' v v' h h' w w' a b d e = ap (λ x. four x v h w) a ∙ ap (λ x. four u' x h w) b ∙ ap (λ x. four u' v' x w) d ∙ ap (λ x. four u' v' h' x) e
 
 chosen : {A : Type 0} (t : Bool) (x y : A) → t ≡ true → (if t then x else y) ≡ x
@@ -64,19 +56,6 @@ put_commits c r p i b v mine now up up' reach heads written here more ups =
     (ups ∙ sym (left_out (nat_lt i (end_of c r mine)) (set up p (i + 1)) (if nat_lt (end_of c r mine) (end_of c r now) then all else up) (le-ltb i (end_of c r mine) (omega (arith, here)))
     ∙ chosen (nat_lt (end_of c r mine) (end_of c r now)) all up (lt-ltb (end_of c r mine) (end_of c r now) (omega (arith, more))))) refl refl refl
 
--- a FUO that is raised, a head that is read, and a word that is written
-pub fuo_raised : (c : Config) (r p u : ℕ) (mine now : List Event) (up : List ℕ) (reach reach' : List (Option ℕ)) (heads written : List ℕ) → reach' ≡ fuo_in reach p u
-    → four up reach' heads written ≡ tables_with c r mine now (four up reach heads written) (Verb.RaiseFuo p u) Answer.Done
-fuo_raised c r p u mine now up reach reach' heads written reaches = four_same up up reach' (fuo_in reach p u) heads heads written written refl reaches refl refl
-
-pub head_read_now : (c : Config) (r q h : ℕ) (mine now : List Event) (up : List ℕ) (reach : List (Option ℕ)) (heads heads' written : List ℕ) → heads' ≡ set heads q h
-    → four up reach heads' written ≡ tables_with c r mine now (four up reach heads written) (Verb.Head q) (Answer.Number h)
-head_read_now c r q h mine now up reach heads heads' written is = four_same up up reach reach heads' (set heads q h) written written refl refl is refl
-
-pub word_written : (c : Config) (r j k x : ℕ) (mine now : List Event) (up : List ℕ) (reach : List (Option ℕ)) (heads written written' : List ℕ) → written' ≡ set written j (get_or written j 12 + 1)
-    → four up reach heads written' ≡ tables_with c r mine now (four up reach heads written) (Verb.WriteRow j k x) Answer.Done
-word_written c r j k x mine now up reach heads written written' is = four_same up up reach reach heads heads written' (set written j (get_or written j 12 + 1)) refl refl refl is
-
 -- lists of as many numbers that agree at each place are the same
 same_lists : (xs ys : List ℕ) → length xs ≡ length ys → ((q : ℕ) → q < length xs → get_or xs q 0 ≡ get_or ys q 0) → xs ≡ ys
 same_lists [] [] long at = refl
@@ -103,86 +82,3 @@ where_is test u xs ys long here others = same_lists ys (set_where test u 0 xs) (
     go : (q : ℕ) → q < length xs → (t : Bool) → test q ≡ t → get_or ys q 0 ≡ cond (test (0 + q)) u (get_or xs q 0)
     go q low true is = here q low is ∙ sym (ap (λ t. cond t u (get_or xs q 0)) (at_q q true is))
     go q low false is = others q is ∙ sym (ap (λ t. cond t u (get_or xs q 0)) (at_q q false is))
-
--- a verb that writes a table of the leader
-abbrev pub is_writing : Verb → Bool
-is_writing (Verb.Ask p) = true
-is_writing (Verb.Fuo p) = true
-is_writing (Verb.RaiseFuo p u) = true
-is_writing (Verb.PutSlot p i b v) = true
-is_writing (Verb.Head q) = true
-is_writing (Verb.WriteRow j k x) = true
-is_writing verb = false
-
--- a place whose verb may
-abbrev pub writes_at : Place → Bool
-writes_at (Place.Ask p) = true
-writes_at (Place.ReadFuo p source) = true
-writes_at (Place.WidenBehind p on) = true
-writes_at (Place.PutBehind p on) = true
-writes_at (Place.RaiseBehind p on) = true
-writes_at (Place.LateFuo p) = true
-writes_at (Place.ReadHead q candidate) = true
-writes_at (Place.Write j last offer) = true
-writes_at (Place.Put p offer) = true
-writes_at (Place.Raise p) = true
-writes_at place = false
-
-quiet_with : (c : Config) (r : ℕ) (mine now : List Event) (l : Lead) (verb : Verb) (answer : Answer) → is_writing verb ≡ false → tables_of l ≡ tables_with c r mine now (tables_of l) verb answer
-quiet_with c r mine now l (Verb.Ask p) answer quiet = absurd (true≢false quiet)
-quiet_with c r mine now l (Verb.Fuo p) answer quiet = absurd (true≢false quiet)
-quiet_with c r mine now l (Verb.RaiseFuo p u) answer quiet = absurd (true≢false quiet)
-quiet_with c r mine now l (Verb.PutSlot p i b v) answer quiet = absurd (true≢false quiet)
-quiet_with c r mine now l (Verb.Head q) answer quiet = absurd (true≢false quiet)
-quiet_with c r mine now l (Verb.WriteRow j k x) answer quiet = absurd (true≢false quiet)
-quiet_with c r mine now l verb answer quiet = refl
-
-quiet_at : (c : Config) (b : ℕ) (values up written : List ℕ) (place : Place) (verb : Verb) → writes_at place ≡ false → verb_at c b values up written place ≡ Some verb → is_writing verb ≡ false
-quiet_at c b values up written place verb quiet due = go place quiet due
-  where
-    by : (w : Verb) → Some w ≡ Some verb → is_writing w ≡ false → is_writing verb ≡ false
-    by w same none = subst (λ v. is_writing v ≡ false) (same_some w verb same) none
-
-    go : (place : Place) → writes_at place ≡ false → verb_at c b values up written place ≡ Some verb → is_writing verb ≡ false
-    go (Place.Confirm round p) quiet due = by _ due refl
-    go (Place.ReadMin p) quiet due = by _ due refl
-    go (Place.EnterMin p) quiet due = by _ due refl
-    go (Place.PutMin p) quiet due = by _ due refl
-    go (Place.Learn p) quiet due = by _ due refl
-    go (Place.LookBehind p on) quiet due = by _ due refl
-    go (Place.EnterBehind p on) quiet due = by _ due refl
-    go (Place.FenceBehind p on) quiet due = by _ due refl
-    go (Place.LateFence p) quiet due = by _ due refl
-    go (Place.LateMin p) quiet due = by _ due refl
-    go (Place.LateEnter p) quiet due = by _ due refl
-    go (Place.LatePut p) quiet due = by _ due refl
-    go (Place.Look p i candidate best) quiet due = by _ due refl
-    go (Place.Enter p offer) quiet due = by _ due refl
-    go (Place.Evidence p) quiet due = by _ due refl
-    go Place.Outrun quiet due = cc
-    go Place.Rest quiet due = cc
-    go place quiet due = absurd (true≢false quiet)
-
--- a place that writes nothing
-pub writes_quiet : (old new : Lead) (place : Place) (values : List ℕ) (answer : Answer) → old.place ≡ place → writes_at place ≡ false → tables_of new ≡ tables_of old → WritesDue old values answer new
-writes_quiet old new place values answer at quiet same mine verb s due possible told =
-    same ∙ quiet_with old.config old.id mine (event_by old.id verb answer ∷ mine) old verb answer
-    (quiet_at old.config old.number (known old.config old.id mine) old.up old.written.items place verb quiet (sym (ap (verb_at old.config old.number (known old.config old.id mine) old.up old.written.items) at) ∙ due))
-
--- a place whose answer teaches nothing that its put does not
-pub writes_known : (old new : Lead) (place : Place) (values : List ℕ) (vf : List ℕ → Verb) (answer : Answer) → old.place ≡ place → HasVerb old place vf
-    → ((mine : List Event) (xs : List ℕ) → known_told old.config old.id mine old.id (vf xs) answer ≡ known old.config old.id mine) → WritesFrom old place values (vf values) answer new → WritesDue old values answer new
-writes_known old new place values vf answer at is quiet writes mine verb s due possible told =
-    let same = verb_is old place vf verb (known old.config old.id mine) at is due in
-    let known_is : values ≡ known old.config old.id mine = subst (λ w. values ≡ known_told old.config old.id mine old.id w answer) (sym same) told ∙ quiet mine (known old.config old.id mine) in
-    let verb_now : vf values ≡ verb = ap vf known_is ∙ same in
-    subst (λ w. WritesTo old mine w answer new) verb_now
-    (writes mine s at (subst (λ w. IsPossible old.config old.id (event_by old.id w answer ∷ mine)) (sym verb_now) possible) (known_is ∙ sym (quiet mine values)))
-
--- a verb that is always answered so
-pub writes_done : (old new : Lead) (place : Place) (values : List ℕ) (verb : Verb) (answer : Answer) → ((mine : List Event) → IsPossible old.config old.id (event_by old.id verb answer ∷ mine) → answer ≡ Answer.Done) → WritesFrom old place values verb Answer.Done new
-    → WritesFrom old place values verb answer new
-writes_done old new place values verb answer done writes mine s at possible told =
-    let is = done mine possible in
-    subst (λ a. WritesTo old mine verb a new) (sym is)
-    (writes mine s at (subst (λ a. IsPossible old.config old.id (event_by old.id verb a ∷ mine)) is possible) (subst (λ a. values ≡ known_told old.config old.id mine old.id verb a) is told))

@@ -20,7 +20,7 @@ use Rattle.mu_lead.specs.declared.place.Place.{Place}
 use Rattle.mu_lead.specs.Lasting.{tables_of}
 use Rattle.mu_lead.specs.Leading.{end_of, most_replicas}
 use Rattle.mu_lead.specs.Listing.{Tables, next_place}
-use Rattle.mu_lead.specs.Standing.{StandsFor, known_told, verb_at, verb_of}
+use Rattle.mu_lead.specs.Standing.{known_told, verb_at, verb_of}
 
 -- the table with u at each place that passes; its first place is place k
 abbrev pub set_where : (ℕ → Bool) → ℕ → ℕ → List ℕ → List ℕ
@@ -105,24 +105,7 @@ WritesTo old mine verb answer new =
     (record { by = old.id; verb = verb; answer = answer } ∷ mine)
     (tables_of old) verb answer
 
--- from its place, by the event and with these values known, they do
-abbrev pub WritesFrom : Lead → Place → List ℕ → Verb → Answer → Lead → Type 0
-WritesFrom old place values verb answer new =
-    (mine : List Event) → StandsFor mine old → old.place ≡ place
-    → IsPossible old.config old.id (record { by = old.id; verb = verb; answer = answer } ∷ mine)
-    → values ≡ known_told old.config old.id mine old.id verb answer
-    → WritesTo old mine verb answer new
-
--- by the answer to the verb that was due they do
-abbrev pub WritesDue : Lead → List ℕ → Answer → Lead → Type 0
-WritesDue old values answer new =
-    (mine : List Event) (verb : Verb) → StandsFor mine old
-    → verb_of old (known old.config old.id mine) ≡ Some verb
-    → IsPossible old.config old.id (record { by = old.id; verb = verb; answer = answer } ∷ mine)
-    → values ≡ known_told old.config old.id mine old.id verb answer
-    → WritesTo old mine verb answer new
-
--- the same after these events
+-- by the answer to the verb that was due after these events they do
 abbrev pub WritesNext : List Event → Lead → List ℕ → Answer → Lead → Type 0
 WritesNext mine old values answer new =
     (verb : Verb) → verb_of old (known old.config old.id mine) ≡ Some verb

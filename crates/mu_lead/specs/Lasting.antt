@@ -12,9 +12,8 @@ use Rattle.mu_model.specs.Parts.{IsPossible}
 use Rattle.mu_model.specs.Stretches.{is_replication}
 use Rattle.mu_lead.specs.declared.lead.Lead.{Lead}
 use Rattle.mu_lead.specs.declared.place.Place.{Place}
-use Rattle.mu_lead.specs.Leading.{end_of}
 use Rattle.mu_lead.specs.Listing.{Tables, next_place}
-use Rattle.mu_lead.specs.Standing.{At, HasHeeded, StandsFor, known_told, verb_at, verb_of}
+use Rattle.mu_lead.specs.Standing.{At, known_told, verb_at, verb_of}
 
 -- the verb, if there is one, else a beat
 abbrev pub verb_or : Option Verb → Verb
@@ -45,47 +44,6 @@ Follows mine old values answer new =
     → IsPossible old.config old.id (record { by = old.id; verb = verb; answer = answer } ∷ mine)
     → values ≡ known_told old.config old.id mine old.id verb answer
     → GoesTo old (record { by = old.id; verb = verb; answer = answer } ∷ mine) answer old.place new
-
--- the same from a place, by the event and with these values known
-abbrev pub FollowsFrom : Lead → Place → List ℕ → Verb → Answer → Lead → Type 0
-FollowsFrom old place values verb answer new =
-    (mine : List Event) → StandsFor mine old → old.place ≡ place
-    → IsPossible old.config old.id (record { by = old.id; verb = verb; answer = answer } ∷ mine)
-    → values ≡ known_told old.config old.id mine old.id verb answer
-    → GoesTo old (record { by = old.id; verb = verb; answer = answer } ∷ mine) answer place new
-
--- the same by the answer to the verb that was due
-abbrev pub FollowsDue : Lead → List ℕ → Answer → Lead → Type 0
-FollowsDue old values answer new =
-    (mine : List Event) (verb : Verb) → HasHeeded mine old → StandsFor mine old
-    → verb_at old.config old.number (known old.config old.id mine) old.up old.written.items
-    old.place
-    ≡ Some verb
-    → IsPossible old.config old.id (record { by = old.id; verb = verb; answer = answer } ∷ mine)
-    → values ≡ known_told old.config old.id mine old.id verb answer
-    → GoesTo old (record { by = old.id; verb = verb; answer = answer } ∷ mine) answer old.place new
-
--- the same of a look at the first unknown position
-abbrev pub FollowsLook : Lead → Place → List ℕ → ℕ → ℕ → Answer → Lead → Type 0
-FollowsLook old place values p i answer new =
-    (mine : List Event) → StandsFor mine old → old.place ≡ place → i ≡ end_of old.config old.id mine
-    → IsPossible old.config old.id
-    (record { by = old.id; verb = Verb.Look p i; answer = answer } ∷ mine)
-    → values ≡ known old.config old.id
-    (record { by = old.id; verb = Verb.Look p i; answer = answer } ∷ mine)
-    → GoesTo old (record { by = old.id; verb = Verb.Look p i; answer = answer } ∷ mine) answer place
-    new
-
--- the same of a head, with what was heeded of failed replicas
-abbrev pub FollowsHead : Lead → ℕ → Option ℕ → List ℕ → Answer → Lead → Type 0
-FollowsHead old q candidate values answer new =
-    (mine : List Event) → HasHeeded mine old → StandsFor mine old
-    → old.place ≡ Place.ReadHead q candidate
-    → IsPossible old.config old.id
-    (record { by = old.id; verb = Verb.Head q; answer = answer } ∷ mine)
-    → values ≡ known old.config old.id mine
-    → GoesTo old (record { by = old.id; verb = Verb.Head q; answer = answer } ∷ mine) answer
-    (Place.ReadHead q candidate) new
 
 -- what holds of a replica's events at a place lasts: each replication step of the listing leads to
 -- a place at which it holds again

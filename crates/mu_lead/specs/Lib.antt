@@ -22,4 +22,5 @@ pub mod Rooms
 pub mod Saying
 pub mod Sets
 pub mod Standing
+pub mod Stepping
 pub mod Welcomes

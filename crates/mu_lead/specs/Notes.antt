@@ -13,14 +13,6 @@ abbrev pub note_of_commit : ℕ → Offer → Note
 note_of_commit i offer =
     if offer.adopted then Note.Adopted i offer.value else Note.Committed i offer.value
 
--- the put of the offer made its entry known, and is noted so; or nothing is, and there is nothing
--- to note
-abbrev pub TellsPut : Config → ℕ → List Event → Event → List ℕ → Offer → Note → Type 0
-TellsPut c r mine e values offer note =
-    ((note ≡ Note.Working) × (known c r (e ∷ mine) ≡ values))
-    ⊎ ((note ≡ note_of_commit (length values) offer)
-    × (known c r (e ∷ mine) ≡ values ++ offer.value ∷ []))
-
 -- the note of a late follower's minimum, under the number b
 abbrev pub note_of_min : ℕ → ℕ → ℕ → Note
 note_of_min p b min = if nat_lt b min then Note.Aborted (AbortCause.Higher p min) else Note.Working

@@ -21,7 +21,7 @@ use Rattle.mu_lead.specs.Listing.{Tables, is_missed, may_mark, number_told}
 use Rattle.mu_lead.specs.Notes.{note_of_commit, note_of_head, note_of_min}
 use Rattle.mu_lead.specs.Saying.{is_working, note_of_fence, note_of_join, note_of_learning, note_of_look, note_of_raise}
 use Rattle.mu_lead.specs.Sets.{bits}
-use Rattle.mu_lead.specs.Standing.{HasHeeded, StandsFor, known_told, verb_of}
+use Rattle.mu_lead.specs.Standing.{known_told, verb_of}
 
 -- the note of an `Enter` of p, and of the fence that is read after a put at p that missed
 abbrev pub note_of_enter : ℕ → Answer → Note
@@ -81,12 +81,11 @@ next_note c r b past now t a (Place.Put p offer) = note_of_put c r past now offe
 next_note c r b past now t a (Place.Evidence p) = note_of_evidence p a
 next_note c r b past now t a place = Note.Working
 
--- by the answer to the verb that was due the leader gives the note of its place, before it tells
--- that all is known
-abbrev pub NotedDue : Lead → List ℕ → Answer → Note → Type 0
-NotedDue old values answer note =
-    (mine : List Event) (verb : Verb) → HasHeeded mine old → StandsFor mine old
-    → verb_of old (known old.config old.id mine) ≡ Some verb
+-- by the answer to the verb that was due after these events the leader gives the note of its place,
+-- before it tells that all is known
+abbrev pub NotesNext : List Event → Lead → List ℕ → Answer → Note → Type 0
+NotesNext mine old values answer note =
+    (verb : Verb) → verb_of old (known old.config old.id mine) ≡ Some verb
     → IsPossible old.config old.id (record { by = old.id; verb = verb; answer = answer } ∷ mine)
     → values ≡ known_told old.config old.id mine old.id verb answer
     → note

@@ -74,10 +74,6 @@ pub record Stands (mine : List Event) (l : Lead) : Type 0 where
   pub leading : StandsForLeadership l.id mine l.leading
   pub tables : HoldsTables l.config l.id mine l.up l.reach l.heads l.written.items
 
--- what holds at a place, with what the leader keeps
-abbrev pub HoldsAt : List Event → Lead → Place → Type 0
-HoldsAt mine l place = At l.config l.id l.number mine l.up l.reach l.written.items place
-
 -- the verb of each place
 abbrev pub verb_at : Config → ℕ → List ℕ → List ℕ → List ℕ → Place → Option Verb
 verb_at c b values up written (Place.Ask p) = Some (Verb.Ask p)
@@ -133,49 +129,8 @@ NumberAfter c r b d now (Place.ReadMin p) =
     noted_from c r now (p + 1) ≡ None → number_allowed r now d None
 NumberAfter c r b d now place = d ≡ b
 
--- after a step of the place the leaderships that the leader keeps are those of the events with it,
--- and its number is the one after it
-pub record Led (old : Lead) (place : Place) (now : List Event) (new : Lead) : Type 0 where
-  pub leading : StandsForLeadership old.id now new.leading
-  pub number : NumberAfter old.config old.id old.number new.number now place
-
--- so it is from its place, by the event and with these values known
-abbrev pub LedFrom : Lead → Place → List ℕ → Verb → Answer → Lead → Type 0
-LedFrom old place values verb answer new =
-    (mine : List Event) → StandsFor mine old → old.place ≡ place
-    → IsPossible old.config old.id (record { by = old.id; verb = verb; answer = answer } ∷ mine)
-    → values ≡ known_told old.config old.id mine old.id verb answer
-    → Led old place (record { by = old.id; verb = verb; answer = answer } ∷ mine) new
-
--- the leaderships are, by the event from any place
-abbrev pub LedBy : Lead → Verb → Answer → Lead → Type 0
-LedBy old verb answer new =
-    (mine : List Event) → StandsFor mine old
-    → IsPossible old.config old.id (record { by = old.id; verb = verb; answer = answer } ∷ mine)
-    → StandsForLeadership old.id (record { by = old.id; verb = verb; answer = answer } ∷ mine)
-    new.leading
-
--- both are, by the answer to the verb that was due
-abbrev pub LedDue : Lead → List ℕ → Answer → Lead → Type 0
-LedDue old values answer new =
-    (mine : List Event) (verb : Verb) → StandsFor mine old
-    → verb_of old (known old.config old.id mine) ≡ Some verb
-    → IsPossible old.config old.id (record { by = old.id; verb = verb; answer = answer } ∷ mine)
-    → values ≡ known_told old.config old.id mine old.id verb answer
-    → Led old old.place (record { by = old.id; verb = verb; answer = answer } ∷ mine) new
-
--- by the answer to the verb that was due the leader comes to what stands for the events with it
-abbrev pub TakesDue : Lead → List ℕ → Answer → Lead → Type 0
-TakesDue old values answer new =
-    (mine : List Event) (verb : Verb) → HasHeeded mine old → StandsFor mine old
-    → verb_at old.config old.number (known old.config old.id mine) old.up old.written.items
-    old.place
-    ≡ Some verb
-    → IsPossible old.config old.id (record { by = old.id; verb = verb; answer = answer } ∷ mine)
-    → values ≡ known_told old.config old.id mine old.id verb answer
-    → StandsFor (record { by = old.id; verb = verb; answer = answer } ∷ mine) new
-
--- the same after these events, whose known values make the verb that was due
+-- by the answer to the verb that was due after these events the leader comes to what stands for the
+-- events with it
 abbrev pub TakesNext : List Event → Lead → List ℕ → Answer → Lead → Type 0
 TakesNext mine old values answer new =
     (verb : Verb) → verb_of old (known old.config old.id mine) ≡ Some verb

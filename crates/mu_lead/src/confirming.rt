@@ -1,33 +1,22 @@
 //! Asks, rounds of fences, minima and the number.
-ghost use Rattle.std.specs.Prelude.{Bool, None, IsTrue, List, Some, if◌then◌else◌, nat_lt, true, ℕ, ◌+◌, ◌<◌, ◌==◌, ◌||◌, ◌∷◌, ◌≡◌, ◌≤◌, ◌↔◌};
-ghost use Rattle.std.specs.declared.option.Option.{Option};
-ghost use Rattle.mu_model.specs.declared.event.Answer.{Answer as SomeAnswer};
-ghost use Rattle.mu_model.specs.declared.event.Event.{Event as SomeEvent};
-ghost use Rattle.mu_model.specs.declared.event.Verb.{Verb as SomeVerb};
-ghost use Rattle.mu_model.specs.declared.event.Target.{Target as SomeTarget};
-ghost use Rattle.mu_lead.specs.declared.place.Place.{Place as SomePlace};
-ghost use Rattle.mu_lead.specs.Confirming.{AtAsk, Confirmed, Fresh, Numbered, Telling};
-ghost use Rattle.mu_model.specs.Leaderships.{is_member};
-ghost use Rattle.mu_known.specs.Offers.{IsFirst};
-ghost use Rattle.mu_model.specs.Parts.{IsPossible};
-ghost use Rattle.mu_lead.specs.Noting.{note_in_round, note_of_round};
-ghost use Rattle.mu_lead.specs.Standing.{At, LedFrom, StandsFor};
-ghost use Rattle.mu_leading.specs.Leadership.{StandsForLeadership};
-ghost use Rattle.mu_lead.specs.declared.note.Note.{Note as SomeNote};
+ghost use Rattle.std.specs.Prelude.{List, None, if◌then◌else◌, nat_lt, ◌+◌, ◌<◌, ◌≡◌, ◌≤◌};
+ghost use Rattle.mu_model.specs.declared.event.Event.{Event};
+ghost use Rattle.mu_model.specs.Contents.{IsConfig};
 ghost use Rattle.mu_model.specs.Diligence.{is_confirmed as is_confirmed_by};
-ghost use Rattle.mu_lead.specs.Journal.{WritesFrom};
-ghost use Rattle.mu_lead.specs.Lasting.{FollowsFrom, tables_of};
+ghost use Rattle.mu_model.specs.Parts.{IsPossible};
+ghost use Rattle.mu_leading.specs.Leadership.{StandsForLeadership};
+ghost use Rattle.mu_lead.specs.declared.place.Place.{Place as SomePlace};
 ghost use Rattle.mu_lead.specs.Listing.{after_round, first_member, noted_from, or_else};
+ghost use Rattle.mu_lead.specs.Standing.{NumberAfter, Stands};
 
 use crate::lead::Lead;
-use crate::note::Note;
 use crate::place::Place;
-use crate::regions::{count_noted, next_member, next_noted, noted_bits};
-use mu_model::{Answer, Event, Fence, Target, Verb, majority};
+use crate::regions::{count_noted, next_member, next_noted};
+use mu_model::majority;
 
 impl Lead {
     /// The place after the region `p` was asked.
-    fn after_ask(&self, p: u8) -> Place
+    pub(crate) fn after_ask(&self, p: u8) -> Place
         ensures { self.now.config.replicas ≤ 7
             → result
             ≡ (if nat_lt (p + 1) self.now.config.replicas then SomePlace.Ask (p + 1)
@@ -41,80 +30,25 @@ impl Lead {
         }
     }
 
-    /// The region `p` was asked.
-    pub(crate) fn took_ask(&mut self, p: u8) -> Note
-        ensures leading { (values : List ℕ)
-            → LedFrom self.old (SomePlace.Ask p) values (SomeVerb.Ask p) SomeAnswer.Done self.new }
-        ensures config { self.new.config ≡ self.old.config }
-        ensures id { self.new.id ≡ self.old.id }
-        ensures named { self.new.named ≡ self.old.named }
-        ensures writes { (values : List ℕ)
-            → WritesFrom self.old (SomePlace.Ask p) values (SomeVerb.Ask p) SomeAnswer.Done
-            self.new }
-        ensures note { result ≡ SomeNote.Working }
-        ensures listed { (values : List ℕ)
-            → FollowsFrom self.old (SomePlace.Ask p) values (SomeVerb.Ask p)
-            SomeAnswer.Done self.new }
-    {
-        let event = Event {
-            by: self.id,
-            verb: Verb::Ask(p),
-            answer: Answer::Done,
-        };
-        self.leading.take(self.id, &event);
-        if p == 0 {
-            self.up = [0; 7];
-            self.reach = [None; 7];
-            self.place = self.after_ask(p);
-            Note::Working
-        } else {
-            self.place = self.after_ask(p);
-            Note::Working
-        }
-    }
-    /// The fence of `p` in a round.
-    pub(crate) fn took_fence(&mut self, round: u8, p: u8, fence: Fence) -> Note
-        ensures leading { (values : List ℕ)
-            → LedFrom self.old (SomePlace.Confirm round p) values (SomeVerb.Fence p)
-            (SomeAnswer.Seen fence) self.new }
-        ensures config { self.new.config ≡ self.old.config }
-        ensures id { self.new.id ≡ self.old.id }
-        ensures named { self.new.named ≡ self.old.named }
-        ensures tables { tables_of self.new ≡ tables_of self.old }
-        ensures note { (mine : List SomeEvent) → StandsFor mine self.old
-            → IsPossible self.old.config self.old.id
-            (record { by = self.old.id; verb = SomeVerb.Fence p; answer = SomeAnswer.Seen fence }
-            ∷ mine)
+    /// The place after the fence of `p` in a round.
+    pub(crate) fn after_fence(&self, round: u8, p: u8) -> Place
+        ensures { (now : List Event) → Stands now self.now
             → result
-            ≡ note_in_round self.old.config self.old.id
-            (record { by = self.old.id; verb = SomeVerb.Fence p; answer = SomeAnswer.Seen fence }
-            ∷ mine) p }
-        ensures listed { (values : List ℕ)
-            → FollowsFrom self.old (SomePlace.Confirm round p) values (SomeVerb.Fence p)
-            (SomeAnswer.Seen fence) self.new }
+            ≡ (if nat_lt (p + 1) self.now.config.replicas then SomePlace.Confirm round (p + 1)
+            else after_round self.now.config self.now.id now round) }
     {
-        let event = Event {
-            by: self.id,
-            verb: Verb::Fence(p),
-            answer: Answer::Seen(fence),
-        };
-        self.leading.take(self.id, &event);
         let next = p.saturating_add(1);
         if next < self.config.replicas {
-            self.place = Place::Confirm(round, next);
-            Note::Working
+            Place::Confirm(round, next)
         } else {
-            self.place = self.after_round(round);
-            self.note_of_round()
+            self.after_round(round)
         }
     }
 
     /// Whether a majority with its own region is noted.
-    fn is_confirmed(&self) -> bool
-        ensures { (mine : List SomeEvent) → self.now.config.replicas ≤ 7
-            → self.now.id < self.now.config.replicas
-            → StandsForLeadership self.now.id mine self.now.leading
-            → result ≡ is_confirmed_by self.now.config self.now.id mine }
+    pub(crate) fn is_confirmed(&self) -> bool
+        ensures { (now : List Event) → Stands now self.now
+            → result ≡ is_confirmed_by self.now.config self.now.id now }
     {
         let n = self.config.replicas;
         self.leading.noted(self.id).is_some() && majority(n) <= count_noted(&self.leading, n)
@@ -122,10 +56,8 @@ impl Lead {
 
     /// The place after a round of fences.
     fn after_round(&self, round: u8) -> Place
-        ensures { (mine : List SomeEvent) → self.now.config.replicas ≤ 7
-            → self.now.id < self.now.config.replicas
-            → StandsForLeadership self.now.id mine self.now.leading
-            → result ≡ after_round self.now.config self.now.id mine round }
+        ensures { (now : List Event) → Stands now self.now
+            → result ≡ after_round self.now.config self.now.id now round }
     {
         if self.is_confirmed() {
             self.first_to_read()
@@ -136,27 +68,10 @@ impl Lead {
         }
     }
 
-    /// The note of a round of fences.
-    fn note_of_round(&self) -> Note
-        ensures { (mine : List SomeEvent) → self.now.config.replicas ≤ 7
-            → self.now.id < self.now.config.replicas
-            → StandsForLeadership self.now.id mine self.now.leading
-            → result ≡ note_of_round self.now.config self.now.id mine }
-    {
-        let named = noted_bits(&self.leading);
-        if self.is_confirmed() {
-            Note::Confirmed { followers: named }
-        } else {
-            Note::NotConfirmed { named }
-        }
-    }
-
     /// Begins to read the minima.
     fn first_to_read(&self) -> Place
-        ensures { (mine : List SomeEvent) → self.now.config.replicas ≤ 7
-            → self.now.id < self.now.config.replicas
-            → StandsForLeadership self.now.id mine self.now.leading
-            → result ≡ or_else (noted_from self.now.config self.now.id mine 0) SomePlace.ReadMin
+        ensures { (now : List Event) → Stands now self.now
+            → result ≡ or_else (noted_from self.now.config self.now.id now 0) SomePlace.ReadMin
             SomePlace.Rest }
     {
         match next_noted(&self.leading, 0, self.config.replicas) {
@@ -165,45 +80,24 @@ impl Lead {
         }
     }
 
-    /// The minimum of `p`.
-    pub(crate) fn took_min(&mut self, p: u8, min: u64) -> Note
-        ensures leading { (values : List ℕ)
-            → LedFrom self.old (SomePlace.ReadMin p) values (SomeVerb.Min p) (SomeAnswer.Number min)
-            self.new }
-        ensures config { self.new.config ≡ self.old.config }
-        ensures id { self.new.id ≡ self.old.id }
-        ensures named { self.new.named ≡ self.old.named }
-        ensures tables { tables_of self.new ≡ tables_of self.old }
-        ensures note { result ≡ SomeNote.Working }
-        ensures listed { (values : List ℕ)
-            → FollowsFrom self.old (SomePlace.ReadMin p) values (SomeVerb.Min p)
-            (SomeAnswer.Number min) self.new }
+    /// The place after the minimum of `p`.
+    pub(crate) fn after_min(&self, p: u8) -> Place
+        ensures { (now : List Event) → Stands now self.now → p < self.now.config.replicas
+            → result
+            ≡ or_else (noted_from self.now.config self.now.id now (p + 1)) SomePlace.ReadMin
+            (or_else (noted_from self.now.config self.now.id now 0) SomePlace.EnterMin
+            SomePlace.Rest) }
     {
-        let event = Event {
-            by: self.id,
-            verb: Verb::Min(p),
-            answer: Answer::Number(min),
-        };
-        self.leading.take(self.id, &event);
         match next_noted(&self.leading, p.saturating_add(1), self.config.replicas) {
-            Some(q) => {
-                self.place = Place::ReadMin(q);
-                Note::Working
-            }
-            None => {
-                self.number = self.leading.next_number();
-                self.place = self.first_to_enter();
-                Note::Working
-            }
+            Some(q) => Place::ReadMin(q),
+            None => self.first_to_enter(),
         }
     }
 
     /// Begins to put the number.
     fn first_to_enter(&self) -> Place
-        ensures { (mine : List SomeEvent) → self.now.config.replicas ≤ 7
-            → self.now.id < self.now.config.replicas
-            → StandsForLeadership self.now.id mine self.now.leading
-            → result ≡ or_else (noted_from self.now.config self.now.id mine 0) SomePlace.EnterMin
+        ensures { (now : List Event) → Stands now self.now
+            → result ≡ or_else (noted_from self.now.config self.now.id now 0) SomePlace.EnterMin
             SomePlace.Rest }
     {
         match next_noted(&self.leading, 0, self.config.replicas) {
@@ -212,68 +106,37 @@ impl Lead {
         }
     }
 
-    /// The region `p` was entered for its minimum.
-    pub(crate) fn entered_min(&mut self, p: u8) -> Note
-        ensures leading { (values : List ℕ)
-            → LedFrom self.old (SomePlace.EnterMin p) values (SomeVerb.Enter p SomeTarget.Min)
-            SomeAnswer.Entered self.new }
-        ensures config { self.new.config ≡ self.old.config }
-        ensures id { self.new.id ≡ self.old.id }
-        ensures named { self.new.named ≡ self.old.named }
-        ensures tables { tables_of self.new ≡ tables_of self.old }
-        ensures note { result ≡ SomeNote.Working }
-        ensures listed { (values : List ℕ)
-            → FollowsFrom self.old (SomePlace.EnterMin p) values (SomeVerb.Enter p SomeTarget.Min)
-            SomeAnswer.Entered self.new }
+    /// The place after the number was put at `p`.
+    pub(crate) fn after_put_min(&self, p: u8) -> Place
+        ensures { (now : List Event) → Stands now self.now → p < self.now.config.replicas
+            → result
+            ≡ or_else (noted_from self.now.config self.now.id now (p + 1)) SomePlace.EnterMin
+            (SomePlace.ReadFuo (first_member self.now.config self.now.id now) None) }
     {
-        let event = Event {
-            by: self.id,
-            verb: Verb::Enter(p, Target::Min),
-            answer: Answer::Entered,
-        };
-        self.leading.take(self.id, &event);
-        self.place = Place::PutMin(p);
-        Note::Working
+        match next_noted(&self.leading, p.saturating_add(1), self.config.replicas) {
+            Some(q) => Place::EnterMin(q),
+            None => Place::ReadFuo(self.first_member(), None),
+        }
     }
 
-    /// The region `p` became a member.
-    pub(crate) fn took_put_min(&mut self, p: u8) -> Note
-        ensures leading { (values : List ℕ)
-            → LedFrom self.old (SomePlace.PutMin p) values (SomeVerb.PutMin p self.old.number)
-            SomeAnswer.Done self.new }
-        ensures config { self.new.config ≡ self.old.config }
-        ensures id { self.new.id ≡ self.old.id }
-        ensures named { self.new.named ≡ self.old.named }
-        ensures tables { tables_of self.new ≡ tables_of self.old }
-        ensures note { result ≡ SomeNote.Working }
-        ensures listed { (values : List ℕ)
-            → FollowsFrom self.old (SomePlace.PutMin p) values (SomeVerb.PutMin p self.old.number)
-            SomeAnswer.Done self.new }
+    /// The number after the answer: while minima are read, the least of its own above them.
+    pub(crate) fn next_number(&self) -> u32
+        ensures { (now : List Event) → IsConfig self.now.config
+            → self.now.id < self.now.config.replicas
+            → IsPossible self.now.config self.now.id now
+            → StandsForLeadership self.now.id now self.now.leading
+            → NumberAfter self.now.config self.now.id self.now.number result now self.now.place }
     {
-        let event = Event {
-            by: self.id,
-            verb: Verb::PutMin(p, self.number),
-            answer: Answer::Done,
-        };
-        self.leading.take(self.id, &event);
-        match next_noted(&self.leading, p.saturating_add(1), self.config.replicas) {
-            Some(q) => {
-                self.place = Place::EnterMin(q);
-                Note::Working
-            }
-            None => {
-                self.place = Place::ReadFuo(self.first_member(), None);
-                Note::Working
-            }
+        match self.place {
+            Place::ReadMin(_) => self.leading.next_number(),
+            _ => self.number,
         }
     }
 
     /// The first member, which there is.
     pub(crate) fn first_member(&self) -> u8
-        ensures { (mine : List SomeEvent) → self.now.config.replicas ≤ 7
-            → self.now.id < self.now.config.replicas
-            → StandsForLeadership self.now.id mine self.now.leading
-            → result ≡ first_member self.now.config self.now.id mine }
+        ensures { (now : List Event) → Stands now self.now
+            → result ≡ first_member self.now.config self.now.id now }
     {
         match next_member(&self.leading, 0, self.config.replicas) {
             Some(q) => q,

@@ -1,5 +1,5 @@
 //! The leader, at its place in the listing.
-ghost use Rattle.std.specs.Prelude.{IfOk, IfSome, List, None, Some, [], false, get_or, if◌then◌else◌, length, nat_lt, not, ℕ, ◌%◌, ◌&&◌, ◌<◌, ◌==◌, ◌||◌, ◌≡◌, ◌⊎◌};
+ghost use Rattle.std.specs.Prelude.{IfOk, IfSome, List, None, Some, [], false, get_or, if◌then◌else◌, length, nat_lt, not, ℕ, ◌%◌, ◌&&◌, ◌<◌, ◌==◌, ◌||◌, ◌∷◌, ◌≡◌, ◌≤◌, ◌⊎◌};
 ghost use Rattle.mu_model.specs.declared.event.Event.{Event};
 ghost use Rattle.mu_model.specs.declared.event.Target.{Target as SomeTarget};
 ghost use Rattle.mu_model.specs.declared.event.Verb.{Verb as SomeVerb};
@@ -7,6 +7,7 @@ ghost use Rattle.mu_model.specs.Allowed.{Allowed};
 ghost use Rattle.mu_model.specs.Contents.{IsConfig, IsInSession, config_word, holds_all};
 ghost use Rattle.mu_model.specs.Knowledge.{known as known_of};
 ghost use Rattle.mu_model.specs.Parts.{IsPossible};
+ghost use Rattle.mu_leading.specs.Leadership.{StandsForLeadership};
 ghost use Rattle.mu_known.specs.KnownLog.{HoldsValues};
 ghost use Rattle.mu_lead.specs.Beside.{leads_at};
 ghost use Rattle.mu_lead.specs.declared.note.Note.{Note as SomeNote};
@@ -14,24 +15,26 @@ ghost use Rattle.mu_lead.specs.Causes.{CausesAt};
 ghost use Rattle.mu_lead.specs.Confirmations.{ConfirmsAt};
 ghost use Rattle.mu_lead.specs.Elections.{ElectsAt};
 ghost use Rattle.mu_lead.specs.Evidence.{ExplainsAt};
-ghost use Rattle.mu_lead.specs.Journal.{IsWhere, PlacesNext, WritesDue, WritesNext};
-ghost use Rattle.mu_lead.specs.Lasting.{Follows, FollowsDue, KeepsNext};
+ghost use Rattle.mu_lead.specs.Journal.{IsWhere, PlacesNext, WritesNext};
+ghost use Rattle.mu_lead.specs.Lasting.{Follows, KeepsNext};
 ghost use Rattle.mu_lead.specs.Raising.{RaisesAt};
 ghost use Rattle.mu_lead.specs.Resigning.{IsTold};
 ghost use Rattle.mu_lead.specs.Rooms.{HasRooms, RoomsNext, gives_up};
-ghost use Rattle.mu_lead.specs.Standing.{HasHeeded, LedDue, StandsFor, TakesNext, TellsFailed, TellsNext, verb_of};
+ghost use Rattle.mu_lead.specs.Standing.{HasHeeded, StandsFor, TakesNext, TellsFailed, TellsNext, verb_of};
 ghost use Rattle.mu_lead.specs.Going.{begins_at, going_after};
-ghost use Rattle.mu_lead.specs.Noting.{NotedDue, NotedNext};
+ghost use Rattle.mu_lead.specs.Noting.{NotedNext};
+ghost use Rattle.mu_lead.specs.Stepping.{IsAnswered, Steps, is_calm as is_calm_verb};
 ghost use Rattle.mu_lead.specs.Saying.{SaysNext, is_working as is_working_note};
 ghost use Rattle.mu_lead.specs.Welcomes.{JoinsAt};
 
 use crate::batches::knows_all;
 use crate::note::Note;
-use crate::place::{Offer, Place};
+use crate::place::Place;
 use crate::positions::{end_of, narrow};
+use crate::recording::{write_head, write_reach, write_up, write_word};
 use mu_known::KnownLog;
 use mu_leading::Leadership;
-use mu_model::{Answer, Config, Event, Fence, NoMemory, Target, Verb, count_of_rows, row_word};
+use mu_model::{Answer, Config, Event, NoMemory, Target, Verb, count_of_rows, row_word};
 use std::alloc::Global;
 
 /// What a replica does as a leader: its place in the listing, and what it read and did on the way.
@@ -284,12 +287,13 @@ impl Lead {
         Verb::WriteRow(j, k, word)
     }
 
-    /// Takes the answer of the verb that was due. `log` is what the replica
-    /// knows, `known` its values.
-    pub fn take(&mut self, answer: Answer, known: &[u16], log: &KnownLog) -> Note
+    /// Takes the answer to the verb that was due. `log` is what the replica knows, `known` its
+    /// values.
+    pub fn take(&mut self, verb: Verb, answer: Answer, known: &[u16], log: &KnownLog) -> Note
         ghost mine: { List Event }
         requires stands { StandsFor mine self.old }
         requires heeded { HasHeeded mine self.old }
+        requires due { verb_of self.old (known_of self.old.config self.old.id mine) ≡ Some verb }
         ensures stands { HoldsValues self.old.config known.now log.now
             → TakesNext mine self.old known.now answer self.new }
         ensures rooms { HoldsValues self.old.config known.now log.now
@@ -320,70 +324,68 @@ impl Lead {
         ensures going { self.new.under_way
             ≡ going_after (begins_at self.old.place || self.old.under_way) result }
     {
-        let note = self.take_answer(answer, known, log);
+        let note = self.step(verb, answer, known, log);
         with_idle(&self.config, note, known)
     }
 
-    /// Takes the answer, and notes whether the leadership goes on.
-    fn take_answer(&mut self, answer: Answer, known: &[u16], log: &KnownLog) -> Note
-        ensures leading { LedDue self.old known.now answer self.new }
-        ensures writes { WritesDue self.old known.now answer self.new }
+    /// Makes the step of the listing: tells the leaderships, writes the tables, and goes to the place
+    /// that follows. The note doesn't tell yet that all commands are known.
+    fn step(&mut self, verb: Verb, answer: Answer, known: &[u16], log: &KnownLog) -> Note
+        ensures steps { (mine : List Event) → IsAnswered mine self.old known.now verb answer
+            → Steps mine self.old known.now log.now verb answer self.new result }
         ensures config { self.new.config ≡ self.old.config }
         ensures id { self.new.id ≡ self.old.id }
         ensures named { self.new.named ≡ self.old.named }
-        ensures noted { NotedDue self.old known.now answer result }
         ensures going { self.new.under_way
             ≡ going_after (begins_at self.old.place || self.old.under_way) result }
-        ensures listed { HoldsValues self.old.config known.now log.now
-            → FollowsDue self.old known.now answer self.new }
     {
-        let was = begins(self.place, self.under_way);
-        let note = self.go_on(answer, known, log);
-        self.under_way = goes_on(was, note);
+        tell(&mut self.leading, self.id, verb, answer);
+        let commits = self.commits(answer);
+        write_up(&mut self.up, &self.leading, verb, answer, known, commits);
+        write_reach(&mut self.reach, verb, answer);
+        write_head(&mut self.heads, verb, answer);
+        write_word(&mut self.written, verb);
+        let note = self.note(answer, known, commits);
+        let next = self.next_place(answer, known, log);
+        self.number = self.next_number();
+        self.under_way = goes_on(begins(self.place, self.under_way), note);
+        self.place = next;
         note
     }
+}
 
-    /// Goes on by the answer, from the place that asked.
-    fn go_on(&mut self, answer: Answer, known: &[u16], log: &KnownLog) -> Note
-        ensures leading { LedDue self.old known.now answer self.new }
-        ensures writes { WritesDue self.old known.now answer self.new }
-        ensures config { self.new.config ≡ self.old.config }
-        ensures id { self.new.id ≡ self.old.id }
-        ensures named { self.new.named ≡ self.old.named }
-        ensures noted { NotedDue self.old known.now answer result }
-        ensures listed { HoldsValues self.old.config known.now log.now
-            → FollowsDue self.old known.now answer self.new }
-    {
-        match self.place {
-            Place::Ask(p) => self.took_ask(p),
-            Place::Confirm(round, p) => self.at_confirm(round, p, answer),
-            Place::ReadMin(p) => self.at_read_min(p, answer),
-            Place::EnterMin(p) => self.at_enter_min(p, answer),
-            Place::PutMin(p) => self.at_put_min(p, answer),
-            Place::ReadFuo(p, source) => self.at_read_fuo(p, source, answer, known),
-            Place::Learn(p) => self.took_learning(p, answer, known),
-            Place::WidenBehind(p, then) => self.took_widening(p, then),
-            Place::LookBehind(p, then) => self.took_look_behind(p, then, answer),
-            Place::EnterBehind(p, then) => self.at_enter_behind(p, then, answer),
-            Place::PutBehind(p, then) => self.at_put_behind(p, then, answer, known),
-            Place::RaiseBehind(p, then) => self.took_raise_behind(p, then, known),
-            Place::FenceBehind(p, then) => self.at_fence_behind(p, then, answer),
-            Place::LateFence(p) => self.at_late_fence(p, answer, known),
-            Place::LateMin(p) => self.at_late_min(p, answer),
-            Place::LateFuo(p) => self.at_late_fuo(p, answer, known),
-            Place::LateEnter(p) => self.at_late_enter(p, answer),
-            Place::LatePut(p) => self.at_late_put(p, answer, known),
-            Place::ReadHead(q, candidate) => self.at_read_head(q, candidate, answer, known),
-            Place::Look(p, i, candidate, best) => {
-                self.took_look(p, i, candidate, best, answer, known, log)
-            }
-            Place::Write(j, last, offer) => self.took_write(j, last, offer),
-            Place::Enter(p, offer) => self.at_enter(p, offer, answer, known),
-            Place::Put(p, offer) => self.at_put(p, offer, answer, known),
-            Place::Raise(p) => self.took_raise(p, known),
-            Place::Evidence(p) => self.at_evidence(p, answer),
-            Place::Outrun | Place::Rest => Note::Working,
-        }
+/// Tells the leaderships of the answer, if they rest on the verb.
+fn tell(leading: &mut Leadership, id: u8, verb: Verb, answer: Answer)
+    ensures { (c : Config) → (mine : List Event) → c.replicas ≤ 7
+        → IsPossible c id (record { by = id; verb = verb; answer = answer } ∷ mine)
+        → StandsForLeadership id mine leading.old
+        → StandsForLeadership id (record { by = id; verb = verb; answer = answer } ∷ mine)
+        leading.new }
+{
+    if !is_calm(verb) {
+        leading.take(
+            id,
+            &Event {
+                by: id,
+                verb,
+                answer,
+            },
+        );
+    }
+}
+
+/// Whether the verb changes nothing of a leadership but what is looked at, read and raised.
+fn is_calm(verb: Verb) -> bool
+    ensures { result ≡ is_calm_verb verb }
+{
+    match verb {
+        Verb::Ask(_)
+        | Verb::Fence(_)
+        | Verb::Min(_)
+        | Verb::Enter(_, _)
+        | Verb::PutMin(_, _)
+        | Verb::PutSlot(_, _, _, _) => false,
+        _ => true,
     }
 }
 

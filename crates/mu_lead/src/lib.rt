@@ -11,19 +11,19 @@ ghost use Rattle.mu_lead.specs.Resigning.{BeatsKeepCounts, CountsAreInTime};
 ghost use Rattle.mu_lead.specs.Rooms.{OthersKeepRooms, RoomsAreInTime};
 ghost use Rattle.mu_lead.specs.Welcomes.{FollowersJoinInTime};
 
-mod answering;
-mod arrays;
 mod batches;
 mod behind;
 mod confirming;
 mod entries;
 mod joining;
 mod lead;
-mod losing;
+mod listing;
 mod note;
+mod noting;
 mod offering;
 mod place;
 mod positions;
+mod recording;
 mod regions;
 mod writing;
 

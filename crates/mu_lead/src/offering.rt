@@ -1,48 +1,36 @@
 //! New positions: room, looks, the value, puts and FUOs.
-ghost use Rattle.std.specs.Prelude.{IsTrue, List, None, Some, false, get_or, if◌then◌else◌, length, min, nat_lt, not, true, ℕ, ◌%◌, ◌&&◌, ◌+◌, ◌<◌, ◌==◌, ◌∷◌, ◌||◌, ◌≡◌, ◌≢◌, ◌↔◌};
-ghost use Rattle.std.specs.declared.option.Option.{Option};
-ghost use Rattle.mu_model.specs.declared.event.Answer.{Answer as SomeAnswer};
-ghost use Rattle.mu_model.specs.declared.event.Event.{Event as SomeEvent};
-ghost use Rattle.mu_model.specs.declared.event.Target.{Target as SomeTarget};
-ghost use Rattle.mu_model.specs.declared.event.Verb.{Verb as SomeVerb};
+ghost use Rattle.std.specs.Prelude.{List, Some, get_or, length, nat_lt, not, ℕ, ◌&&◌, ◌+◌, ◌<◌, ◌==◌, ◌||◌, ◌≡◌, ◌≤◌};
+ghost use Rattle.mu_model.specs.declared.event.Event.{Event};
 ghost use Rattle.mu_model.specs.Contents.{marked, row_count};
 ghost use Rattle.mu_model.specs.Knowledge.{known as known_of};
-ghost use Rattle.mu_model.specs.Parts.{IsPossible};
 ghost use Rattle.mu_model.specs.Room.{reserve};
+ghost use Rattle.mu_model.specs.Scores.{is_failed};
 ghost use Rattle.mu_known.specs.KnownLog.{HoldsValues};
 ghost use Rattle.mu_known.specs.Offers.{IsFirst};
-ghost use Rattle.mu_model.specs.declared.config.Config.{Config};
-ghost use Rattle.mu_lead.specs.declared.place.Sight.{Sight as SomeSight};
+ghost use Rattle.mu_leading.specs.Leadership.{StandsForLeadership};
+ghost use Rattle.mu_lead.specs.declared.place.Offer.{Offer as SomeOffer};
 ghost use Rattle.mu_lead.specs.declared.place.Place.{Place as SomePlace};
-ghost use Rattle.mu_lead.specs.Leading.{Level, end_of as end_of_known};
-ghost use Rattle.mu_lead.specs.Journal.{WritesFrom};
-ghost use Rattle.mu_lead.specs.Lasting.{FollowsFrom, FollowsHead, FollowsLook, tables_of};
-ghost use Rattle.mu_lead.specs.Listing.{first_member, heads_from, least_candidate, member_from, next_position, offer_row, or_else, own_offer, pick};
-ghost use Rattle.mu_lead.specs.Notes.{TellsPut, note_of_commit, note_of_head};
-ghost use Rattle.mu_lead.specs.Offering.{Looking, LooksShow, MayBeMarked, MayOffer, Roomy};
+ghost use Rattle.mu_lead.specs.Lasting.{tables_of};
+ghost use Rattle.mu_lead.specs.Leading.{end_of as end_of_known};
+ghost use Rattle.mu_lead.specs.Listing.{after_head, after_look, first_member, heads_from, late_from, least_candidate, member_from, next_position, offer_row, or_else, own_offer, pick};
 ghost use Rattle.mu_lead.specs.Sets.{is_bit};
-ghost use Rattle.mu_lead.specs.Standing.{HoldsAt, LedFrom, Stands, StandsFor};
-ghost use Rattle.mu_lead.specs.Saying.{note_of_look};
-ghost use Rattle.mu_lead.specs.declared.note.Note.{Note as SomeNote};
+ghost use Rattle.mu_lead.specs.Standing.{Stands};
+ghost use Rattle.mu_lead.specs.Stepping.{IsRegion, lands_last};
 
-use crate::arrays::{with_fuo, with_number};
 use crate::batches::{is_marked, knows_all, next_offer, own_value};
-use crate::behind::{is_past, value_in};
-use crate::entries::{larger, sight_in};
 use crate::lead::Lead;
-use crate::note::Note;
 use crate::place::{Offer, Place, Sight, Then};
-use crate::positions::{end_of, narrow};
+use crate::positions::end_of;
 use crate::regions::{next_member, next_stranger};
 use mu_known::KnownLog;
-use mu_model::{Answer, Event, Verb, count_of_rows, reserve_of, row_rest};
+use mu_model::{Answer, count_of_rows, reserve_of, row_rest};
 
 impl Lead {
     /// Goes on with the next position, or with late followers if all commands are known.
     pub(crate) fn next_position(&self, known: &[u16]) -> Place
-        ensures { (mine : List SomeEvent) → Stands mine self.now
-            → known.now ≡ known_of self.now.config self.now.id mine
-            → result ≡ next_position self.now.config self.now.id mine self.now.heads }
+        ensures { (now : List Event) → Stands now self.now
+            → known.now ≡ known_of self.now.config self.now.id now
+            → result ≡ next_position self.now.config self.now.id now self.now.heads }
     {
         if knows_all(&self.config, known) {
             match next_stranger(&self.leading, 0, self.config.replicas) {
@@ -72,7 +60,7 @@ impl Lead {
     }
 
     /// Whether the head leaves room for the next position and for `free` more.
-    fn leaves_room(&self, head: u64, free: u8, known: &[u16]) -> bool
+    pub(crate) fn leaves_room(&self, head: u64, free: u8, known: &[u16]) -> bool
         ensures { length known.now < 65536
             → result ≡ nat_lt (length known.now + free) (head + self.now.config.ring) }
     {
@@ -102,9 +90,9 @@ impl Lead {
 
     /// Reads the next head from `q` on that is too low, or goes on with the looks.
     fn heads_from(&self, q: u8, candidate: Option<u8>, known: &[u16]) -> Place
-        ensures { (mine : List SomeEvent) → Stands mine self.now
-            → known.now ≡ known_of self.now.config self.now.id mine
-            → result ≡ heads_from self.now.config self.now.id mine self.now.heads q candidate }
+        ensures { (now : List Event) → Stands now self.now
+            → known.now ≡ known_of self.now.config self.now.id now
+            → result ≡ heads_from self.now.config self.now.id now self.now.heads q candidate }
     {
         match self.next_low(q, known) {
             Some(p) => Place::ReadHead(p, candidate),
@@ -119,51 +107,8 @@ impl Lead {
         has_bit(self.failed, q)
     }
 
-    /// The head of `q`.
-    pub(crate) fn took_head(
-        &mut self,
-        q: u8,
-        candidate: Option<u8>,
-        head: u64,
-        known: &[u16],
-    ) -> Note
-        ensures leading { LedFrom self.old (SomePlace.ReadHead q candidate) known.now
-            (SomeVerb.Head q) (SomeAnswer.Number head) self.new }
-        ensures config { self.new.config ≡ self.old.config }
-        ensures id { self.new.id ≡ self.old.id }
-        ensures named { self.new.named ≡ self.old.named }
-        ensures writes { WritesFrom self.old (SomePlace.ReadHead q candidate) known.now
-            (SomeVerb.Head q) (SomeAnswer.Number head) self.new }
-        ensures note { length known.now < 65536 → result
-            ≡ note_of_head q (min head 65535) (length known.now)
-            (nat_lt (length known.now + reserve self.old.config)
-            (head + self.old.config.ring))
-            (not (q == self.old.id)
-            && (is_bit q self.old.failed
-            && nat_lt (length known.now + 0) (head + self.old.config.ring))) }
-        ensures listed { FollowsHead self.old q candidate known.now (SomeAnswer.Number head)
-            self.new }
-        ensures kept { length self.old.heads ≡ 7 → q < 7 → get_or self.new.heads q 0 ≡ head }
-    {
-        self.heads = with_number(self.heads, q, head);
-        if self.leaves_room(head, reserve_of(&self.config), known) {
-            self.place = self.heads_from(q.saturating_add(1), candidate, known);
-            Note::Working
-        } else if self.may_mark(q, head, known) {
-            self.place = self.heads_from(q.saturating_add(1), Some(first_of(candidate, q)), known);
-            Note::Working
-        } else {
-            self.place = self.late_from(0, known);
-            Note::NoRoom {
-                replica: q,
-                head: narrow(head),
-                position: end_of(known),
-            }
-        }
-    }
-
     /// Whether `q`, whose head leaves too little room, may be marked.
-    fn may_mark(&self, q: u8, head: u64, known: &[u16]) -> bool
+    pub(crate) fn may_mark(&self, q: u8, head: u64, known: &[u16]) -> bool
         ensures { length known.now < 65536 → result
             ≡ (not (q == self.now.id)
             && (is_bit q self.now.failed
@@ -172,46 +117,52 @@ impl Lead {
         q != self.id && self.is_failed(q) && self.leaves_room(head, 0, known)
     }
 
-    /// A look at the new position of `p`.
-    pub(crate) fn took_look(
-        &mut self,
+    /// The place after the head of `q`.
+    pub(crate) fn after_head(&self, q: u8, candidate: Option<u8>, head: u64, known: &[u16]) -> Place
+        ensures { (now : List Event) → Stands now self.now
+            → known.now ≡ known_of self.now.config self.now.id now
+            → q < self.now.config.replicas
+            → is_bit q self.now.failed ≡ is_failed self.now.id q now
+            → result
+            ≡ after_head self.now.config self.now.id now self.now.heads q candidate head }
+    {
+        let next = q.saturating_add(1);
+        if self.leaves_room(head, reserve_of(&self.config), known) {
+            self.heads_from(next, candidate, known)
+        } else if self.may_mark(q, head, known) {
+            self.heads_from(next, Some(first_of(candidate, q)), known)
+        } else {
+            self.late_from(0, known)
+        }
+    }
+
+    /// The place after a look at the new position of `p` that wasn't past.
+    pub(crate) fn after_look(
+        &self,
         p: u8,
         position: u16,
         candidate: Option<u8>,
         best: Option<Sight>,
-        answer: Answer,
         known: &[u16],
         log: &KnownLog,
-    ) -> Note
-        ensures leading { LedFrom self.old (SomePlace.Look p position candidate best) known.now
-            (SomeVerb.Look p position) answer self.new }
-        ensures config { self.new.config ≡ self.old.config }
-        ensures id { self.new.id ≡ self.old.id }
-        ensures named { self.new.named ≡ self.old.named }
-        ensures tables { tables_of self.new ≡ tables_of self.old }
-        ensures note { result ≡ note_of_look position (length known.now) answer }
-        ensures listed { HoldsValues self.old.config known.now log.now
-            → FollowsLook self.old (SomePlace.Look p position candidate best) known.now p
-            position answer self.new }
+    ) -> Place
+        ensures { HoldsValues self.now.config known.now log.now
+            → (now : List Event) → Stands now self.now
+            → known.now ≡ known_of self.now.config self.now.id now
+            → p < self.now.config.replicas → IsRegion self.now.config candidate
+            → result
+            ≡ after_look self.now.config self.now.id now (tables_of self.now) p position candidate
+            best }
     {
-        if is_past(answer) {
-            self.place = Place::Outrun;
-            Note::Working
-        } else if usize::from(position) < known.len() {
-            self.place = self.bring_up_from(0, Then::Position, known);
-            Note::Learnt {
-                position,
-                value: value_in(answer),
-            }
+        if usize::from(position) < known.len() {
+            self.bring_up_from(0, Then::Position, known)
         } else {
-            let shown = larger(best, sight_in(answer));
-            self.place = self.after_look(p, candidate, shown, known, log);
-            Note::Working
+            self.look_on(p, candidate, best, known, log)
         }
     }
 
     /// Looks at the next member, or picks the value.
-    fn after_look(
+    fn look_on(
         &self,
         p: u8,
         candidate: Option<u8>,
@@ -220,14 +171,12 @@ impl Lead {
         log: &KnownLog,
     ) -> Place
         ensures { HoldsValues self.now.config known.now log.now
-            → (mine : List SomeEvent) → Stands mine self.now
-            → known.now ≡ known_of self.now.config self.now.id mine
-            → p < self.now.config.replicas
-            → Looking self.now.config self.now.id self.now.number mine self.now.up self.now.reach
-            (p + 1) candidate best
-            → result ≡ or_else (member_from self.now.config self.now.id mine (p + 1))
-            (λ q. SomePlace.Look q (end_of_known self.now.config self.now.id mine) candidate best)
-            (pick self.now.config self.now.id mine self.now.written.items candidate best) }
+            → (now : List Event) → Stands now self.now
+            → known.now ≡ known_of self.now.config self.now.id now
+            → p < self.now.config.replicas → IsRegion self.now.config candidate
+            → result ≡ or_else (member_from self.now.config self.now.id now (p + 1))
+            (λ q. SomePlace.Look q (end_of_known self.now.config self.now.id now) candidate best)
+            (pick self.now.config self.now.id now self.now.written.items candidate best) }
     {
         match next_member(&self.leading, p.saturating_add(1), self.config.replicas) {
             Some(q) => Place::Look(q, end_of(known), candidate, best),
@@ -244,11 +193,10 @@ impl Lead {
         log: &KnownLog,
     ) -> Place
         ensures { HoldsValues self.now.config known.now log.now
-            → (mine : List SomeEvent) → Stands mine self.now
-            → known.now ≡ known_of self.now.config self.now.id mine
-            → Looking self.now.config self.now.id self.now.number mine self.now.up self.now.reach
-            self.now.config.replicas candidate best
-            → result ≡ pick self.now.config self.now.id mine self.now.written.items candidate best }
+            → (now : List Event) → Stands now self.now
+            → known.now ≡ known_of self.now.config self.now.id now
+            → IsRegion self.now.config candidate
+            → result ≡ pick self.now.config self.now.id now self.now.written.items candidate best }
     {
         match best {
             Some(sight) => self.offer(Offer {
@@ -268,12 +216,12 @@ impl Lead {
     /// Begins with the next batch of its own, if there is one.
     fn offer_own(&self, known: &[u16], log: &KnownLog) -> Place
         ensures { HoldsValues self.now.config known.now log.now
-            → (mine : List SomeEvent) → Stands mine self.now
-            → known.now ≡ known_of self.now.config self.now.id mine
+            → (now : List Event) → Stands now self.now
+            → known.now ≡ known_of self.now.config self.now.id now
             → result ≡ or_else (own_offer self.now.config self.now.id
-            (known_of self.now.config self.now.id mine)
-            (end_of_known self.now.config self.now.id mine))
-            (offer_row self.now.config self.now.id mine self.now.written.items) SomePlace.Rest }
+            (known_of self.now.config self.now.id now)
+            (end_of_known self.now.config self.now.id now))
+            (offer_row self.now.config self.now.id now self.now.written.items) SomePlace.Rest }
     {
         match next_offer(&self.config, self.id, known, log) {
             None => Place::Rest,
@@ -290,115 +238,67 @@ impl Lead {
 
     /// Begins to put the value.
     pub(crate) fn offer(&self, offer: Offer) -> Place
-        ensures { (mine : List SomeEvent) → Stands mine self.now
-            → result ≡ SomePlace.Enter (first_member self.now.config self.now.id mine) offer }
+        ensures { (now : List Event) → Stands now self.now
+            → result ≡ SomePlace.Enter (first_member self.now.config self.now.id now) offer }
     {
         Place::Enter(self.first_member(), offer)
     }
 
-    /// The region `p` was entered for the offer.
-    pub(crate) fn entered_new(&mut self, p: u8, offer: Offer, known: &[u16]) -> Note
-        ensures leading { LedFrom self.old (SomePlace.Enter p offer) known.now
-            (SomeVerb.Enter p (SomeTarget.Place (length known.now % self.old.config.ring)))
-            SomeAnswer.Entered self.new }
-        ensures config { self.new.config ≡ self.old.config }
-        ensures id { self.new.id ≡ self.old.id }
-        ensures named { self.new.named ≡ self.old.named }
-        ensures tables { tables_of self.new ≡ tables_of self.old }
-        ensures note { result ≡ SomeNote.Working }
-        ensures listed { FollowsFrom self.old (SomePlace.Enter p offer) known.now
-            (SomeVerb.Enter p (SomeTarget.Place (length known.now % self.old.config.ring)))
-            SomeAnswer.Entered self.new }
+    /// The place after the offer was put at `p`.
+    pub(crate) fn after_put(&self, p: u8, offer: Offer) -> Place
+        ensures { (now : List Event) → Stands now self.now → p < self.now.config.replicas
+            → result
+            ≡ or_else (member_from self.now.config self.now.id now (p + 1))
+            (λ q. SomePlace.Enter q offer)
+            (SomePlace.Raise (first_member self.now.config self.now.id now)) }
     {
-        let event = Event {
-            by: self.id,
-            verb: Verb::Enter(p, self.place_of(known.len() as u64)),
-            answer: Answer::Entered,
-        };
-        self.leading.take(self.id, &event);
-        self.place = Place::Put(p, offer);
-        Note::Working
-    }
-
-    /// The offer was put at `p`.
-    pub(crate) fn took_put(&mut self, p: u8, offer: Offer, known: &[u16]) -> Note
-        ensures leading { LedFrom self.old (SomePlace.Put p offer) known.now
-            (SomeVerb.PutSlot p (length known.now) self.old.number offer.value) SomeAnswer.Done
-            self.new }
-        ensures tells { (mine : List SomeEvent) → StandsFor mine self.old
-            → self.old.place ≡ SomePlace.Put p offer
-            → IsPossible self.old.config self.old.id
-            (record {
-              by = self.old.id;
-              verb = SomeVerb.PutSlot p (length known.now) self.old.number
-                  offer.value;
-              answer = SomeAnswer.Done;
-            }
-            ∷ mine)
-            → known.now ≡ known_of self.old.config self.old.id mine
-            → TellsPut self.old.config self.old.id mine
-            (record {
-              by = self.old.id;
-              verb = SomeVerb.PutSlot p (length known.now) self.old.number
-                  offer.value;
-              answer = SomeAnswer.Done;
-            })
-            known.now offer result }
-        ensures config { self.new.config ≡ self.old.config }
-        ensures id { self.new.id ≡ self.old.id }
-        ensures named { self.new.named ≡ self.old.named }
-        ensures writes { WritesFrom self.old (SomePlace.Put p offer) known.now
-            (SomeVerb.PutSlot p (length known.now) self.old.number offer.value) SomeAnswer.Done
-            self.new }
-        ensures listed { FollowsFrom self.old (SomePlace.Put p offer) known.now
-            (SomeVerb.PutSlot p (length known.now) self.old.number offer.value)
-            SomeAnswer.Done self.new }
-    {
-        let position = end_of(known);
-        let event = Event {
-            by: self.id,
-            verb: Verb::PutSlot(p, position, self.number, offer.value),
-            answer: Answer::Done,
-        };
-        self.leading.take(self.id, &event);
         match next_member(&self.leading, p.saturating_add(1), self.config.replicas) {
-            Some(q) => {
-                self.place = Place::Enter(q, offer);
-                Note::Working
-            }
-            None => {
-                self.up = self.brought_to(u64::from(end_of(known)) + 1);
-                self.place = Place::Raise(self.first_member());
-                committed(position, offer)
-            }
+            Some(q) => Place::Enter(q, offer),
+            None => Place::Raise(self.first_member()),
         }
     }
 
-    /// The FUO of `p` was raised over what was committed.
-    pub(crate) fn took_raise(&mut self, p: u8, known: &[u16]) -> Note
-        ensures leading { LedFrom self.old (SomePlace.Raise p) known.now
-            (SomeVerb.RaiseFuo p (length known.now))
-            SomeAnswer.Done self.new }
-        ensures config { self.new.config ≡ self.old.config }
-        ensures id { self.new.id ≡ self.old.id }
-        ensures named { self.new.named ≡ self.old.named }
-        ensures writes { WritesFrom self.old (SomePlace.Raise p) known.now
-            (SomeVerb.RaiseFuo p (length known.now)) SomeAnswer.Done self.new }
-        ensures note { result ≡ SomeNote.Working }
-        ensures listed { FollowsFrom self.old (SomePlace.Raise p) known.now
-            (SomeVerb.RaiseFuo p (length known.now))
-            SomeAnswer.Done self.new }
+    /// Whether the answer makes the offer known: its put landed, and no member is left.
+    pub(crate) fn commits(&self, answer: Answer) -> bool
+        ensures { (p : ℕ) → (offer : SomeOffer) → (now : List Event)
+            → self.now.place ≡ SomePlace.Put p offer → p < self.now.config.replicas
+            → self.now.config.replicas ≤ 7
+            → StandsForLeadership self.now.id now self.now.leading
+            → result ≡ lands_last self.now.config self.now.id now answer p }
     {
-        self.reach = with_fuo(self.reach, p, known.len() as u64);
+        match self.place {
+            Place::Put(p, _) => self.lands_last(answer, p),
+            _ => false,
+        }
+    }
+
+    /// Whether the put at `p` landed, and no member after `p` is left.
+    fn lands_last(&self, answer: Answer, p: u8) -> bool
+        ensures { (now : List Event) → p < self.now.config.replicas
+            → self.now.config.replicas ≤ 7
+            → StandsForLeadership self.now.id now self.now.leading
+            → result ≡ lands_last self.now.config self.now.id now answer p }
+    {
+        match answer {
+            Answer::Done => {
+                next_member(&self.leading, p.saturating_add(1), self.config.replicas).is_none()
+            }
+            _ => false,
+        }
+    }
+
+    /// The place after the FUO of `p` was raised over what was committed.
+    pub(crate) fn after_raise(&self, p: u8, known: &[u16]) -> Place
+        ensures { (now : List Event) → Stands now self.now
+            → known.now ≡ known_of self.now.config self.now.id now
+            → p < self.now.config.replicas
+            → result
+            ≡ or_else (member_from self.now.config self.now.id now (p + 1)) SomePlace.Raise
+            (late_from self.now.config self.now.id now self.now.heads 0) }
+    {
         match next_member(&self.leading, p.saturating_add(1), self.config.replicas) {
-            Some(q) => {
-                self.place = Place::Raise(q);
-                Note::Working
-            }
-            None => {
-                self.place = self.late_from(0, known);
-                Note::Working
-            }
+            Some(q) => Place::Raise(q),
+            None => self.late_from(0, known),
         }
     }
 }
@@ -421,17 +321,5 @@ fn first_of(candidate: Option<u8>, q: u8) -> u8
     match candidate {
         Some(k) => k,
         None => q,
-    }
-}
-
-/// The note of a commit.
-fn committed(position: u16, offer: Offer) -> Note
-    ensures is { result ≡ note_of_commit position offer }
-{
-    let value = offer.value;
-    if offer.adopted {
-        Note::Adopted { position, value }
-    } else {
-        Note::Committed { position, value }
     }
 }

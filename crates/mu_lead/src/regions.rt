@@ -4,36 +4,10 @@ ghost use Rattle.mu_model.specs.declared.event.Event.{Event};
 ghost use Rattle.mu_model.specs.Histories.{count_below};
 ghost use Rattle.mu_model.specs.Leaderships.{is_member, noted_grant};
 ghost use Rattle.mu_leading.specs.Leadership.{StandsForLeadership};
-ghost use Rattle.mu_lead.specs.Journal.{set_where};
 ghost use Rattle.mu_lead.specs.Sets.{bit, bits};
 ghost use Rattle.mu_known.specs.Offers.{IsFirst};
 
-use crate::lead::Lead;
 use mu_leading::Leadership;
-
-impl Lead {
-    /// Up to which position each region has what is known, if the members have all below `u`.
-    pub(crate) fn brought_to(&self, u: u64) -> [u64; 7]
-        ensures long { length result ≡ length self.now.up }
-        ensures members { (mine : List Event) → (p : ℕ) → p < 7 → length self.now.up ≡ 7
-            → StandsForLeadership self.now.id mine self.now.leading
-            → is_member self.now.id p mine ≡ true → get_or result p 0 ≡ u }
-        ensures others { (mine : List Event) → (p : ℕ)
-            → StandsForLeadership self.now.id mine self.now.leading
-            → is_member self.now.id p mine ≡ false → get_or result p 0 ≡ get_or self.now.up p 0 }
-        ensures is { (mine : List Event) → length self.now.up ≡ 7
-            → StandsForLeadership self.now.id mine self.now.leading
-            → result ≡ set_where (λ p. is_member self.now.id p mine) u 0 self.now.up }
-    {
-        let mut up = self.up;
-        for p in 0..7u8 {
-            if self.leading.is_member(p) {
-                up[usize::from(p)] = u;
-            }
-        }
-        up
-    }
-}
 
 /// The first member from `from` on, below `n`.
 pub(crate) fn next_member(leading: &Leadership, from: u8, n: u8) -> Option<u8>

@@ -1,29 +1,22 @@
 //! The rows of a batch that is offered.
-ghost use Rattle.std.specs.Prelude.{List, None, Some, get_or, if◌then◌else◌, length, nat_lt, set, ℕ, ◌+◌, ◌-◌, ◌<◌, ◌≡◌, ◌≢◌, ◌%◌, ◌&&◌, ◌/◌, ◌==◌, ◌∷◌};
-ghost use Rattle.std.specs.declared.option.Option.{Option};
-ghost use Rattle.mu_model.specs.declared.event.Answer.{Answer as SomeAnswer};
-ghost use Rattle.mu_model.specs.declared.event.Event.{Event as SomeEvent};
-ghost use Rattle.mu_model.specs.declared.event.Verb.{Verb as SomeVerb};
+ghost use Rattle.std.specs.Prelude.{List, get_or, length, nat_lt, ℕ, ◌&&◌, ◌+◌, ◌-◌, ◌/◌, ◌<◌, ◌==◌, ◌∷◌, ◌≡◌};
 ghost use Rattle.std.specs.List.{slice_get};
 ghost use Rattle.mu_model.specs.declared.config.Config.{Config as SomeConfig};
-ghost use Rattle.mu_model.specs.Contents.{config_word, is_batch, rest_of};
+ghost use Rattle.mu_model.specs.declared.event.Answer.{Answer as SomeAnswer};
+ghost use Rattle.mu_model.specs.declared.event.Event.{Event as SomeEvent};
+ghost use Rattle.mu_model.specs.Contents.{is_batch, rest_of};
 ghost use Rattle.mu_model.specs.Parts.{IsPossible};
-ghost use Rattle.mu_lead.specs.Ahead.{IsAhead, ahead_at, ahead_event, ahead_verb, entry_before, word_after, word_from};
-ghost use Rattle.mu_lead.specs.Lasting.{tables_of};
-ghost use Rattle.mu_lead.specs.Resigning.{CountsAt};
-ghost use Rattle.mu_lead.specs.declared.place.Place.{Place as SomePlace};
-ghost use Rattle.mu_lead.specs.Journal.{WritesFrom, tables_beside};
-ghost use Rattle.mu_lead.specs.Lasting.{FollowsFrom};
-ghost use Rattle.mu_lead.specs.Listing.{write_from};
-ghost use Rattle.mu_lead.specs.Offering.{Writing};
 ghost use Rattle.mu_known.specs.Offers.{IsFirst};
-ghost use Rattle.mu_lead.specs.Standing.{HoldsAt, LedFrom, Stands, StandsFor};
-ghost use Rattle.mu_lead.specs.declared.note.Note.{Note as SomeNote};
-ghost use Rattle.mu_lead.specs.Rooms.{words_left};
+ghost use Rattle.mu_lead.specs.Ahead.{IsAhead, ahead_at, ahead_event, ahead_verb, entry_before, word_after, word_from};
+ghost use Rattle.mu_lead.specs.Journal.{tables_beside};
+ghost use Rattle.mu_lead.specs.Lasting.{tables_of};
+ghost use Rattle.mu_lead.specs.Listing.{write_from};
+ghost use Rattle.mu_lead.specs.Resigning.{CountsAt};
+ghost use Rattle.mu_lead.specs.Standing.{Stands, StandsFor};
 
 use crate::lead::Lead;
-use crate::note::Note;
 use crate::place::{Offer, Place};
+use crate::recording::count_word;
 use mu_model::{Config, PAYLOADS, Verb, row_rest, stands_for_batch};
 
 impl Lead {
@@ -104,8 +97,7 @@ impl Lead {
         ensures place { self.new.place ≡ self.old.place }
         ensures going { self.new.under_way ≡ self.old.under_way }
     {
-        let count = self.next_word(j).saturating_add(1);
-        note_words(&mut self.written, j, count);
+        count_word(&mut self.written, j);
     }
 
     /// The first row from `first` to `last` that isn't written.
@@ -135,34 +127,6 @@ impl Lead {
             None => self.offer(offer),
         }
     }
-
-    /// A word of row `j` was written.
-    pub(crate) fn took_write(&mut self, j: u16, last: u16, offer: Offer) -> Note
-        ensures leading { (values : List ℕ)
-            → LedFrom self.old (SomePlace.Write j last offer) values
-            (SomeVerb.WriteRow j (get_or self.old.written.items j 12)
-            (config_word self.old.config j (get_or self.old.written.items j 12)))
-            SomeAnswer.Done self.new }
-        ensures config { self.new.config ≡ self.old.config }
-        ensures id { self.new.id ≡ self.old.id }
-        ensures named { self.new.named ≡ self.old.named }
-        ensures writes { (values : List ℕ)
-            → WritesFrom self.old (SomePlace.Write j last offer) values
-            (SomeVerb.WriteRow j (get_or self.old.written.items j 12)
-            (config_word self.old.config j (get_or self.old.written.items j 12)))
-            SomeAnswer.Done self.new }
-        ensures note { result ≡ SomeNote.Working }
-        ensures listed { (values : List ℕ)
-            → FollowsFrom self.old (SomePlace.Write j last offer) values
-            (SomeVerb.WriteRow j (get_or self.old.written.items j 12)
-            (config_word self.old.config j (get_or self.old.written.items j 12)))
-            SomeAnswer.Done self.new }
-    {
-        let count = self.next_word(j).saturating_add(1);
-        note_words(&mut self.written, j, count);
-        self.place = self.write_from(j, last, offer);
-        Note::Working
-    }
 }
 
 /// The last of these values.
@@ -182,16 +146,4 @@ fn row_after(config: &Config, j: u16) -> u16
 {
     j.saturating_add(u16::from(row_rest(config, j)))
         .saturating_add(1)
-}
-
-/// Notes how many words of row `j` are written.
-fn note_words(written: &mut Vec<u8>, j: u16, count: u8)
-    ensures long { length written.new.items ≡ length written.old.items }
-    ensures here { j < length written.old.items → get_or written.new.items j 0 ≡ count }
-    ensures others { (i : ℕ) → i ≢ j → get_or written.new.items i 0 ≡ get_or written.old.items i 0 }
-    ensures is { j < length written.old.items → written.new.items ≡ set written.old.items j count }
-{
-    if usize::from(j) < written.len() {
-        written[usize::from(j)] = count;
-    }
 }

@@ -426,7 +426,7 @@ impl Node {
         self.note(by, verb, answer);
         let known = self.follow.known();
         let position = known.len();
-        let note = self.lead.take(answer, known, self.follow.log());
+        let note = self.lead.take(verb, answer, known, self.follow.log());
         self.learn(position, note);
         told(heeded, note)
     }

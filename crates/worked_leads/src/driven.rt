@@ -189,7 +189,7 @@ impl Driven {
         let by = self.lead.id;
         let note = self
             .lead
-            .take(answer, self.own.known_log.known(), &self.own.known_log);
+            .take(verb, answer, self.own.known_log.known(), &self.own.known_log);
         note_own(
             &mut self.own,
             &mut self.scores,
@@ -224,7 +224,7 @@ impl Driven {
             &Event { by, verb, answer },
         );
         self.lead
-            .take(answer, self.own.known_log.known(), &self.own.known_log)
+            .take(verb, answer, self.own.known_log.known(), &self.own.known_log)
     }
 
     /// Makes the step that is due, and takes its answer.

@@ -1,34 +1,20 @@
-use Rattle.mu_lead.proofs.Firsts.{found_place}
-use Rattle.mu_lead.specs.declared.place.Place.{Place}
-use Rattle.std.proofs.Common.{Some, None, ℕ}
-use Rattle.mu_model.specs.Leaderships.{is_member}
 use Rattle.mu_lead.specs.Leading.{end_of}
-use Rattle.mu_lead.specs.Listing.{pick}
-use Rattle.std.proofs.Common.{ap, arith, length, subst, sym, ◌+◌, ◌<◌, ◌∙◌, ◌≡◌}
-use Rattle.mu_leading.proofs.Within.{known_few}
-use Rattle.mu_lead.proofs.Looks.{looking_to}
+use Rattle.std.proofs.Common.{ap, arith, length}
+use Rattle.std.proofs.lemmas.Bool.{le-ltb, lt-ltb}
 use Rattle.mu_lead.proofs.lead.Lead.after_look.Goals as goal
 
-pub returns-in-Some : goal.returns-in-Some
-returns-in-Some c = λ counts mine s same region looking.
+pub returns-then-from-known : goal.returns-then-from-known
+returns-then-from-known c = λ counts now s told region candidates.
     let l = c.args.self.now in
-    let few = s.config.replicas.1 in
-    let few_known = known_few l.config l.id mine s.config s.possible in
-    let more = c.saturating_add.ensures in
-    let look = λ (q : ℕ). Place.Look q (end_of l.config l.id mine) c.args.candidate c.args.best in
-    let picked = pick l.config l.id mine l.written.items c.args.candidate c.args.best in
-    ap (λ i. Place.Look c.in-Some.q i c.args.candidate c.args.best) (c.end_of.ensures (subst (λ values. length values < 65536) (sym same) few_known) ∙ ap length same)
-    ∙ found_place (λ k. is_member l.id k mine) (c.args.p + 1) c.saturating_add.result l.config.replicas (Some c.in-Some.q) look picked (omega (arith, more, region, few)) (c.in-Some.ensures l.id mine few s.leading)
+    let from = c.from.ensures in
+    let long = ap length told in
+    let more = c.if-from-known.true in
+    rw (lt-ltb c.args.position (end_of l.config l.id now) (omega (arith, from, long, more))) (c.bring_up_from.ensures now s told)
 
-pub returns-in-None : goal.returns-in-None
-returns-in-None c = λ counts mine s same region looking.
+pub returns-else-from-known : goal.returns-else-from-known
+returns-else-from-known c = λ counts now s told region candidates.
     let l = c.args.self.now in
-    let few = s.config.replicas.1 in
-    let few_known = known_few l.config l.id mine s.config s.possible in
-    let more = c.saturating_add.ensures in
-    let look = λ (q : ℕ). Place.Look q (end_of l.config l.id mine) c.args.candidate c.args.best in
-    let picked = pick l.config l.id mine l.written.items c.args.candidate c.args.best in
-    let none = c.in-None.ensures l.id mine few s.leading in
-    let next : c.saturating_add.result ≡ c.args.p + 1 = omega (arith, more, region, few) in
-    c.pick.ensures counts mine s same (looking_to l.config l.id l.number (c.args.p + 1) l.config.replicas mine l.up l.reach c.args.candidate c.args.best (omega (arith, region)) (λ k more less. none k (omega (arith, more, next)) less) looking)
-    ∙ found_place (λ k. is_member l.id k mine) (c.args.p + 1) c.saturating_add.result l.config.replicas None look picked next none
+    let from = c.from.ensures in
+    let long = ap length told in
+    let none = c.if-from-known.false in
+    rw (le-ltb c.args.position (end_of l.config l.id now) (omega (arith, from, long, none))) (c.look_on.ensures counts now s told region candidates)

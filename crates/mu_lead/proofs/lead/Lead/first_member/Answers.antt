@@ -5,7 +5,7 @@ use Rattle.mu_known.proofs.Firsts.{found_is}
 use Rattle.mu_lead.proofs.lead.Lead.first_member.Goals as goal
 
 pub returns-in-Some : goal.returns-in-Some
-returns-in-Some c = λ mine few inside held. let l = c.args.self.now in ap (or_own l.id) (found_is (λ p. is_member l.id p mine) 0 l.config.replicas (Some c.in-Some.q) (c.in-Some.ensures l.id mine few held))
+returns-in-Some c = λ mine s. let l = c.args.self.now in ap (or_own l.id) (found_is (λ p. is_member l.id p mine) 0 l.config.replicas (Some c.in-Some.q) (c.in-Some.ensures l.id mine s.config.replicas.1 s.leading))
 
 pub returns-in-None : goal.returns-in-None
-returns-in-None c = λ mine few inside held. let l = c.args.self.now in ap (or_own l.id) (found_is (λ p. is_member l.id p mine) 0 l.config.replicas None (c.in-None.ensures l.id mine few held))
+returns-in-None c = λ mine s. let l = c.args.self.now in ap (or_own l.id) (found_is (λ p. is_member l.id p mine) 0 l.config.replicas None (c.in-None.ensures l.id mine s.config.replicas.1 s.leading))

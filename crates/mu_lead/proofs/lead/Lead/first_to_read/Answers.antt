@@ -5,7 +5,7 @@ use Rattle.mu_lead.specs.declared.place.Place.{Place}
 use Rattle.mu_lead.proofs.lead.Lead.first_to_read.Goals as goal
 
 pub returns-in-Some : goal.returns-in-Some
-returns-in-Some c = λ mine few inside held. let l = c.args.self.now in found_place (λ p. is_some (noted_grant l.id p mine)) 0 0 l.config.replicas (Some c.in-Some.q) Place.ReadMin Place.Rest refl (c.in-Some.ensures l.id mine few held)
+returns-in-Some c = λ mine s. let l = c.args.self.now in found_place (λ p. is_some (noted_grant l.id p mine)) 0 0 l.config.replicas (Some c.in-Some.q) Place.ReadMin Place.Rest refl (c.in-Some.ensures l.id mine s.config.replicas.1 s.leading)
 
 pub returns-in-None : goal.returns-in-None
-returns-in-None c = λ mine few inside held. let l = c.args.self.now in found_place (λ p. is_some (noted_grant l.id p mine)) 0 0 l.config.replicas None Place.ReadMin Place.Rest refl (c.in-None.ensures l.id mine few held)
+returns-in-None c = λ mine s. let l = c.args.self.now in found_place (λ p. is_some (noted_grant l.id p mine)) 0 0 l.config.replicas None Place.ReadMin Place.Rest refl (c.in-None.ensures l.id mine s.config.replicas.1 s.leading)

@@ -1,6 +1,5 @@
-use Rattle.std.proofs.Common.{◌≡◌, ◌∙◌, ◌+◌, ◌∷◌, ap, arith, get_or, refl, subst, sym}
-use Rattle.std.specs.Prelude.{set}
-use Rattle.std.proofs.lemmas.List.{get_or-set_other}
+use Rattle.std.proofs.Common.{◌≡◌, ◌∙◌, ◌+◌, ◌∷◌, ap, arith, get_or, length, refl, subst, sym}
+use Rattle.std.proofs.lemmas.List.{get_or-set_other, get_or-set_same, length-set}
 use Rattle.mu_model.specs.declared.event.Answer.{Answer}
 use Rattle.mu_model.specs.Contents.{config_word}
 use Rattle.mu_model.specs.Parts.{IsPossible}
@@ -26,11 +25,10 @@ returns-clause-stands c = λ mine answer s ahead may.
     let possible = subst (λ a. IsPossible l.config l.id (ahead_event l j a ∷ mine)) done may in
     let lacks = ahead.lacks in
     let there = row_there l.written.items j lacks in
-    let word = c.next_word.ensures in
-    let more = c.saturating_add-count.ensures in
-    let count : c.saturating_add-count.result ≡ k + 1 = omega (arith, word, more, lacks) in
-    let written = c.note_words.new.written.items in
-    let tables = tables_row l.config l.id j k (config_word l.config j k) mine l.up l.reach l.heads l.written.items written possible s.tables (sym (default_is l.written.items j there)) c.note_words.ensures.long (c.note_words.ensures.here there ∙ count) c.note_words.ensures.others in
+    let written = c.count_word.new.written.items in
+    let is = c.count_word.ensures lacks in
+    let tables = tables_row l.config l.id j k (config_word l.config j k) mine l.up l.reach l.heads l.written.items written possible s.tables (sym (default_is l.written.items j there)) (ap length is ∙ length-set l.written.items j (k + 1)) (ap (λ xs. get_or xs j 0) is ∙ get_or-set_same l.written.items j (k + 1) 0 there)
+    (λ q other. ap (λ xs. get_or xs q 0) is ∙ get_or-set_other l.written.items j q (k + 1) 0 other) in
     let on = at_on l.config l.id l.number verb Answer.Done mine l.up l.reach l.written.items l.place ahead.leads refl possible s.at in
     let new : Lead = record {
       config = l.config;
@@ -44,7 +42,7 @@ returns-clause-stands c = λ mine answer s ahead may.
       up = l.up;
       reach = l.reach;
       heads = l.heads;
-      written = c.note_words.new.written;
+      written = c.count_word.new.written;
     } in
     subst (λ a. StandsFor (ahead_event l j a ∷ mine) new) (sym done) (record {
       config = s.config;
@@ -55,18 +53,11 @@ returns-clause-stands c = λ mine answer s ahead may.
           (λ u last offer here.
           (let after = ahead.after u last offer here in
           let inside = (subst (λ p. At l.config l.id l.number mine l.up l.reach l.written.items p) here s.at).0.inside in
-          ap (λ xs. get_or xs u 12) (c.note_words.ensures.is there) ∙ get_or-set_other l.written.items j u c.saturating_add-count.result 12 (λ same. omega (arith, after, same, inside)))) on;
+          ap (λ xs. get_or xs u 12) is ∙ get_or-set_other l.written.items j u (k + 1) 12 (λ same. omega (arith, after, same, inside)))) on;
     })
 
 pub returns-clause-tables : goal.returns-clause-tables
-returns-clause-tables c = λ ahead.
-    let l = c.args.self.now in
-    let j = c.args.j in
-    let lacks = ahead.lacks in
-    let word = c.next_word.ensures in
-    let more = c.saturating_add-count.ensures in
-    let count : c.saturating_add-count.result ≡ get_or l.written.items j 12 + 1 = omega (arith, word, more, lacks) in
-    ap (four l.up l.reach l.heads) (c.note_words.ensures.is (row_there l.written.items j lacks) ∙ ap (set l.written.items j) count)
+returns-clause-tables c = λ ahead. let l = c.args.self.now in ap (four l.up l.reach l.heads) (c.count_word.ensures ahead.lacks)
 
 pub returns-clause-counts : goal.returns-clause-counts
-returns-clause-counts c = λ k r mine ahead at. counts_written k r mine c.args.self.now c.args.j c.saturating_add-count.result c.note_words.new.written.items ahead (c.note_words.ensures.is (row_there c.args.self.now.written.items c.args.j ahead.lacks)) at
+returns-clause-counts c = λ k r mine ahead at. counts_written k r mine c.args.self.now c.args.j (get_or c.args.self.now.written.items c.args.j 12 + 1) c.count_word.new.written.items ahead (c.count_word.ensures ahead.lacks) at
