@@ -1,4 +1,4 @@
--- From where each place goes to where the leader goes by the verb that was due, and what lasts there.
+-- The place that each place goes on to, the place that the leader goes to by the verb that was due, and what lasts there.
 use Rattle.std.proofs.Common.{List, Some, ap, refl, subst, sym, true, ℕ, ◌∙◌, ◌∷◌, ◌≡◌}
 use Rattle.std.specs.declared.option.Option.{Option}
 use Rattle.mu_model.specs.declared.config.Config.{Config}
