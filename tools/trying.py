@@ -1,4 +1,5 @@
-"""Unproved builds: `rt try` over many cases of a program, or over the tests of a crate, built once each."""
+"""Unproved builds: `rt try` over many cases of a program, over each allocation of a run, or over the tests of a
+crate, built once each."""
 import hashlib
 import os
 import re
@@ -106,6 +107,22 @@ def try_cases(crate, cases, *flags):
             answers.append(Answer(found[2], status, outputs.get(found[1].encode(), b""), told))
         told = [] if found else [*told, line]
     return answers
+
+
+def refuse_each(crate, words, given):
+    """Refuses each allocation of a run in turn, over one build without proofs: how many there are, and a line for
+    each that isn't answered as the others; None if rt can refuse only one."""
+    done = subprocess.run(["rt", "try", "--seconds", str(MOST_SECONDS), "--fail-alloc", "1..", "--", *words],
+                          input=given, cwd=os.path.join(CRATES, crate), stdout=subprocess.PIPE,
+                          stderr=subprocess.PIPE, check=False)
+    text = done.stderr.decode(errors="replace")
+    if "takes a number" in text:
+        return None
+    last = re.search(r"^calls=(\d+) .*proved=no$", text, re.MULTILINE)
+    if last is None:
+        raise NotBuilt(text.strip() or f"rt ended with status {done.returncode} and said nothing")
+    wrong = [line for line in text.splitlines() if line.startswith("call=")]
+    return int(last[1]), wrong or ([last[0]] if done.returncode else [])
 
 
 def count_of_tests(crate):

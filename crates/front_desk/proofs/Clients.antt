@@ -44,7 +44,7 @@ total-in (suc n) x xs inside = ⊎_elim
     (λ (t : ((x.client == n) ≡ false) × (x.client ≢ n)). omega (arith, total-in n x xs (omega (arith, inside, t.1)), ap length (commands_by-other n x xs t.1)))
     (eqb_tells x.client n)
 
--- where no client past the first has any, these are all commands
+-- if no client past the first has any, these are all commands
 total-all : (n : ℕ) (xs : List Request) → ((client : ℕ) → n ≤ client → commands_by client xs ≡ []) → total n xs ≡ length xs
 total-all n [] none = total-nil n
 total-all n (x ∷ xs) none = ⊎_elim
@@ -70,7 +70,7 @@ nothing : (xs : List Request) → length xs ≡ 0 → xs ≡ []
 nothing [] e = refl
 nothing (x ∷ xs) e = absurd (omega (arith, e))
 
--- where what arrived has as many commands, nothing is left behind it
+-- if what arrived has as many commands, nothing is left behind it
 pub whole_arrival : (given arrived left : List Request) → HaveSenders given → length arrived ≡ length given → IsArrival given (arrived ++ left) → IsArrival given arrived
 whole_arrival given arrived left all count same client =
     ap (commands_by client) (sym (append-nil arrived) ∙ ap (λ rest. arrived ++ rest) (sym none)) ∙ same client

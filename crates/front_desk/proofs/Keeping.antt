@@ -24,7 +24,7 @@ none_is x e = cc
 no_false : {A : Type 0} → false ≡ true → A
 no_false e = absurd (true≢false (sym e))
 
--- a hand of one entry has the entry of that client alone
+-- a hand of one entry has only the entry of that client
 only : (e : Entry) (client : ℕ) (found : Entry) → entry_of client (e ∷ []) ≡ Some found → (client ≡ e.client) × (e ≡ found)
 only e client found is = ⊎_elim
     (λ (t : ((e.client == client) ≡ true) × (e.client ≡ client)). (sym t.1, some_is e found (subst (λ b. (if b then Some e else None) ≡ Some found) t.0 is)))
@@ -55,7 +55,7 @@ at_end [] a b (suc j) e = absurd (opt.some-ne-none b (sym e))
 at_end (x ∷ xs) a b zero e = inl e
 at_end (x ∷ xs) a b (suc j) e = ⊎_elim (λ t. inl t) (λ t. inr (ap suc t.0, t.1)) (at_end xs a b j e)
 
--- each of the hands knows its part where the one that is set does, and the others do
+-- each of the hands knows its part if the one that is set does, and the others do
 all_set : (F : ℕ → Hand → Type 0) (views : List Hand) (pass : ℕ) (w : Hand) → F pass w → ((j : ℕ) (u : Hand) → j ≢ pass → get_elem? views j ≡ opt.some u → F j u)
     → (j : ℕ) (u : Hand) → get_elem? (set views pass w) j ≡ opt.some u → F j u
 all_set F views pass w mine others j u e = ⊎_elim
@@ -71,7 +71,7 @@ set_there [] i v w at = absurd (opt.some-ne-none v (sym at))
 set_there (x ∷ xs) zero v w at = refl
 set_there (x ∷ xs) (suc i) v w at = set_there xs i v w at
 
--- a pass still has an entry where the hand that is set has it if the one before had
+-- a pass still has an entry, provided that the hand that is set has it if the one before had
 has_set : (views : List Hand) (pass p client : ℕ) (v w : Hand) → get_elem? views pass ≡ opt.some v → ((e : Entry) → entry_of client v.entries ≡ Some e → (f : Entry) × (entry_of client w.entries ≡ Some f))
     → HasEntry views p client → HasEntry (set views pass w) p client
 has_set views pass p client v w at keeps has = ⊎_elim
@@ -82,7 +82,7 @@ has_set views pass p client v w at keeps has = ⊎_elim
     (λ (t : ((p == pass) ≡ false) × (p ≢ pass)). record { hand = has.hand; its = has.its; there = set_else views pass p w t.1 ∙ has.there; found = has.found })
     (eqb_tells p pass)
 
--- and still takes where the hand that is set takes if the one before did
+-- and still takes, provided that the hand that is set takes if the one before did
 takes_set : (views : List Hand) (pass p : ℕ) (v w : Hand) → get_elem? views pass ≡ opt.some v → (v.takes ≡ true → w.takes ≡ true) → HasTheTaken views p → HasTheTaken (set views pass w) p
 takes_set views pass p v w at keeps has = ⊎_elim
     (λ (t : ((p == pass) ≡ true) × (p ≡ pass)).
@@ -386,7 +386,7 @@ full_hand given arrived = record {
 pub united_is : (v was w u : Hand) (client : ℕ) (xs : List Request) → v ≡ was → w ≡ sending_hand client xs → u ≡ united v w → u ≡ united was (sending_hand client xs)
 united_is v was w u client xs first second is = is ∙ (ap (λ x. united x w) first ∙ ap (united was) second)
 
--- where the four have sent all commands, what was taken is an arrival
+-- if the four have sent all commands, what was taken is an arrival
 pub arrival : (given arrived left : List Request) (v : Hand) → v ≡ full_hand given arrived → Delivers v left → HaveSenders given → length arrived ≡ length given → IsArrival given arrived
 arrival given arrived left v is delivers senders count = whole_arrival given arrived left senders count all
   where

@@ -73,6 +73,6 @@ pub after-found : (table : Table) (key text old new : List ℕ) (same : Bool) �
     → table_after table (Cas key old new) ≡ cond same (map.insert table key new) table
 after-found table key text old new same found is = ap (λ b. cond b (map.insert table key new) table) (ap (λ b. holds b old) found ∙ is)
 
--- what cas leaves where the key has no text
+-- what cas leaves if the key has no text
 pub after-absent : (table : Table) (key old new : List ℕ) → map.get table key ≡ None → table_after table (Cas key old new) ≡ table
 after-absent table key old new absent = ap (λ b. cond (holds b old) (map.insert table key new) table) absent

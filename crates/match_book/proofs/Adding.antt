@@ -27,7 +27,7 @@ use Rattle.match_book.proofs.Remaining.{IsApart, remaining_lessens, same_ids, tr
 use Rattle.match_book.proofs.Sound.{IsSound, all_arranged, apart_new, different_book, ledger_keeps, sum_arranged}
 use Rattle.match_book.proofs.Steps.{arranged_parts, arranged_remaining, filled_in, filled_matches}
 
--- a quantity, where it is that of this order
+-- a quantity, if it is that of this order
 abbrev pub own : Id → Id → ℕ → ℕ
 own id another quantity = cond (is_same id another) quantity 0
 

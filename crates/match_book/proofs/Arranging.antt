@@ -143,7 +143,7 @@ arranged_one h less first later sorted is e (inr some) =
     ∙ ap (λ xs. filter_map h (filter p sorted) ++ leaving first some.0 ∷ xs) (filter_lessened (λ o. not (p o)) (λ o n. refl) h less sorted)
     ∙ sym (ap (λ o. filter_map h (filter p sorted) ++ cons_option o (filter_map h (filter (λ o. not (p o)) sorted))) some.1)
 
--- the arrangement of what such a change leaves is what it leaves of the arrangement
+-- such a change may come before the arrangement or after it
 pub arranged_lessened : (h : Resting → Option Resting) → Lessens h → (book : List Resting) → arranged (filter_map h book) ≡ filter_map h (arranged book)
 arranged_lessened h less [] = refl
 arranged_lessened h less (first ∷ later) =

@@ -96,7 +96,7 @@ are_lessened : (h : Resting → Option Resting) → Lessens h → (orders : List
 are_lessened h less [] are = tt
 are_lessened h less (order ∷ orders) are = are_option order (h order) (filter_map h orders) (less order) (free_lessened h less order orders are.0) (are_lessened h less orders are.1)
 
--- what the trades of an order leave isn't crossed by it, where something of it is left
+-- what the trades of an order leave isn't crossed by it, if something of it is left
 remaining_free : (index : ℕ) (order : Resting) (book : List Resting) → IsApart order.id (arranged book) → AreDifferent (arranged book) → HaveSomeLeft (arranged book) → 0 < (filled_in index order book).left → IsFree order (filter_map (remaining (filled_in index order book).trades) book)
 remaining_free index order book own different some left =
     let ahead = λ (o : Resting). is_ahead order.symbol (other order.side) o in

@@ -67,7 +67,7 @@ filled_stays index order left [] is = tt
 filled_stays index order left (best ∷ queue) is =
     filled_cases (λ f. IsInOrder f.queue) index order best left queue is (filled_stays index order (left - best.left) queue is.1) is
 
--- orders in order of which some at the back were filled are in order
+-- orders in order stay so if some at the back are filled
 pub filled_in_order : (index : ℕ) (order : Resting) (left : ℕ) (front queue : List Resting) → IsInOrder (front ++ queue) → IsInOrder (front ++ (filled index order left queue).queue)
 filled_in_order index order left [] queue is = filled_stays index order left queue is
 filled_in_order index order left (first ∷ front) queue is =

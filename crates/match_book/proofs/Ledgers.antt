@@ -30,7 +30,7 @@ op_determined id (Del key) before one another first second = first ∙ sym secon
 op_determined id (Swap key text) before one another first second = first ∙ sym second
 op_determined id (Cas key old new) before one another first second = first ∙ sym second
 
--- commands lead from one ledger to one other alone
+-- commands lead from one ledger to only one other
 pub leads_determined : (commands : List Request) (before one another : Ledger) → LeadsTo before commands one → LeadsTo before commands another → one ≡ another
 leads_determined [] before one another first second = first ∙ sym second
 leads_determined (command ∷ commands) before one another first second =

@@ -88,7 +88,7 @@ found_nowhere p start xs le front found =
     let all : length (drop start xs) ≤ position_or_len p (drop start xs) = grind (arith, common_steps) in
     omega (arith, length-drop start xs)
 
--- where none is named the list stays
+-- if none is named the list stays
 pub remove_none : {X : Type 0} (xs : List X) (i : ℕ) → length xs ≤ i → remove xs i ≡ xs
 remove_none [] zero le = refl
 remove_none [] (suc i) le = refl

@@ -13,7 +13,7 @@ use Rattle.match_book.specs.Filling.{is_ahead}
 use Rattle.match_book.proofs.Parting.{not_both, by_cases}
 use Rattle.std.proofs.lemmas.Bool.Decides.{nat_tests}
 
--- the side and the price alone
+-- only the side and the price
 abbrev offer_placing : Side × ℕ → Side × ℕ → Ordering
 offer_placing one another = ordering_then (side_placing one.0 another.0) (price_placing one.0 one.1 another.1)
 
@@ -73,7 +73,7 @@ sides_congr Buy Sell u e = cc
 sides_congr Sell Buy u e = cc
 sides_congr Sell Sell u e = refl
 
--- the symbol and the side alone
+-- only the symbol and the side
 abbrev spot_placing : List ℕ × Side → List ℕ × Side → Ordering
 spot_placing one another = ordering_then (slice_cmp nat_cmp one.0 another.0) (side_placing one.1 another.1)
 

@@ -129,7 +129,7 @@ leads_sound done (command ∷ commands) before after sound leads =
 pub ledger_is_sound : (commands : List Request) (ledger : Ledger) → IsLedgerOf commands ledger → IsSound commands ledger
 ledger_is_sound commands ledger is = leads_sound [] commands empty_ledger ledger (record { few = λ id. omega arith; some = tt }) is
 
--- where the id of the last command is new, none of its orders rests
+-- if the id of the last command is new, none of its orders rests
 new_id : (commands : List Request) (command : Request) (ledger : Ledger) → HaveDifferentIds (commands ++ command ∷ []) → IsSound commands ledger → times (id_of command) ledger.book ≡ 0
 new_id commands command ledger once sound =
     let f : Request → ℕ = λ c. cond (is_same (id_of command) (id_of c)) 1 0 in

@@ -114,7 +114,7 @@ firsts_step c r i x by v past h may s = at_part (Firsts c r i x) r (event_after 
 pub firsts : (c : Config) (r i x : ℕ) (past : List Event) → IsLegalHistory c past → Firsts c r i x (part r past)
 firsts c r i x = legal_induction c (λ past. Firsts c r i x (part r past)) (λ f e. absurd (none_some f e)) (λ past by v h may s. firsts_step c r i x by v past h may.may s)
 
--- who put at p is a leader of which p is a member
+-- if r put at p, it is a leader, and p is a member of its leadership
 abbrev pub slot_at : ℕ → ℕ → ℕ → Verb → Bool
 slot_at r p by (Verb.PutSlot q j n w) = (by == r) && (q == p)
 slot_at r p by _ = false

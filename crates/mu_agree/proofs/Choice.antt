@@ -61,7 +61,7 @@ blocked_stays c i b w by v past h may (inr m) = inr (many_stays c i b w by v pas
 pub chosen_somewhere : (c : Config) (i b v : ℕ) (past : List Event) → Chosen c i b v past → Member c.replicas (λ p. has_landed p i b v past)
 chosen_somewhere c i b v past h = some_below c.replicas (λ p. has_landed p i b v past) (omega arith)
 
--- what is blocked isn't chosen, where what landed under the number is its offer
+-- what is blocked isn't chosen, if what landed under the number is its offer
 pub not_chosen : (c : Config) (i b w : ℕ) (past : List Event) → ((p : ℕ) → has_landed p i b w past ≡ true → first_offered i b past ≡ Some w) → Blocked c i b w past → Chosen c i b w past → ⊥
 not_chosen c i b w past f (inl o) h = let m = chosen_somewhere c i b w past h in o.differs (same_some o.u w (sym o.is ∙ f m.who m.passes))
 not_chosen c i b w past f (inr k) h =

@@ -36,7 +36,7 @@ more_step true false a b f h = absurd (let k = f refl in true≢false (sym k))
 more_step false true a b f h = omega arith
 more_step false false a b f h = h
 
--- where one test passes no less than another, it counts no less
+-- if one test passes no less than another, it counts no less
 pub count_more : (n : ℕ) (f g : ℕ → Bool) → ((p : ℕ) → p < n → f p ≡ true → g p ≡ true) → count_below n f ≤ count_below n g
 count_more zero f g h = omega arith
 count_more (suc n) f g h = more_step (f n) (g n) (count_below n f) (count_below n g) (h n (omega arith)) (count_more n f g (λ p k. h p (omega arith)))

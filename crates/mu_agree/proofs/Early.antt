@@ -99,7 +99,7 @@ seen_step c r p j by v past s = at_part (λ J. has (entry_seen r p j) J ≡ true
 pub seen_stands : (c : Config) (r p j : ℕ) (past : List Event) → IsLegalHistory c past → SeenStands r p j past
 seen_stands c r p j = legal_induction c (SeenStands r p j) (λ m. cc) (λ past by v h may s. seen_step c r p j by v past s)
 
--- where r may trust a look at i, the region is protected there
+-- if r may trust a look at i, the region is protected there
 abbrev pub Protected : ℕ → ℕ → List Event → Type 0
 Protected p i past = (i < region_fuo p past) ⊎ (i + 1 < length (region_log p past))
 
@@ -246,7 +246,7 @@ early_fuo : (c : Config) (i by q u p : ℕ) (past : List Event) → Early c i pa
 early_fuo c i by q u p past s k true = let l = s.fuo p in omega arith
 early_fuo c i by q u p past s k false = s.fuo p
 
--- one step before the choice, where it chooses nothing
+-- one step before the choice, if it chooses nothing
 pub early_step : (c : Config) (i by : ℕ) (v : Verb) (past : List Event) → IsLegalHistory c past → Needs c by (part by past) v → Early c i past → ((b x : ℕ) → Chosen c i b x (event_after c past by v ∷ past) → ⊥) → Early c i (event_after c past by v ∷ past)
 early_step c i by (Verb.PutSlot q j n w) past h may s open' = record {
   unknown = unknown_kept c i by (Verb.PutSlot q j n w) past h s open';

@@ -21,7 +21,7 @@ use Rattle.mu_model.proofs.Lists.{item_below}
 use Rattle.mu_agree.proofs.Readings.{log_grows}
 use Rattle.mu_agree.specs.Possible.{PartsStayFilled}
 
--- where a look showed an entry the log reaches beyond it
+-- if a look showed an entry the log reaches beyond it
 abbrev Shown : ℕ → ℕ → ℕ → List Event → Type 0
 Shown r p j past = has (entry_seen r p j) (part r past) ≡ true → j < length (region_log p past)
 

@@ -47,7 +47,7 @@ moved_along : (p g : ℕ) (newer older : List Event) → g ≤ fence_grant p old
 moved_along p g [] older l m = (l, m)
 moved_along p g (e ∷ newer) older l m = let k = moved_along p g newer older l m in moved_on p g e (newer ++ older) k.0 k.1
 
--- where r entered p under the grant g: it was given, and where p was drained since, p is moved
+-- if r entered p under the grant g: it was given, and if p was drained since, p is moved
 pub record Under (p g : ℕ) (drained_since : Bool) (past : List Event) : Type 0 where
   pub given : g ≤ fence_grant p past
   pub moved : drained_since ≡ true → IsMoved p g past

@@ -18,7 +18,7 @@ some_join : (o : Option ℕ) (t : Bool) (f : ℕ) → o ≡ Some f → (if true 
 some_join (Some x) t f e k = k
 some_join None t f e k = absurd (none_some f e)
 
--- where nothing joined since the first put, that put came since the last joining
+-- if nothing joined since the first put, that put came since the last joining
 pub not_late : (r i f : ℕ) (J : List Event) → first_value r i J ≡ Some f → joined_since_first_put r i J ≡ false → joined_late r i J ≡ false
 not_late r i f [] e k = absurd (none_some f e)
 not_late r i f (x ∷ J) e k = go x.by x.verb x.answer (first_value r i J) refl e k (λ g. not_late r i g J)

@@ -110,7 +110,7 @@ length_put log i z = go (i == length log) refl
     go true h = let l = length_push log z in let e = eqb-true i (length log) h in (omega arith, λ k. omega arith)
     go false h = let l = length-set log i z in let e = eqb-false i (length log) h in (omega arith, λ k. omega arith)
 
--- what holds of the part before the step, and with it where the step is r's own
+-- what holds of the part before the step, and with it if the step is r's own
 pub at_part : (P : List Event → Type 0) (r : ℕ) (e : Event) (past : List Event) → P (part r past) → ((e.by == r) ≡ true → P (e ∷ part r past)) → P (part r (e ∷ past))
 at_part P r e past a b = go (e.by == r) refl
   where
@@ -217,7 +217,7 @@ put_done_lands r p j b v by (Verb.PutSlot q i n w) Answer.Done m =
     and_from (q == p) (i == j) y.0 z.0
 put_done_lands r p j b v by verb a m = absurd (true≢false (sym m))
 
--- what a filled position rests on, where the step is a put that landed
+-- what a filled position rests on, if the step is a put that landed
 put_filled : (c : Config) (r p j by q i b v : ℕ) (past : List Event) → is_filled c r p (record { by = by; verb = Verb.PutSlot q i b v; answer = Answer.Done } ∷ part r past) j ≡ true
     → (landed_at p j (record { by = by; verb = Verb.PutSlot q i b v; answer = Answer.Done } ∷ past) ≡ true) ⊎ (is_filled c r p (part r past) j ≡ true)
 put_filled c r p j by q i b v past h =

@@ -47,7 +47,7 @@ pub record Numbered (r : ℕ) (past : List Event) : Type 0 where
   pub put : (m : ℕ) → proposal_number r past ≡ Some m → m ≤ greatest_own_put r past
   pub own : (m : ℕ) → proposal_number r past ≡ Some m → m % 8 ≡ r
 
--- where there is no number yet, a new one is above all that r put
+-- if there is no number yet, a new one is above all that r put
 fresh_at : (r b : ℕ) (past : List Event) (o : Option ℕ) → number_allowed r past b o → o ≡ None → (greatest_own_put r past < b) × (b % 8 ≡ r)
 fresh_at r b past None h e = (h.3, h.0)
 fresh_at r b past (Some x) h e = cc

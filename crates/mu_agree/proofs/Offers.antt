@@ -133,7 +133,7 @@ first_ask : (c : Config) (r i by q : ℕ) (past J : List Event) → FirstIs r i 
 first_ask c r i by q past J s true h = rw h (λ b e. cc)
 first_ask c r i by q past J s false h = rw h s
 
--- the part's view where the step is another's needs to know so
+-- the part's view if the step is another's needs to know so
 pub at_part' : (P : List Event → Type 0) (r : ℕ) (e : Event) (past : List Event) → ((e.by == r) ≡ false → P (part r past)) → ((e.by == r) ≡ true → P (e ∷ part r past)) → P (part r (e ∷ past))
 at_part' P r e past a b = go (e.by == r) refl
   where

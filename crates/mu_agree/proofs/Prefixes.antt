@@ -17,7 +17,7 @@ use Rattle.mu_agree.proofs.Tame.{chosen_stays}
 use Rattle.mu_agree.proofs.Phases.{one_chosen, known_chosen, fuo_chosen}
 use Rattle.mu_model.proofs.Lists.{item_below}
 
--- lists that agree where both have an element
+-- lists that agree if both have an element
 pub lists_agree : (xs ys : List ℕ) → ((i v w : ℕ) → slice_get xs i ≡ Some v → slice_get ys i ≡ Some w → v ≡ w) → IsPrefixOf xs ys ⊎ IsPrefixOf ys xs
 lists_agree [] ys f = inl (ys, refl)
 lists_agree (x ∷ xs) [] f = inr (x ∷ xs, refl)

@@ -169,7 +169,7 @@ pub record Late (c : Config) (i V B : ℕ) (maj : ℕ → Bool) (past : List Eve
   pub filled : (r p : ℕ) → is_filled c r p (part r past) i ≡ true → Settled c i V B maj p past
   pub copied : (r p : ℕ) → Copied i V r p past (part r past)
 
--- a put at the next position lands only where i shows the chosen value
+-- a put at the next position lands only if i shows the chosen value
 next_settled : (c : Config) (i V B : ℕ) (maj : ℕ → Bool) (p by j n w : ℕ) (past : List Event) → IsLegalHistory c past → Needs c by (part by past) (Verb.PutSlot p j n w) → put_answer (drained by p past) ≡ Answer.Done → Late c i V B maj past → i < j → Settled c i V B maj p past
 next_settled c i V B maj p by j n w past h may e s l =
     elim (or_cases (nat_lt i (greatest_fuo_read by p (leadership by (part by past)))) (has (λ e. is_known_put (known c by (part by past)) by p i e.by e.verb e.answer) (leadership by (part by past))) (may.2.caught_up i l)) [

@@ -99,7 +99,7 @@ stretch_has held k past window older l h s e = go (some_step held window older) 
     go true _ = refl
     go false f = let m = steps_long held window older f in let n = recent_step_last held k (window ++ older) l here in absurd (omega arith)
 
--- where the need holds throughout, the step that held is the one that is wanted
+-- if the need holds throughout, the step that held is the wanted one
 replicated : (c : Config) (r : ℕ) (test : Event → Bool) (window older : List Event) → each_step (λ before e. not (is_replication before e) || has_to_ask c r before) window older ≡ true
     → some_step (asks_or_rests c r test) window older ≡ true → replicates (λ before e. test e) window older ≡ true
 replicated c r test [] older n h = absurd (true≢false (sym h))

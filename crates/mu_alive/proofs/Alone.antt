@@ -98,7 +98,7 @@ waits c a p w past legal alone is =
     not_owner : (o : Option ℕ) → o ≡ Some a → w ≡ a → not (owner_is w o) ≡ true → ⊥
     not_owner o owns same is = true≢false (sym is ∙ ap (λ x. not (owner_is w x)) owns ∙ ap not (ap (λ x. a == x) same ∙ same_number a))
 
--- some number below n passes where not all fail
+-- some number below n passes if not all fail
 pub some_passes : (n : ℕ) (f : ℕ → Bool) → all_below n (λ w. not (f w)) ≡ false → (w : ℕ) × (f w ≡ true)
 some_passes zero f none = absurd (true≢false none)
 some_passes (suc n) f none = go (f n) refl none (some_passes n f)
@@ -114,7 +114,7 @@ IsOnce a owner grant closing = ((owner ≡ None) × (grant ≡ 0)) ⊎ ((owner �
 abbrev pub Once : ℕ → ℕ → List Event → Type 0
 Once a p past = IsOnce a (fence_owner p past) (fence_grant p past) (fence_closing p past)
 
--- the region still has no owner where it may close or grant
+-- the region still has no owner when it may close or grant
 still_none : (c : Config) (a p : ℕ) (past : List Event) → Once a p past → (fence_owner p past ≡ Some a → ⊥) → (fence_owner p past ≡ None) × (fence_grant p past ≡ 0)
 still_none c a p past (inl o) none = o
 still_none c a p past (inr o) none = absurd (none o.0)

@@ -91,7 +91,7 @@ asked_once a p (e ∷ past) some = go (e.by == a) refl some (asked_once a p past
     go true own some ih = here (is_ask_by a p e.by e.verb) (is_asking p e) (same e.by e.verb own) some ih
     go false own some ih = counts (is_ask_by a p e.by e.verb) (ih some)
 
--- after so many steps each region is granted
+-- after this many steps each region is granted
 owned : (c : Config) (live : ℕ → Bool) (a p : ℕ) (newer older : List Event) → LeadsAlone c live a (newer ++ older) → AtEachMoment (From 0 (λ now. has_to_ask c a now ≡ true)) (part a (newer ++ older)) → p < c.replicas → live p ≡ true → granting_steps c ≤ length (part a older) → fence_owner p older ≡ Some a
 owned c live a p newer older lone waits low lives long =
     subst (λ l. fence_owner p l ≡ Some a) (sym first.is)
@@ -262,7 +262,7 @@ never_unnamed c a (e ∷ past) named = go (is_replication past e) (is_named c a 
     go false u true h ih = refl
     go false u false h ih = ih
 
--- an ask anew has one cause alone
+-- an ask anew has only one cause
 pub cause_is : (c : Config) (a : ℕ) (mine : List Event) → may_ask_anew c a mine ≡ true → has_begun a mine ≡ true → is_over a mine ≡ false → was_unnamed c a mine ≡ false
     → (has_min a mine ≡ false) × (all_below c.replicas (λ p. nat_le 16 (how_many (is_fencing p) (leadership a mine))) ≡ true)
 cause_is c a mine may begun on named = go (has_begun a mine) (is_over a mine) (was_unnamed c a mine) (has_min a mine) (all_below c.replicas (λ p. nat_le 16 (how_many (is_fencing p) (leadership a mine)))) begun on named may
@@ -286,7 +286,7 @@ begins_now a e own asks = go e.by e.verb own asks
 step_at : (P : List Event → Event → Type 0) (newer older : List Event) (e : Event) → AtEachStep P (newer ++ e ∷ older) → P older e
 step_at P newer older e held = (steps_before P newer (e ∷ older) held).1
 
--- two first asks of a journal, the earlier one after so many steps
+-- two first asks of a journal, the earlier one after this many steps
 pub record TwoAsks (k : ℕ) (mine : List Event) : Type 0 where
   newer : List Event
   later : Event
@@ -298,7 +298,7 @@ pub record TwoAsks (k : ℕ) (mine : List Event) : Type 0 where
   asks_first : is_asking 0 first ≡ true
   long : k ≤ length older
 
--- the oldest of so many steps after some hold an ask
+-- a stretch holds an ask, after this many steps of its journal
 record OneAsk (mine rest : List Event) (k : ℕ) : Type 0 where
   newer : List Event
   asked : Event
@@ -354,7 +354,7 @@ no_ask c a start between older later first kept late quiet begins anew is =
     let none = sym (kept.confirmation.anew anew) ∙ k.1 in
     cc
 
--- what is there where a asks once more: its leadership isn't over, and reads note the grants of the live
+-- what holds if a asks once more: its leadership isn't over, and reads note the grants of the live
 pub record MayConfirm (c : Config) (live : ℕ → Bool) (a : ℕ) (now : List Event) : Type 0 where
   pub on : is_over a now ≡ false
   pub notes : (p : ℕ) → p < c.replicas → live p ≡ true → has (reads_fence a p) (leadership a now) ≡ true → is_some (noted_grant a p now) ≡ true
@@ -401,7 +401,7 @@ asks_fail c live a start k past inside lives majority after led quiet may two =
     let same = ap length soon.before in
     not_twice c live a start soon.newer two.between soon.older two.later two.first inside lives majority (may (late.newer ++ two.later ∷ []) soon.newer soon.older two.first whole (omega (arith, long, same)) two.asks_first soon.own) mine (omega (arith, long, same, after)) still kept two.asks_later two.asks_first late.own soon.own
 
--- where a asks alone
+-- if a asks alone
 alone_confirms : (c : Config) (live : ℕ → Bool) (a : ℕ) (past newer between oldest : List Event) (first : Event) → LeadsAlone c live a past → AtEachMoment (From 0 (λ now. has_to_ask c a now ≡ true)) (part a past) → past ≡ newer ++ (between ++ first ∷ oldest) → granting_steps c ≤ length (part a oldest) → is_asking 0 first ≡ true → first.by ≡ a
     → MayConfirm c live a (between ++ first ∷ oldest)
 alone_confirms c live a past newer between oldest first lone waits is long asks own = record { on = never_over c a (between ++ first ∷ oldest) legal alone; notes = λ p low lives read. ap is_some ((notes_owned c a p between oldest first asks (eq-eqb first.by a own) (owns p low lives) legal alone).noted read) }

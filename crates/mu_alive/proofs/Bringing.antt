@@ -223,7 +223,7 @@ pub record Ahead (c : Config) (a p l : ℕ) (now : List Event) : Type 0 where
   pub above : is_fuo_above a p (length (known c a older)) event ≡ true
   pub least : l ≤ length (known c a older)
 
--- where a stretch comes to
+-- what a stretch comes to
 abbrev pub Joins : Config → ℕ → ℕ → ℕ → List Event → Type 0
 Joins c a p l now = (is_member a p now ≡ true) ⊎ Ahead c a p l now
 

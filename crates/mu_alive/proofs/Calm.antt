@@ -37,7 +37,7 @@ count_few (suc n) f = go (f n) (count_few n f)
     go true l = omega (arith, l)
     go false l = omega (arith, l)
 
--- a test that passes more numbers, and p beside, counts one more at least
+-- a test that passes the same numbers and p counts at least one more
 pub count_adds : (n p : ℕ) (f g : ℕ → Bool) → p < n → f p ≡ false → g p ≡ true → ((k : ℕ) → k < n → f k ≡ true → g k ≡ true) → count_below n f + 1 ≤ count_below n g
 count_adds zero p f g low none some more = absurd (omega (arith, low))
 count_adds (suc n) p f g low none some more = elim (cases_eq n p) [
@@ -185,7 +185,7 @@ paid_few c r most window older same inside fits =
     sums : (m k x z l y all nm n most : ℕ) → 6 * m + x ≤ 6 * k + 8 * z → z ≡ l + y → l ≤ most → y ≤ all → all ≤ nm → k ≤ n → x ≤ 6 * n + 8 * (most + nm)
     sums m k x z l y all nm n most a b d e f g = omega (arith, a, b, d, e, f, g)
 
--- a calm step closes the progress bound exactly where it commits in a turn of replication
+-- a calm step closes the progress bound exactly if it commits in a turn of replication
 closing : (b n o l k x t m : Bool) → b ≡ false → n ≡ true → o ≡ false → l ≡ false → k ≡ false → x ≡ false → (b || (t && (not n || (m || (o || (l || (k || x))))))) ≡ (t && m)
 closing b n o l k x t m hb hn ho hl hk hx = rw (hb, hn, ho, hl, hk, hx) (go t m)
   where

@@ -34,7 +34,7 @@ all_or_one (suc n) k f = elim (cases_lt (f n) k) [
   ]
 ]
 
--- where the leader goes on with fewer entries to commit
+-- if the leader goes on with fewer entries to commit
 abbrev Next : Config → (ℕ → Bool) → ℕ → ℕ → List Event → List Event → Type 0
 Next c live a left base whole =
     (gains m x rest : ℕ) (newer older : List Event) → whole ≡ newer ++ older → Ready c a m older → Open c a x base (part a older) → row_count c + reserve c ≤ length (known c a (part a older)) + left → (c.width + 1) * (row_count c + reserve c) ≤ m + gains → most_paid c ≤ x + rest

@@ -55,7 +55,7 @@ located p (f ∷ events) between mine e is = go (f.by == p) refl between is (loc
     go true own (b ∷ between) is ih = let k = ih between mine e cc in record { newer = f ∷ k.newer; older = k.older; is = ap (λ l. f ∷ l) k.is; before = k.before; own = k.own }
     go false own between is ih = let k = ih between mine e is in record { newer = f ∷ k.newer; older = k.older; is = ap (λ l. f ∷ l) k.is; before = k.before; own = k.own }
 
--- where none of two stretches passes, none of either does
+-- if none of two stretches passes, none of either does
 pub none_newer : (test : Event → Bool) (newer older : List Event) → has test (newer ++ older) ≡ false → has test newer ≡ false
 none_newer test [] older none = refl
 none_newer test (e ∷ newer) older none = go (test e) none (none_newer test newer older)

@@ -32,7 +32,7 @@ fewer q e newer none = go (e.by == q) none
     go true none = absurd (omega (arith, none))
     go false none = none
 
--- where q makes no event its count stays
+-- if q makes no event its count stays
 pub quiet_beats : (q : ℕ) (newer older : List Event) → length (part q newer) ≡ 0 → beats q (newer ++ older) ≡ beats q older
 quiet_beats q [] older none = refl
 quiet_beats q (e ∷ newer) older none = go (e.by == q) refl none (quiet_beats q newer older)
@@ -138,7 +138,7 @@ score_falls c r q (e ∷ newer) older legal none seen =
     counted true n = refl
     counted false n = omega arith
 
--- so many rounds hold so many reads
+-- a stretch holds the reads of both its parts
 how_many-append : (test : Event → Bool) (xs ys : List Event) → how_many test (xs ++ ys) ≡ how_many test xs + how_many test ys
 how_many-append test [] ys = omega arith
 how_many-append test (x ∷ xs) ys = go (test x) (how_many-append test xs ys)

@@ -185,7 +185,7 @@ some_completed c r (e ∷ window) older some = go (completes_row c r (window ++ 
     go true is some ih = let one = completes_one c r e (window ++ older) is in let stays = got_stays c r window older in omega (arith, one, stays)
     go false is some ih = let more = ih some in let stays = got_stays c r (e ∷ []) (window ++ older) in omega (arith, more, stays)
 
--- so a replica that fetches rows in time has applied what it knew so many steps later
+-- so a replica that fetches rows in time has applied what it knew this many steps later
 pub fetched : (c : Config) (r : ℕ) (whole top window base : List Event) → IsConfig c → IsPossible c r whole → FetchesInTime c r whole → whole ≡ top ++ (window ++ base) → fetching_steps c ≤ length window → length (known c r base) ≤ length (applied c r (window ++ base))
 fetched c r whole top window base good possible fetches is long = elim (cases_lt (length (applied c r (window ++ base))) (length (known c r base))) [
   | inr all ↦ all
@@ -201,7 +201,7 @@ fetched c r whole top window base good possible fetches is long = elim (cases_lt
     possible_older [] ys p = p
     possible_older (e ∷ xs) ys p = possible_older xs ys (parts_shorten_law c r (xs ++ ys) e p).before
 
-    -- so many rounds complete so many rows
+    -- this many rounds complete as many rows
     rows : length (applied c r (window ++ base)) < length (known c r base) → (w rest : List Event) → IsStretch (window ++ base) w (rest ++ base) → length w ≡ 2 * cycle c → got_now c r (rest ++ base) + 1 ≤ got_now c r (w ++ (rest ++ base))
     rows less w rest s two =
         some_completed c r w (rest ++ base)

@@ -68,7 +68,7 @@ pub writes_before : (a : ℕ) (newer older : List Event) → WritesAlone a (newe
 writes_before a [] older writes = writes
 writes_before a (e ∷ newer) older writes = writes_before a newer older writes.0
 
--- then it owns the region of each that keeps up, so many steps later
+-- this many steps later it owns the region of each that keeps up
 pub owns_after : (c : Config) (live : ℕ → Bool) (a p : ℕ) (newer older : List Event) → LeadsAlone c live a (newer ++ older) → Started c a older → p < c.replicas → live p ≡ true → 2 * cycle c + 2 ≤ length (part a newer) → fence_owner p (newer ++ older) ≡ Some a
 owns_after c live a p newer older lone begun low lives long =
     granted c a p newer older lone.inside lone.legal lone.alone (lone.reads p low lives) (lone.grants p low lives) (asked_once a p older (begun.asked p low)) enough
@@ -117,7 +117,7 @@ granted_on c live a p newer older lone begun low owns = record { inside = low; r
         let there = lone_before c live a above (below ++ older) (subst (LeadsAlone c live a) (ap (λ x. x ++ older) cuts ∙ append_assoc above below older) lone) in
         ap is_some (seen_again a p (below ++ older) (once c a p (below ++ older) there.legal there.alone) (owns above below cuts))
 
--- so many steps after it has started all that keep up have applied what it knew, and raised their heads to it
+-- this many steps after it has started, all that keep up have applied what it knew, and raised their heads to it
 raised_after : (c : Config) (live : ℕ → Bool) (a : ℕ) (newer older : List Event) → IsConfig c → LeadsAlone c live a (newer ++ older) → WritesAlone a (newer ++ older) → KeepUp c live a (newer ++ older) → Started c a older → lagging_steps c ≤ length (part a newer)
     → (r : ℕ) → r < c.replicas → live r ≡ true → (length (known c a (part a older)) ≤ length (applied c r (part r (newer ++ older)))) × (length (known c a (part a older)) ≤ region_head r (newer ++ older))
 raised_after c live a newer older good lone writes keep begun many r low lives =
@@ -167,7 +167,7 @@ raised_after c live a newer older good lone writes keep begun many r low lives =
       granted = λ p inside goes. granted_on c live a p second.newer granted alone (started_on c live a second.rest older (lone_before c live a second.newer granted alone) begun).1 inside (owns p inside goes);
     }
 
--- once it knows every command, all have applied them so many steps later, and raised their heads to them
+-- once it knows every command, all have applied them this many steps later, and raised their heads to them
 raised_from : (c : Config) (live : ℕ → Bool) (a : ℕ) (newer older : List Event) → IsConfig c → LeadsAlone c live a (newer ++ older) → WritesAlone a (newer ++ older) → KeepUp c live a (newer ++ older) → knows_all c a (part a older) ≡ true → lagging_steps c ≤ length (part a newer) → HaveAllRaised c live (newer ++ older)
 raised_from c live a newer older good lone writes keep knows many = go (holds_all c []) refl
   where
@@ -181,7 +181,7 @@ raised_from c live a newer older good lone writes keep knows many = go (holds_al
     go true none = record { upto = 0; raised = λ r low lives. omega arith; reached = λ r low lives. omega arith; held = λ r low lives. none }
     go false lacks = all_raised c live a newer older lone.legal knows (raised_after c live a newer older good lone writes keep (begun lacks) many)
 
--- if it knows every command after so many steps
+-- if it knows every command after this many steps
 pub raised_with : (c : Config) (live : ℕ → Bool) (a most : ℕ) (past : List Event) → IsConfig c → LeadsAlone c live a past → WritesAlone a past → KeepUp c live a past
     → ((newer older : List Event) → past ≡ newer ++ older → most ≤ length (part a older) → knows_all c a (part a older) ≡ true) → most + lagging_steps c ≤ length (part a past) → HaveAllRaised c live past
 raised_with c live a most past good lone writes keep knows many =

@@ -96,7 +96,7 @@ all_rows c q r theirs mine (x ∷ xs) (y ∷ ys) long agree = go (has_entry c r 
 pub caught_up_gains : (c : Config) (q r : ℕ) (past : List Event) → IsLegalHistory c past → length (known c q (part q past)) ≤ length (applied c r (part r past)) → gain c q (part q past) ≤ gain c r (part r past)
 caught_up_gains c q r past legal long = all_rows c q r (part q past) (part r past) (known c q (part q past)) (known c r (part r past)) long (λ i v w at there. known_agree c q r past legal i v w at there)
 
--- and nobody gains more than all rows of what is known
+-- and nobody gains more than all rows that are known
 pub gain_known : (c : Config) (r : ℕ) (past : List Event) → IsConfig c → gain c r past ≤ (c.width + 1) * length (known c r past)
 gain_known c r past good =
     let rows = few_rows c r past (known c r past) good in

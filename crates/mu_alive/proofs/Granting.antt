@@ -120,7 +120,7 @@ reads_ask : (w : ℕ) (verb : Verb) → is_ask_read_verb w verb ≡ true → ver
 reads_ask w (Verb.ReadAsk q) h = ap (λ x. Verb.ReadAsk x) (eqb-true q w h)
 reads_ask w verb h = absurd (true≢false (sym h))
 
--- where an ask is there for two rounds of the host's cycle, the region is granted
+-- if an ask is there for two rounds of the host's cycle, the region is granted
 pub granted : (c : Config) (a p : ℕ) (newer older : List Event) → a < c.replicas → IsLegalHistory c (newer ++ older) → AsksAlone a (newer ++ older) → ReadsInTime c p (part p (newer ++ older)) → GrantsInTime c p (part p (newer ++ older))
     → 1 ≤ asks a p older → 2 * cycle c ≤ length (part p newer) → fence_owner p (newer ++ older) ≡ Some a
 granted c a p newer older inside legal alone reads grants asked long = go (once c a p (newer ++ older) legal alone)

@@ -53,7 +53,7 @@ each_unread c a start mine asks named none p newer window older is long late low
 asks_older : (c : Config) (a : ℕ) (newer older : List Event) → AsksUntilMin c a (newer ++ older) → AsksUntilMin c a older
 asks_older c a newer older asks p window base low s = asks p window base low (record { newer = newer ++ s.newer; is = ap (λ l. newer ++ l) s.is ∙ sym (append_assoc newer s.newer (window ++ base)) })
 
--- so it has asked each region with so many steps: before its first minimum, or since it names itself
+-- so after this many steps it has asked each region: before its first minimum, or since it names itself
 asks_all : (c : Config) (live : ℕ → Bool) (a start : ℕ) (past : List Event) → LeadsLast c live a start past → AsksUntilMin c a (part a past) → AsksAllFirst c a (part a past) → AsksAllBy c a (start + asking_steps c) past
 asks_all c live a start past last asks first front rest is count q low = elim (min_or_none a (part a rest)) [
   | inl none ↦
@@ -72,7 +72,7 @@ asks_all c live a start past last asks first front rest is count q low = elim (m
 min_named : (c : Config) (a start : ℕ) (now : List Event) → NamesItself c a start now → has_min a now ≡ true → is_named c a now ≡ true
 min_named c a start now named some = named (inr (min_parts a now some).0)
 
--- it has started to lead by so many steps
+-- it has started to lead after this many steps
 last_started : (c : Config) (live : ℕ → Bool) (a start : ℕ) (past : List Event) → IsConfig c → LeadsLast c live a start past → OpensInTime c a (part a past) → AsksAllFirst c a (part a past) → start + last_granting_steps c a + 2 * asking_steps c + 2 * (c.replicas + 2) ≤ length (part a past) → Started c a past
 last_started c live a start past good last opens first many = elim (min_or_none a (part a past)) [
   | inl none ↦ absurd (let few = last_begins c live a start past good last (each_unread c a start (part a past) opens.asks last.named none) none in omega (arith, few, many))

@@ -54,7 +54,7 @@ last_before c live a start newer older last = record {
     split : (r : ℕ) → part r (newer ++ older) ≡ part r newer ++ part r older
     split r = filter-append (λ e. e.by == r) newer older
 
--- it names itself after so many steps
+-- it names itself after this many steps
 pub late_named : (c : Config) (a start : ℕ) (mine : List Event) → AtEachMoment (NamesItself c a start) mine → AtEachMoment (From start (λ now. is_named c a now ≡ true)) mine
 late_named c a start [] named = λ late. named (inl late)
 late_named c a start (e ∷ mine) named = (late_named c a start mine named.0, λ late. named.1 (inl late))
@@ -90,11 +90,11 @@ asked_more test (e ∷ newer) older some = go (test e) some (asked_more test new
     go true some ih = refl
     go false some ih = ih some
 
--- a asked each region with so many steps
+-- once a has taken this many steps it has asked each region
 abbrev pub AsksAllBy : Config → ℕ → ℕ → List Event → Type 0
 AsksAllBy c a k past = (front rest : List Event) → past ≡ front ++ rest → length (part a rest) ≡ k → (q : ℕ) → q < c.replicas → has (is_asking q) (part a rest) ≡ true
 
--- so it does if a row of so many steps holds an ask of each
+-- so it has if this many steps in a row hold an ask of each
 pub all_by_each : (c : Config) (a start : ℕ) (past : List Event) → AsksEach c start (part a past) → AsksAllBy c a (start + asking_steps c) past
 all_by_each c a start past each front rest is count q low =
     ap (has (is_asking q)) bottom.is
@@ -105,7 +105,7 @@ all_by_each c a start past each front rest is count q low =
     bottom : Cut start (part a rest)
     bottom = cut start (part a rest) (omega (arith, count))
 
--- after so many steps more each live host has granted its region to it
+-- this many steps later each live host has granted its region to it
 pub owned : (c : Config) (live : ℕ → Bool) (a start p : ℕ) (past : List Event) → LeadsLast c live a start past → AsksAllBy c a (start + asking_steps c) past → p < c.replicas → live p ≡ true → start + last_granting_steps c a ≤ length (part a past) → fence_owner p past ≡ Some a
 owned c live a start p past last asked low lives long =
     subst (λ l. fence_owner p l ≡ Some a) (sym first.is)

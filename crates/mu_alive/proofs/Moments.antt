@@ -55,7 +55,7 @@ each_before start test unless (e ∷ window) older late held = go (unless (windo
     go true false is ih = absurd (true≢false (sym is))
     go false u is ih = ih
 
--- where a replication event passes, an event does
+-- if a replication event passes, an event does
 pub some_event : (test : Event → Bool) (window older : List Event) → replicates (λ before e. test e) window older ≡ true → has test window ≡ true
 some_event test [] older some = absurd (true≢false (sym some))
 some_event test (e ∷ window) older some = go (is_replication (window ++ older) e) (test e) some (some_event test window older)
@@ -80,7 +80,7 @@ at_least_halves (e ∷ f ∷ window) older =
     let one = one_odd (length (window ++ older)) (replications window older) in
     omega (arith, ih, one)
 
--- so many steps in a row, after some, hold an ask of each region
+-- from some step on, this many steps in a row hold an ask of each region
 abbrev pub AsksEach : Config → ℕ → List Event → Type 0
 AsksEach c start mine = (p : ℕ) (newer window older : List Event) → mine ≡ newer ++ (window ++ older) → length window ≡ asking_steps c → start ≤ length older → p < c.replicas → has (is_asking p) window ≡ true
 

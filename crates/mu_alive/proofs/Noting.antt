@@ -75,7 +75,7 @@ some_read a p (e ∷ past) some = go (is_fencing p e) refl (e.by == a) refl some
     go false ht true hu some ih = ih (subst (λ x. 1 ≤ cond x (how_many (is_fencing p) (part a past) + 1) (how_many (is_fencing p) (part a past))) ht some)
     go false ht false hu some ih = ih some
 
--- so where each fence of a majority was read often, and the reads note the grants, a is confirmed
+-- so if each fence of a majority was read often, and the reads note the grants, a is confirmed
 pub confirmed : (c : Config) (live : ℕ → Bool) (a : ℕ) (past : List Event) → a < c.replicas → live a ≡ true → majority_of c.replicas ≤ count_below c.replicas live
     → ((p : ℕ) → p < c.replicas → live p ≡ true → has (reads_fence a p) (leadership a past) ≡ true → is_some (noted_grant a p past) ≡ true)
     → all_below c.replicas (λ p. nat_le 16 (how_many (is_fencing p) (leadership a (part a past)))) ≡ true → is_confirmed c a (part a past) ≡ true

@@ -1,5 +1,5 @@
 -- Once a region is a member, its FUO is raised in time to all that a leader knows that learns by its own
--- commits alone.
+-- commits only.
 use Rattle.std.proofs.Common.{◌≡◌, ◌⊎◌, ℕ, ◌<◌, ◌≤◌, ◌&&◌, inl, inr, Bool, true, false, List, [], ◌∷◌, ◌++◌, length, refl, ◌∙◌, ap, arith, subst, append_assoc}
 use Rattle.std.proofs.lemmas.Bool.{and_from, leb-true}
 use Rattle.mu_model.specs.declared.config.Config.{Config}

@@ -141,7 +141,7 @@ abbrev pub AppliesMeanwhile : Config → ℕ → ℕ → List Event → List Eve
 AppliesMeanwhile c a l newer older =
     (top bottom : List Event) → newer ≡ top ++ bottom → joining_steps c + (2 * cycle c + catching_steps c) ≤ length (part a bottom) → l ≤ length (applied c a (part a (bottom ++ older)))
 
--- so many steps later all that keep up have applied what it knew, and raised their heads to it, if it has applied it
+-- this many steps later all that keep up have applied what it knew, and raised their heads to it, if it has applied it
 pub spreads : (c : Config) (live : ℕ → Bool) (a l : ℕ) (newer older : List Event) → IsConfig c → Governs c live a newer older → KeepUp c live a (newer ++ older) → l ≤ length (known c a (part a older)) → AppliesMeanwhile c a l newer older → spreading_steps c ≤ length (part a newer)
     → (r : ℕ) → r < c.replicas → live r ≡ true → (l ≤ length (applied c r (part r (newer ++ older)))) × (l ≤ region_head r (newer ++ older))
 spreads c live a l newer older good g keep knows applies many r low lives = which (cases_eq r a)

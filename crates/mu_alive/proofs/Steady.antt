@@ -68,7 +68,7 @@ joins_here a p by (Verb.PutMin q b) Answer.Done past lands none =
     and_from (by == a) (not (is_member a q past)) both.0 (ap not (subst (λ x. is_member a x past ≡ false) (sym (eqb-true q p both.1)) none))
 joins_here a p by verb answer past lands none = absurd (true≢false (sym lands))
 
--- what is known grows by commits and by looks alone
+-- what is known grows only by commits and by looks
 pub same_known : (c : Config) (a by : ℕ) (verb : Verb) (answer : Answer) (past : List Event) → commits_more c a past (event_by by verb answer) ≡ false → is_learning c a past (event_by by verb answer) ≡ false → length (known c a (event_by by verb answer ∷ past)) ≤ length (known c a past)
 same_known c a by (Verb.PutSlot p i b v) Answer.Done past none learns = go ((by == a) && ((i == length (known c a past)) && is_accepted_by_all c a (event_by by (Verb.PutSlot p i b v) Answer.Done ∷ past) i b v)) none
   where

@@ -169,7 +169,7 @@ unchanged r p past (Some x) top s =
     same : (x : Option ℕ) (t : Bool) → x ≡ Some (fence_grant p past) → t ≡ false → is_changed (Some x) (record { owner = fence_owner p past; grant = fence_grant p past; closing = t; target = fence_target p past }) ≡ false
     same x t hx ht = rw (hx, ht, same_number (fence_grant p past)) refl
 
--- what holds where r makes an event
+-- what holds when r makes an event
 record AtTurn (c : Config) (r : ℕ) (past : List Event) : Type 0 where
   top : (p : ℕ) → OwnedTop r p past
   notes : (p : ℕ) → NotesStanding r p past

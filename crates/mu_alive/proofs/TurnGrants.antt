@@ -317,7 +317,7 @@ round_before c r p newer rest older at = record {
     split : part p (newer ++ (rest ++ older)) ≡ part p newer ++ part p (rest ++ older)
     split = filter-append (λ e. e.by == p) newer (rest ++ older)
 
--- so in so many rounds so many are
+-- so in k rounds at least k are
 rounds : (c : Config) (r p k : ℕ) (newer older : List Event) → InRound c r p (newer ++ older) older → k * (2 * cycle c) ≤ length (part p newer) → k ≤ granted_count r p newer
 rounds c r p zero newer older at long = omega arith
 rounds c r p (suc k) newer older at long =

@@ -47,7 +47,7 @@ own_number w (e ∷ past) first b is = go (begins_leadership w e) is (own_number
     go true is ih = cc
     go false is ih = of (number_put w e.by e.verb) (proposal_number w past) (λ x at. put_of w e.by e.verb x at first.1) ih is
 
--- where no replica from w on has put a number, all that were put are below
+-- if no replica from w on has put a number, all that were put are below
 low_puts : (m : ℕ) (past : List Event) → AreFirst past → ((x : ℕ) → m < 8 + x → greatest_own_put x past ≡ 0) → greatest_put past ≤ m
 low_puts m [] first none = omega arith
 low_puts m (e ∷ past) first none = go e.by e.verb first.1 none (low_puts m past first.0)

@@ -72,7 +72,7 @@ step_adds test x window older = go (test (window ++ older) x)
     go true = (omega arith, omega arith)
     go false = (omega arith, omega arith)
 
--- a stretch cut in two: its older part has so many replication events
+-- a stretch cut in two: its older part has this many replication events
 record CutAt (k : ℕ) (window older : List Event) : Type 0 where
   newer : List Event
   rest : List Event
@@ -101,7 +101,7 @@ bound_newer c r newer rest older =
     let b = steps_both (is_copying c r) newer rest older in
     omega (arith, same, a, b)
 
--- so a stretch that reaches it begins with one that has exactly so many replication events
+-- so a stretch with at least as many replication events as the bound begins with one of exactly as many
 record CutAtBound (c : Config) (r : ℕ) (window older : List Event) : Type 0 where
   newer : List Event
   rest : List Event
@@ -262,7 +262,7 @@ first_min r (x ∷ window) older stay begun none some =
     less : (begins_leadership r x ≡ false) × (stays r window ≡ true)
     less = stays_less r x window stay
 
-    -- the newest event is a minimum where the rest has none
+    -- the newest event is a minimum if the rest has none
     newest_is : (b : Bool) → begins_leadership r x ≡ b → b ≡ false → (g : Bool) → has_begun r (window ++ older) ≡ g → g ≡ true → (m : Bool) → (cond b true g && has is_min (cond b [] (x ∷ leadership r (window ++ older)))) ≡ true → (g && has is_min (leadership r (window ++ older))) ≡ false → is_min x ≡ true
     newest_is true hb other g hg begun m some none = absurd (true≢false other)
     newest_is false hb other false hg begun m some none = absurd (true≢false (sym begun))

@@ -44,7 +44,7 @@ pub stays_older : (r : ℕ) (xs ys : List Event) → stays r (xs ++ ys) ≡ true
 stays_older r [] ys all = all
 stays_older r (e ∷ xs) ys all = stays_older r xs ys (stays_less r e (xs ++ ys) all).1
 
--- a count was opened in the leadership, with at most so many steps, and isn't closed yet
+-- a count was opened in the leadership, allows at most this many steps, and isn't closed yet
 pub record Pending (r : ℕ) (w : Watch) (most : ℕ) (now : List Event) : Type 0 where
   pub window : List Event
   pub opened : List Event

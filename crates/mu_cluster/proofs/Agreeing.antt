@@ -104,7 +104,7 @@ drop_at [] j x at = cc
 drop_at (y ∷ ys) zero x at = ap (λ z. z ∷ ys) (same_some y x at)
 drop_at (y ∷ ys) (suc j) x at = drop_at ys j x at
 
--- the numbers of so many commands are those of their rows
+-- the numbers of n commands are those of their rows
 numbers_same : (job : Job) (client n j : ℕ) → HaveHeads job.config.width job.commands job.config.rows → j + n ≤ row_count job.config → numbers_of client (take n (drop j job.commands)) ≡ numbers_in job.config client (rows_from n j)
 numbers_same job client zero j have low = refl
 numbers_same job client (suc n) j have low =

@@ -43,7 +43,7 @@ module _ (table : TableId) (c : Config) (script : Script) (xs ys : List Branch) 
   pub many : length xs ≡ c.replicas
   many = sym (length_of_map port_of xs) ∙ (ap length fresh ∙ length_fresh table c c.replicas)
 
-  -- a branch at its end, beside its beginning
+  -- a branch at its end and at its beginning
   pair : (r : ℕ) (y : Branch) → slice_get ys r ≡ Some y → (x : Branch) × ((fresh_port table c r ≡ x.port) × IsDriven script x y)
   pair r y at =
       let low = slice_get_within ys r y at in

@@ -43,7 +43,7 @@ use Rattle.mu_outcome.specs.Runs.{IsRunOver}
 use Rattle.mu_cluster.specs.Rounds.{EndsNowhereBefore, MayTake, Played, Sits, part_of}
 use Rattle.mu_outcome.specs.Turns.{ids_after, pace}
 
--- an end that is told where there is one
+-- an end that is told if there is one
 end_told : (c : Config) (script : Script) (r : ℕ) (mine : List Event) (o : Option End) → TellsEnd c script r mine o → (end : End) × EndsBy c script r mine end → (e : End) × ((o ≡ Some e) × EndsBy c script r mine e)
 end_told c script r mine None none ends = absurd (none ends.0 ends.1)
 end_told c script r mine (Some e) told ends = (e, (refl, told))
@@ -132,7 +132,7 @@ held_left c script events n old new result was adds before ends is told = record
           subst (λ i. Leaves c script i (part_of i events) (old.journals.items ++ result.journal ∷ []) (old.logs.items ++ result.log ∷ []) (old.commits.items ++ result.commits ∷ []) (old.replies.items ++ result.replies ∷ []) (old.ends.items ++ end.0 ∷ [])) same here
     ])
 
--- the same where the replica sits in rounds
+-- the same if the replica sits in rounds
 pub held_next : (c : Config) (script : Script) (events : List Event) (n rounds : ℕ) (old new : Lists) (result : NodeResult) (seat : Seat) → HoldsLists c script events n old → Adds old new result
     → Sits c script n (part_of n events) seat rounds → seat.ended ≡ true → IsResult c n (part_of n events) result → TellsEnd c script n (part_of n events) result.end → HoldsLists c script events (n + 1) new
 held_next c script events n rounds old new result seat was adds sits ended is told = held_left c script events n old new result was adds sits.before (sits.ended ended) is told

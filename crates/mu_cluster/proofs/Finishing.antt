@@ -68,7 +68,7 @@ same_later c r l newer older low =
     let then_known = get_front (known c r older) more.0 i w (get_of_front (λ x. has_entry c r x older) (known c r older) i w (get_take l (applied c r older) i w there)) in
     same_some v w (sym now ∙ (ap (λ x. slice_get x i) more.1 ∙ then_known)))
 
--- what was read last of a head, where each read since tells as much
+-- what was read last of a head, if each read since tells as much
 newest_read : (r q l : ℕ) (xs base : List Event) → ((above below : List Event) (e : Event) → xs ≡ above ++ e ∷ below → is_head_of q e ≡ true → (y : ℕ) × (head_read r q e.by e.verb e.answer ≡ Some y) × (l ≤ y)) → has (is_head_of q) xs ≡ true
     → (y : ℕ) × (newest (λ e. head_read r q e.by e.verb e.answer) (xs ++ base) ≡ Some y) × (l ≤ y)
 newest_read r q l [] base tells some = absurd (true≢false (sym some))

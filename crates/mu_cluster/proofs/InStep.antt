@@ -22,7 +22,7 @@ due_is r all at = ap (λ t. nat_lt at.taken all && not t) (le-ltb at.waited 0 (o
     all_due true = refl
     all_due false = refl
 
--- so after so many rounds it has taken as many steps, or all
+-- so after this many rounds it has taken as many steps, or all
 paced : (r all rounds : ℕ) → IsLesser rounds all (pace [] r all rounds).taken
 paced r all zero = (λ _. refl, λ none. omega (arith, none))
 paced r all (suc round) = elim (cases_lt round all) [
@@ -67,7 +67,7 @@ abbrev AreInStep : ℕ → ℕ → ℕ → ℕ → List ℕ → Type 0
 AreInStep lead q most r [] = Unit {0}
 AreInStep lead q most r (i ∷ ids) = AreInStep lead q most r ids × (i ≡ r → IsLesser (times r ids + lead) most (times q ids))
 
--- the ids of so many rounds and of the first k replicas in the next one
+-- the ids of this many rounds and of the first k replicas in the next one
 record AreTurns (lengths : List ℕ) (round k : ℕ) (ids : List ℕ) : Type 0 where
   had : (s : ℕ) → s < k → IsLesser (suc round) (slice_index lengths s) (times s ids)
   waits : (s : ℕ) → k ≤ s → s < length lengths → IsLesser round (slice_index lengths s) (times s ids)
@@ -136,7 +136,7 @@ no_turn lengths round k ids inside none was = record {
   behind = was.behind;
 }
 
--- the ids of so many rounds, and of the first replicas in the next one, the last one first
+-- the ids of this many rounds, and of the first replicas in the next one, the last one first
 abbrev turned : List ℕ → ℕ → ℕ → List ℕ
 turned lengths round k = reverse (ids_after [] lengths round ++ ids_in_round [] lengths round k)
 

@@ -33,7 +33,7 @@ pub reads_verb : (w : ℕ) (verb : Verb) → is_ask_read_verb w verb ≡ true �
 reads_verb w (Verb.ReadAsk q) h = ap (λ x. Verb.ReadAsk x) (eqb-true q w h)
 reads_verb w verb h = absurd (true≢false (sym h))
 
--- where w makes no event its asks stay
+-- if w makes no event its asks stay
 pub quiet_asks : (w p : ℕ) (newer older : List Event) → length (part w newer) ≡ 0 → asks w p (newer ++ older) ≡ asks w p older
 quiet_asks w p [] older none = refl
 quiet_asks w p (e ∷ newer) older none = go (e.by == w) refl none (quiet_asks w p newer older)

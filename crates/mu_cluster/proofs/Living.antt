@@ -86,7 +86,7 @@ pub near_self : (a : ℕ) (past : List Event) → AtEachMoment (λ now. (length 
 near_self a [] = (omega arith, omega arith)
 near_self a (e ∷ past) = (near_self a past, (omega arith, omega arith))
 
--- where all take as many steps, all are near each
+-- if all take as many steps, all are near each
 pub all_near : (c : Config) (live : ℕ → Bool) (a : ℕ) (events : List Event) (lengths : List ℕ) (rounds most : ℕ) → AreUnpaused c events lengths rounds → a < c.replicas → live a ≡ true → ((r : ℕ) → r < c.replicas → live r ≡ true → slice_index lengths r ≡ most) → AtEachMoment (IsNear c live a) (history events)
 all_near c live a events lengths rounds most run some lives all = each_near c.replicas live (λ r now. (length (part r now) ≤ length (part a now) + 1) × (length (part a now) ≤ length (part r now) + 1)) (history events) (λ r low there. one r low there (cases_eq r a))
   where

@@ -48,7 +48,7 @@ part_step P older e held = go (e.by == e.by) (same_number e.by) held
     go true is held = held.1
     go false is held = absurd (true≢false (sym is))
 
--- where none passes, this one doesn't
+-- if none passes, this one doesn't
 pub none_here : (test : Event → Bool) (newer older : List Event) (e : Event) → has test (newer ++ e ∷ older) ≡ false → test e ≡ false
 none_here test [] older e none = go (test e) none
   where

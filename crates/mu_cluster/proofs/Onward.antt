@@ -92,7 +92,7 @@ failed_points r q (e ∷ past) failed = go (beat_read r q e.by e.verb e.answer) 
     go None failed ih = ih failed
     go (Some x) failed ih = few_points (points_after (score r q past).0 (not (x == or_zero (newest (λ f. beat_read r q f.by f.verb f.answer) past)))) (score r q past).1 failed
 
--- where q makes no event a failed score stays
+-- if q makes no event a failed score stays
 record StaysFailed (r q : ℕ) (count : ℕ) (past : List Event) : Type 0 where
   failed : (score r q past).1 ≡ false
   last : last_count r q past ≡ count

@@ -62,7 +62,7 @@ none_there : (events : List Event) → length events ≡ 0 → events ≡ []
 none_there [] none = refl
 none_there (e ∷ events) none = absurd (omega (arith, none))
 
--- r's event after so many of its own
+-- r's event after n of its own
 record After (n : ℕ) (mine : List Event) : Type 0 where
   top : List Event
   event : Event
@@ -79,7 +79,7 @@ after n mine more =
     go newer [] is count = absurd (omega (arith, count))
     go newer (e ∷ rest) is count = record { top = newer; event = e; bottom = rest; is = is; count = omega (arith, count) }
 
--- a replica that has ended is held failed so many steps of the reader after
+-- a replica that has ended is held failed this many steps of the reader later
 pub fails_then : (c : Config) (events : List Event) (lengths : List ℕ) (rounds q r : ℕ) (newer older : List Event) → AreUnpaused c events lengths rounds → ReadsInTime c r (part_of r events) → history events ≡ newer ++ older → q < c.replicas → r < c.replicas → q ≢ r
     → length (part_of q events) + failing_steps c ≤ length (part r older) → is_failed r q older ≡ true
 fails_then c events lengths rounds q r newer older run reads is low inside other late = found (after (length (part_of q events)) (part r older) (omega (arith, late)))

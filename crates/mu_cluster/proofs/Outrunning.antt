@@ -114,7 +114,7 @@ none_outrun_of o order seats rounds good run given played unpaused r p i low is 
     none_outrun o.job.config run.order.events (map (λ journal. length (events_of journal)) o.journals) run.turns.rounds r p i good all low
     (subst (λ l. outrun o.job.config r l ≡ Some (p, i)) journal (outrun_end o.job.config o.job.script r p i (history (journal_of o r)) ended.0 (same_some ended.0 (End.Outrun p i) (sym ended.1 ∙ is)) ended.2.ends))
 
--- where none is stopped or outrun, who is cut short spent its budget
+-- if none is stopped or outrun, who is cut short spent its budget
 pub spends_of : (o : Outcome) → IsRun o → Completes o → NoneOutrunUnpaused o → SpendsBudgets o
 spends_of o run completes none = record { none_outrun = none; spent = spent }
   where

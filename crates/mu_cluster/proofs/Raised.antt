@@ -95,7 +95,7 @@ head_applied c r = legal_induction c (λ past. region_head r past ≤ length (ap
         raised false other = grows (event_after c past by (Verb.RaiseHead h)) past ih
     step past by v needs ih = grows (event_after c past by v) past ih
 
--- the least number that passes does, where there is one
+-- the least number that passes does, if there is one
 least_passes : (n : ℕ) (test : ℕ → Bool) → least_below n test < n → test (least_below n test) ≡ true
 least_passes zero test low = absurd (omega (arith, low))
 least_passes (suc n) test low = go (least_below n test == n) refl (test n) refl low (λ less. least_passes n test less)
@@ -120,7 +120,7 @@ same_taken c r s l past legal one other =
     (λ i v w at there.
     known_agree c r s past legal i v w (get_of_front (λ x. has_entry c r x (part r past)) (known c r (part r past)) i v (get_take l (applied c r (part r past)) i v at)) (get_of_front (λ x. has_entry c s x (part s past)) (known c s (part s past)) i w (get_take l (applied c s (part s past)) i w there)))
 
--- a moment at which all have, after at most so many steps of each
+-- a moment at which all have, after at most this many steps of each
 pub record RaisedBy (c : Config) (live : ℕ → Bool) (events : List Event) (most : ℕ) : Type 0 where
   pub front : List Event
   pub past : List Event
@@ -135,7 +135,7 @@ pub record LoneAt (c : Config) (live : ℕ → Bool) (events : List Event) (most
   pub writes : WritesAlone 0 (moment.last ∷ moment.older)
   pub keep : KeepUp c live 0 (moment.last ∷ moment.older)
 
--- where none finished before replica 0 has taken so many steps
+-- if none finished before replica 0 has taken this many steps
 pub lone_at : (c : Config) (live : ℕ → Bool) (events : List Event) (lengths : List ℕ) (rounds most : ℕ) → IsConfig c → AreUnpaused c events lengths rounds → GoOn c live 0 events → 1 ≤ most → ((r : ℕ) → r < c.replicas → live r ≡ true → most ≤ slice_index lengths r) → LoneAt c live events most
 lone_at c live events lengths rounds most good run on one_more late = record { moment = t; lone = lone; writes = writes; keep = keep_at c live 0 events lengths rounds most run on t late }
   where
@@ -173,17 +173,17 @@ lone_at c live events lengths rounds most good run on one_more late = record { m
     writes : WritesAlone 0 (t.last ∷ t.older)
     writes = (writes_alone c events (t.front ++ t.last ∷ []) t.older lengths rounds names run (more_front events t.front t.older t.last t.is) first_there, λ j k x wrote. t.own)
 
--- where replica 0 leads alone for so many steps, all have raised their heads
+-- if replica 0 leads alone for this many steps, all have raised their heads
 abbrev pub RaisesAll : Config → (ℕ → Bool) → ℕ → Type 0
 RaisesAll c live most = (past : List Event) → LeadsAlone c live 0 past → WritesAlone 0 past → KeepUp c live 0 past → most ≤ length (part 0 past) → HaveAllRaised c live past
 
--- so they have where none finished before
+-- so they have if none finished before
 pub raised_alone : (c : Config) (live : ℕ → Bool) (events : List Event) (lengths : List ℕ) (rounds most : ℕ) → IsConfig c → AreUnpaused c events lengths rounds → GoOn c live 0 events → 1 ≤ most → RaisesAll c live most → ((r : ℕ) → r < c.replicas → live r ≡ true → most ≤ slice_index lengths r) → RaisedBy c live events most
 raised_alone c live events lengths rounds most good run on one raises late =
     let l = lone_at c live events lengths rounds most good run on one late in
     record { front = l.moment.front; past = (l.moment.last ∷ l.moment.older); is = l.moment.is; few = l.moment.few; raised = raises (l.moment.last ∷ l.moment.older) l.lone l.writes l.keep (let n = l.moment.taken in omega (arith, n)) }
 
--- and so they have where s leads last
+-- and so they have if s leads last
 pub raised_last : (c : Config) (live : ℕ → Bool) (s : ℕ) (events : List Event) (lengths : List ℕ) (rounds k : ℕ) → IsConfig c → HasLargeRing c → AreUnpaused c events lengths rounds → AreNodes c events → GoOn c live s events → ((q : ℕ) → q < s → length (part_of q events) ≤ k)
     → ((r : ℕ) → r < c.replicas → live r ≡ true → k + failing_steps c + last_raising_steps c s ≤ slice_index lengths r) → RaisedBy c live events (k + failing_steps c + last_raising_steps c s)
 raised_last c live s events lengths rounds k good large run nodes on short late = record {
@@ -214,7 +214,7 @@ up_to q (e ∷ whole) = go (e.by == q) refl (up_to q whole)
     go true own k = record { front = []; past = e ∷ whole; is = refl; all = refl; ends = inr (e, (whole, (refl, eqb-true e.by q own))) }
     go false other k = record { front = e ∷ k.front; past = k.past; is = ap (λ l. e ∷ l) k.is; all = k.all ∙ sym (ap (λ t. cond t (e ∷ part q whole) (part q whole)) other); ends = k.ends }
 
--- where one finished before, all had
+-- if one finished before, all had
 one_before : (c : Config) (live : ℕ → Bool) (events : List Event) (lengths : List ℕ) (rounds most : ℕ) → AreUnpaused c events lengths rounds → (q : Least c.replicas live (λ r. slice_index lengths r)) → slice_index lengths q.at ≤ most → is_finished c q.at (part_of q.at events) ≡ true → RaisedBy c live events most
 one_before c live events lengths rounds most run least short finished = at (up_to q (history events))
   where

@@ -1,4 +1,4 @@
--- In a replay without a pause: the moment at which a replica has taken so many steps, and how it and those that keep up made theirs.
+-- In a replay without a pause: the moment at which a replica has taken a given number of steps, and how it and those that keep up made theirs.
 use Rattle.std.proofs.Common.{◌≡◌, ◌∙◌, ◌≢◌, ◌⊎◌, ℕ, ◌+◌, ◌<◌, ◌≤◌, ◌==◌, inl, inr, Bool, true, false, cond, List, [], ◌∷◌, ◌++◌, ap, append_assoc, arith, length, refl, subst, sym}
 use Rattle.std.specs.Prelude.{min, slice_index}
 use Rattle.std.proofs.lemmas.Bool.{cases_eq, cases_lt, eq-eqb, ne_eqb, true≢false}
@@ -49,7 +49,7 @@ moments_of a P (e ∷ past) all = go (e.by == a) refl (moments_of a P past (λ n
     go true own rest = (rest, subst P (ap (λ t. cond t (e ∷ part a past) (part a past)) own) (all [] (e ∷ past) refl))
     go false other rest = rest
 
--- the moment at which a has taken so many steps: none that goes on has taken more, and all are near a
+-- the moment at which a has taken this many steps: none that goes on has taken more, and all are near a
 pub record TakenAt (c : Config) (live : ℕ → Bool) (a : ℕ) (events : List Event) (most : ℕ) : Type 0 where
   pub front : List Event
   pub last : Event

@@ -82,7 +82,7 @@ fresh_read c events lengths rounds front past e w r run reads is below begun =
                 (subst (λ y. seen_asks e.by w (record { by = by; verb = Verb.ReadAsk w; answer = y } ∷ o) ≡ asks w e.by o) (sym says)
                 (rw (eq-eqb by e.by own, same_number w) (ap (λ i. asks w i o) own)))
 
--- the region isn't closing where asks are read
+-- the region isn't closing when asks are read
 order_before : (c : Config) (r : ℕ) (newer older : List Event) → InCycleOrder c r (newer ++ older) → InCycleOrder c r older
 order_before c r [] older order = order
 order_before c r (e ∷ newer) older order = order_before c r newer older order.0

@@ -17,7 +17,7 @@ pub found_there : {A : Type 0} (all items : List A) (k r : ℕ) (x : A) → item
 found_there all items k r x same at found low =
     subst (λ xs. slice_get xs r ≡ Some x) same (subst (λ q. slice_get items q ≡ Some x) at (slice_get-get_or items k x low ∙ ap Some (sym found)))
 
--- of what stands for the part of each replica, that of the one that makes an event has taken it
+-- each state stands for the part of its replica, and that of the replica that makes an event has taken it
 pub each_part_next : {A : Type 0} (P : ℕ → List Event → A → Type 0) (past : List Event) (e : Event) (k : ℕ) (items : List A) (was new : A) → k ≡ e.by → slice_get items k ≡ Some was
     → (P e.by (part e.by past) was → P e.by (e ∷ part e.by past) new) → ((r : ℕ) (x : A) → slice_get items r ≡ Some x → P r (part r past) x)
     → (r : ℕ) (x : A) → slice_get (set items k new) r ≡ Some x → P r (part r (e ∷ past)) x

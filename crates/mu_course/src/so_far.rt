@@ -14,7 +14,7 @@ pub enum EndSoFar {
     /// It looked at a position of a region that it still had to read, and the place holds a later
     /// one already.
     Outrun(u8, u16),
-    /// It applied all there is to apply, and so did the others, but for those that it holds failed.
+    /// It applied all commands, and so did the others, but for those that it holds failed.
     Finished,
 }
 

@@ -12,7 +12,7 @@ use Rattle.mu_model.specs.Scores.{beat_read}
 use Rattle.mu_model.proofs.Lists.{set_get}
 use Rattle.std.proofs.lemmas.Bool.{ne_eqb}
 
--- what is held of a replica stays, where the event reads nothing of it
+-- what is held of a replica stays, if the event reads nothing of it
 pub peer_kept : (r q : ℕ) (mine : List Event) (e : Event) (peer : Peer) → beat_read r q e.by e.verb e.answer ≡ None → HoldsPeer r q mine peer → HoldsPeer r q (e ∷ mine) peer
 peer_kept r q mine e peer none held = record { count = rw none held.count; points = rw none held.points; alive = rw none held.alive }
 
@@ -21,7 +21,7 @@ pub reads_none : (r q by : ℕ) (verb : Verb) (answer : Answer) → reads_count 
 reads_none r q by (Verb.ReadBeat p) (Answer.Number x) none = cc
 reads_none r q by _ _ none = refl
 
--- an event by which r reads no count of beats changes nothing of what the scores stand for
+-- an event by which r reads no count of beats leaves what the scores stand for
 pub scores_kept : (n r : ℕ) (mine : List Event) (state : Scores) (event : Event) → ((q : ℕ) → beat_read r q event.by event.verb event.answer ≡ None) → StandsFor n r mine state → StandsFor n r (event ∷ mine) state
 scores_kept n r mine state event none held = record {
   few = held.few;
@@ -31,7 +31,7 @@ scores_kept n r mine state event none held = record {
   peers = λ q peer low there. peer_kept r q mine event peer (none q) (held.peers q peer low there);
 }
 
--- an event that reads no count of beats changes nothing of what the scores stand for
+-- an event that reads no count of beats leaves what the scores stand for
 pub others_kept : OthersKeep
 others_kept n r mine state event none = scores_kept n r mine state event (λ q. reads_none r q event.by event.verb event.answer none)
 

@@ -38,7 +38,7 @@ abbrev pub reads_count : Verb → Answer → Bool
 reads_count (Verb.ReadBeat q) (Answer.Number count) = true
 reads_count _ _ = false
 
--- an event that reads no count of beats changes nothing of what the scores stand for
+-- an event that reads no count of beats leaves what the scores stand for
 abbrev pub OthersKeep : Type 0
 OthersKeep =
     (n r : ℕ) (mine : List Event) (state : Scores) (event : Event)

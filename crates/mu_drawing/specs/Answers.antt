@@ -139,7 +139,7 @@ text_of (Output.Said said) = text said
 text_of (Output.Drawn sheet) = sheet
 text_of (Output.Broken sheet) = sheet
 
--- the status of what is told, once it is written
+-- the status of an answer, once it is written
 abbrev pub status_for : Output → Status
 status_for Output.Usage = Status.Usage
 status_for (Output.Said said) = status_for_said said

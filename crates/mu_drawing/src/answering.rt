@@ -126,7 +126,7 @@ fn write_counted<K: Sink>(sink: &mut K, bytes: &[u8]) -> Result<usize, WriteFaul
     Ok(bytes.len())
 }
 
-/// The status of what is told, once it is written.
+/// The status of an answer, once it is written.
 pub fn status_of(told: &Output) -> Status
     ensures { result ≡ status_for told.now }
 {

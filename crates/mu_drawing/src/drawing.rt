@@ -79,7 +79,7 @@ fn first_line(bytes: &[u8], events: &[Event]) -> u32
 ///
 /// # Errors
 ///
-/// Want of memory alone.
+/// Only want of memory.
 fn drawing_of_events(
     alloc: Global,
     job: &Job,
@@ -104,7 +104,7 @@ fn drawing_of_events(
 ///
 /// # Errors
 ///
-/// Want of memory alone.
+/// Only want of memory.
 fn picture(
     alloc: Global,
     job: &Job,
@@ -146,7 +146,7 @@ fn front(events: &[Event], count: u32) -> &[Event]
 ///
 /// # Errors
 ///
-/// Want of memory alone.
+/// Only want of memory.
 fn broken_picture(
     alloc: Global,
     job: &Job,

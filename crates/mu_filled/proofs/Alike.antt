@@ -146,7 +146,7 @@ last_was_put r p i y (e ∷ events) is = by_event e.by e.verb e.answer is (last_
         go false u x is = before is
     by_event by verb answer is before = before is
 
--- where something was put there is a last entry
+-- if something was put there is a last entry
 pub put_has_last : (r p i b v : ℕ) (events : List Event) → has (lands_entry r p i b v) events ≡ true → (y : ℕ × ℕ) × (newest (λ e. entry_put r p i e.by e.verb e.answer) events ≡ Some y)
 put_has_last r p i b v [] m = cc
 put_has_last r p i b v (e ∷ events) m = by_event e.by e.verb e.answer m (put_has_last r p i b v events)
@@ -164,7 +164,7 @@ put_has_last r p i b v (e ∷ events) m = by_event e.by e.verb e.answer m (put_h
         go false u x m = before m
     by_event by verb answer m before = before m
 
--- the last put tells whether an entry was put, where all puts are alike
+-- the last put tells whether an entry was put, if all puts are alike
 last_tells : (r p i b v : ℕ) (mine : List Event) → AreAlike r i mine → (last : Option (ℕ × ℕ)) → last_landed r p i mine ≡ last → is_entry last b v ≡ has (lands_entry r p i b v) (leadership r mine)
 last_tells r p i b v mine alike None none = sym (go (has (lands_entry r p i b v) (leadership r mine)) refl)
   where

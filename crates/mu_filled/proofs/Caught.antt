@@ -42,7 +42,7 @@ known_has xs j low None is = absurd (no_value xs j low is)
     no_value (y ∷ ys) zero small none = cc
     no_value (y ∷ ys) (suc k) small none = no_value ys k (omega arith) none
 
--- where a known value was put, some entry of that value was
+-- if a known value was put, some entry of that value was
 known_entry : (values : List ℕ) (r p j : ℕ) (events : List Event) → has (λ e. is_known_put values r p j e.by e.verb e.answer) events ≡ true
     → (b : ℕ) × (v : ℕ) × (has (lands_entry r p j b v) events ≡ true) × (is_value (slice_get values j) v ≡ true)
 known_entry values r p j [] m = cc
@@ -61,7 +61,7 @@ known_entry values r p j (e ∷ events) m = by_event e.by e.verb e.answer m (kno
     ]
     by_event by verb answer m before = before m
 
--- where an entry of a known value was put, the known value was
+-- if an entry of a known value was put, the known value was
 entry_known : (values : List ℕ) (r p j b v : ℕ) (events : List Event) → is_value (slice_get values j) v ≡ true → has (lands_entry r p j b v) events ≡ true → has (λ e. is_known_put values r p j e.by e.verb e.answer) events ≡ true
 entry_known values r p j b v events value = has_implied (lands_entry r p j b v) (λ e. is_known_put values r p j e.by e.verb e.answer) (λ e m. go e.by e.verb e.answer m) events
   where
@@ -84,12 +84,12 @@ same_puts values others r p j events more = has_implied (λ e. is_known_put valu
         rw (x.0, y.0, z.0, more w z.1) refl
     go by verb answer m = absurd (true≢false (sym m))
 
--- the entry, where there is one, is of the known value
+-- the entry, if there is one, is of the known value
 abbrev pub is_last_known : Option ℕ → Option (ℕ × ℕ) → Bool
 is_last_known value None = false
 is_last_known value (Some entry) = is_value value entry.1
 
--- where the known value of position j was put, the last put there was of it
+-- if the known value of position j was put, the last put there was of it
 abbrev pub LastIsKnown : Config → ℕ → ℕ → ℕ → List Event → Type 0
 LastIsKnown c r p j mine = has_known c r p mine j ≡ true → is_last_known (slice_get (known c r mine) j) (last_landed r p j mine) ≡ true
 
@@ -107,7 +107,7 @@ put_is_known : (c : Config) (r j v : ℕ) (mine : List Event) → j < length (kn
 put_is_known c r j v mine low (inl is) = is
 put_is_known c r j v mine low (inr new) = let at = new.next in absurd (omega arith)
 
--- the same where it is
+-- the same if it is
 last_known_by : (c : Config) (r p j by : ℕ) (verb : Verb) (answer : Answer) (mine : List Event) → Needs c r mine verb → j < length (known c r mine)
     → slice_get (known c r (record { by = by; verb = verb; answer = answer } ∷ mine)) j ≡ slice_get (known c r mine) j → LastIsKnown c r p j mine → LastIsKnown c r p j (record { by = by; verb = verb; answer = answer } ∷ mine)
 last_known_by c r p j by (Verb.Ask q) answer mine needs low same before = go (is_first_ask r by (Verb.Ask q)) refl

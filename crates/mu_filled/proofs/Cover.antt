@@ -17,7 +17,7 @@ use Rattle.mu_filled.specs.declared.filled_logs.Coverage.{Coverage}
 use Rattle.mu_filled.proofs.Caught.{caught_step}
 use Rattle.mu_filled.proofs.Filled.{filled_step}
 
--- what is filled, where its spot was marked and the pointer raised and moved on
+-- what is filled once its spot was marked and the pointer raised and moved on
 pub log_step : (c : Config) (r p : ℕ) (e : Event) (mine : List Event) (old new : FilledLog) (marks : List Bool) (read spot : Option ℕ) → IsPossible c r (e ∷ mine) → StandsForFilledLog c r p mine old
     → new.filled.items ≡ marks → length marks ≡ length old.filled.items
     → read ≡ fuo_read r p e.by e.verb e.answer → spot ≡ filled_spot c r p mine e.by e.verb e.answer (e ∷ mine)

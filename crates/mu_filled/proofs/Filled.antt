@@ -39,7 +39,7 @@ no_second : (a b d : Bool) → a && b ≡ false → a && (b && d) ≡ false
 no_second true b d none = rw none refl
 no_second false b d none = refl
 
--- what a put or a look shows of one position, where it shows the position i or nothing
+-- what a put or a look shows of one position, if it shows the position i or nothing
 spot_here : (i : ℕ) (t : Bool) → t ≡ is_at (cond t (Some i) None) i
 spot_here i true = sym (same_number i)
 spot_here i false = refl
@@ -131,7 +131,7 @@ spot_by c r p j by verb answer mine now needs at = cc
 pub spot_in_range : (c : Config) (r p j : ℕ) (e : Event) (mine : List Event) → IsPossible c r (e ∷ mine) → is_at (filled_spot c r p mine e.by e.verb e.answer (e ∷ mine)) j ≡ true → j ≤ row_count c + reserve c
 spot_in_range c r p j e mine possible at = spot_by c r p j e.by e.verb e.answer mine (e ∷ mine) (parts_shorten_law c r mine e possible).allowed.may at
 
--- a position is below the greater of two numbers where it is below one of them
+-- a position is below the greater of two numbers if it is below one of them
 pub below_max : (o : Option ℕ) (x j : ℕ) → nat_lt j (max_with o x) ≡ (is_below o j || nat_lt j x)
 below_max None x j = refl
 below_max (Some y) x j = go (nat_lt j y) refl (nat_lt j x) refl
@@ -148,7 +148,7 @@ regroup false true false y = refl
 regroup false false true y = refl
 regroup false false false y = refl
 
--- what is filled after the event, where its spot was marked and the pointer raised and moved on
+-- what is filled after the event, once its spot was marked and the pointer raised and moved on
 pub filled_step : (c : Config) (r p from to : ℕ) (e : Event) (mine : List Event) (old new : List Bool) → IsPossible c r (e ∷ mine) → length old ≡ row_count c + reserve c + 1 → length new ≡ length old
     → ((j : ℕ) → is_filled c r p mine j ≡ (nat_lt j from || is_set (slice_get old j)))
     → ((j : ℕ) → j < length old → is_set (slice_get new j) ≡ (is_at (filled_spot c r p mine e.by e.verb e.answer (e ∷ mine)) j || is_set (slice_get old j)))
@@ -175,7 +175,7 @@ filled_step c r p from to e mine old new possible room long before marked moved 
         let high : length old ≤ j = ltb-false j (length old) is in
         rw (slice_get_past old j high, slice_get_past new j (omega arith), beyond (is_at spot j) high refl) refl
 
--- all positions below n are filled where n is no greater than the first that isn't
+-- all positions below n are filled if n is no greater than the first that isn't
 pub filled_upto : (test : ℕ → Bool) (first n : ℕ) → ((j : ℕ) → j < first → test j ≡ true) → test first ≡ false → nat_le n first ≡ all_below n test
 filled_upto test first n below next = go (nat_le n first) refl (all_below n test) refl
   where

@@ -1,4 +1,4 @@
--- An event whose verb isn't a leader's changes nothing of what is known of the logs.
+-- An event whose verb isn't a leader's leaves what is known of the logs.
 use Rattle.std.proofs.Common.{◌≡◌, ℕ, false, List, ◌∷◌}
 use Rattle.mu_model.specs.declared.config.Config.{Config}
 use Rattle.mu_model.specs.declared.event.Answer.{Answer}

@@ -22,7 +22,7 @@ none_next : (n : ℕ) (noted : Option Landing) → IsWithin n noted → (noted_i
 none_next n None within = (refl, tt)
 none_next n (Some landing) within = (rw (ne_eqb landing.leadership (n + 1) (λ e. omega (arith, e, within))) refl, omega (arith, within))
 
--- what is noted of a position where the event puts nothing
+-- what is noted of a position if the event puts nothing
 pub note_kept : (r p i : ℕ) (e : Event) (mine : List Event) (noted : Option Landing) → entry_put r p i e.by e.verb e.answer ≡ None → Notes r p i mine noted → Notes r p i (e ∷ mine) noted
 note_kept r p i e mine noted none held = go (begins_leadership r e) refl
   where
@@ -58,7 +58,7 @@ pub record IsPutOf (r : ℕ) (e : Event) (q j n v : ℕ) : Type 0 where
   pub verb : e.verb ≡ Verb.PutSlot q j n v
   pub answer : e.answer ≡ Answer.Done
 
--- where a put landed, the event is this put
+-- if a put landed, the event is this put
 pub is_put_of : (r : ℕ) (e : Event) (q j n v : ℕ) → landed_put r e.by e.verb e.answer ≡ Some (q, j, n, v) → IsPutOf r e q j n v
 is_put_of r e q j n v is = let found = go e.by e.verb e.answer is in record { own = found.0; verb = found.1; answer = found.2 }
   where

@@ -1,4 +1,4 @@
--- What a replica reads next of what it lacks is allowed.
+-- What a replica reads next to catch up is allowed.
 use Rattle.std.proofs.Common.{◌≡◌, ℕ, ◌<◌, Bool, true, false, List, refl, arith, length, None, Some}
 use Rattle.std.specs.Prelude.{IfSome, if◌then◌else◌, nat_lt}
 use Rattle.std.specs.declared.option.Option.{Option}

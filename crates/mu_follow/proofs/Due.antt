@@ -74,7 +74,7 @@ row_there c r (e ∷ mine) v possible is = let s = parts_shorten_law c r mine e 
     go (Verb.ReadRow w k) may e old = there w k (nat_lt k 11) may e
     go verb may e old = old e
 
--- what the verb needs, where there is one
+-- what the verb needs, if there is one
 abbrev pub Meets : Config → ℕ → List Event → Bool → Option Verb → Type 0
 Meets c r mine leading due = IfSome due (λ verb. Needs c r mine verb × IsReplay leading verb)
 

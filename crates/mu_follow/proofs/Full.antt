@@ -85,11 +85,11 @@ full_next c v values =
     two true false = omega arith
     two false t = refl
 
--- all rows are there where none is missing
+-- all rows are there if none is missing
 pub all_there : (c : Config) (is_there : ℕ → Bool) (first : ℕ) → IsFirstMissing c is_there first → row_count c ≤ first → all_below (row_count c) is_there ≡ true
 all_there c is_there first is high = each_all (row_count c) is_there (λ j low. is.below j (omega (arith, low, high)))
 
--- and not where one is
+-- and not if one is
 pub one_missing : (c : Config) (is_there : ℕ → Bool) (first : ℕ) → IsFirstMissing c is_there first → first < row_count c → all_below (row_count c) is_there ≡ false
 one_missing c is_there first is low = go (all_below (row_count c) is_there) refl
   where
@@ -97,6 +97,6 @@ one_missing c is_there first is low = go (all_below (row_count c) is_there) refl
     go true all = absurd (true≢false (sym (all_at (row_count c) is_there all first low) ∙ is.missing low))
     go false none = refl
 
--- so many rows from the first of a batch are the rows of its entry
+-- as many rows as an entry has, from its first on, are the rows of the entry
 pub rows_batch : (c : Config) (v n i : ℕ) → is_batch c v ≡ true → n ≡ rest_of c (v % 4096) + 1 → i ≡ v % 4096 → rows_from n i ≡ rows_of c v
 rows_batch c v n i batch many first = rw (batch, many, first) refl

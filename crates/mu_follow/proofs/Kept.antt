@@ -1,4 +1,4 @@
--- What stays of what a replica applied and committed.
+-- What a replica applied and committed stays so.
 use Rattle.std.proofs.Common.{◌≡◌, ℕ, ◌≤◌, Bool, true, false, ◌==◌, ◌&&◌, List, [], ◌∷◌, ◌++◌, cond, refl, ap, ◌∙◌, arith, length, map, take, subst, None, Some, sym}
 use Rattle.std.specs.Prelude.{if◌then◌else◌}
 use Rattle.std.proofs.lemmas.List.{length_push, take-append-le}

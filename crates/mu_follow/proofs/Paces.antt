@@ -21,7 +21,7 @@ use Rattle.mu_follow.specs.Due.{own_fuo}
 use Rattle.mu_follow.specs.Paces.{HeadsRiseInTime}
 use Rattle.mu_model.proofs.Counts.{max_with_grows}
 
--- the head of a region stays where nobody raises one
+-- the head of a region stays if nobody raises one
 head_stays : (r by : ℕ) (verb : Verb) (answer : Answer) (past : List Event) → is_head_raise_verb verb ≡ false → region_head r (record { by = by; verb = verb; answer = answer } ∷ past) ≡ region_head r past
 head_stays r by (Verb.RaiseHead h) answer past no_raise = absurd (true≢false no_raise)
 head_stays r by verb answer past no_raise = refl

@@ -23,7 +23,7 @@ use Rattle.mu_known.specs.KnownLog.{HoldsValues, StandsForKnownLog}
 use Rattle.mu_known.specs.declared.known_log.KnownLog.{KnownLog}
 use Rattle.mu_follow.specs.Kinds.{is_put, kind_of, put_spot}
 
--- the value of what is committed, where something is
+-- the value of what is committed, if something is
 abbrev pub value_of : Option (ℕ × ℕ) → Option ℕ
 value_of None = None
 value_of (Some entry) = Some entry.1
@@ -43,12 +43,12 @@ pub commits_by_put : (c : Config) (r by n : ℕ) (verb : Verb) (answer : Answer)
 commits_by_put c r by n (Verb.PutSlot p i b v) answer now entry is = refl
 commits_by_put c r by n verb answer now entry is = absurd (none_some entry is)
 
--- a put that commits nothing changes nothing of what is known
+-- a put that commits nothing leaves what is known
 pub put_known : (c : Config) (r by : ℕ) (verb : Verb) (answer : Answer) (mine : List Event) → is_put (kind_of verb) ≡ true → committed c r (length (known c r mine)) by verb answer (event_by by verb answer ∷ mine) ≡ None
     → known c r (event_by by verb answer ∷ mine) ≡ known c r mine
 put_known c r by verb answer mine put none = ap (grown (known c r mine)) (put_teaches c r by (length (known c r mine)) verb answer mine (event_by by verb answer ∷ mine) put ∙ ap value_of none)
 
--- what else is held of what is known stays
+-- the other facts about what is known stay
 pub put_knowing : (c : Config) (r by : ℕ) (verb : Verb) (answer : Answer) (mine : List Event) (state : KnownLog) → is_put (kind_of verb) ≡ true → HoldsValues c (known c r (event_by by verb answer ∷ mine)) state
     → (old : KnownLog) → state.fuos ≡ old.fuos → state.seen ≡ old.seen → StandsForKnownLog c r mine old → StandsForKnownLog c r (event_by by verb answer ∷ mine) state
 put_knowing c r by (Verb.PutSlot p i b v) answer mine state put values old fuos seen held = record {
@@ -81,7 +81,7 @@ not_both n j t = go (n == j) refl
     go true is = let same = eqb-true n j is in rw (ne_eqb n (j + 1) (λ e. omega (arith, same, e))) refl
     go false is = refl
 
--- a put that commits nothing fills the own log where it is of what is known
+-- a put that commits nothing fills the own log if it is of a known value
 pub spot_put : (c : Config) (r by : ℕ) (verb : Verb) (answer : Answer) (mine : List Event) → by ≡ r → is_put (kind_of verb) ≡ true → known c r (event_by by verb answer ∷ mine) ≡ known c r mine
     → put_spot r (known c r mine) verb answer ≡ filled_spot c r r mine by verb answer (event_by by verb answer ∷ mine)
 spot_put c r by (Verb.PutSlot q i b v) Answer.Done mine own put same =

@@ -73,7 +73,7 @@ pub commits_stay : (c : Config) (r by : ℕ) (verb : Verb) (answer : Answer) (mi
 commits_stay c r by (Verb.PutSlot p i b v) answer mine other = absurd (true≢false other)
 commits_stay c r by verb answer mine other = refl
 
--- where the replica was outrun
+-- if the replica was outrun
 pub outrun_stays : (c : Config) (r by : ℕ) (verb : Verb) (answer : Answer) (mine : List Event) → is_look (kind_of verb) ≡ false → outrun c r mine ≡ outrun c r (event_by by verb answer ∷ mine)
 outrun_stays c r by (Verb.Look p i) answer mine other = absurd (true≢false other)
 outrun_stays c r by verb answer mine other = refl

@@ -229,7 +229,7 @@ fuo_rises r past e = grows (fuo_read r r e.by e.verb e.answer) (greatest_fuo_rea
     grows None x = omega arith
     grows (Some y) x = omega arith
 
--- an own event that completes no row changes nothing of which rows are there
+-- an own event that completes no row leaves the same rows there
 pub own_row_same : (c : Config) (r u : ℕ) (past : List Event) (e : Event) → e.by ≡ r → is_write e.verb ≡ false → is_row_of c u (known c r past) ≡ true → completes_row c r past e ≡ false → has_row r u (e ∷ past) ≡ has_row r u past
 own_row_same c r u past e own =
     subst (λ b. is_write e.verb ≡ false → is_row_of c u (known c r past) ≡ true → completes_row c r past (event_by b e.verb e.answer) ≡ false → has_row r u (event_by b e.verb e.answer ∷ past) ≡ has_row r u past) (sym own)

@@ -1,4 +1,4 @@
--- catching up: what a replica reads next of what it lacks, whatever the place of its cycle.
+-- catching up: what a replica that lags reads next, whatever the place of its cycle.
 use Rattle.std.specs.Prelude.{List, None, Some, if◌then◌else◌, length, nat_lt, not, ℕ}
 use Rattle.std.specs.declared.option.Option.{Option}
 use Rattle.std.specs.List.{slice_get}

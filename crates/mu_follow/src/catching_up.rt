@@ -1,4 +1,4 @@
-//! What a replica reads next of what it lacks, whatever the place of its cycle.
+//! What a replica reads next to catch up, whatever the place of its cycle.
 ghost use Rattle.std.specs.Prelude.{IfSome, List, Some, false, if◌then◌else◌, length, not, ℕ, ◌%◌, ◌+◌, ◌/◌, ◌<◌, ◌==◌, ◌≡◌};
 ghost use Rattle.std.specs.List.{slice_get};
 ghost use Rattle.mu_model.specs.declared.config.Config.{Config};

@@ -70,7 +70,7 @@ fn is_known(values: &[u16], i: u16, v: u16) -> bool
     }
 }
 
-/// The position of its own log that is filled by a put of what was known before the put.
+/// The position of its own log that a put of a value already known fills.
 fn spot_of_put(r: u8, known: &[u16], event: &Event) -> Option<u16>
     ensures { result ≡ put_spot r known.now event.now.verb event.now.answer }
 {

@@ -10,7 +10,7 @@ use Rattle.mu_grant.specs.Stands.{LookedFirst}
 pub from_parts : (event : Event) (by : ℕ) (verb : Verb) (answer : Answer) → by ≡ event.by → verb ≡ event.verb → answer ≡ event.answer → record { by = by; verb = verb; answer = answer } ≡ event
 from_parts event by verb answer own is says = rw (own, is, says) refl
 
--- an event keeps the order, where a drain comes after a look
+-- an event keeps the order, if a drain comes after a look
 pub in_order : (r by : ℕ) (verb : Verb) (answer : Answer) (mine : List Event) → (verb ≡ Verb.Drain → looked_since_close r mine ≡ true) → LookedFirst r mine → LookedFirst r (record { by = by; verb = verb; answer = answer } ∷ mine)
 in_order r by Verb.Close answer mine looked held = go (by == r) refl
   where

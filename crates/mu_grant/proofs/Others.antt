@@ -30,7 +30,7 @@ kept_by n r by verb answer mine state none held = record {
   guests = λ w guest there. record { seen = (held.guests w guest there).seen; at_grant = (held.guests w guest there).at_grant; as_owner = (held.guests w guest there).as_owner };
 }
 
--- an event that the host doesn't note changes nothing of what the state stands for
+-- an event that the host doesn't note leaves what the state stands for
 pub others_kept : OthersKeep
 others_kept n r mine state event none held = kept_by n r event.by event.verb event.answer mine state none held
 

@@ -8,7 +8,7 @@ use Rattle.mu_model.specs.Allowed.{Needs}
 use Rattle.mu_grant.specs.Stands.{Gives, is_of_place}
 use Rattle.mu_model.proofs.Basics.{same_some}
 
--- what is needed of a verb that is given beside a step that is left
+-- what is needed of a verb that is given while a step is left
 pub gives : (c : Config) (r : ℕ) (mine : List Event) (place : ℕ) (due : Option Verb) → length mine < c.budget → r < c.replicas
     → ((v : Verb) → due ≡ Some v → (is_of_place place v ≡ true) × Needs c r mine v) → (due ≡ None → (v : Verb) → is_of_place place v ≡ true → Needs c r mine v → ⊥) → Gives c r mine place due
 gives c r mine place due left inside given none = record {

@@ -7,7 +7,7 @@ use Rattle.mu_model.specs.declared.config.Config.{Config}
 use Rattle.mu_model.specs.declared.event.Event.{Event}
 use Rattle.mu_grant.specs.Pace.{IsAtPlace, places}
 
--- how many turns of its round came before the turn number i, where the background turns go round k places
+-- how many turns of its round came before the turn number i, if the background turns go round k places
 abbrev pub turns : ℕ → ℕ → ℕ
 turns k i = 2 * (i / 2 % k) + i % 2
 

@@ -38,7 +38,7 @@ at_due c r d past verb m is = go m.due refl
     go None none = absurd (true≢false (sym is ∙ m.idle none))
     go (Some v) some = rw (m.made v some) (m.gives.given v some)
 
--- where a verb of the place is allowed, one of the place is made
+-- if a verb of the place is allowed, one of the place is made
 is_made : (c : Config) (r d : ℕ) (past : List Event) (verb wanted : Verb) → MakesDue c r past d verb → is_of_place d wanted ≡ true → Allowed c r past wanted → is_of_place d verb ≡ true
 is_made c r d past verb wanted m of may = go m.due refl
   where
@@ -51,7 +51,7 @@ has_to : (c : Config) (r by d : ℕ) (verb : Verb) (answer : Answer) (past : Lis
 has_to c r by d verb answer past t low at wanted of needs =
     is_made c r d past verb wanted (t.turn.host d (omega arith) (place_at c (host_place c d) past (omega arith))) of (record { budget = t.left; replica = t.inside; may = needs })
 
--- where no verb of the host is made at a place of the host, none of the place was allowed
+-- if no verb of the host is made at a place of the host, none of the place was allowed
 idles : (c : Config) (r by d : ℕ) (verb : Verb) (answer : Answer) (past : List Event) → IsTurn c r by verb answer past → is_host_verb verb ≡ false → d < 4 → position c past ≡ 4 * c.replicas + 2 * d → (wanted : Verb) → is_of_place d wanted ≡ true → Needs c r past wanted → true ≡ false
 idles c r by d verb answer past t idle low at wanted of needs = sym (of_host d verb (has_to c r by d verb answer past t low at wanted of needs)) ∙ idle
 
@@ -75,14 +75,14 @@ host_turn c r by verb answer past t is =
 own_is : (c : Config) (r by : ℕ) (verb : Verb) (answer : Answer) (past : List Event) → IsTurn c r by verb answer past → (by == r) ≡ true
 own_is c r by verb answer past t = eq-eqb by r t.turn.own
 
--- where a `Close` is pending and what it named is drained, somebody may be granted to
+-- if a `Close` is pending and what it named is drained, somebody may be granted to
 grant_needs : (c : Config) (r : ℕ) (past : List Event) → IsReady c r past → 4 * c.replicas + 5 ≤ position c past → fence_closing r past ≡ true → (w : ℕ) × Needs c r past (Verb.Grant w)
 grant_needs c r past ready late closing =
     let some = ready.waited closing in
     let first = least c.replicas (has_unserved_ask r past) (not_all c.replicas some.0 (has_unserved_ask r past) some.1 some.2) in
     (first.0, (first.1, closing, ready.drained late, first.2))
 
--- where no verb of the host is made, no `Close` is left pending past the place of grants
+-- if no verb of the host is made, no `Close` is left pending past the place of grants
 rests : (c : Config) (r by : ℕ) (verb : Verb) (answer : Answer) (past : List Event) (now : ℕ) → IsTurn c r by verb answer past → IsReady c r past → is_host_verb verb ≡ false
     → IsNext c.replicas (position c past) now → (now ≤ 4 * c.replicas) ⊎ (4 * c.replicas + 7 ≤ now) → fence_closing r past ≡ false
 rests c r by verb answer past now t ready idle (inr round) there = let last = round.0 in ready.rested (inr (omega arith))
@@ -96,7 +96,7 @@ rests c r by verb answer past now t ready idle (inl up) (inr high) = elim (cases
     go at false is = refl
     go at true is = let grant = grant_needs c r past ready (omega arith) is in idles c r by 3 verb answer past t idle (omega arith) at (Verb.Grant grant.0) refl grant.1
 
--- where no verb of the host is made, no look at the target is passed over
+-- if no verb of the host is made, no look at the target is passed over
 looks : (c : Config) (r by : ℕ) (verb : Verb) (answer : Answer) (past : List Event) (now : ℕ) → IsTurn c r by verb answer past → IsReady c r past → is_host_verb verb ≡ false
     → IsNext c.replicas (position c past) now → 4 * c.replicas + 3 ≤ now → must_drain r past ≡ true → looked_since_close r past ≡ true
 looks c r by verb answer past now t ready idle (inr round) late must = let first = round.1 in absurd (omega arith)
@@ -109,7 +109,7 @@ looks c r by verb answer past now t ready idle (inl up) late must = elim (cases_
     go at true is = refl
     go at false is = sym (idles c r by 1 verb answer past t idle (omega arith) at Verb.LookTarget refl (must, is))
 
--- where no verb of the host is made, no drain is passed over
+-- if no verb of the host is made, no drain is passed over
 drains : (c : Config) (r by : ℕ) (verb : Verb) (answer : Answer) (past : List Event) (now : ℕ) → IsTurn c r by verb answer past → IsReady c r past → is_host_verb verb ≡ false
     → IsNext c.replicas (position c past) now → 4 * c.replicas + 5 ≤ now → must_drain r past ≡ true → drained_since_close r past ≡ true
 drains c r by verb answer past now t ready idle (inr round) late must = let first = round.1 in absurd (omega arith)
@@ -202,7 +202,7 @@ record IsPending (c : Config) (r w since : ℕ) (past : List Event) : Type 0 whe
   waiting : position c past ≤ 4 * c.replicas → has_unserved_ask r past w ≡ true
   closing : 4 * c.replicas + 1 ≤ position c past → fence_closing r past ≡ true
 
--- from the place of closing on a `Close` is pending, where the next event grants nothing
+-- from the place of closing on a `Close` is pending, if the next event grants nothing
 closes_now : (c : Config) (r w since by : ℕ) (verb : Verb) (answer : Answer) (past : List Event) → w < c.replicas → IsTurn c r by verb answer past → IsReady c r past → IsPending c r w since past
     → is_granting_verb verb ≡ false → 4 * c.replicas ≤ position c past → fence_closing r (event_by by verb answer ∷ past) ≡ true
 closes_now c r w since by verb answer past low t ready pending none late = elim (cases_lt (4 * c.replicas) (position c past)) [
@@ -212,7 +212,7 @@ closes_now c r w since by verb answer past low t ready pending none late = elim 
       (has_to c r by 0 verb answer past t (omega arith) (omega arith) Verb.Close refl (ready.rested (inl under), not_all c.replicas w (has_unserved_ask r past) low (pending.waiting under)))
 ]
 
--- the next event isn't at the place of grants, where it grants nothing
+-- the next event isn't at the place of grants, if it grants nothing
 grants_now : (c : Config) (r w since by : ℕ) (verb : Verb) (answer : Answer) (past : List Event) → IsTurn c r by verb answer past → IsReady c r past → IsPending c r w since past → is_granting_verb verb ≡ false → position c past ≤ 4 * c.replicas + 5
 grants_now c r w since by verb answer past t ready pending none = elim (cases_lt (position c past) (4 * c.replicas + 6)) [
   | inl under ↦ omega arith

@@ -19,7 +19,7 @@ waits_on r w by (Verb.ReadAsk q) (Answer.Number x) past own keeps other = rw (ow
 waits_on r w by (Verb.ReadAsk q) answer past own keeps other = refl
 waits_on r w by verb answer past own keeps other = refl
 
--- a pending `Close` stays pending where nothing is granted
+-- a pending `Close` stays pending if nothing is granted
 pub closing_on : (r by : ℕ) (verb : Verb) (answer : Answer) (past : List Event) → (by == r) ≡ true → is_granting_verb verb ≡ false → fence_closing r past ≡ true → fence_closing r (event_by by verb answer ∷ past) ≡ true
 closing_on r by (Verb.Grant q) answer past own keeps is = cc
 closing_on r by Verb.Close answer past own keeps is = rw own refl
@@ -70,7 +70,7 @@ least (suc n) test some = go (least n test) (all_below n (λ q. not (test q))) r
     go lower true is true last = (n, omega arith, rw (last, is) refl)
     go lower true is false last = absurd (true≢false (sym (subst (λ u. not u && all_below n (λ q. not (test q)) ≡ true) (sym last) is) ∙ some))
 
--- where one passes, not all fail
+-- if one passes, not all fail
 pub not_all : (n w : ℕ) (test : ℕ → Bool) → w < n → test w ≡ true → all_below n (λ q. not (test q)) ≡ false
 not_all n w test low is = go (all_below n (λ q. not (test q))) refl
   where

@@ -29,18 +29,18 @@ one_passes (suc n) w test all low = elim (cases_lt w n) [
   | inr above ↦ let same : n ≡ w = omega arith in subst (λ k. test k ≡ true) same (and_parts (test n) (all_below n test) all).0
 ]
 
--- all numbers up to p pass where p does and all below
+-- all numbers up to p pass if p does and all below
 pub all_more : (p : ℕ) (test : ℕ → Bool) → test p ≡ true → all_below p test ≡ true → all_below (p + 1) test ≡ true
 all_more p test one all =
     let next : suc p ≡ p + 1 = omega arith in
     subst (λ n. all_below n test ≡ true) next (rw (one, all) refl)
 
--- a test that fails where its opposite passes
+-- a test that fails if its opposite passes
 pub opposite : (t : Bool) → t ≡ true → not t ≡ true → true ≡ false
 opposite true is none = cc
 opposite false is none = cc
 
--- where one waits, not nobody does
+-- if one waits, somebody does
 pub somebody : (n r w : ℕ) (mine : List Event) → IsFirst n r mine w → nobody n r mine ≡ false
 somebody n r w mine first = go (nobody n r mine) refl
   where
@@ -48,7 +48,7 @@ somebody n r w mine first = go (nobody n r mine) refl
     go false is = refl
     go true is = opposite (has_unserved_ask r mine w) (and_parts (has_unserved_ask r mine w) _ first.1).0 (one_passes n w (λ q. not (has_unserved_ask r mine q)) is first.0)
 
--- the first that waits is found exactly where not nobody waits
+-- the first that waits is found exactly if somebody waits
 pub found_iff : (n r : ℕ) (mine : List Event) (found : Option ℕ) → ((w : ℕ) → found ≡ Some w → IsFirst n r mine w) → (found ≡ None → nobody n r mine ≡ true) → (is_some found ≡ true → nobody n r mine ≡ false) × (nobody n r mine ≡ false → is_some found ≡ true)
 found_iff n r mine None one none = (λ is. cc, λ is. absurd (true≢false (sym (none refl) ∙ is)))
 found_iff n r mine (Some w) one none = (λ is. somebody n r w mine (one w refl), λ is. refl)
@@ -72,7 +72,7 @@ pub found_is : (n r w : ℕ) (mine : List Event) (found : Option ℕ) → ((q : 
 found_is n r w mine None one none first = absurd (true≢false (sym (none refl) ∙ somebody n r w mine first))
 found_is n r w mine (Some q) one none first = ap Some (only_first n r w q mine first (one q refl))
 
--- where the look is due and an answer came that sees no fence, the look was made
+-- if the look is due and an answer came that sees no fence, the look was made
 pub look_was_due : (c : Config) (r : ℕ) (mine : List Event) (verb : Verb) (answer : Answer) → answers_host verb answer ≡ true → ((f : Fence) → answer ≢ Answer.Seen f) → LookedFirst r mine → Needs c r mine Verb.LookTarget → Needs c r mine verb → Verb.LookTarget ≡ verb
 look_was_due c r mine Verb.Close (Answer.Seen f) told other order look needs = absurd (other f refl)
 look_was_due c r mine Verb.LookTarget Answer.Done told other order look needs = refl
@@ -80,7 +80,7 @@ look_was_due c r mine Verb.Drain Answer.Done told other order look needs = absur
 look_was_due c r mine (Verb.Grant w) Answer.Done told other order look needs = absurd (true≢false (sym (order (needs.2 look.0)) ∙ look.1))
 look_was_due c r mine _ _ told other order look needs = cc
 
--- where the drain is due and an answer came that sees no fence, the drain was made
+-- if the drain is due and an answer came that sees no fence, the drain was made
 pub drain_was_due : (c : Config) (r : ℕ) (mine : List Event) (verb : Verb) (answer : Answer) → answers_host verb answer ≡ true → ((f : Fence) → answer ≢ Answer.Seen f) → Needs c r mine Verb.Drain → Needs c r mine verb → Verb.Drain ≡ verb
 drain_was_due c r mine Verb.Close (Answer.Seen f) told other drain needs = absurd (other f refl)
 drain_was_due c r mine Verb.LookTarget Answer.Done told other drain needs = absurd (true≢false (sym drain.1 ∙ needs.1))
@@ -88,7 +88,7 @@ drain_was_due c r mine Verb.Drain Answer.Done told other drain needs = refl
 drain_was_due c r mine (Verb.Grant w) Answer.Done told other drain needs = absurd (true≢false (sym (needs.2 drain.0) ∙ drain.2))
 drain_was_due c r mine _ _ told other drain needs = cc
 
--- where neither is due and an answer came that sees no fence, a grant was made
+-- if neither is due and an answer came that sees no fence, a grant was made
 pub grant_was_due : (c : Config) (r : ℕ) (mine : List Event) (verb : Verb) (answer : Answer) → answers_host verb answer ≡ true → ((f : Fence) → answer ≢ Answer.Seen f) → (Needs c r mine Verb.LookTarget → true ≡ false) → (Needs c r mine Verb.Drain → true ≡ false) → Needs c r mine verb → (w : ℕ) × (verb ≡ Verb.Grant w) × Needs c r mine (Verb.Grant w)
 grant_was_due c r mine Verb.Close (Answer.Seen f) told other look drain needs = absurd (other f refl)
 grant_was_due c r mine Verb.LookTarget Answer.Done told other look drain needs = absurd (true≢false (look needs))

@@ -86,7 +86,7 @@ is_noted Verb.Drain _ = true
 is_noted (Verb.Grant w) _ = true
 is_noted _ _ = false
 
--- an event of any other kind changes nothing of what the state stands for
+-- an event of any other kind leaves what the state stands for
 abbrev pub OthersKeep : Type 0
 OthersKeep =
     (n r : ℕ) (mine : List Event) (state : Grants) (event : Event)

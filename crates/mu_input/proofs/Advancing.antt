@@ -135,7 +135,7 @@ events_advance replicas events number (line ∷ text) = by_test (λ events. even
     by_test again true = omega arith
     by_test again false = by_event again (event_of replicas (words line))
 
--- so many lines are left after a job
+-- this many lines are left after a job
 pub job_leaves : (left after : Left) (job : Job) → job_at left ≡ Begins job after → after.number + length after.lines ≡ left.number + length left.lines
 job_leaves left after job is = subst (Advances left) is (job_advances left)
 

@@ -83,7 +83,7 @@ client_count-push count (first ∷ commands) command = client_count-push (cond (
 count-last : (count clients : ℕ) (command : Request) → count ≤ clients → 0 < clients → command.client ≡ clients - 1 → cond (nat_le count command.client) (command.client + 1) count ≡ clients
 count-last count clients command few some is = grind (arith, nat_tests)
 
--- after the lines of so many clients, these commands were read
+-- after the lines of this many clients, these commands were read
 abbrev Reads : ℕ → List Request → Type 0
 Reads clients commands = (number : ℕ) (rest : List (List ℕ)) → body_from 0 [] number (client_lines commands 0 clients ++ rest) ≡ body_from clients commands (number + length (client_lines commands 0 clients)) rest
 

@@ -13,7 +13,7 @@ use Rattle.mu_input.specs.Bodies.{next_command}
 abbrev pub AreOf : ℕ → List Request → Type 0
 AreOf clients commands = All (λ (command : Request). command.client < clients) commands
 
--- so many clients, of which the last has so many of the commands
+-- this many clients, the last of which has `count` of the commands
 pub record IsBody (clients count : ℕ) (commands : List Request) : Type 0 where
   pub few_clients : clients ≤ 16
   pub few : length commands ≤ 1500

@@ -27,7 +27,7 @@ pub if_none : {A : Type 0} {P : Type 0} (found : Option A) → (found ≡ None �
 if_none None so = so refl
 if_none (Some a) so = tt
 
--- where no client too many begins, each command has a sender
+-- if no client too many begins, each command has a sender
 senders_from : (clients : ℕ) (commands : List Request) (number : ℕ) (text : List (List ℕ)) → clients ≤ MOST_SENDERS → HaveSenders commands → beyond_from clients (length commands) number text ≡ None
     → Gives (λ (b : Body). HaveSenders b.commands) (body_from clients commands number text)
 senders_from clients commands number [] few all none = tt

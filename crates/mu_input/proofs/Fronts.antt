@@ -1,4 +1,4 @@
--- What holds of what lines begin with, part by part.
+-- Facts about what lines begin with, part by part.
 use Rattle.std.proofs.Common.{◌≡◌, ℕ, List, [], ◌∷◌, ap, subst, ◌∙◌}
 use Rattle.std.specs.Bool.{⊤}
 use Rattle.mu_text.specs.Lines.{Left}

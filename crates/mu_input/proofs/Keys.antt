@@ -27,6 +27,6 @@ chosen false bytes None is same = refl
 chosen true bytes (Some word) is same = ap Some same
 chosen false bytes (Some word) is same = cc
 
--- what makes a word of bytes exactly where they are one makes it where the test passes
+-- what makes a word of bytes exactly if they are one makes it if the test passes
 pub word-made : (most : ℕ) (bytes : List ℕ) (made : Option (List ℕ)) → IsSome made ↔ IsWord most bytes → IfSome made (λ word. word ≡ bytes) → made ≡ cond (is_word most bytes) (Some bytes) None
 word-made most bytes made iff same = chosen (is_word most bytes) bytes made (same_from_decides (is_some made) (is_word most bytes) iff (is_word-Decides most bytes)) same

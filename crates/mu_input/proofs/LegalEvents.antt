@@ -21,7 +21,7 @@ enters c r past (verb.Enter p target.Min) needs = tt
 enters c r past (verb.Enter p (target.Place s)) needs = tt
 enters c r past _ needs = tt
 
--- made by a replica that there is, and for a word where it enters
+-- made by a replica that there is, and for a word if it enters
 abbrev IsMade : Config → Event → Type 0
 IsMade c event = (event.by < c.replicas) × EntersForWord event.verb
 

@@ -84,7 +84,7 @@ operation-back (Del key) is = judged-is key true (Del key) is refl
 operation-back (Swap key text) is = judged-is key (is_text text) (Swap key text) is.0 is.1
 operation-back (Cas key old new) is = judged-is key (is_short_text old && is_short_text new) (Cas key old new) is.0 (and_from (is_short_text old) (is_short_text new) is.1 is.2)
 
--- what a line of an operation says after so many clients and commands
+-- what a line of an operation says after this many clients and commands
 abbrev asked : ℕ → ℕ → Line Op → Line BodyLine
 asked clients commands said = cond (clients == 0) (Wrong CLIENT) (operation_line commands said)
 
@@ -101,7 +101,7 @@ pieces-back clients commands (Del key) = refl
 pieces-back clients commands (Swap key text) = refl
 pieces-back clients commands (Cas key old new) = refl
 
--- a line of an operation is read back, where it has a client and room
+-- a line of an operation is read back, if it has a client and room
 pub operation_line-back : (clients commands : ℕ) (op : Op) → IsJudged op → 0 < clients → commands < MOST_COMMANDS → body_line clients commands (words (op_words op)) ≡ Says (body.Operation op)
 operation_line-back clients commands op is some room =
     ap (body_line clients commands) (op-spells op is).alone ∙ pieces-back clients commands op ∙ ap (asked clients commands) (operation-back op is) ∙ asked-is clients commands op some room
@@ -125,7 +125,7 @@ script-back clients commands = ap (body_line clients commands) (Spells-word (cod
 pub end-back : (clients commands : ℕ) → body_line clients commands (words (codes "end")) ≡ Says body.End
 end-back clients commands = ap (body_line clients commands) (Spells-word (codes "end") (written (codes "end") refl)).alone
 
--- what holds of what a line says after so many clients and commands
+-- facts about what a line says after this many clients and commands
 abbrev pub HasPlace : ℕ → ℕ → BodyLine → Type 0
 HasPlace clients commands body.Client = clients < MOST_CLIENTS
 HasPlace clients commands (body.Operation op) = (0 < clients) × (commands < MOST_COMMANDS) × IsJudged op

@@ -37,7 +37,7 @@ of_stop stop = stop.replica
 abbrev of_pause : Pause → ℕ
 of_pause pause = pause.replica
 
--- one of so many replicas stops or pauses as a line may say
+-- one of this many replicas stops or pauses as a line may say
 pub record IsStop (replicas : ℕ) (stop : Stop) : Type 0 where
   pub known : stop.replica < replicas
   pub steps : stop.steps ≤ MOST_STEPS

@@ -43,7 +43,7 @@ pub const EVENT: u8 = 13;
 /// The commands of a batch.
 pub const BATCH: u8 = 15;
 
-/// Told by a desk alone: a job of version 2, or more clients than a desk serves.
+/// Only a desk tells it: a job of version 2, or more clients than a desk serves.
 pub const SENDERS: u8 = 16;
 
 /// Each cause is the number that is stated here.

@@ -93,14 +93,14 @@ judged_some bytes rest trace a b c legal taken p is q = record {
   short = q.short;
 }
 
--- the first trace ends at the first separator, and is the whole where there is none
+-- the first trace ends at the first separator, and is the whole if there is none
 pub first_cut : (rest trace more : List ℕ) → cut rest ≡ Some (trace, more) → first_trace rest ≡ trace
 first_cut rest trace more is = ap (λ parts. option_map_or (λ (p : List ℕ × List ℕ). p.0) parts rest) is
 
 pub first_whole : (rest : List ℕ) → cut rest ≡ None → first_trace rest ≡ rest
 first_whole rest is = ap (λ parts. option_map_or (λ (p : List ℕ × List ℕ). p.0) parts rest) is
 
--- where its line was not written whole
+-- if its line was not written whole
 pub judged_some_of : {T : Type 0} (bytes rest trace : List ℕ) (a b c : Option (List ℕ)) (legal : Bool) (r : Result T WriteFault) → JudgedUpTo bytes rest a b legal
     → first_trace rest ≡ trace → IfErr r (λ fault. JudgesPart trace b c fault.taken) → IfErr r (λ fault. JudgesSome bytes a c fault.taken)
 judged_some_of bytes rest trace a b c legal (Ok x) p is q = tt

@@ -128,7 +128,7 @@ few_counted c start past judge held = by_broken judge.broken held.explains held.
         let front = length-take-le found.index past (omega (arith, within)) in
         omega (arith, few, count, front)
 
--- what is said of all events of a trace is what there is to say of the trace
+-- the answer on all events of a trace is the answer on the trace
 pub told_as_a_whole : (bytes : List ℕ) (spelled : Trace) (start : ℕ) (judge : LineJudge) → length bytes ≤ TRACE_LIMIT → trace bytes ≡ Fits spelled → length (lines bytes) ≡ start + length spelled.events
     → HasTaken spelled.job.config start spelled.events judge → IsExplained bytes (length spelled.events) (start + judge.events) judge.broken
 told_as_a_whole bytes spelled start judge limit fits count held =

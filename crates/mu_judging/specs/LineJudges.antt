@@ -20,7 +20,7 @@ use Rattle.mu_reasons.specs.declared.fault.Broken.{Broken}
 use Rattle.mu_report.specs.declared.said.Said.{Said}
 use Rattle.mu_text.specs.Lines.{lines, words}
 
--- the events of what may be one
+-- what may be an event as a list: none or one
 abbrev pub list_of : Option Event → List Event
 list_of None = []
 list_of (Some event) = event ∷ []

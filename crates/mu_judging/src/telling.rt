@@ -14,7 +14,7 @@ use mu_report::Said;
 use mu_telling::account_of;
 use std::alloc::Global;
 
-/// What is said of what the events of a trace come to: `Told` exactly if they are legal; else what
+/// The answer on what the events of a trace come to: `Told` exactly if they are legal; else what
 /// [`explain_trace`](crate::explain_trace) says. `NoMemory` for want of memory.
 pub fn tell_trace(alloc: Global, bytes: &[u8]) -> Said
     requires { length bytes.now ≤ TRACE_LIMIT }

@@ -5,7 +5,7 @@ use Rattle.std.specs.declared.option.Option.{Option}
 use Rattle.std.proofs.lemmas.Bool.{cases_eq, cases_lt}
 use Rattle.mu_known.specs.Offers.{IsFirst, first_in, first_of}
 
--- where the number before does not pass
+-- if the number before does not pass
 earlier : (test : ℕ → Bool) (from n : ℕ) (o : Option ℕ) → test from ≡ false → IsFirst test (from + 1) n o → IsFirst test from n o
 earlier test from n None fails none = λ k low high. elim (cases_eq k from) [
   | inl same ↦ ap test same ∙ fails

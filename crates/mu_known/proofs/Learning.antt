@@ -34,7 +34,7 @@ rows_length : (n j : ℕ) → length (rows_from n j) ≡ n
 rows_length zero j = refl
 rows_length (suc n) j = ap suc (rows_length n (j + 1))
 
--- a client has at most so many of so many rows
+-- at most n of n rows are of one client
 pub few_of_rows : (c : Config) (client n j : ℕ) → length (numbers_in c client (rows_from n j)) ≤ n
 few_of_rows c client n j = let fit = numbers_fit c client (rows_from n j) in let long = rows_length n j in omega arith
 
@@ -50,7 +50,7 @@ few_of_entry c client v good = go (is_batch c v) refl
         omega arith
     go false is = omega arith
 
--- so many values hold at most four times as many commands
+-- values hold at most four times as many commands as they are
 pub few_commands : (c : Config) (client : ℕ) (values : List ℕ) → IsConfig c → command_count c client values ≤ 4 * length values
 few_commands c client [] good = omega arith
 few_commands c client (v ∷ values) good =

@@ -33,7 +33,7 @@ told tells x (e ∷ past) h = go (tells e.verb e.answer) refl h (told tells x pa
     go None k m ih = ih m
     go (Some y) k m ih = record { verb = e.verb; answer = e.answer; is = k ∙ m }
 
--- where a step that tells something passed, something is told
+-- if a step that tells something passed, something is told
 telling : (tells : Verb → Answer → Option ℕ) (test : Verb → Answer → Bool) → ((verb : Verb) (answer : Answer) → test verb answer ≡ true → (x : ℕ) × (tells verb answer ≡ Some x))
     → (past : List Event) → has (λ e. test e.verb e.answer) past ≡ true → (x : ℕ) × (newest (λ e. tells e.verb e.answer) past ≡ Some x)
 telling tells test f [] h = absurd (true≢false (sym h))
@@ -90,7 +90,7 @@ choice_is c events i v h = (found, finds)
         let y = choice_is_chosen c i z.0 (history events) t.verb t.answer t.is in
         z.1 ∙ ap (λ x. Some x) (at_most_one_chosen_law c events i z.0 v h y k)
 
--- where a put shows a mark to be chosen, one is
+-- if a put shows a mark to be chosen, one is
 mark_is_chosen : (c : Config) (q i : ℕ) (past : List Event) (verb : Verb) (answer : Answer) → choice_of_mark c past q verb answer ≡ Some i → IsMarkedAt c q past i
 mark_is_chosen c q i past (Verb.PutSlot p j b w) Answer.Done h =
     let k = cond_some (is_mark c q w && is_chosen_by c past j b w) j i h in

@@ -31,7 +31,7 @@ AreMarkedOnce c values =
     (q i j v w : ℕ) → slice_get values i ≡ Some v → slice_get values j ≡ Some w
     → is_mark c q v ≡ true → is_mark c q w ≡ true → i ≡ j
 
--- of what any two replicas know, one list begins the other
+-- any two replicas know lists one of which begins the other
 abbrev pub KnownListsAgree : Config → List Event → Type 0
 KnownListsAgree c events =
     (r s : ℕ)

@@ -36,7 +36,7 @@ may_confirm c r p mine at = (at.region, at.fresh.begun)
 pub may_read_min : (c : Config) (r p : ℕ) (mine : List Event) → AtReadMin c r mine p → Needs c r mine (Verb.Min p)
 may_read_min c r p mine at = (at.region, at.granted, at.telling.fresh.goes_on)
 
--- where all noted regions told their minimum, a majority with the own did
+-- if all noted regions told their minimum, a majority with the own did
 all_told : (c : Config) (r : ℕ) (mine : List Event) → r < c.replicas → Confirmed c r mine → ((p : ℕ) → p < c.replicas → is_some (noted_grant r p mine) ≡ true → has_read_min r p mine ≡ true) → has_confirmed_majority c r mine ≡ true
 all_told c r mine own confirmed told =
     let more = count_more c.replicas (λ p. is_some (noted_grant r p mine)) (λ p. has_read_min r p mine) told in
@@ -118,7 +118,7 @@ may_put_behind c r b p mine up reach then possible brought reached at =
       },
     )
 
--- all below a position are filled where the region has all below a greater one
+-- all below a position are filled if the region has all below a greater one
 filled_below : (c : Config) (r p u v : ℕ) (mine : List Event) → v ≤ u → Brought c r mine p u → all_below v (is_filled c r p mine) ≡ true
 filled_below c r p u v mine low brought = each_all v (is_filled c r p mine) (λ j l. brought.filled j (omega (arith, l, low)))
 

@@ -39,14 +39,14 @@ may_unconfirmed c r mine unread rounds =
     let all = each_all c.replicas (λ q. nat_le 16 (how_many (is_fencing q) (leadership r mine))) (λ q low. le-leb 16 (how_many (is_fencing q) (leadership r mine)) (rounds q low)) in
     or_right (not (has_begun r mine)) _ (or_right (is_over r mine) _ (or_right (was_unnamed c r mine) _ (and_from (not (has_min r mine)) _ (not_from_false (has_min r mine) unread) all)))
 
--- where it is led on no ask is next
+-- if it is led on no ask is next
 led_causes : (c : Config) (r : ℕ) (now : List Event) (place : Place) → leads_at place ≡ true → CausesAt c r now place
 led_causes c r now (Place.Ask p) leading = absurd (true≢false (sym leading))
 led_causes c r now (Place.Confirm round p) leading = absurd (true≢false (sym leading))
 led_causes c r now (Place.Evidence p) leading = absurd (true≢false (sym leading))
 led_causes c r now place leading = tt
 
--- where it is over one has a cause
+-- if it is over one has a cause
 ended_causes : (c : Config) (r : ℕ) (now : List Event) (place : Place) → is_over r now ≡ true → ends_at place ≡ true → CausesAt c r now place
 ended_causes c r now (Place.Ask p) over ends = record { first = λ first. may_over c r now over; later = λ other. absurd (other (eqb-true p 0 ends)) }
 ended_causes c r now (Place.Evidence p) over ends = over
@@ -221,7 +221,7 @@ causes_beside c r mine leading (Place.Confirm round p) verb a beside at = record
 }
 causes_beside c r mine leading place verb a beside at = at
 
--- and where another is named before a turn of the leader, r has left
+-- and if another is named before a turn of the leader, r has left
 left_now : (t n u : Bool) → t ≡ true → n ≡ false → (if t && not n then true else u) ≡ true
 left_now t n u turn unnamed = rw (turn, unnamed) refl
 

@@ -40,7 +40,7 @@ none_committed (Note.Committed i v) committed adopted = absurd (true≢false com
 none_committed (Note.Adopted i v) committed adopted = absurd (true≢false adopted)
 none_committed note committed adopted = refl
 
--- where an entry was shown not all looks were empty
+-- if an entry was shown not all looks were empty
 has_more : (f g : Event → Bool) (xs : List Event) → ((e : Event) → f e ≡ true → g e ≡ true) → has f xs ≡ true → has g xs ≡ true
 has_more f g [] more is = is
 has_more f g (e ∷ xs) more is = go (f e) refl is (has_more f g xs more)

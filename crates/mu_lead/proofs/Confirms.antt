@@ -24,7 +24,7 @@ use Rattle.mu_lead.specs.Confirming.{Confirmed}
 use Rattle.mu_lead.specs.Going.{begins_at}
 use Rattle.mu_lead.proofs.RoomsMin.{min_now}
 
--- where a minimum was read it holds at each place
+-- if a minimum was read it holds at each place
 pub anywhere : (c : Config) (r : ℕ) (mine : List Event) (place : Place) → HasRead c r mine → ConfirmsAt c r mine place
 anywhere c r mine (Place.Ask p) at = at.none
 anywhere c r mine (Place.Confirm round p) at = kinds_of_step.closed (confirming c r) (c.replicas - p + 1) mine at.none
@@ -65,7 +65,7 @@ pub unconfirmed_fence : (c : Config) (r p : ℕ) (a : Answer) (mine : List Event
     → NoneIsAwaited c r (event_by r (Verb.Fence p) a ∷ mine)
 unconfirmed_fence c r p a mine turn none = countdowns_run.confirms.unconfirmed c r mine (event_by r (Verb.Fence p) a) turn refl none
 
--- a leadership is confirmed where the noted regions are a majority with r
+-- a leadership is confirmed if the noted regions are a majority with r
 pub is_majority : (c : Config) (r : ℕ) (mine : List Event) → is_confirmed c r mine ≡ true → Confirmed c r mine
 is_majority c r mine is =
     let parts = and_parts (is_some (noted_grant r r mine)) _ is in

@@ -108,7 +108,7 @@ first_low r p y (e ∷ past) is = go e.by e.verb e.answer (oldest (λ f. fuo_rea
     go by (Verb.Fuo q) (Answer.Number x) rest n before is = either_low (cond ((by == r) && (q == p)) (Some x) None) rest n before is
     go by v a rest n before is = more_low (fuo_read_or_raised r p by v a) n (before is)
 
--- where one that was read under a grant is at most u the first one is
+-- if one that was read under a grant is at most u the first one is
 first_at_most : (c : Config) (r p g u : ℕ) (mine : List Event) → IsPossible c r mine → is_at_most u (fuo_under r p g (leadership r mine)) ≡ true → is_at_most u (first_fuo r p mine) ≡ true
 first_at_most c r p g u [] possible is = absurd (true≢false (sym is))
 first_at_most c r p g u (e ∷ mine) possible is = go (begins_leadership r e) is (first_at_most c r p g u mine (parts_shorten_law c r mine e possible).before)
@@ -147,7 +147,7 @@ first_at_most c r p g u (e ∷ mine) possible is = go (begins_leadership r e) is
     go true is before = absurd (true≢false (sym is))
     go false is before = by_read (fuo_read r p e.by e.verb e.answer) (has (λ f. grant_seen r p g f.by f.verb f.answer) (leadership r mine)) refl is before
 
--- so it is where the FUO was read under the noted grant
+-- so it is if the FUO was read under the noted grant
 pub first_read : (c : Config) (r p g u : ℕ) (mine : List Event) → IsPossible c r mine → noted_grant r p mine ≡ Some g → IsRead r mine p u → is_at_most u (first_fuo r p mine) ≡ true
 first_read c r p g u mine possible noted read = first_at_most c r p g u mine possible (read g noted)
 
@@ -180,7 +180,7 @@ none_first : (t rest : Bool) → cond t true rest ≡ false → rest ≡ false
 none_first true rest none = absurd (true≢false none)
 none_first false rest none = none
 
--- where nothing was put from u on the puts end at u
+-- if nothing was put from u on the puts end at u
 pub puts_low : (r p u : ℕ) (past : List Event) → ((j : ℕ) → u ≤ j → has (λ e. is_put_at r p j e.by e.verb) past ≡ false) → put_end r p past ≤ u
 puts_low r p u [] none = omega arith
 puts_low r p u (e ∷ past) none = go e.by e.verb e.answer none (puts_low r p u past (λ j high. none_first (is_put_at r p j e.by e.verb) (has (λ f. is_put_at r p j f.by f.verb) past) (none j high)))
@@ -197,7 +197,7 @@ puts_low r p u (e ∷ past) none = go e.by e.verb e.answer none (puts_low r p u 
         at_p false t here = low
     go by v a none low = low
 
--- nothing was put where no value was
+-- nothing was put if no value was
 pub none_put : (r p j : ℕ) (past : List Event) → oldest (λ e. value_put r j e.by e.verb) past ≡ None → has (λ e. is_put_at r p j e.by e.verb) past ≡ false
 none_put r p j [] none = refl
 none_put r p j (e ∷ past) none = go e.by e.verb none (none_put r p j past)
@@ -220,7 +220,7 @@ none_put r p j (e ∷ past) none = go e.by e.verb none (none_put r p j past)
 pub clear_all : (r : ℕ) (mine : List Event) (up : List ℕ) → HasPutNone r mine → IsClear r mine up
 clear_all r mine up unput q j member low = none_put r q j (leadership r mine) (unput j)
 
--- where every member has all below n, and nothing was put from n on
+-- if every member has all below n, and nothing was put from n on
 pub clear_above : (r n : ℕ) (mine : List Event) (up : List ℕ) → ((j : ℕ) → n ≤ j → first_value r j mine ≡ None) → ((q : ℕ) → is_member r q mine ≡ true → n ≤ get_or up q 0) → IsClear r mine up
 clear_above r n mine up unput have q j member low = none_put r q j (leadership r mine) (unput j (let all = have q member in omega (arith, all, low)))
 

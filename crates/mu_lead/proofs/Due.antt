@@ -84,7 +84,7 @@ due_allowed mine l verb s possible short is = record {
   may = needs_at l.config l.id l.number mine l.up l.reach l.heads l.written.items l.place verb s.config s.inside possible s.tables s.at is;
 }
 
--- what is due, where something is, is allowed
+-- what is due, if something is, is allowed
 pub due_fits : (mine : List Event) (l : Lead) (values : List ℕ) (due : Option Verb) → StandsFor mine l → IsPossible l.config l.id mine → length mine < l.config.budget → values ≡ known l.config l.id mine → due ≡ verb_of l values → IfSome due (λ verb. Allowed l.config l.id mine verb)
 due_fits mine l values None s possible short same is = tt
 due_fits mine l values (Some verb) s possible short same is = due_allowed mine l verb s possible short (ap (verb_of l) (sym same) ∙ sym is)

@@ -36,7 +36,7 @@ quiet_now c r mine e turn none = record {
   fences = λ q. countdowns_run.asks.rests c r (is_fencing q) mine e turn none;
 }
 
--- it has none where it leads, where another is named, and where all is known
+-- it has none if it leads, if another is named, and if all is known
 idle_led : (a b l : Bool) → l ≡ true → (a && (not b && not l)) ≡ false
 idle_led a b true is = and_right a (not b && false) (and_right (not b) false refl)
 idle_led a b false is = absurd (true≢false (sym is))
@@ -232,7 +232,7 @@ left_less c r left mine e at = record {
   fences = λ q there. one_less (since_fence c r q mine) (since_fence c r q (e ∷ mine)) left (17 * c.replicas) (fence_step c r q mine e) (at.fences q there);
 }
 
--- where the leadership has just ended
+-- if the leadership has just ended
 just_asks : (a b q n p : ℕ) → b ≤ a + 1 → a + 17 * n ≤ 17 * n → q < n → b + q < 17 * n + p
 just_asks a b q n p step none low = omega arith
 
@@ -270,7 +270,7 @@ reads_on c r now (Place.ReadMin p) reads some rests alone left = record {
 reads_on c r now Place.Rest reads some rests alone left = absurd (true≢false (sym ((rests refl).members 0 some) ∙ alone))
 reads_on c r now place reads some rests alone left = absurd (true≢false (sym reads))
 
--- no leadership is over where it leads
+-- no leadership is over if it leads
 pub leads_on : (c : Config) (r b : ℕ) (mine : List Event) (up : List ℕ) (reach : List (Option ℕ)) (written : List ℕ) (verb : Verb) (values : List ℕ) (place : Place) → leads_at place ≡ true → verb_at c b values up written place ≡ Some verb
     → At c r b mine up reach written place → is_over r mine ≡ false
 leads_on c r b mine up reach written verb values (Place.Ask p) leading due at = absurd (true≢false (sym leading))

@@ -121,7 +121,7 @@ elects_beside c r mine leading place verb answer off beside at =
     let e = event_by r verb answer in
     elects_same c r mine (e ∷ mine) place (λ q. countdowns_run.asks.beside c r (is_asking q) mine e off) (λ q. countdowns_run.asks.beside c r (is_fencing q) mine e off) (min_beside r leading verb answer mine beside) at
 
--- and in a turn of the leader, where another is named or nothing is due
+-- and in a turn of the leader, if another is named or nothing is due
 elects_unnamed : (c : Config) (r : ℕ) (mine : List Event) (old new : Place) (leading : Bool) (verb : Verb) (answer : Answer) → is_replication mine (event_by r verb answer) ≡ true → is_named c r mine ≡ false → is_beside leading verb ≡ true
     → (new ≡ old) ⊎ (new ≡ Place.Ask 0) → ElectsAt c r mine old → ElectsAt c r (event_by r verb answer ∷ mine) new
 elects_unnamed c r mine old new leading verb answer turn unnamed beside goes at =

@@ -23,7 +23,7 @@ pub other_members : (c : Config) (r : ℕ) (now : List Event) (heads : List ℕ)
 other_members c r now heads Then.Late not = absurd (not refl)
 other_members c r now heads on not = refl
 
--- a region is brought up where its ring reaches, or its FUO is raised first
+-- a region is brought up if its ring reaches, or its FUO is raised first
 place_by : (t : Bool) (x y : Place) → not t ≡ true → y ≡ (if t then x else y)
 place_by true x y is = absurd (true≢false (sym is))
 place_by false x y is = refl

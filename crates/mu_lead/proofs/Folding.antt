@@ -54,7 +54,7 @@ number_is : (r b : ℕ) (mine : List Event) (o : Option ℕ) → r < 8 → numbe
 number_is r b mine (Some first) small allowed = allowed
 number_is r b mine None small allowed = least_is r (greatest (λ e. any_min_read r e.by e.verb e.answer) (leadership r mine)) (greatest (λ e. number_put r e.by e.verb) mine) b small allowed.0 allowed.1 allowed.2 allowed.3 allowed.4
 
--- the verb of a place names the journal's number, where it names one
+-- the verb of a place names the journal's number, if it names one
 same_number_verb : (c : Config) (r b : ℕ) (mine : List Event) (values up : List ℕ) (reach : List (Option ℕ)) (written : List ℕ) (place : Place) → r < 8 → At c r b mine up reach written place → verb_at c b values up written place ≡ verb_at c (number_due r mine) values up written place
 same_number_verb c r b mine values up reach written place small at = go place at
   where
@@ -74,7 +74,7 @@ same_number_place : (c : Config) (r b : ℕ) (mine now : List Event) (up : List 
 same_number_place c r b mine now up reach written t a (Place.LateMin p) at = ap (λ o. next_place c r (or_zero o) now t a (Place.LateMin p)) (sym at.late.level.leads.numbered)
 same_number_place c r b mine now up reach written t a place at = refl
 
--- a replication step of r, where it is named and where it isn't
+-- a replication step of r, if it is named and if it isn't
 led_place : (c : Config) (r : ℕ) (mine : List Event) (e : Event) → is_replication mine e ≡ true → is_named c r mine ≡ true → place_after c r (e ∷ mine) ≡ next_place c r (or_zero (proposal_number r mine)) (e ∷ mine) (tables_at c r (e ∷ mine)) e.answer (place_after c r mine)
 led_place c r mine e turn named = rw (turn, named) refl
 
@@ -153,7 +153,7 @@ goes_off : (was : Bool) (note : Note) → going_after was note ≡ false → (is
 goes_off was (Note.Aborted cause) off = inl refl
 goes_off was note off = inr off
 
--- where it does, the leader asks anew
+-- if it does, the leader asks anew
 aborts_anew : (mine : List Event) (old : Lead) (values : List ℕ) (answer : Answer) (note : Note) (verb : Verb) (t : Tables) → StandsFor mine old → NotesNext mine old values answer note → verb_of old (known old.config old.id mine) ≡ Some verb
     → IsPossible old.config old.id (event_by old.id verb answer ∷ mine) → values ≡ known_told old.config old.id mine old.id verb answer → is_aborted note ≡ true → next_place old.config old.id old.number (event_by old.id verb answer ∷ mine) t answer old.place ≡ Place.Ask 0
 aborts_anew mine old values answer note verb t s noted due possible told aborted = go note refl aborted
@@ -235,7 +235,7 @@ where_left c r named mine old new told low at = record { place = told.place ∙ 
         by_place true first = rw is refl
         by_place false first = first
 
--- a beat in its turn leaves it at the first ask, where another is named, and where it rests
+-- a beat in its turn leaves it at the first ask, if another is named, and if it rests
 pub where_unnamed : (c : Config) (r : ℕ) (mine : List Event) (l : Lead) (answer : Answer) → is_replication mine (beat_of r answer) ≡ true → is_named c r mine ≡ false → HasLeft c r mine l → IsWhere c r (beat_of r answer ∷ mine) l
 where_unnamed c r mine l answer turn other left = record {
   place = left.place ∙ sym (unnamed_place c r mine (beat_of r answer) turn other);

@@ -56,7 +56,7 @@ number_there c j (i ∷ rows) there = go (i == j) refl there (number_there c j r
     go true is there rest = here i (eqb-true i j is)
     go false is there rest = later (client_of c i == client_of c j) (rest there)
 
--- where no client has a number twice no row is there twice
+-- if no client has a number twice no row is there twice
 rows_apart : (c : Config) (rows : List ℕ) → ((client : ℕ) → AreApart (numbers_in c client rows)) → AreApart rows
 rows_apart c [] apart = tt
 rows_apart c (x ∷ rows) apart = (go (includes x rows) refl, rows_apart c rows (λ client. less client (client_of c x == client) (apart client)))
@@ -179,7 +179,7 @@ long_enough (suc n) xs all =
     let rest = long_enough n (without n xs) (λ j low. without_others j n xs (ne_eqb j n (λ same. absurd (omega (arith, low, same)))) (all j (omega (arith, low)))) in
     let long = without_length n xs (all n (omega arith)) in omega (arith, rest, long)
 
--- in session, the entries hold all commands where they have as many rows as there are
+-- in session, the entries hold all commands if they have as many rows as there are
 pub all_held : (c : Config) (values : List ℕ) → IsConfig c → IsInSession c values → (length (rows_in c values) == row_count c) ≡ holds_all c values
 all_held c values config s = go (holds_all c values) refl
   where
@@ -237,7 +237,7 @@ rows_few c (v ∷ values) config =
     let rest = rows_few c values config in
     omega (arith, long, first, rest)
 
--- in session, the entries lack a command where they are too few to have all rows
+-- in session, the entries lack a command if they are too few to have all rows
 pub lacks_some : (c : Config) (values : List ℕ) → IsConfig c → IsInSession c values → nat_lt (length values * c.width) (row_count c) ≡ true → false ≡ holds_all c values
 lacks_some c values config s low =
     let few = rows_few c values config in

@@ -23,7 +23,7 @@ use Rattle.mu_lead.specs.Beside.{is_beside, leads_at}
 use Rattle.mu_lead.specs.Welcomes.{FollowersJoinInTime, JoinsAt, NoneWaits, WaitsForAsk, WaitsToJoin}
 use Rattle.mu_lead.proofs.Asking.{begins_now}
 
--- where none waits it holds at each place
+-- if none waits it holds at each place
 waits_here : (c : Config) (r p left : ℕ) (mine : List Event) → NoneWaits c r mine → WaitsToJoin c r mine p left
 waits_here c r p left mine none = record { here = kinds_of_step.closed (joining c r p) left mine (none p); others = λ q other. none q }
 
@@ -66,7 +66,7 @@ joined a b d false g member = absurd (true≢false (sym member))
 ungranted : (a b d f g : Bool) → g ≡ false → (a && (b && (d && (f && g)))) ≡ false
 ungranted a b d f g none = and_right a (b && (d && (f && g))) (and_right b (d && (f && g)) (and_right d (f && g) (and_right f g none)))
 
--- a fence that is read where there is no number yet
+-- a fence that is read if there is no number yet
 pub none_numbered : (c : Config) (r p : ℕ) (a : Answer) (mine : List Event) → proposal_number r mine ≡ None → NoneWaits c r mine → NoneWaits c r (event_by r (Verb.Fence p) a ∷ mine)
 none_numbered c r p a mine none at q =
     let e = event_by r (Verb.Fence p) a in
@@ -215,7 +215,7 @@ joins_in_time c r mine (Place.LateEnter p) at q = waits_in_time c r p 1 mine at 
 joins_in_time c r mine (Place.LatePut p) at q = waits_in_time c r p 0 mine at q
 joins_in_time c r mine place at q = kinds_of_step.closed (joining c r q) 1 mine (at q)
 
--- where the replica gives up what it does, the next ask ends all waiting
+-- if the replica gives up what it does, the next ask ends all waiting
 pub joins_given_up : (c : Config) (r : ℕ) (mine : List Event) (place : Place) → JoinsAt c r mine place → JoinsAt c r mine (Place.Ask 0)
 joins_given_up c r mine place at = record { first = λ begins q. joins_in_time c r mine place at q; later = λ other. absurd (other refl) }
 

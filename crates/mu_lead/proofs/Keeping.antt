@@ -44,7 +44,7 @@ leads_kept c r b by verb answer mine calm l = record {
   unput = λ i low. l.unput i (let more = end_rises c r (event_by by verb answer) mine in omega (arith, low, more));
 }
 
--- a table of which one place changed
+-- a table in which one place changed
 pub tables_up : (c : Config) (r p u : ℕ) (now : List Event) (up up' : List ℕ) (reach : List (Option ℕ)) (heads written : List ℕ) → HoldsTables c r now up reach heads written → length up' ≡ 7 → get_or up' p 0 ≡ u
     → ((q : ℕ) → q ≢ p → get_or up' q 0 ≡ get_or up q 0) → Brought c r now p u → u ≤ row_count c + reserve c + 1 → HoldsTables c r now up' reach heads written
 tables_up c r p u now up up' reach heads written t long here others b low = record {
@@ -155,12 +155,12 @@ source_calm c r by verb answer mine (Some q) calm is = (is.0, member_calm r q by
     member_calm r q by (Verb.PutMin p b) answer mine calm is = absurd (true≢false (sym calm))
     member_calm r q by verb answer mine calm is = is
 
--- which of the members below p has the most, where the members are the same
+-- which of the members below p has the most, if the members are the same
 pub most_on : (r p : ℕ) (mine now : List Event) (up : List ℕ) (source : Option ℕ) → ((q : ℕ) → is_member r q now ≡ is_member r q mine) → HasMost r mine up p source → HasMost r now up p source
 most_on r p mine now up None same few = λ q low. same q ∙ few q low
 most_on r p mine now up (Some s) same few = (few.0, λ q low member. few.1 q low (sym (same q) ∙ member))
 
--- and where p alone has another number
+-- and if only p has another number
 pub most_up : (r p : ℕ) (mine : List Event) (up up' : List ℕ) (source : Option ℕ) → ((k : ℕ) → k ≢ p → get_or up' k 0 ≡ get_or up k 0) → HasMost r mine up p source → HasMost r mine up' p source
 most_up r p mine up up' None ups few = few
 most_up r p mine up up' (Some s) ups few = (

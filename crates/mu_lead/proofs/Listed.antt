@@ -1,4 +1,4 @@
--- What lasts along the listing lasts at a leader that follows it.
+-- The place that each place goes on to, the place that the leader goes to by the verb that was due, and what lasts there.
 use Rattle.std.proofs.Common.{List, Some, ap, subst, sym, true, ℕ, ◌∷◌, ◌≡◌}
 use Rattle.mu_model.specs.declared.config.Config.{Config}
 use Rattle.mu_model.specs.declared.event.Answer.{Answer}

@@ -122,7 +122,7 @@ marks_now c r q h mine region other unmarked failed low high = record {
       (rw (same_number r, same_number q) (le-leb (h + c.ring) (end_of c r mine + reserve c) (ltb-false (end_of c r mine + reserve c) (h + c.ring) low))) failed);
 }
 
--- a table of heads of which one changed
+-- a table of heads in which one changed
 pub tables_head : (c : Config) (r q h : ℕ) (now : List Event) (up : List ℕ) (reach : List (Option ℕ)) (heads heads' written : List ℕ) → HoldsTables c r now up reach heads written → length heads' ≡ 7 → get_or heads' q 0 ≡ h
     → ((k : ℕ) → k ≢ q → get_or heads' k 0 ≡ get_or heads k 0) → h ≤ last_head r q now → HoldsTables c r now up reach heads' written
 tables_head c r q h now up reach heads heads' written t long here others low = record {
@@ -140,7 +140,7 @@ tables_head c r q h now up reach heads heads' written t long here others low = r
   words = t.words;
 }
 
--- where the list got no longer, it is the same
+-- if the list got no longer, it is the same
 pub look_same : (c : Config) (r : ℕ) (e : Event) (mine : List Event) → end_of c r (e ∷ mine) ≤ end_of c r mine → known c r (e ∷ mine) ≡ known c r mine
 look_same c r e mine low = go (learnt_by c r mine (length (known c r mine)) e.by e.verb e.answer (e ∷ mine)) low
   where
@@ -181,7 +181,7 @@ last_now r p i a mine = rw (same_number r, same_number p, same_number i) refl
 last_other : (r p q i : ℕ) (a : Answer) (mine : List Event) → p ≢ q → last_look r q i (look_event r p i a ∷ mine) ≡ last_look r q i mine
 last_other r p q i a mine other = rw (same_number r, ne_eqb p q other) refl
 
--- what the members below k showed isn't changed by a look at p, where k is at most p
+-- what the members below k showed isn't changed by a look at p, if k is at most p
 shows_other : (r p i k : ℕ) (a : Answer) (mine : List Event) → k ≤ p → highest_accepted r i (look_event r p i a ∷ mine) k ≡ highest_accepted r i mine k
 shows_other r p i zero a mine low = refl
 shows_other r p i (suc k) a mine low =
@@ -293,7 +293,7 @@ earlier_some : (x : ℕ) (o : Option ℕ) → earlier_or (Some x) o ≡ None →
 earlier_some x None is = none_some x (sym is)
 earlier_some x (Some y) is = none_some y (sym is)
 
--- where nothing was put no region took anything
+-- if nothing was put no region took anything
 took_none : (r q i b v : ℕ) (events : List Event) → oldest (λ e. value_put r i e.by e.verb) events ≡ None → has (lands_entry r q i b v) events ≡ false
 took_none r q i b v [] is = refl
 took_none r q i b v (e ∷ events) is = go e.by e.verb e.answer is (took_none r q i b v events (earlier_later (value_put r i e.by e.verb) (oldest (λ f. value_put r i f.by f.verb) events) is))

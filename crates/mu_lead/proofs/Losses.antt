@@ -128,7 +128,7 @@ enter_says c r q t mine place answer note possible notes p f = elim (enters_or c
     so g lost (inl e) = ap (λ k. Note.Aborted (AbortCause.Lost k g)) (same_entered q p t e.target e.entered) ∙ ap (λ h. Note.Aborted (AbortCause.Lost p h)) (same_loss g f (sym lost ∙ e.lost))
     so g lost (inr l) = absurd (differs_by_test is_fence (Verb.Enter q t) (Verb.Fence p) refl refl l.read)
 
--- a fence that is read where it is noted as lost
+-- a fence that is read if it is noted as lost
 read_so : (r q p : ℕ) (g f : Fence) (mine : List Event) (place : Place) (answer : Answer) → answer ≡ Answer.Seen g → LosesEntering r mine (Verb.Fence q) answer p f ⊎ LosesReading r mine place (Verb.Fence q) answer p f → Note.Aborted (AbortCause.Lost q g) ≡ Note.Aborted (AbortCause.Lost p f)
 read_so r q p g f mine place answer seen (inl e) = absurd (differs_by_test is_enter (Verb.Fence q) (Verb.Enter p e.target) refl refl e.entered)
 read_so r q p g f mine place answer seen (inr l) = ap (λ k. Note.Aborted (AbortCause.Lost k g)) (same_read q p l.read) ∙ ap (λ h. Note.Aborted (AbortCause.Lost p h)) (same_fence g f (sym seen ∙ l.seen))
@@ -187,7 +187,7 @@ behind_says r q g mine on answer note seen member h goes_on notes p f = go (is_u
 entering_loses : (c : Config) (r p : ℕ) (t : Target) (mine : List Event) (place : Place) (a : Answer) → IsPossible c r (event_by r (Verb.Enter p t) a ∷ mine) → SaysLost r mine place (Verb.Enter p t) a (note_of_enter p a)
 entering_loses c r p t mine place a possible = enter_says c r p t mine place a (note_of_enter p a) possible (ap (note_of_enter p), λ f. ap (note_of_enter p))
 
--- the note of a lost region comes exactly where it is lost
+-- the note of a lost region comes exactly if it is lost
 pub losses_say : (c : Config) (r b : ℕ) (mine : List Event) (old : Tables) (a : Answer) (place : Place) → At c r b mine old.up old.reach old.written place → IsPossible c r (step_of c r b mine old.up old.written place a ∷ mine)
     → SaysLost r mine place (verb_or (verb_at c b (known c r mine) old.up old.written place)) a (next_note c r b mine (step_of c r b mine old.up old.written place a ∷ mine) old a place)
 losses_say c r b mine old a (Place.Confirm round p) at possible =

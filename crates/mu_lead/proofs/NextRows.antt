@@ -12,7 +12,7 @@ use Rattle.mu_known.proofs.Lasts.{below_clients}
 use Rattle.mu_known.proofs.NextRows.{after_passes, next_row, no_next_row}
 use Rattle.mu_model.proofs.Basics.{none_some}
 
--- where the client has no next batch
+-- if the client has no next batch
 some_row : (c : Config) (values : List ℕ) (client : ℕ) (o : Option ℕ) → IsFirst (begins_after c client (command_count c client values)) 0 (row_count c) o → is_some o ≡ true → (j : ℕ) × ((client_of c j ≡ client) × IsNextRow c values j)
 some_row c values client None first some = absurd (true≢false (sym some))
 some_row c values client (Some j) first some =
@@ -49,7 +49,7 @@ pub round_found : (c : Config) (values : List ℕ) (k n j : ℕ) → Some j ≡ 
 round_found c values k n j is =
     is ∙ pick_round c values true (first_in (λ w. is_some (batch_of c values w)) k n) (first_in (λ w. is_some (batch_of c values w)) 0 k) (ap is_some is) (round_here c values k n (first_in (λ w. is_some (batch_of c values w)) k n) (first_in_is (λ w. is_some (batch_of c values w)) k n))
 
--- where there are no rows, there is no client with one
+-- if there are no rows, there is no client with one
 nothing : (c : Config) (values : List ℕ) (k n : ℕ) (o : Option ℕ) → row_count c ≡ 0 → IsFirst (λ w. is_some (batch_of c values w)) k n o → None ≡ batch_of_named c values o
 nothing c values k n None none first = refl
 nothing c values k n (Some w) none first = absurd (true≢false (sym first.2 ∙ no_batch c values w (λ j same row. (let there = row.row in omega (arith, there, none)))))

@@ -83,7 +83,7 @@ not_join c r mine up place answer out p ends = not_last ends.last
     not_last (inl raised) = differs_by_test may_join place (Place.RaiseBehind p Then.Joined) out refl raised
     not_last (inr put) = differs_by_test may_join place (Place.LatePut p) out refl put.0
 
--- a note of none of these kinds, where none of the rows holds
+-- a note of none of these kinds, if none of the rows holds
 pub says_none : (c : Config) (r : ℕ) (mine : List Event) (up : List ℕ) (place : Place) (verb : Verb) (answer : Answer) (note : Note) → is_higher note ≡ false → is_no_room note ≡ false → is_joined note ≡ false → is_learnt note ≡ false
     → is_min verb ≡ false → is_head verb ≡ false → is_look verb ≡ false → may_join place ≡ false → SaysReads c r mine up place verb answer note
 says_none c r mine up place verb answer note h n j l min head look join = record {

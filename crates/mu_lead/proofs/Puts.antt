@@ -267,7 +267,7 @@ brought_committed c r b v p q mine more old took_it =
         (and_from (length (known c r mine) == i) ((length (known c r (put_event r p i b v ∷ mine)) == i + 1) && took r q i b v (put_event r p i b v ∷ mine)) (same_number i)
         (and_from (length (known c r (put_event r p i b v ∷ mine)) == i + 1) (took r q i b v (put_event r p i b v ∷ mine)) (eq-eqb (length (known c r (put_event r p i b v ∷ mine))) (i + 1) long) took_it)))
 
--- where each member has the entry the tables have it
+-- if each member has the entry the tables have it
 pub tables_committed : (c : Config) (r u : ℕ) (now : List Event) (up up' : List ℕ) (reach : List (Option ℕ)) (heads written : List ℕ) → HoldsTables c r now up reach heads written → length up' ≡ 7
     → ((q : ℕ) → is_member r q now ≡ false → get_or up' q 0 ≡ get_or up q 0) → ((q : ℕ) → is_member r q now ≡ true → (get_or up' q 0 ≡ u) × Brought c r now q u) → u ≤ row_count c + reserve c + 1
     → HoldsTables c r now up' reach heads written
@@ -348,7 +348,7 @@ raised_all c r b p from mine up reach reach' at reaches now is none = record {
   raised = λ k low. raised_more c r b p c.replicas mine up reach reach' at reaches now (λ j more below. none j (omega (arith, more, is)) below) k low low;
 }
 
--- less is brought where more is
+-- less is brought if more is
 pub brought_less : (c : Config) (r p u w : ℕ) (mine : List Event) → u ≤ w → Brought c r mine p w → Brought c r mine p u
 brought_less c r p u w mine low b = record { caught_up = λ j less. b.caught_up j (omega (arith, less, low)); filled = λ j less. b.filled j (omega (arith, less, low)) }
 

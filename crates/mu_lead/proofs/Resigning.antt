@@ -59,7 +59,7 @@ beat_opens_none c r answer mine =
       behind = quiet.none_behind;
     }
 
--- where all counts are closed each place has its room
+-- if all counts are closed each place has its room
 fresh_closed : (c : Config) (r : ℕ) (answer : Answer) (mine : List Event) → AreClosed c r (beat_of r answer ∷ mine) → IsFresh c r (beat_of r answer ∷ mine)
 fresh_closed c r answer mine closed = counts_close.fresh c r (beat_of r answer ∷ mine) closed
 
@@ -105,7 +105,7 @@ counts_closed c r answer mine written place is was closed at = record {
   joins = joins_anywhere c r (beat_of r answer ∷ mine) place closed.joining;
 }
 
--- and where it asks anew, whatever was before
+-- and at its first ask anew, whatever was before
 counts_anew : (c : Config) (r : ℕ) (answer : Answer) (mine : List Event) (written : List ℕ) → was_unnamed c r (beat_of r answer ∷ mine) ≡ true → AreClosed c r (beat_of r answer ∷ mine) → CountsAt c r (beat_of r answer ∷ mine) written (Place.Ask 0)
 counts_anew c r answer mine written was closed = record {
   rooms = ((λ first. out_closed c r answer mine was closed), λ other. absurd (other refl));

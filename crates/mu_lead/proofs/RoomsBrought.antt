@@ -42,7 +42,7 @@ brought_up c r p mine up reach heads written tables has_all raised = go (end_of 
         let above = above_told (λ e. fuo_read_or_raised r p e.by e.verb e.answer) i (leadership r mine) (tables.reached p i 0 (reaches_below (get_or up p 0) i (get_or reach p None) (omega (arith, low)) raised)) in
         le-leb (suc i) (greatest (λ e. fuo_read_or_raised r p e.by e.verb e.answer) (leadership r mine)) (omega (arith, above))
 
--- each member is, where each has what is known and its FUO is raised
+-- each member is, if each has what is known and its FUO is raised
 pub none_brought : (c : Config) (r : ℕ) (mine : List Event) (up : List ℕ) (reach : List (Option ℕ)) (heads written : List ℕ) → IsPossible c r mine → HoldsTables c r mine up reach heads written → HaveBelow r mine up c.replicas (end_of c r mine) → RaisedBelow r mine up reach c.replicas
     → (k : ℕ) → is_member r k mine ≡ true → is_brought_up c r k mine ≡ true
 none_brought c r mine up reach heads written possible tables have raised k member =

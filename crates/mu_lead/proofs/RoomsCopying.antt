@@ -28,7 +28,7 @@ use Rattle.mu_lead.proofs.Raises.{copy_commits_none}
 use Rattle.mu_lead.proofs.RoomsBringing.{bring_place}
 use Rattle.mu_lead.proofs.RoomsQuiet.{no_heads, quiet_milestone, config_is_sized}
 
--- a put of what is known is a copy, where none was made at the position and the first FUO that was
+-- a put of what is known is a copy, if none was made at the position and the first FUO that was
 -- read isn't above it
 pub copies_put : (c : Config) (r p u b v : ℕ) (mine : List Event) → slice_get (known c r mine) u ≡ Some v → was_copied c r p u mine ≡ false → is_at_most u (first_fuo r p mine) ≡ true → is_copying c r mine (put_event r p u b v) ≡ true
 copies_put c r p u b v mine value uncopied first =

@@ -78,7 +78,7 @@ rooms_last_head c r q k h candidate mine written is turn low few at = rooms_head
 unmarked_lags : (m lacks : Bool) → m ≡ false → lacks ≡ true → not (not m && lacks) ≡ false
 unmarked_lags m lacks a b = rw (a, b) refl
 
--- a head that leaves no room lags, where no mark of its replica is known
+-- a head that leaves no room lags, if no mark of its replica is known
 head_lags : (c : Config) (r q h : ℕ) (mine : List Event) → q < c.replicas → marked c q (known c r mine) ≡ false → nat_lt (end_of c r mine + reserve c) (h + c.ring) ≡ false → is_lagging c r mine (head_event r q h) ≡ true
 head_lags c r q h mine region unmarked low =
     let lacks : lacks_room c (end_of c r mine + reserve c) (head_read r q r (Verb.Head q) (Answer.Number h)) ≡ true =

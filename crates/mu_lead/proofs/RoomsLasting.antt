@@ -390,7 +390,7 @@ keeps_tables mine old new verb answer s due writes = go old.place s.at due
         (λ i above below. ap (λ xs. get_or xs i 12) is ∙ get_or-set_other old.written.items j i (k + 1) 12 (λ same. omega (arith, above, same)))
     go place at due = tt
 
--- so they have where the leader comes by the verb that was due
+-- so they have at the place that the leader comes to by the verb that was due
 pub rooms_next : (mine : List Event) (old new : Lead) (values : List ℕ) (answer : Answer) → StandsFor mine old → new.config ≡ old.config → new.id ≡ old.id → WritesNext mine old values answer new → TakesNext mine old values answer new → Follows mine old values answer new
     → RoomsNext mine old values answer new
 rooms_next mine old new values answer s config id writes takes follows verb due possible told turn rooms =

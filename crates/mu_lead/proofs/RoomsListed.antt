@@ -1,4 +1,4 @@
--- The counts of a leader have room where its listing goes on.
+-- The counts of a leader have room at the place that its listing goes on to.
 use Rattle.std.proofs.Common.{Bool, List, None, Some, arith, false, get_or, refl, sym, true, true≢false, ℕ, ◌&&◌, ◌*◌, ◌+◌, ◌-◌, ◌<◌, ◌==◌, ◌||◌, ◌∙◌, ◌≡◌, ◌≤◌}
 use Rattle.std.specs.Prelude.{if◌then◌else◌, nat_lt, not}
 use Rattle.std.specs.declared.option.Option.{Option}
@@ -80,7 +80,7 @@ members_rooms c r now highs written Then.Late may = late_rooms c r 0 now highs w
 members_rooms c r now highs written Then.Position may = position_rooms c r c.replicas now highs written (λ k from low. absurd (omega (arith, from, low))) may
 members_rooms c r now highs written Then.Joined may = position_rooms c r c.replicas now highs written (λ k from low. absurd (omega (arith, from, low))) may
 
--- members are level where the next position begins, or late followers are asked after
+-- members are level when the next position begins, or late followers are asked after
 position_level : (c : Config) (r b : ℕ) (now : List Event) (up : List ℕ) (reach : List (Option ℕ)) (highs written : List ℕ) → At c r b now up reach written (next_position c r now highs) → Level c r b now up reach
 position_level c r b now up reach highs written at = go (holds_all c (known c r now)) (nat_lt (end_of c r now) (row_count c + reserve c)) at
   where

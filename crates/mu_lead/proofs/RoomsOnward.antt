@@ -1,4 +1,4 @@
--- From a place to where the listing goes on once regions were gone through.
+-- From a place to the one that the listing goes on to once regions were gone through.
 use Rattle.std.proofs.Common.{◌≡◌, ℕ, ◌+◌, ◌<◌, ◌≤◌, ◌⊎◌, inl, inr, Bool, true, false, List, ◌∷◌, None, Some, refl, sym, ◌∙◌, ap, subst, arith, true≢false}
 use Rattle.std.specs.Prelude.{not}
 use Rattle.std.proofs.lemmas.Bool.{cases_lt, lt-ltb}
@@ -52,7 +52,7 @@ room_place s u (heads q low) = at_head q
 room_place s u (looks m few) = at_look m few
 room_place s u rests = at_rest
 
--- the late followers, where one is asked next
+-- the late followers, if one is asked next
 asks_next : (edge : ℕ → Stage → Stage → Type 0) (c : Config) (r p q : ℕ) (t : Stage) (mine : List Event) (e : Event) → Passes edge r t p mine e → IsNextStranger c r (e ∷ mine) p (Some q)
     → ((k : ℕ) → is_far k t ≡ true → is_far k (Stage.LateFence q) ≡ true → edge k t (Stage.LateFence q)) → Asks edge c r t (Stage.LateFence q) mine e
 asks_next edge c r p q t mine e passes first goes k low stranger = elim (cases_lt k p) [
@@ -63,7 +63,7 @@ asks_next edge c r p q t mine e passes first goes k low stranger = elim (cases_l
   | inr from ↦ passes.nearer k q first.0 (first_below (λ j. not (is_member r j (e ∷ mine))) p c.replicas q k first from (ap not stranger)) stranger
 ]
 
--- where none is left from p on, they are asked after again
+-- if none is left from p on, they are asked after again
 asks_again : (edge : ℕ → Stage → Stage → Type 0) (c : Config) (r p q : ℕ) (t : Stage) (mine : List Event) (e : Event) → Passes edge r t p mine e → IsNextStranger c r (e ∷ mine) p None → IsNextStranger c r (e ∷ mine) 0 (Some q)
     → ((k : ℕ) → is_far k t ≡ true → q ≤ k → edge k t (Stage.LateFence q)) → Asks edge c r t (Stage.LateFence q) mine e
 asks_again edge c r p q t mine e passes none first goes k low stranger = elim (cases_lt k p) [

@@ -30,7 +30,7 @@ same_confirmed s t is = cc
 same_not_confirmed : (s t : ℕ) → Note.NotConfirmed s ≡ Note.NotConfirmed t → s ≡ t
 same_not_confirmed s t is = cc
 
--- a note of another kind, where no round ended
+-- a note of another kind, if no round ended
 pub round_none : (c : Config) (r : ℕ) (now : List Event) (place : Place) (note : Note) → is_confirmed note ≡ false → is_not_confirmed note ≡ false → ends_round c place ≡ false → SaysRound c r now place note
 round_none c r now place note confirmed unconfirmed out = record {
   confirmed = λ s. ((λ is. absurd (differs_by_test is_confirmed note (Note.Confirmed s) confirmed refl is)), (λ row. absurd (true≢false (sym row.0.ends ∙ out))));

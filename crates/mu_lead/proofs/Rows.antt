@@ -227,7 +227,7 @@ spare c r mine config within = let rows = config.few in let few = config.replica
 pub grows_not : (xs : List ℕ) (v : ℕ) → xs ≡ xs ++ v ∷ [] → ⊥
 grows_not xs v is = let long = ap length is in let more = length-append xs (v ∷ []) in omega (arith, long, more)
 
--- where nothing more is known, no look taught anything
+-- if nothing more is known, no look taught anything
 not_grown : (c : Config) (r : ℕ) (mine : List Event) (verb : Verb) (answer : Answer) → known c r (event_by r verb answer ∷ mine) ≡ known c r mine → (i v : ℕ) → Teaches c r mine verb answer i v → ⊥
 not_grown c r mine verb answer same i v teaches = grows_not (known c r mine) v (sym same ∙ teaches.grew)
 
@@ -264,7 +264,7 @@ ands true true false = refl
 ands true false d = refl
 ands false b d = refl
 
--- nothing known is put where nothing is known
+-- nothing known is put if nothing is known
 puts_nothing : (values : List ℕ) (r p j by : ℕ) (verb : Verb) (answer : Answer) → slice_get values j ≡ None → is_known_put values r p j by verb answer ≡ false
 puts_nothing values r p j by (Verb.PutSlot q i b v) Answer.Done none = rw none (ands (by == r) (q == p) (i == j))
 puts_nothing values r p j by verb answer none = refl
@@ -350,7 +350,7 @@ looking c r p i mine up place values answer note join here told is = go (learnt_
 apart_says : (c : Config) (r : ℕ) (mine : List Event) (up : List ℕ) (place : Place) (verb : Verb) (answer : Answer) (note : Note) → AreApart note → is_min verb ≡ false → is_head verb ≡ false → is_look verb ≡ false → may_join place ≡ false → SaysReads c r mine up place verb answer note
 apart_says c r mine up place verb answer note a min head look join = says_none c r mine up place verb answer note a.0 a.1 a.2 a.3 min head look join
 
--- the notes of what was read, and of steps for late followers, come exactly where their rows hold
+-- the notes of what was read, and of steps for late followers, come exactly if their rows hold
 pub reads_say : (c : Config) (r b : ℕ) (mine : List Event) (old : Tables) (a : Answer) (place : Place) → IsConfig c → HoldsTables c r mine old.up old.reach old.heads old.written → At c r b mine old.up old.reach old.written place → IsPossible c r (step_of c r b mine old.up old.written place a ∷ mine)
     → SaysReads c r mine old.up place (verb_or (verb_at c b (known c r mine) old.up old.written place)) a (next_note c r b mine (step_of c r b mine old.up old.written place a ∷ mine) old a place)
 reads_say c r b mine old a (Place.Confirm round p) is h at possible =

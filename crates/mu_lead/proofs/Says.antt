@@ -124,14 +124,14 @@ pub all_known : (mine : List Event) (old : Lead) (values : List ℕ) (answer : A
     → holds_all old.config values ≡ all → holds_all old.config (known old.config old.id (event_by old.id verb answer ∷ mine)) ≡ all
 all_known mine old values answer verb note all is tells all_is = ap (holds_all old.config) (tells ∙ ap (λ n. grown values (value_committed n)) is) ∙ all_is
 
--- the values are in session, where the note tells of no commit
+-- the values are in session, if the note tells of no commit
 pub values_in_session : (mine : List Event) (old : Lead) (values : List ℕ) (answer : Answer) (verb : Verb) (note : Note) → StandsFor mine old → IsPossible old.config old.id (event_by old.id verb answer ∷ mine) → note ≡ Note.Working
     → known old.config old.id (event_by old.id verb answer ∷ mine) ≡ grown values (value_committed note) → (IsInSession old.config values) × (length values < 65536)
 values_in_session mine old values answer verb note s possible is tells =
     let same = tells ∙ ap (λ n. grown values (value_committed n)) is in
     (subst (IsInSession old.config) same (parts_in_session_law old.config old.id (event_by old.id verb answer ∷ mine) s.config possible), subst (λ xs. length xs < 65536) same (known_few old.config old.id (event_by old.id verb answer ∷ mine) s.config possible))
 
--- the note of `take_answer`, where it is told apart from `Idle`
+-- the note of `take_answer`, if it is told apart from `Idle`
 pub says_next : (mine : List Event) (old : Lead) (values : List ℕ) (answer : Answer) (note : Note) → StandsFor mine old → NotesNext mine old values answer note
     → (note ≡ Note.Working → length values < 65536 → IsInSession old.config values → holds_all old.config values ≡ false) → SaysNext mine old values answer note
 says_next mine old values answer note s noted lacks verb due possible told =
@@ -152,7 +152,7 @@ says_next mine old values answer note s noted lacks verb due possible told =
       stays = λ to is. differs_by_test is_of_no_place note (Note.Resigned to) placed refl is;
     }
 
--- `Idle` in place of `Working`, where all commands are known
+-- `Idle` in place of `Working`, if all commands are known
 pub says_idle : (mine : List Event) (old : Lead) (values : List ℕ) (answer : Answer) (note : Note) → StandsFor mine old → NotesNext mine old values answer note → note ≡ Note.Working
     → (length values < 65536 → IsInSession old.config values → holds_all old.config values ≡ true) → SaysNext mine old values answer Note.Idle
 says_idle mine old values answer note s noted is all verb due possible told =

@@ -39,7 +39,7 @@ entry_shown r p i by (Verb.Look q j) answer is = absurd (go ((by == r) && ((q ==
     go false is = true≢false (sym is)
 entry_shown r p i by verb answer is = absurd (true≢false (sym is))
 
--- where some look wasn't empty one showed an entry, or one was past
+-- if some look wasn't empty one showed an entry, or one was past
 full_shown : (r p i : ℕ) (xs : List Event) → has (λ e. is_full_look (look_answer r p i e.by e.verb e.answer)) xs ≡ true → (has (entry_seen r p i) xs ≡ true) ⊎ (has_seen_past r p i xs ≡ true)
 full_shown r p i [] is = absurd (true≢false (sym is))
 full_shown r p i (e ∷ xs) is = go (is_entry_look (look_answer r p i e.by e.verb e.answer)) refl (is_past_look (look_answer r p i e.by e.verb e.answer)) refl is (full_shown r p i xs)
@@ -89,7 +89,7 @@ larger_is_none (Some x) (Some y) is = absurd (go (nat_lt x.0 y.0) is)
     go true is = none_some y (sym is)
     go false is = none_some x (sym is)
 
--- where the members showed no entry none of them did
+-- if the members showed no entry none of them did
 none_shown : (r i n q : ℕ) (mine : List Event) → q < n → is_member r q mine ≡ true → highest_accepted r i mine n ≡ None → entry_of (last_look r q i mine) ≡ None
 none_shown r i zero q mine low member none = absurd (omega (arith, low))
 none_shown r i (suc p) q mine low member none =
@@ -116,7 +116,7 @@ shown_in r q i (e ∷ mine) is = go (is_joining r mine e.by e.verb e.answer) (be
     go false true is before = absurd (true≢false (sym is))
     go false false is before = here (look_answer r q i e.by e.verb e.answer) is before
 
--- where the members showed an entry one of them did
+-- if the members showed an entry one of them did
 some_shown : (c : Config) (r i n : ℕ) (x : ℕ × ℕ) (mine : List Event) → n ≤ c.replicas → highest_accepted r i mine n ≡ Some x → ShowsEntry c r mine i
 some_shown c r i zero x mine low is = absurd (none_some x is)
 some_shown c r i (suc p) x mine low is = go (highest_accepted r i mine p) refl is (λ y before. some_shown c r i p y mine (omega (arith, low)) before)

@@ -42,7 +42,7 @@ use Rattle.std.specs.declared.option.Option.{Option}
 abbrev pub after_step : Config → ℕ → ℕ → List Event → Tables → Place → Answer → Tables
 after_step c r b mine old place a = tables_with c r mine (step_of c r b mine old.up old.written place a ∷ mine) old (verb_or (verb_at c b (known c r mine) old.up old.written place)) a
 
--- the step leads to where what stands there holds, under the number d
+-- the step leads to a place at which what stands there holds, under the number d
 abbrev pub Comes : Config → ℕ → ℕ → ℕ → List Event → Tables → Place → Answer → Type 0
 Comes c r b d mine old place a = Stood c r d (step_of c r b mine old.up old.written place a ∷ mine) (after_step c r b mine old place a) (next_place c r b (step_of c r b mine old.up old.written place a ∷ mine) (after_step c r b mine old place a) a place)
 
@@ -151,7 +151,7 @@ later_comes c r b mine old Place.Outrun a later some s at possible = absurd (tru
 later_comes c r b mine old Place.Rest a later some s at possible = absurd (true≢false (sym some))
 later_comes c r b mine old place a later some s at possible = absurd (true≢false later)
 
--- a step of a place leads to where what stands there holds
+-- a step of a place leads to a place at which what stands there holds
 pub stands_along : (c : Config) (r b d : ℕ) (mine : List Event) (old : Tables) (place : Place) (a : Answer) → is_some (verb_at c b (known c r mine) old.up old.written place) ≡ true → Stand c r mine old → At c r b mine old.up old.reach old.written place → IsStep c r b mine old place a
     → NumberAfter c r b d (step_of c r b mine old.up old.written place a ∷ mine) place → Comes c r b d mine old place a
 stands_along c r b d mine old (Place.Ask p) a some s at possible number = first_comes c r b d mine old (Place.Ask p) a refl s at possible number (ask_tables c r p a mine old s.tables possible)

@@ -50,7 +50,7 @@ read_more r p j by verb answer past is = go (fuo_read r p by verb answer)
     go None = is
     go (Some x) = let low = ltb-true j (greatest_fuo_read r p past) is in lt-ltb j (max x (greatest_fuo_read r p past)) (omega arith)
 
--- p has what is known of j, where these values are known
+-- p has what is known of j, if these values are known
 abbrev pub caught_up_with : List ℕ → ℕ → ℕ → List Event → ℕ → Bool
 caught_up_with values r p past j = nat_lt j (greatest_fuo_read r p past) || has (λ e. is_known_put values r p j e.by e.verb e.answer) past
 

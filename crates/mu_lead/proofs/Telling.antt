@@ -36,7 +36,7 @@ commit_tells : (i : ℕ) (offer : Offer) (t : Bool) → offer.adopted ≡ t → 
 commit_tells i offer true is = rw is refl
 commit_tells i offer false is = rw is refl
 
--- a put at a known position changes nothing of what is known, however it is answered
+-- a put at a known position leaves what is known, however it is answered
 pub put_any : (c : Config) (r p i b v : ℕ) (answer : Answer) (mine : List Event) → i < end_of c r mine → known c r (event_by r (Verb.PutSlot p i b v) answer ∷ mine) ≡ known c r mine
 put_any c r p i b v Answer.Done mine low = put_known c r p i b v mine low
 put_any c r p i b v Answer.Missed mine low = refl

@@ -129,7 +129,7 @@ last_since r p (e ∷ mine) f is = go (begins_leadership r e) is (last_since r p
         newer None is before = before is
         newer (Some g) is before = is
 
--- the noted grant, where there is one, is the one that r saw last
+-- the noted grant, if there is one, is the one that r saw last
 noted_is_last : (r p g : ℕ) (mine : List Event) → noted_grant r p mine ≡ Some g → last_grant r p mine ≡ Some g
 noted_is_last r p g mine is = go (newest (λ e. fence_seen r p e.by e.verb e.answer) (leadership r mine)) refl is
   where

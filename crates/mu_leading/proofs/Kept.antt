@@ -1,5 +1,5 @@
--- An event whose verb isn't a leader's changes nothing of a leadership, and one that tells nothing of the others
--- nothing of what was read of them.
+-- An event whose verb isn't a leader's leaves a leadership as it is, and one that tells nothing of the others
+-- leaves what was read of them.
 use Rattle.std.proofs.Common.{◌≡◌, ℕ, false, List, ◌∷◌}
 use Rattle.mu_model.specs.declared.event.Answer.{Answer}
 use Rattle.mu_model.specs.declared.event.Event.{Event}

@@ -1,4 +1,4 @@
--- What was put is the answer of a call, also where there was no memory for its text.
+-- What was put is the answer of a call, also if there was no memory for its text.
 use Rattle.std.proofs.Common.{◌≡◌, ◌⊎◌, inl, inr, ℕ, List, Option, None, Some, arith, refl, sym, subst, ◌∙◌}
 use Rattle.mu_drawing.specs.Answers as drawing
 use Rattle.mu_picture.specs.declared.pictures.Extent.{Extent}

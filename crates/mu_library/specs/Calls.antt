@@ -60,12 +60,12 @@ HasRoom Work.Nothing = ⊤
 HasRoom (Work.Input task) = ⊤
 HasRoom (Work.Bulk count) = count ≤ MOST_COMMANDS
 
--- the text of what is said is put, with the status that the program ends with
+-- the text of an answer is put, with the status that the program ends with
 abbrev pub PutsSaid : Said → List ℕ → List ℕ → ℕ → ℕ → Type 0
 PutsSaid said before after status taken =
     Puts (text said) (code_of (status_for said)) before after status taken
 
--- the same of what is told of a picture
+-- the same of an answer on a picture
 abbrev pub PutsTold : Output → List ℕ → List ℕ → ℕ → ℕ → Type 0
 PutsTold told before after status taken =
     Puts (text_of told) (code_of (drawing.status_for told)) before after status taken

@@ -19,7 +19,7 @@ pub(crate) fn put_bytes(text: &[u8], out: &mut [u8]) -> usize
     text.len()
 }
 
-/// The same of the text of what is said.
+/// The same of the text of an answer.
 ///
 /// # Errors
 ///

@@ -7,7 +7,7 @@ use mu_io::{Failed, Sink};
 use std::alloc::Global;
 use std::marker::Model;
 
-/// A sink that keeps all bytes. It fails for want of memory alone. Contracts see the bytes and the
+/// A sink that keeps all bytes. It fails only for want of memory. Contracts see the bytes and the
 /// number of its faults.
 #[derive(Drop)]
 pub(crate) struct Kept {

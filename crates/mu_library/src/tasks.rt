@@ -6,7 +6,7 @@ use mu_input::MOST_COMMANDS;
 use mu_text::limited;
 use mu_top::{Alone, MOST_SHOWN};
 
-/// What there is to do.
+/// What is to be done.
 #[derive(Clone, Copy, Debug)]
 pub(crate) enum Work {
     /// Nothing that is known: the usage is told.

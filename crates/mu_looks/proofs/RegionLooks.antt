@@ -187,7 +187,7 @@ look_stays c r p i by verb answer mine look none held = by_member (member_time r
         let in_it : is_member r p mine ≡ true = sym (member_told r p mine) ∙ ap is_some is in
         told (good_inside c r p i by m verb answer mine look.good_at in_it is none held.good_in_time held.good) (before_inside c r p i by verb answer mine look.good_at in_it none held.good_in_time held.entered)
 
--- the looks at i after one more at the time now, where is_good tells whether a good one was among them
+-- the looks at i after one more at the time now, if is_good tells whether a good one was among them
 abbrev pub looked : ℕ → Bool → Answer → Look → Look
 looked now is_good answer look = record {
   made_at = now;

@@ -99,7 +99,7 @@ first_stays r i by verb answer mine first none held = record {
   joined = joined_stays r i by verb answer mine first held.in_time held.value held.joined;
 }
 
--- a put at i, where one was made in the leadership already
+-- a put at i, if one was made in the leadership already
 pub first_kept : (r i by q j b v : ℕ) (answer : Answer) (mine : List Event) (first : First) → nat_lt (begun_time r mine) first.put_at ≡ true → HoldsFirst r i mine first → HoldsFirst r i (made by (Verb.PutSlot q j b v) answer mine) first
 first_kept r i by q j b v answer mine first before held = record {
   in_time = let low = held.in_time in omega (arith, low);

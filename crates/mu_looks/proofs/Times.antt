@@ -36,7 +36,7 @@ joining_in_time r (e ∷ mine) = by_test (is_joining r mine e.by e.verb e.answer
     by_test false is true begun before = rw (is, begun) (omega arith)
     by_test false is false begun before = rw (is, begun) (omega (arith, before))
 
--- the time of the joining, where there is one, is at most n
+-- the time of the joining, if there is one, is at most n
 abbrev pub AtMost : ℕ → Option ℕ → Type 0
 AtMost n None = Unit {0}
 AtMost n (Some x) = x ≤ n
@@ -59,7 +59,7 @@ some_newer None (Some y) a b same = refl
 some_newer (Some x) None a b same = refl
 some_newer (Some x) (Some y) a b same = refl
 
--- p is a member where it has a time of joining
+-- p is a member if it has a time of joining
 pub member_told : (r p : ℕ) (mine : List Event) → is_some (member_time r p mine) ≡ is_member r p mine
 member_told r p [] = refl
 member_told r p (e ∷ mine) = by_test (begins_leadership r e) refl (lands_min r p e.by e.verb e.answer) refl (member_told r p mine)

@@ -1,4 +1,4 @@
--- Small facts of numbers, booleans and of what is there, and an event made of its three parts.
+-- Small facts about numbers, booleans and options, and an event made of its three parts.
 use Rattle.std.proofs.Common.{◌≡◌, ℕ, suc, ◌+◌, Bool, true, false, ◌==◌, ◌&&◌, ◌||◌, refl, sym, ◌∙◌, ap, subst, arith, None, Some, eq-eqb, true≢false}
 use Rattle.mu_model.specs.Histories.{all_below}
 use Rattle.mu_model.specs.declared.event.Answer.{Answer}
@@ -21,7 +21,7 @@ none_some x same = cc
 pub same_number : (n : ℕ) → n == n ≡ true
 same_number n = eq-eqb n n refl
 
--- where one of two tests passes, one of them does
+-- if one of two tests passes, one of them does
 pub true_or : (a b : Bool) → a ≡ true → a || b ≡ true
 true_or true b is = refl
 true_or false b is = absurd (true≢false (sym is))
@@ -31,12 +31,12 @@ pub or_true : (a b : Bool) → b ≡ true → a || b ≡ true
 or_true true b is = refl
 or_true false b is = is
 
--- where none of two tests passes, the first doesn't
+-- if none of two tests passes, the first doesn't
 pub none_of_or : (a b : Bool) → (a || b) ≡ false → a ≡ false
 none_of_or true b is = absurd (true≢false is)
 none_of_or false b is = refl
 
--- where one of two tests fails, not both pass
+-- if one of two tests fails, not both pass
 pub false_and : (a b : Bool) → a ≡ false → (a && b) ≡ false
 false_and true b is = absurd (true≢false is)
 false_and false b is = refl
@@ -46,7 +46,7 @@ pub and_false : (a b : Bool) → b ≡ false → (a && b) ≡ false
 and_false true b is = is
 and_false false b is = refl
 
--- all numbers up to p pass where p does and all below
+-- all numbers up to p pass if p does and all below
 pub all_more : (p : ℕ) (test : ℕ → Bool) (t one : Bool) → one ≡ test p → t ≡ (one && all_below p test) → t ≡ all_below (p + 1) test
 all_more p test t one told is =
     let next : suc p ≡ p + 1 = omega arith in

@@ -79,7 +79,7 @@ shorter (suc n) b r past each left low = by_test (r == n) refl (λ below. shorte
         omega (arith, same, left, at_most n b past each)
     by_test false is below = let differ = eqb-false r n is in let rest = below (omega (arith, low, differ)) in omega (arith, rest, each n)
 
--- where one of n replicas has a step left, the list is shorter than n budgets
+-- if one of n replicas has a step left, the list is shorter than n budgets
 pub room_for : (n b : ℕ) (events : List Event) (r : ℕ) → KeepsBudgets n b (history events) → r < n → length (part r (history events)) < b → length events < n * b
 room_for n b events r keeps low left =
     let past = history events in
@@ -88,7 +88,7 @@ room_for n b events r keeps low left =
     let less = shorter n b r past (λ q. within n b q past keeps) left low in
     omega (arith, same, sum, less)
 
--- seven full budgets are at most so many steps, fewer than 2 ^ 20
+-- seven full budgets are at most this many steps, fewer than 2 ^ 20
 pub few_steps : (n b : ℕ) → n ≤ 7 → b ≤ 131071 → n * b ≤ 917497
 few_steps n b few small = omega (arith, by_count n few)
   where

@@ -25,7 +25,7 @@ get_push_other [] (suc i) z d = refl
 get_push_other (x ∷ xs) zero z d = refl
 get_push_other (x ∷ xs) (suc i) z d = get_push_other xs i z (λ e. d (ap suc e))
 
--- what stands at a place where more follow
+-- what stands at a place if more follow
 pub get_front : {A : Type 0} (xs ys : List A) (k : ℕ) (x : A) → slice_get xs k ≡ Some x → slice_get (xs ++ ys) k ≡ Some x
 get_front [] ys k x e = cc
 get_front (z ∷ xs) ys zero x e = e
@@ -59,7 +59,7 @@ all_copies P n z holds i x there = subst (λ y. P i y) (copy n i there) (holds i
     copy (suc n) zero there = same_some z x there
     copy (suc n) (suc i) there = copy n i there
 
--- a test fails at every place of a list of copies, where it fails of the copied item and of none
+-- a test fails at every place of a list of copies, if it fails of the copied item and of none
 pub copies_fail : {A : Type 0} (test : Option A → Bool) (n i : ℕ) (z : A) → test None ≡ false → test (Some z) ≡ false → test (slice_get (replicate n z) i) ≡ false
 copies_fail test zero i z none some = none
 copies_fail test (suc n) zero z none some = some
@@ -74,7 +74,7 @@ set_get (x ∷ xs) zero y (suc k) z is = inr ((λ e. absurd (omega arith)), is)
 set_get (x ∷ xs) (suc i) y zero z is = inr ((λ e. absurd (omega arith)), is)
 set_get (x ∷ xs) (suc i) y (suc k) z is = elim (set_get xs i y k z is) [ inl here ↦ inl (ap suc here.0, here.1) | inr other ↦ inr ((λ e. other.0 (omega arith)), other.1) ]
 
--- the item at a place of a list of which each item holds something
+-- the item at a place of a list each of whose items holds something
 pub item_read : {A : Type 0} (P : ℕ → A → Type 0) (items : List A) (k p : ℕ) (d : A) → k ≡ p → p < length items → ((q : ℕ) (x : A) → slice_get items q ≡ Some x → P q x) → P p (get_or items k d)
 item_read P items k p d at low each = each p (get_or items k d) (subst (λ q. slice_get items q ≡ Some (get_or items k d)) at (slice_get-get_or items k d (omega arith)))
 

@@ -78,7 +78,7 @@ before-part test r o (e ∷ past) = go (e.by == r) refl (test e) refl (before-pa
     go false h true k ih = absurd (true≢false (sym k ∙ o.own e h))
     go false h false k ih = ih
 
--- r's own first asks alone begin its leaderships
+-- only r's own first asks begin its leaderships
 begins-own_at : (r by : ℕ) (v : Verb) → (by == r) ≡ false → is_first_ask r by v ≡ false
 begins-own_at r by (Verb.Ask p) h = rw h refl
 begins-own_at r by _ h = refl
@@ -86,7 +86,7 @@ begins-own_at r by _ h = refl
 pub begins-own : (r : ℕ) → IsOwnTest r (begins_leadership r)
 begins-own r = record { own = λ e h. begins-own_at r e.by e.verb h }
 
--- and its own reads of fences alone note a grant
+-- and only its own reads of fences note a grant
 fence_seen-own : (r p : ℕ) → IsOwn r (λ e. fence_seen r p e.by e.verb e.answer)
 fence_seen-own r p = record { own = λ e h. go e.by e.verb e.answer h }
   where
@@ -99,7 +99,7 @@ noted-part r p past =
     ap (λ l. grant_for r (newest (λ e. fence_seen r p e.by e.verb e.answer) l)) (since-part (begins_leadership r) r (begins-own r) past)
     ∙ ap (grant_for r) (newest-part (λ e. fence_seen r p e.by e.verb e.answer) r (fence_seen-own r p) (since (begins_leadership r) past))
 
--- its own beats alone are its beats
+-- only its own beats are its beats
 pub beats-own : (q : ℕ) → IsOwnTest q (λ e. is_beat_by q e.by e.verb)
 beats-own q = record { own = λ e h. go e.by e.verb h }
   where

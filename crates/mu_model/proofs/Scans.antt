@@ -37,7 +37,7 @@ front_length c r past (x ∷ xs) = go (has_entry c r x past) (front_length c r p
     go true l = omega arith
     go false l = omega arith
 
--- each number below n passes where all do
+-- each number below n passes if all do
 pub all_at : (n : ℕ) (f : ℕ → Bool) → all_below n f ≡ true → (p : ℕ) → p < n → f p ≡ true
 all_at zero f h p k = absurd (omega arith)
 all_at (suc n) f h p k = elim (cases_eq p n) [ inl e ↦ rw e (and_parts (f n) (all_below n f) h).0 | inr e ↦ all_at n f (and_parts (f n) (all_below n f) h).1 p (omega arith) ]

@@ -50,7 +50,7 @@ pub enum End {
         /// The position that it looked at.
         position: u16,
     },
-    /// It applied all there is to apply.
+    /// It applied all commands.
     Finished {
         /// The heads of the replicas as it last read them, 0 if it read none.
         heads: [u16; 7],

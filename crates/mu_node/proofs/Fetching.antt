@@ -34,7 +34,7 @@ use Rattle.mu_node.proofs.Replaying.{IsAfter, IsAt, at_next, at_rest, last_whole
 use Rattle.mu_lead.specs.Journal.{number_due, place_after, tables_at}
 use Rattle.mu_node.specs.Due.{listed_due}
 
--- and what is applied stays where some known entry isn't
+-- and what is applied stays if some known entry isn't
 same_all : (n : ℕ) (f g : ℕ → Bool) → ((k : ℕ) → k < n → f k ≡ g k) → all_below n f ≡ all_below n g
 same_all zero f g same = refl
 same_all (suc n) f g same = ap (λ t. t && all_below n f) (same n (omega arith)) ∙ ap (λ t. g n && t) (same_all n f g (λ k low. same k (omega (arith, low))))
@@ -110,7 +110,7 @@ low_on c r (e ∷ window) older good possible made none low = go (completes_row 
     go true is none ih = absurd (true≢false none)
     go false is none ih = let here = ih none in still_low c r (window ++ older) e (still_fetching c r (window ++ older) e good (parts_shorten_law c r (window ++ older) e possible).before made.1 is here) here
 
--- so many events after a last word
+-- d events after a last word
 abbrev IsPlace : Config → ℕ → ℕ → Type 0
 IsPlace c d x = ((x ≡ 4 * c.replicas + 37 + d) × (d ≤ 6)) ⊎ (x + 7 ≡ d)
 
@@ -186,7 +186,7 @@ to_place b k m inside = elim (cases_lt k (m % b)) [
     low : m % b < b
     low = mod-lt m {m = b} (omega (arith, inside))
 
--- the oldest so many events of a stretch
+-- the oldest n events of a stretch
 record Oldest (n : ℕ) (window : List Event) : Type 0 where
   newer : List Event
   rest : List Event
@@ -200,7 +200,7 @@ oldest_of n (e ∷ window) few = elim (cases_lt (length window) n) [
   | inr less ↦ let k = oldest_of n window less in record { newer = e ∷ k.newer; rest = k.rest; is = ap (λ l. e ∷ l) k.is; count = k.count }
 ]
 
--- where no step of a stretch passes, none of its parts does
+-- if no step of a stretch passes, none of its parts does
 none_of_both : (test : List Event → Event → Bool) (xs ys older : List Event) → some_step test (xs ++ ys) older ≡ false → (some_step test ys older ≡ false) × (some_step test xs (ys ++ older) ≡ false)
 none_of_both test [] ys older none = (none, refl)
 none_of_both test (x ∷ xs) ys older none = go (test ((xs ++ ys) ++ older) x) refl none (none_of_both test xs ys older)

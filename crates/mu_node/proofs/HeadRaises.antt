@@ -40,7 +40,7 @@ not_raised due h none is = true≢false (sym (ap is_head_raise_verb is) ∙ none
 same_head : (x y : ℕ) → Verb.RaiseHead x ≡ Verb.RaiseHead y → x ≡ y
 same_head x y is = cc
 
--- the replayer raises it at one place alone, to what is handed on and within the FUO
+-- the replayer raises it only at one place, to what is handed on and within the FUO
 raised_value : (c : Config) (r : ℕ) (mine : List Event) (handed f : ℕ) (leading : Bool) (h : ℕ) → verb_or_beat (replay_due c r mine handed f leading) ≡ Verb.RaiseHead h → (f ≡ 16) × (min handed (own_fuo r mine) ≡ h)
 raised_value c r mine handed f leading h is = go (nat_lt f 3) (nat_lt f 15) (f == 15) (f == 16) refl (f == 17) is
   where

@@ -68,7 +68,7 @@ least_low (suc n) test q is low = go (λ l. least_low n test q is l) (least_belo
     go ih true whole false last = elim (cases_eq q n) [ inl e ↦ absurd (true≢false (sym is ∙ (ap test e ∙ last))) | inr e ↦ (let l = ih (omega (arith, e, low)) in let w = eqb-true (least_below n test) n whole in absurd (e (omega (arith, l, w, low)))) ]
     go ih false part t last = elim (cases_eq q n) [ inl e ↦ (let most = least_below_fits n test in omega (arith, e, most)) | inr e ↦ ih (omega (arith, e, low)) ]
 
--- where r isn't named a lower replica is
+-- if r isn't named a lower replica is
 pub lower_named : (c : Config) (r : ℕ) (mine : List Event) → r < c.replicas → is_named c r mine ≡ false → nat_lt (leader c r mine) r ≡ true
 lower_named c r mine inside other =
     let own : ((r == r) || not (is_failed r r mine)) ≡ true = ap (λ t. t || not (is_failed r r mine)) (same_number r) in
@@ -76,7 +76,7 @@ lower_named c r mine inside other =
     let apart = eqb-false (leader c r mine) r other in
     lt-ltb (leader c r mine) r (omega (arith, low, apart))
 
--- a leader that rests where a lower replica is named leads only where r is named
+-- a leader that rests if a lower replica is named leads only if r is named
 pub rests_named : (c : Config) (r : ℕ) (mine : List Event) (old new : Bool) → r < c.replicas → new ≡ (old && not (nat_lt (leader c r mine) r)) → new ≡ true → is_named c r mine ≡ true
 rests_named c r mine old new inside rests leads = go (is_named c r mine) refl
   where

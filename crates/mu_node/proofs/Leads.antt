@@ -44,12 +44,12 @@ use Rattle.mu_node.specs.Node.{AwaitsBeside, HoldsBeside, HoldsWith, StandsForLe
 use Rattle.mu_node.specs.Notes.{heed_note}
 use Rattle.mu_node.proofs.Moving.{event_by}
 
--- where the event commits nothing, the leader is told all that is known after it
+-- if the event commits nothing, the leader is told all that is known after it
 told_none : (c : Config) (r : ℕ) (mine : List Event) (verb : Verb) (answer : Answer) → commit_of c r mine (event_by r verb answer) ≡ None → known c r (event_by r verb answer ∷ mine) ≡ known_told c r mine r verb answer
 told_none c r mine (Verb.PutSlot p i b v) answer none = put_known c r r (Verb.PutSlot p i b v) answer mine refl none
 told_none c r mine verb answer none = refl
 
--- where it commits an entry, what was known before it
+-- if it commits an entry, what was known before it
 told_some : (c : Config) (r : ℕ) (mine : List Event) (verb : Verb) (answer : Answer) (entry : ℕ × ℕ) → commit_of c r mine (event_by r verb answer) ≡ Some entry → known c r mine ≡ known_told c r mine r verb answer
 told_some c r mine (Verb.PutSlot p i b v) answer entry some = refl
 told_some c r mine verb answer entry some = absurd (none_some entry some)
@@ -181,7 +181,7 @@ pub fits_led : (c : Config) (r : ℕ) (mine : List Event) (lead : Lead) (leads :
 fits_led c r mine lead true due verb fits is some = (fits.0, sym fits.1 ∙ some)
 fits_led c r mine lead false due verb fits is some = absurd (true≢false (sym is))
 
--- where none is, the turn is idle
+-- if none is, the turn is idle
 pub fits_idle : (c : Config) (r : ℕ) (mine : List Event) (lead : Lead) (leads : Bool) (due : Option Verb) → FitsLead c r mine lead leads due → due ≡ None → IsIdle c r mine lead Verb.Beat
 fits_idle c r mine lead true due fits none = λ odd. (sym fits.1 ∙ none, inl refl)
 fits_idle c r mine lead false due fits none = subst (λ d. IsIdle c r mine lead (verb_or_beat d)) none fits.1.1
@@ -194,7 +194,7 @@ pub fits_other : (c : Config) (r : ℕ) (mine : List Event) (lead : Lead) (leads
 fits_other c r mine lead true due verb fits is some = absurd (true≢false is)
 fits_other c r mine lead false due verb fits is some = subst (λ d. IsOther c r mine lead (verb_or_beat d)) some fits
 
--- what the leader tells of what its put made known is so of r
+-- the value that the leader tells its put made known is the one that r learns
 pub lead_tells : (c : Config) (r : ℕ) (mine : List Event) (old : Lead) (verb : Verb) (answer : Answer) (values : List ℕ) (note : Note) → StandsForLead c r mine old → TellsNext mine old values answer note
     → lead_due c r mine old ≡ Some verb → IsPossible c r (event_by r verb answer ∷ mine) → values ≡ known_told c r mine r verb answer → known c r (event_by r verb answer ∷ mine) ≡ grown values (value_committed note)
 lead_tells c r mine old verb answer values note held tells due possible told =
@@ -341,7 +341,7 @@ led_beside c r mine verb answer noted last lead values position note good possib
         let committed_here : commit_of c r mine (event_by r verb answer) ≡ Some (position, entry.1) = subst (λ p. commit_of c r mine (event_by r verb answer) ≡ Some (p, entry.1)) here some in
         learns entry.1 value (omega (arith, few, more, long)) committed_here (beside_lead (AwaitsEntry c r mine) c r now noted lead held)
 
--- what the leader has due stays where the scores name r
+-- what the leader has due stays if the scores name r
 pub heed_due : (c : Config) (r : ℕ) (mine : List Event) (old new : Lead) → (nat_lt (leader c r mine) r ≡ false → (values : List ℕ) → verb_of new values ≡ verb_of old values) → lead_due c r mine new ≡ lead_due c r mine old
 heed_due c r mine old new same = go (leader c r mine == r) refl
   where
@@ -349,7 +349,7 @@ heed_due c r mine old new same = go (leader c r mine == r) refl
     go true is = let here = eqb-true (leader c r mine) r is in same (le-ltb (leader c r mine) r (omega (arith, here))) (known c r mine)
     go false is = refl
 
--- where the leader has something due, it did not resign
+-- if the leader has something due, it did not resign
 pub due_unresigned : (c : Config) (r : ℕ) (mine : List Event) (lead : Lead) (verb : Verb) → lead_due c r mine lead ≡ Some verb → heed_note c r mine lead ≡ Note.Working
 due_unresigned c r mine lead verb due = go (leader c r mine == r) refl due
   where

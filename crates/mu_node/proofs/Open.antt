@@ -192,6 +192,6 @@ open_due c r (e ∷ past) left good possible made is = elim (step (is_replay_due
     step false true (Some l) is = absurd (none_some left is)
     step false false (Some l) is = inr (refl, (l, refl))
 
--- where nothing is due there is any room
+-- if nothing is due there is any room
 pub undue_room : (c : Config) (r n : ℕ) (past : List Event) → IsConfig c → IsPossible c r past → AtEachStep (WasMade c r) past → is_replay_due c r past ≡ false → HasRoom (replaying c r) n past
 undue_room c r n past good possible made none left is = absurd (true≢false (sym (open_due c r past left good possible made is) ∙ none))

@@ -32,7 +32,7 @@ word_on r u k e past is = go (u / 4096 == r) (wrote r (u % 4096) k past) refl (h
     go true false hw false hx is = absurd (true≢false (sym is))
     go false w hw false hx is = absurd (true≢false (sym is))
 
--- the entry of which a row is
+-- the entry that a row is of
 record RowOf (c : Config) (u : ℕ) (values : List ℕ) : Type 0 where
   index : ℕ
   value : ℕ
@@ -105,7 +105,7 @@ whole_had c r u whole good legal is own = each_all 12 (λ k. has_word r u k (par
 own_had : (c : Config) (r u : ℕ) (past : List Event) → IsConfig c → IsPossible c r past → is_row_of c u (known c r past) ≡ true → (u / 4096 == r) ≡ true → has_row r u past ≡ true
 own_had c r u past good p = subst (λ z. is_row_of c u (known c r z) ≡ true → (u / 4096 == r) ≡ true → has_row r u z ≡ true) p.is (whole_had c r u p.past good p.legal)
 
--- so a row of a known entry stays as it is where none is completed
+-- so a row of a known entry stays as it is if none is completed
 pub rows_stay : (c : Config) (r u : ℕ) (past : List Event) (e : Event) → IsConfig c → IsPossible c r past → e.by ≡ r → completes_row c r past e ≡ false → is_row_of c u (known c r past) ≡ true → has_row r u (e ∷ past) ≡ has_row r u past
 rows_stay c r u past e good possible own none of_known = go (is_write e.verb) refl (has_row r u past) refl
   where

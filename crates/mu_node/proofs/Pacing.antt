@@ -171,17 +171,17 @@ paces_odd c r mine lead odd paces = subst (λ t. PacesTold (t && not (is_named c
 odd_paces : (c : Config) (r : ℕ) (mine : List Event) (lead : Lead) (t : Bool) → is_odd (length mine) ≡ true → is_named c r mine ≡ t → HasPlannedPaces c r mine lead → PacesTold (not t) c r mine lead
 odd_paces c r mine lead t odd named paces = subst (λ u. PacesTold (not u) c r mine lead) named (subst (λ u. PacesTold (u && not (is_named c r mine)) c r mine lead) odd paces)
 
--- where the leader has something due r is named
+-- if the leader has something due r is named
 pub led_paces : (c : Config) (r : ℕ) (mine : List Event) (lead : Lead) (verb : Verb) → is_odd (length mine) ≡ true → lead_due c r mine lead ≡ Some verb → HasPlannedPaces c r mine lead → HasPaces c r mine lead
 led_paces c r mine lead verb odd due paces = odd_paces c r mine lead true odd (is_asked (leader c r mine == r) (verb_of lead (known c r mine)) verb due).0 paces
 
--- nothing is due where all is known or the log was outrun
+-- nothing is due if all is known or the log was outrun
 none_due : (c : Config) (b : ℕ) (values up written : List ℕ) (place : Place) → verb_at c b values up written place ≡ None → rests_at place ≡ true
 none_due c b values up written Place.Rest none = refl
 none_due c b values up written Place.Outrun none = refl
 none_due c b values up written place none = absurd (true≢false (ap is_some none))
 
--- a beat where nothing is due leaves it
+-- a beat leaves it if nothing is due
 rests_on : (c : Config) (r b : ℕ) (mine : List Event) (up : List ℕ) (reach : List (Option ℕ)) (written : List ℕ) (place : Place) (answer : Answer) → IsConfig c → is_odd (length mine) ≡ true → outrun c r mine ≡ None → rests_at place ≡ true
     → At c r b mine up reach written place → PacesAt c r mine written place → PacesAt c r (event_by r Verb.Beat answer ∷ mine) written place
 rests_on c r b mine up reach written Place.Rest answer good odd going rests at paces = record {
@@ -279,7 +279,7 @@ pub kept_other : (c : Config) (r : ℕ) (mine : List Event) (lead : Lead) (verb 
     → LeaderKeeps c r mine (event_by r verb answer)
 kept_other c r mine lead verb answer beside held paces = kept_with c r mine (event_by r verb answer) lead held paces (leaders_ask_with_cause.uncaused c r mine (leads_at lead.place) verb answer beside) (λ begins. absurd (true≢false (sym begins ∙ beside_begins r r (leads_at lead.place) verb beside)))
 
--- one of the leader begins one where its place says so
+-- one of the leader begins one if its place says so
 abbrev asks_first : ℕ → ℕ → Option Verb → Bool
 asks_first r by None = false
 asks_first r by (Some verb) = is_first_ask r by verb

@@ -66,7 +66,7 @@ under_way_known : (c : Config) (r : ℕ) (mine : List Event) (w : ℕ) → Reads
 under_way_known c r [] w reads is = cc
 under_way_known c r (e ∷ mine) w reads is = of_known_stays c r e mine w (under_way_after c r e.by e.verb e.answer mine w reads.1 (λ u under. under_way_known c r mine u reads.0 under) is)
 
--- what is due, or else a beat, reads rows of known batches alone
+-- what is due, or else a beat, reads only rows of known batches
 abbrev Reads : Config → ℕ → List Event → Option Verb → Type 0
 Reads c r mine due = IsReadKnown c r mine (verb_or_beat due)
 
@@ -204,7 +204,7 @@ made_reads c r mine e reads was = go (is_odd (length mine)) refl
     ]
     go false even = let made = was.made.background even in subst (IsReadKnown c r mine) (sym made.2) (ahead_reads c r mine was.zeal made.0 (background_reads c r mine (leads_at (place_after c r mine)) made.0 reads made.1))
 
--- a node reads rows of known batches alone
+-- a node reads only rows of known batches
 pub reads_known : (c : Config) (r : ℕ) (mine : List Event) → AtEachStep (WasMade c r) mine → ReadsKnown c r mine
 reads_known c r [] made = tt
 reads_known c r (e ∷ mine) made = let before = reads_known c r mine made.0 in (before, made_reads c r mine e before made.1)

@@ -44,7 +44,7 @@ ahead n x = if nat_lt (4 * n + 36) x then 8 * n + 80 - x else 4 * n + 36 - x
 abbrev IsEased : Config → ℕ → List Event → Type 0
 IsEased c r past = HasRoom (replaying c r) (cycle c + 1 + ahead c.replicas (length past % cycle c)) past
 
--- a row of a known entry is under way that r doesn't have, and so many of its words are read
+-- a row of a known entry is under way that r doesn't have, and this many of its words are read
 pub record IsReading (c : Config) (r count : ℕ) (past : List Event) : Type 0 where
   pub row : ℕ
   pub under_way : row_under_way past ≡ Some row
@@ -120,7 +120,7 @@ room_lasts c r past e other eased =
 any_eases : (c : Config) (r : ℕ) (past : List Event) → ((n : ℕ) → n ≤ 8 * c.replicas + 88 → HasRoom (replaying c r) n past) → IsEased c r past
 any_eases c r past room = let few = ahead_low c (length past % cycle c) (mod-lt (length past) {m = cycle c} (omega arith)) in room (cycle c + 1 + ahead c.replicas (length past % cycle c)) (omega (arith, few))
 
--- where all that is applied is handed on
+-- if all that is applied is handed on
 hands_here : (c : Config) (past : List Event) → length past % cycle c ≡ 4 * c.replicas + 40 → hands_on c past ≡ true
 hands_here c past at =
     let here = at_place c (2 * c.replicas + 20) past (at ∙ omega arith) in
@@ -134,7 +134,7 @@ hands_not c past away = go (is_odd (length past)) refl (place_now c past == 2 * 
     go false even false here = refl
     go false even true here = absurd (away (place_index c (2 * c.replicas + 20) past even (eqb-true (place_now c past) (2 * c.replicas + 20) here) ∙ omega arith))
 
--- the places of the round are odd where their indices are
+-- the places of the round are odd if their indices are
 odd_index : (c : Config) (past : List Event) → (length past % cycle c) % 2 ≡ length past % 2
 odd_index c past =
     let whole = div-add-mod (length past) (cycle c) in

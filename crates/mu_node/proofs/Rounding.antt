@@ -271,7 +271,7 @@ led_no_beat c r q mine = either (is_beat_read_verb q) (leader c r mine == r) (li
     at c b values up written Place.Rest = refl
     at c b values up written place = refl
 
--- a beat is read at its place alone
+-- a beat is read only at its place
 apart_here : (c : Config) (r q : ℕ) (mine : List Event) (e : Event) → WasMade c r mine e → is_beat_read q e ≡ true → length mine % cycle c ≡ 2 * beat_place r q
 apart_here c r q mine e held reads = go (is_odd (length mine)) refl
   where
@@ -361,7 +361,7 @@ keeps_rounds c r mine inside made = record {
     in_round : (n b t s : ℕ) → t < n - 1 → s < b → t * b + s < (n - 1) * b
     in_round n b t s few low = let few = mul-add-lt t b s (n - 1) few low in let same = mul_comm b (n - 1) in omega (arith, few, same)
 
--- the head is raised at its place, where it may be
+-- the head is raised at its place, if it may be
 head_raised : (c : Config) (r : ℕ) (mine : List Event) (e : Event) → WasMade c r mine e → length mine % cycle c ≡ 2 * (2 * c.replicas + 20) → is_head_due c r mine ≡ true → is_head_raise e ≡ true
 head_raised c r mine e held at due =
     let here = at_place c (2 * c.replicas + 20) mine at in

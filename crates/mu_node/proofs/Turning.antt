@@ -116,7 +116,7 @@ due_plain : (leading : Bool) (due : Option Verb) → IfSome due (λ verb. IsRepl
 due_plain leading None is = refl
 due_plain leading (Some verb) is = replay_plain leading verb is
 
--- what is made where this was due
+-- what is made if this was due
 made_as : (due : Option Verb) (wanted : Verb) → due ≡ Some wanted → verb_or_beat due ≡ wanted
 made_as due wanted is = ap verb_or_beat is
 
@@ -266,7 +266,7 @@ note_told zeal c r mine lead planned next leads due heeded answer note turn led 
     same : lead_due c r mine lead ≡ due_after c r mine
     same = due_listed c r mine lead held listed
 
--- where the scores name r, its leadership is under way as before
+-- if the scores name r, its leadership is under way as before
 told_going : (under low : Bool) → low ≡ false → (under && not low) ≡ under
 told_going true low is = ap not is
 told_going false low is = refl

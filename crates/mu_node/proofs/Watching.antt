@@ -1,4 +1,4 @@
--- An event that reads no count of beats changes nothing of what the scores say.
+-- An event that reads no count of beats leaves what the scores say.
 use Rattle.std.proofs.Common.{◌≡◌, ℕ, false, List, ◌∷◌, refl}
 use Rattle.std.proofs.lemmas.Bool.{true≢false}
 use Rattle.mu_model.specs.declared.config.Config.{Config}

@@ -71,7 +71,7 @@ IsIdle c r mine lead verb =
     is_odd (length mine) ≡ true
     → (lead_due c r mine lead ≡ None) × ((verb ≡ Verb.Beat) ⊎ CatchesUp c r mine verb)
 
--- the row of which the verb writes a word
+-- the row that the verb writes a word of
 abbrev pub written_row : Verb → Option ℕ
 written_row (Verb.WriteRow j k x) = Some j
 written_row verb = None

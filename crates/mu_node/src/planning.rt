@@ -68,7 +68,7 @@ fn committed_in(note: Note) -> Option<u16>
     }
 }
 
-/// The row of which the verb writes a word.
+/// The row that the verb writes a word of.
 fn row_written(verb: &Verb) -> Option<u16>
     ensures { result ≡ written_row verb.now }
 {

@@ -86,7 +86,7 @@ rows_below o told q there =
     let many = as_many c.width o.job.commands c.rows told.have in
     omega (arith, low, many)
 
--- as many commands are told as the job has exactly where each is told
+-- as many commands are told as the job has exactly if each is told
 count_from_all : (o : Outcome) → Told o → HasAllCommands o → length (commands_in o.job (longest o.logs)) ≡ length o.job.commands
 count_from_all o told all =
     let c = o.job.config in
@@ -251,7 +251,7 @@ all_from_log o events good have run agrees r low holds =
     has_all_from_rows o (told_of o good have agrees run.counts.0)
     (λ q inside. among_front c q (log_of o r) begins.0 (longest o.logs) begins.1 (included_among q (rows_in c (log_of o r)) (all_at (row_count c) (λ j. includes j (rows_in c (log_of o r))) holds q inside)))
 
--- how a run ends where some command is missing, and what its status says
+-- how a run ends if some command is missing, and what its status says
 pub completes_over : (o : Outcome) (events : List Event) → IsConfig o.job.config → HaveHeads o.job.config.width o.job.commands o.job.config.rows → IsRunOver events o → Agrees o → Completes o
 completes_over o events good have run agrees = record {
   done = (λ is. all_from_count o told (done_by count all is), λ has. by_done count all (count_from_all o told has));

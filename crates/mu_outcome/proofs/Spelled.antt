@@ -13,7 +13,7 @@ use Rattle.mu_model.specs.Contents.{IsConfig, client_of, is_batch, numbers_in, r
 use Rattle.mu_model.proofs.Basics.{same_some}
 use Rattle.mu_outcome.specs.Entries.{commands_in, commands_of}
 
--- each row is that of the command beside it
+-- each row is that of the command at its place
 abbrev pub Spell : List Request → List ℕ → List Request → Type 0
 Spell commands [] [] = ⊤
 Spell commands [] (x ∷ xs) = ⊥

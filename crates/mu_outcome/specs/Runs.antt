@@ -1,4 +1,4 @@
--- run over a list: runs of which no order of turns is stated.
+-- run over a list: runs whose order of turns isn't stated.
 use Rattle.std.specs.Prelude.{List, None, Some, length, map, ℕ, ◌<◌, ◌≡◌}
 use Rattle.std.specs.List.{slice_get}
 use Rattle.kv_store.specs.Tables.{replies}

@@ -14,7 +14,7 @@ other : (t : Bool) (a b : ℕ) → t ≡ false → (if t then a else b) ≡ b
 other true a b h = absurd (true≢false h)
 other false a b h = refl
 
--- where p isn't below q, as the tests say it
+-- if p isn't below q, as the tests say it
 not_below : (p q : ℕ) → nat_le p q ≡ true → nat_lt q p ≡ false
 not_below p q h = go (nat_lt q p) refl
   where
@@ -87,7 +87,7 @@ joins s p t u z (near_joined q b l f) =
     let y = near p q (near_bringing (4 * (p - q)) b) (weight (joined s) (Stage.Bring (Lag.Joined q) b) + around (joined s) p) l in let k = first_near (4 * (p - q)) b f in omega arith
 joins s p t u z (near_level q v l m) = let x = near p q (4 * (p - q) - 2) (weight s (Stage.LatePut q) + around s p) (omega arith) in let y = near_fence (joined s) p v m in omega arith
 
--- a choice by a test lies where both of its sides do
+-- a choice by a test lies if both of its sides do
 both_sides : (t : Bool) (a b low high : ℕ) → (t ≡ true → (low ≤ a) × (a ≤ high)) → (low ≤ b) × (b ≤ high) → (low ≤ (if t then a else b)) × ((if t then a else b) ≤ high)
 both_sides true a b low high f g = f refl
 both_sides false a b low high f g = g

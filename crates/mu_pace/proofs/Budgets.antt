@@ -19,7 +19,7 @@ use Rattle.mu_pace.specs.Possible.{CountsFit}
 use Rattle.mu_agree.proofs.Readings.{number_is}
 use Rattle.mu_model.proofs.Budgets.{part_within_budget}
 
--- what a replica alone does is at most its steps
+-- how often a replica does something is at most its steps
 own_few : (c : Config) (q : ℕ) (test : Event → Bool) (past : List Event) → IsLegalHistory c past → IsOwnTest q test → how_many test past ≤ c.budget
 own_few c q test past h own =
     let few = how_many_within test (part q past) in

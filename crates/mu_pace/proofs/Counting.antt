@@ -21,7 +21,7 @@ pub steps_before : (P : List Event → Event → Type 0) (newer older : List Eve
 steps_before P [] older h = h
 steps_before P (e ∷ newer) older h = steps_before P newer older h.0
 
--- a count is open, and leaves no more than so many steps
+-- a count is open, and leaves at most this many steps
 pub record Leaves (w : Watch) (past : List Event) (most : ℕ) : Type 0 where
   pub left : ℕ
   pub is : steps_left w past ≡ Some left

@@ -26,7 +26,7 @@ pub steps_give : (P Q : List Event → Event → Type 0) → ((past : List Event
 steps_give P Q gives [] h = tt
 steps_give P Q gives (e ∷ past) h = (steps_give P Q gives past h.0, gives past e h.1)
 
--- what is made in each round of n events came fewer than m events ago, where m is no less
+-- what is made in each round of n events came fewer than m events ago, if m is no less
 recent : (n k m : ℕ) (test : Event → Bool) (past : List Event) → k < n → n ≤ m → IsMadeAt n k test past → IsRecent test m past
 recent n k m test [] l most h = tt
 recent n k m test (e ∷ past) l most h = (recent n k m test past l most h.0, let few = rounds_keep_pace.lately n k test (e ∷ past) l h in omega (arith, few, most))

@@ -62,7 +62,7 @@ commit_known c r past by (Verb.PutSlot p i b v) Answer.Done h =
     both_grow ((by == r) && ((i == length (known c r past)) && is_accepted_by_all c r (event_by by (Verb.PutSlot p i b v) Answer.Done ∷ past) i b v)) (commits c r past) (known c r past) (i, v) v h
 commit_known c r past by v a h = absurd (let l = ltb-true (length (commits c r past)) (length (commits c r past)) h in omega arith)
 
--- where no step raises above i, none raises to all that is known
+-- if no step raises above i, none raises to all that is known
 no_full_raise : (c : Config) (r p i : ℕ) (window older : List Event) → i < length (known c r older) → replicates (λ before f. is_raise_above p i f) window older ≡ false → replicates (is_full_raise c r p) window older ≡ false
 no_full_raise c r p i [] older l h = refl
 no_full_raise c r p i (e ∷ window) older l h =
@@ -94,7 +94,7 @@ welcomed_join c r past h p e window older l fence some going out noted f =
     (none_leaves c r (is_answer_to_welcome c r p) window (e ∷ older) f.same f.named none) in
     let u = unpaid window (e ∷ older) in let n = f.count_is in absurd (omega arith))
 
--- where p is no member after a stretch, it is none at any moment of it
+-- if p is no member after a stretch, it is none at any moment of it
 no_member : (r p : ℕ) (window older : List Event) → stays r window ≡ true → is_member r p (window ++ older) ≡ false → each_step (λ past e. not (is_member r p (e ∷ past))) window older ≡ true
 no_member r p [] older s out = refl
 no_member r p (e ∷ window) older s out =
@@ -105,7 +105,7 @@ no_member r p (e ∷ window) older s out =
     earlier true m on = absurd (true≢false (sym (on m) ∙ out))
     earlier false m on = m
 
--- where r leads throughout and doesn't read the fence
+-- if r leads throughout and doesn't read the fence
 no_away : (r p : ℕ) (window older : List Event) → each_step (λ before f. not (is_replication before f) || leads r before) window older ≡ true → replicates (λ before f. is_fencing p f) window older ≡ false
     → replicates (λ before f. not (leads r before) || is_fencing p f) window older ≡ false
 no_away r p [] older s n = refl

@@ -24,7 +24,7 @@ one_more true false x y e h = absurd (true≢false e)
 one_more false true x y e h = absurd (true≢false (sym e))
 one_more false false x y e h = h
 
--- two tests that differ at p alone
+-- two tests that differ only at p
 pub count_one : (n p : ℕ) (f g : ℕ → Bool) → p < n → f p ≡ true → g p ≡ false → ((k : ℕ) → (k ≡ p → ⊥) → f k ≡ g k) → count_below n f ≡ count_below n g + 1
 count_one zero p f g l h e s = absurd (omega arith)
 count_one (suc n) p f g l h e s = elim (cases_eq n p) [

@@ -24,7 +24,7 @@ use Rattle.mu_pace.proofs.Rooms.{kinds_of_step, steps_of_progress}
 use Rattle.mu_pace.proofs.Weights.{weights_fall}
 use Rattle.mu_model.proofs.Basics.{true_or, or_true}
 
--- a step that closes a count, where none opens, leaves it closed
+-- a step that closes a count, if none opens, leaves it closed
 shut_after : (closes counts : Bool) (pays : ℕ) (o : Option ℕ) → closes ≡ true → left_after closes counts pays o ≡ None
 shut_after closes counts pays None c = refl
 shut_after true counts pays (Some x) c = refl
@@ -274,7 +274,7 @@ milestone c r s t u past e z at k = record {
     low : {p : ℕ} → p < c.replicas → p < s.replicas
     low l = let a = at.sizes.replicas in omega arith
 
--- where every command is known each step is progress
+-- if every command is known each step is progress
 known_progress : (stops : List Event → Event → Bool) (c : Config) (r : ℕ) (past : List Event) (e : Event) → knows_all c r past ≡ true → is_progress_by stops c r past e ≡ true
 known_progress stops c r past e k = or_true (commits_more c r past e) _ (or_true (is_over_after r past e) _ (or_true (stops past e) _ (true_or (knows_all c r past) _ k)))
 

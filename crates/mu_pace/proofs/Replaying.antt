@@ -20,7 +20,7 @@ use Rattle.mu_pace.proofs.Counting.{allowed_now, shorter}
 use Rattle.mu_pace.proofs.Hosts.{by_failing}
 use Rattle.mu_pace.proofs.Stretched.{all_count, neither, no_step_passes, none_passes, unpaid}
 
--- where r is never named there is no turn at which it is
+-- if r is never named there is no turn at which it is
 no_named_turn : (c : Config) (r : ℕ) (window older : List Event) → unnamed_throughout c r window older ≡ true → each_step (λ past e. not (is_named_turn c r past e)) window older ≡ true
 no_named_turn c r [] older u = refl
 no_named_turn c r (e ∷ window) older u = go (is_replication (window ++ older) e) (is_named c r (window ++ older)) u (no_named_turn c r window older)

@@ -44,7 +44,7 @@ back n k test (e ∷ past) l h = go (test e) refl (back n k test past l h.0)
 lately : (n k : ℕ) (test : Event → Bool) (past : List Event) → k < n → IsMadeAt n k test past → CameLately test n past
 lately n k test past l h = let b = back n k test past l h in let low = mod-lt (length past + (n - 1 - k)) {m = n} (omega arith) in omega arith
 
--- the last that passes, where there is one
+-- the last that passes, if there is one
 record Last (n k : ℕ) (test : Event → Bool) (past : List Event) : Type 0 where
   pub index : ℕ
   pub place : index % n ≡ k
@@ -77,7 +77,7 @@ apart n k test past e l h p some =
     let is = x.is in
     let far = round_apart n x.index (length past) (omega arith) (x.place ∙ sym (h.1 p)) in omega arith
 
--- so many steps are left as there are up to the next place
+-- the steps left are those up to the next place
 closed_rounds : (n k : ℕ) (w : Watch) (past : List Event) → k < n → ((now : List Event) (allowed : ℕ) → w.allows now ≡ Some allowed → n ≤ allowed) → IsClosedAt n k w past → HasRoom w (n - (length past + (n - 1 - k)) % n) past
 closed_rounds n k w [] l most h = (λ left is. let a = most [] left is in omega arith)
 closed_rounds n k w (e ∷ past) l most h = go (cases_eq (length past % n) k) (closed_rounds n k w past l most h.0)

@@ -11,17 +11,17 @@ use Rattle.mu_model.specs.Stretches.{each_step, is_replication, some_step, steps
 use Rattle.mu_pace.specs.Counters.{paid}
 use Rattle.mu_pace.specs.Watches.{every, leaves, nothing, turns_away}
 
--- a stretch gives no more steps where none of its steps gives any
+-- a stretch gives no more steps if none of its steps gives any
 pub unpaid : (window older : List Event) → paid nothing window older ≡ 0
 unpaid [] older = refl
 unpaid (e ∷ window) older = let ih = unpaid window older in omega arith
 
--- where each event counts a stretch has as many steps as events
+-- if each event counts a stretch has as many steps as events
 pub all_count : (window older : List Event) → steps every window older ≡ length window
 all_count [] older = refl
 all_count (e ∷ window) older = let ih = all_count window older in omega arith
 
--- where no event passes none of the steps does
+-- if no event passes none of the steps does
 pub none_passes : (test : Event → Bool) (window older : List Event) → has test window ≡ false → each_step (λ past e. not (test e)) window older ≡ true
 none_passes test [] older h = refl
 none_passes test (e ∷ window) older h = go (test e) h (none_passes test window older)
@@ -40,7 +40,7 @@ no_step_passes test (e ∷ window) older h = go (test (window ++ older) e) h (no
     go true h ih = absurd (true≢false h)
     go false h ih = ih h
 
--- where no step passes either of two tests
+-- if no step passes either of two tests
 pub neither : (a b : List Event → Event → Bool) (window older : List Event) → each_step (λ past e. not (a past e)) window older ≡ true → each_step (λ past e. not (b past e)) window older ≡ true
     → each_step (λ past e. not (a past e || b past e)) window older ≡ true
 neither a b [] older h k = refl
@@ -53,7 +53,7 @@ neither a b (e ∷ window) older h k = go (a (window ++ older) e) (b (window ++ 
     go false true h k ih = absurd (true≢false (sym k))
     go false false h k ih = ih h k
 
--- no replication event turns away where r is named before each and none meets what is waited for
+-- no replication event turns away if r is named before each and none meets what is waited for
 pub none_turns_away : (c : Config) (r : ℕ) (met : List Event → Event → Bool) (window older : List Event) → named_throughout c r window older ≡ true → replicates met window older ≡ false
     → each_step (λ past e. not (turns_away c r met past e)) window older ≡ true
 none_turns_away c r met [] older n m = refl
@@ -71,7 +71,7 @@ not_false : (t : Bool) → not t ≡ true → t ≡ false
 not_false true h = absurd (true≢false (sym h))
 not_false false h = refl
 
--- and none leaves where the stretch is of one leadership too
+-- and none leaves if the stretch is of one leadership too
 pub none_leaves : (c : Config) (r : ℕ) (met : List Event → Event → Bool) (window older : List Event) → stays r window ≡ true → named_throughout c r window older ≡ true → replicates met window older ≡ false
     → each_step (λ past e. not (leaves c r met past e)) window older ≡ true
 none_leaves c r met window older s n m =

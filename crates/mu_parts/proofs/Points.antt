@@ -58,7 +58,7 @@ unequal_to a b n same = subst (λ k. (IsTrue (not (a == b)) ↔ (a ≢ k))) same
 pub iff_both : (t : Bool) (P Q : Type 0) → (IsTrue t ↔ (P × Q)) → P → (IsTrue t ↔ Q)
 iff_both t P Q met p = (λ h. (met.0 h).1, λ q. met.1 (p, q))
 
--- where a point fails, the search is over
+-- if a point fails, the search is over
 pub stops : (c : Config) (r : ℕ) (past : List Event) (xs more : List Reason) (found : Option Reason) → (AreMet c r past xs → ⊥) → Finds c r past xs found → Finds c r past (xs ++ more) found
 stops c r past xs more None fails finds = absurd (fails finds)
 stops c r past xs more (Some q) fails finds = found_on c r past xs more q finds
@@ -79,7 +79,7 @@ within c r past (x ∷ xs) more (b ∷ before) after q same met fails =
     let rest = within c r past xs more before after q (ap tail_of same) met.1 (λ m. fails (subst (λ y. IsMet c r past y) (sym first) met.0, m)) in
     (rest.0, ap (λ y. y ∷ xs) first ∙ ap (λ ys. b ∷ ys) rest.1)
 
--- where a point fails, what would come after it doesn't count
+-- if a point fails, what would come after it doesn't count
 pub elsewhere : (c : Config) (r : ℕ) (past : List Event) (xs more other : List Reason) (found : Option Reason) → (AreMet c r past xs → ⊥) → Finds c r past (xs ++ more) found → Finds c r past (xs ++ other) found
 elsewhere c r past xs more other None fails finds = absurd (fails (met_front c r past xs more finds))
 elsewhere c r past xs more other (Some q) fails finds =
@@ -99,7 +99,7 @@ no_more c r past xs found finds = subst (λ l. Finds c r past l found) (sym (app
 pub less_from : (a b n : ℕ) → a ≡ n → (IsTrue (nat_lt a b) ↔ (n < b))
 less_from a b n same = subst (λ k. (IsTrue (nat_lt a b) ↔ (k < b))) same (less a b)
 
--- the first that waits, where one was found, and where nobody does
+-- the first that waits, if one was found, and if nobody does
 pub waiting_is : (n r : ℕ) (mine : List Event) (found : Option ℕ) → ((w : ℕ) → found ≡ Some w → (w < n) × (is_least_waiting r mine w ≡ true)) → (found ≡ None → all_below n (λ w. not (has_unserved_ask r mine w)) ≡ true) → found ≡ first_below n (has_unserved_ask r mine)
 waiting_is n r mine None one nobody = sym (none_found n (has_unserved_ask r mine) (nobody refl))
 waiting_is n r mine (Some w) one nobody =

@@ -72,7 +72,7 @@ pause_words rounds = codes " pauses for " ++ (decimal rounds ++ codes " rounds")
 abbrev pub committed_words : Job → ℕ → ℕ → List ℕ
 committed_words job i v = codes " commits " ++ (decimal i ++ entry_words job v)
 
--- what is said of what a step does
+-- the words on what a step does
 abbrev pub done_words : Job → Deed → List ℕ
 done_words job (Deed.PutMin p b landed) = missed_words landed (codes " with number ") b p
 done_words job (Deed.Put p i landed) = missed_words landed (codes " with position ") i p
@@ -91,7 +91,7 @@ abbrev pub deed_words : Job → Option Deed → List ℕ
 deed_words job None = []
 deed_words job (Some deed) = done_words job deed
 
--- what is said of what befalls the replica
+-- the words on what befalls the replica
 abbrev pub halt_words : Option Halt → List ℕ
 halt_words None = []
 halt_words (Some Halt.Stop) = codes " stops"
@@ -99,7 +99,7 @@ halt_words (Some Halt.Spent) = codes " has spent its budget"
 halt_words (Some Halt.Finish) = codes " has finished"
 halt_words (Some (Halt.Pause rounds)) = pause_words rounds
 
--- what is said of a replica that goes on, and of what it does then
+-- the words on a replica that goes on, and on what it does then
 abbrev pub resumed_words : Option Resumed → List ℕ → List ℕ
 resumed_words None words = words
 resumed_words (Some resumed) [] = codes " goes on"

@@ -378,7 +378,7 @@ fn push_document(
 ///
 /// # Errors
 ///
-/// Want of memory alone.
+/// Only want of memory.
 pub fn drawn(
     alloc: Global,
     job: &Job,

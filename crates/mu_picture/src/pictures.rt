@@ -137,7 +137,7 @@ fn rows_of(
 ///
 /// # Errors
 ///
-/// Want of memory alone.
+/// Only want of memory.
 pub fn picture_of(
     alloc: Global,
     config: &Config,

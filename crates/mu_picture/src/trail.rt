@@ -74,7 +74,7 @@ impl Trail {
         opening_with(fence, standing, leads, named)
     }
 
-    /// Takes the next event of the legal list. What it comes to, and what it changes of whom its
+    /// Takes the next event of the legal list. What it comes to, and how it changes whom its
     /// replica holds to be failed.
     fn note(&mut self, config: &Config, event: &Event) -> Option<(Turn, Heard)>
         requires { IsConfig config.now }

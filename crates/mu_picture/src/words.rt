@@ -165,7 +165,7 @@ fn push_committed(sheet: &mut Sheet, job: &Job, i: u16, v: u16) -> Result<(), No
     push_entry(sheet, job, v)
 }
 
-/// Adds what is said of what a step does.
+/// Adds the words on what a step does.
 fn push_done_words(sheet: &mut Sheet, job: &Job, deed: Deed) -> Result<(), NoMemory>
     ensures { OnOk result (sheet.new ≡ sheet.old ++ done_words job.now deed) }
 {
@@ -212,7 +212,7 @@ fn push_pause(sheet: &mut Sheet, rounds: u32) -> Result<(), NoMemory>
     )
 }
 
-/// Adds what is said of what befalls the replica.
+/// Adds the words on what befalls the replica.
 fn push_halt_words(sheet: &mut Sheet, halt: Option<Halt>) -> Result<(), NoMemory>
     ensures { OnOk result (sheet.new ≡ sheet.old ++ halt_words halt) }
 {

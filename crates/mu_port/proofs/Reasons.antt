@@ -21,7 +21,7 @@ use Rattle.mu_model.proofs.Owned.{noted-part}
 lost_is : (f g : Fence) → Answer.Lost f ≡ Answer.Lost g → f ≡ g
 lost_is f g e = cc
 
--- an `Enter` is lost exactly where the fence found is closing or has another grant than the noted one
+-- an `Enter` is lost exactly if the fence found is closing or has another grant than the noted one
 abbrev IsOther : Option ℕ → Fence → Type 0
 IsOther noted f = (f.closing ≡ true) ⊎ (noted ≢ Some f.grant)
 
@@ -44,7 +44,7 @@ gets_lost (Some g) now other = go (now.closing) refl (now.grant == g) refl other
     go false h true k (inr o) = absurd (o (ap Some (sym (eqb-true now.grant g k))))
     go false h false k o = rw (h, k) refl
 
--- two answers differ where one passes a test and the other does not
+-- two answers differ if one passes a test and the other does not
 differ : {A : Type 0} (test : Answer → Bool) (a b : Answer) → test a ≡ true → test b ≡ false → a ≡ b → A
 differ test a b passes fails same = absurd (true≢false (sym passes ∙ (ap test same ∙ fails)))
 

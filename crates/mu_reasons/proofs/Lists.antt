@@ -22,7 +22,7 @@ met_rest c r past (x ∷ xs) ys a = met_rest c r past xs ys a.1
 below_or_last : (j n : ℕ) → j < suc n → (j < n) ⊎ (j ≡ n)
 below_or_last j n low = elim (cases_eq j n) [ inl e ↦ inr e | inr e ↦ inl (omega (arith, low, e)) ]
 
--- all are met where those of each number are
+-- all are met if those of each number are
 pub each_met : (c : Config) (r : ℕ) (past : List Event) (n : ℕ) (of_each : ℕ → List Reason) → ((j : ℕ) → j < n → AreMet c r past (of_each j)) → AreMet c r past (each_below n of_each)
 each_met c r past zero of_each all = tt
 each_met c r past (suc n) of_each all = met_append c r past (each_below n of_each) (of_each n) (each_met c r past n of_each (λ j low. all j (omega (arith, low)))) (all n (omega arith))
@@ -52,6 +52,6 @@ one_fails c r past (x ∷ xs) (y ∷ ys) a b xs2 ys2 same met fails met2 fails2 
 pub at_most_one : (c : Config) (r : ℕ) (past : List Event) (reasons : List Reason) (a b : Reason) → FailsFirst c r past reasons a → FailsFirst c r past reasons b → a ≡ b
 at_most_one c r past reasons a b one other = one_fails c r past one.before other.before a b one.after other.after (sym one.order ∙ other.order) one.met one.fails other.met other.fails
 
--- where a point fails, all lists that go on from there have it
+-- if a point fails, all lists that go on from there have it
 pub found_on : (c : Config) (r : ℕ) (past : List Event) (reasons more : List Reason) (q : Reason) → FailsFirst c r past reasons q → FailsFirst c r past (reasons ++ more) q
 found_on c r past reasons more q finds = record { before = finds.before; after = finds.after ++ more; order = ap (λ l. l ++ more) finds.order ∙ append_assoc finds.before (q ∷ finds.after) more; met = finds.met; fails = finds.fails }

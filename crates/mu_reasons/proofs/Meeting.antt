@@ -23,7 +23,7 @@ use Rattle.mu_reasons.specs.declared.reason.Reason.{Reason}
 use Rattle.mu_reasons.specs.Reasons.{AreMet, MetWhereAllowed, applied_to, batch_points, batch_written, clear_members, each_below, entry_there, needs, new_values, offers, picks, proposals, puts, reserved_rooms, rooms, row_written, values}
 use Rattle.mu_reasons.proofs.Lists.{each_met, met_append, met_each, met_front, met_rest}
 
--- those of each number are met exactly where a test of each passes
+-- those of each number are met exactly if a test of each passes
 pub all_met : (c : Config) (r : ℕ) (past : List Event) (n : ℕ) (test : ℕ → Bool) (of_each : ℕ → List Reason) → ((j : ℕ) → (AreMet c r past (of_each j) ↔ (test j ≡ true))) → (AreMet c r past (each_below n of_each) ↔ (all_below n test ≡ true))
 all_met c r past n test of_each tells = (
   λ m. each_all n test (λ j low. (tells j).0 (met_each c r past n of_each m j low)),
@@ -37,7 +37,7 @@ rooms_met c r past i free =
       λ h. each_met c r past c.replicas (λ q. Reason.NoRoom i free q (last_head r q past) ∷ []) (λ q low. (all_at c.replicas one h q low, tt)),
     )
 
--- the points of a list hold where a test calls for them
+-- the points of a list hold if a test calls for them
 where_fresh : (c : Config) (r : ℕ) (past : List Event) (t room : Bool) (xs : List Reason) → (AreMet c r past xs ↔ (room ≡ true)) → (AreMet c r past (if t then xs else []) ↔ (t ≡ true → room ≡ true))
 where_fresh c r past true room xs met = (λ m is. met.0 m, λ h. met.1 (h refl))
 where_fresh c r past false room xs met = (λ m is. absurd (false≢true is), λ h. tt)
@@ -50,7 +50,7 @@ batch_written_met c r past v =
     all_met c r past (rest_of c (v % 4096) + 1) (λ t. all_below 12 (λ k. wrote r (v % 4096 + t) k past)) (λ t. row_written v (v % 4096 + t)) (λ t.
     all_met c r past 12 (λ k. wrote r (v % 4096 + t) k past) (λ k. Reason.NotWritten v (v % 4096 + t) k ∷ []) (λ k. (λ m. m.0, λ h. (h, tt))))
 
--- where the test fails, the last point fails
+-- if the test fails, the last point fails
 where_applied : (c : Config) (r : ℕ) (past : List Event) (t : Bool) (h count : ℕ) (xs : List Reason) → nat_le h count ≡ t → (AreMet c r past (if t then [] else (xs ++ Reason.NotApplied h count ∷ [])) ↔ (h ≤ count))
 where_applied c r past true h count xs is = (λ m. leb-true h count is, λ low. tt)
 where_applied c r past false h count xs is = (λ m. (met_rest c r past xs (Reason.NotApplied h count ∷ []) m).0, λ low. absurd (false≢true (sym is ∙ le-leb h count low)))
@@ -129,7 +129,7 @@ new_met c r past i v =
       λ h. (h.next, met_append c r past all (kept ++ late) ((rooms_met c r past i 0).1 h.room) (met_append c r past kept late ((reserved_met c r past i v).1 h.reserve_kept) (met_append c r past clear offered ((clear_met c r past i).1 h.none_past) ((proposals_met c r past i v first).1 h.value)))),
     )
 
--- the points of a new value are asked for where the value isn't known
+-- the points of a new value are asked for if the value isn't known
 where_known : (c : Config) (r : ℕ) (past : List Event) (o : Option ℕ) (v : ℕ) (xs : List Reason) (New : Type 0) → (AreMet c r past xs ↔ New) → (AreMet c r past (if is_value o v then [] else xs) ↔ ((o ≡ Some v) ⊎ New))
 where_known c r past None v xs New met = (λ m. inr (met.0 m), λ h. elim h [ inl is ↦ absurd (none_some v is) | inr new ↦ met.1 new ])
 where_known c r past (Some w) v xs New met = elim (eqb_tells w v) [

@@ -62,7 +62,7 @@ none_found (suc n) test all =
     go true is = absurd (false≢true is)
     go false is = refl
 
--- one that passes, where none below does, is the first
+-- one that passes, if none below does, is the first
 pub one_found : (n w : ℕ) (test : ℕ → Bool) → w < n → test w ≡ true → all_below w (λ j. not (test j)) ≡ true → first_below n test ≡ Some w
 one_found zero w test low is all = absurd (omega (arith, low))
 one_found (suc n) w test low is all = elim (cases_lt w n) [

@@ -27,7 +27,7 @@ each_pushed c past regions last held new p region at = by_test (p == length regi
 pub written_back : {A : Type 0} (n : ℕ) (new rest : List A) → length new ≡ n → take n (new ++ rest) ≡ new
 written_back n new rest same = subst (λ m. take m (new ++ rest) ≡ new) same (take-append_seam new rest)
 
--- what holds of the regions where those below i have taken the event
+-- what holds of the regions once those below i have taken the event
 abbrev pub Taken : Config → List Event → Event → ℕ → List Region → Type 0
 Taken c past e i regions = (p : ℕ) (region : Region) → slice_get regions p ≡ Some region → (p < i → Holds c p (e ∷ past) region) × (i ≤ p → Holds c p past region)
 

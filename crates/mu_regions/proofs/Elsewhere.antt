@@ -89,6 +89,6 @@ kept_by c p by verb answer past region later other h = record {
   words = h.words;
 }
 
--- what is held of a region stays, where the event reads another one
+-- what is held of a region stays, if the event reads another one
 pub region_kept : (c : Config) (p : ℕ) (past : List Event) (e : Event) (region : Region) → is_first e.verb ≡ false → (read_at e.by e.verb == p) ≡ false → Holds c p past region → Holds c p (e ∷ past) region
 region_kept c p past e region later other held = kept_by c p e.by e.verb e.answer past region later other held

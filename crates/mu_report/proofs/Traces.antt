@@ -26,7 +26,7 @@ client_lines-next commands client count below =
     let next : count - client ≡ suc (count - (client + 1)) = omega arith in
     ap (client_lines commands client) next
 
--- the next command, where it is of this client, and the others
+-- the next command, if it is of this client, and the others
 pub commands_lines-drop : (client : ℕ) (commands : List Request) (i : ℕ) (command : Request) → i < length commands → command ≡ get_or commands i command
     → commands_lines client (drop i commands) ≡ command_lines client command ++ commands_lines client (drop (i + 1) commands)
 commands_lines-drop client commands i command within is =

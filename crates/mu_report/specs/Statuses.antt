@@ -17,7 +17,7 @@ abbrev pub broken_status : Option Broken → Status
 broken_status None = Status.Done
 broken_status (Some broken) = Status.Illegal
 
--- the status of what is said, once it is written
+-- the status of an answer, once it is written
 abbrev pub status_for : Said → Status
 status_for Said.Usage = Status.Usage
 status_for (Said.Refused line cause) = Status.Refused

@@ -7,7 +7,7 @@ use crate::said::Said;
 use mu_outcome::{Status, Verdict};
 use mu_reasons::Broken;
 
-/// The status of what is said, once it is written.
+/// The status of an answer, once it is written.
 pub fn status_for(said: &Said) -> Status
     ensures { result ≡ status_for_said said.now }
 {

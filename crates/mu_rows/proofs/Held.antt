@@ -99,7 +99,7 @@ held words back len reads fit clear j there =
     same-sum _ word _ _ _ _ _ _ _ _ _ _ _ _ _ _ _ _ (word_of-bytes (take len back) j) first (byte 1 (omega arith)) (byte 2 (omega arith)) (byte 3 (omega arith))
     (byte 4 (omega arith)) (byte 5 (omega arith)) (byte 6 (omega arith)) (byte 7 (omega arith)) (from_le_bytes-to_le_bytes_8 word (fit j))
 
--- so many bytes spell a number of their size
+-- bytes spell a number of their size
 sized : (bytes : List ℕ) → ((i : ℕ) → get_or bytes i 0 < 256) → number_of bytes < 2 ^ (8 * length bytes)
 sized [] small = omega arith
 sized (byte ∷ bytes) small =

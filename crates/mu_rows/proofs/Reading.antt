@@ -244,7 +244,7 @@ pub maker_gives_word : (result : Option (List ℕ)) (most : ℕ) (bytes word : L
 maker_gives_word (Some w) most bytes word allowed same is fits = ap Some (same ∙ is)
 maker_gives_word None most bytes word allowed same is fits = absurd (false≢true (allowed.1 (subst (IsWord most) (sym is) fits)))
 
--- what the maker of commands answers, of what a command has
+-- what the maker of commands answers to the parts of a command
 pub maker_gives_command : (result : Option Request) (client number : ℕ) (op : Op) (r : Request) → (IsSome result ↔ IsAllowed client number op)
     → IfSome result (λ x. x ≡ record { client = client; number = number; op = op }) → client ≡ r.client → number ≡ r.number → op ≡ r.op
     → IsAllowed r.client r.number r.op → result ≡ Some r

@@ -57,7 +57,7 @@ once c (j ∷ js) counts = IsDistinct-cons eqb j js (apart j js out) (once c js 
     out : list_any (eqb j) js ≡ true → ⊥
     out there = own (client_of c j == client_of c j) (eq-eqb (client_of c j) (client_of c j) refl) (counts (client_of c j)) there
 
--- so many rows from one on stand once each
+-- this many rows from one on stand once each
 pub from_above : (n j q : ℕ) → list_any (eqb q) (rows_from n j) ≡ true → (j ≤ q) × (q < j + n)
 from_above zero j q there = absurd (true≢false (sym there))
 from_above (suc n) j q there = elim (or_cases (eqb q j) (list_any (eqb q) (rows_from n (j + 1))) there) [
@@ -91,7 +91,7 @@ equal = record {
 pub at_most : (n : ℕ) (js : List ℕ) → IsDistinct eqb js → ((q : ℕ) → list_any (eqb q) js ≡ true → q < n) → length js ≤ n
 at_most n js all below = length-le_from_distinct_below js n all below
 
--- and fewer, where one is missing
+-- and fewer, if one is missing
 pub fewer : (n q : ℕ) (js : List ℕ) → IsDistinct eqb js → ((k : ℕ) → list_any (eqb k) js ≡ true → k < n) → q < n → (list_any (eqb q) js ≡ true → ⊥) → length js < n
 fewer n q js all below low out =
     let most = length-le_from_distinct_below (q ∷ js) n (IsDistinct-cons eqb q js (apart q js out) all) (λ k there. elim (or_cases (eqb k q) (list_any (eqb k) js) there) [

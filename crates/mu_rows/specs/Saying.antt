@@ -5,7 +5,7 @@ use Rattle.kv_store.specs.Commands.{key_of}
 use Rattle.kv_store.specs.declared.command.Op.{Op}
 use Rattle.mu_rows.specs.Rows.{word_of, code_of, first_text, second_text, text_word, HasWords}
 
--- past the first `len` bytes, of which eight stand in a word, words have only zeros
+-- past the first `len` bytes, eight in each word, words have only zeros
 abbrev pub AreClear : List ℕ → ℕ → Type 0
 AreClear words len = (j : ℕ) → j < length words → len - 8 * j < 8
     → slice_index words j / 2 ^ (8 * (len - 8 * j)) ≡ 0

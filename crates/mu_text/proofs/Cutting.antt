@@ -35,11 +35,11 @@ missing : (b : Bool) (n : ℕ) → cond b (Some n) None ≡ None → b ≡ false
 missing true n e = cc
 missing false n e = refl
 
--- where a byte passes, its place
+-- if a byte passes, its place
 place : (p : ℕ → Bool) (bytes : List ℕ) (end : ℕ) → position p bytes ≡ Some end → (position_or_len p bytes ≡ end) × (end < length bytes)
 place p bytes end e = let f = found (nat_lt (position_or_len p bytes) (length bytes)) (position_or_len p bytes) end e in grind (arith, common_steps, f)
 
--- where none passes, each fails
+-- if none passes, each fails
 pub none_passes : {X : Type 0} (p : X → Bool) (xs : List X) → position p xs ≡ None → All (λ x. p x ≡ false) xs
 none_passes p xs e k d below =
     let m : nat_lt (position_or_len p xs) (length xs) ≡ false = missing _ (position_or_len p xs) e in

@@ -39,7 +39,7 @@ no_leading_zero : (n : ℕ) → n < 2 ^ 64 → has_leading_zero (decimal n) ≡ 
 no_leading_zero zero fits = ap has_leading_zero (decimal_digit 0 (omega arith))
 no_leading_zero (suc n) fits = no_zero (decimal (suc n)) (first_decimal (suc n) (omega arith) fits)
 
--- it is a number of at most so many digits
+-- it is a number of at most this many digits
 pub is_decimal-decimal : (most n : ℕ) → 0 < most → n < 10 ^ most → n < 2 ^ 64 → is_decimal most (decimal n) ≡ true
 is_decimal-decimal most n some few fits =
     let short : length (decimal n) ≤ most = length-decimal-le most n some few fits in
@@ -82,7 +82,7 @@ within-is low high n least most =
 pub within-decimal : (low high n : ℕ) → low ≤ n → n ≤ high → n < 10000000 → within low high (number_of (decimal n)) ≡ Some n
 within-decimal low high n least most few = ap (within low high) (number_of-decimal n few) ∙ within-is low high n least most
 
--- a number of so many bits is read back
+-- a number of this many bits is read back
 pub of_8-decimal : (n : ℕ) → n < 2 ^ 8 → of_8 (decimal n) ≡ Some n
 of_8-decimal n fits = wide_below-decimal (2 ^ 8) n fits (omega arith)
 

@@ -24,7 +24,7 @@ value_of-take word i below = ap value_of (grind (arith, common_steps, take-suc w
 pub small : (i value : ℕ) → value + 1 ≤ 10 ^ i → i ≤ 19 → value < 10000000000000000000
 small i value below few = omega (arith, pow-le-pow_right {n = 10} (lit≤ tt) few)
 
--- a number of at most so many digits is below ten to their count
+-- a number of at most this many digits is below ten to their count
 pub below_power : (i most value : ℕ) → value + 1 ≤ 10 ^ i → i ≤ most → value < 10 ^ most
 below_power i most value below few = omega (arith, pow-le-pow_right {n = 10} (lit≤ tt) few)
 

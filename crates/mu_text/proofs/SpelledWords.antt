@@ -21,7 +21,7 @@ IsOneWord word = All (λ byte. SPACE < byte) word
 abbrev pub IsOneLine : List ℕ → Type 0
 IsOneLine text = All (λ byte. LINE_FEED < byte) text
 
--- a text is one line, of these words, also where a space and more come after it
+-- a text is one line, of these words, also if a space and more come after it
 pub record Spells (text : List ℕ) (spelled : List (List ℕ)) : Type 0 where
   pub one_line : IsOneLine text
   pub alone : words text ≡ spelled
@@ -51,7 +51,7 @@ Spells-more first second front back a b = record {
       ∙ ap (λ back. front ++ back) (b.before more) ∙ sym (append_assoc front back (words more));
 }
 
--- the same, where the space was added to the first text before the second
+-- the same, if the space was added to the first text before the second
 pub Spells-join : (first second : List ℕ) (front back : List (List ℕ)) → Spells first front → Spells second back → Spells ((first ++ SPACE ∷ []) ++ second) (front ++ back)
 Spells-join first second front back a b = subst (λ text. Spells text (front ++ back)) (sym (append_assoc first (SPACE ∷ []) second)) (Spells-more first second front back a b)
 

@@ -59,7 +59,7 @@ Tells (Some (Asked.Input task)) left now before after said =
 Tells (Some (Asked.Bulk count)) left now before after said =
     Sums count said × (now ≡ left) × (after ≡ before)
 
--- something is said of what the words ask for, its text is written, and the program ends with this
+-- what the words ask for is answered, the text of the answer is written, and the program ends with this
 -- status
 pub record Ends (asked : Option Asked) (left left_now : Option (List ℕ)) (read read_now : ℕ)
     (written written_now : Option (List ℕ)) (wrote wrote_now status : ℕ) : Type 0 where

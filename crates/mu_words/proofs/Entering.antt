@@ -109,7 +109,7 @@ record Enters (c : Config) (past : List Event) (r p : ℕ) (t : Target) (x w : �
 abbrev entered_event : ℕ → ℕ → Target → Answer → Event
 entered_event r p t a = record { by = r; verb = Verb.Enter p t; answer = a }
 
--- the exchange takes where the words are equal, and else doesn't
+-- the exchange takes if the words are equal, and else doesn't
 enters_lost : (c : Config) (past : List Event) (r p : ℕ) (t : Target) (x : ℕ) → fence_in (fence_word (fence p past)) ≡ fence p past → (x ≡ fence_word (fence p past) → ⊥) → entered_or_lost (noted_grant r p past) (fence p past) ≡ Answer.Lost (fence p past)
     → Enters c past r p t x (fence_word (fence p past))
 enters_lost c past r p t x back d e = record {

@@ -59,7 +59,7 @@ quiet_case : (le rest : Bool) → le ≡ false → (le ≡ true) ⊎ (rest ≡ t
 quiet_case le rest h (inl e) = absurd (true≢false (sym e ∙ h))
 quiet_case le rest h (inr e) = e
 
--- the same where the event is known not to begin a leadership
+-- the same if the event is known not to begin a leadership
 quiet_on : (c : Config) (r p i : ℕ) (e : Event) (past : List Event) → sees r p i e ≡ false → has (sees r p i) (since (puts_at r p c.ring i) (cond (is_member r p past) (e ∷ since_joining r p past) [])) ≡ true → looked_since c r p i past ≡ true
 quiet_on c r p i e past n h =
     quiet_case (sees r p i e) (looked_since c r p i past) n
@@ -216,7 +216,7 @@ before_here L P E e sj false false n h = cc
 pub before_quiet : (c : Config) (r p i : ℕ) (e : Event) (past : List Event) → is_enter_of r p e ≡ false → looked_before_entering c r p i (e ∷ past) ≡ true → looked_before_entering c r p i past ≡ true
 before_quiet c r p i e past n h = before_back (sees r p i) (puts_at r p c.ring i) (is_enter_of r p) e (since_joining r p past) (begins_leadership r e) (is_member r p past) n h
 
--- the same where the event is known not to begin a leadership
+-- the same if the event is known not to begin a leadership
 before_quiet_on : (c : Config) (r p i : ℕ) (e : Event) (past : List Event) → is_enter_of r p e ≡ false
     → has (sees r p i) (since (puts_at r p c.ring i) (before (is_enter_of r p) (cond (is_member r p past) (e ∷ since_joining r p past) []))) ≡ true → looked_before_entering c r p i past ≡ true
 before_quiet_on c r p i e past n h = before_back (sees r p i) (puts_at r p c.ring i) (is_enter_of r p) e (since_joining r p past) false (is_member r p past) n h

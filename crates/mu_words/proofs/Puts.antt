@@ -34,7 +34,7 @@ min_step c past r p l h =
     let e : (stamp c p Target.Min past * 140737488355328 + region_min p past) % 8388608 ≡ region_min p past = omega arith in
     record { answer = ap Answer.Number e; here = refl; others = others_keep c past r (Verb.Min p) }
 
--- an exchange by the same stamp takes exactly where no drain came since
+-- an exchange by the same stamp takes exactly if no drain came since
 record PutNumbers (x w new y : ℕ) (d : Bool) : Type 0 where
   answers : cond (x == w) Answer.Done Answer.Missed ≡ put_answer d
   leaves_word : new ≡ cond (x == w) (with_content w y) w

@@ -44,7 +44,7 @@ same_self Target.None h = h
 same_self Target.Min h = refl
 same_self (Target.Place s) h = same_number s
 
--- the exchange of a `Drain` takes where an `Enter` is open
+-- the exchange of a `Drain` takes if an `Enter` is open
 pub drain_takes : (c : Config) (r p : ℕ) (t : Target) (past : List Event) → IsLegalHistory c past → Needs c p (part p past) Verb.Drain
     → open_target r p past ≡ Some t → has_target t ≡ true → drained r p past ≡ false → drain_took c p t past p Verb.Drain ≡ true
 drain_takes c r p t past h may o f d =

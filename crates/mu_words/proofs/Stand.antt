@@ -54,7 +54,7 @@ words_are_unique_law c l events words other s t i h =
     let n = every_place l i h in
     ap words (sym n.at) ∙ s n.name n.is_name ∙ sym (t n.name n.is_name) ∙ ap other n.at
 
--- the same for a list of words of which one is written
+-- the same for a list of words if one of them is written
 written : (ws : List ℕ) (i w j : ℕ) → i < length ws → slice_index (set ws i w) j ≡ set_word (slice_index ws) i w j
 written ws i w j h = go (j == i) refl
   where

@@ -47,7 +47,7 @@ part_same events e = ap (part e.by) (longer events e) ∙ ap (λ b. cond b (e �
 pub part_other : (events : List Event) (e : Event) (q : ℕ) → e.by ≢ q → part q (history (events ++ e ∷ [])) ≡ part q (history events)
 part_other events e q ne = ap (part q) (longer events e) ∙ ap (λ b. cond b (e ∷ part q (history events)) (part q (history events))) (ne_eqb e.by q ne)
 
--- the same beside the words found
+-- the same together with the words found
 pub sights_same : (c : Config) (events : List Event) (e : Event) → sights c e.by (history (events ++ e ∷ [])) ≡ (e, found_word c e.by (history events) e.verb) ∷ sights c e.by (history events)
 sights_same c events e =
     ap (sights c e.by) (longer events e) ∙ ap (λ b. cond b ((e, found_word c e.by (history events) e.verb) ∷ sights c e.by (history events)) (sights c e.by (history events))) (eq-eqb e.by e.by refl)

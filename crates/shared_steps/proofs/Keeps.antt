@@ -117,7 +117,7 @@ idle_more c events views id e mine mine' seen seen' at old q none = part_other e
             apart (only (entry e.by mine seen) q x (subst (λ (y : View). entry_of q y.entries ≡ Some x) (sym is) has)).0
         go false k = none j u x (set_else views id j (single c e.by mine' seen') (eqb-false j id k) ∙ got) has
 
--- the step, where the seat is named by the list
+-- the step, if the seat is named by the list
 goes : (c : Config) (s : State (Unit {0}) View) (h : Holds c s) (id r : ℕ) (v : Verb) (f : ℕ → ℕ) → h.owner r ≡ Some id
     → get_elem? s.views id ≡ opt.some (single c r (part r (history h.events)) (sights c r (history h.events)))
     → Allowed c r (part r (history h.events)) v

@@ -125,6 +125,6 @@ first_word_law c (Name.Ask p w) = refl
 first_word_law c (Name.Slot p s) = refl
 first_word_law c (Name.Row r j k) = refl
 
--- the words where all fences are written stand for no event
+-- once all fences are written the words stand for no event
 pub opened : (c : Config) (words : List ℕ) → AreWrittenBelow (layout_of c) c.replicas words → Shows c [] words
 opened c words w = record { count = w.count; stands = λ n h. w.each n h ∙ (all_below (layout_of c) n h ∙ sym (first_word_law c n)) }

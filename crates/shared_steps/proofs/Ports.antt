@@ -62,7 +62,7 @@ room_in w s v r =
 pub has_room : (w : words.Inside) (s : seat.Inside) (v : Verb) → Ready w s v → 0 < s.journal.room
 has_room w s v r = omega (arith, room_in w s v r, r.allowed.budget)
 
--- the same of a part of which a list is known
+-- the same of a part whose list is known
 name_there : (c : Config) (r : ℕ) (mine : List Event) (v : Verb) → Limits c → IsPossible c r mine → Allowed c r mine v → IsName (layout_of c) (name_of c r mine v)
 name_there c r mine v l p may =
     subst (λ (m : List Event). IsName (layout_of c) (name_of c r m v)) p.is (place_named c (layout_of c) p.past r v l (layout_is c) p.legal (subst (λ (m : List Event). Allowed c r m v) (sym p.is) may))
@@ -123,7 +123,7 @@ allows w s v i f r is does =
     subst (λ (k : ℕ × Me (Unit {0}) View). Allows (Holds key) k.0 s.seat.id k.1 i f (Told v k.1)) (λ j. ((sym r.board.slots) j, (sym now.is_single) j))
     (steps key s.seat.id s.id (history s.journal.events) now.seen v i f (place_is w s v i r is) r.allowed does)
 
--- the same where what the step does rests on the verb alone
+-- the same if what the step does rests only on the verb
 pub allows_plain : (w : words.Inside) (s : seat.Inside) (v : Verb) (i : ℕ) (f : ℕ → ℕ) → Ready w s v → i ≡ place_of w.layout (name_at w.layout.ring s.id s.found.close_target v)
     → ((c : Config) (q : ℕ) (mine : List Event) (seen : List (Event × ℕ)) → Does c q mine seen v f)
     → Allows (Holds w.table.shared.key) w.table.shared.table_id.slots s.seat.id s.seat.me i f (Told v s.seat.me)

@@ -27,7 +27,7 @@ off b is_off is_on = true≢false (sym is_on ∙ is_off)
 empty_length : (words : List ℕ) → words ≡ [] → length words ≡ 0
 empty_length words none = ap length none
 
--- the views still fit, where one of them is another
+-- the views still fit, if one of them is another
 fit_all : (limit : ℕ) (words words' : List ℕ) (published published' : List Request) (writer id : ℕ) (views : List View) (w : View)
     → ((j : ℕ) (u : View) → get_elem? views j ≡ opt.some u → Fits limit words published writer j u)
     → Fits limit words' published' writer id w
@@ -77,7 +77,7 @@ counts limit slots id me reads none s h some_slots at bound =
       },
     )
 
--- the words of a longer row stand, where the next does
+-- the words of a longer row stand, if the next does
 stand_longer : (words : List ℕ) (place : ℕ) (row : List ℕ) (n : ℕ) → Stand words place row → slice_index words (place + length row) ≡ n → Stand words place (row ++ n ∷ [])
 stand_longer words place row n stand is k less = ⊎_elim
     (λ (t : ((k == length row) ≡ true) × (k ≡ length row)).
@@ -121,7 +121,7 @@ next_row words seen rest command row rows stand long = same_number_lists row (sp
     inside : (k : ℕ) → k < length row → 12 * length seen + k < length (rows_of (seen ++ command ∷ rest))
     inside k less = omega (arith, rows_length (seen ++ command ∷ rest), length-append seen (command ∷ rest), long, less)
 
--- what was seen goes on, where the published list is longer
+-- what was seen goes on, if the published list is longer
 goes_on : (seen published : List Request) → IsPrefixOf seen published → length seen < length published → (command : Request) × (rest : List Request) × (published ≡ seen ++ command ∷ rest)
 goes_on seen published (([], is)) longer = absurd (omega (arith, ap length is, length-append seen [], longer))
 goes_on seen published ((command ∷ rest, is)) longer = (command, rest, is)

@@ -14,7 +14,7 @@ use Rattle.snap_reads.specs.Seats.{Note, Reading, fresh_reader}
 use Rattle.snap_reads.specs.Sights.{AreRight, NeverFall}
 use Rattle.snap_reads.proofs.Watched.{round_length, watched_length}
 
--- a reader of as many commands as the note tells, which took it in and since then got so many keys
+-- a reader of as many commands as the note tells, which took it in and has got this many keys since
 pub record HasRead (told : Note) (all : List (List ℕ)) (count : ℕ) (reader : Reading) (sights : Vec Sight Global) : Type 0 where
   pub same : reader ≡ record { table = told.table; capacity = length told.list; seen = reader.seen; told = told.list ∷ [] }
   pub right : AreRight reader.seen sights.items

@@ -31,7 +31,7 @@ all_fresh first count watchers same k d low =
     let long = sym (length-map watchers (λ (w : Watcher). w.reader)) ∙ (ap length same ∙ length-replicate count first) in
     sym (get_or-map (λ (w : Watcher). w.reader) watchers k d first low) ∙ (ap (λ l. slice_index_or l k first) same ∙ get_or-replicate count k first first (omega (arith, low, long)))
 
--- what each of them made of itself beside the writer
+-- what each of them made of itself while the writer ran
 pub all_watched : (first : Reading) (keys : List (List ℕ)) (count : ℕ) (before after : List Watcher) → length after ≡ length before → All (λ (w : Watcher). w.reader ≡ first) before
     → ((i : ℕ) (d : Watcher) → i < length before → HasWatched (slice_index_or before i d).reader keys count (slice_index_or after i d)) → All (HasWatched first keys count) after
 all_watched first keys count before after long fresh each i d low =

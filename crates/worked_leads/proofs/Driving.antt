@@ -27,7 +27,7 @@ use Rattle.mu_model.proofs.Parts.{part_of_maker}
 pub history_after : (events now past : List Event) (e : Event) → history events ≡ past → now ≡ events ++ e ∷ [] → history now ≡ e ∷ past
 history_after events now past e was is = ap (λ l. history l) is ∙ (reverse-append events (e ∷ []) ∙ ap (λ l. e ∷ l) was)
 
--- is legal where the list is
+-- is legal if the list is
 pub legal_after : (k c : Config) (events now past : List Event) (e : Event) → k ≡ c → history events ≡ past → now ≡ events ++ e ∷ [] → IsLegal k now → IsLegalHistory c (e ∷ past)
 legal_after k c events now past e same was is legal =
     subst (λ l. IsLegalHistory c l) (history_after events now past e was is) (subst (λ x. IsLegalHistory x (history now)) same legal)

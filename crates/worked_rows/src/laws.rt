@@ -73,7 +73,7 @@ fn mark(alloc: Global, config: &Config, events: &[Event]) -> Result<Option<u16>,
     marked(alloc, config, events, 2)
 }
 
-/// Whether the replica, of which there is none in the list, knows nothing and keeps its place.
+/// Whether the replica, which makes no event of the list, knows nothing and keeps its place.
 fn is_nobody(alloc: Global, config: &Config, events: &[Event], r: u8) -> Result<bool, NoMemory>
     requires config { IsConfig config.now }
     requires legal { IsLegal config.now events.now }

@@ -180,7 +180,7 @@ fn last_sights() -> Option<[Option<[(Key, Option<Text>, u16); 2]>; 2]> {
 }
 
 /// Whether two readers of the two clients' job saw the last things, and the first one what was
-/// published beside it.
+/// published alongside.
 fn saw<R: Threads + Sync, G: Gate + Sync>(
     rt: &R,
     alloc: Global,

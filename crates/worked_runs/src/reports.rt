@@ -35,7 +35,7 @@ status 0
 const USAGE: &str = "usage: mu replay, mu run, mu check, mu why, mu tell, mu show N, mu trace, \
     mu bulk N, mu live K, mu desk, mu book\n";
 
-/// Whether this text is printed of what is said.
+/// Whether the answer prints this text.
 fn is_printed(alloc: Global, said: Said, text: &str) -> Result<bool, AllocError>
     requires { IsShort said }
 {
