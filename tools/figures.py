@@ -22,7 +22,7 @@ CONSTANT = re.compile(r"^pub const (\w+): \w+ = ([\d_]+);", re.M)
 LARGEST_RING, MOST_COMMANDS, MOST_WIDTH = 1_024, 1_500, 4
 # The bounds that have tables.
 BOUNDS = {"steps_enough", "steps_after", "steps_in_any_ring", "finishing_steps", "finishing_after",
-          "finishing_in_any_ring"}
+          "finishing_in_any_ring", "steps_after_in_any_ring", "finishing_after_in_any_ring"}
 
 
 def contents(path):
@@ -150,7 +150,8 @@ def tables():
         if begins and begins.group(1) in BOUNDS:
             name = begins.group(1)
         elif line.startswith("In version "):
-            version = (2, MOST_WIDTH) if line.startswith("In version 2 with batches of up to four") else (1, 1)
+            width = MOST_WIDTH if line.startswith("In version 2 with batches of up to four") else 1
+            version = (2 if line.startswith("In version 2") else 1, width)
         elif line.startswith("| replicas |") and "fixed" in cells:
             columns = cells
         elif columns and line.startswith("|") and cells[0].isdigit():

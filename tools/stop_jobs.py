@@ -16,7 +16,10 @@ Each budget is exactly the bound of docs/ALIVE.md for leaders that stop. The fam
   has to end so, with all commands;
 * the same with a ring of 8, if nobody stops;
 * the same if leaders stop: after each of 0 to 400 steps of the worked job, and at each fourth step of the
-  second and the third family.
+  second and the third family;
+* in version 2 with a ring of 8 and more commands than that: replica 0 of three stops at each fourth of 0 to
+  400 steps, leaders and hosts as above, and followers. Each has to have all commands at the bound for that,
+  and each other replica has to finish at the other one.
 
 tools/bound_jobs.py reckons the other bounds, and the reports are judged as it does.
 """
@@ -38,6 +41,8 @@ ROUNDS_TO_GRANT = 17
 COMMANDS = 2
 FINISHED_COMMANDS = (2, 30)
 RING = 8
+# More commands than the least ring has places.
+COMMANDS_AROUND = 12
 
 
 def worked_jobs(bound):
@@ -49,13 +54,13 @@ def worked_jobs(bound):
         yield f"worked job, stop 0 {step}", re.sub(r"^end$", f"script\nstop 0 {step}\nend", bounded, flags=re.MULTILINE)
 
 
-def short_job(version, replicas, stops, commands=COMMANDS, batch=1, bound=None):
-    """A job with these stops: at its bound where leaders stop, if no other budget is given."""
+def short_job(version, replicas, stops, commands=COMMANDS, batch=1, bound=None, ring=None):
+    """A job with these stops: with a large ring, and at its bound where leaders stop, if no others are given."""
     reserve = replicas if version == 2 else 0
     if bound is None:
         least = next(q for q in range(replicas) if q not in stops)
         bound = max(stops[q] for q in range(least)) + steps_after(replicas, 1, commands + reserve, least)
-    ring = max(RING, commands + 2 * reserve)
+    ring = ring or max(RING, commands + 2 * reserve)
     lines = [f"mu {version}", f"replicas {replicas}", f"ring {ring}", f"budget {bound}"]
     if version == 2:
         lines.append(f"batch {batch}")
@@ -103,6 +108,27 @@ def finishing_after(replicas, batch, positions, least):
     """The same from the last stop of a replica below `least`, which goes on; it fetches rows meanwhile."""
     fetching = (batch * positions + 1) * 2 * cycle(replicas)
     return steps_after(replicas, batch, positions, least) - fetching + spreading(replicas, batch, positions)
+
+
+def steps_in_small_rings(replicas, batch, positions, least):
+    """In version 2, in any ring, from the last stop of any replica until `least` knows all."""
+    limit = 13 * replicas + 8 + 12 * batch
+    paid = 6 * replicas + 8 * (replicas + 1) * positions
+    gain = 2 * cycle(replicas) + 2
+    opening = 3 * (34 * replicas + 2) + (least + 1) * 2 * cycle(replicas) + 2 + 2 * (replicas + 2)
+    entry = 8 * limit + 12 + gain + cycle(replicas) + 2
+    gains = replicas * (batch + 1) * positions + 1
+    return 15 * cycle(replicas) + opening + 2 * (limit + paid) + positions * entry + gains * gain + 8 * paid
+
+
+def all_in_small_rings(replicas, batch, positions, least):
+    """And until it has every row."""
+    return steps_in_small_rings(replicas, batch, positions, least) + (batch * positions + 1) * 2 * cycle(replicas)
+
+
+def finishing_in_small_rings(replicas, batch, positions, least):
+    """And until each that goes on has finished: one step more than these is enough."""
+    return steps_in_small_rings(replicas, batch, positions, least) + spreading(replicas, batch, positions) + 1
 
 
 class FinishCase(BoundCase):
@@ -163,8 +189,35 @@ def finishing_after_leaders():
         yield short_job(version, replicas, stops, bound=max(bound, max(stops.values()) + 15 * cycle(replicas) + 1))
 
 
+def stops_in_small_rings(every):
+    """Which replicas of how many stop and when, and how long a batch is."""
+    for step in range(0, LAST_STOP + 1, every):
+        yield 3, BATCHES[step // every % len(BATCHES)], {0: step}
+    for version, replicas, stops in (*leaders_in_turn(every), *hosts_while_granting(every)):
+        if version == 2:
+            yield replicas, BATCHES[0], stops
+    for replicas in range(3, 8):
+        for stops in followers_stopped(replicas):
+            if stops:
+                yield replicas, BATCHES[0], stops
+
+
+def small_rings(bound, every):
+    """Version 2, a ring of 8 and more commands than that, at a bound counted from the last stop of any replica."""
+    for replicas, batch, stops in stops_in_small_rings(every):
+        least = next(q for q in range(replicas) if q not in stops)
+        budget = max(stops.values()) + bound(replicas, batch, COMMANDS_AROUND + replicas, least)
+        if budget <= MOST_BUDGET:
+            name, text = short_job(2, replicas, stops, COMMANDS_AROUND, batch, budget, RING)
+            yield f"{name}, ring {RING}", text
+
+
 def stop_cases():
     """A case for each job."""
+    for name, text in small_rings(all_in_small_rings, 4):
+        yield BoundCase(name, ["replay"], text.encode(), None, 0)
+    for name, text in small_rings(finishing_in_small_rings, 8):
+        yield FinishCase(f"each finishes: {name}", ["replay"], text.encode(), None, 0)
     for name, text in leaders_stop():
         yield BoundCase(name, ["replay"], text.encode(), None, 0)
     for family in (finishing_jobs, finishing_in_any_ring, finishing_after_leaders):

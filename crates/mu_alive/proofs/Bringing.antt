@@ -27,7 +27,7 @@ use Rattle.mu_agree.proofs.Legal.{legal_older}
 use Rattle.mu_agree.proofs.Possible.{parts_shorten_law}
 use Rattle.mu_agree.proofs.Prefixes.{greatest_along}
 use Rattle.mu_pace.specs.Collecting.{LeaderKeeps}
-use Rattle.mu_pace.specs.Counters.{AtEachMoment, AtEachStep, IsInTime, paid}
+use Rattle.mu_pace.specs.Counters.{AtEachMoment, AtEachStep, IsInTime, Watch, paid}
 use Rattle.mu_pace.specs.Watches.{asking_after, bringing_up, earns, falls_behind, is_answer_to_welcome, is_brought_up, is_full_raise, is_welcoming, joining, leaves, limit, limit_now, raising}
 use Rattle.mu_pace.proofs.Counting.{allowed_here, allowed_now, last_moment, moments_before, steps_before}
 use Rattle.mu_pace.proofs.Growing.{greatest_on, known_grows, member_on, member_stays, stays_less, twice_paid}
@@ -40,9 +40,12 @@ use Rattle.mu_alive.proofs.Moments.{at_least_halves, halves}
 use Rattle.mu_alive.proofs.Waiting.{Closed, Pending, closed_or, more_steps, open_short, pending_on, stays_both, stays_newer, stays_older, unpaid}
 use Rattle.mu_alive.proofs.Steady.{Steady, away_by, joins_here, member_numbered, min_stays, not_away, numbered_on, numbered_stays, raises_brought, same_known, steady_steps}
 
--- a member is brought up, or a count waits for it
+-- a member is brought up, or a count is held open that waits for it
+abbrev pub BroughtBy : (Watch → Type 0) → Config → ℕ → ℕ → List Event → Type 0
+BroughtBy Holds c a p now = (is_brought_up c a p now ≡ true) ⊎ (Holds (bringing_up c a p) ⊎ Holds (raising c a p))
+
 abbrev Brought : Config → ℕ → ℕ → List Event → Type 0
-Brought c a p now = (is_brought_up c a p now ≡ true) ⊎ (Pending a (bringing_up c a p) (limit c c.replicas) now ⊎ Pending a (raising c a p) (limit c c.replicas) now)
+Brought c a p now = BroughtBy (λ w. Pending a w (limit c c.replicas) now) c a p now
 
 abbrev HasBrought : Config → ℕ → ℕ → List Event → Type 0
 HasBrought c a p now = is_member a p now ≡ true → Brought c a p now
@@ -50,30 +53,26 @@ HasBrought c a p now = is_member a p now ≡ true → Brought c a p now
 members_fit : (c : Config) (r : ℕ) (now : List Event) → members c r now ≤ limit c c.replicas
 members_fit c r now = let l = count_few c.replicas (λ p. is_member r p now) in omega (arith, l)
 
-brought_step : (c : Config) (a p : ℕ) (e : Event) (past : List Event) → Steady c a past e → HasBrought c a p past → HasBrought c a p (e ∷ past)
-brought_step c a p e past steady before now = go (begins_leadership a e) refl (is_member a p past) refl
+-- one event more, however counts are held open
+pub brought_next : (Was Is : Watch → Type 0) (c : Config) (a p : ℕ) (e : Event) (past : List Event) → Steady c a past e → ((w : Watch) (amount : ℕ) → w.allows (e ∷ past) ≡ Some amount → amount ≤ limit c c.replicas → Is w) → ((w : Watch) → begins_leadership a e ≡ false → w.closes past e ≡ false → Was w → Is w)
+    → (is_member a p past ≡ true → BroughtBy Was c a p past) → is_member a p (e ∷ past) ≡ true → BroughtBy Is c a p (e ∷ past)
+brought_next Was Is c a p e past steady opens on before now = go (begins_leadership a e) refl (is_member a p past) refl
   where
     brought_now : Bool
     brought_now = is_brought_up c a p (e ∷ past)
 
     -- it became a member, or an entry was learnt
-    fell : begins_leadership a e ≡ false → (is_joining_step a past e || is_learning c a past e) ≡ true → (t : Bool) → brought_now ≡ t → Brought c a p (e ∷ past)
+    fell : begins_leadership a e ≡ false → (is_joining_step a past e || is_learning c a past e) ≡ true → (t : Bool) → brought_now ≡ t → BroughtBy Is c a p (e ∷ past)
     fell same starts true up = inl up
-    fell same starts false down = inr (inl (record {
-      window = [];
-      opened = e ∷ past;
-      amount = limit_now c a (e ∷ past);
-      is = refl;
-      same = refl;
-      allows = allowed_here (falls_behind c a p) (limit_now c a) past e
-          (and_from (is_joining_step a past e || is_learning c a past e) (is_some (proposal_number a (e ∷ past)) && (is_member a p (e ∷ past) && not brought_now)) starts
-          (and_from (is_some (proposal_number a (e ∷ past))) (is_member a p (e ∷ past) && not brought_now) (member_numbered a p (e ∷ past) now) (and_from (is_member a p (e ∷ past)) (not brought_now) now (ap not down))));
-      few = limit_fits c a (e ∷ past);
-      unclosed = refl;
-    }))
+    fell same starts false down = inr (inl
+        (opens (bringing_up c a p) (limit_now c a (e ∷ past))
+        (allowed_here (falls_behind c a p) (limit_now c a) past e
+        (and_from (is_joining_step a past e || is_learning c a past e) (is_some (proposal_number a (e ∷ past)) && (is_member a p (e ∷ past) && not brought_now)) starts
+        (and_from (is_some (proposal_number a (e ∷ past))) (is_member a p (e ∷ past) && not brought_now) (member_numbered a p (e ∷ past) now) (and_from (is_member a p (e ∷ past)) (not brought_now) now (ap not down)))))
+        (limit_fits c a (e ∷ past))))
 
     -- nothing more is known
-    still : begins_leadership a e ≡ false → is_member a p past ≡ true → length (known c a (e ∷ past)) ≤ length (known c a past) → (t : Bool) → brought_now ≡ t → (u : Bool) → is_full_raise c a p past e ≡ u → Brought c a p past → Brought c a p (e ∷ past)
+    still : begins_leadership a e ≡ false → is_member a p past ≡ true → length (known c a (e ∷ past)) ≤ length (known c a past) → (t : Bool) → brought_now ≡ t → (u : Bool) → is_full_raise c a p past e ≡ u → BroughtBy Was c a p past → BroughtBy Is c a p (e ∷ past)
     still same member few true up u hu old = inl up
     still same member few false down true hu old = absurd (true≢false (sym (raises_brought c a p e.by e.verb e.answer past steady.own hu) ∙ down))
     still same member few false down false hu (inl up) =
@@ -81,21 +80,12 @@ brought_step c a p e past steady before now = go (begins_leadership a e) refl (i
         let more = greatest_on (λ f. fuo_read_or_raised a p f.by f.verb f.answer) a e past same in
         absurd (true≢false (sym (le-leb (length (known c a (e ∷ past))) (greatest (λ f. fuo_read_or_raised a p f.by f.verb f.answer) (leadership a (e ∷ past))) (omega (arith, few, high, more))) ∙ down))
     still same member few false down false hu (inr (inl k)) =
-        inr (inl (pending_on a (bringing_up c a p) (limit c c.replicas) e past same (ap (λ t. t || leaves c a (is_over_after a) past e) down ∙ not_away (begins_leadership a e) (is_replication past e) (is_named c a past) (is_over_after a past e) same (steady.named (member_numbered a p past member)) steady.on) k))
+        inr (inl (on (bringing_up c a p) same (ap (λ t. t || leaves c a (is_over_after a) past e) down ∙ not_away (begins_leadership a e) (is_replication past e) (is_named c a past) (is_over_after a past e) same (steady.named (member_numbered a p past member)) steady.on) k))
     still same member few false down false hu (inr (inr k)) =
-        inr (inr (pending_on a (raising c a p) (limit c c.replicas) e past same (not_away (begins_leadership a e) (is_replication past e) (is_named c a past) (is_full_raise c a p past e) same (steady.named (member_numbered a p past member)) hu) k))
+        inr (inr (on (raising c a p) same (not_away (begins_leadership a e) (is_replication past e) (is_named c a past) (is_full_raise c a p past e) same (steady.named (member_numbered a p past member)) hu) k))
 
-    member_before : begins_leadership a e ≡ false → is_member a p past ≡ true → (t : Bool) → commits_more c a past e ≡ t → (u : Bool) → is_learning c a past e ≡ u → Brought c a p (e ∷ past)
-    member_before same member true commits u hu = inr (inr (record {
-      window = [];
-      opened = e ∷ past;
-      amount = members c a (e ∷ past);
-      is = refl;
-      same = refl;
-      allows = allowed_here (λ past e. commits_more c a past e && is_member a p (e ∷ past)) (members c a) past e (and_from (commits_more c a past e) (is_member a p (e ∷ past)) commits now);
-      few = members_fit c a (e ∷ past);
-      unclosed = refl;
-    }))
+    member_before : begins_leadership a e ≡ false → is_member a p past ≡ true → (t : Bool) → commits_more c a past e ≡ t → (u : Bool) → is_learning c a past e ≡ u → BroughtBy Is c a p (e ∷ past)
+    member_before same member true commits u hu = inr (inr (opens (raising c a p) (members c a (e ∷ past)) (allowed_here (λ past e. commits_more c a past e && is_member a p (e ∷ past)) (members c a) past e (and_from (commits_more c a past e) (is_member a p (e ∷ past)) commits now)) (members_fit c a (e ∷ past))))
     member_before same member false none true learns = fell same (either (is_joining_step a past e) (is_learning c a past e) learns) brought_now refl
       where
         either : (x y : Bool) → y ≡ true → (x || y) ≡ true
@@ -111,12 +101,17 @@ brought_step c a p e past steady before now = go (begins_leadership a e) refl (i
         landed true is some = refl
         landed false is some = absurd (true≢false (sym some ∙ none))
 
-    go : (b : Bool) → begins_leadership a e ≡ b → (m : Bool) → is_member a p past ≡ m → Brought c a p (e ∷ past)
+    go : (b : Bool) → begins_leadership a e ≡ b → (m : Bool) → is_member a p past ≡ m → BroughtBy Is c a p (e ∷ past)
     go true begins m hm = absurd (true≢false (sym now ∙ ap (λ t. is_some (if t then None else if lands_min a p e.by e.verb e.answer then newer_or (grant_at_joining a p past) (Some (noted_grant a p past)) else grant_at_joining a p past)) begins))
     go false same true member = member_before same member (commits_more c a past e) refl (is_learning c a past e) refl
     go false same false none = fell same (ap (λ t. t || is_learning c a past e) (joins_here a p e.by e.verb e.answer past (joined same none) none)) brought_now refl
 
-has_brought : (c : Config) (a p : ℕ) (mine : List Event) → AtEachStep (Steady c a) mine → HasBrought c a p mine
+brought_step : (c : Config) (a p : ℕ) (e : Event) (past : List Event) → Steady c a past e → HasBrought c a p past → HasBrought c a p (e ∷ past)
+brought_step c a p e past steady before now =
+    brought_next (λ w. Pending a w (limit c c.replicas) past) (λ w. Pending a w (limit c c.replicas) (e ∷ past)) c a p e past steady (λ w amount allows few. record { window = []; opened = e ∷ past; amount = amount; is = refl; same = refl; allows = allows; few = few; unclosed = refl })
+    (λ w same open_yet k. pending_on a w (limit c c.replicas) e past same open_yet k) before now
+
+pub has_brought : (c : Config) (a p : ℕ) (mine : List Event) → AtEachStep (Steady c a) mine → HasBrought c a p mine
 has_brought c a p [] steady = λ member. absurd (true≢false (sym member))
 has_brought c a p (e ∷ mine) steady = brought_step c a p e mine steady.1 (has_brought c a p mine steady.0)
 
@@ -134,7 +129,7 @@ pub paid_at_most : (c : Config) (a : ℕ) (window base : List Event) → IsConfi
 paid_at_most c a window base good possible same = paid_few c a (row_count c + reserve c) window base same (inside_puts c a window base possible) (known_fits c a (window ++ base) good possible)
 
 -- the counts of a journal at each moment
-bringing_moments : (c : Config) (a p : ℕ) (mine : List Event) → p < c.replicas → AtEachStep (LeaderKeeps c a) mine → AtEachMoment (IsInTime (bringing_up c a p)) mine
+pub bringing_moments : (c : Config) (a p : ℕ) (mine : List Event) → p < c.replicas → AtEachStep (LeaderKeeps c a) mine → AtEachMoment (IsInTime (bringing_up c a p)) mine
 bringing_moments c a p [] low kept = λ left is. absurd (let k = is in cc)
 bringing_moments c a p (e ∷ mine) low kept = (bringing_moments c a p mine low kept.0, kept.1.places.bringing p)
 
@@ -280,8 +275,8 @@ leads_older c a newer older leads = record {
 }
 
 -- a region whose fences grant to the leader becomes a member in time, unless its FUO is ahead
-joins_in_time : (c : Config) (a p l : ℕ) (later first base : List Event) → IsConfig c → LeadsOn c a (later ++ (first ++ base)) → IsGranted c a p first base → stays a later ≡ true → l ≤ length (known c a base)
-    → 2 * bringing_steps c ≤ replications first base → 4 ≤ replications later (first ++ base) → Joins c a p l (later ++ (first ++ base))
+pub joins_in_time : (c : Config) (a p l : ℕ) (later first base : List Event) → IsConfig c → LeadsOn c a (later ++ (first ++ base)) → IsGranted c a p first base → stays a later ≡ true → l ≤ length (known c a base)
+    → 2 * limit c c.replicas + 2 * paid (earns c a) first base ≤ replications first base → 4 ≤ replications later (first ++ base) → Joins c a p l (later ++ (first ++ base))
 joins_in_time c a p l later first base good goes granted late knows long enough = go (is_member a p base) refl
   where
     steady : AtEachStep (Steady c a) (later ++ (first ++ base))
@@ -377,8 +372,8 @@ joins_in_time c a p l later first base good goes granted late knows long enough 
           let k : Pending a (asking_after c a p) (2 * limit c c.replicas) base = record { window = []; opened = base; amount = 2 * limit_now c a base; is = refl; same = refl; allows = allowed_now (λ now. not (is_member a p now)) (λ now. 2 * limit_now c a now) base (ap not out); few = (let l = limit_fits c a base in omega (arith, l)); unclosed = refl } in
           let short = open_short a (asking_after c a p) (2 * limit c c.replicas) first base (asking_moments c a p (first ++ base) good.widths.0 granted.inside under.led) k open_yet in
           let twice = twice_paid (earns c a) (first ++ []) base in
-          let few = paid_at_most c a (first ++ []) base good (subst (λ z. IsPossible c a (z ++ base)) (sym (append-nil first)) under.possible) (subst (λ z. stays a z ≡ true) (sym (append-nil first)) granted.same) in
-          absurd (omega (arith, short, twice, few, long))
+          let same = ap (λ z. paid (earns c a) z base) (append-nil first) in
+          absurd (omega (arith, short, twice, same, long))
     ]
       where
         closing : (x : Closed (asking_after c a p) first base) → (t : Bool) → is_member a p (x.event ∷ (x.older ++ base)) ≡ t → Joins c a p l (later ++ (first ++ base))
@@ -407,7 +402,9 @@ pub joins_up : (c : Config) (a p l : ℕ) (window base : List Event) → IsConfi
 joins_up c a p l window base good leads granted knows long =
     subst (Joins c a p l) (sym split)
     (joins_in_time c a p l first.newer first.rest base good (subst (LeadsOn c a) split leads) (granted_first c a p first.newer first.rest base (subst (λ x. IsGranted c a p x base) first.is granted)) stayed knows
-    (let half = halves (2 * bringing_steps c) first.rest base (let count = first.count in omega (arith, count)) in omega (arith, half))
+    (let half = halves (2 * bringing_steps c) first.rest base (let count = first.count in omega (arith, count)) in
+    let few = paid_at_most c a first.rest base good (leads_older c a first.newer (first.rest ++ base) (subst (LeadsOn c a) split leads)).possible (stays_older a first.newer first.rest (subst (λ z. stays a z ≡ true) first.is granted.same)) in
+    omega (arith, half, few))
     (let half = at_least_halves first.newer (first.rest ++ base) in let sum = ap length first.is ∙ length-append first.newer first.rest in let count = first.count in omega (arith, half, sum, count, long)))
   where
     first : Cut (4 * bringing_steps c) window
@@ -419,7 +416,7 @@ joins_up c a p l window base good leads granted knows long =
     stayed : stays a first.newer ≡ true
     stayed = stays_newer a first.newer first.rest (subst (λ z. stays a z ≡ true) first.is granted.same)
 
-ahead_covers : (c : Config) (a p l : ℕ) (now : List Event) → Ahead c a p l now → l ≤ greatest (λ e. fuo_read_or_raised a p e.by e.verb e.answer) now
+pub ahead_covers : (c : Config) (a p l : ℕ) (now : List Event) → Ahead c a p l now → l ≤ greatest (λ e. fuo_read_or_raised a p e.by e.verb e.answer) now
 ahead_covers c a p l now k =
     let high = above_read a p (length (known c a k.older)) k.event.by (greatest (λ f. fuo_read_or_raised a p f.by f.verb f.answer) k.older) k.event.verb k.event.answer k.above in
     let along = greatest_along (λ f. fuo_read_or_raised a p f.by f.verb f.answer) k.newer (k.event ∷ k.older) in

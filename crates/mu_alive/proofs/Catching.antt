@@ -21,10 +21,10 @@ use Rattle.mu_alive.proofs.Following.{own_fuo, read_is_less}
 use Rattle.mu_alive.proofs.Gaining.{caught_up_gains, gain}
 use Rattle.mu_alive.proofs.KnowsMost.{knows_most}
 use Rattle.mu_alive.proofs.Opening.{Committed, Open, commits_next}
-use Rattle.mu_alive.proofs.Rising.{Decided, Lacking, Later, Ready, applies_own, decided_on, few_gained, few_known, fuos_read, fuos_rise, gains_one, heads_rise, lacking_before, later, ready_on, reserve_fits}
+use Rattle.mu_alive.proofs.Rising.{Decided, Lacking, Later, Ready, applies_own, decided_on, few_gained, few_known, fuos_read, fuos_rise, gains_one, heads_rise, lacking_before, lacking_on, later, ready_on, reserve_fits}
 
 -- all of the first numbers reach it, or one doesn't
-all_or_one : (n k : ℕ) (f : ℕ → ℕ) → ((r : ℕ) → r < n → k ≤ f r) ⊎ ((r : ℕ) × ((r < n) × (f r < k)))
+pub all_or_one : (n k : ℕ) (f : ℕ → ℕ) → ((r : ℕ) → r < n → k ≤ f r) ⊎ ((r : ℕ) × ((r < n) × (f r < k)))
 all_or_one zero k f = inl (λ r low. absurd (omega (arith, low)))
 all_or_one (suc n) k f = elim (cases_lt (f n) k) [
   | inl less ↦ inr (n, (omega arith, less))
@@ -46,7 +46,7 @@ record Catching (c : Config) (live : ℕ → Bool) (a left gains m x rest k : �
   is : whole ≡ newer ++ older
   ready : Ready c a m older
   open_yet : Open c a x base (part a older)
-  decided : Decided c a k older
+  decided : Decided c live a k older
   exact : length (known c a (part a older)) ≡ k
   entries : row_count c + reserve c ≤ k + suc left
   rows : (c.width + 1) * (row_count c + reserve c) ≤ m + gains
@@ -65,7 +65,7 @@ caught_up c live a left gains m x rest k base whole newer older s had = committe
     moment = at.lower ++ older
 
     heads : (r : ℕ) → r < c.replicas → k ≤ region_head r moment
-    heads = heads_rise c live a k at.lower older at.there s.decided.own had (let taken = at.taken in omega (arith, taken))
+    heads = heads_rise c live a k at.lower older at.there (λ r low. s.decided.own r low (s.lacking.all r low)) had (let taken = at.taken in omega (arith, taken))
 
     committed : Committed c a k rest base at.upper moment → ⊥
     committed d =
@@ -91,7 +91,7 @@ behind c live a left gains m x rest k q base whole newer older s low lags again 
         is = at.is;
         ready = record { members = on.members; raised = on.raised; gained = λ r inside. gained still r inside };
         open_yet = at.open_yet;
-        decided = decided_on c a k at.lower older s.decided;
+        decided = decided_on c live a k at.lower older s.decided;
         exact = still;
         entries = s.entries;
         rows = (let all = s.rows in omega (arith, all));
@@ -123,7 +123,7 @@ behind c live a left gains m x rest k q base whole newer older s low lags again 
     one : (r : ℕ) → r < c.replicas → length (applied c r (part r older)) < k → m + 1 ≤ gain c r (part r moment)
     one r inside less = elim (cases_eq r a) [
       | inl same ↦ absurd (let own = applies_own c live a older here in let e = ap (λ i. length (applied c i (part i older))) same in let exact = s.exact in omega (arith, own, e, less, exact))
-      | inr other ↦ (let more = gains_one c live a r k at.lower older at.there inside other (s.decided.read r inside other) less (let taken = at.taken in omega (arith, taken)) in let old = s.ready.gained r inside in omega (arith, more, old))
+      | inr other ↦ (let more = gains_one c live a r k at.lower older (lacking_on c live a (at.lower ++ older) at.there) inside (at.there.all r inside) other (s.decided.read r inside (at.there.all r inside) other) less (let taken = at.taken in omega (arith, taken)) in let old = s.ready.gained r inside in omega (arith, more, old))
     ]
 
     gained : length (known c a (part a moment)) ≡ k → (r : ℕ) → r < c.replicas → m + 1 ≤ gain c r (part r moment)
@@ -211,8 +211,8 @@ rises c live a left gains m x rest base whole newer older lacking is ready o ent
       | inr other ↦ (let seen = read r low other in let less = read_is_less r (part r moment) in omega (arith, seen, less))
     ]
 
-    decided : Decided c a k moment
-    decided = record { own = own; read = read }
+    decided : Decided c live a k moment
+    decided = record { own = λ r low _. own r low; read = λ r low _ other. read r low other }
 
 -- so the steps don't suffice for what is left
 pub commits_all : (c : Config) (live : ℕ → Bool) (a left gains m x rest : ℕ) (base whole newer older : List Event) → Lacking c live a whole → whole ≡ newer ++ older → Ready c a m older → Open c a x base (part a older) → row_count c + reserve c ≤ length (known c a (part a older)) + left → (c.width + 1) * (row_count c + reserve c) ≤ m + gains → most_paid c ≤ x + rest

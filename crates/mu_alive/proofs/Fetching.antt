@@ -177,7 +177,7 @@ completes_one c r e past is = go e.verb is
         lacks false is = refl
     go verb is = absurd (true≢false (sym is))
 
-some_completed : (c : Config) (r : ℕ) (window older : List Event) → some_step (completes_row c r) window older ≡ true → got_now c r older + 1 ≤ got_now c r (window ++ older)
+pub some_completed : (c : Config) (r : ℕ) (window older : List Event) → some_step (completes_row c r) window older ≡ true → got_now c r older + 1 ≤ got_now c r (window ++ older)
 some_completed c r [] older some = absurd (true≢false (sym some))
 some_completed c r (e ∷ window) older some = go (completes_row c r (window ++ older) e) refl some (some_completed c r window older)
   where
@@ -221,19 +221,21 @@ front_begins test (x ∷ xs) ys long = go (test x) long (front_begins test xs ys
     go true long ih = let k = ih (omega (arith, long)) in (k.0, ap (λ l. x ∷ l) k.1)
     go false long ih = absurd (omega (arith, long))
 
-pub last_applies_all : LastLeadersApplyAll
-last_applies_all c live a start past good large last fetches many =
+-- so who knows every command after so many steps has applied it `fetching_steps` later
+pub applied_by : (c : Config) (live : ℕ → Bool) (a start most : ℕ) (past : List Event) → IsConfig c → LeadsLast c live a start past → FetchesInTime c a (part a past) → ((newer older : List Event) → past ≡ newer ++ older → most ≤ length (part a older) → knows_all c a (part a older) ≡ true) → most + fetching_steps c ≤ length (part a past)
+    → holds_all c (applied c a (part a past)) ≡ true
+applied_by c live a start most past good last fetches by many =
     subst (λ l. holds_all c (applied c a l) ≡ true) (sym split)
     (subst (λ l. holds_all c l ≡ true) (sym begins.1) (holds_more c (known c a (part a at.rest)) begins.0 knows))
   where
-    at : CutAt a (start + last_steps c a) past
-    at = cut_at a (start + last_steps c a) past (omega (arith, many))
+    at : CutAt a most past
+    at = cut_at a most past (omega (arith, many))
 
     split : part a past ≡ part a at.newer ++ part a at.rest
     split = ap (part a) at.is ∙ filter-append (λ e. e.by == a) at.newer at.rest
 
     knows : knows_all c a (part a at.rest) ≡ true
-    knows = let count = at.count in last_knows_all c live a start at.rest good large (last_before c live a start at.newer at.rest (subst (LeadsLast c live a start) at.is last)) (omega (arith, count))
+    knows = by at.newer at.rest at.is (let count = at.count in omega (arith, count))
 
     long : length (known c a (part a at.rest)) ≤ length (applied c a (part a at.newer ++ part a at.rest))
     long =
@@ -245,3 +247,6 @@ last_applies_all c live a start past good large last fetches many =
         let more = known_stays c a (part a at.newer) (part a at.rest) in
         subst (λ l. IsPrefixOf (known c a (part a at.rest)) (front (λ v. has_entry c a v (part a at.newer ++ part a at.rest)) l)) (sym more.1)
         (front_begins (λ v. has_entry c a v (part a at.newer ++ part a at.rest)) (known c a (part a at.rest)) more.0 (subst (λ l. length (known c a (part a at.rest)) ≤ length (front (λ v. has_entry c a v (part a at.newer ++ part a at.rest)) l)) more.1 long))
+
+pub last_applies_all : LastLeadersApplyAll
+last_applies_all c live a start past good large last fetches many = applied_by c live a start (start + last_steps c a) past good last fetches (λ newer older is enough. last_knows_all c live a start older good large (last_before c live a start newer older (subst (LeadsLast c live a start) is last)) enough) many

@@ -25,8 +25,8 @@ use Rattle.mu_pace.proofs.Counting.{moments_before}
 use Rattle.mu_alive.specs.Following.{catching_steps}
 use Rattle.mu_alive.specs.Bringing.{IsGranted, LeadsOn}
 use Rattle.mu_alive.specs.Enough.{asking_steps}
-use Rattle.mu_alive.specs.Finishing.{AsksAllFirst, HaveAllRaised, KeepUp, LastLeadersRaiseAll}
-use Rattle.mu_alive.specs.Last.{LeadsLast, NamesItself, fetching_steps, last_granting_steps, last_steps}
+use Rattle.mu_alive.specs.Finishing.{AsksAllFirst, HaveAllRaised, KeepUp, LastLeadersRaiseAll, spreading_steps}
+use Rattle.mu_alive.specs.Last.{FetchesInTime, LeadsLast, NamesItself, fetching_steps, last_granting_steps, last_steps}
 use Rattle.mu_alive.specs.Opens.{AsksUntilMin, OpensInTime, puts_number}
 use Rattle.mu_alive.specs.Turns.{is_own_min}
 use Rattle.mu_alive.proofs.Beginning.{CutAt, cut_at}
@@ -54,7 +54,7 @@ asks_older : (c : Config) (a : ℕ) (newer older : List Event) → AsksUntilMin 
 asks_older c a newer older asks p window base low s = asks p window base low (record { newer = newer ++ s.newer; is = ap (λ l. newer ++ l) s.is ∙ sym (append_assoc newer s.newer (window ++ base)) })
 
 -- so after this many steps it has asked each region: before its first minimum, or since it names itself
-asks_all : (c : Config) (live : ℕ → Bool) (a start : ℕ) (past : List Event) → LeadsLast c live a start past → AsksUntilMin c a (part a past) → AsksAllFirst c a (part a past) → AsksAllBy c a (start + asking_steps c) past
+pub asks_all : (c : Config) (live : ℕ → Bool) (a start : ℕ) (past : List Event) → LeadsLast c live a start past → AsksUntilMin c a (part a past) → AsksAllFirst c a (part a past) → AsksAllBy c a (start + asking_steps c) past
 asks_all c live a start past last asks first front rest is count q low = elim (min_or_none a (part a rest)) [
   | inl none ↦
       let there = last_before c live a start front rest (subst (LeadsLast c live a start) is last) in
@@ -73,7 +73,7 @@ min_named : (c : Config) (a start : ℕ) (now : List Event) → NamesItself c a 
 min_named c a start now named some = named (inr (min_parts a now some).0)
 
 -- it has started to lead after this many steps
-last_started : (c : Config) (live : ℕ → Bool) (a start : ℕ) (past : List Event) → IsConfig c → LeadsLast c live a start past → OpensInTime c a (part a past) → AsksAllFirst c a (part a past) → start + last_granting_steps c a + 2 * asking_steps c + 2 * (c.replicas + 2) ≤ length (part a past) → Started c a past
+pub last_started : (c : Config) (live : ℕ → Bool) (a start : ℕ) (past : List Event) → IsConfig c → LeadsLast c live a start past → OpensInTime c a (part a past) → AsksAllFirst c a (part a past) → start + last_granting_steps c a + 2 * asking_steps c + 2 * (c.replicas + 2) ≤ length (part a past) → Started c a past
 last_started c live a start past good last opens first many = elim (min_or_none a (part a past)) [
   | inl none ↦ absurd (let few = last_begins c live a start past good last (each_unread c a start (part a past) opens.asks last.named none) none in omega (arith, few, many))
   | inr f ↦ found f
@@ -126,7 +126,7 @@ number_begun : (c : Config) (w : ℕ) (past : List Event) → IsLegalHistory c p
 number_begun c w = legal_induction c (NumberBegun w) (λ some. absurd (true≢false (sym some))) (λ past by v h may s. number_begun_step c w by v past h may.may s)
 
 -- so it names itself while it has a number
-number_named : (c : Config) (a start : ℕ) (past : List Event) → IsLegalHistory c past → AtEachMoment (NamesItself c a start) (part a past) → AtEachMoment (λ now. is_some (proposal_number a now) ≡ true → is_named c a now ≡ true) (part a past)
+pub number_named : (c : Config) (a start : ℕ) (past : List Event) → IsLegalHistory c past → AtEachMoment (NamesItself c a start) (part a past) → AtEachMoment (λ now. is_some (proposal_number a now) ≡ true → is_named c a now ≡ true) (part a past)
 number_named c a start [] legal named = λ some. absurd (true≢false (sym some))
 number_named c a start (e ∷ past) legal named = go (e.by == a) refl named (number_named c a start past legal.0)
   where
@@ -140,7 +140,7 @@ number_named c a start (e ∷ past) legal named = go (e.by == a) refl named (num
     go false other itself ih = ih itself
 
 -- from then on the regions of all that keep up grant to it
-governs : (c : Config) (live : ℕ → Bool) (a start : ℕ) (newer older : List Event) → IsConfig c → LeadsLast c live a start (newer ++ older) → AsksAllBy c a (start + asking_steps c) (newer ++ older) → Started c a older → start + last_granting_steps c a ≤ length (part a older) → Governs c live a newer older
+pub governs : (c : Config) (live : ℕ → Bool) (a start : ℕ) (newer older : List Event) → IsConfig c → LeadsLast c live a start (newer ++ older) → AsksAllBy c a (start + asking_steps c) (newer ++ older) → Started c a older → start + last_granting_steps c a ≤ length (part a older) → Governs c live a newer older
 governs c live a start newer older good last asks begun late = record {
   inside = last.inside;
   lives = last.lives;
@@ -176,16 +176,19 @@ governs c live a start newer older good last asks begun late = record {
             ap is_some (seen_again a p (below ++ older) (owned_top c a p (below ++ older) there.legal there.turns there.highest)
             (owned c live a start p (below ++ older) there (λ front rest is. asks (above ++ front) rest (whole ∙ ap (λ l. above ++ l) is ∙ sym (append_assoc above front rest))) low lives (omega (arith, more, late))))
 
-pub last_raises_all : LastLeadersRaiseAll
-last_raises_all c live a start past good large last opens fetches keep many =
+-- so once it knows every command, after so many steps, all that keep up with it have applied all and
+-- raised their heads to it `spreading_steps` later
+pub raised_by : (c : Config) (live : ℕ → Bool) (a start most : ℕ) (past : List Event) → IsConfig c → LeadsLast c live a start past → OpensInTime c a (part a past) → FetchesInTime c a (part a past) → KeepUp c live a past → start + last_granting_steps c a + 2 * asking_steps c + 2 * (c.replicas + 2) ≤ most
+    → ((newer older : List Event) → past ≡ newer ++ older → most ≤ length (part a older) → knows_all c a (part a older) ≡ true) → most + spreading_steps c ≤ length (part a past) → HaveAllRaised c live past
+raised_by c live a start most past good last opens fetches keep late by many =
     subst (HaveAllRaised c live) (sym at.is)
     (all_raised c live a at.newer at.rest (subst (IsLegalHistory c) at.is last.legal) knows
     (spreads c live a (length (known c a (part a at.rest))) at.newer at.rest good
-    (governs c live a start at.newer at.rest good (subst (LeadsLast c live a start) at.is last) (subst (AsksAllBy c a (start + asking_steps c)) at.is (asks_all c live a start past last opens.asks keep.asked)) begun (let count = at.count in omega (arith, count)))
+    (governs c live a start at.newer at.rest good (subst (LeadsLast c live a start) at.is last) (subst (AsksAllBy c a (start + asking_steps c)) at.is (asks_all c live a start past last opens.asks keep.asked)) begun (let count = at.count in omega (arith, count, late)))
     (subst (KeepUp c live a) at.is keep) (omega arith) applies (let sum = ap length split ∙ length-append (part a at.newer) (part a at.rest) in let count = at.count in omega (arith, sum, count, many))))
   where
-    at : CutAt a (start + last_steps c a) past
-    at = cut_at a (start + last_steps c a) past (omega (arith, many))
+    at : CutAt a most past
+    at = cut_at a most past (omega (arith, many))
 
     split : part a past ≡ part a at.newer ++ part a at.rest
     split = ap (part a) at.is ∙ filter-append (λ e. e.by == a) at.newer at.rest
@@ -197,13 +200,13 @@ last_raises_all c live a start past good large last opens fetches keep many =
     more window o s = record { newer = part a at.newer ++ s.newer; is = split ∙ ap (λ l. part a at.newer ++ l) s.is ∙ sym (append_assoc (part a at.newer) s.newer (window ++ o)) }
 
     knows : knows_all c a (part a at.rest) ≡ true
-    knows = let count = at.count in last_knows_all c live a start at.rest good large there (omega (arith, count))
+    knows = by at.newer at.rest at.is (let count = at.count in omega (arith, count))
 
     begun : Started c a at.rest
     begun =
         last_started c live a start at.rest good there
         (record { asks = λ p window o low s. opens.asks p window o low (more window o s); numbers = λ e window o s. opens.numbers e window o (more window (e ∷ o) s) })
-        (keep_before c live a at.newer at.rest (subst (KeepUp c live a) at.is keep)).asked (let count = at.count in omega (arith, count))
+        (keep_before c live a at.newer at.rest (subst (KeepUp c live a) at.is keep)).asked (let count = at.count in omega (arith, count, late))
 
     -- it fetches the rows while the others join and follow
     fetches_less : fetching_steps c ≤ catching_steps c
@@ -215,3 +218,7 @@ last_raises_all c live a start past good large last opens fetches keep many =
         (fetched c a (part a past) (part a top) (part a bottom) (part a at.rest) good (part_is_possible c a past last.legal) fetches
         (split ∙ ap (λ l. l ++ part a at.rest) (ap (part a) is ∙ filter-append (λ e. e.by == a) top bottom) ∙ append_assoc (part a top) (part a bottom) (part a at.rest))
         (let less = fetches_less in omega (arith, long, less)))
+
+pub last_raises_all : LastLeadersRaiseAll
+last_raises_all c live a start past good large last opens fetches keep many =
+    raised_by c live a start (start + last_steps c a) past good last opens fetches keep (omega arith) (λ newer older is enough. last_knows_all c live a start older good large (last_before c live a start newer older (subst (LeadsLast c live a start) is last)) enough) (omega (arith, many))

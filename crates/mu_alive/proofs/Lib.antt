@@ -4,6 +4,7 @@ pub mod Beginning
 mod Bringing
 mod Calm
 mod Catching
+mod CatchingUp
 pub mod Cutting
 pub mod Enough
 pub mod Failing
@@ -21,11 +22,17 @@ mod Moments
 mod Noting
 mod Opening
 mod OwnNumbers
+mod Reaching
 mod Rising
 mod Settled
+mod Since
 pub mod Spreading
+mod Stands
 mod Started
 mod Steady
+mod Stopped
+pub mod Stopping
+mod Summing
 pub mod TurnFences
 pub mod TurnGrants
 mod TurnNumbers

@@ -12,7 +12,7 @@ use Rattle.mu_model.specs.Allowed.{Needs}
 use Rattle.mu_model.specs.Answers.{answer_of}
 use Rattle.mu_model.specs.Bounds.{stays}
 use Rattle.mu_model.specs.Contents.{IsConfig, marked}
-use Rattle.mu_model.specs.Diligence.{is_milestone, is_progress}
+use Rattle.mu_model.specs.Diligence.{is_milestone}
 use Rattle.mu_model.specs.Ends.{outrun}
 use Rattle.mu_model.specs.Histories.{has, part}
 use Rattle.mu_model.specs.Knowledge.{known}
@@ -27,8 +27,9 @@ use Rattle.mu_model.proofs.Parts.{filter-append, part_is_possible}
 use Rattle.mu_agree.proofs.Legal.{legal_older}
 use Rattle.mu_agree.proofs.Possible.{parts_shorten_law}
 use Rattle.mu_agree.proofs.Prefixes.{greatest_along}
+use Rattle.mu_pace.specs.Blocking.{is_progress_by}
 use Rattle.mu_pace.specs.Counters.{AtEachMoment, AtEachStep, IsInTime, paid}
-use Rattle.mu_pace.specs.Watches.{earns, limit, limit_now, progressing}
+use Rattle.mu_pace.specs.Watches.{earns, limit, limit_now, progressing, progressing_by}
 use Rattle.mu_pace.proofs.Counting.{allowed_here, last_moment, moments_before, shorter, steps_before}
 use Rattle.mu_pace.proofs.Growing.{known_grows}
 use Rattle.mu_pace.proofs.Leading.{commit_known}
@@ -86,12 +87,12 @@ open_first c a mine m = record {
   spent = omega arith;
 }
 
--- what closes it is a commit or a head that lags
-closing_is : (c : Config) (a : ℕ) (past : List Event) (e : Event) → begins_leadership a e ≡ false → is_named c a past ≡ true → is_over_after a past e ≡ false → knows_all c a past ≡ false → outrun c a (e ∷ past) ≡ None → (progressing c a).closes past e ≡ true
-    → (is_replication past e ≡ true) × ((commits_more c a past e || is_lagging c a past e) ≡ true)
-closing_is c a past e same named on lacks going closes =
-    let away = away_by (begins_leadership a e) (is_replication past e) (is_named c a past) (is_progress c a past e) same named closes in
-    (away.0, two (commits_more c a past e) (is_over_after a past e) (is_lagging c a past e) (knows_all c a past) (is_some (outrun c a (e ∷ past))) on lacks (ap is_some going) away.1)
+-- what closes a count of progress is a commit or a head that passes its test
+pub closing_by : (stops : List Event → Event → Bool) (c : Config) (a : ℕ) (past : List Event) (e : Event) → begins_leadership a e ≡ false → is_named c a past ≡ true → is_over_after a past e ≡ false → knows_all c a past ≡ false → outrun c a (e ∷ past) ≡ None → (progressing_by stops c a).closes past e ≡ true
+    → (is_replication past e ≡ true) × ((commits_more c a past e || stops past e) ≡ true)
+closing_by stops c a past e same named on lacks going closes =
+    let away = away_by (begins_leadership a e) (is_replication past e) (is_named c a past) (is_progress_by stops c a past e) same named closes in
+    (away.0, two (commits_more c a past e) (is_over_after a past e) (stops past e) (knows_all c a past) (is_some (outrun c a (e ∷ past))) on lacks (ap is_some going) away.1)
   where
     two : (m o l k x : Bool) → o ≡ false → k ≡ false → x ≡ false → (m || (o || (l || (k || x)))) ≡ true → (m || l) ≡ true
     two true o l k x ho hk hx is = refl
@@ -102,7 +103,7 @@ closing_is c a past e same named on lacks going closes =
     two false false false false true ho hk hx is = absurd (true≢false hx)
 
 -- either is a milestone
-closing_opens : (c : Config) (a : ℕ) (past : List Event) (e : Event) → (is_replication past e ≡ true) × ((commits_more c a past e || is_lagging c a past e) ≡ true) → is_milestone c a past e ≡ true
+pub closing_opens : (c : Config) (a : ℕ) (past : List Event) (e : Event) → (is_replication past e ≡ true) × ((commits_more c a past e || is_lagging c a past e) ≡ true) → is_milestone c a past e ≡ true
 closing_opens c a past e is = either (is_min e && not (has is_min (leadership a past))) (commits_more c a past e) (is_replication past e) (is_lagging c a past e) is.0 is.1
   where
     either : (f m t l : Bool) → t ≡ true → (m || l) ≡ true → (f || (m || (t && l))) ≡ true
@@ -124,7 +125,7 @@ open_step c a x base e past leads fine o = go ((progressing c a).closes past e) 
     go : (t : Bool) → (progressing c a).closes past e ≡ t → Open c a x base (e ∷ past)
     go true closes =
         let here = last_moment (IsFine c a) past fine.0 in
-        let milestone = closing_opens c a past e (closing_is c a past e same (leads.named o.read) fine.1.on here.lacks fine.1.going closes) in
+        let milestone = closing_opens c a past e (closing_by (is_lagging c a) c a past e same (leads.named o.read) fine.1.on here.lacks fine.1.going closes) in
         let more = paid_both (earns c a) o.window o.mid base in
         let spent = o.spent in
         subst (λ l. Open c a x base (e ∷ l)) (sym flat) (reopens c a x e (o.window ++ o.mid) base (subst (λ l. is_milestone c a l e ≡ true) flat milestone) (subst (λ l. has_min a (e ∷ l) ≡ true) flat (min_on a e past same o.read)) same o.same (omega (arith, more, spent)))
@@ -261,7 +262,7 @@ commits_next c live a k x left base newer older good fits lone lacks o heads kne
         same = leads_here.1.same on.1
 
         closing : (is_replication past f.event ≡ true) × ((commits_more c a past f.event || is_lagging c a past f.event) ≡ true)
-        closing = closing_is c a past f.event same (leads_here.1.named on.1) fine_here.1.on (last_moment (IsFine c a) past fine_here.0).lacks fine_here.1.going f.closes
+        closing = closing_by (is_lagging c a) c a past f.event same (leads_here.1.named on.1) fine_here.1.on (last_moment (IsFine c a) past fine_here.0).lacks fine_here.1.going f.closes
 
         mine_is : part a (l.older ++ older) ≡ past
         mine_is = filter-append (λ e. e.by == a) l.older older ∙ ap (λ z. z ++ part a older) l.before

@@ -10,6 +10,7 @@ use Rattle.mu_model.specs.Diligence.{TellsHeads}
 use Rattle.mu_model.specs.Histories.{greatest, part}
 use Rattle.mu_model.specs.Knowledge.{applied, fuo_read, greatest_fuo_read, known}
 use Rattle.mu_model.specs.Leaderships.{is_member}
+use Rattle.mu_model.specs.Legal.{IsLegalHistory}
 use Rattle.mu_model.specs.Parts.{IsPossible}
 use Rattle.mu_model.specs.Placing.{fuo_read_or_raised}
 use Rattle.mu_model.specs.Regions.{head_raised, region_fuo, region_head}
@@ -44,7 +45,7 @@ use Rattle.mu_alive.proofs.Settled.{HasRaised, IsQuiet, raised_along, reaches_kn
 use Rattle.mu_alive.proofs.Started.{one_leads}
 use Rattle.mu_alive.proofs.Steady.{Steady, steady_steps}
 
-lacks_older : (c : Config) (a : ℕ) (newer older : List Event) → knows_all c a (part a (newer ++ older)) ≡ false → knows_all c a (part a older) ≡ false
+pub lacks_older : (c : Config) (a : ℕ) (newer older : List Event) → knows_all c a (part a (newer ++ older)) ≡ false → knows_all c a (part a older) ≡ false
 lacks_older c a newer older lacks = last_moment (λ now. knows_all c a now ≡ false) (part a older) (moments_before (λ now. knows_all c a now ≡ false) (part a newer) (part a older) (subst (AtEachMoment (λ now. knows_all c a now ≡ false)) (filter-append (λ e. e.by == a) newer older) (lacks_moments c a (part a (newer ++ older)) lacks)))
 
 pub reserve_fits : (c : Config) → IsConfig c → reserve c < c.ring
@@ -87,7 +88,7 @@ pub record Ready (c : Config) (a m : ℕ) (past : List Event) : Type 0 where
   pub raised : (p : ℕ) → p < c.replicas → HasRaised c a p (part a past)
   pub gained : (r : ℕ) → r < c.replicas → m ≤ gain c r (part r past)
 
-gained_on : (c : Config) (r m : ℕ) (newer older : List Event) → m ≤ gain c r (part r older) → m ≤ gain c r (part r (newer ++ older))
+pub gained_on : (c : Config) (r m : ℕ) (newer older : List Event) → m ≤ gain c r (part r older) → m ≤ gain c r (part r (newer ++ older))
 gained_on c r m newer older few = let stays = gain_stays c r (part r newer) (part r older) in let same = ap (gain c r) (filter-append (λ e. e.by == r) newer older) in omega (arith, few, stays, same)
 
 -- one leadership goes on
@@ -114,11 +115,20 @@ open_later c live a x base newer older l o =
     subst (Open c a x base) (sym mine)
     (open_on c a x base (part a newer) (part a older) (subst (AtEachStep (Leads c a)) mine (lone_leads c a (part a (newer ++ older)) on l.lone.named l.lone.led)) (subst (AtEachMoment (IsFine c a)) mine (fine_moments c a (newer ++ older) l.lone.legal on l.lone.going l.lacks)) o)
 
+-- those that go on keep up with a
+pub record GoOn (c : Config) (live : ℕ → Bool) (a : ℕ) (past : List Event) : Type 0 where
+  pub legal : IsLegalHistory c past
+  pub near : AtEachMoment (IsNear c live a) past
+  pub keep : KeepUp c live a past
+
+pub lacking_on : (c : Config) (live : ℕ → Bool) (a : ℕ) (past : List Event) → Lacking c live a past → GoOn c live a past
+lacking_on c live a past l = record { legal = l.lone.legal; near = l.lone.near; keep = l.keep }
+
 -- how many steps the others take meanwhile
-near_steps : (c : Config) (live : ℕ → Bool) (a r n : ℕ) (newer older : List Event) → Lacking c live a (newer ++ older) → r < c.replicas → n + 2 ≤ length (part a newer) → n ≤ length (part r newer)
-near_steps c live a r n newer older l low long =
-    let late = (last_moment (IsNear c live a) (newer ++ older) l.lone.near r low (l.all r low)).1 in
-    let early = (last_moment (IsNear c live a) older (moments_before (IsNear c live a) newer older l.lone.near) r low (l.all r low)).0 in
+near_steps : (c : Config) (live : ℕ → Bool) (a r n : ℕ) (newer older : List Event) → GoOn c live a (newer ++ older) → r < c.replicas → live r ≡ true → n + 2 ≤ length (part a newer) → n ≤ length (part r newer)
+near_steps c live a r n newer older l low lives long =
+    let late = (last_moment (IsNear c live a) (newer ++ older) l.near r low lives).1 in
+    let early = (last_moment (IsNear c live a) older (moments_before (IsNear c live a) newer older l.near) r low lives).0 in
     let theirs = ap length (filter-append (λ e. e.by == r) newer older) ∙ length-append (part r newer) (part r older) in
     let mine = ap length (filter-append (λ e. e.by == a) newer older) ∙ length-append (part a newer) (part a older) in
     omega (arith, late, early, theirs, mine, long)
@@ -132,54 +142,62 @@ fuos_rise c live a m newer older l read k long p low =
     subst (λ x. length (known c a (part a older)) ≤ greatest (λ e. fuo_read_or_raised a p e.by e.verb e.answer) x) (sym mine)
     (reaches_known c a p (part a newer) (part a older) (subst (AtEachStep (Steady c a)) mine (steady_of c live a (newer ++ older) l)) (subst (AtEachMoment (IsInTime (raising c a p))) mine (raising_moments c a p (part a (newer ++ older)) low l.lone.led)) (stays_on c live a newer older l read) (k.members p low) (k.raised p low) (omega (arith, half)))
 
-follows_here : (c : Config) (live : ℕ → Bool) (a r : ℕ) (newer older : List Event) → Lacking c live a (newer ++ older) → r < c.replicas → r ≢ a → FollowsOn c r newer older
-follows_here c live a r newer older l low other = follows_on c live a r newer older l.lone.legal l.keep low (l.all r low) other
+follows_here : (c : Config) (live : ℕ → Bool) (a r : ℕ) (newer older : List Event) → GoOn c live a (newer ++ older) → r < c.replicas → live r ≡ true → r ≢ a → FollowsOn c r newer older
+follows_here c live a r newer older l low lives other = follows_on c live a r newer older l.legal l.keep low lives other
 
 -- in two rounds each other replica reads that
-pub fuos_read : (c : Config) (live : ℕ → Bool) (a k : ℕ) (newer older : List Event) → Lacking c live a (newer ++ older) → ((p : ℕ) → p < c.replicas → k ≤ region_fuo p older) → gain_steps c ≤ length (part a newer)
-    → (r : ℕ) → r < c.replicas → r ≢ a → k ≤ greatest_fuo_read r r (part r (newer ++ older))
-fuos_read c live a k newer older l fuos long r low other =
-    let two = cut (2 * cycle c) (part r newer) (near_steps c live a r (2 * cycle c) newer older l low (omega (arith, long))) in
-    let read = fuo_read_in_time c r k newer older (follows_here c live a r newer older l low other) (fuos r low) two.newer two.rest two.is two.count in
+pub read_in_time : (c : Config) (live : ℕ → Bool) (a k : ℕ) (newer older : List Event) → GoOn c live a (newer ++ older) → ((p : ℕ) → p < c.replicas → live p ≡ true → k ≤ region_fuo p older) → gain_steps c ≤ length (part a newer)
+    → (r : ℕ) → r < c.replicas → live r ≡ true → r ≢ a → k ≤ greatest_fuo_read r r (part r (newer ++ older))
+read_in_time c live a k newer older l fuos long r low lives other =
+    let two = cut (2 * cycle c) (part r newer) (near_steps c live a r (2 * cycle c) newer older l low lives (omega (arith, long))) in
+    let read = fuo_read_in_time c r k newer older (follows_here c live a r newer older l low lives other) (fuos r low lives) two.newer two.rest two.is two.count in
     let up = greatest_along (λ e. fuo_read r r e.by e.verb e.answer) two.newer (two.rest ++ part r older) in
     let same = ap (greatest_fuo_read r r) (filter-append (λ e. e.by == r) newer older ∙ ap (λ x. x ++ part r older) two.is ∙ append_assoc two.newer two.rest (part r older)) in
     omega (arith, read, up, same)
 
+pub fuos_read : (c : Config) (live : ℕ → Bool) (a k : ℕ) (newer older : List Event) → Lacking c live a (newer ++ older) → ((p : ℕ) → p < c.replicas → k ≤ region_fuo p older) → gain_steps c ≤ length (part a newer)
+    → (r : ℕ) → r < c.replicas → r ≢ a → k ≤ greatest_fuo_read r r (part r (newer ++ older))
+fuos_read c live a k newer older l fuos long r low other = read_in_time c live a k newer older (lacking_on c live a (newer ++ older) l) (λ p inside _. fuos p inside) long r low (l.all r low) other
+
 -- who has applied less than it knows to be decided gains in two rounds
-pub gains_one : (c : Config) (live : ℕ → Bool) (a r k : ℕ) (newer older : List Event) → Lacking c live a (newer ++ older) → r < c.replicas → r ≢ a → k ≤ greatest_fuo_read r r (part r older) → length (applied c r (part r older)) < k → gain_steps c ≤ length (part a newer)
+pub gains_one : (c : Config) (live : ℕ → Bool) (a r k : ℕ) (newer older : List Event) → GoOn c live a (newer ++ older) → r < c.replicas → live r ≡ true → r ≢ a → k ≤ greatest_fuo_read r r (part r older) → length (applied c r (part r older)) < k → gain_steps c ≤ length (part a newer)
     → gain c r (part r older) + 1 ≤ gain c r (part r (newer ++ older))
-gains_one c live a r k newer older l low other read lags long =
-    let two = cut (2 * cycle c) (part r newer) (near_steps c live a r (2 * cycle c) newer older l low (omega (arith, long))) in
+gains_one c live a r k newer older l low lives other read lags long =
+    let two = cut (2 * cycle c) (part r newer) (near_steps c live a r (2 * cycle c) newer older l low lives (omega (arith, long))) in
     let mine = filter-append (λ e. e.by == r) newer older ∙ ap (λ x. x ++ part r older) two.is ∙ append_assoc two.newer two.rest (part r older) in
-    let some = gains_in_time c r newer older (follows_here c live a r newer older l low other) two.newer two.rest (part r older) mine (omega arith) two.count (omega (arith, lags, read)) in
+    let some = gains_in_time c r newer older (follows_here c live a r newer older l low lives other) two.newer two.rest (part r older) mine (omega arith) two.count (omega (arith, lags, read)) in
     let one = gain_some c r two.rest (part r older) some in
     let stays = gain_stays c r two.newer (two.rest ++ part r older) in
     let same = ap (gain c r) mine in
     omega (arith, one, stays, same)
 
 -- in a round who has applied so much raises its head to it
-pub heads_rise : (c : Config) (live : ℕ → Bool) (a k : ℕ) (newer older : List Event) → Lacking c live a (newer ++ older) → ((r : ℕ) → r < c.replicas → k ≤ own_fuo r (part r older)) → ((r : ℕ) → r < c.replicas → k ≤ length (applied c r (part r older))) → cycle c + 2 ≤ length (part a newer)
-    → (r : ℕ) → r < c.replicas → k ≤ region_head r (newer ++ older)
-heads_rise c live a k newer older l decided had long r low =
+pub raise_in_time : (c : Config) (live : ℕ → Bool) (a k : ℕ) (newer older : List Event) → GoOn c live a (newer ++ older) → ((r : ℕ) → r < c.replicas → live r ≡ true → k ≤ own_fuo r (part r older)) → ((r : ℕ) → r < c.replicas → live r ≡ true → k ≤ length (applied c r (part r older))) → cycle c + 2 ≤ length (part a newer)
+    → (r : ℕ) → r < c.replicas → live r ≡ true → k ≤ region_head r (newer ++ older)
+raise_in_time c live a k newer older l decided had long r low lives =
     let mine = filter-append (λ e. e.by == r) newer older in
-    let head = head_follows c r k (part r newer) (part r older) (subst (IsPossible c r) mine (part_is_possible c r (newer ++ older) l.lone.legal)) (subst (TellsHeads c r) mine (l.keep.heads r low (l.all r low))) (subst (AtEachStep (RaisesToAll c r)) mine (l.keep.raises r low (l.all r low))) (had r low) (decided r low) (near_steps c live a r (cycle c) newer older l low long) in
+    let head = head_follows c r k (part r newer) (part r older) (subst (IsPossible c r) mine (part_is_possible c r (newer ++ older) l.legal)) (subst (TellsHeads c r) mine (l.keep.heads r low lives)) (subst (AtEachStep (RaisesToAll c r)) mine (l.keep.raises r low lives)) (had r low lives) (decided r low lives) (near_steps c live a r (cycle c) newer older l low lives long) in
     let region = greatest-part (λ e. head_raised r e.by e.verb) r (heads-own r) (newer ++ older) in
     let same = ap (region_head r) mine in
     omega (arith, head, region, same)
+
+pub heads_rise : (c : Config) (live : ℕ → Bool) (a k : ℕ) (newer older : List Event) → Lacking c live a (newer ++ older) → ((r : ℕ) → r < c.replicas → k ≤ own_fuo r (part r older)) → ((r : ℕ) → r < c.replicas → k ≤ length (applied c r (part r older))) → cycle c + 2 ≤ length (part a newer)
+    → (r : ℕ) → r < c.replicas → k ≤ region_head r (newer ++ older)
+heads_rise c live a k newer older l decided had long r low = raise_in_time c live a k newer older (lacking_on c live a (newer ++ older) l) (λ q inside _. decided q inside) (λ q inside _. had q inside) long r low (l.all r low)
 
 -- what the leader knows it has applied
 pub applies_own : (c : Config) (live : ℕ → Bool) (a : ℕ) (past : List Event) → Lacking c live a past → length (applied c a (part a past)) ≡ length (known c a (part a past))
 applies_own c live a past l = ap length (applied_is_known c a past l.good l.lone.legal l.writes)
 
--- each FUO is known to each, up to k
-pub record Decided (c : Config) (a k : ℕ) (past : List Event) : Type 0 where
-  pub own : (r : ℕ) → r < c.replicas → k ≤ own_fuo r (part r past)
-  pub read : (r : ℕ) → r < c.replicas → r ≢ a → k ≤ greatest_fuo_read r r (part r past)
+-- each FUO of one that goes on is known to it, up to k
+pub record Decided (c : Config) (live : ℕ → Bool) (a k : ℕ) (past : List Event) : Type 0 where
+  pub own : (r : ℕ) → r < c.replicas → live r ≡ true → k ≤ own_fuo r (part r past)
+  pub read : (r : ℕ) → r < c.replicas → live r ≡ true → r ≢ a → k ≤ greatest_fuo_read r r (part r past)
 
-pub decided_on : (c : Config) (a k : ℕ) (newer older : List Event) → Decided c a k older → Decided c a k (newer ++ older)
-decided_on c a k newer older d = record {
-  own = λ r low. let up = greatest_along (λ f. fuo_read_or_raised r r f.by f.verb f.answer) (part r newer) (part r older) in let same = ap (own_fuo r) (filter-append (λ e. e.by == r) newer older) in let high = d.own r low in omega (arith, up, same, high);
-  read = λ r low other. let up = greatest_along (λ f. fuo_read r r f.by f.verb f.answer) (part r newer) (part r older) in let same = ap (greatest_fuo_read r r) (filter-append (λ e. e.by == r) newer older) in let high = d.read r low other in omega (arith, up, same, high);
+pub decided_on : (c : Config) (live : ℕ → Bool) (a k : ℕ) (newer older : List Event) → Decided c live a k older → Decided c live a k (newer ++ older)
+decided_on c live a k newer older d = record {
+  own = λ r low lives. let up = greatest_along (λ f. fuo_read_or_raised r r f.by f.verb f.answer) (part r newer) (part r older) in let same = ap (own_fuo r) (filter-append (λ e. e.by == r) newer older) in let high = d.own r low lives in omega (arith, up, same, high);
+  read = λ r low lives other. let up = greatest_along (λ f. fuo_read r r f.by f.verb f.answer) (part r newer) (part r older) in let same = ap (greatest_fuo_read r r) (filter-append (λ e. e.by == r) newer older) in let high = d.read r low lives other in omega (arith, up, same, high);
 }
 
 -- nobody has gained all rows while a command is missing

@@ -9,5 +9,6 @@ pub mod Lagging
 pub mod Last
 pub mod Lone
 pub mod Opens
+pub mod Stopping
 pub mod Turns
 pub mod Unhindered

@@ -10,6 +10,7 @@ ghost use Rattle.mu_alive.specs.Finishing.{LastLeadersRaiseAll, LoneLeadersRaise
 ghost use Rattle.mu_alive.specs.Following.{FollowersCatchUp};
 ghost use Rattle.mu_alive.specs.Lagging.{LoneLeadersApplyAllInAnyRing, LoneLeadersRaiseAllInAnyRing};
 ghost use Rattle.mu_alive.specs.Last.{LastLeadersApplyAll, LastLeadersKnowAll};
+ghost use Rattle.mu_alive.specs.Stopping.{LastLeadersApplyAllInAnyRing, LastLeadersRaiseAllInAnyRing};
 ghost use Rattle.mu_alive.specs.Turns.{HostsGrantInTurn, TurnsLeadOn};
 ghost use Rattle.mu_alive.specs.Unhindered.{UnhinderedCommit};
 
@@ -97,4 +98,15 @@ pub fn lone_leaders_apply_all_in_any_ring()
 /// And all that keep up with it have applied all, and raised their heads to it.
 pub fn lone_leaders_raise_all_in_any_ring()
     ensures { LoneLeadersRaiseAllInAnyRing }
+{}
+
+/// In version 2 the last of the replicas that ask in turn has applied every command in time, in any
+/// ring, once the others that stopped are held failed.
+pub fn last_leaders_apply_all_in_any_ring()
+    ensures { LastLeadersApplyAllInAnyRing }
+{}
+
+/// And all that keep up with it have applied all, and raised their heads to it.
+pub fn last_leaders_raise_all_in_any_ring()
+    ensures { LastLeadersRaiseAllInAnyRing }
 {}

@@ -1,23 +1,19 @@
 -- In a replay whose script has no line replica 0 has every row in time, in any ring.
 use Rattle.std.proofs.Common.{◌≡◌, ◌∙◌, ℕ, ◌<◌, ◌≤◌, ◌==◌, inl, inr, true, Some, List, ◌∷◌, ap, arith, length, map, refl, subst, sym}
 use Rattle.std.specs.Prelude.{slice_index}
-use Rattle.std.specs.List.{slice_get}
 use Rattle.mu_input.specs.Heads.{HaveHeads}
 use Rattle.mu_model.specs.declared.config.Config.{Config}
 use Rattle.mu_model.specs.declared.event.Event.{Event}
-use Rattle.mu_model.specs.declared.script.End.{End}
 use Rattle.mu_model.specs.Contents.{IsConfig, holds_all}
 use Rattle.mu_model.specs.Diligence.{IsDiligent}
-use Rattle.mu_model.specs.Ends.{EndsBy}
-use Rattle.mu_model.specs.Histories.{history, part}
+use Rattle.mu_model.specs.Histories.{part}
 use Rattle.mu_model.specs.Journals.{Record}
 use Rattle.mu_model.specs.Knowledge.{applied}
-use Rattle.mu_model.proofs.Basics.{same_some}
 use Rattle.mu_model.proofs.Parts.{filter-append}
 use Rattle.mu_outcome.specs.declared.outcome.Outcome.{Outcome}
 use Rattle.mu_outcome.specs.Completion.{Completes}
 use Rattle.mu_outcome.specs.Entries.{commands_in, longest}
-use Rattle.mu_outcome.specs.Outcomes.{IsRun, events_of, journal_of}
+use Rattle.mu_outcome.specs.Outcomes.{IsRun, events_of}
 use Rattle.mu_outcome.proofs.Completing.{all_from_log, completes_over}
 use Rattle.mu_alive.specs.Lagging.{steps_in_any_ring}
 use Rattle.mu_alive.proofs.Fetching.{applied_on}
@@ -32,6 +28,7 @@ use Rattle.mu_cluster.proofs.Finishing.{count_all}
 use Rattle.mu_cluster.proofs.Lives.{done_or_not}
 use Rattle.mu_cluster.proofs.Naming.{AreUnpaused, unpaused_of}
 use Rattle.mu_cluster.proofs.Onward.{journal_part, nodes_of}
+use Rattle.mu_cluster.proofs.Outliving.{whole_budget}
 use Rattle.mu_cluster.proofs.Outrunning.{spends_of}
 use Rattle.mu_cluster.proofs.Raised.{LoneAt, lone_at}
 use Rattle.mu_cluster.proofs.Taken.{GoOn}
@@ -57,10 +54,7 @@ any_ring_of o order seats rounds good run given played diligent unpaused unstopp
     all = unpaused_of o order seats rounds run given played unpaused
 
     budget : (r : ℕ) → r < c.replicas → length (part_of r events) ≡ c.budget
-    budget r low = ap length (sym (journal_part o run r low)) ∙ go (run.ended r low).0 (run.ended r low).1 (run.ended r low).2.ends
-      where
-        go : (end : End) → slice_get o.ends r ≡ Some end → EndsBy c o.job.script r (history (journal_of o r)) end → length (history (journal_of o r)) ≡ c.budget
-        go end is ends = (subst (EndsBy c o.job.script r (history (journal_of o r))) (same_some end End.Budget (sym is ∙ spent r low)) ends).1
+    budget r low = ap length (sym (journal_part o run r low)) ∙ whole_budget o run r low (spent r low)
 
     late : (r : ℕ) → r < c.replicas → true ≡ true → steps_in_any_ring c ≤ slice_index lengths r
     late r low _ = let taken = all.taken r low in let b = budget r low in omega (arith, taken, b, enough)

@@ -50,7 +50,7 @@ use Rattle.mu_cluster.specs.Rounds.{Played, part_of}
 use Rattle.mu_cluster.proofs.Living.{none_of}
 use Rattle.mu_cluster.proofs.Naming.{AreUnpaused, unpaused_of}
 use Rattle.mu_cluster.proofs.Onward.{journal_part, nodes_of, score-part}
-use Rattle.mu_cluster.proofs.Outliving.{fails_then}
+use Rattle.mu_cluster.proofs.Outliving.{fails_then, not_stopped, stopped_so}
 use Rattle.mu_cluster.proofs.Outrunning.{none_outrun}
 use Rattle.mu_cluster.proofs.Passes.{has_later}
 use Rattle.mu_cluster.proofs.Raised.{RaisedBy, full_holds, raised_alone, raised_by, raised_last}
@@ -218,10 +218,6 @@ heads_are f (suc (suc (suc (suc (suc zero))))) low = refl
 heads_are f (suc (suc (suc (suc (suc (suc zero)))))) low = refl
 heads_are f (suc (suc (suc (suc (suc (suc (suc q))))))) low = absurd (omega (arith, low))
 
-not_stopped : (t : Bool) → not t ≡ true → t ≡ false
-not_stopped true is = absurd (true≢false (sym is))
-not_stopped false is = refl
-
 -- how many steps each took
 abbrev pub lengths_of : Outcome → List ℕ
 lengths_of o = map (λ journal. length (events_of journal)) o.journals
@@ -317,17 +313,13 @@ finishes_from o order seats rounds s most good run given played unpaused goes_on
         holds_mine = subst (λ x. holds_all c x ≡ true) (take-append-drop (full_length c r mine) (applied c r mine)) (holds_more c (take (full_length c r mine) (applied c r mine)) (drop (full_length c r mine) (applied c r mine)) (full_holds c r mine full))
 
 -- those that were stopped are held failed in time
-held_in_time : (o : Outcome) (run : IsRun o) → ((r : ℕ) → r < o.job.config.replicas → was_stopped o r ≡ true → length (journal_of o r) + failing_steps o.job.config < o.job.config.budget)
+pub held_in_time : (o : Outcome) (run : IsRun o) → ((r : ℕ) → r < o.job.config.replicas → was_stopped o r ≡ true → length (journal_of o r) + failing_steps o.job.config < o.job.config.budget)
     → (q : ℕ) → q < o.job.config.replicas → not (was_stopped o q) ≡ false → length (part_of q run.order.events) + failing_steps o.job.config < o.job.config.budget
 held_in_time o run failing q inside stopped =
-    let few = failing q inside (was (was_stopped o q) stopped) in
+    let few = failing q inside (stopped_so (was_stopped o q) stopped) in
     let same = ap length (journal_part o run q inside) in
     let long = length-reverse (journal_of o q) in
     omega (arith, few, same, long)
-  where
-    was : (t : Bool) → not t ≡ false → t ≡ true
-    was true is = refl
-    was false is = absurd (true≢false is)
 
 pub finishes_of : (o : Outcome) (order : Record) (seats : List Seat) (rounds : ℕ) → IsConfig o.job.config → (run : IsRun o) → o.order ≡ Some order → Played o.job.config o.job.script order.events seats rounds 0 → AreDiligent o → AppliesEachInTime o
 finishes_of o order seats rounds good run given played diligent unpaused k on time =

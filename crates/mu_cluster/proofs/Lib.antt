@@ -26,3 +26,4 @@ mod Turned
 mod Turning
 mod Wording
 mod Outliving
+mod Unblocking

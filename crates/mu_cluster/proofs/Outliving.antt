@@ -176,9 +176,20 @@ holds_after c live events lengths rounds a k good run nodes inside lives majorit
     t = taken_at c live a events lengths rounds c.budget run inside lives (omega (arith, enough)) (λ r low there. let is = all r low there in omega (arith, is))
 
 -- in what a replay leaves
-not_stopped : (t : Bool) → not t ≡ true → t ≡ false
+pub not_stopped : (t : Bool) → not t ≡ true → t ≡ false
 not_stopped true is = absurd (true≢false (sym is))
 not_stopped false is = refl
+
+pub stopped_so : (t : Bool) → not t ≡ false → t ≡ true
+stopped_so true is = refl
+stopped_so false is = absurd (true≢false is)
+
+-- who spent its budget made as many steps
+pub whole_budget : (o : Outcome) (run : IsRun o) (r : ℕ) → r < o.job.config.replicas → slice_get o.ends r ≡ Some End.Budget → length (history (journal_of o r)) ≡ o.job.config.budget
+whole_budget o run r low spent = go (run.ended r low).0 (run.ended r low).1 (run.ended r low).2.ends
+  where
+    go : (end : End) → slice_get o.ends r ≡ Some end → EndsBy o.job.config o.job.script r (history (journal_of o r)) end → length (history (journal_of o r)) ≡ o.job.config.budget
+    go end is ends = (subst (EndsBy o.job.config o.job.script r (history (journal_of o r))) (same_some end End.Budget (sym is ∙ spent)) ends).1
 
 pub applies_after : (o : Outcome) (order : Record) (seats : List Seat) (rounds : ℕ) → IsConfig o.job.config → (run : IsRun o) → o.order ≡ Some order → Played o.job.config o.job.script order.events seats rounds 0 → AreDiligent o → AppliesAllAfterStops o
 applies_after o order seats rounds good run given played diligent unpaused s k on time spent =
@@ -186,16 +197,20 @@ applies_after o order seats rounds good run given played diligent unpaused s k o
     let all = unpaused_of o order seats rounds run given played unpaused in
     let nodes = nodes_of o order seats rounds run given played diligent in
     let holds = holds_after c (λ r. not (was_stopped o r)) run.order.events (map (λ journal. length (events_of journal)) o.journals) run.turns.rounds s k good all nodes on.inside (ap not on.left) on.majority
-    (λ r low there. all.taken r low ∙ ap length (sym (journal_part o run r low)) ∙ budget r low (not_stopped (was_stopped o r) there))
+    (λ r low there. all.taken r low ∙ ap length (sym (journal_part o run r low)) ∙ whole_budget o run r low (spent r low (not_stopped (was_stopped o r) there)))
     (λ q below. let inside = on.inside in let few = time.ended q below in let same = ap length (journal_part o run q (omega (arith, below, inside))) in let long = length-reverse (journal_of o q) in omega (arith, few, same, long))
     (λ r low. subst (IsDiligent c r) (journal_part o run r low) (diligent r low)) time.large time.enough in
     ap (holds_all c) (run.logs s on.inside ∙ ap (applied c s) (journal_part o run s on.inside)) ∙ holds
+
+-- who wasn't stopped spent its budget, while a command is missing
+pub spent_by : (o : Outcome) (run : IsRun o) → Completes o → NoneOutrunUnpaused o → o.job.script.pauses ≡ [] → (HasAllCommands o → ⊥) → (r : ℕ) → r < o.job.config.replicas → was_stopped o r ≡ false → slice_get o.ends r ≡ Some End.Budget
+spent_by o run completes none unpaused lacks r low there = go (run.ended r low).0 (run.ended r low).1 (completes.cut_short lacks r low)
   where
-    budget : (r : ℕ) → r < o.job.config.replicas → was_stopped o r ≡ false → length (history (journal_of o r)) ≡ o.job.config.budget
-    budget r low there = go (run.ended r low).0 (run.ended r low).1 (run.ended r low).2.ends
-      where
-        go : (end : End) → slice_get o.ends r ≡ Some end → EndsBy o.job.config o.job.script r (history (journal_of o r)) end → length (history (journal_of o r)) ≡ o.job.config.budget
-        go end is ends = (subst (EndsBy o.job.config o.job.script r (history (journal_of o r))) (same_some end End.Budget (sym is ∙ spent r low there)) ends).1
+    go : (end : End) → slice_get o.ends r ≡ Some end → ((e : End) × (slice_get o.ends r ≡ Some e) × IsCutShort e) → slice_get o.ends r ≡ Some End.Budget
+    go End.Stopped is short = absurd (true≢false (sym (ap is_stop is) ∙ there))
+    go End.Budget is short = is
+    go (End.Outrun p i) is short = absurd (none unpaused r p i low is)
+    go (End.Finished heads) is short = absurd (subst IsCutShort (same_some short.0 (End.Finished heads) (sym short.1 ∙ is)) short.2)
 
 pub outlives_of : (o : Outcome) → IsConfig o.job.config → HaveHeads o.job.config.width o.job.commands o.job.config.rows → IsRun o → NoneOutrunUnpaused o → AppliesAllAfterStops o → HasAllAfterStops o
 outlives_of o good have run none applies unpaused s k on time =
@@ -203,17 +218,8 @@ outlives_of o good have run none applies unpaused s k on time =
       | inl done ↦ completes.done.0 done
       | inr open_yet ↦
           let lacks = completes.unfinished.0 open_yet in
-          all_from_log o run.order.events good have (over_order o run) (agrees_of o good have run) s on.inside (applies unpaused s k on time (λ r low there. spent lacks r low there))
+          all_from_log o run.order.events good have (over_order o run) (agrees_of o good have run) s on.inside (applies unpaused s k on time (λ r low there. spent_by o run completes none unpaused lacks r low there))
     ]
   where
     completes : Completes o
     completes = completes_over o run.order.events good have (over_order o run) (agrees_of o good have run)
-
-    spent : (HasAllCommands o → ⊥) → (r : ℕ) → r < o.job.config.replicas → was_stopped o r ≡ false → slice_get o.ends r ≡ Some End.Budget
-    spent lacks r low there = go (run.ended r low).0 (run.ended r low).1 (completes.cut_short lacks r low)
-      where
-        go : (end : End) → slice_get o.ends r ≡ Some end → ((e : End) × (slice_get o.ends r ≡ Some e) × IsCutShort e) → slice_get o.ends r ≡ Some End.Budget
-        go End.Stopped is short = absurd (true≢false (sym (ap is_stop is) ∙ there))
-        go End.Budget is short = is
-        go (End.Outrun p i) is short = absurd (none unpaused r p i low is)
-        go (End.Finished heads) is short = absurd (subst IsCutShort (same_some short.0 (End.Finished heads) (sym short.1 ∙ is)) short.2)

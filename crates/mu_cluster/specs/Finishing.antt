@@ -7,6 +7,7 @@ use Rattle.mu_alive.specs.Enough.{HasLargeRing}
 use Rattle.mu_alive.specs.Failing.{failing_steps}
 use Rattle.mu_alive.specs.Finishing.{last_raising_steps, raising_steps}
 use Rattle.mu_alive.specs.Lagging.{raising_in_any_ring}
+use Rattle.mu_alive.specs.Stopping.{last_raising_in_any_ring}
 use Rattle.mu_model.specs.declared.config.Config.{Config}
 use Rattle.mu_model.specs.declared.script.End.{End}
 use Rattle.mu_model.specs.Bounds.{cycle}
@@ -74,6 +75,25 @@ AppliesEachInAnyRing o =
     → finishing_in_any_ring o.job.config < o.job.config.budget
     → (r : ℕ) → r < o.job.config.replicas → HasApplied o r
 
+-- in version 2 each replica that was stopped took at most k steps, and the budget is above k and so
+-- many more
+abbrev pub finishing_after_in_any_ring : Config → ℕ → ℕ
+finishing_after_in_any_ring c s =
+    failing_steps c + last_raising_in_any_ring c s + c.replicas * cycle c
+
+pub record HasTimeToFinishInAnyRing (o : Outcome) (s k : ℕ) : Type 0 where
+  pub version : o.job.config.version ≡ 2
+  pub ended :
+      (r : ℕ) → r < o.job.config.replicas → was_stopped o r ≡ true → length (journal_of o r) ≤ k
+  pub enough : k + finishing_after_in_any_ring o.job.config s < o.job.config.budget
+
+-- then each replica that wasn't stopped finishes with every row, if the script has no pause and s is
+-- the least that goes on with a majority
+abbrev pub AppliesEachAfterStopsInAnyRing : Outcome → Type 0
+AppliesEachAfterStopsInAnyRing o =
+    o.job.script.pauses ≡ [] → (s k : ℕ) → GoesOnWith o s → HasTimeToFinishInAnyRing o s k
+    → (r : ℕ) → r < o.job.config.replicas → was_stopped o r ≡ false → HasApplied o r
+
 -- replica r finished, its log tells as many commands as the job has, those of the longest log, and
 -- it replied as is told
 pub record HasFinished (o : Outcome) (r : ℕ) : Type 0 where
@@ -100,4 +120,10 @@ FinishesInAnyRing o =
 abbrev pub FinishesAfterStops : Outcome → Type 0
 FinishesAfterStops o =
     o.job.script.pauses ≡ [] → (s k : ℕ) → GoesOnWith o s → HasTimeToFinishAfter o s k
+    → (r : ℕ) → r < o.job.config.replicas → was_stopped o r ≡ false → HasFinished o r
+
+-- and that in version 2 in any ring
+abbrev pub FinishesAfterStopsInAnyRing : Outcome → Type 0
+FinishesAfterStopsInAnyRing o =
+    o.job.script.pauses ≡ [] → (s k : ℕ) → GoesOnWith o s → HasTimeToFinishInAnyRing o s k
     → (r : ℕ) → r < o.job.config.replicas → was_stopped o r ≡ false → HasFinished o r

@@ -13,8 +13,8 @@ use Rattle.mu_model.specs.Leaderships.{majority_of}
 use Rattle.mu_outcome.specs.declared.outcome.Outcome.{Outcome}
 use Rattle.mu_outcome.specs.Completion.{HasAllCommands}
 use Rattle.mu_outcome.specs.Outcomes.{log_of}
-use Rattle.mu_cluster.specs.Finishing.{AppliesEachAfterStops, AppliesEachInAnyRing, AppliesEachInTime, FinishesAfterStops, FinishesInAnyRing, FinishesInTime}
-use Rattle.mu_cluster.specs.Outliving.{AppliesAllAfterStops, HasAllAfterStops}
+use Rattle.mu_cluster.specs.Finishing.{AppliesEachAfterStops, AppliesEachAfterStopsInAnyRing, AppliesEachInAnyRing, AppliesEachInTime, FinishesAfterStops, FinishesAfterStopsInAnyRing, FinishesInAnyRing, FinishesInTime}
+use Rattle.mu_cluster.specs.Outliving.{AppliesAllAfterStops, AppliesAllAfterStopsInAnyRing, HasAllAfterStops, HasAllAfterStopsInAnyRing}
 
 -- a line of the script stops r
 abbrev pub is_stopped : List Stop → ℕ → Bool
@@ -63,21 +63,26 @@ HasAllInAnyRing o =
     → steps_in_any_ring o.job.config ≤ o.job.config.budget → HasAllCommands o
 
 -- what holds of the replicas if their budgets are spent: if replica 0 isn't stopped, and if any are;
--- if none is, in any ring; and which finish
+-- in any ring if none is, and in version 2 if any are; and which finish
 pub record AppliesAllUnpaused (o : Outcome) : Type 0 where
   pub first : AppliesAllWithFirst o
   pub last : AppliesAllAfterStops o
   pub any : AppliesAllInAnyRing o
+  pub last_in_any_ring : AppliesAllAfterStopsInAnyRing o
   pub each : AppliesEachInTime o
   pub each_after_stops : AppliesEachAfterStops o
   pub each_in_any_ring : AppliesEachInAnyRing o
+  pub each_after_stops_in_any_ring : AppliesEachAfterStopsInAnyRing o
 
 -- a replay stays alive: it has every command if replica 0 isn't stopped, if leaders are, and in any
--- ring if none is; and in each case each replica that isn't stopped finishes
+-- ring if none is or, in version 2, also if leaders are; and in each case each replica that isn't
+-- stopped finishes
 pub record HasAllInTime (o : Outcome) : Type 0 where
   pub first : HasAllWithFirst o
   pub last : HasAllAfterStops o
   pub any : HasAllInAnyRing o
+  pub last_in_any_ring : HasAllAfterStopsInAnyRing o
   pub each : FinishesInTime o
   pub each_after_stops : FinishesAfterStops o
   pub each_in_any_ring : FinishesInAnyRing o
+  pub each_after_stops_in_any_ring : FinishesAfterStopsInAnyRing o

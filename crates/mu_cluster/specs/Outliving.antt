@@ -6,6 +6,7 @@ use Rattle.std.specs.List.{slice_get}
 use Rattle.mu_alive.specs.Enough.{HasLargeRing}
 use Rattle.mu_alive.specs.Failing.{failing_steps}
 use Rattle.mu_alive.specs.Last.{fetching_steps, last_steps}
+use Rattle.mu_alive.specs.Stopping.{last_steps_in_any_ring}
 use Rattle.mu_model.specs.declared.config.Config.{Config}
 use Rattle.mu_model.specs.declared.script.End.{End}
 use Rattle.mu_model.specs.Contents.{holds_all}
@@ -56,4 +57,31 @@ AppliesAllAfterStops o =
 abbrev pub HasAllAfterStops : Outcome → Type 0
 HasAllAfterStops o =
     o.job.script.pauses ≡ [] → (s k : ℕ) → GoesOnWith o s → HasTimeAfter o s k
+    → HasAllCommands o
+
+-- the steps after the last one of all that were stopped until s has every command, in any ring
+abbrev pub steps_after_in_any_ring : Config → ℕ → ℕ
+steps_after_in_any_ring c s = failing_steps c + last_steps_in_any_ring c s + fetching_steps c
+
+-- in version 2 each replica that was stopped took at most k steps, and so many more are within the
+-- budget
+pub record HasTimeAfterInAnyRing (o : Outcome) (s k : ℕ) : Type 0 where
+  pub version : o.job.config.version ≡ 2
+  pub ended :
+      (r : ℕ) → r < o.job.config.replicas → was_stopped o r ≡ true → length (journal_of o r) ≤ k
+  pub enough : k + steps_after_in_any_ring o.job.config s ≤ o.job.config.budget
+
+-- if the script has no pause, the least replica that goes on with a majority has every row in its
+-- log then, should those that weren't stopped have spent their budgets
+abbrev pub AppliesAllAfterStopsInAnyRing : Outcome → Type 0
+AppliesAllAfterStopsInAnyRing o =
+    o.job.script.pauses ≡ [] → (s k : ℕ) → GoesOnWith o s → HasTimeAfterInAnyRing o s k
+    → ((r : ℕ) → r < o.job.config.replicas → was_stopped o r ≡ false
+    → slice_get o.ends r ≡ Some End.Budget)
+    → holds_all o.job.config (log_of o s) ≡ true
+
+-- so there it has every command, whoever was stopped and when, and whatever the ring
+abbrev pub HasAllAfterStopsInAnyRing : Outcome → Type 0
+HasAllAfterStopsInAnyRing o =
+    o.job.script.pauses ≡ [] → (s k : ℕ) → GoesOnWith o s → HasTimeAfterInAnyRing o s k
     → HasAllCommands o

@@ -9,6 +9,7 @@ use Rattle.mu_outcome.proofs.Completing.{completes_over}
 use Rattle.mu_cluster.proofs.Agreeing.{agrees_of, over_order, within_of}
 use Rattle.mu_cluster.proofs.AllTold.{finished_with}
 use Rattle.mu_cluster.proofs.AnyRing.{any_lives}
+use Rattle.mu_cluster.proofs.Unblocking.{unblocked_lives}
 use Rattle.mu_cluster.proofs.Lives.{lives_of}
 use Rattle.mu_cluster.proofs.Outliving.{outlives_of}
 use Rattle.mu_cluster.proofs.Outrunning.{spends_of}
@@ -60,4 +61,4 @@ returns-clause-lives g c =
     let good = subst (λ (j : Job). IsConfig j.config) (sym c.outcome.ensures.job) c.requires.config in
     let have = subst (λ (j : Job). HaveHeads j.config.width j.commands j.config.rows) (sym c.outcome.ensures.job) c.requires.heads in
     let run = c.outcome.ensures.run in
-    record { first = lives_of o good have run c.outcome.ensures.none_outrun c.outcome.ensures.applies.first; last = outlives_of o good have run c.outcome.ensures.none_outrun c.outcome.ensures.applies.last; any = any_lives o good have run c.outcome.ensures.none_outrun c.outcome.ensures.applies.any; each = λ unpaused k on time r low there. finished_with o r good have run low (c.outcome.ensures.applies.each unpaused k on time r low there); each_after_stops = λ unpaused s k on time r low there. finished_with o r good have run low (c.outcome.ensures.applies.each_after_stops unpaused s k on time r low there); each_in_any_ring = λ unpaused unstopped enough r low. finished_with o r good have run low (c.outcome.ensures.applies.each_in_any_ring unpaused unstopped enough r low) }
+    record { first = lives_of o good have run c.outcome.ensures.none_outrun c.outcome.ensures.applies.first; last = outlives_of o good have run c.outcome.ensures.none_outrun c.outcome.ensures.applies.last; any = any_lives o good have run c.outcome.ensures.none_outrun c.outcome.ensures.applies.any; each = λ unpaused k on time r low there. finished_with o r good have run low (c.outcome.ensures.applies.each unpaused k on time r low there); each_after_stops = λ unpaused s k on time r low there. finished_with o r good have run low (c.outcome.ensures.applies.each_after_stops unpaused s k on time r low there); each_in_any_ring = λ unpaused unstopped enough r low. finished_with o r good have run low (c.outcome.ensures.applies.each_in_any_ring unpaused unstopped enough r low); last_in_any_ring = unblocked_lives o good have run c.outcome.ensures.none_outrun c.outcome.ensures.applies.last_in_any_ring; each_after_stops_in_any_ring = λ unpaused s k on time r low there. finished_with o r good have run low (c.outcome.ensures.applies.each_after_stops_in_any_ring unpaused s k on time r low there) }

@@ -1,4 +1,4 @@
-use Rattle.std.proofs.Common.{◌≡◌, ◌≤◌, ◌+◌, length, ℕ}
+use Rattle.std.proofs.Common.{◌≡◌, ◌≤◌, ◌+◌, length}
 use Rattle.mu_model.specs.Histories.{history}
 use Rattle.mu_cluster.specs.Silences.{reads_of}
 use Rattle.mu_cluster.proofs.resting.reads_of.Given as goal

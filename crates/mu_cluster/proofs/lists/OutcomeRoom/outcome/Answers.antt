@@ -5,6 +5,7 @@ use Rattle.mu_cluster.specs.Lists.{HoldsLists}
 use Rattle.mu_cluster.proofs.Filling.{diligent_of, printed_is, run_of}
 use Rattle.mu_cluster.proofs.AnyRing.{any_ring_of}
 use Rattle.mu_cluster.proofs.Finishing.{finishes_after, finishes_in_any_ring, finishes_of}
+use Rattle.mu_cluster.proofs.Unblocking.{applies_in_any_ring, finishes_in_small_rings}
 use Rattle.mu_cluster.proofs.Living.{applies_of}
 use Rattle.mu_cluster.proofs.Naming.{named_of}
 use Rattle.mu_cluster.proofs.Onward.{leads_of}
@@ -76,7 +77,7 @@ returns-clause-applies c =
     let run = run_of o order lists c.args.seats.items c.requires.played.0 refl legal c.from_vec.ensures c.from_vec-2.ensures c.from_vec-3.ensures c.from_vec-4.ensures c.from_vec-5.ensures held played c.requires.ended c.requires.spelled
     (printed_is job job.script order.events lists c.printed-printed.result _ _ c.requires.good legal c.requires.spelled held c.requires.room.empty c.requires.room.printed c.printed-printed.ensures) in
     let diligent = diligent_of o order.events lists c.from_vec.ensures held in
-    record { first = applies_of o order c.args.seats.items c.requires.played.0 c.requires.good run refl played diligent; last = applies_after o order c.args.seats.items c.requires.played.0 c.requires.good run refl played diligent; any = any_ring_of o order c.args.seats.items c.requires.played.0 c.requires.good run refl played diligent; each = finishes_of o order c.args.seats.items c.requires.played.0 c.requires.good run refl played diligent; each_after_stops = finishes_after o order c.args.seats.items c.requires.played.0 c.requires.good run refl played diligent; each_in_any_ring = finishes_in_any_ring o order c.args.seats.items c.requires.played.0 c.requires.good run refl played diligent }
+    record { first = applies_of o order c.args.seats.items c.requires.played.0 c.requires.good run refl played diligent; last = applies_after o order c.args.seats.items c.requires.played.0 c.requires.good run refl played diligent; any = any_ring_of o order c.args.seats.items c.requires.played.0 c.requires.good run refl played diligent; each = finishes_of o order c.args.seats.items c.requires.played.0 c.requires.good run refl played diligent; each_after_stops = finishes_after o order c.args.seats.items c.requires.played.0 c.requires.good run refl played diligent; each_in_any_ring = finishes_in_any_ring o order c.args.seats.items c.requires.played.0 c.requires.good run refl played diligent; last_in_any_ring = applies_in_any_ring o order c.args.seats.items c.requires.played.0 c.requires.good run refl played diligent; each_after_stops_in_any_ring = finishes_in_small_rings o order c.args.seats.items c.requires.played.0 c.requires.good run refl played diligent }
 
 pub returns-clause-leads : goal.returns-clause-leads
 returns-clause-leads c =
