@@ -86,10 +86,21 @@ fn verb_of(words: &[&[u8]]) -> Option<Verb>
     }
 }
 
+/// Whether the word is `beat`, as in most lines: a pattern is compared in place, and by `==` words
+/// that begin alike are compared in a call.
+fn is_beat(word: &[u8]) -> bool
+    ensures { result ≡ bytes_eq word.now (codes "beat") }
+{
+    match word {
+        b"beat" => true,
+        _ => false,
+    }
+}
+
 fn verb_alone(name: &[u8]) -> Option<Verb>
     ensures { result ≡ verb_alone name.now }
 {
-    if name == b"beat".as_slice() {
+    if is_beat(name) {
         Some(Verb::Beat)
     } else if name == b"close".as_slice() {
         Some(Verb::Close)
@@ -190,10 +201,20 @@ fn answer_of(words: &[&[u8]]) -> Option<Answer>
     }
 }
 
+/// Whether the word is `done`, as in most lines.
+fn is_done(word: &[u8]) -> bool
+    ensures { result ≡ bytes_eq word.now (codes "done") }
+{
+    match word {
+        b"done" => true,
+        _ => false,
+    }
+}
+
 fn answer_alone(word: &[u8]) -> Option<Answer>
     ensures { result ≡ answer_alone word.now }
 {
-    if word == b"done".as_slice() {
+    if is_done(word) {
         Some(Answer::Done)
     } else if word == b"missed".as_slice() {
         Some(Answer::Missed)

@@ -1,5 +1,6 @@
--- stands for (known log): the state of what replica r has learnt stands for its events.
-use Rattle.std.specs.Prelude.{Bool, List, None, Some, false, length, vec_capacity, ℕ, ◌+◌, ◌<◌, ◌≡◌, ◌≤◌}
+-- stands for (known log), telling verb: the state of what replica r has learnt stands for its events,
+-- of which all but looks, puts of entries and reads of FUOs leave it as it was.
+use Rattle.std.specs.Prelude.{Bool, List, None, Some, false, length, true, vec_capacity, ℕ, ◌+◌, ◌<◌, ◌≡◌, ◌≤◌}
 use Rattle.std.specs.declared.option.Option.{Option}
 use Rattle.std.specs.List.{slice_get}
 use Rattle.mu_model.specs.declared.config.Config.{Config}
@@ -62,3 +63,10 @@ abbrev pub IsPlaced : Config → Verb → Type 0
 IsPlaced c (Verb.Look p i) = (p < 7) × (i ≤ row_count c + reserve c)
 IsPlaced c (Verb.PutSlot p i b v) = i ≤ row_count c + reserve c
 IsPlaced c _ = Unit {0}
+
+-- a verb that may make a value known, or tell what is decided
+abbrev pub is_telling : Verb → Bool
+is_telling (Verb.Look p i) = true
+is_telling (Verb.PutSlot p i b v) = true
+is_telling (Verb.Fuo p) = true
+is_telling _ = false

@@ -9,7 +9,7 @@ ghost use Rattle.mu_model.specs.Knowledge.{entry_seen, greatest_fuo_read, grown,
 ghost use Rattle.mu_model.specs.Parts.{IsPossible};
 ghost use Rattle.mu_model.specs.Room.{reserve};
 ghost use Rattle.mu_known.specs.Offers.{IsNextRow, NamesRow, batch_of, clients_below};
-ghost use Rattle.mu_known.specs.KnownLog.{CountsCommands, StandsForKnownLog, HoldsValues, IsPlaced, MarksReplicas, ReadsFuos, SeesEntries, TellsAccepted};
+ghost use Rattle.mu_known.specs.KnownLog.{CountsCommands, StandsForKnownLog, HoldsValues, IsPlaced, MarksReplicas, ReadsFuos, SeesEntries, TellsAccepted, is_telling};
 
 use crate::client_rows::ClientRows;
 use mu_model::{
@@ -91,6 +91,16 @@ fn push_value(values: &mut Vec<u16>, v: u16)
 {
     if values.len() < values.capacity() {
         values.push_reserved(v);
+    }
+}
+
+/// Whether the verb may make a value known, or tell what is decided.
+fn is_telling(verb: &Verb) -> bool
+    ensures { result ≡ is_telling verb.now }
+{
+    match *verb {
+        Verb::Look(_, _) | Verb::PutSlot(_, _, _, _) | Verb::Fuo(_) => true,
+        _ => false,
     }
 }
 
@@ -236,7 +246,24 @@ impl KnownLog {
     /// Takes the next event of `r`, which it was allowed. If it is a put at the next position that
     /// `r` doesn't know, `accepted` tells whether all members have taken it then, in a leadership
     /// that is not over. Takes no memory.
+    #[inline(always)]
     pub fn take(&mut self, config: &Config, r: u8, accepted: bool, event: &Event)
+        ensures { (mine : List Event) → IsConfig config.now
+            → IsPossible config.now r (event.now ∷ mine)
+            → TellsAccepted config.now r (event.now ∷ mine) (length (known config.now r mine))
+            event.now.verb accepted
+            → StandsForKnownLog config.now r mine self.old
+            → StandsForKnownLog config.now r (event.now ∷ mine) self.new }
+    {
+        if !is_telling(&event.verb) {
+            return;
+        }
+        self.take_told(config, r, accepted, event);
+    }
+
+    /// Takes an event that may tell something.
+    #[inline(never)]
+    fn take_told(&mut self, config: &Config, r: u8, accepted: bool, event: &Event)
         ensures { (mine : List Event) → IsConfig config.now
             → IsPossible config.now r (event.now ∷ mine)
             → TellsAccepted config.now r (event.now ∷ mine) (length (known config.now r mine))

@@ -1,27 +1,24 @@
--- An event whose verb isn't a leader's leaves a leadership as it is, and one that tells nothing of the others
+-- An event whose verb doesn't change a leadership leaves it as it is, and one that tells nothing of the others
 -- leaves what was read of them.
 use Rattle.std.proofs.Common.{◌≡◌, ℕ, false, List, ◌∷◌}
 use Rattle.mu_model.specs.declared.event.Answer.{Answer}
 use Rattle.mu_model.specs.declared.event.Event.{Event}
 use Rattle.mu_model.specs.declared.event.Verb.{Verb}
 use Rattle.mu_model.specs.declared.config.Config.{Config}
-use Rattle.mu_leading.specs.Bearing.{is_leader_verb, tells_of_peers}
+use Rattle.mu_leading.specs.Bearing.{changes_leadership, tells_of_peers}
 use Rattle.mu_leading.specs.Heads.{StandsForHeads}
 use Rattle.mu_leading.specs.Leadership.{StandsForLeadership}
 use Rattle.mu_leading.specs.declared.heads.Heads.{Heads}
 use Rattle.mu_leading.specs.declared.leadership.Leadership.{Leadership}
 use Rattle.mu_model.proofs.Basics.{event_by}
 
-kept_by : (r by : ℕ) (verb : Verb) (answer : Answer) (mine : List Event) (state : Leadership) → is_leader_verb verb ≡ false → StandsForLeadership r mine state → StandsForLeadership r (event_by by verb answer ∷ mine) state
+kept_by : (r by : ℕ) (verb : Verb) (answer : Answer) (mine : List Event) (state : Leadership) → changes_leadership verb ≡ false → StandsForLeadership r mine state → StandsForLeadership r (event_by by verb answer ∷ mine) state
 kept_by r by (Verb.Ask p) answer mine state other held = cc
 kept_by r by (Verb.Fence p) answer mine state other held = cc
 kept_by r by (Verb.Min p) answer mine state other held = cc
 kept_by r by (Verb.Enter p t) answer mine state other held = cc
 kept_by r by (Verb.PutMin p b) answer mine state other held = cc
-kept_by r by (Verb.Look p i) answer mine state other held = cc
 kept_by r by (Verb.PutSlot p i b v) answer mine state other held = cc
-kept_by r by (Verb.Fuo p) answer mine state other held = cc
-kept_by r by (Verb.RaiseFuo p u) answer mine state other held = cc
 kept_by r by verb answer mine state other held = record {
   replica = held.replica;
   begun = held.begun;
@@ -33,7 +30,7 @@ kept_by r by verb answer mine state other held = record {
   notes = λ p notes there. let d = held.notes p notes there in record { noted = d.noted; joined = d.joined; entered = d.entered; opened = d.opened; minimum = d.minimum; shown = d.shown; has_read = d.has_read };
 }
 
-pub leading_kept : (r : ℕ) (e : Event) (mine : List Event) (state : Leadership) → is_leader_verb e.verb ≡ false → StandsForLeadership r mine state → StandsForLeadership r (e ∷ mine) state
+pub leading_kept : (r : ℕ) (e : Event) (mine : List Event) (state : Leadership) → changes_leadership e.verb ≡ false → StandsForLeadership r mine state → StandsForLeadership r (e ∷ mine) state
 leading_kept r e mine state other held = kept_by r e.by e.verb e.answer mine state other held
 
 told_by : (c : Config) (r by : ℕ) (verb : Verb) (answer : Answer) (mine : List Event) (state : Heads) → tells_of_peers verb ≡ false → StandsForHeads c r mine state → StandsForHeads c r (event_by by verb answer ∷ mine) state

@@ -1,5 +1,6 @@
--- verb of a leader, verb that tells of others: the events that change the state of a leadership,
--- and those that change what was read of the others; the states skip all other events.
+-- verb of a leader, verb that changes a leadership, verb that tells of others: the events that change
+-- what is known of logs and looks, the state of a leadership, and what was read of the others; the
+-- states skip all other events.
 use Rattle.std.specs.Prelude.{Bool, false, true}
 use Rattle.mu_model.specs.declared.event.Verb.{Verb}
 
@@ -15,6 +16,16 @@ is_leader_verb (Verb.PutSlot p i b v) = true
 is_leader_verb (Verb.Fuo p) = true
 is_leader_verb (Verb.RaiseFuo p u) = true
 is_leader_verb _ = false
+
+-- a verb of a leader that may change its leadership
+abbrev pub changes_leadership : Verb → Bool
+changes_leadership (Verb.Ask p) = true
+changes_leadership (Verb.Fence p) = true
+changes_leadership (Verb.Min p) = true
+changes_leadership (Verb.Enter p t) = true
+changes_leadership (Verb.PutMin p b) = true
+changes_leadership (Verb.PutSlot p i b v) = true
+changes_leadership _ = false
 
 -- a verb that reads a head or a count of beats, or may begin a leadership
 abbrev pub tells_of_peers : Verb → Bool

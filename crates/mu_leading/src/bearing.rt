@@ -1,6 +1,6 @@
 //! Which verbs bear on what a replica does as a leader, and on what it has read of the others.
 ghost use Rattle.std.specs.Prelude.{◌≡◌};
-ghost use Rattle.mu_leading.specs.Bearing.{is_leader_verb, tells_of_peers};
+ghost use Rattle.mu_leading.specs.Bearing.{changes_leadership, is_leader_verb, tells_of_peers};
 
 use mu_model::Verb;
 
@@ -19,6 +19,23 @@ pub fn is_leader_verb(verb: &Verb) -> bool
         | Verb::PutSlot(_, _, _, _)
         | Verb::Fuo(_)
         | Verb::RaiseFuo(_, _) => true,
+        _ => false,
+    }
+}
+
+/// Whether the verb is one of a leader's that may change its leadership: looks and what is done to a
+/// FUO, most of a leader's steps, don't.
+#[inline(always)]
+pub(crate) fn changes_leadership(verb: &Verb) -> bool
+    ensures { result ≡ changes_leadership verb.now }
+{
+    match verb {
+        Verb::Ask(_)
+        | Verb::Fence(_)
+        | Verb::Min(_)
+        | Verb::Enter(_, _)
+        | Verb::PutMin(_, _)
+        | Verb::PutSlot(_, _, _, _) => true,
         _ => false,
     }
 }

@@ -10,7 +10,7 @@ ghost use Rattle.mu_model.specs.Leaderships.{ends_leadership, grant_at_joining, 
 ghost use Rattle.mu_model.specs.Parts.{IsPossible};
 ghost use Rattle.mu_leading.specs.Leadership.{StandsForRegionNotes, StandForRegionNotes, StandsForLeadership, ReadsWithin};
 
-use crate::bearing::is_leader_verb;
+use crate::bearing::changes_leadership;
 use crate::region_notes::{RegionNotes, begins};
 use mu_model::{Answer, Config, Event, Fence, Target, Verb, majority, next_number};
 
@@ -219,15 +219,27 @@ impl Leadership {
     }
 
     /// Takes the next event of the replica, which it was allowed. Takes no memory.
+    #[inline(always)]
     pub fn take(&mut self, r: u8, event: &Event)
         ensures { (c : Config) → (mine : List Event) → c.replicas ≤ 7
             → IsPossible c r (event.now ∷ mine)
             → StandsForLeadership r mine self.old
             → StandsForLeadership r (event.now ∷ mine) self.new }
     {
-        if !is_leader_verb(&event.verb) {
+        if !changes_leadership(&event.verb) {
             return;
         }
+        self.take_change(r, event);
+    }
+
+    /// Takes an event that may change it.
+    #[inline(never)]
+    fn take_change(&mut self, r: u8, event: &Event)
+        ensures { (c : Config) → (mine : List Event) → c.replicas ≤ 7
+            → IsPossible c r (event.now ∷ mine)
+            → StandsForLeadership r mine self.old
+            → StandsForLeadership r (event.now ∷ mine) self.new }
+    {
         self.over = self.over_after(r, event);
         self.begun = begun_after(self.begun, r, event);
         self.asked = asked_after(self.asked, r, event);

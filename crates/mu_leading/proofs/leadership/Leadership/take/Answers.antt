@@ -1,19 +1,6 @@
 use Rattle.std.proofs.Common.{rules}
 use Rattle.mu_leading.proofs.Kept.{leading_kept}
-use Rattle.mu_leading.proofs.Within.{reads_within}
 use Rattle.mu_leading.proofs.leadership.Leadership.take.Goals as goal
 
-pub returns : goal.returns
-returns c c' mine few possible held = record {
-  replica = held.replica;
-  begun = c.begun_after-self.ensures mine held.begun;
-  asked = c.asked_after-self.ensures mine held.asked;
-  over = c.over_after-self.ensures mine (reads_within c' c.args.r mine c.args.event.now few possible) held;
-  number = c.number_after-self.ensures mine held.number;
-  read = c.greatest_minimum_after-self.ensures mine held.read;
-  put = c.greatest_number_after-self.ensures mine held.put;
-  notes = c.take_at_each.ensures c' mine possible held.notes;
-}
-
-pub returns-then-not-is_leader_verb : goal.returns-then-not-is_leader_verb
-returns-then-not-is_leader_verb c c' mine few possible held = leading_kept c.args.r c.args.event.now mine c.args.self.now (search rules) held
+pub returns-then-not-changes_leadership : goal.returns-then-not-changes_leadership
+returns-then-not-changes_leadership c c' mine few possible held = leading_kept c.args.r c.args.event.now mine c.args.self.now (search rules) held
