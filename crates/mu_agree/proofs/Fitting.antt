@@ -27,9 +27,9 @@ use Rattle.mu_model.proofs.Lists.{get_front, item_below}
 abbrev pub key : Config → ℕ → ℕ
 key c v = if is_batch c v then v % 4096 else row_count c + (v % 4096 - 4080)
 
-abbrev pub keys : Config → List ℕ → List ℕ
-keys c [] = []
-keys c (v ∷ vs) = key c v ∷ keys c vs
+abbrev pub keys : (ℕ → ℕ) → List ℕ → List ℕ
+keys key [] = []
+keys key (v ∷ vs) = key v ∷ keys key vs
 
 key_of_batch : (c : Config) (v : ℕ) → is_batch c v ≡ true → key c v ≡ v % 4096
 key_of_batch c v h = rw h refl
@@ -111,12 +111,12 @@ keys_differ c i j v w past g h a b l e = go (chosen_sound c i v past h a).fits (
         let k = marked_once c q i j v w past g h a b x (subst (λ z. is_mark c z w ≡ true) same y) in omega arith
 
 -- keys are below the rows and the reserve
-mark_within : (c : Config) (q v : ℕ) → is_mark c q v ≡ true → q < c.replicas
+pub mark_within : (c : Config) (q v : ℕ) → is_mark c q v ≡ true → q < c.replicas
 mark_within c q v h =
     let x = and_parts (c.version == 2) (nat_lt q c.replicas && (v % 4096 == 4080 + q)) (and_parts (nat_lt (v / 4096) c.replicas) ((c.version == 2) && (nat_lt q c.replicas && (v % 4096 == 4080 + q))) h).1 in
     ltb-true q c.replicas (and_parts (nat_lt q c.replicas) (v % 4096 == 4080 + q) x.1).0
 
-reserve_is : (c : Config) → c.version ≡ 2 → reserve c ≡ c.replicas
+pub reserve_is : (c : Config) → c.version ≡ 2 → reserve c ≡ c.replicas
 reserve_is c e = go (c.version == 2) (eq-eqb c.version 2 e)
   where
     go : (t : Bool) → t ≡ true → (if t then c.replicas else 0) ≡ c.replicas
@@ -152,27 +152,27 @@ not_begun c j v h b e = go (subst (λ t. includes j (if t then rows_from (rest_o
     go : includes j (rows_from (rest_of c (v % 4096) + 1) (v % 4096)) ≡ false → ⊥
     go m = here (v % 4096 == j) (eq-eqb (v % 4096) j e) (subst (λ z. includes j (rows_from z (v % 4096)) ≡ false) one m)
 
-pub distinct_keys : (c : Config) (xs : List ℕ) → ((i j v w : ℕ) → slice_get xs i ≡ Some v → slice_get xs j ≡ Some w → i < j → key c v ≡ key c w → ⊥) → IsDistinct eqb (keys c xs)
+pub apart : (key : ℕ → ℕ) (n : ℕ) (xs : List ℕ) → ((j w : ℕ) → slice_get xs j ≡ Some w → n ≡ key w → ⊥) → AllByRecursion (λ y. eqb n y ≡ false) (keys key xs)
+apart key n [] d = tt
+apart key n (x ∷ xs) d = (false_from_ne_true (eqb n (key x)) (λ e. d 0 x refl (eqb-true n (key x) e)), apart key n xs (λ j w e. d (suc j) w e))
+
+pub distinct_keys : (key : ℕ → ℕ) (xs : List ℕ) → ((i j v w : ℕ) → slice_get xs i ≡ Some v → slice_get xs j ≡ Some w → i < j → key v ≡ key w → ⊥) → IsDistinct eqb (keys key xs)
 unfolding IsDistinct
-distinct_keys c [] f = tt
-distinct_keys c (x ∷ xs) f = IsDistinct-cons eqb (key c x) (keys c xs) (apart xs (λ j w e. f 0 (suc j) x w refl e (omega arith))) (distinct_keys c xs (λ i j v w a b l. f (suc i) (suc j) v w a b (omega arith)))
-  where
-    apart : (ys : List ℕ) → ((j w : ℕ) → slice_get ys j ≡ Some w → key c x ≡ key c w → ⊥) → AllByRecursion (λ y. eqb (key c x) y ≡ false) (keys c ys)
-    apart [] d = tt
-    apart (y ∷ ys) d = (false_from_ne_true (eqb (key c x) (key c y)) (λ e. d 0 y refl (eqb-true (key c x) (key c y) e)), apart ys (λ j w e. d (suc j) w e))
+distinct_keys key [] f = tt
+distinct_keys key (x ∷ xs) f = IsDistinct-cons eqb (key x) (keys key xs) (apart key (key x) xs (λ j w e. f 0 (suc j) x w refl e (omega arith))) (distinct_keys key xs (λ i j v w a b l. f (suc i) (suc j) v w a b (omega arith)))
 
-pub keys_short : (c : Config) (xs : List ℕ) → length (keys c xs) ≡ length xs
-keys_short c [] = refl
-keys_short c (x ∷ xs) = ap suc (keys_short c xs)
+pub keys_short : (key : ℕ → ℕ) (xs : List ℕ) → length (keys key xs) ≡ length xs
+keys_short key [] = refl
+keys_short key (x ∷ xs) = ap suc (keys_short key xs)
 
-pub among_keys : (c : Config) (q n : ℕ) (xs : List ℕ) → ((i v : ℕ) → slice_get xs i ≡ Some v → key c v < n) → list_any (eqb q) (keys c xs) ≡ true → q < n
-among_keys c q n [] f h = absurd (true≢false (sym h))
-among_keys c q n (x ∷ xs) f h = elim (or_cases (eqb q (key c x)) (list_any (eqb q) (keys c xs)) h) [
-  | inl e ↦ (let a = eqb-true q (key c x) e in let b = f 0 x refl in omega arith)
-  | inr e ↦ among_keys c q n xs (λ i v k. f (suc i) v k) e
+pub among_keys : (key : ℕ → ℕ) (q n : ℕ) (xs : List ℕ) → ((i v : ℕ) → slice_get xs i ≡ Some v → key v < n) → list_any (eqb q) (keys key xs) ≡ true → q < n
+among_keys key q n [] f h = absurd (true≢false (sym h))
+among_keys key q n (x ∷ xs) f h = elim (or_cases (eqb q (key x)) (list_any (eqb q) (keys key xs)) h) [
+  | inl e ↦ (let a = eqb-true q (key x) e in let b = f 0 x refl in omega arith)
+  | inr e ↦ among_keys key q n xs (λ i v k. f (suc i) v k) e
 ]
 
-away : (c : Config) (j : ℕ) (xs : List ℕ) → j < row_count c → includes j (rows_in c xs) ≡ false → AllByRecursion (λ y. eqb j y ≡ false) (keys c xs)
+away : (c : Config) (j : ℕ) (xs : List ℕ) → j < row_count c → includes j (rows_in c xs) ≡ false → AllByRecursion (λ y. eqb j y ≡ false) (keys (key c) xs)
 away c j [] l h = tt
 away c j (x ∷ xs) l h =
     let k = included j (rows_of c x) (rows_in c xs) h in
@@ -186,13 +186,13 @@ away c j (x ∷ xs) l h =
 pub fits_one_more : (c : Config) (past : List Event) (xs : List ℕ) → IsConfig c → IsLegalHistory c past → AreChosen c xs past → holds_all c xs ≡ false → length xs < row_count c + reserve c
 fits_one_more c past xs g h k m =
     let f = some_fails (row_count c) (λ j. includes j (rows_in c xs)) m in
-    let all : IsDistinct eqb (f.who ∷ keys c xs) = IsDistinct-cons eqb f.who (keys c xs) (away c f.who xs f.below f.fails) (distinct_keys c xs (λ i j v w a b l e. keys_differ c i j v w past g h (k i v a) (k j w b) l e)) in
+    let all : IsDistinct eqb (f.who ∷ keys (key c) xs) = IsDistinct-cons eqb f.who (keys (key c) xs) (away c f.who xs f.below f.fails) (distinct_keys (key c) xs (λ i j v w a b l e. keys_differ c i j v w past g h (k i v a) (k j w b) l e)) in
     let low = f.below in
-    let most = length-le_from_distinct_below (f.who ∷ keys c xs) (row_count c + reserve c) all (λ q e. elim (or_cases (eqb q f.who) (list_any (eqb q) (keys c xs)) e) [
+    let most = length-le_from_distinct_below (f.who ∷ keys (key c) xs) (row_count c + reserve c) all (λ q e. elim (or_cases (eqb q f.who) (list_any (eqb q) (keys (key c) xs)) e) [
       | inl x ↦ (let y = eqb-true q f.who x in omega arith)
-      | inr x ↦ among_keys c q (row_count c + reserve c) xs (λ i v a. key_below c i v past g h (k i v a)) x
+      | inr x ↦ among_keys (key c) q (row_count c + reserve c) xs (λ i v a. key_below c i v past g h (k i v a)) x
     ]) in
-    let same = keys_short c xs in omega arith
+    let same = keys_short (key c) xs in omega arith
 
 pub parts_fit_law : PartsFit
 parts_fit_law c r mine g p m =

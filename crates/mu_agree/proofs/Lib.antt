@@ -32,5 +32,6 @@ pub mod Possible
 mod Reach
 pub mod Readings
 pub mod Fitting
+pub mod Reserve
 pub mod Windows
 mod Journals

@@ -167,7 +167,7 @@ known_stands_law c events r i v h k =
     let s = chosen_sound c i v (history events) h (x.b, x.is) in fits_stands c v s.values (history events) s.fits
 
 -- marks
-is_marked : (c : Config) (q : ℕ) (values : List ℕ) (k v : ℕ) → slice_get values k ≡ Some v → is_mark c q v ≡ true → marked c q values ≡ true
+pub is_marked : (c : Config) (q : ℕ) (values : List ℕ) (k v : ℕ) → slice_get values k ≡ Some v → is_mark c q v ≡ true → marked c q values ≡ true
 is_marked c q [] k v e m = cc
 is_marked c q (x ∷ xs) zero v e m = let same : x ≡ v = same_some x v e in here (is_mark c q x) (marked c q xs) (subst (λ z. is_mark c q z ≡ true) (sym same) m)
   where
@@ -180,12 +180,9 @@ is_marked c q (x ∷ xs) (suc k) v e m = later (is_mark c q x) (marked c q xs) (
     later true u h = refl
     later false u h = h
 
-no_later_mark : (c : Config) (q i j v w : ℕ) (past : List Event) → IsConfig c → IsLegalHistory c past → IsChosen c past i v → IsChosen c past j w → is_mark c q v ≡ true → is_mark c q w ≡ true → i < j → ⊥
-no_later_mark c q i j v w past g h a b m n l = go s.fits
+pub no_later_mark : (c : Config) (q i j v w : ℕ) (past : List Event) → IsConfig c → IsLegalHistory c past → IsChosen c past i v → Sound c j w past → is_mark c q v ≡ true → is_mark c q w ≡ true → i < j → ⊥
+no_later_mark c q i j v w past g h a s m n l = go s.fits
   where
-    s : Sound c j w past
-    s = chosen_sound c j w past h b
-
     go : Fits c w s.values past → ⊥
     go (by_batch x y z) = mark_no_batch c q w g n x
     go (by_mark q' x z _) =
@@ -198,7 +195,7 @@ no_later_mark c q i j v w past g h a b m n l = go s.fits
 pub marked_once : (c : Config) (q i j v w : ℕ) (past : List Event) → IsConfig c → IsLegalHistory c past → IsChosen c past i v → IsChosen c past j w → is_mark c q v ≡ true → is_mark c q w ≡ true → i ≡ j
 marked_once c q i j v w past g h a b m n = elim (cases_order i j) [
   | inl e ↦ e
-  | inr o ↦ elim o [ inl l ↦ absurd (no_later_mark c q i j v w past g h a b m n l) | inr l ↦ absurd (no_later_mark c q j i w v past g h b a n m l) ]
+  | inr o ↦ elim o [ inl l ↦ absurd (no_later_mark c q i j v w past g h a (chosen_sound c j w past h b) m n l) | inr l ↦ absurd (no_later_mark c q j i w v past g h b (chosen_sound c i v past h a) n m l) ]
 ]
 
 pub marked_once_law : MarkedOnce

@@ -126,7 +126,7 @@ some_fails (suc n) f h = go (f n) refl h (some_fails n f)
     go false e k ih = record { who = n; below = omega arith; fails = e }
 
 -- an offer was put
-offered_tried : (i b v : ℕ) (past : List Event) → first_offered i b past ≡ Some v → tried i v past ≡ true
+pub offered_tried : (i b v : ℕ) (past : List Event) → first_offered i b past ≡ Some v → tried i v past ≡ true
 offered_tried i b v [] e = cc
 offered_tried i b v (f ∷ past) e = go f.verb e (offered_tried i b v past)
   where

@@ -3,4 +3,5 @@ pub mod Journals
 pub mod Laws
 pub mod Paces
 pub mod Possible
+pub mod Reserve
 pub mod Sessions

@@ -7,6 +7,7 @@ ghost use Rattle.mu_agree.specs.Journals.{BeginningsAreDiligent, ObeysOnce};
 ghost use Rattle.mu_agree.specs.Laws.{MinimumRises, MissesShutOut, NumbersDiffer, OnlyOwnersPut, SlotNumbersRise};
 ghost use Rattle.mu_agree.specs.Paces.{RecentAsksAreInTime, RecentReadsAreInTime};
 ghost use Rattle.mu_agree.specs.Possible.{PartsClimb, PartsCount, PartsFind, PartsFit, PartsHaveNext, PartsHold, PartsInSession, PartsKeep, PartsMarkOnce, PartsMove, PartsReach, PartsReadRight, PartsShorten, PartsShowMisses, PartsStand, PartsStayFilled, PartsStayPast};
+ghost use Rattle.mu_agree.specs.Reserve.{BatchesLeaveRoom, KnownLeavesRoom, PartsLeaveRoom, PartsTrustSelf};
 ghost use Rattle.mu_agree.specs.Sessions.{KnownInSession, KnownMarkedOnce, KnownStands, MarkedOnce, RowsComeFirst, RowsReadRight};
 
 /// No two leaderships have the same number.
@@ -110,6 +111,16 @@ pub fn marks_have_cause()
     ensures { MarksHaveCause }
 {}
 
+/// Batches leave a place for the mark of each replica above them.
+pub fn batches_leave_room()
+    ensures { BatchesLeaveRoom }
+{}
+
+/// A place is left above every known list, for the mark of any replica that has none there.
+pub fn known_leaves_room()
+    ensures { KnownLeavesRoom }
+{}
+
 /// What came before the last event of a possible part is possible.
 pub fn parts_shorten()
     ensures { PartsShorten }
@@ -164,6 +175,16 @@ pub fn parts_move()
 /// While a possible part doesn't know some command, there is a position for it.
 pub fn parts_fit()
     ensures { PartsFit }
+{}
+
+/// A head that a possible part reads leaves a place, if no mark of its replica is known.
+pub fn parts_leave_room()
+    ensures { PartsLeaveRoom }
+{}
+
+/// No possible part holds its own replica to be failed.
+pub fn parts_trust_self()
+    ensures { PartsTrustSelf }
 {}
 
 /// Heads that a possible part reads never fall.

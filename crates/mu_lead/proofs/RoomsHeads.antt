@@ -1,8 +1,8 @@
 -- The counts of a leader while heads are read.
-use Rattle.std.proofs.Common.{◌≡◌, ℕ, ◌+◌, ◌<◌, ◌≤◌, inl, Bool, true, false, ◌&&◌, List, ◌∷◌, length, refl, sym, ◌∙◌, ap, arith, true≢false}
+use Rattle.std.proofs.Common.{◌≡◌, ℕ, ◌+◌, ◌<◌, ◌≤◌, inl, inr, Bool, true, false, ◌&&◌, ◌==◌, eqb-true, subst, List, ◌∷◌, length, refl, sym, ◌∙◌, ap, arith, true≢false}
 use Rattle.std.specs.Prelude.{nat_lt, not}
 use Rattle.std.specs.declared.option.Option.{Option}
-use Rattle.std.proofs.lemmas.Bool.{le-leb, ltb-false}
+use Rattle.std.proofs.lemmas.Bool.{le-leb, lt-ltb, ltb-false}
 use Rattle.mu_model.specs.declared.config.Config.{Config}
 use Rattle.mu_model.specs.declared.event.Answer.{Answer}
 use Rattle.mu_model.specs.declared.event.Event.{Event}
@@ -10,11 +10,15 @@ use Rattle.mu_model.specs.declared.event.Verb.{Verb}
 use Rattle.mu_model.specs.Contents.{IsConfig, marked}
 use Rattle.mu_model.specs.Knowledge.{commits, known}
 use Rattle.mu_model.specs.Leaderships.{is_member}
+use Rattle.mu_model.specs.Parts.{IsPossible}
 use Rattle.mu_model.specs.Room.{head_read, lacks_room, reserve}
+use Rattle.mu_model.specs.Scores.{is_failed}
 use Rattle.mu_model.specs.Steps.{is_lagging}
 use Rattle.mu_model.specs.Stretches.{is_replication}
 use Rattle.mu_model.proofs.Basics.{same_number}
+use Rattle.mu_agree.proofs.Reserve.{parts_leave_room_law, parts_trust_self_law}
 use Rattle.mu_pace.specs.Asking.{far, is_far, turns}
+use Rattle.mu_pace.specs.Blocking.{can_be_marked, is_blocking}
 use Rattle.mu_pace.specs.Placed.{IsPlacedAt, is_level}
 use Rattle.mu_pace.specs.Weights.{GoesOn, IsPlace, Stage, at_head, at_late_fence, at_look, last_head, next_head}
 use Rattle.mu_pace.proofs.Beside.{not_more}
@@ -23,6 +27,7 @@ use Rattle.mu_pace.proofs.Rooms.{steps_of_progress}
 use Rattle.mu_pace.proofs.Weights.{weights_fall}
 use Rattle.mu_lead.specs.declared.place.Place.{Place}
 use Rattle.mu_lead.specs.Leading.{end_of}
+use Rattle.mu_lead.specs.Listing.{may_mark}
 use Rattle.mu_lead.specs.Onward.{MayGoOn}
 use Rattle.mu_lead.specs.Rooms.{IsLed, IsPlaced, sizes_of}
 use Rattle.mu_lead.proofs.Looks.{head_event}
@@ -51,6 +56,7 @@ rooms_head c r q h candidate u mine written is turn at edge place distant level 
           place = place;
           milestone = progress.0;
           progress = progress.1;
+          advance = inr edge;
           none_behind = λ k. refl;
           same = refl;
           asks = λ k low stranger. inl (far (Stage.ReadHead q) u edge refl (distant k));
@@ -79,14 +85,42 @@ head_lags c r q h mine region unmarked low =
     ap not (all_fails c.replicas q (λ k. not (not (marked c k (known c r mine)) && lacks_room c (end_of c r mine + reserve c) (head_read r k r (Verb.Head q) (Answer.Number h)))) region
     (unmarked_lags (marked c q (known c r mine)) (lacks_room c (end_of c r mine + reserve c) (head_read r q r (Verb.Head q) (Answer.Number h))) unmarked lacks))
 
--- a head without room is progress, after which late followers are asked after
+unmarked_blocks : (m lacks can : Bool) → m ≡ false → lacks ≡ true → can ≡ false → not (not m && (lacks && not can)) ≡ false
+unmarked_blocks m lacks can a b d = rw (a, b, d) refl
+
+-- it blocks, if its replica may not be marked: in version 2 that replica isn't held failed, since there is a place for its mark
+head_blocks : (c : Config) (r q h : ℕ) (mine : List Event) → IsConfig c → IsPossible c r (head_event r q h ∷ mine) → q < c.replicas → marked c q (known c r mine) ≡ false → nat_lt (end_of c r mine + reserve c) (h + c.ring) ≡ false
+    → may_mark c r (head_event r q h ∷ mine) q h ≡ false → is_blocking c r mine (head_event r q h) ≡ true
+head_blocks c r q h mine is possible region unmarked low off =
+    let lacks : lacks_room c (end_of c r mine + reserve c) (head_read r q r (Verb.Head q) (Answer.Number h)) ≡ true =
+    rw (same_number r, same_number q) (le-leb (h + c.ring) (end_of c r mine + reserve c) (ltb-false (end_of c r mine + reserve c) (h + c.ring) low)) in
+    ap not (all_fails c.replicas q (λ k. not (not (marked c k (known c r mine)) && (lacks_room c (end_of c r mine + reserve c) (head_read r k r (Verb.Head q) (Answer.Number h)) && not (can_be_marked c r k now)))) region
+    (unmarked_blocks (marked c q (known c r mine)) (lacks_room c (end_of c r mine + reserve c) (head_read r q r (Verb.Head q) (Answer.Number h))) (can_be_marked c r q now) unmarked lacks (can (c.version == 2) refl (is_failed r q now) refl)))
+  where
+    now : List Event
+    now = head_event r q h ∷ mine
+
+    place : (c.version == 2) ≡ true → nat_lt (end_of c r now) (h + c.ring) ≡ true
+    place two = let k = parts_leave_room_law c r q h mine (head_event r q h) is possible (eqb-true c.version 2 two) refl refl unmarked in lt-ltb (end_of c r now) (h + c.ring) (omega (arith, k))
+
+    other : (t : Bool) → (q == r) ≡ t → is_failed r q now ≡ true → (c.version == 2) ≡ true → (not t && (is_failed r q now && nat_lt (end_of c r now) (h + c.ring))) ≡ false → ⊥
+    other true own failed two k = true≢false (sym (subst (λ z. is_failed r z now ≡ true) (eqb-true q r own) failed) ∙ parts_trust_self_law c r now possible)
+    other false own failed two k = true≢false (sym (rw (failed, place two) refl) ∙ k)
+
+    can : (two : Bool) → (c.version == 2) ≡ two → (failed : Bool) → is_failed r q now ≡ failed → (two && failed) ≡ false
+    can false e failed f = refl
+    can true e false f = refl
+    can true e true f = absurd (other (q == r) refl f e off)
+
+-- a head without room is progress, after which late followers are asked after; it blocks
 pub rooms_no_room : (c : Config) (r q h : ℕ) (candidate : Option ℕ) (mine : List Event) (written : List ℕ) → IsConfig c → is_replication mine (head_event r q h) ≡ true → q < c.replicas → marked c q (known c r mine) ≡ false → nat_lt (end_of c r mine + reserve c) (h + c.ring) ≡ false
-    → IsPlaced c r mine written (Place.ReadHead q candidate) → MayGoOn c r (head_event r q h ∷ mine) 0
-rooms_no_room c r q h candidate mine written is turn region unmarked low at =
+    → IsPossible c r (head_event r q h ∷ mine) → may_mark c r (head_event r q h ∷ mine) q h ≡ false → IsPlaced c r mine written (Place.ReadHead q candidate) → MayGoOn c r (head_event r q h ∷ mine) 0
+rooms_no_room c r q h candidate mine written is turn region unmarked low possible off at =
     let e = head_event r q h in
     let s = sizes_of c r mine in
     let t = Stage.ReadHead q in
     let progress = steps_of_progress.lag c r mine e turn (head_lags c r q h mine region unmarked low) in
+    let advance = steps_of_progress.block c r mine e turn (head_blocks c r q h mine is possible region unmarked low off) in
     let heavy = weights_fall.heavy s (Stage.ReadHead q) (config_is_sized c r mine is) at.placed.place in
     record {
       asks = λ k first. record {
@@ -96,6 +130,7 @@ rooms_no_room c r q h candidate mine written is turn region unmarked low at =
           place = at_late_fence k;
           milestone = progress.0;
           progress = progress.1;
+          advance = inl advance;
           none_behind = λ l. refl;
           same = refl;
           asks = λ l few stranger. inl (turns (Stage.ReadHead q) k refl heavy (first_below (λ j. not (is_member r j (e ∷ mine))) 0 c.replicas k l first (omega arith) (ap not stranger)));
@@ -111,6 +146,7 @@ rooms_no_room c r q h candidate mine written is turn region unmarked low at =
           place = room_place s u room;
           milestone = progress.0;
           progress = progress.1;
+          advance = inl advance;
           none_behind = λ l. refl;
           same = refl;
           asks = λ l few stranger. absurd (true≢false (sym (ap not stranger) ∙ none l (omega arith) few));

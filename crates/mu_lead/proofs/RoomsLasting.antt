@@ -221,16 +221,16 @@ late_put_goes c r b n mine old new p s = go (nat_lt (get_or new.up p 0) (end_of 
 
 -- a head
 head_goes : (c : Config) (r b n : ℕ) (mine : List Event) (old new : Tables) (q : ℕ) (candidate : Option ℕ) (h : ℕ) → Steps c r b n mine old new (Place.ReadHead q candidate) (Answer.Number h) → Goes c r b mine old new (Place.ReadHead q candidate) (Answer.Number h)
-head_goes c r b n mine old new q candidate h s = go (nat_lt (end_of c r mine + reserve c) (h + c.ring)) (may_mark c r (head_event r q h ∷ mine) q h) refl
+head_goes c r b n mine old new q candidate h s = go (nat_lt (end_of c r mine + reserve c) (h + c.ring)) (may_mark c r (head_event r q h ∷ mine) q h) refl refl
   where
     on : (k : Option ℕ) → RoomsAt c r (head_event r q h ∷ mine) new.written (heads_from c r (head_event r q h ∷ mine) new.heads (q + 1) k)
     on k = heads_rooms c r (head_event r q h ∷ mine) new.heads new.written (q + 1) k (λ j from few. rooms_next_head c r q j h candidate mine new.written s.is s.turn (omega (arith, from)) few s.rooms) (λ j few. rooms_last_head c r q j h candidate mine new.written s.is s.turn s.at.region few s.rooms)
 
-    go : (x y : Bool) → nat_lt (end_of c r mine + reserve c) (h + c.ring) ≡ x
+    go : (x y : Bool) → nat_lt (end_of c r mine + reserve c) (h + c.ring) ≡ x → may_mark c r (head_event r q h ∷ mine) q h ≡ y
         → RoomsAt c r (head_event r q h ∷ mine) new.written (if x then heads_from c r (head_event r q h ∷ mine) new.heads (q + 1) candidate else (if y then heads_from c r (head_event r q h ∷ mine) new.heads (q + 1) (least_candidate candidate q) else late_from c r (head_event r q h ∷ mine) new.heads 0))
-    go true y high = on candidate
-    go false true low = on (least_candidate candidate q)
-    go false false low = late_rooms c r 0 (head_event r q h ∷ mine) new.heads new.written (rooms_no_room c r q h candidate mine new.written s.is s.turn s.at.region s.at.unmarked low s.rooms)
+    go true y high may = on candidate
+    go false true low may = on (least_candidate candidate q)
+    go false false low off = late_rooms c r 0 (head_event r q h ∷ mine) new.heads new.written (rooms_no_room c r q h candidate mine new.written s.is s.turn s.at.region s.at.unmarked low s.possible off s.rooms)
 
 -- a look at a new position
 look_goes : (c : Config) (r b n : ℕ) (mine : List Event) (old new : Tables) (p i : ℕ) (candidate : Option ℕ) (best : Option Sight) (a : Answer) → Steps c r b n mine old new (Place.Look p i candidate best) a → Goes c r b mine old new (Place.Look p i candidate best) a

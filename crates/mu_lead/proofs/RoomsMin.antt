@@ -119,6 +119,7 @@ begins_places c r p a u mine is turn begun unread fresh place =
       none_behind = λ q. refl;
       not_led = ap (λ t. t && not (is_over r mine)) unread;
       quiet = fresh.progressing;
+      quiet_advancing = fresh.advancing;
       quiet_bringing = fresh.bringing;
     })
 

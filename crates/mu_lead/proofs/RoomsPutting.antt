@@ -11,11 +11,12 @@ use Rattle.mu_model.specs.Bounds.{members}
 use Rattle.mu_model.specs.Contents.{IsConfig}
 use Rattle.mu_model.specs.Knowledge.{commits, grown, is_accepted_by_all, known}
 use Rattle.mu_model.specs.Leaderships.{is_member}
-use Rattle.mu_model.specs.Steps.{commits_more}
+use Rattle.mu_model.specs.Steps.{commits_more, is_lagging}
 use Rattle.mu_model.specs.Stretches.{is_replication}
 use Rattle.mu_model.proofs.Basics.{event_by}
 use Rattle.mu_pace.specs.Asking.{far}
 use Rattle.mu_pace.specs.Asking.{commits as commits_there}
+use Rattle.mu_pace.specs.Blocking.{is_blocking}
 use Rattle.mu_pace.specs.Members.{IsNextMember, members_from}
 use Rattle.mu_pace.specs.Weights.{Stage, at_put, at_raise, at_slot, entered_slot, next_put}
 use Rattle.mu_pace.proofs.Beside.{not_more}
@@ -110,7 +111,7 @@ rooms_committed c r p q i b v offer mine written is turn region member grows at 
     let j = members_from c r q mine in
     let some = counts_of_members.some c r p mine region member in
     let more = put_commits c r p i b v mine grows in
-    let progress = steps_of_progress.commit c r mine e turn more in
+    let progress = steps_of_progress.commit (is_lagging c r) c r mine e turn more in
     record {
       read = at.read;
       placed = places_lead.milestone c r (sizes_of c r mine) (Stage.PutAt k) (Stage.RaiseAt j) mine e (config_is_sized c r mine is) at.placed (record {
@@ -118,6 +119,7 @@ rooms_committed c r p q i b v offer mine written is turn region member grows at 
         place = at_raise j (in_turn c r q mine);
         milestone = progress.0;
         progress = progress.1;
+        advance = inl (steps_of_progress.commit (is_blocking c r) c r mine e turn more).1;
         none_behind = λ k. refl;
         same = refl;
         asks = λ l low stranger. inl (commits_there k j some (in_turn c r q mine));

@@ -37,7 +37,6 @@ use Rattle.mu_node.proofs.CatchingUp.{catches_reading, made_led, reading_fails}
 use Rattle.mu_node.specs.Cycle.{other_at, place_now}
 use Rattle.mu_node.specs.Due.{or_ahead, verb_or_beat}
 use Rattle.mu_node.specs.Journal.{WasMade}
-use Rattle.mu_node.proofs.Failing.{Fails}
 use Rattle.mu_node.proofs.Rounding.{FailsBackground, background_fails}
 
 -- such a verb is one of the leader, in a turn of its own

@@ -11,17 +11,18 @@ use Rattle.mu_model.specs.declared.event.Event.{Event}
 use Rattle.mu_model.specs.declared.event.Verb.{Verb}
 use Rattle.mu_model.specs.Bounds.{members}
 use Rattle.mu_model.specs.Contents.{is_batch, rest_of}
-use Rattle.mu_model.specs.Diligence.{is_confirmed, is_milestone, is_progress, was_unnamed}
+use Rattle.mu_model.specs.Diligence.{is_confirmed, is_milestone, was_unnamed}
 use Rattle.mu_model.specs.Knowledge.{applied, commits, is_known_decided, known}
 use Rattle.mu_model.specs.Leaderships.{begins_leadership, has_begun, is_member}
-use Rattle.mu_model.specs.Steps.{commits_more, is_any_fencing, is_fencing, is_min, is_missed_at, is_named, is_over_after, leads}
+use Rattle.mu_model.specs.Steps.{commits_more, is_any_fencing, is_fencing, is_lagging, is_min, is_missed_at, is_named, is_over_after, leads}
 use Rattle.mu_model.specs.Stretches.{is_odd, is_replication}
 use Rattle.mu_model.proofs.Basics.{event_by, or_true}
 use Rattle.mu_follow.specs.CatchingUp.{catch_up_due, entry_due, lacked_word_due, lacked_word_of, or_else, words_had}
 use Rattle.mu_follow.specs.Due.{first_word_of, next_due, row_under_way, rows_had}
 use Rattle.mu_pace.specs.Away.{IsAway}
+use Rattle.mu_pace.specs.Blocking.{is_blocking, is_progress_by}
 use Rattle.mu_pace.specs.Counters.{HasRoom, Watch, allowed_after, steps_left}
-use Rattle.mu_pace.specs.Watches.{bringing_up, confirming, explaining, falls_behind, is_answer_to_welcome, is_brought_up, is_confirming, is_full_raise, is_welcoming, joining, leaves, limit_now, progressing, raising, turns_away}
+use Rattle.mu_pace.specs.Watches.{advancing, bringing_up, confirming, explaining, falls_behind, is_answer_to_welcome, is_brought_up, is_confirming, is_full_raise, is_welcoming, joining, leaves, limit_now, progressing, raising, turns_away}
 use Rattle.mu_pace.proofs.Beside.{not_more, unallowed}
 use Rattle.mu_pace.proofs.Placed.{asks_anew, shut, unnamed_leaves}
 use Rattle.mu_pace.proofs.Rooms.{kinds_of_step}
@@ -184,7 +185,8 @@ after_allows test amount past e allowed is = go (test past e) is
 
 away_caught : (c : Config) (r : ℕ) (past : List Event) (e : Event) → is_replication past e ≡ true → is_named c r past ≡ false → OpensFew c r past e → IsAway c r (e ∷ past)
 away_caught c r past e t n few = record {
-  progressing = shut (progressing c r) past e (unallowed (is_milestone c r) (limit_now c r) past e few.milestone) (unnamed_leaves c r (is_progress c r) past e t n);
+  progressing = shut (progressing c r) past e (unallowed (is_milestone c r) (limit_now c r) past e few.milestone) (unnamed_leaves c r (is_progress_by (is_lagging c r) c r) past e t n);
+  advancing = shut (advancing c r) past e (unallowed (is_milestone c r) (limit_now c r) past e few.milestone) (unnamed_leaves c r (is_progress_by (is_blocking c r) c r) past e t n);
   asking = λ p low. asks_anew c r p past e 1 (omega arith) (unnamed_leaves c r (λ before f. not (leads r before) || is_fencing p f) past e t n);
   bringing = λ p. closes_anew (bringing_up c r p) 1 past e (or_true (is_brought_up c r p (e ∷ past)) (leaves c r (is_over_after r) past e) (unnamed_leaves c r (is_over_after r) past e t n))
       (λ allowed is. let whole = after_allows (falls_behind c r p) (limit_now c r) past e allowed is in omega (arith, whole));

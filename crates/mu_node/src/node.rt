@@ -11,6 +11,7 @@ ghost use Rattle.mu_node.specs.Journal.{IsListed};
 ghost use Rattle.mu_node.specs.Node.{StandsForNode};
 ghost use Rattle.mu_node.specs.Notes.{HasMade, MovesGoing, MovesTurn, TellsTurn};
 ghost use Rattle.mu_node.specs.Turns.{IsOneStep, IsResult, IsTurn, TellsEnd};
+ghost use Rattle.mu_pace.specs.Blocking.{AdvancesInTime};
 ghost use Rattle.mu_pace.specs.Counters.{AtEachStep};
 ghost use Rattle.mu_pace.specs.Cycles.{KeepsBeside};
 
@@ -183,6 +184,8 @@ impl Node {
         ensures listed { AtEachStep (IsListed self.new.zeal (P.config port.new)
             (P.number port.new)) (P.part port.new) }
         ensures diligent { IsDiligent (P.config port.new) (P.number port.new) (P.part port.new) }
+        ensures advances { AdvancesInTime (P.config port.new) (P.number port.new)
+            (P.part port.new) }
     {
         let id = port.id();
         match self.end() {

@@ -15,7 +15,7 @@ use Rattle.mu_model.specs.Stretches.{is_replication}
 use Rattle.mu_model.proofs.Basics.{event_by}
 use Rattle.mu_pace.specs.Beside.{BesideKeepsRooms, Keeps, KeepsRooms, is_beside}
 use Rattle.mu_pace.specs.Counters.{HasRoom, Watch, allowed_after}
-use Rattle.mu_pace.specs.Watches.{asking_after, bringing_up, confirming, explaining, falls_behind, is_confirming, is_welcoming, joining, limit, limit_now, progressing, raising}
+use Rattle.mu_pace.specs.Watches.{advancing, asking_after, bringing_up, confirming, explaining, falls_behind, is_confirming, is_welcoming, joining, limit, limit_now, progressing, raising}
 use Rattle.mu_pace.proofs.Counting.{allowed_now, opened}
 use Rattle.mu_pace.proofs.Rooms.{kinds_of_step}
 
@@ -97,6 +97,7 @@ beside_keeps c r past e t b = keeps_all (quiet c r past e.by e.verb e.answer b)
     keeps_all : IsQuiet c r past e → KeepsRooms c r past e
     keeps_all q = record {
       progressing = keeps (progressing c r) past e t (unallowed (is_milestone c r) (limit_now c r) past e (q.milestone t));
+      advancing = keeps (advancing c r) past e t (unallowed (is_milestone c r) (limit_now c r) past e (q.milestone t));
       explaining = λ p. keeps (explaining c r p) past e t (unallowed (λ before f. is_missed_at p f) (λ now. 1) past e (q.missed p));
       confirming = keeps (confirming c r) past e t (unallowed (is_confirming c r) (λ now. c.replicas) past e q.confirming);
       raising = λ p. keeps (raising c r p) past e t (unallowed (λ before f. commits_more c r before f && is_member r p (f ∷ before)) (members c r) past e (ap (λ z. z && is_member r p (e ∷ past)) q.commits));

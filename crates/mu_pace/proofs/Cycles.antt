@@ -11,11 +11,13 @@ use Rattle.mu_model.specs.Steps.{is_ask_read, is_beat, is_beat_read, is_head_of}
 use Rattle.mu_pace.specs.Collecting.{LeaderKeeps}
 use Rattle.mu_model.proofs.Basics.{none_some, same_some}
 use Rattle.mu_pace.specs.Counters.{AtEachMoment, AtEachStep, IsInTime, Watch, allowed_while}
-use Rattle.mu_pace.specs.Cycles.{KeepsBeside, MachinesAreDiligent, RoundsReadInTime, RoundsTellHeads}
+use Rattle.mu_pace.specs.Cycles.{KeepsBeside, LeadersAdvance, MachinesAreDiligent, RoundsReadInTime, RoundsTellHeads}
 use Rattle.mu_pace.specs.Keeping.{IsDiligentAtEachMoment}
+use Rattle.mu_pace.specs.Watches.{advancing}
 use Rattle.mu_pace.specs.Rounds.{IsClosedAt, IsMadeAt, IsMadeOnlyAt}
 use Rattle.mu_pace.proofs.Collecting.{parts_keep_pace}
 use Rattle.mu_pace.proofs.Keeping.{kept_pace_is_diligent}
+use Rattle.mu_pace.proofs.Leading.{advances_come}
 use Rattle.mu_pace.proofs.Replaying.{heads_told}
 use Rattle.mu_pace.proofs.Rounds.{rounds_keep_pace}
 
@@ -52,6 +54,14 @@ each_moment c r (e ∷ past) beside leader = (each_moment c r past beside.0 lead
 
 pub machines_are_diligent : MachinesAreDiligent
 machines_are_diligent c r past beside leader = kept_pace_is_diligent c r past (each_moment c r past beside leader)
+
+-- what a leader keeps holds its count of advances at each moment
+pub advancing_moments : (c : Config) (r : ℕ) (past : List Event) → AtEachStep (LeaderKeeps c r) past → AtEachMoment (IsInTime (advancing c r)) past
+advancing_moments c r [] kept = λ left is. absurd (none_some left is)
+advancing_moments c r (e ∷ past) kept = (advancing_moments c r past kept.0, kept.1.places.advancing)
+
+pub leaders_advance : LeadersAdvance
+leaders_advance c r past kept = advances_come c r past (advancing_moments c r past kept)
 
 -- a count that each round closes is in time at each moment
 pub closed_moments : (n k : ℕ) (w : Watch) (past : List Event) → k < n → ((now : List Event) (allowed : ℕ) → w.allows now ≡ Some allowed → n ≤ allowed) → IsClosedAt n k w past → AtEachMoment (IsInTime w) past

@@ -6,17 +6,18 @@ use Rattle.mu_model.specs.declared.config.Config.{Config}
 use Rattle.mu_model.specs.declared.event.Answer.{Answer}
 use Rattle.mu_model.specs.declared.event.Event.{Event}
 use Rattle.mu_model.specs.declared.event.Verb.{Verb}
-use Rattle.mu_model.specs.Bounds.{copied, members, stays}
-use Rattle.mu_model.specs.Diligence.{is_milestone, is_progress}
+use Rattle.mu_model.specs.Bounds.{Follows, bound, copied, members, stays}
+use Rattle.mu_model.specs.Diligence.{is_milestone}
 use Rattle.mu_model.specs.Histories.{greatest}
 use Rattle.mu_model.specs.Knowledge.{commits, grown, is_accepted_by_all, known}
 use Rattle.mu_model.specs.Leaderships.{is_member, leadership}
 use Rattle.mu_model.specs.Placing.{fuo_read_or_raised}
-use Rattle.mu_model.specs.Steps.{commits_more, is_fencing, is_over_after, is_raise_above, is_raise_above_verb, leads, replicates}
+use Rattle.mu_model.specs.Steps.{commits_more, is_fencing, is_lagging, is_over_after, is_raise_above, is_raise_above_verb, leads, replicates}
 use Rattle.mu_model.specs.Stretches.{each_step, is_replication, replications}
-use Rattle.mu_pace.specs.Counters.{paid}
-use Rattle.mu_pace.specs.Paces.{FuosAreRaisedInTime, MembersAreBroughtUp, OthersAreAskedAfter, ProgressComesInTime, WelcomedJoinInTime}
-use Rattle.mu_pace.specs.Watches.{asking_after, bringing_up, earns, falls_behind, is_answer_to_welcome, is_brought_up, is_full_raise, is_raise_to_verb, is_welcoming, joining, leaves, limit_now, progressing, raising}
+use Rattle.mu_pace.specs.Blocking.{is_blocking, is_progress_by}
+use Rattle.mu_pace.specs.Counters.{AtEachMoment, IsInTime, paid}
+use Rattle.mu_pace.specs.Paces.{AdvancesComeInTime, FuosAreRaisedInTime, MembersAreBroughtUp, OthersAreAskedAfter, ProgressComesInTime, WelcomedJoinInTime}
+use Rattle.mu_pace.specs.Watches.{asking_after, bringing_up, earns, falls_behind, is_answer_to_welcome, is_brought_up, is_full_raise, is_raise_to_verb, is_welcoming, joining, leaves, limit_now, progressing_by, raising}
 use Rattle.mu_model.proofs.Basics.{event_by}
 use Rattle.mu_pace.proofs.Counting.{allowed_here, allowed_now, shorter}
 use Rattle.mu_pace.proofs.Growing.{earned, greatest_grows, greatest_on, known_grows, member_on, member_stays, stays_less, twice_paid}
@@ -27,14 +28,22 @@ use Rattle.mu_pace.proofs.Stretched.{neither, none_leaves, unpaid}
 past_bound : (m m' n w z x k : ℕ) → k < 6 * m + 7 * n + 8 + 12 * w + x → 6 * m + x ≤ 6 * m' + 8 * z → k ≡ 6 * m' + 7 * n + 8 + 12 * w + 8 * z → ⊥
 past_bound m m' n w z x k a b d = omega (arith, a, b, d)
 
-pub progress_comes : ProgressComesInTime
-progress_comes c r past h e window older m f =
-    by_failing (replicates (is_progress c r) window (e ∷ older)) (λ none.
-    let k = shorter (progressing c r) (limit_now c r (e ∷ older)) past window (e ∷ older) h f.stretch
+-- a count of what a milestone waits for, in a stretch
+progress_by_comes : (stops : List Event → Event → Bool) (c : Config) (r : ℕ) (past : List Event) → AtEachMoment (IsInTime (progressing_by stops c r)) past → (e : Event) (window older : List Event) → is_milestone c r older e ≡ true
+    → Follows c r past window (e ∷ older) (bound c r window (e ∷ older)) → replicates (is_progress_by stops c r) window (e ∷ older) ≡ true
+progress_by_comes stops c r past h e window older m f =
+    by_failing (replicates (is_progress_by stops c r) window (e ∷ older)) (λ none.
+    let k = shorter (progressing_by stops c r) (limit_now c r (e ∷ older)) past window (e ∷ older) h f.stretch
     (allowed_here (is_milestone c r) (limit_now c r) older e m)
-    (none_leaves c r (is_progress c r) window (e ∷ older) f.same f.named none) in
+    (none_leaves c r (is_progress_by stops c r) window (e ∷ older) f.same f.named none) in
     let x = earned c r window (e ∷ older) f.same in
     past_bound (members c r (e ∷ older)) (members c r (window ++ e ∷ older)) c.replicas c.width (copied c r window (e ∷ older)) (paid (earns c r) window (e ∷ older)) (replications window (e ∷ older)) k x f.count_is)
+
+pub progress_comes : ProgressComesInTime
+progress_comes c r past h e window older m f = progress_by_comes (is_lagging c r) c r past h e window older m f
+
+pub advances_come : AdvancesComeInTime
+advances_come c r past h e window older m f = progress_by_comes (is_blocking c r) c r past h e window older m f
 
 -- a raise to all that is known is one above each known position
 full_is_above : (r p i n : ℕ) (v : Verb) → i < n → is_raise_to_verb p n v ≡ true → is_raise_above_verb p i v ≡ true

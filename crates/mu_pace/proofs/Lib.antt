@@ -20,5 +20,6 @@ pub mod Weights
 mod Asking
 mod Opening
 pub mod Beside
+pub mod Blocking
 pub mod Closing
 pub mod Cycles

@@ -5,16 +5,17 @@ use Rattle.std.specs.Prelude.{if◌then◌else◌, not, ◌||◌}
 use Rattle.mu_model.specs.declared.config.Config.{Config}
 use Rattle.mu_model.specs.declared.event.Event.{Event}
 use Rattle.mu_model.specs.Bounds.{is_learning}
-use Rattle.mu_model.specs.Diligence.{is_joining_step, is_milestone, is_progress}
+use Rattle.mu_model.specs.Diligence.{is_joining_step, is_milestone}
 use Rattle.mu_model.specs.Leaderships.{begins_leadership, is_member, proposal_number}
 use Rattle.mu_model.specs.Steps.{commits_more, is_fencing, is_lagging, is_named, is_over_after, knows_all, leads}
 use Rattle.mu_model.specs.Stretches.{is_replication}
 use Rattle.mu_pace.specs.Asking.{asking}
 use Rattle.mu_pace.specs.Beside.{is_beside}
+use Rattle.mu_pace.specs.Blocking.{is_blocking, is_progress_by}
 use Rattle.mu_pace.specs.Counters.{HasRoom, Watch, allowed_after, allowed_while, fewer, left_after, steps_left}
 use Rattle.mu_pace.specs.Placed.{AreInTime, FitsSizes, IsBrought, IsPlacedAt, PlacesLead, TakesCopy, TakesFirst, TakesJoin, TakesKnown, TakesLastJoin, TakesMilestone, TakesStep, is_level}
-use Rattle.mu_pace.specs.Watches.{asking_after, bringing_up, earns, falls_behind, is_brought_up, leaves, limit_now, progressing}
-use Rattle.mu_pace.specs.Weights.{IsSized, Sizes, Stage, joined, most, weight}
+use Rattle.mu_pace.specs.Watches.{advancing, asking_after, bringing_up, earns, falls_behind, is_brought_up, leaves, limit_now, progressing}
+use Rattle.mu_pace.specs.Weights.{GoesOn, IsSized, Sizes, Stage, joined, most, weight}
 use Rattle.mu_pace.proofs.Asking.{asking_falls}
 use Rattle.mu_pace.proofs.Beside.{IsQuiet, beside_keeps, quiet, unallowed}
 use Rattle.mu_pace.proofs.Counting.{allowed_here, allowed_now}
@@ -184,7 +185,8 @@ step : (c : Config) (r : ℕ) (s : Sizes) (t u : Stage) (past : List Event) (e :
 step c r s t u past e z at k = record {
   sizes = sizes;
   place = k.place;
-  progressing = steps_of_progress.goes_on c r (weight s t) (weight s u) past e k.no_milestone (weights_fall.goes_on s t u z k.edge) at.progressing;
+  progressing = steps_of_progress.goes_on (is_lagging c r) c r (weight s t) (weight s u) past e k.no_milestone (weights_fall.goes_on s t u z k.edge) at.progressing;
+  advancing = steps_of_progress.goes_on (is_blocking c r) c r (weight s t) (weight s u) past e k.no_milestone (weights_fall.goes_on s t u z k.edge) at.advancing;
   asking = λ p l.
       asks_on c r p s past e (asking s p t) (asking s p u) k.turn (let a = asking_falls.light s p u z (low l) k.place in let b = same_limit c r s (e ∷ past) sizes in omega arith) (at.asking p l)
       (λ m. elim (k.asks p l m) [ inl g ↦ inl (let a = asking_falls.goes_on s p t u z g in omega arith) | inr f ↦ inr f ]);
@@ -206,7 +208,8 @@ copy : (c : Config) (r : ℕ) (s : Sizes) (t u : Stage) (past : List Event) (e :
 copy c r s t u past e z at k = record {
   sizes = sizes;
   place = k.place;
-  progressing = steps_of_progress.with_copying c r (weight s t) (weight s u) past e k.no_milestone k.copies (weights_fall.copies s t u z k.edge) at.progressing;
+  progressing = steps_of_progress.with_copying (is_lagging c r) c r (weight s t) (weight s u) past e k.no_milestone k.copies (weights_fall.copies s t u z k.edge) at.progressing;
+  advancing = steps_of_progress.with_copying (is_blocking c r) c r (weight s t) (weight s u) past e k.no_milestone k.copies (weights_fall.copies s t u z k.edge) at.advancing;
   asking = λ p l.
       asks_on c r p s past e (asking s p t) (asking s p u) k.turn (let a = asking_falls.light s p u z (low l) k.place in let b = same_limit c r s (e ∷ past) sizes in omega arith) (at.asking p l)
       (λ m. elim (k.asks p l m) [ inl g ↦ inl (let a = asking_falls.copies s p t u z g in let b = steps_of_progress.copying c r past e k.copies in omega arith) | inr f ↦ inr f ]);
@@ -225,7 +228,8 @@ join : (c : Config) (r : ℕ) (s : Sizes) (t u : Stage) (past : List Event) (e :
 join c r s t u past e z at k = record {
   sizes = sizes;
   place = k.place;
-  progressing = steps_of_progress.with_joining c r (weight s t) (weight (joined s) u) past e k.no_milestone k.more (weights_fall.joins s t u z k.edge) at.progressing;
+  progressing = steps_of_progress.with_joining (is_lagging c r) c r (weight s t) (weight (joined s) u) past e k.no_milestone k.more (weights_fall.joins s t u z k.edge) at.progressing;
+  advancing = steps_of_progress.with_joining (is_blocking c r) c r (weight s t) (weight (joined s) u) past e k.no_milestone k.more (weights_fall.joins s t u z k.edge) at.advancing;
   asking = λ p l.
       asks_on c r p (joined s) past e (asking s p t) (asking (joined s) p u) k.turn (let a = asking_falls.light (joined s) p u y (low l) k.place in let b = same_limit c r (joined s) (e ∷ past) sizes in omega arith) (at.asking p l)
       (λ m. elim (k.asks p l m) [ inl g ↦ inl (let a = asking_falls.joins s p t u z g in let b = steps_of_progress.joining c r past e k.more in omega arith) | inr f ↦ inr f ]);
@@ -247,7 +251,8 @@ milestone : (c : Config) (r : ℕ) (s : Sizes) (t u : Stage) (past : List Event)
 milestone c r s t u past e z at k = record {
   sizes = sizes;
   place = k.place;
-  progressing = steps_of_progress.anew c r (weight s u) past e k.milestone k.progress (let a = weights_fall.light s u z k.place in let b = same_limit c r s (e ∷ past) sizes in omega arith);
+  progressing = steps_of_progress.anew (is_lagging c r) c r (weight s u) past e k.milestone k.progress light;
+  advancing = advances k.advance;
   asking = λ p l.
       asks_on c r p s past e (asking s p t) (asking s p u) k.turn (let a = asking_falls.light s p u z (low l) k.place in let b = same_limit c r s (e ∷ past) sizes in omega arith) (at.asking p l)
       (λ m. elim (k.asks p l m) [ inl g ↦ inl (let a = asking_falls.goes_on s p t u z g in omega arith) | inr f ↦ inr f ]);
@@ -258,18 +263,27 @@ milestone c r s t u past e z at k = record {
     sizes : FitsSizes c r s (e ∷ past)
     sizes = record { replicas = at.sizes.replicas; width = at.sizes.width; members = at.sizes.members ∙ sym k.same }
 
+    light : weight s u ≤ limit_now c r (e ∷ past)
+    light = let a = weights_fall.light s u z k.place in let b = same_limit c r s (e ∷ past) sizes in omega arith
+
+    advances : ((advancing c r).closes past e ≡ true) ⊎ GoesOn s t u → HasRoom (advancing c r) (weight s u) (e ∷ past)
+    advances (inl closes) = steps_of_progress.anew (is_blocking c r) c r (weight s u) past e k.milestone closes light
+    advances (inr edge) = kinds_of_step.opens_more (advancing c r) (limit_now c r (e ∷ past)) (weight s t) (weight s u) past e (allowed_here (is_milestone c r) (limit_now c r) past e k.milestone) light
+        (let a = weights_fall.goes_on s t u z edge in omega arith) at.advancing
+
     low : {p : ℕ} → p < c.replicas → p < s.replicas
     low l = let a = at.sizes.replicas in omega arith
 
 -- where every command is known each step is progress
-known_progress : (c : Config) (r : ℕ) (past : List Event) (e : Event) → knows_all c r past ≡ true → is_progress c r past e ≡ true
-known_progress c r past e k = or_true (commits_more c r past e) _ (or_true (is_over_after r past e) _ (or_true (is_lagging c r past e) _ (true_or (knows_all c r past) _ k)))
+known_progress : (stops : List Event → Event → Bool) (c : Config) (r : ℕ) (past : List Event) (e : Event) → knows_all c r past ≡ true → is_progress_by stops c r past e ≡ true
+known_progress stops c r past e k = or_true (commits_more c r past e) _ (or_true (is_over_after r past e) _ (or_true (stops past e) _ (true_or (knows_all c r past) _ k)))
 
 known : (c : Config) (r : ℕ) (s : Sizes) (t u : Stage) (past : List Event) (e : Event) → IsSized s → IsPlacedAt c r s t past → TakesKnown c r s t u past e → IsPlacedAt c r s u (e ∷ past)
 known c r s t u past e z at k = record {
   sizes = sizes;
   place = k.place;
-  progressing = kinds_of_step.closes (progressing c r) (weight s u) past e (unallowed (is_milestone c r) (limit_now c r) past e k.no_milestone) (met_leaves c r (is_progress c r) past e k.turn (known_progress c r past e k.known));
+  progressing = kinds_of_step.closes (progressing c r) (weight s u) past e (unallowed (is_milestone c r) (limit_now c r) past e k.no_milestone) (met_leaves c r (is_progress_by (is_lagging c r) c r) past e k.turn (known_progress (is_lagging c r) c r past e k.known));
+  advancing = kinds_of_step.closes (advancing c r) (weight s u) past e (unallowed (is_milestone c r) (limit_now c r) past e k.no_milestone) (met_leaves c r (is_progress_by (is_blocking c r) c r) past e k.turn (known_progress (is_blocking c r) c r past e k.known));
   asking = λ p l.
       asks_on c r p s past e (asking s p t) (asking s p u) k.turn (let a = asking_falls.light s p u z (low l) k.place in let b = same_limit c r s (e ∷ past) sizes in omega arith) (at.asking p l)
       (λ m. elim (k.asks p l m) [ inl g ↦ inl (let a = asking_falls.goes_on s p t u z g in omega arith) | inr f ↦ inr f ]);
@@ -290,7 +304,8 @@ last_join : (c : Config) (r : ℕ) (s : Sizes) (t u : Stage) (past : List Event)
 last_join c r s t u past e z at k = record {
   sizes = sizes;
   place = k.place;
-  progressing = kinds_of_step.closes (progressing c r) (weight (joined s) u) past e (unallowed (is_milestone c r) (limit_now c r) past e k.no_milestone) (met_leaves c r (is_progress c r) past e k.turn (known_progress c r past e k.known));
+  progressing = kinds_of_step.closes (progressing c r) (weight (joined s) u) past e (unallowed (is_milestone c r) (limit_now c r) past e k.no_milestone) (met_leaves c r (is_progress_by (is_lagging c r) c r) past e k.turn (known_progress (is_lagging c r) c r past e k.known));
+  advancing = kinds_of_step.closes (advancing c r) (weight (joined s) u) past e (unallowed (is_milestone c r) (limit_now c r) past e k.no_milestone) (met_leaves c r (is_progress_by (is_blocking c r) c r) past e k.turn (known_progress (is_blocking c r) c r past e k.known));
   asking = λ p l.
       asks_on c r p (joined s) past e (asking s p t) (asking (joined s) p u) k.turn (let a = asking_falls.light (joined s) p u y (low l) k.place in let b = same_limit c r (joined s) (e ∷ past) sizes in omega arith) (at.asking p l)
       (λ m. elim (k.asks p l m) [ inl g ↦ inl (let a = asking_falls.joins s p t u z g in let b = steps_of_progress.joining c r past e k.more in omega arith) | inr f ↦ inr f ]);
@@ -310,7 +325,8 @@ first : (c : Config) (r : ℕ) (s : Sizes) (u : Stage) (past : List Event) (e : 
 first c r s u past e z k = record {
   sizes = k.sizes;
   place = k.place;
-  progressing = steps_of_progress.begins c r (weight s u) past e k.milestone k.quiet (let a = weights_fall.light s u z k.place in let b = same_limit c r s (e ∷ past) k.sizes in omega arith);
+  progressing = steps_of_progress.begins (is_lagging c r) c r (weight s u) past e k.milestone k.quiet (let a = weights_fall.light s u z k.place in let b = same_limit c r s (e ∷ past) k.sizes in omega arith);
+  advancing = steps_of_progress.begins (is_blocking c r) c r (weight s u) past e k.milestone k.quiet_advancing (let a = weights_fall.light s u z k.place in let b = same_limit c r s (e ∷ past) k.sizes in omega arith);
   asking = λ p l. asks_anew c r p past e (asking s p u) (let a = asking_falls.light s p u z (let a = k.sizes.replicas in omega arith) k.place in let b = same_limit c r s (e ∷ past) k.sizes in omega arith)
       (met_leaves c r (λ before g. not (leads r before) || is_fencing p g) past e k.turn (true_or (not (leads r past)) (is_fencing p e) (ap not k.not_led)));
   bringing = λ p. closed_brought (is_level u) (bringing_up c r p) (weight s u) (e ∷ past)
@@ -329,6 +345,7 @@ beside c r s t past e turn b at = go (quiet c r past e.by e.verb e.answer b)
       sizes = record { replicas = at.sizes.replicas; width = at.sizes.width; members = at.sizes.members ∙ sym q.members };
       place = at.place;
       progressing = (beside_keeps c r past e turn b).progressing (weight s t) at.progressing;
+      advancing = (beside_keeps c r past e turn b).advancing (weight s t) at.advancing;
       asking = λ p l. (beside_keeps c r past e turn b).asking_after p (asking s p t) (at.asking p l);
       bringing = λ p. keeps_bringing (is_level t) p (q.behind p) (at.bringing p);
     }
@@ -336,18 +353,20 @@ beside c r s t past e turn b at = go (quiet c r past e.by e.verb e.answer b)
 in_time : (c : Config) (r : ℕ) (s : Sizes) (t : Stage) (now : List Event) → IsSized s → IsPlacedAt c r s t now → AreInTime c r now
 in_time c r s t now z at = record {
   progressing = kinds_of_step.less (progressing c r) (weight s t) 1 now (weights_fall.heavy s t z at.place) at.progressing;
+  advancing = kinds_of_step.less (advancing c r) (weight s t) 1 now (weights_fall.heavy s t z at.place) at.advancing;
   asking = λ p l. kinds_of_step.less (asking_after c r p) (asking s p t) 1 now (let a = asking_falls.heavy s p t z (let b = at.sizes.replicas in omega arith) at.place in omega arith) (at.asking p l);
   bringing = λ p. kinds_of_step.less (bringing_up c r p) (weight s t) 1 now (weights_fall.heavy s t z at.place) (brought_room (is_level t) (bringing_up c r p) (weight s t) now (at.bringing p));
 }
 
 -- a leadership that is over has made progress, and brings nobody up
-pub over_progress : (c : Config) (r : ℕ) (past : List Event) (e : Event) → is_over_after r past e ≡ true → is_progress c r past e ≡ true
-over_progress c r past e o = or_true (commits_more c r past e) _ (true_or (is_over_after r past e) _ o)
+pub over_progress : (stops : List Event → Event → Bool) (c : Config) (r : ℕ) (past : List Event) (e : Event) → is_over_after r past e ≡ true → is_progress_by stops c r past e ≡ true
+over_progress stops c r past e o = or_true (commits_more c r past e) _ (true_or (is_over_after r past e) _ o)
 
 over : (c : Config) (r : ℕ) (s : Sizes) (t : Stage) (past : List Event) (e : Event) → IsSized s → IsPlacedAt c r s t past → is_replication past e ≡ true → is_over_after r past e ≡ true
     → is_milestone c r past e ≡ false → ((p : ℕ) → falls_behind c r p past e ≡ false) → AreInTime c r (e ∷ past)
 over c r s t past e z at turn o m b = record {
-  progressing = kinds_of_step.closes (progressing c r) 1 past e (unallowed (is_milestone c r) (limit_now c r) past e m) (met_leaves c r (is_progress c r) past e turn (over_progress c r past e o));
+  progressing = kinds_of_step.closes (progressing c r) 1 past e (unallowed (is_milestone c r) (limit_now c r) past e m) (met_leaves c r (is_progress_by (is_lagging c r) c r) past e turn (over_progress (is_lagging c r) c r past e o));
+  advancing = kinds_of_step.closes (advancing c r) 1 past e (unallowed (is_milestone c r) (limit_now c r) past e m) (met_leaves c r (is_progress_by (is_blocking c r) c r) past e turn (over_progress (is_blocking c r) c r past e o));
   asking = λ p l. asks_on c r p s past e (asking s p t) 1 turn (omega arith) (at.asking p l) (λ k. inl (let a = asking_falls.heavy s p t z (let d = at.sizes.replicas in omega arith) at.place in omega arith));
   bringing = λ p. kinds_of_step.closes (bringing_up c r p) 1 past e (unallowed (falls_behind c r p) (limit_now c r) past e (b p))
       (or_true (is_brought_up c r p (e ∷ past)) (leaves c r (is_over_after r) past e) (met_leaves c r (is_over_after r) past e turn o));
@@ -355,7 +374,8 @@ over c r s t past e z at turn o m b = record {
 
 resigned : (c : Config) (r : ℕ) (past : List Event) (e : Event) → is_replication past e ≡ true → is_named c r past ≡ false → is_milestone c r past e ≡ false → ((p : ℕ) → falls_behind c r p past e ≡ false) → AreInTime c r (e ∷ past)
 resigned c r past e turn n m b = record {
-  progressing = kinds_of_step.closes (progressing c r) 1 past e (unallowed (is_milestone c r) (limit_now c r) past e m) (unnamed_leaves c r (is_progress c r) past e turn n);
+  progressing = kinds_of_step.closes (progressing c r) 1 past e (unallowed (is_milestone c r) (limit_now c r) past e m) (unnamed_leaves c r (is_progress_by (is_lagging c r) c r) past e turn n);
+  advancing = kinds_of_step.closes (advancing c r) 1 past e (unallowed (is_milestone c r) (limit_now c r) past e m) (unnamed_leaves c r (is_progress_by (is_blocking c r) c r) past e turn n);
   asking = λ p l. asks_anew c r p past e 1 (omega arith) (unnamed_leaves c r (λ before g. not (leads r before) || is_fencing p g) past e turn n);
   bringing = λ p. kinds_of_step.closes (bringing_up c r p) 1 past e (unallowed (falls_behind c r p) (limit_now c r) past e (b p))
       (or_true (is_brought_up c r p (e ∷ past)) (leaves c r (is_over_after r) past e) (unnamed_leaves c r (is_over_after r) past e turn n));

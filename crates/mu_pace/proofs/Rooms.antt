@@ -12,9 +12,10 @@ use Rattle.mu_model.specs.Leaderships.{begins_leadership, leadership}
 use Rattle.mu_model.specs.Steps.{commits_more, is_lagging, is_min, is_named, is_over_after, knows_all}
 use Rattle.mu_model.specs.Stretches.{is_replication}
 use Rattle.mu_model.proofs.Basics.{none_some, same_some}
+use Rattle.mu_pace.specs.Blocking.{is_blocking}
 use Rattle.mu_pace.specs.Counters.{HasRoom, allowed_after, fewer, left_after, steps_left}
 use Rattle.mu_pace.specs.Rooms.{ClosedHasRoom, CopyingEarnsEight, JoiningEarnsSix, KindsOfStep, LessRoom, ProgressAnew, ProgressBegins, ProgressBeside, ProgressGoesOn, ProgressWithCopying, ProgressWithJoining, RoomCloses, RoomGoesOn, RoomOpens, RoomOpensAnew, RoomOpensBeside, RoomOpensMore, RoomStays, RoomTakes, StaysClosed, StepsOfProgress}
-use Rattle.mu_pace.specs.Watches.{limit_now, progressing}
+use Rattle.mu_pace.specs.Watches.{limit_now, progressing_by}
 use Rattle.mu_pace.proofs.Counting.{allowed_here}
 
 -- what is open has at least so much left
@@ -136,22 +137,22 @@ no_milestone c r past e m = go (is_milestone c r past e) m
     go false h = refl
 
 progress_goes_on : ProgressGoesOn
-progress_goes_on c r weight next past e m l h = goes_on (progressing c r) weight next past e (no_milestone c r past e m) (omega arith) h
+progress_goes_on stops c r weight next past e m l h = goes_on (progressing_by stops c r) weight next past e (no_milestone c r past e m) (omega arith) h
 
 progress_with_joining : ProgressWithJoining
-progress_with_joining c r weight next past e m j l h = goes_on (progressing c r) weight next past e (no_milestone c r past e m) (let x = joining c r past e j in omega arith) h
+progress_with_joining stops c r weight next past e m j l h = goes_on (progressing_by stops c r) weight next past e (no_milestone c r past e m) (let x = joining c r past e j in omega arith) h
 
 progress_with_copying : ProgressWithCopying
-progress_with_copying c r weight next past e m k l h = goes_on (progressing c r) weight next past e (no_milestone c r past e m) (let x = copying c r past e k in omega arith) h
+progress_with_copying stops c r weight next past e m k l h = goes_on (progressing_by stops c r) weight next past e (no_milestone c r past e m) (let x = copying c r past e k in omega arith) h
 
 progress_anew : ProgressAnew
-progress_anew c r next past e m k l = opens_anew (progressing c r) (limit_now c r (e ∷ past)) next past e (allowed_here (is_milestone c r) (limit_now c r) past e m) k l
+progress_anew stops c r next past e m k l = opens_anew (progressing_by stops c r) (limit_now c r (e ∷ past)) next past e (allowed_here (is_milestone c r) (limit_now c r) past e m) k l
 
 progress_begins : ProgressBegins
-progress_begins c r next past e m o l = opens (progressing c r) (limit_now c r (e ∷ past)) next past e (allowed_here (is_milestone c r) (limit_now c r) past e m) o l
+progress_begins stops c r next past e m o l = opens (progressing_by stops c r) (limit_now c r (e ∷ past)) next past e (allowed_here (is_milestone c r) (limit_now c r) past e m) o l
 
 progress_beside : ProgressBeside
-progress_beside c r weight past e t m h = stays (progressing c r) weight weight past e (no_milestone c r past e m) t (omega arith) h
+progress_beside stops c r weight past e t m h = stays (progressing_by stops c r) weight weight past e (no_milestone c r past e m) t (omega arith) h
 
 -- a commit and a lagging head close the count as they open it
 closed_by : (b t n k o g rest : Bool) → t ≡ true → (k ≡ true) ⊎ (g ≡ true) → (b || (t && (not n || (k || (o || (g || rest)))))) ≡ true
@@ -172,12 +173,11 @@ opened_by false false true false h (inl j) = absurd (true≢false (sym j))
 opened_by false false true false h (inr j) = absurd (true≢false (sym j))
 opened_by false false false g h j = absurd (true≢false (sym h))
 
-milestone_closes : (c : Config) (r : ℕ) (past : List Event) (e : Event) → is_replication past e ≡ true → (commits_more c r past e ≡ true) ⊎ (is_lagging c r past e ≡ true)
-    → (is_milestone c r past e ≡ true) × ((progressing c r).closes past e ≡ true)
-milestone_closes c r past e t j = (
-  opened_by (is_min e && not (has is_min (leadership r past))) (commits_more c r past e) (is_replication past e) (is_lagging c r past e) t j,
-  closed_by (begins_leadership r e) (is_replication past e) (is_named c r past) (commits_more c r past e) (is_over_after r past e) (is_lagging c r past e) (knows_all c r past || is_some (outrun c r (e ∷ past))) t j,
-)
+milestone_closes : (stops : List Event → Event → Bool) (c : Config) (r : ℕ) (past : List Event) (e : Event) → is_replication past e ≡ true → (commits_more c r past e ≡ true) ⊎ (stops past e ≡ true) → (progressing_by stops c r).closes past e ≡ true
+milestone_closes stops c r past e t j = closed_by (begins_leadership r e) (is_replication past e) (is_named c r past) (commits_more c r past e) (is_over_after r past e) (stops past e) (knows_all c r past || is_some (outrun c r (e ∷ past))) t j
+
+milestone_opens : (c : Config) (r : ℕ) (past : List Event) (e : Event) → is_replication past e ≡ true → (commits_more c r past e ≡ true) ⊎ (is_lagging c r past e ≡ true) → is_milestone c r past e ≡ true
+milestone_opens c r past e t j = opened_by (is_min e && not (has is_min (leadership r past))) (commits_more c r past e) (is_replication past e) (is_lagging c r past e) t j
 
 pub steps_of_progress : StepsOfProgress
 steps_of_progress = record {
@@ -189,6 +189,7 @@ steps_of_progress = record {
   anew = progress_anew;
   begins = progress_begins;
   beside = progress_beside;
-  commit = λ c r past e t k. milestone_closes c r past e t (inl k);
-  lag = λ c r past e t k. milestone_closes c r past e t (inr k);
+  commit = λ stops c r past e t k. (milestone_opens c r past e t (inl k), milestone_closes stops c r past e t (inl k));
+  lag = λ c r past e t k. (milestone_opens c r past e t (inr k), milestone_closes (is_lagging c r) c r past e t (inr k));
+  block = λ c r past e t k. milestone_closes (is_blocking c r) c r past e t (inr k);
 }

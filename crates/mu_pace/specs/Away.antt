@@ -11,18 +11,20 @@ use Rattle.mu_model.specs.Stretches.{is_replication}
 use Rattle.mu_pace.specs.Beside.{is_beside}
 use Rattle.mu_pace.specs.Counters.{IsInTime, steps_left}
 use Rattle.mu_pace.specs.Placed.{AreInTime, IsPlacedAt}
-use Rattle.mu_pace.specs.Watches.{asking_after, bringing_up, falls_behind, progressing}
+use Rattle.mu_pace.specs.Watches.{advancing, asking_after, bringing_up, falls_behind, progressing}
 use Rattle.mu_pace.specs.Weights.{IsSized, Sizes, Stage}
 
 -- nothing is open but what a background look opened, and all is in time
 pub record IsAway (c : Config) (r : ℕ) (now : List Event) : Type 0 where
   pub progressing : steps_left (progressing c r) now ≡ None
+  pub advancing : steps_left (advancing c r) now ≡ None
   pub asking : (p : ℕ) → p < c.replicas → IsInTime (asking_after c r p) now
   pub bringing : (p : ℕ) → IsInTime (bringing_up c r p) now
 
 -- nothing at all is open but the asking after others, which is in time
 pub record IsFresh (c : Config) (r : ℕ) (now : List Event) : Type 0 where
   pub progressing : steps_left (progressing c r) now ≡ None
+  pub advancing : steps_left (advancing c r) now ≡ None
   pub asking : (p : ℕ) → p < c.replicas → IsInTime (asking_after c r p) now
   pub bringing : (p : ℕ) → steps_left (bringing_up c r p) now ≡ None
 

@@ -5,7 +5,7 @@ use Rattle.mu_model.specs.declared.event.Event.{Event}
 use Rattle.mu_model.specs.declared.event.Verb.{Verb}
 use Rattle.mu_model.specs.Stretches.{is_replication}
 use Rattle.mu_pace.specs.Counters.{HasRoom, Watch}
-use Rattle.mu_pace.specs.Watches.{asking_after, bringing_up, confirming, explaining, joining, progressing, raising}
+use Rattle.mu_pace.specs.Watches.{advancing, asking_after, bringing_up, confirming, explaining, joining, progressing, raising}
 
 -- a verb that neither begins, carries on nor ends what a leader does, and teaches no entry
 abbrev pub is_beside : Verb → Bool
@@ -25,6 +25,7 @@ Keeps w past e = (weight : ℕ) → HasRoom w weight past → HasRoom w weight (
 -- the event leaves the room of each count of a leader's steps
 pub record KeepsRooms (c : Config) (r : ℕ) (past : List Event) (e : Event) : Type 0 where
   pub progressing : Keeps (progressing c r) past e
+  pub advancing : Keeps (advancing c r) past e
   pub explaining : (p : ℕ) → Keeps (explaining c r p) past e
   pub confirming : Keeps (confirming c r) past e
   pub raising : (p : ℕ) → Keeps (raising c r p) past e

@@ -9,7 +9,7 @@ use Rattle.mu_model.specs.Stretches.{is_replication}
 use Rattle.mu_pace.specs.Away.{IsFresh}
 use Rattle.mu_pace.specs.Counters.{HasRoom, steps_left}
 use Rattle.mu_pace.specs.Placed.{FitsSizes, IsPlacedAt}
-use Rattle.mu_pace.specs.Watches.{asking_after, bringing_up, confirming, explaining, falls_behind, is_confirming, is_welcoming, joining, limit_now, progressing, raising}
+use Rattle.mu_pace.specs.Watches.{advancing, asking_after, bringing_up, confirming, explaining, falls_behind, is_confirming, is_welcoming, joining, limit_now, progressing, raising}
 use Rattle.mu_pace.specs.Weights.{IsPlace, IsSized, Sizes, Stage}
 
 -- the event opens no count, except for the asking after others
@@ -24,6 +24,7 @@ pub record OpensNone (c : Config) (r : ℕ) (past : List Event) (e : Event) : Ty
 -- no count is open, except for the asking after others, which has all the steps that it may have
 pub record AreClosed (c : Config) (r : ℕ) (now : List Event) : Type 0 where
   pub progressing : steps_left (progressing c r) now ≡ None
+  pub advancing : steps_left (advancing c r) now ≡ None
   pub explaining : (p : ℕ) → steps_left (explaining c r p) now ≡ None
   pub confirming : steps_left (confirming c r) now ≡ None
   pub raising : (p : ℕ) → steps_left (raising c r p) now ≡ None

@@ -4,6 +4,7 @@ use Rattle.std.specs.Prelude.{List, ◌∷◌, ℕ}
 use Rattle.mu_model.specs.declared.config.Config.{Config}
 use Rattle.mu_model.specs.declared.event.Event.{Event}
 use Rattle.mu_model.specs.Diligence.{GrantsInTime, IsDiligent, ReadsInTime, TellsHeads}
+use Rattle.mu_pace.specs.Blocking.{AdvancesInTime}
 use Rattle.mu_pace.specs.Collecting.{KeepsRounds, LeaderKeeps, ReplayerKeeps}
 use Rattle.mu_pace.specs.Counters.{AtEachMoment, AtEachStep, IsInTime}
 use Rattle.mu_pace.specs.Watches.{raising_head}
@@ -30,3 +31,9 @@ abbrev pub MachinesAreDiligent : Type 0
 MachinesAreDiligent =
     (c : Config) (r : ℕ) (past : List Event) → AtEachStep (KeepsBeside c r) past
     → AtEachStep (LeaderKeeps c r) past → IsDiligent c r past
+
+-- a journal in which each event keeps what the leader keeps advances in time
+abbrev pub LeadersAdvance : Type 0
+LeadersAdvance =
+    (c : Config) (r : ℕ) (past : List Event) → AtEachStep (LeaderKeeps c r) past
+    → AdvancesInTime c r past

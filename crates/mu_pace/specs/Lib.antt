@@ -1,3 +1,4 @@
+pub mod Blocking
 pub mod Counters
 pub mod Watches
 pub mod Keeping

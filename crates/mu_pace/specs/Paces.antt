@@ -7,9 +7,10 @@ use Rattle.mu_model.specs.declared.event.Event.{Event}
 use Rattle.mu_model.specs.Bounds.{cycle}
 use Rattle.mu_model.specs.Diligence.{AsksAfterOthers, AsksWithCause, BeginsInTime, BringsUpInTime, CommitsInTime, GrantsInTime, IsDiligent, JoinsInTime, LooksIntoMisses, RaisesInTime, Replays, TellsHeads}
 use Rattle.mu_model.specs.Steps.{is_head_of}
+use Rattle.mu_pace.specs.Blocking.{AdvancesInTime}
 use Rattle.mu_pace.specs.Counters.{AtEachMoment, AtEachStep, IsInTime}
 use Rattle.mu_pace.specs.Keeping.{ConfirmsInTime, HasCause, IsDiligentAtEachMoment}
-use Rattle.mu_pace.specs.Watches.{asking_after, bringing_up, explaining, granting, joining, progressing, raising, raising_head, reading_own, replaying}
+use Rattle.mu_pace.specs.Watches.{advancing, asking_after, bringing_up, explaining, granting, joining, progressing, raising, raising_head, reading_own, replaying}
 
 -- grants that are in time at each moment come within a round
 abbrev pub GrantsComeInTime : Type 0
@@ -28,6 +29,12 @@ abbrev pub ProgressComesInTime : Type 0
 ProgressComesInTime =
     (c : Config) (r : ℕ) (past : List Event) → AtEachMoment (IsInTime (progressing c r)) past
     → CommitsInTime c r past
+
+-- and advances, if that is what it is in time for
+abbrev pub AdvancesComeInTime : Type 0
+AdvancesComeInTime =
+    (c : Config) (r : ℕ) (past : List Event) → AtEachMoment (IsInTime (advancing c r)) past
+    → AdvancesInTime c r past
 
 -- the fence is the next replication event after a miss
 abbrev pub MissesAreExplained : Type 0

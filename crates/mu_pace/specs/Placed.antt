@@ -11,7 +11,7 @@ use Rattle.mu_model.specs.Stretches.{is_replication}
 use Rattle.mu_pace.specs.Asking.{AsksCopying, AsksJoining, AsksOn, asking}
 use Rattle.mu_pace.specs.Beside.{is_beside}
 use Rattle.mu_pace.specs.Counters.{HasRoom, IsInTime, Watch, steps_left}
-use Rattle.mu_pace.specs.Watches.{asking_after, bringing_up, falls_behind, is_brought_up, progressing}
+use Rattle.mu_pace.specs.Watches.{advancing, asking_after, bringing_up, falls_behind, is_brought_up, progressing}
 use Rattle.mu_pace.specs.Weights.{Copies, GoesOn, IsPlace, IsSized, Joins, Sizes, Stage, joined, weight}
 
 -- the sizes are those of the configuration, with the members of the moment
@@ -46,6 +46,7 @@ pub record IsPlacedAt (c : Config) (r : ℕ) (s : Sizes) (t : Stage) (now : List
   pub sizes : FitsSizes c r s now
   pub place : IsPlace s t
   pub progressing : HasRoom (progressing c r) (weight s t) now
+  pub advancing : HasRoom (advancing c r) (weight s t) now
   pub asking : (p : ℕ) → p < c.replicas → HasRoom (asking_after c r p) (asking s p t) now
   pub bringing : (p : ℕ) → IsBrought (is_level t) (bringing_up c r p) (weight s t) now
 
@@ -103,13 +104,15 @@ pub record TakesJoin (c : Config) (r : ℕ) (s : Sizes) (t u : Stage) (past : Li
       is_level u ≡ true → (p : ℕ) → is_member r p (e ∷ past) ≡ true
       → is_brought_up c r p (e ∷ past) ≡ true
 
--- a commit, or a lagging head: progress from one level place to another
+-- a commit, or a lagging head: progress from one level place to another, and an advance or a step
+-- to a lighter place
 pub record TakesMilestone (c : Config) (r : ℕ) (s : Sizes) (t u : Stage) (past : List Event)
     (e : Event) : Type 0 where
   pub turn : is_replication past e ≡ true
   pub place : IsPlace s u
   pub milestone : is_milestone c r past e ≡ true
   pub progress : (progressing c r).closes past e ≡ true
+  pub advance : ((advancing c r).closes past e ≡ true) ⊎ GoesOn s t u
   pub none_behind : (p : ℕ) → falls_behind c r p past e ≡ false
   pub same : members c r (e ∷ past) ≡ members c r past
   pub asks : Asks (AsksOn s) c r t u past e
@@ -151,11 +154,13 @@ pub record TakesFirst (c : Config) (r : ℕ) (s : Sizes) (u : Stage) (past : Lis
   pub none_behind : (p : ℕ) → falls_behind c r p past e ≡ false
   pub not_led : leads r past ≡ false
   pub quiet : steps_left (progressing c r) past ≡ None
+  pub quiet_advancing : steps_left (advancing c r) past ≡ None
   pub quiet_bringing : (p : ℕ) → steps_left (bringing_up c r p) past ≡ None
 
 -- each count is in time
 pub record AreInTime (c : Config) (r : ℕ) (now : List Event) : Type 0 where
   pub progressing : IsInTime (progressing c r) now
+  pub advancing : IsInTime (advancing c r) now
   pub asking : (p : ℕ) → p < c.replicas → IsInTime (asking_after c r p) now
   pub bringing : (p : ℕ) → IsInTime (bringing_up c r p) now
 

@@ -1,13 +1,14 @@
 -- kinds of step: how the room of a count changes by one step of a journal that keeps its pace.
-use Rattle.std.specs.Prelude.{List, None, Some, false, true, ℕ, ◌+◌, ◌||◌, ◌∷◌, ◌≡◌, ◌≤◌}
+use Rattle.std.specs.Prelude.{Bool, List, None, Some, false, true, ℕ, ◌+◌, ◌||◌, ◌∷◌, ◌≡◌, ◌≤◌}
 use Rattle.mu_model.specs.declared.config.Config.{Config}
 use Rattle.mu_model.specs.declared.event.Event.{Event}
 use Rattle.mu_model.specs.Bounds.{is_copying, is_learning, members}
 use Rattle.mu_model.specs.Diligence.{is_milestone}
 use Rattle.mu_model.specs.Steps.{commits_more, is_lagging}
 use Rattle.mu_model.specs.Stretches.{is_replication}
+use Rattle.mu_pace.specs.Blocking.{is_blocking}
 use Rattle.mu_pace.specs.Counters.{HasRoom, Watch, steps_left}
-use Rattle.mu_pace.specs.Watches.{earns, limit_now, progressing}
+use Rattle.mu_pace.specs.Watches.{advancing, earns, progressing_by, limit_now, progressing}
 
 -- a step that opens no count and closes none takes one of the steps left, and gives what it pays
 abbrev pub RoomGoesOn : Type 0
@@ -95,59 +96,72 @@ CopyingEarnsEight =
 -- a step between milestones takes one of the steps left
 abbrev pub ProgressGoesOn : Type 0
 ProgressGoesOn =
-    (c : Config) (r weight next : ℕ) (past : List Event) (e : Event)
-    → is_milestone c r past e ≡ false → next + 1 ≤ weight → HasRoom (progressing c r) weight past
-    → HasRoom (progressing c r) next (e ∷ past)
+    (stops : List Event → Event → Bool) (c : Config) (r weight next : ℕ) (past : List Event)
+    (e : Event)
+    → is_milestone c r past e ≡ false → next + 1 ≤ weight → HasRoom (progressing_by stops c r) weight past
+    → HasRoom (progressing_by stops c r) next (e ∷ past)
 
 -- one by which a region becomes a member leaves five more
 abbrev pub ProgressWithJoining : Type 0
 ProgressWithJoining =
-    (c : Config) (r weight next : ℕ) (past : List Event) (e : Event)
+    (stops : List Event → Event → Bool) (c : Config) (r weight next : ℕ) (past : List Event)
+    (e : Event)
     → is_milestone c r past e ≡ false → members c r (e ∷ past) ≡ members c r past + 1
     → next ≤ weight + 5
-    → HasRoom (progressing c r) weight past → HasRoom (progressing c r) next (e ∷ past)
+    → HasRoom (progressing_by stops c r) weight past → HasRoom (progressing_by stops c r) next (e ∷ past)
 
 -- one that learns or copies an entry leaves seven more
 abbrev pub ProgressWithCopying : Type 0
 ProgressWithCopying =
-    (c : Config) (r weight next : ℕ) (past : List Event) (e : Event)
+    (stops : List Event → Event → Bool) (c : Config) (r weight next : ℕ) (past : List Event)
+    (e : Event)
     → is_milestone c r past e ≡ false → (is_learning c r past e || is_copying c r past e) ≡ true
     → next ≤ weight + 7
-    → HasRoom (progressing c r) weight past → HasRoom (progressing c r) next (e ∷ past)
+    → HasRoom (progressing_by stops c r) weight past → HasRoom (progressing_by stops c r) next (e ∷ past)
 
 -- a milestone that is progress itself leaves what the bound allows
 abbrev pub ProgressAnew : Type 0
 ProgressAnew =
-    (c : Config) (r next : ℕ) (past : List Event) (e : Event) → is_milestone c r past e ≡ true
-    → (progressing c r).closes past e ≡ true → next ≤ limit_now c r (e ∷ past)
-    → HasRoom (progressing c r) next (e ∷ past)
+    (stops : List Event → Event → Bool) (c : Config) (r next : ℕ) (past : List Event) (e : Event)
+    → is_milestone c r past e ≡ true
+    → (progressing_by stops c r).closes past e ≡ true → next ≤ limit_now c r (e ∷ past)
+    → HasRoom (progressing_by stops c r) next (e ∷ past)
 
 -- and so does the first one of a leadership
 abbrev pub ProgressBegins : Type 0
 ProgressBegins =
-    (c : Config) (r next : ℕ) (past : List Event) (e : Event) → is_milestone c r past e ≡ true
-    → steps_left (progressing c r) past ≡ None → next ≤ limit_now c r (e ∷ past)
-    → HasRoom (progressing c r) next (e ∷ past)
+    (stops : List Event → Event → Bool) (c : Config) (r next : ℕ) (past : List Event) (e : Event)
+    → is_milestone c r past e ≡ true
+    → steps_left (progressing_by stops c r) past ≡ None → next ≤ limit_now c r (e ∷ past)
+    → HasRoom (progressing_by stops c r) next (e ∷ past)
 
 -- a background event that is no milestone takes none of the steps
 abbrev pub ProgressBeside : Type 0
 ProgressBeside =
-    (c : Config) (r weight : ℕ) (past : List Event) (e : Event) → is_replication past e ≡ false
-    → is_milestone c r past e ≡ false → HasRoom (progressing c r) weight past
-    → HasRoom (progressing c r) weight (e ∷ past)
+    (stops : List Event → Event → Bool) (c : Config) (r weight : ℕ) (past : List Event)
+    (e : Event) → is_replication past e ≡ false
+    → is_milestone c r past e ≡ false → HasRoom (progressing_by stops c r) weight past
+    → HasRoom (progressing_by stops c r) weight (e ∷ past)
 
 -- a commit and a lagging head are milestones and progress, if they are replication events
 abbrev pub CommitIsProgress : Type 0
 CommitIsProgress =
-    (c : Config) (r : ℕ) (past : List Event) (e : Event) → is_replication past e ≡ true
+    (stops : List Event → Event → Bool) (c : Config) (r : ℕ) (past : List Event) (e : Event)
+    → is_replication past e ≡ true
     → commits_more c r past e ≡ true
-    → (is_milestone c r past e ≡ true) × ((progressing c r).closes past e ≡ true)
+    → (is_milestone c r past e ≡ true) × ((progressing_by stops c r).closes past e ≡ true)
 
 abbrev pub LagIsProgress : Type 0
 LagIsProgress =
     (c : Config) (r : ℕ) (past : List Event) (e : Event) → is_replication past e ≡ true
     → is_lagging c r past e ≡ true
     → (is_milestone c r past e ≡ true) × ((progressing c r).closes past e ≡ true)
+
+-- a head that blocks is an advance
+abbrev pub BlockIsAdvance : Type 0
+BlockIsAdvance =
+    (c : Config) (r : ℕ) (past : List Event) (e : Event) → is_replication past e ≡ true
+    → is_blocking c r past e ≡ true → (advancing c r).closes past e ≡ true
 
 -- the kinds of step of any count
 pub record KindsOfStep : Type 0 where
@@ -175,3 +189,4 @@ pub record StepsOfProgress : Type 0 where
   pub beside : ProgressBeside
   pub commit : CommitIsProgress
   pub lag : LagIsProgress
+  pub block : BlockIsAdvance

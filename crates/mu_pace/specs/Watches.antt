@@ -5,15 +5,16 @@ use Rattle.mu_model.specs.declared.config.Config.{Config}
 use Rattle.mu_model.specs.declared.event.Event.{Event}
 use Rattle.mu_model.specs.declared.event.Verb.{Verb}
 use Rattle.mu_model.specs.Bounds.{cycle, is_copying, is_learning, members}
-use Rattle.mu_model.specs.Diligence.{completes_row, is_confirmed, is_fuo_above, is_joining_step, is_milestone, is_progress}
+use Rattle.mu_model.specs.Diligence.{completes_row, is_confirmed, is_fuo_above, is_joining_step, is_milestone}
 use Rattle.mu_model.specs.Histories.{greatest}
 use Rattle.mu_model.specs.Knowledge.{applied, greatest_fuo_read, known}
 use Rattle.mu_model.specs.Leaderships.{begins_leadership, has_begun, is_member, is_over, leadership, noted_grant, proposal_number}
 use Rattle.mu_model.specs.Placing.{fuo_read_or_raised}
 use Rattle.mu_model.specs.Regions.{region_head}
 use Rattle.mu_model.specs.Serving.{has_unserved_ask}
-use Rattle.mu_model.specs.Steps.{commits_more, has_min, is_any_fencing, is_ask_read, is_fencing, is_fuo_of, is_granting, is_head_raise, is_min, is_min_put, is_missed_at, is_named, is_over_after, knows_more, leads}
+use Rattle.mu_model.specs.Steps.{commits_more, has_min, is_any_fencing, is_ask_read, is_fencing, is_fuo_of, is_granting, is_head_raise, is_lagging, is_min, is_min_put, is_missed_at, is_named, is_over_after, knows_more, leads}
 use Rattle.mu_model.specs.Stretches.{is_replication}
+use Rattle.mu_pace.specs.Blocking.{is_blocking, is_progress_by}
 use Rattle.mu_pace.specs.Counters.{Watch, allowed_after, allowed_while}
 
 -- each event counts
@@ -58,14 +59,22 @@ granting c r w = record {
   pays = nothing;
 }
 
--- progress bound: a milestone waits for progress
-abbrev pub progressing : Config → ℕ → Watch
-progressing c r = record {
+-- a milestone waits for progress, in which a head that passes the test is some
+abbrev pub progressing_by : (List Event → Event → Bool) → Config → ℕ → Watch
+progressing_by stops c r = record {
   allows = allowed_after (is_milestone c r) (limit_now c r);
-  closes = leaves c r (is_progress c r);
+  closes = leaves c r (is_progress_by stops c r);
   counts = is_replication;
   pays = earns c r;
 }
+
+-- progress bound: a milestone waits for progress
+abbrev pub progressing : Config → ℕ → Watch
+progressing c r = progressing_by (is_lagging c r) c r
+
+-- a milestone waits for an advance, also beyond the head of a replica that can be marked
+abbrev pub advancing : Config → ℕ → Watch
+advancing c r = progressing_by (is_blocking c r) c r
 
 -- evidence after a miss: a put at p that missed waits for the fence of p, and the next replication
 -- event has to read it

@@ -9,9 +9,9 @@ ghost use Rattle.mu_pace.specs.Beside.{BesideKeepsRooms};
 ghost use Rattle.mu_pace.specs.Closing.{CountsClose};
 ghost use Rattle.mu_pace.specs.Collecting.{PartsKeepPace};
 ghost use Rattle.mu_pace.specs.Countdowns.{CountdownsRun};
-ghost use Rattle.mu_pace.specs.Cycles.{MachinesAreDiligent, RoundsReadInTime, RoundsTellHeads};
+ghost use Rattle.mu_pace.specs.Cycles.{LeadersAdvance, MachinesAreDiligent, RoundsReadInTime, RoundsTellHeads};
 ghost use Rattle.mu_pace.specs.Members.{CountsOfMembers};
-ghost use Rattle.mu_pace.specs.Paces.{AsksHaveCause, ConfirmedBeginInTime, FuosAreRaisedInTime, GrantsAreCounted, GrantsComeInTime, HeadsAreTold, KeptPaceIsDiligent, MembersAreBroughtUp, MissesAreExplained, OthersAreAskedAfter, ProgressComesInTime, ReplayGoesOn, WelcomedJoinInTime};
+ghost use Rattle.mu_pace.specs.Paces.{AdvancesComeInTime, AsksHaveCause, ConfirmedBeginInTime, FuosAreRaisedInTime, GrantsAreCounted, GrantsComeInTime, HeadsAreTold, KeptPaceIsDiligent, MembersAreBroughtUp, MissesAreExplained, OthersAreAskedAfter, ProgressComesInTime, ReplayGoesOn, WelcomedJoinInTime};
 ghost use Rattle.mu_pace.specs.Placed.{PlacesLead};
 ghost use Rattle.mu_pace.specs.Possible.{CountsFit, FuosFit, FuosRise, GrantsRise, HeadsFit, KnownFits, MinimaRise};
 ghost use Rattle.mu_pace.specs.Rooms.{KindsOfStep, StepsOfProgress};
@@ -36,6 +36,11 @@ pub fn misses_are_explained()
 /// A leader that is in time at each moment makes progress within the bound.
 pub fn progress_comes_in_time()
     ensures { ProgressComesInTime }
+{}
+
+/// So it goes on beyond the head of a replica that can be marked.
+pub fn advances_come_in_time()
+    ensures { AdvancesComeInTime }
 {}
 
 /// After a commit the FUO of each member is raised.
@@ -192,6 +197,11 @@ pub fn rounds_read_in_time()
 /// With a head that is raised in time they keep the head pace.
 pub fn rounds_tell_heads()
     ensures { RoundsTellHeads }
+{}
+
+/// A journal in which each event keeps what the leader keeps advances in time.
+pub fn leaders_advance()
+    ensures { LeadersAdvance }
 {}
 
 /// A journal in which each event keeps what the machines keep is diligent.

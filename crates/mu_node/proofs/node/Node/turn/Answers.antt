@@ -7,7 +7,7 @@ use Rattle.mu_node.proofs.Leading.{is_going}
 use Rattle.mu_node.proofs.Left.{is_left, steps_within}
 use Rattle.mu_node.proofs.Paces.{good_of, keeps_beside, replays_in_time}
 use Rattle.mu_node.proofs.Rounding.{keeps_rounds, raised_in_time}
-use Rattle.mu_pace.proofs.Cycles.{rounds_read_in_time, rounds_tell_heads}
+use Rattle.mu_pace.proofs.Cycles.{leaders_advance, rounds_read_in_time, rounds_tell_heads}
 use Rattle.mu_node.proofs.node.Node.turn.Goals as goal
 
 pub step-requires : goal.step-requires
@@ -125,6 +125,21 @@ returns-in-None-clause-diligent g c =
     let mine = g.P.Port.part now in
     let stands = c.step.ensures.stands in
     journal_is_diligent k r mine c.step.new.self c.step.ensures.possible stands
+
+pub returns-in-Some-clause-advances : goal.returns-in-Some-clause-advances
+returns-in-Some-clause-advances g c =
+    let k = g.P.Port.config c.args.port.now in
+    let r = g.P.Port.number c.args.port.now in
+    let mine = g.P.Port.part c.args.port.now in
+    leaders_advance k r mine c.requires.stands.led
+
+pub returns-in-None-clause-advances : goal.returns-in-None-clause-advances
+returns-in-None-clause-advances g c =
+    let now = c.step.new.port in
+    let k = g.P.Port.config now in
+    let r = g.P.Port.number now in
+    let mine = g.P.Port.part now in
+    leaders_advance k r mine c.step.ensures.stands.led
 
 pub returns-in-Some-clause-listed : goal.returns-in-Some-clause-listed
 returns-in-Some-clause-listed g c = c.requires.stands.listed
