@@ -1,5 +1,5 @@
--- asked at, asked after, answers, draws, opens judge, takes line: what the number of a task asks for; what each call
--- of the library for C puts into the room, and with which status.
+-- asked at, asked after, answers, draws, opens judge, takes line: what the number of a task asks
+-- for; what each call of the library for C puts into the room, and with which status.
 use Rattle.std.specs.Prelude.{ℕ, ◌≡◌, ◌<◌, ◌≤◌, ◌==◌, ◌⊎◌, List, ◌++◌, length, None, Some, if◌then◌else◌, nat_le, ⊤}
 use Rattle.std.specs.declared.option.Option.{Option}
 use Rattle.mu_drawing.specs.Answers.{text_of}
