@@ -6,7 +6,7 @@ use Rattle.mu_model.specs.declared.event.Event.{Event}
 use Rattle.mu_model.specs.declared.script.End.{End}
 use Rattle.mu_model.specs.declared.script.Script.{Script}
 use Rattle.mu_model.specs.Ends.{EndsBy}
-use Rattle.mu_course.specs.declared.so_far.EndSoFar.{EndSoFar}
+use Rattle.mu_outcome.specs.declared.account.EndSoFar.{EndSoFar}
 
 -- the journal ends in this way, or it has no end yet
 abbrev pub IsSoFar : Config → Script → ℕ → List Event → EndSoFar → Type 0

@@ -19,12 +19,13 @@ ghost use Rattle.mu_known.specs.Commits.{pair_of};
 use crate::finishing::is_finished;
 use crate::halts::stops_at;
 use crate::noting::{commit_in, push_commit};
-use crate::so_far::{EndSoFar, first_end};
+use crate::so_far::first_end;
 use crate::told::{Told, is_end, told_by};
 use mu_detect::Scores;
 use mu_follow::{Completion, Published, count_applied, outrun_after};
 use mu_known::Commit;
 use mu_model::{Config, Event, NoMemory, Script, Verb, positions_in};
+use mu_outcome::EndSoFar;
 use mu_parts::Replica;
 use std::alloc::Global;
 

@@ -12,6 +12,5 @@ mod walk;
 
 pub use course::{Course, Turn};
 pub use halts::{Halt, halt_after};
-pub use so_far::EndSoFar;
 pub use told::Told;
 pub use walk::{Walk, walked};

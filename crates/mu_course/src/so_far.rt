@@ -2,21 +2,7 @@
 ghost use Rattle.std.specs.Prelude.{◌≡◌};
 ghost use Rattle.mu_course.specs.SoFar.{first_end as first_end_of};
 
-/// How a replica has ended so far.
-#[derive(Clone, Copy, Debug, PartialEq, Eq)]
-pub enum EndSoFar {
-    /// It hasn't.
-    Running,
-    /// The script stopped it.
-    Stopped,
-    /// Its budget of steps was spent.
-    Budget,
-    /// It looked at a position of a region that it still had to read, and the place holds a later
-    /// one already.
-    Outrun(u8, u16),
-    /// It applied all commands, and so did the others, but for those that it holds failed.
-    Finished,
-}
+use mu_outcome::EndSoFar;
 
 /// The first that holds of stopped, budget, outrun and finished, if one does.
 pub(crate) fn first_end(

@@ -17,9 +17,9 @@ ghost use Rattle.mu_known.specs.Commits.{pair_of};
 ghost use Rattle.mu_regions.specs.Range.{InRange};
 
 use crate::course::{Course, Turn};
-use crate::so_far::EndSoFar;
 use mu_known::Commit;
 use mu_model::{Answer, Config, Event, Fence, NoMemory, Script, Verb};
+use mu_outcome::EndSoFar;
 use mu_regions::Regions;
 use std::alloc::Global;
 

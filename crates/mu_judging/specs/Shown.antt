@@ -9,7 +9,7 @@ use Rattle.mu_model.specs.Legal.{IsLegal}
 use Rattle.mu_reasons.specs.declared.fault.Broken.{Broken}
 use Rattle.mu_report.specs.declared.said.Said.{Said}
 use Rattle.mu_telling.specs.Shown.{IsMoment}
-use Rattle.mu_telling.specs.declared.showing.Moment.{Moment}
+use Rattle.mu_outcome.specs.declared.moment.Moment.{Moment}
 
 -- the bytes spell a trace, its first n events are legal (all, if there are fewer), and this is what
 -- holds after them

@@ -8,7 +8,7 @@ use Rattle.mu_model.specs.Legal.{IsLegal}
 use Rattle.mu_outcome.specs.Outcomes.{Agrees}
 use Rattle.mu_report.specs.declared.said.Said.{Said}
 use Rattle.mu_telling.specs.Accounts.{IsAccount}
-use Rattle.mu_telling.specs.declared.account.Account.{Account}
+use Rattle.mu_outcome.specs.declared.account.Account.{Account}
 
 -- the bytes spell a trace, its events are legal, and this is what they come to for its job; its
 -- replicas agree

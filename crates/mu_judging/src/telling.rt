@@ -1,10 +1,7 @@
 //! From the bytes of a trace to the report of what its events come to.
-ghost use Rattle.std.specs.Prelude.{◌≡◌, ◌≤◌, IfOk, length};
-ghost use Rattle.mu_input.specs.Heads.{HaveHeads};
+ghost use Rattle.std.specs.Prelude.{◌≤◌, length};
 ghost use Rattle.mu_input.specs.declared.TheConstants.{TRACE_LIMIT};
 ghost use Rattle.mu_judging.specs.Told.{TellsOf};
-ghost use Rattle.mu_model.specs.Contents.{IsConfig};
-ghost use Rattle.mu_model.specs.Legal.{IsLegal};
 ghost use Rattle.mu_report.specs.Said.{IsShort};
 
 use crate::explaining::located;

@@ -1,3 +1,4 @@
+pub mod AllEvents
 pub mod Completion
 pub mod Entries
 pub mod Outcomes

@@ -1,16 +1,20 @@
-//! What a run leaves and what the judge says, as types and sentences: no machine and no judge is
-//! needed to print them.
+//! What runs leave and what is told of lists of events, as types and sentences: no machine and no
+//! judge is needed to print them.
 #![tactic(auto)]
 
+mod account;
 mod entries;
 mod logs;
+mod moment;
 mod outcome;
 mod status;
 mod verdict;
 
+pub use account::{Account, EndSoFar};
 pub use entries::commands_of;
 pub use logs::longest;
+pub use moment::{Fact, Leads, Moment};
 pub use mu_known::{Commit, Commits, Log};
-pub use outcome::{AllCommits, AllReplies, Ends, Journals, Logs, Outcome, Replies};
+pub use outcome::{AllCommits, AllEvents, AllReplies, Ends, Journals, Logs, Outcome, Replies};
 pub use status::Status;
 pub use verdict::{Verdict, Wrong, at_most_one_verdict};

@@ -1,4 +1,6 @@
 //! What a run leaves.
+ghost use Rattle.mu_outcome.specs.AllEvents.{AreEventsOf, HasEvents};
+
 use kv_store::Reply;
 use mu_input::Job;
 use mu_known::{Commits, Log};
@@ -44,4 +46,29 @@ pub struct Outcome {
     pub order: Option<Journal>,
     /// The parts that the threads' ports had at the end, if the run was one of threads.
     pub gathered: Option<Gathered>,
+}
+
+/// All events of a run, as it leaves them.
+#[derive(Clone, Copy)]
+pub enum AllEvents<'a> {
+    /// In their order: the run took turns on one thread.
+    InOrder(&'a Journal),
+    /// As the parts that the threads' ports had at the end.
+    InParts(&'a Gathered),
+}
+
+impl Outcome {
+    /// All events of the run, of which the order or the parts are given. Takes no memory.
+    pub fn events(&self) -> AllEvents<'_>
+        requires { HasEvents self.now }
+        ensures { AreEventsOf self.now result }
+    {
+        match &self.order {
+            Some(order) => AllEvents::InOrder(order),
+            None => match &self.gathered {
+                Some(parts) => AllEvents::InParts(parts),
+                None => unreachable!(),
+            },
+        }
+    }
 }

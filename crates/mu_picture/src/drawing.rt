@@ -1,10 +1,8 @@
 //! A picture as a document of SVG.
-ghost use Rattle.std.specs.Prelude.{◌≡◌, ◌++◌, ◌+◌, ◌*◌, ◌-◌, ◌<◌, ◌≤◌, ◌^◌, [], codes, length, max, min, Some, IfOk, OnOk};
-ghost use Rattle.std.specs.Fmt.{decimal};
+ghost use Rattle.std.specs.Prelude.{◌≡◌, ◌++◌, ◌+◌, ◌*◌, ◌-◌, ◌<◌, ◌≤◌, ◌^◌, length, max, min, Some, IfOk, OnOk};
 ghost use Rattle.mu_picture.specs.Drawing.{breach_figure, breach_inside, breach_pieces, breach_shape, content_of, document_of, event_length, fault_length, fault_piece, foot_pieces, front_of, goes_on_pieces, height_of, lane_pieces, lanes_from, last_cursor, longest_of, more_pieces, rows_from, standing_pieces, svg_of, width_for, width_of};
-ghost use Rattle.mu_picture.specs.Layout.{lane_of, top};
+ghost use Rattle.mu_picture.specs.Layout.{top};
 ghost use Rattle.mu_picture.specs.Marks.{lowest};
-ghost use Rattle.mu_picture.specs.Words.{note_words};
 ghost use Rattle.mu_picture.specs.Xml.{IsDocument};
 
 use crate::heading::push_head;

@@ -1,5 +1,5 @@
 //! The picture of some steps of a run.
-ghost use Rattle.std.specs.Prelude.{◌≡◌, ◌+◌, ◌-◌, ◌*◌, ◌<◌, ◌≤◌, ◌^◌, [], ℕ, true, false, if◌then◌else◌, nat_le, IfOk, length, take};
+ghost use Rattle.std.specs.Prelude.{◌≡◌, ◌+◌, ◌-◌, ◌<◌, ◌≤◌, ◌^◌, [], ℕ, true, false, if◌then◌else◌, nat_le, IfOk, length, take};
 ghost use Rattle.mu_model.specs.Contents.{IsConfig};
 ghost use Rattle.mu_model.specs.Histories.{history};
 ghost use Rattle.mu_model.specs.Legal.{IsLegal};

@@ -1,5 +1,5 @@
 //! The rows of a picture.
-ghost use Rattle.std.specs.Prelude.{◌≡◌, ◌++◌, ◌+◌, ◌-◌, ◌<◌, ◌≤◌, ◌^◌, [], codes, length, IfOk, OnOk};
+ghost use Rattle.std.specs.Prelude.{◌≡◌, ◌++◌, ◌+◌, ◌-◌, ◌<◌, ◌≤◌, ◌^◌, [], length, IfOk, OnOk};
 ghost use Rattle.std.specs.Fmt.{decimal};
 ghost use Rattle.mu_picture.specs.Drawing.{axis_piece, figure_pieces, fold_pieces, mark_pieces, note_piece, row_pieces, rows_from, strip_shape, title_pieces, titles_again, titles_pieces};
 ghost use Rattle.mu_picture.specs.Layout.{after_marks, lane_of, top};

@@ -1,9 +1,8 @@
 //! What is said in a lane and to the right of the lanes.
-ghost use Rattle.std.specs.Prelude.{◌≡◌, ◌+◌, ◌<◌, ◌≤◌, ◌^◌, ◌++◌, codes, length, IfOk, OnOk};
+ghost use Rattle.std.specs.Prelude.{◌≡◌, ◌+◌, ◌<◌, ◌++◌, length, IfOk, OnOk};
 ghost use Rattle.std.specs.Fmt.{decimal};
 ghost use Rattle.std.specs.Prelude.{Some};
 ghost use Rattle.mu_picture.specs.declared.deeds.Deed.TheVariants.{Grant};
-ghost use Rattle.mu_input.specs.JobLines.{op_words};
 ghost use Rattle.mu_picture.specs.Words.{commands_words, committed_words, deed_words, done_words, entry_words, halt_words, held_words, label_words, lost_words, missed_words, note_with, note_words, outrun_words, pause_words, resumed_words, step_words};
 
 use crate::deeds::Deed;
@@ -11,50 +10,14 @@ use crate::marks::Mark;
 use crate::shapes::{Part, push_parts};
 use crate::sheet::Sheet;
 use crate::standings::Resumed;
-use kv_store::{Command, Op};
+use kv_store::Command;
 use mu_course::Halt;
 use mu_events::event_line;
-use mu_input::Job;
+use mu_input::{Job, op_line};
 use mu_model::{Event, FIRST_MARK, NoMemory, PAYLOADS, stands_for_mark};
 use mu_outcome::commands_of;
 use mu_text::Line;
 use std::alloc::Global;
-
-/// Adds an operation, as in a job.
-fn push_op(sheet: &mut Sheet, op: &Op) -> Result<(), NoMemory>
-    ensures { OnOk result (sheet.new ≡ sheet.old ++ op_words op.now) }
-{
-    match op {
-        Op::Put(key, text) => {
-            sheet.push(b"put ")?;
-            sheet.push(key.as_bytes())?;
-            sheet.push(b" ")?;
-            sheet.push(text.as_bytes())
-        }
-        Op::Get(key) => {
-            sheet.push(b"get ")?;
-            sheet.push(key.as_bytes())
-        }
-        Op::Del(key) => {
-            sheet.push(b"del ")?;
-            sheet.push(key.as_bytes())
-        }
-        Op::Swap(key, text) => {
-            sheet.push(b"swap ")?;
-            sheet.push(key.as_bytes())?;
-            sheet.push(b" ")?;
-            sheet.push(text.as_bytes())
-        }
-        Op::Cas(key, old, new) => {
-            sheet.push(b"cas ")?;
-            sheet.push(key.as_bytes())?;
-            sheet.push(b" ")?;
-            sheet.push(old.as_bytes())?;
-            sheet.push(b" ")?;
-            sheet.push(new.as_bytes())
-        }
-    }
-}
 
 /// Adds commands, each with its client and number.
 fn push_commands(sheet: &mut Sheet, commands: &[Command]) -> Result<(), NoMemory>
@@ -66,7 +29,7 @@ fn push_commands(sheet: &mut Sheet, commands: &[Command]) -> Result<(), NoMemory
         sheet.push(b".")?;
         sheet.push_number(u64::from(command.number))?;
         sheet.push(b" ")?;
-        push_op(sheet, &command.op)?;
+        sheet.push(op_line(&command.op).as_slice())?;
     }
     Ok(())
 }

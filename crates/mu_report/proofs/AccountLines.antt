@@ -7,7 +7,7 @@ use Rattle.mu_report.specs.declared.line.TheConstants.{LINE_BYTES}
 use Rattle.mu_report.specs.Accounts.{account_body_lines, account_lines, account_log_lines, account_logs_lines}
 use Rattle.mu_report.specs.Report.{body_lines, log_lines, logs_lines, replies_lines, HasShortLists}
 use Rattle.mu_report.proofs.Sizes.{few_lines}
-use Rattle.mu_telling.specs.declared.account.Account.{Account}
+use Rattle.mu_outcome.specs.declared.account.Account.{Account}
 
 -- the lines of the next log, and those of the others
 pub account_logs-next : (a : Account) (r replicas : ℕ) → r < replicas → account_logs_lines a r (replicas - r) ≡ account_log_lines a r ++ account_logs_lines a (r + 1) (replicas - (r + 1))

@@ -1,11 +1,11 @@
 -- The lines of a trace, taken from the front.
 use Rattle.std.proofs.Common.{◌≡◌, ℕ, zero, suc, ◌+◌, ◌*◌, ◌-◌, ◌<◌, ◌≤◌, ◌^◌, ◌==◌, Bool, true, false, cond, List, [], ◌∷◌, ◌++◌, refl, sym, ap, ◌∙◌, length, drop, map, get_or, arith, length-append}
 use Rattle.std.specs.Fmt.{decimal}
-use Rattle.std.specs.Prelude.{codes, nat_le}
+use Rattle.std.specs.Prelude.{codes, is_some, nat_le, ◌||◌}
 use Rattle.std.proofs.lemmas.List.{drop_more, length-map, length-reverse}
 use Rattle.std.proofs.Math.Nat.{mul-le-mul_left}
 use Rattle.kv_store.specs.Commands.{Request}
-use Rattle.mu_input.specs.Heads.{HasHead, HaveHeads}
+use Rattle.mu_input.specs.Heads.{HaveHeads}
 use Rattle.mu_model.specs.Contents.{IsConfig}
 use Rattle.mu_model.specs.Histories.{history}
 use Rattle.mu_model.specs.declared.config.Row.{Row}
@@ -17,6 +17,7 @@ use Rattle.mu_model.proofs.Budgets.{short_history}
 use Rattle.mu_outcome.specs.declared.outcome.Outcome.{Outcome}
 use Rattle.mu_outcome.specs.Outcomes.{IsRun}
 use Rattle.mu_report.specs.Words.{op_words}
+use Rattle.mu_report.specs.declared.line.TheConstants.{LINE_BYTES}
 use Rattle.mu_report.specs.Trace.{has_lines, event_line, setting_lines, client_count, client_lines, command_lines, commands_lines, stop_line, pause_line, script_lines, events_of, trace_lines, IsCountable}
 
 -- the lines of the next client, and those of the others
@@ -68,7 +69,7 @@ clients_few clients commands few short =
 
 -- if the lists are short, the bytes of the trace can be counted
 trace_fits : (o : Outcome) → length o.job.commands < 2 ^ 15 → client_count 0 o.job.commands < 2 ^ 16
-    → length o.job.script.stops < 2 ^ 16 → length o.job.script.pauses < 2 ^ 16 → length (events_of o.order) < 2 ^ 32 → IsCountable o
+    → length o.job.script.stops < 2 ^ 16 → length o.job.script.pauses < 2 ^ 16 → length (events_of o.order) < 2 ^ 32 → LINE_BYTES * length (trace_lines o) < 2 ^ 64
 trace_fits o commands clients stops pauses events =
     let head : List (List ℕ) = setting_lines o.job.config in
     let asked : List (List ℕ) = client_lines o.job.commands 0 (client_count 0 o.job.commands) in
@@ -94,7 +95,7 @@ few_clients width count (command ∷ commands) (row ∷ rows) have few =
     next true = let client = have.0.client in omega (arith, client)
     next false = few
 
--- the bytes of the trace of a run can be counted
+-- the events of a run are given, and the bytes of its trace can be counted
 pub run_fits : (o : Outcome) → IsConfig o.job.config → HaveHeads o.job.config.width o.job.commands o.job.config.rows → length o.job.commands < 2 ^ 15
     → length o.job.script.stops + length o.job.script.pauses < 2 ^ 16 → IsRun o → IsCountable o
 run_fits o good have few short run =
@@ -103,7 +104,7 @@ run_fits o good have few short run =
     let given : length (events_of o.order) ≡ length events = ap (λ order. length (events_of order)) run.given in
     let turned : length (history events) ≡ length events = length-reverse events in
     let least : length (history events) ≤ 917497 = short_history o.job.config (history events) run.legal good.replicas.1 good.budget.1 in
-    trace_fits o few (omega (arith, clients)) (omega (arith, short)) (omega (arith, short)) (omega (arith, given, turned, least))
+    (ap (λ order. is_some order || is_some o.gathered) run.given, trace_fits o few (omega (arith, clients)) (omega (arith, short)) (omega (arith, short)) (omega (arith, given, turned, least)))
 
 -- the clients of these commands, by their count
 pub asked_clients : (commands others : List Request) (count : ℕ) → commands ≡ others → count ≡ client_count 0 commands → client_lines commands 0 count ≡ client_lines others 0 (client_count 0 others)

@@ -3,10 +3,10 @@
 use Rattle.std.specs.Prelude.{ℕ, zero, suc, ◌+◌, List, [], ◌∷◌, ◌++◌, length, slice_get, None, Some, codes}
 use Rattle.std.specs.declared.option.Option.{Option}
 use Rattle.std.specs.Fmt.{decimal}
-use Rattle.mu_course.specs.declared.so_far.EndSoFar.{EndSoFar}
+use Rattle.mu_outcome.specs.declared.account.EndSoFar.{EndSoFar}
 use Rattle.mu_outcome.specs.Outcomes.{log_of, commits_of, status_of}
 use Rattle.mu_report.specs.Report.{entry_lines, replies_lines}
-use Rattle.mu_telling.specs.declared.account.Account.{Account}
+use Rattle.mu_outcome.specs.declared.account.Account.{Account}
 
 -- how a replica has ended so far, and nothing if that is not told
 abbrev pub so_far_words : Option EndSoFar → List ℕ

@@ -6,8 +6,8 @@ use Rattle.mu_events.specs.Lines.{answer_words}
 use Rattle.mu_model.specs.declared.event.Answer.{Answer}
 use Rattle.mu_model.specs.declared.script.Stop.{Stop}
 use Rattle.mu_report.specs.Sentences.{leads_words}
-use Rattle.mu_telling.specs.declared.facts.Fact.{Fact}
-use Rattle.mu_telling.specs.declared.showing.Moment.{Moment}
+use Rattle.mu_outcome.specs.declared.moment.Fact.{Fact}
+use Rattle.mu_outcome.specs.declared.moment.Moment.{Moment}
 
 -- a region, and a replica
 abbrev pub region_words : ℕ → List ℕ

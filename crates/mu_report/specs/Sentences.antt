@@ -6,7 +6,7 @@ use Rattle.mu_model.specs.declared.event.Answer.{Answer}
 use Rattle.mu_report.specs.Reasons.{entered_words, number_or_none, number_words}
 use Rattle.mu_report.specs.declared.sentence.Sentence.{Sentence}
 use Rattle.mu_report.specs.declared.sentence.Value.{Value}
-use Rattle.mu_telling.specs.declared.facts.Leads.{Leads}
+use Rattle.mu_outcome.specs.declared.moment.Leads.{Leads}
 
 -- what a leadership has come to
 abbrev pub leads_words : Leads → List ℕ

@@ -7,6 +7,7 @@ use Rattle.mu_model.specs.Journals.{Record}
 pub use Rattle.mu_events.specs.Lines.{event_line, verb_words}
 pub use Rattle.mu_input.specs.JobLines.{batch_lines, client_count, client_lines, command_lines, commands_lines, has_lines, pause_line, script_lines, setting_lines, stop_line}
 use Rattle.mu_input.specs.JobLines.{lines_of_trace}
+use Rattle.mu_outcome.specs.AllEvents.{HasEvents}
 use Rattle.mu_outcome.specs.declared.outcome.Outcome.{Outcome}
 use Rattle.mu_report.specs.declared.line.TheConstants.{LINE_BYTES}
 
@@ -19,6 +20,6 @@ events_of (Some journal) = journal.events
 abbrev pub trace_lines : Outcome → List (List ℕ)
 trace_lines o = lines_of_trace o.job (events_of o.order)
 
--- the bytes of the trace can be counted in 64 bits
+-- the events are given, and the bytes of the trace can be counted in 64 bits
 abbrev pub IsCountable : Outcome → Type 0
-IsCountable o = LINE_BYTES * length (trace_lines o) < 2 ^ 64
+IsCountable o = HasEvents o × (LINE_BYTES * length (trace_lines o) < 2 ^ 64)

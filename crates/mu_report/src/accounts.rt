@@ -7,8 +7,7 @@ ghost use Rattle.mu_report.specs.Report.{HasShortLists};
 use crate::line::{Line, print_numbered};
 use crate::printer::Printer;
 use crate::report::{commit_count, log_at, print_entries, print_replies, print_status};
-use mu_course::EndSoFar;
-use mu_telling::Account;
+use mu_outcome::{Account, EndSoFar};
 
 /// Prints the report. Takes no memory.
 pub fn print_account<P: Printer>(out: &mut P, account: &Account)

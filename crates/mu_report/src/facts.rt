@@ -9,7 +9,7 @@ use crate::line::{HasLine, Line, print_each, print_numbered};
 use crate::printer::Printer;
 use crate::sentence::{Sentence, Value, push_sentence};
 use mu_model::Stop;
-use mu_telling::{Fact, Moment};
+use mu_outcome::{Fact, Moment};
 
 /// A fact, as a sentence.
 fn sentence_of(fact: Fact) -> Sentence

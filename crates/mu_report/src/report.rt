@@ -8,9 +8,9 @@ ghost use Rattle.mu_report.specs.Report.{entry_line as entry_line_of, entry_line
 
 use crate::line::{Line, print_numbered};
 use crate::printer::Printer;
-use crate::words::{push_end, push_name, push_op, push_reply};
+use crate::words::{push_end, push_name, push_reply};
 use kv_store::{Command, Reply};
-use mu_input::Job;
+use mu_input::{Job, push_op};
 use mu_model::{End, FIRST_MARK, PAYLOADS, stands_for_mark};
 use mu_outcome::{Outcome, Status, commands_of, longest};
 

@@ -22,9 +22,8 @@ use mu_input::InputEnd;
 use mu_io::{ReadEnd, Sink, WriteFault};
 use mu_mistakes::Misread;
 use mu_model::Stops;
-use mu_outcome::{Outcome, Verdict};
+use mu_outcome::{Account, Moment, Outcome, Verdict};
 use mu_reasons::Broken;
-use mu_telling::{Account, Moment};
 use snap_reads::Lived;
 
 /// How the program is called.

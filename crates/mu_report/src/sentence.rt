@@ -7,7 +7,7 @@ ghost use Rattle.mu_report.specs.Sentences.{leads_words, sentence_room, sentence
 use crate::line::Line;
 use mu_events::push_answer;
 use mu_model::{Answer, Fence, Target};
-use mu_telling::Leads;
+use mu_outcome::Leads;
 
 /// A value that a sentence tells.
 #[derive(Clone, Copy)]

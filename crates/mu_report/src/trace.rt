@@ -1,18 +1,18 @@
 //! The trace of a replay: its job, and its events in their order.
-ghost use Rattle.std.specs.Prelude.{◌≡◌, ◌+◌, ◌<◌, [], length};
-ghost use Rattle.mu_report.specs.declared.line.TheConstants.{LINE_BYTES};
-ghost use Rattle.mu_report.specs.Words.{op_words};
+ghost use Rattle.std.specs.Prelude.{◌≡◌, ◌+◌, ◌<◌, []};
+ghost use Rattle.mu_outcome.specs.AllEvents.{HasEvents};
 ghost use Rattle.mu_report.specs.Trace.{batch_lines, setting_lines, client_count, command_lines, commands_lines, client_lines, stop_line, pause_line, has_lines as has_lines_of, script_lines, events_of as events_of_order, trace_lines};
 
 use crate::line::{HasLine, Line, print_each, print_numbered, print_words};
 use crate::printer::Printer;
-use crate::words::push_op;
 use kv_store::Command;
-use mu_model::{Config, Event, Journal, Pause, Script, Stop};
-use mu_outcome::Outcome;
+use mu_input::op_line;
+use mu_model::{Config, Event, Pause, Script, Stop};
+use mu_outcome::{AllEvents, Outcome};
 
 /// Prints the trace. Takes no memory.
 pub fn print_trace<P: Printer>(out: &mut P, outcome: &Outcome)
+    requires { HasEvents outcome.now }
     ensures { P.Prints out.old (trace_lines outcome.now) out.new }
 {
     let commands = outcome.job.commands.as_slice();
@@ -21,17 +21,18 @@ pub fn print_trace<P: Printer>(out: &mut P, outcome: &Outcome)
     print_clients(out, commands, count);
     print_script(out, &outcome.job.script);
     print_words(out, b"end");
-    out.print_events(events_of(&outcome.order));
+    out.print_events(events_of(outcome));
     print_words(out, b"end");
 }
 
-/// The events in their order, and none if it isn't given.
-fn events_of(order: &Option<Journal>) -> &[Event]
-    ensures { result.now ≡ events_of_order order.now }
+/// The events in their order, and none if only the parts of threads are given.
+fn events_of(outcome: &Outcome) -> &[Event]
+    requires { HasEvents outcome.now }
+    ensures { result.now ≡ events_of_order outcome.now.order }
 {
-    match order {
-        Some(journal) => journal.as_slice(),
-        None => &[],
+    match outcome.events() {
+        AllEvents::InOrder(journal) => journal.as_slice(),
+        AllEvents::InParts(_) => &[],
     }
 }
 
@@ -93,18 +94,8 @@ fn print_command<P: Printer>(out: &mut P, client: u16, command: &Command)
     ensures { P.Prints out.old (command_lines client command.now) out.new }
 {
     if u16::from(command.client) == client {
-        out.print_line(operation_line(command));
+        out.print_line(op_line(&command.op));
     }
-}
-
-/// An operation, as in the input.
-fn operation_line(command: &Command) -> Line
-    ensures bytes { result ≡ op_words command.now.op }
-    ensures room { length result < LINE_BYTES }
-{
-    let mut line = Line::new();
-    push_op(&mut line, &command.op);
-    line
 }
 
 /// Prints the script, if it has a line.

@@ -1,10 +1,10 @@
 //! Commands, replies and ends, as words of a line.
 ghost use Rattle.std.specs.Prelude.{◌≡◌, ◌+◌, ◌≤◌, ◌++◌, length};
 ghost use Rattle.mu_report.specs.declared.line.TheConstants.{LINE_BYTES};
-ghost use Rattle.mu_report.specs.Words.{name_of, op_words, reply_words, end_words};
+ghost use Rattle.mu_report.specs.Words.{name_of, reply_words, end_words};
 
 use crate::line::Line;
-use kv_store::{Command, Op, Reply};
+use kv_store::{Command, Reply};
 use mu_model::End;
 
 /// Adds the client and the number of a command: at most 9 bytes.
@@ -16,44 +16,6 @@ pub fn push_name(line: &mut Line, command: &Command)
     line.push_number(u64::from(command.client));
     line.push(b".");
     line.push_number(u64::from(command.number));
-}
-
-/// Adds an operation, as in the input: at most 158 bytes.
-pub fn push_op(line: &mut Line, op: &Op)
-    requires { length line.old + 158 ≤ LINE_BYTES }
-    ensures bytes { line.new ≡ line.old ++ op_words op.now }
-    ensures room { length line.new ≤ length line.old + 158 }
-{
-    match op {
-        Op::Put(key, text) => {
-            line.push(b"put ");
-            line.push(key.as_bytes());
-            line.push(b" ");
-            line.push(text.as_bytes());
-        }
-        Op::Get(key) => {
-            line.push(b"get ");
-            line.push(key.as_bytes());
-        }
-        Op::Del(key) => {
-            line.push(b"del ");
-            line.push(key.as_bytes());
-        }
-        Op::Swap(key, text) => {
-            line.push(b"swap ");
-            line.push(key.as_bytes());
-            line.push(b" ");
-            line.push(text.as_bytes());
-        }
-        Op::Cas(key, old, new) => {
-            line.push(b"cas ");
-            line.push(key.as_bytes());
-            line.push(b" ");
-            line.push(old.as_bytes());
-            line.push(b" ");
-            line.push(new.as_bytes());
-        }
-    }
 }
 
 /// Adds a reply: at most 70 bytes.

@@ -12,7 +12,7 @@ use Rattle.mu_model.specs.Scores.{is_failed}
 use Rattle.mu_model.specs.declared.config.Config.{Config}
 use Rattle.mu_model.specs.declared.event.Event.{Event}
 use Rattle.mu_model.specs.declared.event.Verb.{Verb}
-use Rattle.mu_telling.specs.declared.facts.Fact.{Fact}
+use Rattle.mu_outcome.specs.declared.moment.Fact.{Fact}
 use Rattle.mu_telling.specs.Shown.{asks_fact, entry_fact, facts_of, failed_fact, given_below, joined_below, known_fact, member_fact, positions, region_facts, replica_facts}
 
 -- what holds if a call went well, and follows from what does

@@ -3,7 +3,7 @@
 use Rattle.std.specs.Prelude.{List, Some, [], length, suc, zero, ℕ, ◌++◌, ◌<◌, ◌∷◌, ◌≡◌}
 use Rattle.std.specs.List.{slice_get}
 use Rattle.kv_store.specs.Tables.{replies}
-use Rattle.mu_course.specs.declared.so_far.EndSoFar.{EndSoFar}
+use Rattle.mu_outcome.specs.declared.account.EndSoFar.{EndSoFar}
 use Rattle.mu_course.specs.SoFar.{IsSoFar}
 use Rattle.mu_model.specs.declared.config.Config.{Config}
 use Rattle.mu_model.specs.declared.event.Event.{Event}
@@ -13,7 +13,7 @@ use Rattle.mu_model.specs.Knowledge.{applied, commits}
 use Rattle.mu_outcome.specs.declared.outcome.Outcome.{Outcome}
 use Rattle.mu_outcome.specs.Entries.{commands_in, longest}
 use Rattle.mu_outcome.specs.Outcomes.{commits_of, log_of, replies_of}
-use Rattle.mu_telling.specs.declared.account.Account.{Account}
+use Rattle.mu_outcome.specs.declared.account.Account.{Account}
 
 -- what f gives of each number below n, in order
 abbrev pub each_below : {A : Type 0} → ℕ → (ℕ → A) → List A

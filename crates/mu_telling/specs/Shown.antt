@@ -15,9 +15,9 @@ use Rattle.mu_model.specs.Leaderships.{has_begun, is_member, is_over, proposal_n
 use Rattle.mu_model.specs.Regions.{asks, beats, fence, region_fuo, region_head, region_min}
 use Rattle.mu_model.specs.Room.{reserve}
 use Rattle.mu_model.specs.Scores.{is_failed, leader}
-use Rattle.mu_telling.specs.declared.facts.Fact.{Fact}
-use Rattle.mu_telling.specs.declared.facts.Leads.{Leads}
-use Rattle.mu_telling.specs.declared.showing.Moment.{Moment}
+use Rattle.mu_outcome.specs.declared.moment.Fact.{Fact}
+use Rattle.mu_outcome.specs.declared.moment.Leads.{Leads}
+use Rattle.mu_outcome.specs.declared.moment.Moment.{Moment}
 
 -- what f gives of the numbers below n, in order
 abbrev pub given_below : {A : Type 0} → ℕ → (ℕ → Option A) → List A

@@ -8,21 +8,11 @@ ghost use Rattle.mu_telling.specs.Accounts.{IsAccount};
 
 use crate::lists::{commits_of, ends_of, logs_of};
 use crate::replies::{replies_over, replies_over_each};
-use mu_course::{EndSoFar, walked};
+use mu_course::walked;
 use mu_input::Job;
 use mu_model::{Event, NoMemory, Sequence};
-use mu_outcome::{Outcome, longest};
+use mu_outcome::{Account, Outcome, longest};
 use std::alloc::Global;
-
-/// What the events of a list come to.
-#[derive(Drop)]
-pub struct Account {
-    /// What the replicas applied, committed and replied. It holds no events, and of how the
-    /// replicas end it tells nothing, since they may go on.
-    pub outcome: Outcome,
-    /// How each replica has ended so far, in order of id.
-    pub ends: Sequence<EndSoFar>,
-}
 
 /// What the events of a legal list come to, for a job: each replica's log, commits and replies by
 /// its own events, and how it has ended so far. Takes memory for these, and for the states that the

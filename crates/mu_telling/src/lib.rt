@@ -10,7 +10,6 @@ mod replies;
 mod showing;
 mod straying;
 
-pub use account::{Account, account_of};
-pub use facts::{Fact, Leads};
-pub use showing::{Moment, moment_of};
+pub use account::account_of;
+pub use showing::moment_of;
 pub use straying::strays_of;

@@ -9,9 +9,9 @@ ghost use Rattle.mu_course.specs.Walks.{StandsForWalk};
 ghost use Rattle.mu_known.specs.Commits.{pair_of};
 ghost use Rattle.mu_telling.specs.Accounts.{AreEnds, each_below};
 
-use mu_course::{EndSoFar, Walk};
+use mu_course::Walk;
 use mu_model::{Config, NoMemory, Script, Sequence};
-use mu_outcome::{AllCommits, Commit, Commits, Log, Logs};
+use mu_outcome::{AllCommits, Commit, Commits, EndSoFar, Log, Logs};
 use std::alloc::Global;
 
 /// Adds a value, if there is one.

@@ -14,25 +14,15 @@ ghost use Rattle.mu_model.specs.Regions.{asks, beats, fence, region_fuo, region_
 ghost use Rattle.mu_model.specs.Scores.{is_failed, leader};
 ghost use Rattle.mu_course.specs.Courses.{StandsForCourse};
 ghost use Rattle.mu_course.specs.Walks.{StandsForWalk};
-ghost use Rattle.mu_telling.specs.declared.facts.Fact.TheVariants as fact;
+ghost use Rattle.mu_outcome.specs.declared.moment.Fact.TheVariants as fact;
 ghost use Rattle.mu_telling.specs.Shown.{IsMoment, asks_fact as asks_fact_of, entry_fact as entry_fact_of, facts_of as facts_of_all, failed_fact as failed_fact_of, given_below, joined_below, known_fact as known_fact_of, leads_by as leads_by_these, member_fact as member_fact_of, number_shown, positions as positions_of, region_facts, replica_facts};
 
-use crate::facts::{Fact, asks_fact, entry_fact, failed_fact, known_fact, leads_by, member_fact};
+use crate::facts::{asks_fact, entry_fact, failed_fact, known_fact, leads_by, member_fact};
 use crate::lists::push_given;
 use mu_course::{Course, Walk, walked};
 use mu_model::{Answer, Config, Event, NoMemory, Sequence, Verb, positions_in};
+use mu_outcome::{Fact, Moment};
 use std::alloc::Global;
-
-/// What holds after the first events of a list.
-#[derive(Drop)]
-pub struct Moment {
-    /// How many events these are.
-    pub taken: usize,
-    /// How many events the list has.
-    pub events: usize,
-    /// What the regions hold, then what the replicas have come to, in order of id.
-    pub facts: Sequence<Fact>,
-}
 
 /// The number that is found.
 fn number_in(answer: Answer) -> u64

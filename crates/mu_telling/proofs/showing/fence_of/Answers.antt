@@ -1,6 +1,6 @@
 use Rattle.std.proofs.Common.{◌≡◌, ◌∙◌, None, Some, ap, sym}
 use Rattle.mu_model.specs.Regions.{fence}
-use Rattle.mu_telling.specs.declared.facts.Fact.{Fact}
+use Rattle.mu_outcome.specs.declared.moment.Fact.{Fact}
 use Rattle.mu_telling.proofs.showing.fence_of.Goals as goal
 
 pub returns-in-None : goal.returns-in-None

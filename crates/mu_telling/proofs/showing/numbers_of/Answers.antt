@@ -1,7 +1,7 @@
 use Rattle.std.proofs.Common.{◌≡◌, ◌∙◌, ap}
 use Rattle.mu_model.specs.Regions.{beats, region_fuo, region_head, region_min}
 use Rattle.mu_telling.specs.Shown.{number_shown}
-use Rattle.mu_telling.specs.declared.facts.Fact.{Fact}
+use Rattle.mu_outcome.specs.declared.moment.Fact.{Fact}
 use Rattle.mu_telling.proofs.showing.numbers_of.Goals as goal
 
 pub returns : goal.returns
