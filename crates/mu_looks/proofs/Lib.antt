@@ -1,3 +1,4 @@
+mod Elsewhere
 mod RegionLooks
 mod Tables
 mod Times

@@ -2,7 +2,7 @@
 -- of r.
 --
 -- Times are told with it: the events of r count from 1, and 0 is never.
-use Rattle.std.specs.Prelude.{Bool, List, None, Some, [], false, if◌then◌else◌, length, nat_lt, ℕ, ◌%◌, ◌&&◌, ◌+◌, ◌==◌, ◌∷◌, ◌≡◌, ◌≤◌}
+use Rattle.std.specs.Prelude.{Bool, List, None, Some, [], false, if◌then◌else◌, length, nat_lt, true, ℕ, ◌%◌, ◌&&◌, ◌+◌, ◌==◌, ◌∷◌, ◌≡◌, ◌≤◌}
 use Rattle.std.specs.declared.option.Option.{Option}
 use Rattle.std.specs.List.{slice_get}
 use Rattle.mu_model.specs.declared.config.Config.{Config}
@@ -112,6 +112,17 @@ HoldsOwnReach r mine reach =
     (h : ℕ)
     → has (λ e. reaches_head h (fuo_read_or_raised r r e.by e.verb e.answer)) mine
     ≡ reaches_head h reach
+
+-- a verb that may change what r has looked at and put at p
+abbrev pub is_at : ℕ → Verb → Bool
+is_at p (Verb.Ask q) = true
+is_at p (Verb.Enter q t) = q == p
+is_at p (Verb.PutMin q b) = q == p
+is_at p (Verb.Look q i) = q == p
+is_at p (Verb.PutSlot q i b v) = q == p
+is_at p (Verb.Fuo q) = q == p
+is_at p (Verb.RaiseFuo q u) = q == p
+is_at p _ = false
 
 -- what r has looked at and put at p
 pub record StandsForRegionLooks (c : Config) (r p : ℕ) (mine : List Event)

@@ -11,7 +11,7 @@ ghost use Rattle.mu_model.specs.Leaderships.{leadership};
 ghost use Rattle.mu_model.specs.Picks.{is_past, is_past_look, last_look, look_answer};
 ghost use Rattle.mu_model.specs.Placing.{fuo_read_or_raised, is_within_ring, looked_before_entering, reaches_head, has_looked_since};
 ghost use Rattle.mu_model.specs.Room.{reserve};
-ghost use Rattle.mu_looks.specs.Looks.{HoldsEachLook, HoldsLook, StandsForRegionLooks, HoldsPuts, HoldsReach, begun_time, enter_time, is_good_since, joining_time, member_time, put_time};
+ghost use Rattle.mu_looks.specs.Looks.{HoldsEachLook, HoldsLook, StandsForRegionLooks, HoldsPuts, HoldsReach, begun_time, enter_time, is_at, is_good_since, joining_time, member_time, put_time};
 
 use mu_model::{Answer, Config, Event, NoMemory, Verb, positions_in};
 use std::alloc::Global;
@@ -46,6 +46,22 @@ pub struct RegionLooks {
     puts: Vec<u32>,
     /// What the looks at each position came to.
     looks: Vec<Look>,
+}
+
+/// Whether the verb may change what a replica has looked at and put at `p`.
+fn is_at(p: u8, verb: &Verb) -> bool
+    ensures { result ≡ is_at p verb.now }
+{
+    match *verb {
+        Verb::Ask(_) => true,
+        Verb::Enter(q, _)
+        | Verb::PutMin(q, _)
+        | Verb::Look(q, _)
+        | Verb::PutSlot(q, _, _, _)
+        | Verb::Fuo(q)
+        | Verb::RaiseFuo(q, _) => q == p,
+        _ => false,
+    }
 }
 
 /// The farther of a FUO, if there is one, and another.
@@ -299,7 +315,21 @@ impl RegionLooks {
     }
 
     /// Takes the next event of `r`, at the time `now`. Takes no memory.
+    #[inline(always)]
     pub fn take(&mut self, r: u8, now: u32, event: &Event)
+        ensures { (c : Config) → (p : ℕ) → (mine : List Event) → 0 < c.ring → now ≡ length mine + 1
+            → StandsForRegionLooks c r p mine self.old
+            → StandsForRegionLooks c r p (event.now ∷ mine) self.new }
+    {
+        if !is_at(self.region, &event.verb) {
+            return;
+        }
+        self.take_here(r, now, event);
+    }
+
+    /// Takes an event that may change it.
+    #[inline(never)]
+    fn take_here(&mut self, r: u8, now: u32, event: &Event)
         ensures { (c : Config) → (p : ℕ) → (mine : List Event) → 0 < c.ring → now ≡ length mine + 1
             → StandsForRegionLooks c r p mine self.old
             → StandsForRegionLooks c r p (event.now ∷ mine) self.new }
