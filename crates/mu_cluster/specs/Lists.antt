@@ -22,13 +22,13 @@ use Rattle.mu_cluster.specs.declared.lists.Lists.{Lists}
 use Rattle.mu_cluster.specs.declared.lists.OutcomeRoom.{OutcomeRoom}
 use Rattle.mu_cluster.specs.Rounds.{part_of}
 
--- each list has k items, and room for n
+-- each list has k items, and room for n, and no more
 pub record HasRoom (n k : ℕ) (lists : Lists) : Type 0 where
-  pub journals : (length lists.journals.items ≡ k) × (n ≤ vec_capacity lists.journals)
-  pub logs : (length lists.logs.items ≡ k) × (n ≤ vec_capacity lists.logs)
-  pub commits : (length lists.commits.items ≡ k) × (n ≤ vec_capacity lists.commits)
-  pub replies : (length lists.replies.items ≡ k) × (n ≤ vec_capacity lists.replies)
-  pub ends : (length lists.ends.items ≡ k) × (n ≤ vec_capacity lists.ends)
+  pub journals : (length lists.journals.items ≡ k) × (n ≡ vec_capacity lists.journals)
+  pub logs : (length lists.logs.items ≡ k) × (n ≡ vec_capacity lists.logs)
+  pub commits : (length lists.commits.items ≡ k) × (n ≡ vec_capacity lists.commits)
+  pub replies : (length lists.replies.items ≡ k) × (n ≡ vec_capacity lists.replies)
+  pub ends : (length lists.ends.items ≡ k) × (n ≡ vec_capacity lists.ends)
 
 -- what a replica leaves is added
 pub record Adds (old new : Lists) (result : NodeResult) : Type 0 where
@@ -84,8 +84,10 @@ AreOf f lists =
     (r : ℕ) (log : List ℕ) → slice_get lists.logs.items r ≡ Some log
     → slice_get lists.replies.items r ≡ Some (f log)
 
--- the lists are empty, with room for all replicas, and there is room for the replies to any log
+-- the lists are empty, with room for all replicas, and there is room for the replies to any log,
+-- and no more
 pub record IsOutcomeRoom (c : Config) (room : OutcomeRoom) : Type 0 where
   pub lists : HasRoom c.replicas 0 room.lists
   pub empty : room.printed.items ≡ []
   pub printed : row_count c ≤ vec_capacity room.printed
+  pub no_more : vec_capacity room.printed ≤ row_count c

@@ -119,6 +119,7 @@ pub(crate) fn branches(
         → IsFreshPort job.now.config r p }
     ensures ready { IfOk result (λ branches. All (Drives job.now.script) branches.items) }
     ensures ports { IfOk result (λ branches. map (λ b. b.port) branches.items ≡ ports.items) }
+    ensures room { IfOk result (λ branches. vec_capacity branches ≡ vec_len ports) }
 {
     let mut branches = Vec::with_capacity(alloc, ports.len())?;
     for port in ports {
@@ -134,8 +135,8 @@ pub(crate) fn parted(
     mut nodes: Vec<Node>,
     mut ports: Vec<SharedPort>,
 ) -> (Vec<Node>, Vec<SharedPort>)
-    requires nodes { (nodes.items ≡ []) × (vec_len branches ≤ vec_capacity nodes) }
-    requires ports { (ports.items ≡ []) × (vec_len branches ≤ vec_capacity ports) }
+    requires nodes { (nodes.items ≡ []) × (vec_len branches ≡ vec_capacity nodes) }
+    requires ports { (ports.items ≡ []) × (vec_len branches ≡ vec_capacity ports) }
     ensures nodes { result.0.items ≡ map (λ b. b.node) branches.items }
     ensures ports { result.1.items ≡ map (λ b. b.port) branches.items }
 {

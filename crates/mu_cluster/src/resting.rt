@@ -1,5 +1,5 @@
 //! How the thread of a replica lets other threads on before a turn.
-ghost use Rattle.std.specs.Prelude.{MatchOption, [], min, ◌∷◌, ◌≡◌};
+ghost use Rattle.std.specs.Prelude.{MatchOption, [], min, ◌<◌, ◌∷◌, ◌≡◌, ◌≤◌};
 ghost use Rattle.mu_model.specs.Histories.{history};
 ghost use Rattle.mu_cluster.specs.Silences.{beats_found as beats_found_of, reads_of as reads_of_all, silence as silence_of, silence_after as silence_after_of};
 
@@ -82,7 +82,12 @@ pub(crate) fn silence(events: &[Event]) -> u8
 
 /// For how many microseconds a thread sleeps for a silence. After the fourteenth read without a new
 /// beat the other is held to be failed, and nobody waits for it.
-fn microseconds(silence: u8) -> u64 {
+fn microseconds(silence: u8) -> u64
+    ensures early { silence < 2 → result ≡ 0 }
+    ensures sleeps { 2 ≤ silence → silence ≤ 14 → 0 < result }
+    ensures most { result ≤ 512 }
+    ensures failed { 14 < silence → result ≡ 0 }
+{
     match silence {
         2 => 1,
         3 => 4,

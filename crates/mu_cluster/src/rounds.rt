@@ -1,5 +1,5 @@
 //! The rounds of a replay: in each one, in order of id, each replica that is due takes a turn.
-ghost use Rattle.std.specs.Prelude.{IfOk, List, Some, [], false, slice_get, suc, true, ℕ, ◌+◌, ◌<◌, ◌≡◌, ◌≤◌};
+ghost use Rattle.std.specs.Prelude.{IfOk, List, Some, [], false, slice_get, suc, true, vec_capacity, ℕ, ◌+◌, ◌<◌, ◌≡◌, ◌≤◌};
 ghost use Rattle.mu_model.specs.declared.script.Script.{Script};
 ghost use Rattle.mu_model.specs.declared.config.Config.{Config};
 ghost use Rattle.mu_model.specs.declared.event.Event.{Event};
@@ -110,7 +110,9 @@ impl Seat {
 /// The replicas of a job before any step. Takes all memory of theirs.
 pub(crate) fn seats(alloc: Global, job: &Job) -> Result<Vec<Seat>, NoMemory>
     requires { IsConfig job.now.config }
-    ensures { IfOk result (λ seats. Played job.now.config job.now.script [] seats.items 0 0) }
+    ensures played { IfOk result
+        (λ seats. Played job.now.config job.now.script [] seats.items 0 0) }
+    ensures room { IfOk result (λ seats. vec_capacity seats ≡ job.now.config.replicas) }
 {
     let mut seats = Vec::with_capacity(alloc, usize::from(job.config.replicas))?;
     for id in 0..job.config.replicas {

@@ -1,12 +1,13 @@
 //! What the events of one replica come to.
-ghost use Rattle.std.specs.Prelude.{IfOk, List, [], false, if◌then◌else◌, length, map, not, take, ℕ, ◌&&◌, ◌<◌, ◌||◌, ◌∷◌, ◌≡◌, ◌≤◌};
+ghost use Rattle.std.specs.Prelude.{IfOk, List, [], false, if◌then◌else◌, length, map, not, take, vec_capacity, ℕ, ◌&&◌, ◌+◌, ◌<◌, ◌||◌, ◌∷◌, ◌≡◌, ◌≤◌};
 ghost use Rattle.mu_model.specs.declared.config.Config.{Config as Settings};
 ghost use Rattle.mu_model.specs.declared.event.Event.{Event as Made};
-ghost use Rattle.mu_model.specs.Contents.{IsConfig};
+ghost use Rattle.mu_model.specs.Contents.{IsConfig, row_count};
 ghost use Rattle.mu_model.specs.Ends.{is_finished as is_finished_of};
 ghost use Rattle.mu_model.specs.Knowledge.{applied as applied_of, commits as commits_of, known as known_of};
 ghost use Rattle.mu_model.specs.Leaderships.{begins_leadership, has_begun as has_begun_of, is_member as is_member_of, is_over as is_over_of, proposal_number};
 ghost use Rattle.mu_model.specs.Parts.{IsPossible};
+ghost use Rattle.mu_model.specs.Room.{reserve};
 ghost use Rattle.mu_model.specs.Scores.{is_failed as is_failed_by, leader as leader_of};
 ghost use Rattle.mu_model.specs.Steps.{is_beat as is_beat_event};
 ghost use Rattle.mu_model.specs.Stretches.{is_odd};
@@ -129,7 +130,9 @@ impl Course {
     pub fn new(alloc: Global, config: &Config, replica: u8) -> Result<Course, NoMemory>
         requires config { IsConfig config.now }
         requires inside { replica < config.now.replicas }
-        ensures { IfOk result (λ course. StandsForCourse config.now replica [] course) }
+        ensures stands { IfOk result (λ course. StandsForCourse config.now replica [] course) }
+        ensures room { IfOk result (λ course. vec_capacity course.commits
+            ≡ row_count config.now + reserve config.now + 1) }
     {
         let state = Replica::new(alloc, config, replica)?;
         let scores = Scores::new(config.replicas, replica);

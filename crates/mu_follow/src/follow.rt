@@ -1,5 +1,5 @@
 //! What one replica knows and does as a replayer.
-ghost use Rattle.std.specs.Prelude.{IfOk, IfSome, List, None, Some, [], if◌then◌else◌, length, map, nat_le, not, ℕ, ◌%◌, ◌*◌, ◌+◌, ◌-◌, ◌/◌, ◌<◌, ◌==◌, ◌≡◌, ◌≤◌};
+ghost use Rattle.std.specs.Prelude.{IfOk, IfSome, List, None, Some, [], if◌then◌else◌, length, map, nat_le, not, vec_capacity, ℕ, ◌%◌, ◌*◌, ◌+◌, ◌-◌, ◌/◌, ◌<◌, ◌==◌, ◌≡◌, ◌≤◌};
 ghost use Rattle.std.specs.List.{slice_get};
 ghost use Rattle.mu_model.specs.declared.config.Config.{Config};
 ghost use Rattle.mu_model.specs.declared.event.Event.{Event};
@@ -9,8 +9,12 @@ ghost use Rattle.mu_model.specs.Ends.{full_length, is_full, outrun};
 ghost use Rattle.mu_model.specs.Knowledge.{applied, commits, has_row, known};
 ghost use Rattle.mu_model.specs.Parts.{IsPossible};
 ghost use Rattle.mu_model.specs.Regions.{region_head};
+ghost use Rattle.mu_model.specs.Room.{reserve};
 ghost use Rattle.mu_model.specs.Scores.{least_below};
+ghost use Rattle.mu_filled.specs.FilledLogs.{StandsForFilledLog};
 ghost use Rattle.mu_known.specs.HeldRows.{StandsForHeldRows};
+ghost use Rattle.mu_known.specs.KnownLog.{StandsForKnownLog};
+ghost use Rattle.mu_known.specs.RowWords.{StandsForRowWords};
 ghost use Rattle.mu_known.specs.KnownLog.{HoldsValues};
 ghost use Rattle.mu_known.specs.Commits.{pair_of};
 ghost use Rattle.mu_follow.specs.Due.{IsReplay, ahead_due, first_word_of, fuo_due, head_due, look_due, next_due, next_word_of, other_head_due, other_of, raise_due, replay_due, row_under_way, word_due};
@@ -134,6 +138,24 @@ pub(crate) fn missing_row(config: &Config, fetching: &HeldRows, v: u16) -> Optio
     None
 }
 
+/// Nothing is known, and no row is there.
+fn no_rows(alloc: Global, config: &Config) -> Result<(KnownLog, HeldRows), NoMemory>
+    requires { IsConfig config.now }
+    ensures known { IfOk result (λ t. (r : ℕ) → StandsForKnownLog config.now r [] t.0) }
+    ensures rows { IfOk result (λ t. (r : ℕ) → StandsForHeldRows config.now r [] t.1) }
+{
+    Ok((KnownLog::new(alloc, config)?, HeldRows::new(alloc, config)?))
+}
+
+/// No word of a row is there, and the own log is empty.
+fn no_words(alloc: Global, config: &Config) -> Result<(RowWords, FilledLog), NoMemory>
+    requires { IsConfig config.now }
+    ensures words { IfOk result (λ t. (r : ℕ) → StandsForRowWords config.now r [] t.0) }
+    ensures filled { IfOk result (λ t. (r p : ℕ) → StandsForFilledLog config.now r p [] t.1) }
+{
+    Ok((RowWords::new(alloc, config)?, FilledLog::new(alloc, config)?))
+}
+
 impl Follow {
     /// The replayer of a replica before any event. Takes all memory that it ever needs.
     pub fn new(alloc: Global, config: &Config, id: u8) -> Result<Follow, NoMemory>
@@ -141,15 +163,19 @@ impl Follow {
         requires inside { id < config.now.replicas }
         ensures stands { IfOk result (λ state. StandsForFollow config.now id [] state) }
         ensures handed { IfOk result (λ state. state.progress.handed ≡ 0) }
+        ensures room { IfOk result (λ state. vec_capacity state.commits
+            ≡ row_count config.now + reserve config.now + 1) }
     {
+        let (knowing, rows) = no_rows(alloc, config)?;
+        let (words, own_log) = no_words(alloc, config)?;
         Ok(Follow {
             config: config.copied(alloc)?,
             replica: id,
             steps: 0,
-            knowing: KnownLog::new(alloc, config)?,
-            rows: HeldRows::new(alloc, config)?,
-            words: RowWords::new(alloc, config)?,
-            own_log: FilledLog::new(alloc, config)?,
+            knowing,
+            rows,
+            words,
+            own_log,
             heads: Published::new(),
             completion: Completion::new(alloc, config)?,
             commits: Vec::with_capacity(alloc, positions_in(config))?,

@@ -32,7 +32,7 @@ pub struct Answers {
 }
 
 impl Model for Answers {
-    ghost use Rattle.std.specs.Prelude.{vec_capacity, vec_len, ◌+◌, ◌≤◌};
+    ghost use Rattle.std.specs.Prelude.{vec_capacity, vec_len, ◌+◌, ◌≡◌, ◌≤◌};
     ghost use Rattle.mu_node.specs.Answering.{Answering, answering_code};
 
     ghost Value = { Answering };
@@ -46,7 +46,7 @@ impl Model for Answers {
     } };
 
     ghost invariant = { λ a. (a.left ≤ a.store.room)
-        × (vec_len a.replies + a.left ≤ vec_capacity a.replies) };
+        × (vec_len a.replies + a.left ≡ vec_capacity a.replies) };
 }
 
 impl Answers {

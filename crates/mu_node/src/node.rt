@@ -1,12 +1,13 @@
 //! One replica and its turns.
-ghost use Rattle.std.specs.Prelude.{IfOk, List, None, Some, [], false, length, take, true, vec_capacity, ℕ, ◌<◌, ◌≡◌, ◌≤◌};
+ghost use Rattle.std.specs.Prelude.{IfOk, List, None, Some, [], false, length, take, true, vec_capacity, ℕ, ◌+◌, ◌<◌, ◌≡◌, ◌≤◌};
 ghost use Rattle.mu_model.specs.declared.config.Config.{Config};
 ghost use Rattle.mu_model.specs.declared.event.Event.{Event as SomeEvent};
 ghost use Rattle.mu_model.specs.declared.script.Script.{Script};
-ghost use Rattle.mu_model.specs.Contents.{IsConfig};
+ghost use Rattle.mu_model.specs.Contents.{IsConfig, row_count};
 ghost use Rattle.mu_model.specs.Diligence.{GrantsInTime, IsDiligent, ReadsInTime, Replays, TellsHeads};
 ghost use Rattle.mu_model.specs.Ends.{outrun};
 ghost use Rattle.mu_model.specs.Parts.{IsPossible};
+ghost use Rattle.mu_model.specs.Room.{reserve};
 ghost use Rattle.mu_node.specs.Journal.{IsListed};
 ghost use Rattle.mu_node.specs.Node.{StandsForNode};
 ghost use Rattle.mu_node.specs.Notes.{HasMade, MovesGoing, MovesTurn, TellsTurn};
@@ -105,6 +106,10 @@ impl Node {
         ensures idle { IfOk result (λ node. node.lead.under_way ≡ false) }
         ensures room { IfOk result (λ node. node.journal.room ≡ job.now.config.budget) }
         ensures answers { IfOk result (λ node. node.answers.left ≡ length job.now.config.rows) }
+        ensures log_room { IfOk result (λ node. vec_capacity node.log
+            ≡ row_count job.now.config + reserve job.now.config + 1) }
+        ensures commit_room { IfOk result (λ node. vec_capacity node.commits
+            ≡ row_count job.now.config + reserve job.now.config + 1) }
     {
         let config = &job.config;
         Ok(Node {

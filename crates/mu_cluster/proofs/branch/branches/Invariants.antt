@@ -12,4 +12,4 @@ invariant-loop-port l =
     × All (Drives l.job.script) l.branches.items
     × (map (λ b. b.port) l.branches.items ≡ l.yielded)
     × (length l.branches.items ≡ length l.yielded)
-    × (vec_len l.fn.ports ≤ vec_capacity l.branches)
+    × (vec_capacity l.branches ≡ vec_len l.fn.ports)

@@ -20,8 +20,8 @@ loop-id-preserved c =
           (each_pushed (λ r s. Sits job.config job.script r [] s 0) c.loop-id.seats.items seat c.loop-id.invariant.each (subst (λ r. Sits job.config job.script r [] seat 0) (sym n) sits));
     }
 
-pub returns : goal.returns
-returns c = record {
+pub returns-clause-played : goal.returns-clause-played
+returns-clause-played c = record {
   count = omega (arith, c.loop-id.invariant.count, c.loop-id-test.false, c.loop-id.auto.id-end);
   played = λ r seat at low. absurd (omega (arith, low));
   waits = λ r seat at _. c.loop-id.invariant.each r seat at;

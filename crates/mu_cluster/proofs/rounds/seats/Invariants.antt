@@ -7,7 +7,7 @@ use Rattle.mu_cluster.proofs.rounds.seats.Given as goal
 
 abbrev pub invariant-loop-id : goal.invariant-loop-id
 invariant-loop-id l = record {
-  room : l.job.config.replicas ≤ vec_capacity l.seats;
+  room : vec_capacity l.seats ≡ l.job.config.replicas;
   count : length l.seats.items ≡ l.id;
   each : (r : ℕ) (seat : Seat) → slice_get l.seats.items r ≡ Some seat → Sits l.job.config l.job.script r [] seat 0;
 }

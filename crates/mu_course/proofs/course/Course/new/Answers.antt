@@ -2,8 +2,8 @@ use Rattle.std.proofs.Common.{ap, arith, map, refl}
 use Rattle.mu_known.specs.Commits.{pair_of}
 use Rattle.mu_course.proofs.course.Course.new.Goals as goal
 
-pub returns : goal.returns
-returns c = record {
+pub returns-clause-stands : goal.returns-clause-stands
+returns-clause-stands c = record {
   replica = c.in_ok-state.ensures;
   scores = c.new-scores.ensures;
   resigned = refl;

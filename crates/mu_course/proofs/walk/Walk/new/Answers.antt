@@ -8,6 +8,6 @@ loop-replica-preserved c = record {
   count = search (rules, c.push_reserved.ensures.items, c.loop-replica.invariant.count);
   room = search rules;
   each =
-      let last = subst (λ p. StandsForCourse c.args.config.now p [] c.in_ok-new.field-0) (sym c.loop-replica.invariant.count) c.in_ok-new.ensures in
+      let last = subst (λ p. StandsForCourse c.args.config.now p [] c.in_ok-new.field-0) (sym c.loop-replica.invariant.count) c.in_ok-new.ensures.stands in
       rw c.push_reserved.ensures.items (each_pushed (λ p course. StandsForCourse c.args.config.now p [] course) c.loop-replica.courses.items c.in_ok-new.field-0 c.loop-replica.invariant.each last);
 }

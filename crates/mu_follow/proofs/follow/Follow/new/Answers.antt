@@ -8,13 +8,13 @@ returns-clause-stands c = record {
   inside = c.requires.inside;
   replica = refl;
   steps = refl;
-  knowing = c.in_ok-new.ensures c.args.id;
-  rows = c.in_ok-new-2.ensures c.args.id;
-  words = c.in_ok-new-3.ensures c.args.id;
-  own_log = c.in_ok-new-4.ensures c.args.id c.args.id;
-  heads = c.new-5.ensures c.args.id;
-  completion = c.in_ok-new-5.ensures;
+  knowing = c.in_ok-knowing.ensures.known c.args.id;
+  rows = c.in_ok-knowing.ensures.rows c.args.id;
+  words = c.in_ok-words.ensures.words c.args.id;
+  own_log = c.in_ok-words.ensures.filled c.args.id c.args.id;
+  heads = c.new.ensures c.args.id;
+  completion = c.in_ok-new.ensures;
   commits = record { are = ap (map pair_of) c.in_ok-with_capacity.ensures.items; room = omega (arith, c.in_ok-with_capacity.ensures.capacity, c.positions_in.ensures.count) };
   outrun = refl;
-  progress = record { fuo = c.new-7.ensures.fuo c.args.id; row = c.new-7.ensures.row; handed = omega (arith, c.new-7.ensures.handed) };
+  progress = record { fuo = c.new-3.ensures.fuo c.args.id; row = c.new-3.ensures.row; handed = omega (arith, c.new-3.ensures.handed) };
 }
