@@ -48,7 +48,8 @@ ahead_at c r values written place =
 -- the next word of row j, and its event
 abbrev pub ahead_verb : Lead → ℕ → Verb
 ahead_verb l j =
-    Verb.WriteRow j (get_or l.written.items j 12) (config_word l.config j (get_or l.written.items j 12))
+    Verb.WriteRow j (get_or l.written.items j 12)
+    (config_word l.config j (get_or l.written.items j 12))
 
 abbrev pub ahead_event : Lead → ℕ → Answer → Event
 ahead_event l j answer = record { by = l.id; verb = ahead_verb l j; answer = answer }

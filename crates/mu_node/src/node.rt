@@ -176,8 +176,8 @@ impl Node {
         ensures turn { (script : Script) → script.stops ≡ self.old.stops.items
             → IsTurn (P.config port.old) script (P.number port.old) (P.part port.old)
             (P.part port.new) (P.whole port.old) (P.whole port.new) result }
-        ensures made { TellsTurn self.old.zeal (P.config port.old) (P.number port.old) (P.part port.old)
-            (P.part port.new) self.old.lead result }
+        ensures made { TellsTurn self.old.zeal (P.config port.old) (P.number port.old)
+            (P.part port.old) (P.part port.new) self.old.lead result }
         ensures going { MovesTurn (P.config port.old) (P.number port.old) (P.part port.old)
             self.old.lead self.new.lead result }
         ensures grants { GrantsInTime (P.config port.new) (P.number port.new) (P.part port.new) }
@@ -219,9 +219,8 @@ impl Node {
         ensures step { IsOneStep (P.config port.old) (P.number port.old) (P.part port.old)
             (P.part port.new)
             (P.whole port.old) (P.whole port.new) }
-        ensures made { HasMade self.old.zeal (P.config port.old) (P.number port.old) (P.part port.old)
-            (P.part port.new)
-            self.old.lead result }
+        ensures made { HasMade self.old.zeal (P.config port.old) (P.number port.old)
+            (P.part port.old) (P.part port.new) self.old.lead result }
         ensures going { MovesGoing (P.config port.old) (P.number port.old) (P.part port.old)
             self.old.lead self.new.lead result }
     {

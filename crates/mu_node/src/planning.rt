@@ -181,12 +181,13 @@ impl Node {
         requires config { IsConfig self.now.follow.config }
         requires possible { IsPossible self.now.follow.config self.now.id mine }
         requires short { length mine < self.now.follow.config.budget }
-        requires leading { leading ≡ leads_at (place_after self.now.follow.config self.now.id mine) }
+        requires leading { leading
+            ≡ leads_at (place_after self.now.follow.config self.now.id mine) }
         requires named { self.now.lead.named ≡ is_named self.now.follow.config self.now.id mine }
         requires stands { StandsForFollow self.now.follow.config self.now.id mine self.now.follow }
         ensures exact { result ≡ idle_due self.now.zeal self.now.follow.config self.now.id mine }
-        ensures allowed { IfSome result (λ verb. Allowed self.now.follow.config self.now.id mine verb
-            × IsReplay false verb) }
+        ensures allowed { IfSome result
+            (λ verb. Allowed self.now.follow.config self.now.id mine verb × IsReplay false verb) }
     {
         match self.zeal {
             Zeal::Plain => None,
