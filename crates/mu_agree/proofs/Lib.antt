@@ -35,3 +35,4 @@ pub mod Fitting
 pub mod Reserve
 pub mod Windows
 mod Journals
+pub mod Within

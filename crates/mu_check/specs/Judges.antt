@@ -8,7 +8,7 @@ use Rattle.mu_model.specs.declared.event.Event.{Event}
 use Rattle.mu_model.specs.Legal.{IsLegalHistory}
 use Rattle.mu_outcome.specs.Verdicts.{IsWrong}
 use Rattle.mu_outcome.specs.declared.verdict.Wrong.{Wrong}
-use Rattle.mu_parts.specs.Parts.{StandsForReplicas}
+use Rattle.mu_replicas.specs.Stands.{StandsForReplicas}
 use Rattle.mu_regions.specs.Stands.{Stands}
 
 -- the history is legal, and the states are those that it leads to

@@ -9,9 +9,9 @@ ghost use Rattle.mu_check.specs.Judges.{StandsForJudge, StaysOrTakes};
 
 use mu_model::{Answer, Config, Event, NoMemory};
 use mu_outcome::Wrong;
-use mu_parts::Replicas;
 use mu_reasons::{Fault, Reason};
 use mu_regions::Regions;
+use mu_replicas::Replicas;
 use std::alloc::Global;
 
 /// Whether the answers are the same.

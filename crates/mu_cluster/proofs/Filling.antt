@@ -27,8 +27,8 @@ use Rattle.mu_model.specs.Legal.{IsLegal}
 use Rattle.mu_model.proofs.Basics.{same_some}
 use Rattle.mu_model.proofs.Lists.{get_front, get_push_here, item_below}
 use Rattle.mu_model.proofs.Parts.{history-part, part_is_possible}
-use Rattle.mu_known.specs.declared.commit.Commit.{Commit}
-use Rattle.mu_known.specs.Commits.{pair_of}
+use Rattle.mu_knowledge.specs.declared.commit.Commit.{Commit}
+use Rattle.mu_knowledge.specs.Commits.{pair_of}
 use Rattle.mu_node.specs.declared.result.NodeResult.{NodeResult}
 use Rattle.mu_model.specs.Diligence.{IsDiligent}
 use Rattle.mu_node.specs.Turns.{IsResult, TellsEnd}

@@ -11,11 +11,11 @@ use Rattle.mu_model.specs.Ends.{Obeys}
 use Rattle.mu_model.specs.Histories.{history}
 use Rattle.mu_model.specs.Journals.{Record}
 use Rattle.mu_model.specs.Knowledge.{applied, commits}
-use Rattle.mu_known.specs.declared.commit.Commit.{Commit}
+use Rattle.mu_knowledge.specs.declared.commit.Commit.{Commit}
 use Rattle.kv_store.specs.Commands.{Request}
 use Rattle.kv_store.specs.declared.store.Reply.{Reply}
 use Rattle.kv_store.specs.Tables.{replies}
-use Rattle.mu_known.specs.Commits.{pair_of}
+use Rattle.mu_knowledge.specs.Commits.{pair_of}
 use Rattle.mu_follow.specs.Groups.{AreSpelled, groups_of}
 use Rattle.mu_node.specs.declared.result.NodeResult.{NodeResult}
 use Rattle.mu_cluster.specs.declared.lists.Lists.{Lists}

@@ -19,7 +19,7 @@ ghost use Rattle.mu_cluster.specs.Rounds.{Played};
 use crate::rounds::Seat;
 use kv_store::Reply;
 use mu_input::Job;
-use mu_known::{Commits, Log};
+use mu_knowledge::{Commits, Log};
 use mu_model::{Config, End, Event, Journal, NoMemory, Sequence};
 use mu_node::NodeResult;
 use mu_outcome::{Outcome, Replies};

@@ -8,8 +8,8 @@ use Rattle.mu_model.specs.declared.event.Answer.{Answer}
 use Rattle.mu_model.specs.declared.event.Event.{Event}
 use Rattle.mu_model.specs.declared.event.Verb.{Verb}
 use Rattle.mu_model.specs.Knowledge.{committed, grown, is_accepted_by_all, learnt_by}
-use Rattle.mu_known.specs.declared.commit.Commit.{Commit}
-use Rattle.mu_known.specs.Commits.{pair_of}
+use Rattle.mu_knowledge.specs.declared.commit.Commit.{Commit}
+use Rattle.mu_knowledge.specs.Commits.{pair_of}
 use Rattle.mu_follow.proofs.Kept.{pairs_push}
 use Rattle.mu_course.specs.Committing.{commit_by}
 

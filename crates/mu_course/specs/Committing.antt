@@ -2,7 +2,7 @@
 use Rattle.std.specs.Prelude.{None, Some, ℕ}
 use Rattle.std.specs.declared.option.Option.{Option}
 use Rattle.mu_model.specs.declared.event.Verb.{Verb}
-use Rattle.mu_known.specs.declared.commit.Commit.{Commit}
+use Rattle.mu_knowledge.specs.declared.commit.Commit.{Commit}
 
 -- a put that teaches a value commits it
 abbrev pub commit_by : Verb → Option ℕ → Option Commit

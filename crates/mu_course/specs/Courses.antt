@@ -10,7 +10,7 @@ use Rattle.mu_detect.specs.Stands.{StandsFor}
 use Rattle.mu_follow.specs.Commits.{HoldsCommits}
 use Rattle.mu_follow.specs.Completion.{HoldsCompletion}
 use Rattle.mu_follow.specs.Published.{HoldsPublished}
-use Rattle.mu_parts.specs.Parts.{StandsForReplica}
+use Rattle.mu_replicas.specs.Stands.{StandsForReplica}
 use Rattle.mu_course.specs.Resigning.{has_resigned, resigns}
 use Rattle.mu_course.specs.Telling.{Tells}
 use Rattle.mu_course.specs.declared.course.Course.{Course}

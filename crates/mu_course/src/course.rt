@@ -1,5 +1,5 @@
 //! What the events of one replica come to.
-ghost use Rattle.std.specs.Prelude.{IfOk, List, [], false, if◌then◌else◌, length, map, not, take, vec_capacity, ℕ, ◌&&◌, ◌+◌, ◌<◌, ◌||◌, ◌∷◌, ◌≡◌, ◌≤◌};
+ghost use Rattle.std.specs.Prelude.{IfOk, List, [], false, if◌then◌else◌, length, map, not, take, vec_capacity, ℕ, ◌&&◌, ◌+◌, ◌<◌, ◌||◌, ◌∷◌, ◌≡◌};
 ghost use Rattle.mu_model.specs.declared.config.Config.{Config as Settings};
 ghost use Rattle.mu_model.specs.declared.event.Event.{Event as Made};
 ghost use Rattle.mu_model.specs.Contents.{IsConfig, row_count};
@@ -15,7 +15,7 @@ ghost use Rattle.mu_course.specs.Courses.{StandsForCourse, TellsTurn};
 ghost use Rattle.mu_course.specs.Resigning.{is_leading as is_leading_of, yields as yields_by};
 ghost use Rattle.mu_course.specs.SoFar.{IsSoFar};
 ghost use Rattle.mu_course.specs.Telling.{Tells};
-ghost use Rattle.mu_known.specs.Commits.{pair_of};
+ghost use Rattle.mu_knowledge.specs.Commits.{pair_of};
 
 use crate::finishing::is_finished;
 use crate::halts::stops_at;
@@ -24,10 +24,10 @@ use crate::so_far::first_end;
 use crate::told::{Told, is_end, told_by};
 use mu_detect::Scores;
 use mu_follow::{Completion, Published, count_applied, outrun_after};
-use mu_known::Commit;
+use mu_knowledge::{Commit, first_values};
 use mu_model::{Config, Event, NoMemory, Script, Verb, positions_in};
 use mu_outcome::EndSoFar;
-use mu_parts::Replica;
+use mu_replicas::Replica;
 use std::alloc::Global;
 
 /// What the events of one replica come to, kept up to date event by event.
@@ -109,13 +109,6 @@ fn resigned_after(resigned: bool, begins: bool, yields: bool) -> bool
     ensures { result ≡ (if begins then false else (yields || resigned)) }
 {
     if begins { false } else { yields || resigned }
-}
-
-/// The first values, or all if there are fewer.
-fn first_of(values: &[u16], count: usize) -> &[u16]
-    ensures { count ≤ length values.now → result.now ≡ take count values.now }
-{
-    &values[..count.min(values.len())]
 }
 
 /// Whether a leadership is given up: it is under way, and the step gives way to another.
@@ -279,7 +272,7 @@ impl Course {
         ensures { (c : Settings) → (r : ℕ) → (mine : List Made) → StandsForCourse c r mine self.now
             → result.now ≡ applied_of c r mine }
     {
-        first_of(self.known(), self.replica.held_rows.applied_length())
+        first_values(self.known(), self.replica.held_rows.applied_length())
     }
 
     /// What it committed, in order.

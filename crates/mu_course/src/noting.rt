@@ -3,7 +3,7 @@ ghost use Rattle.std.specs.Prelude.{length, vec_capacity, ◌≡◌, ◌≤◌};
 ghost use Rattle.mu_model.specs.Knowledge.{grown};
 ghost use Rattle.mu_course.specs.Committing.{commit_by};
 
-use mu_known::Commit;
+use mu_knowledge::Commit;
 use mu_model::{Event, Verb};
 
 /// The commit that an event makes, which teaches a value or doesn't.

@@ -4,11 +4,11 @@ ghost use Rattle.std.specs.List.{slice_get};
 ghost use Rattle.mu_model.specs.declared.event.Event.{Event as Made};
 ghost use Rattle.mu_model.specs.Contents.{IsConfig};
 ghost use Rattle.mu_model.specs.Parts.{IsPossible};
-ghost use Rattle.mu_parts.specs.Parts.{StandsForReplica};
+ghost use Rattle.mu_replicas.specs.Stands.{StandsForReplica};
 ghost use Rattle.mu_course.specs.Telling.{Tells};
 
 use mu_model::{Config, Event};
-use mu_parts::Replica;
+use mu_replicas::Replica;
 
 /// What a step comes to for the replica that makes it.
 #[derive(Clone, Copy, Debug, PartialEq, Eq)]

@@ -13,11 +13,11 @@ ghost use Rattle.mu_course.specs.Courses.{StandsForCourse};
 ghost use Rattle.mu_course.specs.Walks.{StandsForWalk, TellsStep, fence_shown, grants_shown};
 ghost use Rattle.mu_course.specs.Resigning.{is_leading};
 ghost use Rattle.mu_course.specs.SoFar.{IsSoFar};
-ghost use Rattle.mu_known.specs.Commits.{pair_of};
+ghost use Rattle.mu_knowledge.specs.Commits.{pair_of};
 ghost use Rattle.mu_regions.specs.Range.{InRange};
 
 use crate::course::{Course, Turn};
-use mu_known::Commit;
+use mu_knowledge::Commit;
 use mu_model::{Answer, Config, Event, Fence, NoMemory, Script, Verb};
 use mu_outcome::EndSoFar;
 use mu_regions::Regions;

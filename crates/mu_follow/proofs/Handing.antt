@@ -11,8 +11,8 @@ use Rattle.mu_model.specs.Knowledge.{applied, front, has_entry, has_row, known}
 use Rattle.mu_model.specs.Parts.{IsPossible}
 use Rattle.mu_model.proofs.Basics.{same_some}
 use Rattle.mu_model.proofs.Scans.{all_at}
-use Rattle.mu_known.specs.RowWords.{ReadsKnown, config_words, words_held}
-use Rattle.mu_known.proofs.Rows.{rows_are_right_law}
+use Rattle.mu_knowledge.specs.RowWords.{ReadsKnown, config_words, words_held}
+use Rattle.mu_knowledge.proofs.Rows.{rows_are_right_law}
 use Rattle.mu_follow.proofs.Kept.{applied_is}
 
 take_get : (xs : List ℕ) (n i : ℕ) → i < n → slice_get (take n xs) i ≡ slice_get xs i

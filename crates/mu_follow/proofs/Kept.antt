@@ -8,9 +8,9 @@ use Rattle.mu_model.specs.declared.event.Event.{Event}
 use Rattle.mu_model.specs.declared.event.Verb.{Verb}
 use Rattle.mu_model.specs.Knowledge.{applied, commits, front, grown, has_entry, is_accepted_by_all, is_known_decided, known}
 use Rattle.mu_agree.proofs.Knowing.{known_stays}
-use Rattle.mu_known.proofs.Fetched.{front_fits}
-use Rattle.mu_known.specs.declared.commit.Commit.{Commit}
-use Rattle.mu_known.specs.Commits.{pair_of}
+use Rattle.mu_knowledge.proofs.Fetched.{front_fits}
+use Rattle.mu_knowledge.specs.declared.commit.Commit.{Commit}
+use Rattle.mu_knowledge.specs.Commits.{pair_of}
 
 -- the values before the first that fails are the first ones
 pub front_begins : (test : ℕ → Bool) (xs : List ℕ) → take (length (front test xs)) xs ≡ front test xs

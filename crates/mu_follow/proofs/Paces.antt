@@ -13,7 +13,7 @@ use Rattle.mu_model.specs.Placing.{fuo_read_or_raised}
 use Rattle.mu_model.specs.Regions.{region_head}
 use Rattle.mu_model.specs.Steps.{is_head_raise, is_head_raise_verb}
 use Rattle.mu_model.proofs.Basics.{none_some}
-use Rattle.mu_known.proofs.Fetched.{applied_grows}
+use Rattle.mu_knowledge.proofs.Fetched.{applied_grows}
 use Rattle.mu_pace.specs.Counters.{HasRoom, fewer, left_after, steps_left}
 use Rattle.mu_pace.specs.Watches.{is_head_due, raising_head}
 use Rattle.mu_pace.proofs.Cycles.{closed_moments, steps_give, while_allows}

@@ -16,11 +16,11 @@ use Rattle.mu_model.specs.Knowledge.{applied, committed, fetched_prefix, grown, 
 use Rattle.mu_model.specs.Leaderships.{has_quorum, is_member, is_over, leadership, proposal_number}
 use Rattle.mu_model.proofs.Basics.{event_by, none_some, or_true, same_some}
 use Rattle.mu_model.proofs.Scans.{all_at}
-use Rattle.mu_filled.specs.FilledLogs.{filled_spot}
-use Rattle.mu_known.specs.HeldRows.{StandsForHeldRows}
-use Rattle.mu_known.specs.declared.held_rows.HeldRows.{HeldRows}
-use Rattle.mu_known.specs.KnownLog.{HoldsValues, StandsForKnownLog}
-use Rattle.mu_known.specs.declared.known_log.KnownLog.{KnownLog}
+use Rattle.mu_knowledge.specs.FilledLog.{filled_spot}
+use Rattle.mu_knowledge.specs.HeldRows.{StandsForHeldRows}
+use Rattle.mu_knowledge.specs.declared.held_rows.HeldRows.{HeldRows}
+use Rattle.mu_knowledge.specs.KnownLog.{HoldsValues, StandsForKnownLog}
+use Rattle.mu_knowledge.specs.declared.known_log.KnownLog.{KnownLog}
 use Rattle.mu_follow.specs.Kinds.{is_put, kind_of, put_spot}
 
 -- the value of what is committed, if something is

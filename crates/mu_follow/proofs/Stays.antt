@@ -8,15 +8,15 @@ use Rattle.mu_model.specs.declared.event.Event.{Event}
 use Rattle.mu_model.specs.Ends.{outrun}
 use Rattle.mu_model.specs.Knowledge.{applied, commits, fuo_read, is_filled}
 use Rattle.mu_model.proofs.Basics.{event_by}
-use Rattle.mu_filled.specs.FilledLogs.{StandsForFilledLog, filled_spot, is_at, is_below}
-use Rattle.mu_filled.specs.declared.filled_log.FilledLog.{FilledLog}
-use Rattle.mu_filled.proofs.Filled.{fills_by}
-use Rattle.mu_known.specs.HeldRows.{StandsForHeldRows, is_of_row}
-use Rattle.mu_known.specs.declared.held_rows.HeldRows.{HeldRows}
-use Rattle.mu_known.specs.KnownLog.{StandsForKnownLog, TellsAccepted}
-use Rattle.mu_known.specs.RowWords.{StandsForRowWords}
-use Rattle.mu_known.specs.declared.row_words.RowWords.{RowWords}
-use Rattle.mu_known.specs.declared.known_log.KnownLog.{KnownLog}
+use Rattle.mu_knowledge.specs.FilledLog.{StandsForFilledLog, filled_spot, is_at, is_below}
+use Rattle.mu_knowledge.specs.declared.filled_log.FilledLog.{FilledLog}
+use Rattle.mu_knowledge.proofs.Filled.{fills_by}
+use Rattle.mu_knowledge.specs.HeldRows.{StandsForHeldRows, is_of_row}
+use Rattle.mu_knowledge.specs.declared.held_rows.HeldRows.{HeldRows}
+use Rattle.mu_knowledge.specs.KnownLog.{StandsForKnownLog, TellsAccepted}
+use Rattle.mu_knowledge.specs.RowWords.{StandsForRowWords}
+use Rattle.mu_knowledge.specs.declared.row_words.RowWords.{RowWords}
+use Rattle.mu_knowledge.specs.declared.known_log.KnownLog.{KnownLog}
 use Rattle.mu_follow.specs.declared.follow.Follow.{Follow}
 use Rattle.mu_follow.specs.declared.kind.Kind.{Kind}
 use Rattle.mu_follow.specs.declared.published.Published.{Published}

@@ -22,7 +22,7 @@ use Rattle.mu_model.specs.Steps.{knows_more}
 use Rattle.mu_model.proofs.Basics.{event_by, or_true, same_number, same_some, true_or}
 use Rattle.mu_model.proofs.Scans.{all_at, each_all}
 use Rattle.mu_agree.proofs.Possible.{answered, at_event, parts_find_law}
-use Rattle.mu_known.proofs.Fetched.{read_word}
+use Rattle.mu_knowledge.proofs.Fetched.{read_word}
 use Rattle.mu_follow.specs.Due.{rows_had}
 
 -- a list that isn't longer with a value that may have come is the same

@@ -7,8 +7,8 @@ use Rattle.mu_model.specs.declared.event.Event.{Event}
 use Rattle.mu_model.specs.Contents.{row_count}
 use Rattle.mu_model.specs.Knowledge.{commits}
 use Rattle.mu_model.specs.Room.{reserve}
-use Rattle.mu_known.specs.Commits.{pair_of}
-use Rattle.mu_known.specs.declared.commit.Commit.{Commit}
+use Rattle.mu_knowledge.specs.Commits.{pair_of}
+use Rattle.mu_knowledge.specs.declared.commit.Commit.{Commit}
 
 -- the list is what r committed, and there is room for one at each position
 pub record HoldsCommits (c : Config) (r : ℕ) (mine : List Event)

@@ -5,10 +5,10 @@ use Rattle.mu_model.specs.declared.config.Config.{Config}
 use Rattle.mu_model.specs.declared.event.Event.{Event}
 use Rattle.mu_model.specs.Ends.{outrun}
 use Rattle.mu_model.specs.Knowledge.{applied, committed, known}
-use Rattle.mu_filled.specs.FilledLogs.{StandsForFilledLog}
-use Rattle.mu_known.specs.HeldRows.{StandsForHeldRows}
-use Rattle.mu_known.specs.KnownLog.{StandsForKnownLog}
-use Rattle.mu_known.specs.RowWords.{StandsForRowWords}
+use Rattle.mu_knowledge.specs.FilledLog.{StandsForFilledLog}
+use Rattle.mu_knowledge.specs.HeldRows.{StandsForHeldRows}
+use Rattle.mu_knowledge.specs.KnownLog.{StandsForKnownLog}
+use Rattle.mu_knowledge.specs.RowWords.{StandsForRowWords}
 use Rattle.mu_follow.specs.declared.follow.Follow.{Follow}
 use Rattle.mu_follow.specs.Commits.{HoldsCommits}
 use Rattle.mu_follow.specs.Completion.{HoldsCompletion}

@@ -6,7 +6,7 @@ use Rattle.kv_store.specs.Commands.{Request}
 use Rattle.mu_rows.specs.Rows.{IsCommand, spelled}
 use Rattle.mu_model.specs.declared.config.Config.{Config}
 use Rattle.mu_model.specs.Contents.{is_batch, rest_of, row_count}
-use Rattle.mu_known.specs.RowWords.{config_words}
+use Rattle.mu_knowledge.specs.RowWords.{config_words}
 
 -- how many rows the entry has: those of its batch, and a mark none
 abbrev pub group_size : Config → ℕ → ℕ

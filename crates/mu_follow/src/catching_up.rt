@@ -7,13 +7,13 @@ ghost use Rattle.mu_model.specs.Allowed.{Allowed};
 ghost use Rattle.mu_model.specs.Contents.{IsConfig, row_count};
 ghost use Rattle.mu_model.specs.Knowledge.{applied, has_word, known};
 ghost use Rattle.mu_model.specs.Parts.{IsPossible};
-ghost use Rattle.mu_known.specs.HeldRows.{StandsForHeldRows};
+ghost use Rattle.mu_knowledge.specs.HeldRows.{StandsForHeldRows};
 ghost use Rattle.mu_follow.specs.CatchingUp.{catch_up_due, entry_due, lacked_word_of, lacked_word_due, words_had as words_had_of};
 ghost use Rattle.mu_follow.specs.Due.{IsReplay, first_word_of, next_due};
 ghost use Rattle.mu_follow.specs.Follow.{StandsForFollow};
 
 use crate::follow::{Follow, missing_row};
-use mu_known::HeldRows;
+use mu_knowledge::HeldRows;
 use mu_model::Verb;
 
 /// How many words a row has.

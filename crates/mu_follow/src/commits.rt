@@ -1,7 +1,7 @@
 //! What a replica committed.
 ghost use Rattle.std.specs.Prelude.{[], length, vec_capacity, ◌++◌, ◌<◌, ◌∷◌, ◌≡◌};
 
-use mu_known::Commit;
+use mu_knowledge::Commit;
 
 /// Adds a commit, if there is room: there is, for each position.
 pub(crate) fn push_commit(commits: &mut Vec<Commit>, commit: Commit)

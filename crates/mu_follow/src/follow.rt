@@ -11,12 +11,12 @@ ghost use Rattle.mu_model.specs.Parts.{IsPossible};
 ghost use Rattle.mu_model.specs.Regions.{region_head};
 ghost use Rattle.mu_model.specs.Room.{reserve};
 ghost use Rattle.mu_model.specs.Scores.{least_below};
-ghost use Rattle.mu_filled.specs.FilledLogs.{StandsForFilledLog};
-ghost use Rattle.mu_known.specs.HeldRows.{StandsForHeldRows};
-ghost use Rattle.mu_known.specs.KnownLog.{StandsForKnownLog};
-ghost use Rattle.mu_known.specs.RowWords.{StandsForRowWords};
-ghost use Rattle.mu_known.specs.KnownLog.{HoldsValues};
-ghost use Rattle.mu_known.specs.Commits.{pair_of};
+ghost use Rattle.mu_knowledge.specs.FilledLog.{StandsForFilledLog};
+ghost use Rattle.mu_knowledge.specs.HeldRows.{StandsForHeldRows};
+ghost use Rattle.mu_knowledge.specs.KnownLog.{StandsForKnownLog};
+ghost use Rattle.mu_knowledge.specs.RowWords.{StandsForRowWords};
+ghost use Rattle.mu_knowledge.specs.KnownLog.{HoldsValues};
+ghost use Rattle.mu_knowledge.specs.Commits.{pair_of};
 ghost use Rattle.mu_follow.specs.Due.{IsReplay, ahead_due, first_word_of, fuo_due, head_due, look_due, next_due, next_word_of, other_head_due, other_of, raise_due, replay_due, row_under_way, word_due};
 ghost use Rattle.mu_follow.specs.Follow.{HoldsFollow, StandsForFollow};
 ghost use Rattle.mu_follow.specs.Published.{head_heard};
@@ -24,8 +24,7 @@ ghost use Rattle.mu_follow.specs.Published.{head_heard};
 use crate::completion::Completion;
 use crate::progress::Progress;
 use crate::published::Published;
-use mu_filled::FilledLog;
-use mu_known::{Commit, HeldRows, KnownLog, RowWords};
+use mu_knowledge::{Commit, FilledLog, HeldRows, KnownLog, RowWords};
 use mu_model::{Config, NoMemory, PAYLOADS, Verb, positions_in, row_rest, stands_for_batch};
 use std::alloc::Global;
 
@@ -153,7 +152,10 @@ fn no_words(alloc: Global, config: &Config) -> Result<(RowWords, FilledLog), NoM
     ensures words { IfOk result (λ t. (r : ℕ) → StandsForRowWords config.now r [] t.0) }
     ensures filled { IfOk result (λ t. (r p : ℕ) → StandsForFilledLog config.now r p [] t.1) }
 {
-    Ok((RowWords::new(alloc, config)?, FilledLog::new(alloc, config)?))
+    Ok((
+        RowWords::new(alloc, config)?,
+        FilledLog::new(alloc, config)?,
+    ))
 }
 
 impl Follow {

@@ -6,7 +6,7 @@ ghost use Rattle.mu_model.specs.declared.config.Config.{Config};
 ghost use Rattle.mu_model.specs.declared.event.Event.{Event};
 ghost use Rattle.mu_model.specs.Contents.{row_count};
 ghost use Rattle.mu_model.specs.Knowledge.{applied};
-ghost use Rattle.mu_known.specs.RowWords.{config_words, words_held};
+ghost use Rattle.mu_knowledge.specs.RowWords.{config_words, words_held};
 ghost use Rattle.mu_follow.specs.Follow.{StandsForFollow};
 ghost use Rattle.mu_follow.specs.Groups.{IsSpelled, Spells, group_size};
 

@@ -6,9 +6,9 @@ ghost use Rattle.mu_model.specs.declared.event.Event.{Event};
 ghost use Rattle.mu_model.specs.Contents.{IsConfig};
 ghost use Rattle.mu_model.specs.Knowledge.{applied, is_value, known};
 ghost use Rattle.mu_model.specs.Parts.{IsPossible};
-ghost use Rattle.mu_filled.specs.FilledLogs.{filled_spot};
-ghost use Rattle.mu_known.specs.HeldRows.{StandsForHeldRows};
-ghost use Rattle.mu_known.specs.KnownLog.{StandsForKnownLog};
+ghost use Rattle.mu_knowledge.specs.FilledLog.{filled_spot};
+ghost use Rattle.mu_knowledge.specs.HeldRows.{StandsForHeldRows};
+ghost use Rattle.mu_knowledge.specs.KnownLog.{StandsForKnownLog};
 ghost use Rattle.mu_follow.specs.declared.kind.Kind.{Kind};
 ghost use Rattle.mu_follow.specs.Completion.{HoldsCompletion};
 ghost use Rattle.mu_follow.specs.Follow.{AwaitsEntry, HoldsFollow, StandsForFollow, commit_of};
@@ -19,8 +19,7 @@ use crate::completion::Completion;
 use crate::follow::Follow;
 use crate::kind::{Kind, kind_of};
 use crate::outrunning::outrun_after;
-use mu_filled::fuo_in;
-use mu_known::{Commit, HeldRows, KnownLog};
+use mu_knowledge::{Commit, HeldRows, KnownLog, fuo_in};
 use mu_model::{Answer, Config, Event, Verb};
 
 /// How many steps there were, after one more.

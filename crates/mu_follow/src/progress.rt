@@ -4,7 +4,7 @@ ghost use Rattle.mu_model.specs.declared.event.Event.{Event as SomeEvent};
 ghost use Rattle.mu_model.specs.Histories.{max_with};
 ghost use Rattle.mu_follow.specs.Due.{own_fuo, row_under_way};
 
-use mu_known::LAST_WORD;
+use mu_knowledge::LAST_WORD;
 use mu_model::{Answer, Event, Verb};
 
 /// How far the replayer is.

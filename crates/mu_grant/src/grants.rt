@@ -9,8 +9,9 @@ ghost use Rattle.mu_model.specs.Histories.{all_below, or_zero};
 ghost use Rattle.mu_model.specs.Leaderships.{owner_is};
 ghost use Rattle.mu_model.specs.Regions.{fence_closing, fence_owner};
 ghost use Rattle.mu_model.specs.Serving.{drained_since_close, has_unserved_ask, is_least_waiting, looked_since_close, must_drain, seen_asks, served, served_as_owner, served_by_grant};
-ghost use Rattle.mu_grant.specs.Stands.{close_named, Gives, HoldsGuest, HoldsGuests, IsDue, StandsFor, guest_named, is_host_step};
+ghost use Rattle.mu_grant.specs.Stands.{close_named, Gives, HoldsGuest, HoldsGuests, IsDue, StandsFor, guest_named};
 
+use crate::verbs::{guest_of, is_of_host};
 use mu_model::{Answer, Event, Target, Verb};
 
 /// What the host has read of the asks of one replica.
@@ -202,26 +203,6 @@ impl Guest {
             → result ≡ nat_lt (served r w mine) (seen_asks r w mine) }
     {
         self.at_grant.max(self.as_owner) < self.seen
-    }
-}
-
-/// Whether the verb reads asks, or is one of a host: no other changes what a host holds.
-fn is_of_host(verb: &Verb) -> bool
-    ensures { result ≡ is_host_step verb.now }
-{
-    match *verb {
-        Verb::ReadAsk(_) | Verb::Close | Verb::LookTarget | Verb::Drain | Verb::Grant(_) => true,
-        _ => false,
-    }
-}
-
-/// The guest whose asks are read, or that is granted the region.
-fn guest_of(verb: &Verb) -> Option<u8>
-    ensures { result ≡ guest_named verb.now }
-{
-    match *verb {
-        Verb::ReadAsk(w) | Verb::Grant(w) => Some(w),
-        _ => None,
     }
 }
 

@@ -8,6 +8,7 @@ ghost use Rattle.mu_grant.specs.Pace.{DueFollows, GrantsInTheRound, GrantsWithin
 ghost use Rattle.mu_grant.specs.Stands.{OthersKeep};
 
 mod grants;
+mod verbs;
 
 pub use grants::Grants;
 

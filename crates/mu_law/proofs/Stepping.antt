@@ -8,8 +8,8 @@ use Rattle.mu_model.specs.Histories.{part}
 use Rattle.mu_model.specs.Legal.{IsLegalHistory}
 use Rattle.mu_model.specs.Parts.{IsPossible}
 use Rattle.mu_model.proofs.Budgets.{short_history}
-use Rattle.mu_parts.specs.Parts.{StandsForReplica}
-use Rattle.mu_parts.specs.declared.replica.Replica.{Replica}
+use Rattle.mu_replicas.specs.Stands.{StandsForReplica}
+use Rattle.mu_replicas.specs.declared.replica.Replica.{Replica}
 use Rattle.mu_model.proofs.Parts.{part_of_maker, possible_for_maker}
 
 -- a legal history is short

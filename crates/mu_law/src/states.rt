@@ -3,12 +3,12 @@ ghost use Rattle.std.specs.Prelude.{IfOk, ◌<◌};
 ghost use Rattle.mu_model.specs.Contents.{IsConfig};
 ghost use Rattle.mu_model.specs.Histories.{history, part};
 ghost use Rattle.mu_model.specs.Legal.{IsLegal};
-ghost use Rattle.mu_parts.specs.Parts.{StandsForReplica};
+ghost use Rattle.mu_replicas.specs.Stands.{StandsForReplica};
 ghost use Rattle.mu_regions.specs.Stands.{Stands};
 
 use mu_model::{Config, Event, NoMemory};
-use mu_parts::Replica;
 use mu_regions::Regions;
+use mu_replicas::Replica;
 use std::alloc::Global;
 
 /// The state of the replica `r` after its events in the list.

@@ -10,8 +10,8 @@ use Rattle.mu_model.specs.declared.event.Verb.{Verb}
 use Rattle.mu_model.specs.Allowed.{Allowed}
 use Rattle.mu_model.specs.Contents.{is_batch, rest_of, row_count}
 use Rattle.mu_model.proofs.Basics.{none_some, same_some}
-use Rattle.mu_known.specs.Offers.{IsFirst, first_in}
-use Rattle.mu_known.proofs.Firsts.{first_in_is}
+use Rattle.mu_knowledge.specs.Offers.{IsFirst, first_in}
+use Rattle.mu_knowledge.proofs.Firsts.{first_in_is}
 use Rattle.mu_lead.specs.declared.lead.Lead.{Lead}
 use Rattle.mu_lead.specs.declared.place.Offer.{Offer}
 use Rattle.mu_lead.specs.declared.place.Place.{Place}

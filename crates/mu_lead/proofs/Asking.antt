@@ -10,7 +10,7 @@ use Rattle.mu_model.specs.declared.event.Verb.{Verb}
 use Rattle.mu_model.specs.Leaderships.{begins_leadership, grant_at_joining, is_changed, is_over, noted_grant}
 use Rattle.mu_model.proofs.Basics.{event_by, same_number}
 use Rattle.mu_lead.specs.Confirming.{AtAsk, AtConfirm, AtReadMin, Confirmed, Fresh}
-use Rattle.mu_known.specs.Offers.{IsFirst}
+use Rattle.mu_knowledge.specs.Offers.{IsFirst}
 
 -- an `Ask(0)` begins a leadership
 pub begins_now : (r : ℕ) (answer : Answer) → begins_leadership r (event_by r (Verb.Ask 0) answer) ≡ true

@@ -19,7 +19,7 @@ use Rattle.mu_model.specs.Placing.{is_caught_up_at, is_known_put, is_within_ring
 use Rattle.mu_model.proofs.Basics.{event_by, or_true, same_number, true_or}
 use Rattle.mu_lead.specs.declared.place.Then.{Then}
 use Rattle.mu_lead.specs.Leading.{AtEnterBehind, AtFenceBehind, AtPutBehind, AtRaiseBehind, AtReadFuo, AtWiden, Behind, Brought, HasMost, HasPutNone, HaveAtMost, HaveBelow, HaveFew, IsClear, IsDone, IsLeft, IsMember, IsRaised, IsRead, Leads, Level, Near, RaisedBelow, end_of, is_put_at}
-use Rattle.mu_known.specs.Offers.{IsFirst}
+use Rattle.mu_knowledge.specs.Offers.{IsFirst}
 use Rattle.mu_lead.proofs.Copying.{fuo_read_on, put_elsewhere, puts_low, read_less}
 use Rattle.mu_lead.proofs.Keeping.{fuo_event, leads_kept, raise_event, raised_other}
 use Rattle.mu_lead.proofs.Tables.{brought_kept, caught_up_with}

@@ -8,8 +8,8 @@ use Rattle.mu_model.specs.Placing.{is_within_ring}
 use Rattle.mu_lead.specs.declared.place.Place.{Place}
 use Rattle.mu_lead.specs.declared.place.Then.{Then}
 use Rattle.mu_lead.specs.Listing.{Tables, after_members, after_region, bring_up, bring_up_from, late_from, next_position, or_else}
-use Rattle.mu_known.specs.Offers.{IsFirst, first_in}
-use Rattle.mu_known.proofs.Firsts.{found_is}
+use Rattle.mu_knowledge.specs.Offers.{IsFirst, first_in}
+use Rattle.mu_knowledge.proofs.Firsts.{found_is}
 
 -- the place of what was found
 pub found_place : (test : ℕ → Bool) (from start n : ℕ) (o : Option ℕ) (there : ℕ → Place) (other : Place) → start ≡ from → IsFirst test start n o → or_else o there other ≡ or_else (first_in test from n) there other

@@ -14,8 +14,8 @@ use Rattle.mu_model.specs.Leaderships.{is_member, leadership}
 use Rattle.mu_model.specs.Placing.{fuo_read_or_raised, is_known_put, is_within_ring, reaches_head}
 use Rattle.mu_model.specs.Room.{reserve}
 use Rattle.mu_model.proofs.Basics.{event_by, same_number, true_or}
-use Rattle.mu_leading.specs.Leadership.{StandsForLeadership}
-use Rattle.mu_leading.specs.declared.leadership.Leadership.{Leadership}
+use Rattle.mu_leadership.specs.Leadership.{StandsForLeadership}
+use Rattle.mu_leadership.specs.declared.leadership.Leadership.{Leadership}
 use Rattle.mu_lead.specs.Stepping.{is_calm}
 use Rattle.mu_lead.specs.Leading.{Brought, HasMost, HoldsTables, IsMember, IsRaised, IsReached, Leads, end_of}
 

@@ -28,10 +28,10 @@ use Rattle.mu_lead.specs.Leading.{end_of}
 use Rattle.mu_lead.specs.Listing.{after_round, late_from, member_from, next_place, noted_from, or_else, or_own}
 use Rattle.mu_lead.specs.Offering.{AtPut}
 use Rattle.mu_lead.specs.Raising.{IsRaisedEverywhere, RaisesAt}
-use Rattle.mu_known.specs.Offers.{IsFirst}
+use Rattle.mu_knowledge.specs.Offers.{IsFirst}
 use Rattle.mu_lead.specs.Welcomes.{JoinsAt}
 use Rattle.mu_lead.proofs.Confirms.{anywhere, last_fence, later_read, next_fence, read_on, round_again, unconfirmed_fence}
-use Rattle.mu_known.proofs.Firsts.{first_in_is}
+use Rattle.mu_knowledge.proofs.Firsts.{first_in_is}
 use Rattle.mu_lead.proofs.Gathering.{lost_over}
 use Rattle.mu_lead.proofs.Joins.{answered, four_left, joined, joins_anywhere, none_asked, none_fenced, none_numbered, over_answers, quiet_at, read_fuo, read_min, waits_on, welcomed_or_not}
 use Rattle.mu_lead.proofs.Misses.{explained_anywhere, explained_on, fenced_now, landed_min, landed_slot, waits_now}

@@ -23,7 +23,7 @@ use Rattle.mu_agree.proofs.Readings.{parts_stay_past_law}
 use Rattle.mu_lead.specs.declared.place.Sight.{Sight}
 use Rattle.mu_lead.specs.Leading.{HoldsTables, Level, end_of}
 use Rattle.mu_lead.specs.Offering.{AtEnter, AtLook, IsCandidate, Looked, Looking, MayBeMarked, MayOffer, Roomy, entry_in, has_seen_past, leaves_room}
-use Rattle.mu_known.specs.Offers.{IsFirst}
+use Rattle.mu_knowledge.specs.Offers.{IsFirst}
 use Rattle.mu_lead.proofs.Bringing.{look_event, looked_now}
 use Rattle.mu_lead.proofs.Keeping.{leads_kept}
 use Rattle.mu_lead.proofs.Sights.{all_empty}

@@ -5,11 +5,11 @@ use Rattle.std.specs.declared.option.Option.{Option}
 use Rattle.std.proofs.lemmas.Bool.{cases_eq, cases_lt, false_from_ne_true}
 use Rattle.mu_model.specs.declared.config.Config.{Config}
 use Rattle.mu_model.specs.Contents.{client_of, command_count, row_count}
-use Rattle.mu_known.specs.Offers.{IsFirst, IsNextRow, batch_of, begins_after, clients_below, first_in}
+use Rattle.mu_knowledge.specs.Offers.{IsFirst, IsNextRow, batch_of, begins_after, clients_below, first_in}
 use Rattle.mu_lead.specs.Listing.{batch_of_named, client_round, own_offer}
-use Rattle.mu_known.proofs.Firsts.{first_in_is, found_is}
-use Rattle.mu_known.proofs.Lasts.{below_clients}
-use Rattle.mu_known.proofs.NextRows.{after_passes, next_row, no_next_row}
+use Rattle.mu_knowledge.proofs.Firsts.{first_in_is, found_is}
+use Rattle.mu_knowledge.proofs.Lasts.{below_clients}
+use Rattle.mu_knowledge.proofs.NextRows.{after_passes, next_row, no_next_row}
 use Rattle.mu_model.proofs.Basics.{none_some}
 
 -- if the client has no next batch

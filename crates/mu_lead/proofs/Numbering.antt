@@ -17,7 +17,7 @@ use Rattle.mu_agree.proofs.Counting.{count_more}
 use Rattle.mu_agree.proofs.Landings.{has_since}
 use Rattle.mu_lead.specs.Confirming.{AtEnterMin, AtPutMin, AtReadMin, HasGrant, HoldsGrants, Numbered, Telling, greatest_min}
 use Rattle.mu_lead.specs.Leading.{AtReadFuo, HasPutNone, Leads}
-use Rattle.mu_known.specs.Offers.{IsFirst}
+use Rattle.mu_knowledge.specs.Offers.{IsFirst}
 
 granted : (t : Bool) (x g : ℕ) → cond t (Some x) None ≡ Some g → (x == g) ≡ true
 granted true x g is = eq-eqb x g (same_some x g is)

@@ -16,7 +16,7 @@ use Rattle.mu_model.proofs.Scans.{all_at, each_all}
 use Rattle.mu_lead.specs.declared.place.Offer.{Offer}
 use Rattle.mu_lead.specs.Leading.{HoldsTables}
 use Rattle.mu_lead.specs.Offering.{IsNextBatch, Looking, Writing}
-use Rattle.mu_known.specs.Offers.{IsNextRow}
+use Rattle.mu_knowledge.specs.Offers.{IsNextRow}
 use Rattle.mu_lead.proofs.Due.{default_is, last_there}
 use Rattle.mu_lead.proofs.Keeping.{leads_kept}
 use Rattle.mu_lead.proofs.Tables.{brought_kept, head_kept, reached_kept}

@@ -26,7 +26,7 @@ use Rattle.mu_lead.specs.Gathering.{FollowsFence, FollowsRound, GoesFrom, LeadsO
 use Rattle.mu_lead.specs.Lasting.{step_of}
 use Rattle.mu_lead.specs.Leading.{end_of}
 use Rattle.mu_lead.specs.Listing.{Tables, after_head, behind_from, farther, first_member, larger_sight, low_from, member_from, sight_of, stranger_from, after_look, after_members, after_region, after_round, bring_up, bring_up_from, heads_from, late_from, learn_from, least_candidate, may_mark, next_place, next_position, noted_from, number_told, offer_row, or_else, own_offer, pick, unless_lost, unless_missed, write_from}
-use Rattle.mu_known.specs.Offers.{first_in}
+use Rattle.mu_knowledge.specs.Offers.{first_in}
 use Rattle.mu_lead.specs.Standing.{At}
 use Rattle.mu_lead.proofs.Gathering.{higher_over, lost_over, missed_min_over, missed_slot_over}
 use Rattle.mu_lead.proofs.Replies.{enters_or, puts_min_or, puts_slot_or, tells_min}

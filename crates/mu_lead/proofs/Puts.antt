@@ -25,7 +25,7 @@ use Rattle.mu_agree.proofs.Possible.{parts_shorten_law}
 use Rattle.mu_lead.specs.Confirming.{HasGrant, HoldsGrants}
 use Rattle.mu_lead.specs.Leading.{AtRaise, Brought, HaveAtMost, HaveBelow, HoldsTables, IsRaised, IsRead, Level, end_of}
 use Rattle.mu_lead.specs.Offering.{AtEnter, AtPut, Offering, took}
-use Rattle.mu_known.specs.Offers.{IsFirst}
+use Rattle.mu_knowledge.specs.Offers.{IsFirst}
 use Rattle.mu_lead.proofs.Bringing.{enter_event, looked_then, put_event}
 use Rattle.mu_lead.proofs.Copying.{read_less}
 use Rattle.mu_lead.proofs.Keeping.{leads_kept, raise_event, raised_other}

@@ -11,10 +11,10 @@ use Rattle.mu_model.specs.Room.{reserve}
 use Rattle.mu_agree.proofs.Fitting.{parts_fit_law}
 use Rattle.mu_agree.proofs.NextBatch.{parts_have_next_law}
 use Rattle.mu_agree.proofs.Possible.{parts_in_session_law}
-use Rattle.mu_leading.proofs.Within.{known_few}
+use Rattle.mu_agree.proofs.Within.{known_few}
 use Rattle.mu_lead.specs.Leading.{end_of}
 use Rattle.mu_lead.specs.Offering.{AtRest}
-use Rattle.mu_known.specs.Offers.{IsNextRow}
+use Rattle.mu_knowledge.specs.Offers.{IsNextRow}
 
 -- what is asked of the known list is asked of what the replica knows
 pub knows_is : (c : Config) (r : ℕ) (mine : List Event) (values : List ℕ) (told : Bool) → IsConfig c → IsPossible c r mine → values ≡ known c r mine

@@ -12,7 +12,7 @@ use Rattle.mu_model.specs.Picks.{highest_accepted}
 use Rattle.mu_model.specs.Room.{last_head, reserve}
 use Rattle.mu_lead.specs.Leading.{Level, end_of}
 use Rattle.mu_lead.specs.Offering.{AtLook, AtReadHead, Roomy, leaves_room}
-use Rattle.mu_known.specs.Offers.{IsFirst}
+use Rattle.mu_knowledge.specs.Offers.{IsFirst}
 
 -- the heads are read from the first replica on
 pub roomy_first : (c : Config) (r : ℕ) (mine : List Event) → end_of c r mine < row_count c + reserve c → holds_all c (known c r mine) ≡ false → Roomy c r mine 0 None

@@ -20,9 +20,9 @@ use Rattle.mu_lead.specs.Confirming.{AtReadMin}
 use Rattle.mu_lead.specs.Lasting.{step_of}
 use Rattle.mu_lead.specs.Listing.{Tables, after_round, first_member, next_place, noted_from, or_else}
 use Rattle.mu_lead.specs.Rooms.{IsNumbering, IsReading, IsWaiting, RoomsAt}
-use Rattle.mu_known.specs.Offers.{IsFirst}
+use Rattle.mu_knowledge.specs.Offers.{IsFirst}
 use Rattle.mu_lead.specs.Standing.{At}
-use Rattle.mu_known.proofs.Firsts.{first_in_is}
+use Rattle.mu_knowledge.proofs.Firsts.{first_in_is}
 use Rattle.mu_lead.proofs.Replies.{enters_or, puts_min_or, sees_fence}
 use Rattle.mu_lead.proofs.RoomsAsking.{begins_reading, out_again, rooms_ask, rooms_fence, rooms_first_ask}
 use Rattle.mu_lead.proofs.RoomsMin.{rooms_entered, rooms_evidence, rooms_last_join, rooms_last_min, rooms_lost, rooms_missed_min, rooms_next_join, rooms_next_min}

@@ -20,8 +20,8 @@ use Rattle.mu_model.specs.declared.event.Fence.{Fence}
 use Rattle.mu_model.specs.declared.event.Target.{Target}
 use Rattle.mu_model.specs.declared.event.Verb.{Verb}
 use Rattle.mu_agree.proofs.Possible.{parts_shorten_law}
-use Rattle.mu_known.proofs.Firsts.{first_in_is}
-use Rattle.mu_known.specs.Offers.{IsFirst, first_in}
+use Rattle.mu_knowledge.proofs.Firsts.{first_in_is}
+use Rattle.mu_knowledge.specs.Offers.{IsFirst, first_in}
 use Rattle.mu_lead.proofs.Bringing.{look_event, look_known, put_event}
 use Rattle.mu_lead.proofs.Copying.{first_read, uncopied}
 use Rattle.mu_lead.proofs.Due.{last_there}

@@ -11,8 +11,8 @@ use Rattle.mu_model.specs.Placing.{is_within_ring}
 use Rattle.mu_model.specs.Room.{reserve}
 use Rattle.mu_model.specs.declared.config.Config.{Config}
 use Rattle.mu_model.specs.declared.event.Event.{Event}
-use Rattle.mu_known.proofs.Firsts.{first_in_is}
-use Rattle.mu_known.specs.Offers.{IsFirst, first_in}
+use Rattle.mu_knowledge.proofs.Firsts.{first_in_is}
+use Rattle.mu_knowledge.specs.Offers.{IsFirst, first_in}
 use Rattle.mu_lead.proofs.RoomsBrought.{level_brought}
 use Rattle.mu_lead.proofs.RoomsPutting.{in_turn}
 use Rattle.mu_lead.proofs.RoomsWriting.{some_words, words_few}

@@ -19,7 +19,7 @@ use Rattle.mu_pace.proofs.Placed.{places_lead}
 use Rattle.mu_pace.proofs.Weights.{weights_fall}
 use Rattle.mu_lead.specs.Onward.{IsNextStranger, MayGoOn}
 use Rattle.mu_lead.specs.Rooms.{IsLed, sizes_of}
-use Rattle.mu_known.specs.Offers.{IsFirst}
+use Rattle.mu_knowledge.specs.Offers.{IsFirst}
 use Rattle.mu_lead.proofs.RoomsMin.{more_sizes}
 use Rattle.mu_lead.proofs.RoomsQuiet.{IsSilent, config_is_sized, steps_on}
 

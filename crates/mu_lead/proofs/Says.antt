@@ -21,7 +21,7 @@ use Rattle.mu_lead.specs.declared.lead.Lead.{Lead}
 use Rattle.mu_lead.specs.declared.note.AbortCause.{AbortCause}
 use Rattle.mu_lead.specs.declared.note.Note.{Note}
 use Rattle.mu_lead.specs.declared.place.Place.{Place}
-use Rattle.mu_leading.proofs.Within.{known_few}
+use Rattle.mu_agree.proofs.Within.{known_few}
 use Rattle.mu_model.proofs.Basics.{event_by}
 use Rattle.mu_model.specs.Contents.{IsConfig, IsInSession, holds_all}
 use Rattle.mu_model.specs.Diligence.{is_confirmed as is_confirmed_by}

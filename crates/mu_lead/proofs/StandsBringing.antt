@@ -1,6 +1,6 @@
 -- What stands lasts along the listing while what is known is learnt and members are brought up.
-use Rattle.mu_known.proofs.Firsts.{first_in_is}
-use Rattle.mu_known.specs.Offers.{IsFirst}
+use Rattle.mu_knowledge.proofs.Firsts.{first_in_is}
+use Rattle.mu_knowledge.specs.Offers.{IsFirst}
 use Rattle.mu_lead.proofs.Bringing.{behind_put, done_behind, enter_event, enters_behind, fences_behind, look_event, most_all, near_widened, put_event, put_known, puts_behind, raised_before, raised_behind, raised_read, read_all, reads_more}
 use Rattle.mu_lead.proofs.Copying.{fuo_read_now}
 use Rattle.mu_lead.proofs.Keeping.{fuo_event, leads_kept, most_on, most_up, raise_event, raised_now, source_calm}

@@ -1,6 +1,6 @@
 -- What stands at a place lasts along the listing, with the tables.
-use Rattle.mu_known.proofs.Firsts.{first_in_is}
-use Rattle.mu_known.specs.Offers.{IsFirst}
+use Rattle.mu_knowledge.proofs.Firsts.{first_in_is}
+use Rattle.mu_knowledge.specs.Offers.{IsFirst}
 use Rattle.mu_lead.proofs.Asking.{begins_not}
 use Rattle.mu_lead.proofs.Bringing.{put_event}
 use Rattle.mu_lead.proofs.Keeping.{fuo_event}

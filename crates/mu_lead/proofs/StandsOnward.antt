@@ -1,6 +1,6 @@
 -- What stands wherever the listing goes on: to late followers, to the next position, to the members that are behind, and to the value.
-use Rattle.mu_known.proofs.Firsts.{first_in_is}
-use Rattle.mu_known.specs.Offers.{IsFirst, first_in}
+use Rattle.mu_knowledge.proofs.Firsts.{first_in_is}
+use Rattle.mu_knowledge.specs.Offers.{IsFirst, first_in}
 use Rattle.mu_lead.proofs.Bringing.{first_behind, none_behind}
 use Rattle.mu_lead.proofs.Copying.{clear_all}
 use Rattle.mu_lead.proofs.Looks.{enters_new, may_adopt, may_mark_it, may_offer_own}

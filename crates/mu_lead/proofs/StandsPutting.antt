@@ -1,7 +1,7 @@
 -- What stands lasts along the listing at a new position: heads, looks, rows, puts and FUOs.
 use Rattle.mu_agree.proofs.Possible.{parts_shorten_law}
-use Rattle.mu_known.proofs.Firsts.{first_in_is}
-use Rattle.mu_known.specs.Offers.{IsFirst}
+use Rattle.mu_knowledge.proofs.Firsts.{first_in_is}
+use Rattle.mu_knowledge.specs.Offers.{IsFirst}
 use Rattle.mu_lead.proofs.Bringing.{enter_event, look_event, put_event}
 use Rattle.mu_lead.proofs.Copying.{clear_above}
 use Rattle.mu_lead.proofs.Due.{last_there}

@@ -1,8 +1,8 @@
 -- What stands after the leader's step, by the law of its listing: with its leaderships, its tables and its place.
 use Rattle.mu_lead.proofs.StandsLasting.{stands_along}
 use Rattle.mu_lead.proofs.StandsOnward.{Stood}
-use Rattle.mu_known.specs.KnownLog.{HoldsValues}
-use Rattle.mu_known.specs.declared.known_log.KnownLog.{KnownLog}
+use Rattle.mu_knowledge.specs.KnownLog.{HoldsValues}
+use Rattle.mu_knowledge.specs.declared.known_log.KnownLog.{KnownLog}
 use Rattle.mu_lead.proofs.Taking.{StepsNext}
 use Rattle.mu_lead.specs.Journal.{tables_with}
 use Rattle.mu_lead.specs.Lasting.{tables_of, verb_or}
@@ -12,7 +12,7 @@ use Rattle.mu_lead.specs.Standing.{At, NumberAfter, StandsFor, TakesNext, verb_a
 use Rattle.mu_lead.specs.declared.lead.Lead.{Lead}
 use Rattle.mu_lead.specs.declared.note.Note.{Note}
 use Rattle.mu_lead.specs.declared.place.Place.{Place}
-use Rattle.mu_leading.specs.Leadership.{StandsForLeadership}
+use Rattle.mu_leadership.specs.Leadership.{StandsForLeadership}
 use Rattle.mu_model.proofs.Basics.{event_by}
 use Rattle.mu_model.specs.Contents.{IsConfig}
 use Rattle.mu_model.specs.Knowledge.{known}

@@ -1,6 +1,6 @@
 -- What the leader goes by at each place, by the verb that was due there and its answer.
-use Rattle.mu_known.proofs.Firsts.{first_in_is}
-use Rattle.mu_known.specs.Offers.{IsFirst}
+use Rattle.mu_knowledge.proofs.Firsts.{first_in_is}
+use Rattle.mu_knowledge.specs.Offers.{IsFirst}
 use Rattle.mu_lead.proofs.Bringing.{put_known}
 use Rattle.mu_lead.proofs.Puts.{known_more, known_same, took_all}
 use Rattle.mu_lead.proofs.Replies.{puts_slot_or, tells_min}

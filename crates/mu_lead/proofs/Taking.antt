@@ -1,6 +1,6 @@
 -- The leader's step by the answer to the verb that was due, as what lasts along the listing has it.
-use Rattle.mu_known.specs.KnownLog.{HoldsValues}
-use Rattle.mu_known.specs.declared.known_log.KnownLog.{KnownLog}
+use Rattle.mu_knowledge.specs.KnownLog.{HoldsValues}
+use Rattle.mu_knowledge.specs.declared.known_log.KnownLog.{KnownLog}
 use Rattle.mu_lead.specs.Journal.{WritesNext}
 use Rattle.mu_lead.specs.Lasting.{Follows}
 use Rattle.mu_lead.specs.Noting.{NotesNext}

@@ -1,6 +1,6 @@
 -- What the notes tell of the known list.
-use Rattle.mu_known.proofs.Firsts.{first_in_is}
-use Rattle.mu_known.specs.Offers.{IsFirst, first_in}
+use Rattle.mu_knowledge.proofs.Firsts.{first_in_is}
+use Rattle.mu_knowledge.specs.Offers.{IsFirst, first_in}
 use Rattle.mu_lead.proofs.Bringing.{put_known}
 use Rattle.mu_lead.proofs.Commits.{is_adopted, is_committed, none_committed}
 use Rattle.mu_lead.proofs.NoteKinds.{round_quiet}

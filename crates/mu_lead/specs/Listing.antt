@@ -13,7 +13,7 @@ use Rattle.mu_model.specs.Picks.{is_past}
 use Rattle.mu_model.specs.Placing.{is_within_ring}
 use Rattle.mu_model.specs.Room.{reserve}
 use Rattle.mu_model.specs.Scores.{is_failed}
-use Rattle.mu_known.specs.Offers.{batch_of, clients_below, first_in}
+use Rattle.mu_knowledge.specs.Offers.{batch_of, clients_below, first_in}
 use Rattle.mu_lead.specs.declared.place.Offer.{Offer}
 use Rattle.mu_lead.specs.declared.place.Place.{Place}
 use Rattle.mu_lead.specs.declared.place.Sight.{Sight}

@@ -11,7 +11,7 @@ use Rattle.mu_pace.specs.Weights.{AtRoom, Bringing, Stage, is_first}
 use Rattle.mu_lead.specs.declared.place.Then.{Then}
 use Rattle.mu_lead.specs.Leading.{end_of}
 use Rattle.mu_lead.specs.Rooms.{IsLed, lag_of, sizes_of}
-use Rattle.mu_known.specs.Offers.{IsFirst}
+use Rattle.mu_knowledge.specs.Offers.{IsFirst}
 
 -- the first region from p on that isn't a member
 abbrev pub IsNextStranger : Config → ℕ → List Event → ℕ → Option ℕ → Type 0

@@ -12,7 +12,7 @@ use Rattle.mu_model.specs.Entering.{number_allowed}
 use Rattle.mu_model.specs.Knowledge.{grown, known}
 use Rattle.mu_model.specs.Parts.{IsPossible}
 use Rattle.mu_model.specs.Scores.{is_failed}
-use Rattle.mu_leading.specs.Leadership.{StandsForLeadership}
+use Rattle.mu_leadership.specs.Leadership.{StandsForLeadership}
 use Rattle.mu_lead.specs.declared.lead.Lead.{Lead}
 use Rattle.mu_lead.specs.declared.place.Place.{Place}
 use Rattle.mu_lead.specs.Confirming.{AtAsk, AtConfirm, AtEnterMin, AtEvidence, AtPutMin, AtReadMin}

@@ -9,9 +9,9 @@ use Rattle.mu_model.specs.declared.event.Verb.{Verb}
 use Rattle.mu_model.specs.Knowledge.{known}
 use Rattle.mu_model.specs.Parts.{IsPossible}
 use Rattle.mu_model.specs.Scores.{is_failed}
-use Rattle.mu_known.specs.KnownLog.{HoldsValues}
-use Rattle.mu_known.specs.declared.known_log.KnownLog.{KnownLog}
-use Rattle.mu_leading.specs.Leadership.{StandsForLeadership}
+use Rattle.mu_knowledge.specs.KnownLog.{HoldsValues}
+use Rattle.mu_knowledge.specs.declared.known_log.KnownLog.{KnownLog}
+use Rattle.mu_leadership.specs.Leadership.{StandsForLeadership}
 use Rattle.mu_lead.specs.declared.lead.Lead.{Lead}
 use Rattle.mu_lead.specs.declared.note.Note.{Note}
 use Rattle.mu_lead.specs.declared.place.Place.{Place}
@@ -75,7 +75,8 @@ pub record IsAnswered (mine : List Event) (l : Lead) (values : List ℕ) (verb :
   pub stands : StandsFor mine l
   pub heeded : HasHeeded mine l
   pub due : verb_of l (known l.config l.id mine) ≡ Some verb
-  pub possible : IsPossible l.config l.id (record { by = l.id; verb = verb; answer = answer } ∷ mine)
+  pub possible :
+      IsPossible l.config l.id (record { by = l.id; verb = verb; answer = answer } ∷ mine)
   pub told : values ≡ known_told l.config l.id mine l.id verb answer
 
 -- the leader's step from these events: it keeps its leaderships with the event, picks the number if
@@ -92,7 +93,8 @@ pub record Steps (mine : List Event) (old : Lead) (values : List ℕ) (log : Kno
   pub tables : WritesTo old mine verb answer new
   pub place :
       HoldsValues old.config values log
-      → GoesTo old (record { by = old.id; verb = verb; answer = answer } ∷ mine) answer old.place new
+      → GoesTo old (record { by = old.id; verb = verb; answer = answer } ∷ mine) answer
+      old.place new
   pub note :
       told
       ≡ next_note old.config old.id old.number mine

@@ -1,11 +1,11 @@
 //! Commands and marks among the known values, and what a replica offers next.
 ghost use Rattle.std.specs.Prelude.{List, None, is_some, ℕ, [], ◌*◌, ◌++◌, ◌+◌, ◌<◌, ◌∷◌, ◌≡◌, ◌≤◌, length, nat_lt, not};
 ghost use Rattle.mu_model.specs.Contents.{IsConfig, IsInSession, client_of, holds_all, marked, row_count, rows_in, rows_of as rows_of_entry};
-ghost use Rattle.mu_known.specs.KnownLog.{HoldsValues};
-ghost use Rattle.mu_known.specs.Offers.{IsNextRow, NamesRow, batch_of, first_in};
+ghost use Rattle.mu_knowledge.specs.KnownLog.{HoldsValues};
+ghost use Rattle.mu_knowledge.specs.Offers.{IsNextRow, NamesRow, batch_of, first_in};
 ghost use Rattle.mu_lead.specs.Listing.{batch_of_named, own_offer};
 
-use mu_known::KnownLog;
+use mu_knowledge::KnownLog;
 use mu_model::{Config, count_of_rows, row_rest, stands_for_batch, stands_for_mark};
 
 /// Whether a mark of `q` is among some values and `v`.

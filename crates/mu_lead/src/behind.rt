@@ -4,7 +4,7 @@ ghost use Rattle.mu_model.specs.declared.event.Event.{Event};
 ghost use Rattle.mu_model.specs.Knowledge.{known as known_of};
 ghost use Rattle.mu_model.specs.Leaderships.{is_member};
 ghost use Rattle.mu_model.specs.Placing.{is_within_ring};
-ghost use Rattle.mu_known.specs.Offers.{IsFirst};
+ghost use Rattle.mu_knowledge.specs.Offers.{IsFirst};
 ghost use Rattle.mu_lead.specs.Lasting.{tables_of};
 ghost use Rattle.mu_lead.specs.Leading.{end_of as end_of_known};
 ghost use Rattle.mu_lead.specs.Listing.{after_copy, after_fuo, after_members, after_region, bring_up, bring_up_from, farther, learn_from};

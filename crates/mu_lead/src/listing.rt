@@ -1,7 +1,7 @@
 //! The place that follows each place: the listing, as `docs/PROTOCOL.md` has it.
 ghost use Rattle.std.specs.Prelude.{List, ◌≡◌};
 ghost use Rattle.mu_model.specs.declared.event.Event.{Event as SomeEvent};
-ghost use Rattle.mu_known.specs.KnownLog.{HoldsValues};
+ghost use Rattle.mu_knowledge.specs.KnownLog.{HoldsValues};
 ghost use Rattle.mu_lead.specs.Lasting.{tables_of};
 ghost use Rattle.mu_lead.specs.Listing.{Tables, next_place, number_told as number_of, unless_lost as place_unless_lost, unless_missed as place_unless_missed};
 ghost use Rattle.mu_lead.specs.declared.place.Place.{Place as SomePlace};
@@ -14,7 +14,7 @@ ghost use Rattle.std.specs.Prelude.{ℕ, if◌then◌else◌};
 use crate::entries::{larger, sight_in};
 use crate::lead::Lead;
 use crate::place::{Place, Then};
-use mu_known::KnownLog;
+use mu_knowledge::KnownLog;
 use mu_model::Answer;
 
 impl Lead {

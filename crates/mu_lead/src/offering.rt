@@ -5,9 +5,9 @@ ghost use Rattle.mu_model.specs.Contents.{marked, row_count};
 ghost use Rattle.mu_model.specs.Knowledge.{known as known_of};
 ghost use Rattle.mu_model.specs.Room.{reserve};
 ghost use Rattle.mu_model.specs.Scores.{is_failed};
-ghost use Rattle.mu_known.specs.KnownLog.{HoldsValues};
-ghost use Rattle.mu_known.specs.Offers.{IsFirst};
-ghost use Rattle.mu_leading.specs.Leadership.{StandsForLeadership};
+ghost use Rattle.mu_knowledge.specs.KnownLog.{HoldsValues};
+ghost use Rattle.mu_knowledge.specs.Offers.{IsFirst};
+ghost use Rattle.mu_leadership.specs.Leadership.{StandsForLeadership};
 ghost use Rattle.mu_lead.specs.declared.place.Offer.{Offer as SomeOffer};
 ghost use Rattle.mu_lead.specs.declared.place.Place.{Place as SomePlace};
 ghost use Rattle.mu_lead.specs.Lasting.{tables_of};
@@ -22,7 +22,7 @@ use crate::lead::Lead;
 use crate::place::{Offer, Place, Sight, Then};
 use crate::positions::end_of;
 use crate::regions::{next_member, next_stranger};
-use mu_known::KnownLog;
+use mu_knowledge::KnownLog;
 use mu_model::{Answer, count_of_rows, reserve_of, row_rest};
 
 impl Lead {

@@ -6,12 +6,12 @@ ghost use Rattle.mu_model.specs.declared.event.Event.{Event};
 ghost use Rattle.mu_model.specs.declared.event.Verb.{Verb as SomeVerb};
 ghost use Rattle.mu_model.specs.Knowledge.{known as known_of};
 ghost use Rattle.mu_model.specs.Leaderships.{is_member};
-ghost use Rattle.mu_leading.specs.Leadership.{StandsForLeadership};
+ghost use Rattle.mu_leadership.specs.Leadership.{StandsForLeadership};
 ghost use Rattle.mu_lead.specs.Journal.{fuo_in, greater_fuo, heads_with, reach_with, set_where, up_with, written_with};
 ghost use Rattle.mu_lead.specs.Leading.{end_of};
 ghost use Rattle.mu_lead.specs.Stepping.{IsWritten};
 
-use mu_leading::Leadership;
+use mu_leadership::Leadership;
 use mu_model::{Answer, Verb};
 
 /// Writes up to which position each region has what is known. `commits` says whether a put made

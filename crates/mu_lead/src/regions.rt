@@ -3,11 +3,11 @@ ghost use Rattle.std.specs.Prelude.{List, false, get_or, is_some, length, not, t
 ghost use Rattle.mu_model.specs.declared.event.Event.{Event};
 ghost use Rattle.mu_model.specs.Histories.{count_below};
 ghost use Rattle.mu_model.specs.Leaderships.{is_member, noted_grant};
-ghost use Rattle.mu_leading.specs.Leadership.{StandsForLeadership};
+ghost use Rattle.mu_leadership.specs.Leadership.{StandsForLeadership};
 ghost use Rattle.mu_lead.specs.Sets.{bit, bits};
-ghost use Rattle.mu_known.specs.Offers.{IsFirst};
+ghost use Rattle.mu_knowledge.specs.Offers.{IsFirst};
 
-use mu_leading::Leadership;
+use mu_leadership::Leadership;
 
 /// The first member from `from` on, below `n`.
 pub(crate) fn next_member(leading: &Leadership, from: u8, n: u8) -> Option<u8>

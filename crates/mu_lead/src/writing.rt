@@ -6,7 +6,7 @@ ghost use Rattle.mu_model.specs.declared.event.Answer.{Answer as SomeAnswer};
 ghost use Rattle.mu_model.specs.declared.event.Event.{Event as SomeEvent};
 ghost use Rattle.mu_model.specs.Contents.{is_batch, rest_of};
 ghost use Rattle.mu_model.specs.Parts.{IsPossible};
-ghost use Rattle.mu_known.specs.Offers.{IsFirst};
+ghost use Rattle.mu_knowledge.specs.Offers.{IsFirst};
 ghost use Rattle.mu_lead.specs.Ahead.{IsAhead, ahead_at, ahead_event, ahead_verb, entry_before, word_after, word_from};
 ghost use Rattle.mu_lead.specs.Journal.{tables_beside};
 ghost use Rattle.mu_lead.specs.Lasting.{tables_of};

@@ -14,7 +14,7 @@ use Rattle.mu_model.specs.Knowledge.{applied, known}
 use Rattle.mu_model.specs.Parts.{IsPossible}
 use Rattle.mu_model.proofs.Basics.{none_some, same_some}
 use Rattle.mu_model.proofs.Lists.{item_below}
-use Rattle.mu_known.proofs.Fetched.{applied_grows, batch_there}
+use Rattle.mu_knowledge.proofs.Fetched.{applied_grows, batch_there}
 use Rattle.mu_follow.specs.Groups.{AreSpelled, group_of, group_size, groups_of}
 use Rattle.mu_follow.proofs.Kept.{applied_begins, applied_is}
 use Rattle.mu_node.specs.Answering.{Answering}

@@ -24,8 +24,8 @@ use Rattle.mu_model.specs.Stretches.{is_odd, replications}
 use Rattle.mu_model.proofs.Basics.{same_some}
 use Rattle.mu_grant.specs.Pace.{host_place}
 use Rattle.mu_grant.specs.Stands.{is_of_place}
-use Rattle.mu_known.specs.Offers.{IsFirst}
-use Rattle.mu_known.proofs.Firsts.{first_in_is}
+use Rattle.mu_knowledge.specs.Offers.{IsFirst}
+use Rattle.mu_knowledge.proofs.Firsts.{first_in_is}
 use Rattle.mu_lead.specs.declared.place.Place.{Place}
 use Rattle.mu_lead.specs.Beside.{leads_at}
 use Rattle.mu_lead.specs.Journal.{number_due, place_after, tables_at}

@@ -7,7 +7,7 @@ use Rattle.mu_model.specs.declared.event.Event.{Event}
 use Rattle.mu_model.specs.declared.event.Verb.{Verb}
 use Rattle.mu_model.specs.Contents.{config_word, is_batch, rest_of}
 use Rattle.mu_model.specs.Knowledge.{known}
-use Rattle.mu_known.specs.Offers.{first_in}
+use Rattle.mu_knowledge.specs.Offers.{first_in}
 use Rattle.mu_follow.specs.CatchingUp.{or_else}
 use Rattle.mu_lead.specs.Ahead.{entry_before, word_after, word_from, word_of}
 use Rattle.mu_lead.specs.Beside.{leads_at}

@@ -14,7 +14,7 @@ use Rattle.mu_model.specs.Knowledge.{applied, known}
 use Rattle.mu_model.specs.Parts.{IsPossible}
 use Rattle.mu_model.proofs.Scans.{rows_in-append}
 use Rattle.mu_agree.proofs.Sessions.{known_in_session}
-use Rattle.mu_known.proofs.Fetched.{batch_there}
+use Rattle.mu_knowledge.proofs.Fetched.{batch_there}
 use Rattle.mu_follow.specs.Groups.{group_of, groups_of}
 use Rattle.mu_follow.proofs.Kept.{applied_is}
 

@@ -14,8 +14,8 @@ use Rattle.mu_model.specs.Legal.{IsLegalHistory}
 use Rattle.mu_model.specs.Parts.{IsPossible}
 use Rattle.mu_model.specs.Regions.{head_raised, region_head}
 use Rattle.mu_model.specs.Room.{head_read, last_head}
-use Rattle.mu_leading.proofs.Within.{known_few}
-use Rattle.mu_known.proofs.Fetched.{front_fits}
+use Rattle.mu_agree.proofs.Within.{known_few}
+use Rattle.mu_knowledge.proofs.Fetched.{front_fits}
 use Rattle.mu_model.proofs.Parts.{part_is_possible}
 
 few_applied : (c : Config) (r : ℕ) (mine : List Event) → IsConfig c → IsPossible c r mine → length (applied c r mine) < 65536

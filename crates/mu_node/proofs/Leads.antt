@@ -17,13 +17,13 @@ use Rattle.mu_model.specs.Parts.{IsPossible}
 use Rattle.mu_model.specs.Scores.{leader}
 use Rattle.mu_model.proofs.Basics.{none_some}
 use Rattle.mu_grant.specs.Stands.{Gives, is_of_place}
-use Rattle.mu_leading.proofs.Within.{known_few}
+use Rattle.mu_agree.proofs.Within.{known_few}
 use Rattle.mu_follow.specs.declared.follow.Follow.{Follow}
 use Rattle.mu_follow.specs.Due.{IsReplay, is_replay}
 use Rattle.mu_follow.specs.Follow.{AwaitsEntry, HoldsFollow, StandsForFollow, commit_of}
 use Rattle.mu_follow.proofs.Putting.{is_committed, put_known}
-use Rattle.mu_known.specs.declared.known_log.KnownLog.{KnownLog}
-use Rattle.mu_known.specs.KnownLog.{HoldsValues}
+use Rattle.mu_knowledge.specs.declared.known_log.KnownLog.{KnownLog}
+use Rattle.mu_knowledge.specs.KnownLog.{HoldsValues}
 use Rattle.mu_lead.specs.Ahead.{ahead_event, ahead_verb}
 use Rattle.mu_lead.specs.declared.lead.Lead.{Lead}
 use Rattle.mu_lead.specs.Beside.{is_beside, leads_at, writes_row}

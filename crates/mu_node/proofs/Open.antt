@@ -13,7 +13,7 @@ use Rattle.mu_model.specs.Steps.{is_fuo_of, is_fuo_of_verb, is_named, knows_more
 use Rattle.mu_model.specs.Stretches.{is_odd}
 use Rattle.mu_model.proofs.Basics.{none_some, or_true, same_number, same_some, true_or}
 use Rattle.mu_model.proofs.Scans.{each_all}
-use Rattle.mu_known.proofs.Fetched.{read_word}
+use Rattle.mu_knowledge.proofs.Fetched.{read_word}
 use Rattle.mu_follow.specs.CatchingUp.{catch_up_due, entry_due, lacked_word_of, or_else, words_had}
 use Rattle.mu_follow.specs.Due.{replay_due, row_read, row_under_way}
 use Rattle.mu_follow.proofs.Due.{least_below_fails}

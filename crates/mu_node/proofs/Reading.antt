@@ -17,7 +17,7 @@ use Rattle.mu_model.specs.Stretches.{is_odd}
 use Rattle.mu_model.proofs.Lists.{get_front}
 use Rattle.mu_grant.specs.Pace.{host_place}
 use Rattle.mu_grant.specs.Stands.{Gives, is_of_place}
-use Rattle.mu_known.specs.RowWords.{IsOfKnown, IsReadKnown, ReadsKnown}
+use Rattle.mu_knowledge.specs.RowWords.{IsOfKnown, IsReadKnown, ReadsKnown}
 use Rattle.mu_follow.specs.Due.{ahead_due, filled_known, fuo_due, head_due, next_due, other_head_due, other_of, own_fuo, first_word_of, look_due, next_word_of, raise_due, replay_due, row_read, row_under_way, rows_had, word_due}
 use Rattle.mu_lead.specs.declared.place.Place.{Place}
 use Rattle.mu_lead.specs.Beside.{leads_at}

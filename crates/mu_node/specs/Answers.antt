@@ -6,7 +6,7 @@ use Rattle.kv_store.specs.Tables.{replies, replies_from, store, store_from}
 use Rattle.mu_model.specs.declared.config.Config.{Config}
 use Rattle.mu_model.specs.declared.event.Event.{Event}
 use Rattle.mu_model.specs.Contents.{row_count}
-use Rattle.mu_known.specs.RowWords.{config_words, words_held}
+use Rattle.mu_knowledge.specs.RowWords.{config_words, words_held}
 use Rattle.mu_follow.specs.declared.follow.Follow.{Follow}
 use Rattle.mu_follow.specs.Follow.{StandsForFollow}
 use Rattle.mu_follow.specs.Groups.{IsSpelled, groups_of}

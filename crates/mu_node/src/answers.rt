@@ -8,7 +8,7 @@ ghost use Rattle.mu_model.specs.declared.event.Event.{Event};
 ghost use Rattle.mu_model.specs.Contents.{IsConfig};
 ghost use Rattle.mu_model.specs.Knowledge.{applied};
 ghost use Rattle.mu_model.specs.Parts.{IsPossible};
-ghost use Rattle.mu_known.specs.RowWords.{ReadsKnown};
+ghost use Rattle.mu_knowledge.specs.RowWords.{ReadsKnown};
 ghost use Rattle.mu_follow.specs.Follow.{StandsForFollow};
 ghost use Rattle.mu_follow.specs.Groups.{AreSpelled, group_of, group_size};
 ghost use Rattle.mu_node.specs.Answers.{HasAnswered, HoldsAnswers, IsHeldRow};

@@ -1,5 +1,5 @@
 //! One replica and its turns.
-ghost use Rattle.std.specs.Prelude.{IfOk, List, None, Some, [], false, length, take, true, vec_capacity, ℕ, ◌+◌, ◌<◌, ◌≡◌, ◌≤◌};
+ghost use Rattle.std.specs.Prelude.{IfOk, List, None, Some, [], false, length, take, vec_capacity, ℕ, ◌+◌, ◌<◌, ◌≡◌, ◌≤◌};
 ghost use Rattle.mu_model.specs.declared.config.Config.{Config};
 ghost use Rattle.mu_model.specs.declared.event.Event.{Event as SomeEvent};
 ghost use Rattle.mu_model.specs.declared.script.Script.{Script};
@@ -26,7 +26,7 @@ use crate::zeal::Zeal;
 use mu_follow::Follow;
 use mu_grant::Grants;
 use mu_input::Job;
-use mu_known::Commit;
+use mu_knowledge::{Commit, first_values};
 use mu_lead::{Lead, Note};
 use mu_model::{End, Journal, NoMemory, Sequence, Stop, positions_in};
 use mu_port::Port;
@@ -61,13 +61,6 @@ pub struct Node {
     pub(crate) commits: Vec<Commit>,
     /// Its store, and its replies.
     pub(crate) answers: Answers,
-}
-
-/// The first values, or all if there are fewer.
-fn first_of(values: &[u16], count: usize) -> &[u16]
-    ensures { count ≤ length values.now → result.now ≡ take count values.now }
-{
-    &values[..count.min(values.len())]
 }
 
 /// Adds the values, if there is room: there is, for all.
@@ -256,7 +249,10 @@ impl Node {
             mut answers,
         } = self;
         apply_ready(&mut follow, &mut answers);
-        fill_log(&mut log, first_of(follow.known(), follow.applied_count()));
+        fill_log(
+            &mut log,
+            first_values(follow.known(), follow.applied_count()),
+        );
         fill_commits(&mut commits, follow.commits());
         NodeResult {
             journal,

@@ -1,6 +1,6 @@
 //! What one replica leaves.
 use crate::answers::Replies;
-use mu_known::{Commits, Log};
+use mu_knowledge::{Commits, Log};
 use mu_model::{End, Journal};
 
 /// What one replica leaves.

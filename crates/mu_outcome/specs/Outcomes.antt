@@ -20,7 +20,7 @@ use Rattle.mu_model.specs.Parts.{HasParts}
 use Rattle.mu_model.specs.Room.{reserve}
 use Rattle.mu_outcome.specs.declared.outcome.Outcome.{Outcome}
 use Rattle.mu_outcome.specs.declared.status.Status.{Status}
-use Rattle.mu_known.specs.Commits.{pair_of}
+use Rattle.mu_knowledge.specs.Commits.{pair_of}
 use Rattle.mu_outcome.specs.Entries.{commands_in, longest}
 use Rattle.mu_outcome.specs.Statuses.{code_of}
 use Rattle.mu_outcome.specs.Turns.{IsTurns}

@@ -2,7 +2,7 @@
 ghost use Rattle.std.specs.Prelude.{◌≡◌};
 ghost use Rattle.mu_outcome.specs.Entries.{longest as longest_of};
 
-use mu_known::Log;
+use mu_knowledge::Log;
 
 /// The longest log, the first at a tie, and the empty one if there is none. Takes no memory.
 pub fn longest(logs: &[Log]) -> &[u16]

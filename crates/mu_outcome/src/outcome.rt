@@ -3,7 +3,7 @@ ghost use Rattle.mu_outcome.specs.AllEvents.{AreEventsOf, HasEvents};
 
 use kv_store::Reply;
 use mu_input::Job;
-use mu_known::{Commits, Log};
+use mu_knowledge::{Commits, Log};
 use mu_model::{End, Journal, Sequence};
 use shared_fabric::Gathered;
 

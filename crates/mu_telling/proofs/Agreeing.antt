@@ -26,7 +26,7 @@ use Rattle.mu_model.proofs.Scans.{session_append}
 use Rattle.mu_agree.proofs.Prefixes.{known_agree, lists_agree}
 use Rattle.mu_agree.proofs.Sessions.{known_in_session_law, known_stands_law}
 use Rattle.mu_agree.proofs.Readings.{known_within}
-use Rattle.mu_known.proofs.Fetched.{batch_there, front_fits}
+use Rattle.mu_knowledge.proofs.Fetched.{batch_there, front_fits}
 use Rattle.mu_model.specs.Room.{reserve}
 use Rattle.std.proofs.lemmas.List.Elements.{All-from_get_or}
 use Rattle.mu_follow.proofs.Kept.{applied_is}

@@ -8,7 +8,7 @@ use Rattle.std.proofs.lemmas.Option.{slice_get-map}
 use Rattle.kv_store.specs.Commands.{Request}
 use Rattle.kv_store.specs.declared.store.Reply.{Reply}
 use Rattle.kv_store.specs.Tables.{Table, replies, replies_from, reply_to, table_after}
-use Rattle.mu_known.specs.Commits.{pair_of}
+use Rattle.mu_knowledge.specs.Commits.{pair_of}
 use Rattle.mu_model.specs.declared.event.Event.{Event}
 use Rattle.mu_model.specs.Histories.{history, part}
 use Rattle.mu_model.specs.Knowledge.{applied, commits}

@@ -6,7 +6,7 @@ ghost use Rattle.mu_model.specs.Contents.{IsConfig};
 ghost use Rattle.mu_model.specs.Histories.{part};
 ghost use Rattle.mu_model.specs.Knowledge.{applied, commits as commits_by, grown};
 ghost use Rattle.mu_course.specs.Walks.{StandsForWalk};
-ghost use Rattle.mu_known.specs.Commits.{pair_of};
+ghost use Rattle.mu_knowledge.specs.Commits.{pair_of};
 ghost use Rattle.mu_telling.specs.Accounts.{AreEnds, each_below};
 
 use mu_course::Walk;

@@ -17,8 +17,8 @@ use Rattle.mu_lead.specs.declared.lead.Lead.{Lead}
 use Rattle.mu_lead.specs.Beside.{is_beside, leads_at, writes_row}
 use Rattle.mu_lead.specs.Standing.{StandsFor, known_told}
 use Rattle.mu_lead.proofs.Others.{others_kept}
-use Rattle.mu_parts.specs.declared.replica.Replica.{Replica}
-use Rattle.mu_parts.specs.declared.replicas.Replicas.{Replicas}
+use Rattle.mu_replicas.specs.declared.replica.Replica.{Replica}
+use Rattle.mu_replicas.specs.declared.replicas.Replicas.{Replicas}
 use Rattle.worked_leads.specs.Driven.{Beside}
 use Rattle.mu_model.specs.Steps.{is_slot_put_verb}
 use Rattle.mu_model.proofs.Parts.{part_of_maker}

@@ -7,9 +7,9 @@ use Rattle.mu_model.specs.Histories.{part}
 use Rattle.mu_detect.specs.Stands.{StandsFor as ScoresStandFor}
 use Rattle.mu_detect.specs.declared.scores.Scores.{Scores}
 use Rattle.mu_lead.specs.Standing.{StandsFor}
-use Rattle.mu_parts.specs.Parts.{StandsForReplica, StandsForReplicas}
-use Rattle.mu_parts.specs.declared.replica.Replica.{Replica}
-use Rattle.mu_parts.specs.declared.replicas.Replicas.{Replicas}
+use Rattle.mu_replicas.specs.Stands.{StandsForReplica, StandsForReplicas}
+use Rattle.mu_replicas.specs.declared.replica.Replica.{Replica}
+use Rattle.mu_replicas.specs.declared.replicas.Replicas.{Replicas}
 use Rattle.worked_leads.specs.declared.driven.Driven.{Driven}
 
 -- what stands with the leader of r, one of three replicas, stands for the history

@@ -18,8 +18,8 @@ ghost use Rattle.mu_model.specs.Steps.{is_slot_put_verb};
 use mu_detect::Scores;
 use mu_lead::{Lead, Note};
 use mu_model::{Answer, Config, Event, NoMemory, Verb};
-use mu_parts::{Replica, Replicas};
 use mu_port::Memory;
+use mu_replicas::{Replica, Replicas};
 use std::alloc::Global;
 
 /// The leader of one of three replicas, with what its own replica knows, which replicas it holds to

@@ -1,7 +1,7 @@
 use Rattle.std.proofs.Common.{◌≡◌, ◌∙◌, ◌+◌, ◌%◌, ◌<◌, arith, ap, Some, sym, true}
 use Rattle.std.specs.Prelude.{◌||◌}
 use Rattle.mu_model.specs.Contents.{includes, is_batch, rest_of, row_count, rows_from}
-use Rattle.mu_known.proofs.Fetched.{batch_there}
+use Rattle.mu_knowledge.proofs.Fetched.{batch_there}
 use Rattle.mu_follow.proofs.Full.{row_next, rows_batch}
 use Rattle.mu_follow.proofs.completion.hold_entry.Goals as goal
 

@@ -5,7 +5,7 @@ use Rattle.mu_model.specs.declared.event.Verb.{Verb}
 use Rattle.mu_model.specs.Contents.{is_batch, rest_of}
 use Rattle.mu_model.specs.Knowledge.{has_row}
 use Rattle.mu_model.specs.Scores.{least_below}
-use Rattle.mu_known.proofs.Fetched.{batch_there}
+use Rattle.mu_knowledge.proofs.Fetched.{batch_there}
 use Rattle.mu_follow.specs.Due.{rows_had}
 use Rattle.mu_follow.proofs.follow.missing_row.Goals as goal
 

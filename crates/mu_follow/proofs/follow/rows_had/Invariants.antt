@@ -5,7 +5,7 @@ use Rattle.mu_model.specs.declared.event.Event.{Event}
 use Rattle.mu_model.specs.Contents.{row_count}
 use Rattle.mu_model.specs.Knowledge.{has_row}
 use Rattle.mu_model.specs.Scores.{least_below}
-use Rattle.mu_known.specs.HeldRows.{StandsForHeldRows}
+use Rattle.mu_knowledge.specs.HeldRows.{StandsForHeldRows}
 use Rattle.mu_follow.proofs.follow.rows_had.Given as goal
 
 abbrev pub invariant-loop-t : goal.invariant-loop-t

@@ -1,7 +1,7 @@
 use Rattle.std.proofs.Common.{◌≡◌, ◌∙◌, ◌∷◌, ap, arith, length, subst, sym, take}
 use Rattle.mu_model.specs.Knowledge.{applied, has_entry, known}
-use Rattle.mu_leading.proofs.Within.{known_few}
-use Rattle.mu_known.proofs.Fetched.{applied_grows, front_fits}
+use Rattle.mu_agree.proofs.Within.{known_few}
+use Rattle.mu_knowledge.proofs.Fetched.{applied_grows, front_fits}
 use Rattle.mu_follow.specs.Completion.{HoldsCompletion}
 use Rattle.mu_follow.proofs.Kept.{applied_begins, applied_is}
 use Rattle.mu_follow.proofs.noting.count_applied.Goals as goal

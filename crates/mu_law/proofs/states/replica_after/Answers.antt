@@ -1,6 +1,6 @@
 use Rattle.std.proofs.Common.{take, sym, subst}
 use Rattle.mu_model.specs.Histories.{history, part}
-use Rattle.mu_parts.specs.Parts.{StandsForReplica}
+use Rattle.mu_replicas.specs.Stands.{StandsForReplica}
 use Rattle.mu_outcome.proofs.Places.{history_at_next, legal_there}
 use Rattle.mu_law.proofs.Stepping.{after_other, after_own}
 use Rattle.mu_law.proofs.states.replica_after.Goals.{then-event-r, else-event-r}

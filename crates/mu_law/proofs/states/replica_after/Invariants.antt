@@ -1,6 +1,6 @@
 use Rattle.std.proofs.Common.{take}
 use Rattle.mu_model.specs.Histories.{history, part}
-use Rattle.mu_parts.specs.Parts.{StandsForReplica}
+use Rattle.mu_replicas.specs.Stands.{StandsForReplica}
 use Rattle.mu_law.proofs.states.replica_after.Given as goal
 
 abbrev pub invariant-loop-index : goal.invariant-loop-index

@@ -1,5 +1,5 @@
 use Rattle.std.proofs.Common.{arith, subst, sym, ◌∙◌}
-use Rattle.mu_known.specs.Offers.{IsNextRow, NamesRow}
+use Rattle.mu_knowledge.specs.Offers.{IsNextRow, NamesRow}
 use Rattle.mu_lead.proofs.NextRows.{client_found, no_batch, none_found}
 use Rattle.mu_lead.proofs.batches.next_of.Goals as goal
 

@@ -1,7 +1,7 @@
 use Rattle.std.proofs.Common.{List, ℕ, ◌<◌, ◌≤◌}
 use Rattle.mu_model.specs.Contents.{IsConfig, client_of}
-use Rattle.mu_known.specs.KnownLog.{HoldsValues}
-use Rattle.mu_known.specs.Offers.{IsNextRow}
+use Rattle.mu_knowledge.specs.KnownLog.{HoldsValues}
+use Rattle.mu_knowledge.specs.Offers.{IsNextRow}
 use Rattle.mu_lead.proofs.batches.next_of.Given as goal
 
 abbrev pub invariant-loop-client : goal.invariant-loop-client

@@ -2,8 +2,8 @@ use Rattle.std.proofs.lemmas.Nat.{mod_below}
 use Rattle.std.proofs.Common.{ap, arith, inl, inr, length, subst, sym, ℕ, ◌%◌, ◌+◌, ◌∙◌, ◌≡◌}
 use Rattle.std.proofs.lemmas.Bool.{cases_lt}
 use Rattle.mu_model.specs.Contents.{client_of, row_count}
-use Rattle.mu_known.specs.Offers.{IsNextRow, NamesRow, clients_below}
-use Rattle.mu_known.proofs.Lasts.{below_clients}
+use Rattle.mu_knowledge.specs.Offers.{IsNextRow, NamesRow, clients_below}
+use Rattle.mu_knowledge.proofs.Lasts.{below_clients}
 use Rattle.mu_lead.specs.Listing.{batch_of_named, client_round}
 use Rattle.mu_lead.proofs.NextRows.{no_clients, no_rows, round_found, round_on}
 use Rattle.mu_lead.proofs.batches.next_offer.Goals as goal

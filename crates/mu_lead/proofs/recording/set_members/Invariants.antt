@@ -1,7 +1,7 @@
 use Rattle.std.proofs.Common.{List, false, get_or, length, true, ℕ, ◌<◌, ◌≡◌}
 use Rattle.mu_model.specs.declared.event.Event.{Event}
 use Rattle.mu_model.specs.Leaderships.{is_member}
-use Rattle.mu_leading.specs.Leadership.{StandsForLeadership}
+use Rattle.mu_leadership.specs.Leadership.{StandsForLeadership}
 use Rattle.mu_lead.proofs.recording.set_members.Given as goal
 
 abbrev pub invariant-loop-p : goal.invariant-loop-p

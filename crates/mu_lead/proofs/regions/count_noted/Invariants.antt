@@ -2,7 +2,7 @@ use Rattle.std.proofs.Common.{List, is_some, ℕ, ◌≡◌, ◌≤◌}
 use Rattle.mu_model.specs.declared.event.Event.{Event}
 use Rattle.mu_model.specs.Histories.{count_below}
 use Rattle.mu_model.specs.Leaderships.{noted_grant}
-use Rattle.mu_leading.specs.Leadership.{StandsForLeadership}
+use Rattle.mu_leadership.specs.Leadership.{StandsForLeadership}
 use Rattle.mu_lead.proofs.regions.count_noted.Given as goal
 
 abbrev pub invariant-loop-p : goal.invariant-loop-p

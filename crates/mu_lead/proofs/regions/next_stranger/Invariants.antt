@@ -1,7 +1,7 @@
 use Rattle.std.proofs.Common.{List, true, ℕ, ◌<◌, ◌≡◌, ◌≤◌}
 use Rattle.mu_model.specs.declared.event.Event.{Event}
 use Rattle.mu_model.specs.Leaderships.{is_member}
-use Rattle.mu_leading.specs.Leadership.{StandsForLeadership}
+use Rattle.mu_leadership.specs.Leadership.{StandsForLeadership}
 use Rattle.mu_lead.proofs.regions.next_stranger.Given as goal
 
 abbrev pub invariant-loop-p : goal.invariant-loop-p

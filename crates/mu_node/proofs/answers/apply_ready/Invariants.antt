@@ -5,7 +5,7 @@ use Rattle.mu_model.specs.declared.event.Event.{Event}
 use Rattle.mu_model.specs.Contents.{IsConfig}
 use Rattle.mu_model.specs.Knowledge.{applied}
 use Rattle.mu_model.specs.Parts.{IsPossible}
-use Rattle.mu_known.specs.RowWords.{ReadsKnown}
+use Rattle.mu_knowledge.specs.RowWords.{ReadsKnown}
 use Rattle.mu_follow.specs.Follow.{StandsForFollow}
 use Rattle.mu_follow.specs.Groups.{AreSpelled}
 use Rattle.mu_node.specs.Answers.{HoldsAnswers}

@@ -2,7 +2,7 @@ use Rattle.std.proofs.Common.{◌≡◌, ◌<◌, ◌+◌, ℕ, List, suc, [], �
 use Rattle.std.proofs.lemmas.List.{map-append}
 use Rattle.mu_model.specs.Histories.{part}
 use Rattle.mu_model.specs.Knowledge.{commits}
-use Rattle.mu_known.specs.Commits.{pair_of}
+use Rattle.mu_knowledge.specs.Commits.{pair_of}
 use Rattle.mu_telling.specs.Accounts.{each_below}
 use Rattle.mu_telling.proofs.lists.commits_of.Goals as goal
 

@@ -5,7 +5,7 @@ use Rattle.mu_model.specs.declared.event.Event.{Event}
 use Rattle.mu_model.specs.Histories.{part}
 use Rattle.mu_model.specs.Knowledge.{commits}
 use Rattle.mu_course.specs.Walks.{StandsForWalk}
-use Rattle.mu_known.specs.Commits.{pair_of}
+use Rattle.mu_knowledge.specs.Commits.{pair_of}
 use Rattle.mu_telling.specs.Accounts.{each_below}
 use Rattle.mu_telling.proofs.lists.commits_of.Given as goal
 

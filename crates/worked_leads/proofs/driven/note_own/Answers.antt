@@ -1,7 +1,7 @@
 use Rattle.std.proofs.Common.{subst, sym}
 use Rattle.mu_model.specs.Histories.{part}
 use Rattle.mu_detect.specs.Stands.{StandsFor as ScoresStandFor}
-use Rattle.mu_parts.specs.Parts.{StandsForReplica}
+use Rattle.mu_replicas.specs.Stands.{StandsForReplica}
 use Rattle.mu_model.proofs.Parts.{part_of_maker, possible_for_maker}
 use Rattle.worked_leads.proofs.driven.note_own.Goals as goal
 

@@ -1,6 +1,6 @@
 use Rattle.std.proofs.Common.{◌∙◌, ap, arith, length, take}
 use Rattle.mu_model.specs.Knowledge.{applied, has_entry, known}
-use Rattle.mu_known.proofs.Fetched.{front_fits}
+use Rattle.mu_knowledge.proofs.Fetched.{front_fits}
 use Rattle.mu_follow.proofs.Kept.{applied_is}
 use Rattle.mu_course.proofs.course.Course.applied.Goals as goal
 
@@ -10,5 +10,5 @@ returns c = λ k r mine stands.
     let count = c.applied_length.ensures k r mine stands.replica.held_rows in
     let long = ap length values in
     let fits = front_fits (λ v. has_entry k r v mine) (known k r mine) in
-    c.first_of.ensures (omega (arith, fits, long, count))
+    c.first_values.ensures (omega (arith, fits, long, count))
     ∙ (ap (λ n. take n c.known.result.now) count ∙ (ap (λ l. take (length (applied k r mine)) l) values ∙ applied_is k r mine))

@@ -1,5 +1,5 @@
 use Rattle.std.proofs.Common.{◌∙◌, ap, map}
-use Rattle.mu_known.specs.Commits.{pair_of}
+use Rattle.mu_knowledge.specs.Commits.{pair_of}
 use Rattle.mu_course.proofs.course.Course.commits.Goals as goal
 
 pub returns : goal.returns

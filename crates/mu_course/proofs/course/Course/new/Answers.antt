@@ -1,5 +1,5 @@
 use Rattle.std.proofs.Common.{ap, arith, map, refl}
-use Rattle.mu_known.specs.Commits.{pair_of}
+use Rattle.mu_knowledge.specs.Commits.{pair_of}
 use Rattle.mu_course.proofs.course.Course.new.Goals as goal
 
 pub returns-clause-stands : goal.returns-clause-stands

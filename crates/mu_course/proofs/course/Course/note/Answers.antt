@@ -4,7 +4,7 @@ use Rattle.std.proofs.lemmas.List.{length-map}
 use Rattle.mu_model.specs.Leaderships.{begins_leadership}
 use Rattle.mu_model.specs.Knowledge.{commits, grown, known}
 use Rattle.mu_agree.proofs.Readings.{known_within}
-use Rattle.mu_known.specs.Commits.{pair_of}
+use Rattle.mu_knowledge.specs.Commits.{pair_of}
 use Rattle.mu_follow.proofs.Kept.{few_commits}
 use Rattle.mu_course.specs.Committing.{commit_by}
 use Rattle.mu_course.specs.Resigning.{yields}

@@ -1,6 +1,6 @@
 use Rattle.std.proofs.Common.{◌∙◌, ap, arith, length, subst}
 use Rattle.mu_model.specs.Contents.{IsConfig}
-use Rattle.mu_leading.proofs.Within.{known_few}
+use Rattle.mu_agree.proofs.Within.{known_few}
 use Rattle.mu_follow.proofs.follow.Follow.end.Goals as goal
 
 pub returns : goal.returns

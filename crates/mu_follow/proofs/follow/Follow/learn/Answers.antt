@@ -2,9 +2,9 @@ use Rattle.std.proofs.Common.{◌≡◌, ◌∙◌, ◌∷◌, ◌++◌, [], ap,
 use Rattle.std.proofs.lemmas.List.{length-map, length_push}
 use Rattle.mu_model.specs.Knowledge.{commits, grown, known}
 use Rattle.mu_agree.proofs.Readings.{known_within}
-use Rattle.mu_known.specs.KnownLog.{HoldsValues}
-use Rattle.mu_known.proofs.Fetched.{applied_grows}
-use Rattle.mu_known.specs.Commits.{pair_of}
+use Rattle.mu_knowledge.specs.KnownLog.{HoldsValues}
+use Rattle.mu_knowledge.proofs.Fetched.{applied_grows}
+use Rattle.mu_knowledge.specs.Commits.{pair_of}
 use Rattle.mu_follow.specs.Kinds.{is_fuo, is_head, is_look, is_row}
 use Rattle.mu_follow.proofs.Kept.{few_commits, pairs_push}
 use Rattle.mu_follow.proofs.Putting.{commits_by_put, is_committed, put_knowing}

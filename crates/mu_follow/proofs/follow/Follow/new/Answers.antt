@@ -1,5 +1,5 @@
 use Rattle.std.proofs.Common.{ap, map, refl, arith}
-use Rattle.mu_known.specs.Commits.{pair_of}
+use Rattle.mu_knowledge.specs.Commits.{pair_of}
 use Rattle.mu_follow.proofs.follow.Follow.new.Goals as goal
 
 pub returns-clause-stands : goal.returns-clause-stands

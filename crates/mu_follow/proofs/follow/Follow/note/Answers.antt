@@ -1,5 +1,5 @@
 use Rattle.std.proofs.Common.{◌≡◌, ◌+◌, ◌<◌, ◌∷◌, arith, length, subst}
-use Rattle.mu_leading.proofs.Within.{is_short}
+use Rattle.mu_agree.proofs.Within.{is_short}
 use Rattle.mu_follow.specs.Follow.{HoldsFollow}
 use Rattle.mu_follow.proofs.follow.Follow.note.Goals as goal
 

@@ -1,6 +1,6 @@
 use Rattle.std.proofs.Common.{◌∙◌, ◌∷◌, ap, arith, false, length, sym}
 use Rattle.mu_model.specs.Knowledge.{known}
-use Rattle.mu_known.proofs.Fetched.{applied_grows}
+use Rattle.mu_knowledge.proofs.Fetched.{applied_grows}
 use Rattle.mu_follow.specs.Kinds.{is_fuo, is_head, is_put, is_row}
 use Rattle.mu_follow.proofs.Stays.{commits_stay, fuo_stays, heads_stay, reads_none, row_stays, rows_none, tells_none, words_stay}
 use Rattle.mu_follow.proofs.follow.Follow.note_look.Goals as goal

@@ -1,8 +1,8 @@
 use Rattle.std.proofs.Common.{◌≡◌, ◌∙◌, ◌∷◌, Some, ap, arith, length, refl, subst, sym}
 use Rattle.mu_model.specs.Knowledge.{commits, grown, known}
 use Rattle.mu_model.proofs.Basics.{none_some}
-use Rattle.mu_filled.specs.FilledLogs.{filled_spot}
-use Rattle.mu_known.specs.KnownLog.{HoldsValues}
+use Rattle.mu_knowledge.specs.FilledLog.{filled_spot}
+use Rattle.mu_knowledge.specs.KnownLog.{HoldsValues}
 use Rattle.mu_follow.specs.Completion.{HoldsCompletion}
 use Rattle.mu_follow.specs.Kinds.{is_fuo, is_head, is_look, is_put, is_row, put_spot}
 use Rattle.mu_follow.proofs.Putting.{is_committed, put_applied, put_known, put_knowing, put_rows, spot_put}

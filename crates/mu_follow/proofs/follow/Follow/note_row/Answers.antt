@@ -1,6 +1,6 @@
 use Rattle.std.proofs.Common.{◌∙◌, ◌∷◌, ap, arith, refl, sym}
-use Rattle.mu_known.proofs.Fetched.{applied_grows}
-use Rattle.mu_known.proofs.Placed.{event_of_rows}
+use Rattle.mu_knowledge.proofs.Fetched.{applied_grows}
+use Rattle.mu_knowledge.proofs.Placed.{event_of_rows}
 use Rattle.mu_follow.specs.Kinds.{is_head, is_look, is_put, shows}
 use Rattle.mu_follow.proofs.Stays.{commits_stay, heads_stay, knowing_stays, log_stays, outrun_stays}
 use Rattle.mu_follow.proofs.follow.Follow.note_row.Goals as goal

@@ -6,8 +6,8 @@ use Rattle.mu_model.specs.declared.event.Event.{Event}
 use Rattle.mu_model.specs.declared.event.Verb.{Verb}
 use Rattle.mu_model.specs.Contents.{IsConfig}
 use Rattle.mu_model.specs.Knowledge.{known}
-use Rattle.mu_leading.proofs.Within.{known_few}
-use Rattle.mu_filled.specs.FilledLogs.{IsFilledTo}
+use Rattle.mu_agree.proofs.Within.{known_few}
+use Rattle.mu_knowledge.specs.FilledLog.{IsFilledTo}
 use Rattle.mu_follow.specs.Due.{filled_known, own_fuo}
 use Rattle.mu_follow.proofs.Due.{filled_known_is}
 use Rattle.mu_follow.proofs.follow.Follow.raise_of_fuo.Goals as goal

@@ -5,8 +5,8 @@ use Rattle.mu_model.specs.declared.event.Verb.{Verb}
 use Rattle.mu_model.specs.Contents.{IsConfig}
 use Rattle.mu_model.specs.Knowledge.{has_entry, known}
 use Rattle.mu_model.specs.Regions.{region_head}
-use Rattle.mu_leading.proofs.Within.{known_few}
-use Rattle.mu_known.proofs.Fetched.{front_fits}
+use Rattle.mu_agree.proofs.Within.{known_few}
+use Rattle.mu_knowledge.proofs.Fetched.{front_fits}
 use Rattle.mu_follow.specs.Due.{own_fuo}
 use Rattle.mu_follow.proofs.follow.Follow.raise_of_head.Goals as goal
 

@@ -2,7 +2,7 @@ use Rattle.std.proofs.Common.{rules, ◌≡◌, ◌∙◌, ◌≤◌, Some, ap, 
 use Rattle.std.specs.List.{slice_get}
 use Rattle.std.proofs.lemmas.Option.{slice_get-get_or}
 use Rattle.mu_model.specs.Knowledge.{has_entry, known}
-use Rattle.mu_known.proofs.Fetched.{front_fits}
+use Rattle.mu_knowledge.proofs.Fetched.{front_fits}
 use Rattle.mu_follow.specs.Groups.{group_size}
 use Rattle.mu_follow.proofs.Handing.{applied_at, none_applied}
 use Rattle.mu_follow.proofs.follow.Follow.ready.Goals as goal

@@ -1,6 +1,6 @@
 use Rattle.mu_lead.specs.Leading.{end_of}
 use Rattle.mu_lead.specs.Listing.{heads_from, may_mark}
-use Rattle.mu_leading.proofs.Within.{known_few}
+use Rattle.mu_agree.proofs.Within.{known_few}
 use Rattle.mu_model.specs.Scores.{is_failed}
 use Rattle.std.proofs.Common.{List, Some, ap, arith, length, subst, sym, ℕ, ◌&&◌, ◌+◌, ◌<◌, ◌==◌, ◌∙◌, ◌≡◌}
 use Rattle.std.specs.Prelude.{nat_lt, not}

@@ -1,5 +1,5 @@
 use Rattle.std.proofs.Common.{length, subst, sym, ◌<◌}
-use Rattle.mu_leading.proofs.Within.{known_few}
+use Rattle.mu_agree.proofs.Within.{known_few}
 use Rattle.mu_lead.proofs.Due.{due_fits}
 use Rattle.mu_lead.proofs.lead.Lead.due.Goals as goal
 

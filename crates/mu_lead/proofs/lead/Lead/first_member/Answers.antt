@@ -1,7 +1,7 @@
 use Rattle.std.proofs.Common.{None, Some, ap}
 use Rattle.mu_model.specs.Leaderships.{is_member}
 use Rattle.mu_lead.specs.Listing.{or_own}
-use Rattle.mu_known.proofs.Firsts.{found_is}
+use Rattle.mu_knowledge.proofs.Firsts.{found_is}
 use Rattle.mu_lead.proofs.lead.Lead.first_member.Goals as goal
 
 pub returns-in-Some : goal.returns-in-Some

@@ -3,12 +3,12 @@ use Rattle.std.proofs.Common.{None, Some, refl, ℕ}
 use Rattle.mu_lead.specs.declared.place.Place.{Place}
 use Rattle.mu_lead.specs.Listing.{first_member}
 use Rattle.std.proofs.Common.{ap, get_or, length, subst, sym, ◌+◌, ◌<◌, ◌||◌, ◌∙◌}
-use Rattle.mu_leading.proofs.Within.{known_few}
+use Rattle.mu_agree.proofs.Within.{known_few}
 use Rattle.std.specs.Prelude.{nat_lt, not}
 use Rattle.mu_model.specs.Contents.{marked}
 use Rattle.mu_model.specs.Knowledge.{known}
 use Rattle.mu_model.specs.Room.{reserve}
-use Rattle.mu_known.specs.Offers.{IsFirst}
+use Rattle.mu_knowledge.specs.Offers.{IsFirst}
 use Rattle.mu_lead.proofs.lead.Lead.heads_from.Goals as goal
 
 pub returns-in-Some : goal.returns-in-Some

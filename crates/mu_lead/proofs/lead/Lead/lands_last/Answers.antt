@@ -1,5 +1,5 @@
-use Rattle.mu_known.proofs.Firsts.{found_is}
-use Rattle.mu_known.specs.Offers.{IsFirst}
+use Rattle.mu_knowledge.proofs.Firsts.{found_is}
+use Rattle.mu_knowledge.specs.Offers.{IsFirst}
 use Rattle.mu_lead.proofs.Firsts.{not_found}
 use Rattle.mu_model.specs.Leaderships.{is_member}
 use Rattle.std.proofs.Common.{ap, arith, is_some, subst, ◌+◌, ◌∙◌, ◌≡◌}

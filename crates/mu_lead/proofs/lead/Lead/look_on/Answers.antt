@@ -5,7 +5,7 @@ use Rattle.mu_model.specs.Leaderships.{is_member}
 use Rattle.mu_lead.specs.Leading.{end_of}
 use Rattle.mu_lead.specs.Listing.{pick}
 use Rattle.std.proofs.Common.{ap, arith, length, subst, sym, ◌+◌, ◌<◌, ◌∙◌, ◌≡◌}
-use Rattle.mu_leading.proofs.Within.{known_few}
+use Rattle.mu_agree.proofs.Within.{known_few}
 use Rattle.mu_lead.proofs.lead.Lead.look_on.Goals as goal
 
 pub returns-in-Some : goal.returns-in-Some

@@ -4,7 +4,7 @@ use Rattle.mu_lead.specs.Notes.{note_of_head}
 use Rattle.mu_lead.specs.Saying.{note_of_learning}
 use Rattle.mu_lead.specs.Sets.{is_bit}
 use Rattle.mu_lead.specs.Stepping.{GoesBy}
-use Rattle.mu_leading.proofs.Within.{known_few}
+use Rattle.mu_agree.proofs.Within.{known_few}
 use Rattle.mu_model.specs.Room.{reserve}
 use Rattle.mu_model.specs.Scores.{is_failed}
 use Rattle.std.proofs.Common.{List, ap, arith, length, subst, sym, ℕ, ◌&&◌, ◌+◌, ◌<◌, ◌==◌, ◌∙◌, ◌≡◌}

@@ -3,8 +3,8 @@ use Rattle.std.proofs.Common.{ap, ◌∙◌, ℕ, false}
 use Rattle.mu_lead.specs.Listing.{offer_row, or_else, own_offer, write_from}
 use Rattle.std.proofs.Common.{arith, length, refl, subst, sym, ◌+◌, ◌<◌, ◌≡◌}
 use Rattle.mu_model.specs.Knowledge.{known}
-use Rattle.mu_leading.proofs.Within.{known_few}
-use Rattle.mu_known.specs.Offers.{IsNextRow, NamesRow}
+use Rattle.mu_agree.proofs.Within.{known_few}
+use Rattle.mu_knowledge.specs.Offers.{IsNextRow, NamesRow}
 use Rattle.std.proofs.Common.{◌*◌}
 use Rattle.mu_lead.proofs.Due.{last_there}
 use Rattle.mu_model.specs.Contents.{rest_of}

@@ -2,8 +2,8 @@ use Rattle.std.proofs.Common.{◌≡◌, ◌∙◌, ◌+◌, Some, None, ap, ari
 use Rattle.std.specs.Prelude.{nat_lt}
 use Rattle.std.proofs.lemmas.Bool.{ltb-true}
 use Rattle.mu_model.specs.Contents.{rest_of}
-use Rattle.mu_known.specs.Offers.{IsFirst}
-use Rattle.mu_known.proofs.Firsts.{found_is}
+use Rattle.mu_knowledge.specs.Offers.{IsFirst}
+use Rattle.mu_knowledge.proofs.Firsts.{found_is}
 use Rattle.mu_lead.specs.Ahead.{word_of}
 use Rattle.mu_lead.proofs.lead.Lead.word_from.Goals as goal
 

@@ -2,8 +2,8 @@ use Rattle.std.proofs.Common.{◌≡◌, ◌∙◌, ap, arith, length, map, subs
 use Rattle.std.proofs.lemmas.List.{length-map}
 use Rattle.mu_model.specs.Knowledge.{applied, commits, has_entry, known}
 use Rattle.mu_agree.proofs.Readings.{known_within}
-use Rattle.mu_known.proofs.Fetched.{front_fits}
-use Rattle.mu_known.specs.Commits.{pair_of}
+use Rattle.mu_knowledge.proofs.Fetched.{front_fits}
+use Rattle.mu_knowledge.specs.Commits.{pair_of}
 use Rattle.mu_follow.proofs.Kept.{applied_is, few_commits}
 use Rattle.mu_node.specs.Answers.{HoldsAnswers}
 use Rattle.mu_node.proofs.Reading.{reads_known}
@@ -18,8 +18,8 @@ returns-clause-is c k r mine good possible held =
     let values = c.known.ensures k r mine (length mine) follow in
     let count = c.applied_count.ensures k r mine follow in
     let long = ap length values in
-    let first = c.first_of.ensures (omega (arith, fits, long, count)) in
-    let is : c.first_of.result.now ≡ applied k r mine = first ∙ (ap (λ n. take n c.known.result.now) count ∙ (ap (λ l. take (length (applied k r mine)) l) values ∙ applied_is k r mine)) in
+    let first = c.first_values.ensures (omega (arith, fits, long, count)) in
+    let is : c.first_values.result.now ≡ applied k r mine = first ∙ (ap (λ n. take n c.known.result.now) count ∙ (ap (λ l. take (length (applied k r mine)) l) values ∙ applied_is k r mine)) in
     let log_long = ap length is in
     let log = c.fill_log.ensures held.beside.no_log (omega (arith, log_long, fits, within, held.beside.log_room)) in
     let listed = c.commits.ensures k r mine follow in

@@ -1,5 +1,5 @@
 use Rattle.std.proofs.Common.{◌∙◌, ◌<◌, ap, length, subst, sym}
-use Rattle.mu_leading.proofs.Within.{known_few}
+use Rattle.mu_agree.proofs.Within.{known_few}
 use Rattle.mu_follow.specs.CatchingUp.{or_else}
 use Rattle.mu_lead.specs.Ahead.{ahead_at}
 use Rattle.mu_node.specs.Due.{write_due}

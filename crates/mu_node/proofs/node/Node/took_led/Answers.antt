@@ -4,7 +4,7 @@ use Rattle.mu_model.specs.Contents.{IsConfig}
 use Rattle.mu_model.specs.Knowledge.{grown, known}
 use Rattle.mu_model.specs.Parts.{IsPossible}
 use Rattle.mu_model.proofs.Basics.{none_some, same_some}
-use Rattle.mu_known.specs.KnownLog.{HoldsValues}
+use Rattle.mu_knowledge.specs.KnownLog.{HoldsValues}
 use Rattle.mu_lead.specs.declared.lead.Lead.{Lead}
 use Rattle.mu_lead.specs.Going.{begins_at, going_after}
 use Rattle.mu_lead.specs.Notes.{value_committed}

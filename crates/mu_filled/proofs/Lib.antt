@@ -1,7 +1,0 @@
-mod Alike
-mod Beyond
-mod Caught
-mod Cover
-pub mod Filled
-mod Kept
-mod Noted

@@ -1,4 +1,0 @@
-use Rattle.mu_filled.proofs.filled_logs.Coverage.are_filled.Goals as goal
-
-pub returns : goal.returns
-returns c k r p mine held = c.are_filled.ensures k r p mine held.log

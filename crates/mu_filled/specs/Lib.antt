@@ -1,2 +1,0 @@
-pub mod FilledLogs
-pub mod LandedPuts

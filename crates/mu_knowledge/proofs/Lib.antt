@@ -1,0 +1,9 @@
+pub mod Fetched
+pub mod Filled
+pub mod Firsts
+pub mod Lasts
+mod Learning
+pub mod NextRows
+pub mod Placed
+pub mod Rows
+mod Untouched

@@ -1,0 +1,6 @@
+pub mod Commits
+pub mod FilledLog
+pub mod HeldRows
+pub mod KnownLog
+pub mod Offers
+pub mod RowWords

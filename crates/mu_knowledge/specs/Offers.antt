@@ -1,0 +1,77 @@
+-- batch of a client, clients below: the row of a client's next batch, given the known values; one
+-- more than the greatest client.
+use Rattle.std.specs.Prelude.{Bool, List, None, Some, false, if◌then◌else◌, length, max, nat_lt, suc, true, zero, ℕ, ◌&&◌, ◌+◌, ◌-◌, ◌<◌, ◌==◌, ◌≡◌, ◌≤◌}
+use Rattle.std.specs.declared.option.Option.{Option}
+use Rattle.std.specs.List.{slice_get}
+use Rattle.mu_model.specs.declared.config.Config.{Config}
+use Rattle.mu_model.specs.Contents.{begins_batch, client_of, command_count, number_of, row_count}
+use Rattle.mu_knowledge.specs.declared.client_rows.ClientRows.{ClientRows}
+
+-- the first number that passes, among `count` numbers from `from` on
+abbrev pub first_of : (ℕ → Bool) → ℕ → ℕ → Option ℕ
+first_of test from zero = None
+first_of test from (suc count) = if test from then Some from else first_of test (from + 1) count
+
+-- the first number from `from` on, below n, that passes
+abbrev pub first_in : (ℕ → Bool) → ℕ → ℕ → Option ℕ
+first_in test from n = first_of test from (n - from)
+
+-- q is the first number from `from` on, below n, that passes; or there is none
+abbrev pub IsFirst : (ℕ → Bool) → ℕ → ℕ → Option ℕ → Type 0
+IsFirst test from n None = (k : ℕ) → from ≤ k → k < n → test k ≡ false
+IsFirst test from n (Some q) =
+    (from ≤ q) × (q < n) × (test q ≡ true) × ((k : ℕ) → from ≤ k → k < q → test k ≡ false)
+
+-- the row, if there is one, is such
+abbrev pub NamesRow : Option ℕ → (ℕ → Type 0) → Type 0
+NamesRow None holds = Unit {0}
+NamesRow (Some j) holds = holds j
+
+-- row j begins a batch of the client, and is the next after `count` of its commands
+abbrev pub begins_after : Config → ℕ → ℕ → ℕ → Bool
+begins_after c client count j =
+    begins_batch c j && ((client_of c j == client) && (number_of c j == count + 1))
+
+-- the same of a row that is there
+abbrev pub IsAfter : Config → ℕ → ℕ → ℕ → Type 0
+IsAfter c client count j =
+    (j < row_count c) × (begins_batch c j ≡ true) × (client_of c j ≡ client)
+    × (number_of c j ≡ count + 1)
+
+-- the row of the client's next batch, if these values are known
+abbrev pub batch_of : Config → List ℕ → ℕ → Option ℕ
+batch_of c values client =
+    first_in (begins_after c client (command_count c client values)) 0 (row_count c)
+
+-- row j begins the next batch of its client, if these values are known
+pub record IsNextRow (c : Config) (values : List ℕ) (j : ℕ) : Type 0 where
+  pub row : j < row_count c
+  pub begins : begins_batch c j ≡ true
+  pub next : number_of c j ≡ command_count c (client_of c j) values + 1
+
+-- one more than the greatest client of the first n rows
+abbrev pub clients_below : Config → ℕ → ℕ
+clients_below c zero = 0
+clients_below c (suc j) =
+    if nat_lt (clients_below c j) (client_of c j + 1) then client_of c j + 1 else clients_below c j
+
+-- the greatest number of a row of the client among the first n rows
+abbrev pub last_below : Config → ℕ → ℕ → ℕ
+last_below c client zero = 0
+last_below c client (suc j) =
+    if client_of c j == client then max (last_below c client j) (number_of c j)
+    else last_below c client j
+
+-- for each client the greatest number of its rows, among the first n
+abbrev pub HaveLasts : Config → ℕ → List ℕ → Type 0
+HaveLasts c n lasts =
+    (client : ℕ) → client < 256 → slice_get lasts client ≡ Some (last_below c client n)
+
+-- what is kept of the rows of each client is that of the job's rows, and no more
+pub record StandsForClientRows (c : Config) (state : ClientRows) : Type 0 where
+  pub clients : state.clients ≡ clients_below c (row_count c)
+  pub few : state.clients ≤ 256
+  pub lasts : HaveLasts c (row_count c) state.lasts.items
+  pub one_each : length state.lasts.items ≡ 256
+  pub bounds : length state.starts.items ≡ 257
+  pub places : length state.rows.items ≡ row_count c

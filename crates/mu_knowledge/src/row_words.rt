@@ -1,0 +1,115 @@
+//! The words that a replica has of the rows of a job.
+ghost use Rattle.std.specs.Prelude.{IfOk, if◌then◌else◌, List, [], replicate, ℕ, ◌&&◌, ◌*◌, ◌<◌, ◌==◌, ◌∷◌, ◌≡◌};
+ghost use Rattle.mu_model.specs.declared.config.Config.{Config};
+ghost use Rattle.mu_model.specs.declared.event.Event.{Event};
+ghost use Rattle.mu_model.specs.Contents.{IsConfig, row_count};
+ghost use Rattle.mu_knowledge.specs.HeldRows.{IsOfRows};
+ghost use Rattle.mu_knowledge.specs.RowWords.{HoldWords, StandsForRowWords, word_held, words_held};
+
+use mu_model::{Answer, Config, Event, NoMemory, PAYLOADS, Row, Verb};
+use std::alloc::Global;
+
+/// What a replica last wrote or read of each word of each row of a job. All replicas write the same
+/// row for a command, so that twelve words for each command are enough.
+#[derive(Drop)]
+pub struct RowWords {
+    /// Twelve words of each row.
+    words: Vec<u64>,
+}
+
+/// Sets word `k` of row `j`.
+fn put(words: &mut [u64], j: u16, k: u8, x: u64)
+    ensures { (rows : ℕ) → (word : ℕ → ℕ → ℕ) → j < rows → k < 12
+        → HoldWords rows word words.old
+        → HoldWords rows (λ i l. if (j == i) && (k == l) then x else word i l) words.new }
+{
+    let at = usize::from(j) * 12 + usize::from(k);
+    if at < words.len() {
+        words[at] = x;
+    }
+}
+
+/// Keeps the word that the event of `r` writes or reads.
+fn note_word(words: &mut [u64], r: u8, event: &Event)
+    ensures { (c : Config) → (mine : List Event) → IsOfRows c event.now.verb
+        → HoldWords (row_count c) (λ j k. word_held r j k mine) words.old
+        → HoldWords (row_count c) (λ j k. word_held r j k (event.now ∷ mine)) words.new }
+{
+    match (event.verb, event.answer) {
+        (Verb::WriteRow(row, word, x), _) => {
+            if event.by == r {
+                put(words, row, word, x);
+            }
+        }
+        (Verb::ReadRow(v, word), Answer::Number(x)) => {
+            if event.by == r {
+                put(words, v % PAYLOADS, word, x);
+            }
+        }
+        _ => {}
+    }
+}
+
+/// No word of any row: room for twelve of each, and no more.
+fn no_words(alloc: Global, config: &Config) -> Result<Vec<u64>, NoMemory>
+    requires { IsConfig config.now }
+    ensures { IfOk result (λ words. words.items ≡ replicate (row_count config.now * 12) 0) }
+{
+    vec![in alloc; 0; config.rows.len() * 12]
+}
+
+impl RowWords {
+    /// A state with no word. Takes all memory that it ever needs: 96 bytes for each command.
+    pub fn new(alloc: Global, config: &Config) -> Result<RowWords, NoMemory>
+        requires { IsConfig config.now }
+        ensures { IfOk result (λ state. (r : ℕ) → StandsForRowWords config.now r [] state) }
+    {
+        Ok(RowWords {
+            words: no_words(alloc, config)?,
+        })
+    }
+
+    /// Takes the next event of `r`, which names a row and a word that are there, if any. Takes no
+    /// memory.
+    pub fn take(&mut self, r: u8, event: &Event)
+        ensures { (c : Config) → (mine : List Event) → IsOfRows c event.now.verb
+            → StandsForRowWords c r mine self.old
+            → StandsForRowWords c r (event.now ∷ mine) self.new }
+    {
+        note_word(&mut self.words, r, event);
+    }
+
+    /// Word `k` of row `j`.
+    fn word(&self, j: u16, k: u8) -> u64
+        ensures { (c : Config) → (r : ℕ) → (mine : List Event) → j < row_count c → k < 12
+            → StandsForRowWords c r mine self.now → result ≡ word_held r j k mine }
+    {
+        match self.words.get(usize::from(j) * 12 + usize::from(k)) {
+            None => 0,
+            Some(word) => *word,
+        }
+    }
+
+    /// Row `j`, as the words that were written or read last: 0 for a word that never was.
+    pub fn row(&self, j: u16) -> Row
+        ensures { (c : Config) → (r : ℕ) → (mine : List Event) → j < row_count c
+            → StandsForRowWords c r mine self.now → result.words ≡ words_held r j mine }
+    {
+        Row {
+            words: [
+                self.word(j, 0),
+                self.word(j, 1),
+                self.word(j, 2),
+                self.word(j, 3),
+                self.word(j, 4),
+                self.word(j, 5),
+                self.word(j, 6),
+                self.word(j, 7),
+                self.word(j, 8),
+                self.word(j, 9),
+                self.word(j, 10),
+                self.word(j, 11),
+            ],
+        }
+    }
+}

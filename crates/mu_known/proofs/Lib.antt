@@ -1,8 +1,0 @@
-pub mod Fetched
-pub mod Firsts
-pub mod Lasts
-mod Learning
-pub mod NextRows
-pub mod Placed
-pub mod Rows
-mod Untouched

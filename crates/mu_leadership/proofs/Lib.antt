@@ -1,0 +1,3 @@
+mod Grants
+mod Kept
+mod Within

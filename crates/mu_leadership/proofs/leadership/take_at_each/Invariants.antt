@@ -1,0 +1,14 @@
+use Rattle.std.proofs.Common.{List, ◌∷◌, ◌≡◌, length}
+use Rattle.mu_model.specs.declared.config.Config.{Config}
+use Rattle.mu_model.specs.declared.event.Event.{Event}
+use Rattle.mu_model.specs.Parts.{IsPossible}
+use Rattle.mu_leadership.specs.Leadership.{StandsForRegionNotes, StandForRegionNotes}
+use Rattle.mu_model.proofs.Lists.{HoldsUpto}
+use Rattle.mu_leadership.proofs.leadership.take_at_each.Given as goal
+
+abbrev pub invariant-loop-p : goal.invariant-loop-p
+invariant-loop-p l = record {
+  count : length l.notes ≡ 7;
+  upto : (c : Config) (mine : List Event) → IsPossible c l.r (l.event ∷ mine) → StandForRegionNotes l.r mine l.fn.notes
+      → HoldsUpto (λ p d. StandsForRegionNotes l.r p mine d) (λ p d. StandsForRegionNotes l.r p (l.event ∷ mine) d) l.p l.notes;
+}

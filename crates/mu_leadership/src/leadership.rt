@@ -1,0 +1,489 @@
+//! What the leaderships of a replica have come to.
+ghost use Rattle.std.specs.Prelude.{IsTrue, List, None, Some, [], is_some, true, ℕ, ◌%◌, ◌+◌, ◌<◌, ◌∷◌, ◌≡◌, ◌≤◌, ◌↔◌, ◌⊎◌};
+ghost use Rattle.mu_model.specs.declared.config.Config.{Config};
+ghost use Rattle.mu_model.specs.declared.event.Event.{Event};
+ghost use Rattle.mu_model.specs.declared.event.Verb.{Verb};
+ghost use Rattle.mu_model.specs.Allowed.{Needs, last_ask};
+ghost use Rattle.mu_model.specs.Entering.{any_min_read, has_confirmed_majority, has_read_min, last_opened, min_read, number_allowed, open_target};
+ghost use Rattle.mu_model.specs.Histories.{count_below, greatest, newest, or_zero};
+ghost use Rattle.mu_model.specs.Leaderships.{ends_leadership, grant_at_joining, has_begun, has_quorum, is_changed, is_member, is_over, leadership, noted_grant, number_put, proposal_number};
+ghost use Rattle.mu_model.specs.Parts.{IsPossible};
+ghost use Rattle.mu_leadership.specs.Leadership.{StandsForRegionNotes, StandForRegionNotes, StandsForLeadership, ReadsWithin};
+
+use crate::bearing::changes_leadership;
+use crate::region_notes::{RegionNotes, begins};
+use mu_model::{Answer, Config, Event, Fence, Target, Verb, majority, next_number};
+
+/// What the leaderships of a replica have come to.
+#[derive(Drop)]
+pub struct Leadership {
+    replica: u8,
+    begun: bool,
+    asked: Option<u8>,
+    over: bool,
+    number: Option<u32>,
+    greatest_minimum: u64,
+    greatest_number: u32,
+    notes: [RegionNotes; 7],
+}
+
+/// Whether a leadership has begun, after the event.
+fn begun_after(held: bool, r: u8, event: &Event) -> bool
+    ensures { (mine : List Event) → held ≡ has_begun r mine
+        → result ≡ has_begun r (event.now ∷ mine) }
+{
+    begins(r, event) || held
+}
+
+/// The region that was asked last, after the event.
+fn asked_after(held: Option<u8>, r: u8, event: &Event) -> Option<u8>
+    ensures { (mine : List Event) → held ≡ newest (λ e. last_ask r e.by e.verb) mine
+        → result ≡ newest (λ e. last_ask r e.by e.verb) (event.now ∷ mine) }
+{
+    match event.verb {
+        Verb::Ask(p) => { if event.by == r { Some(p) } else { held } }
+        _ => held,
+    }
+}
+
+/// The number of the leadership, after the event.
+fn number_after(held: Option<u32>, r: u8, event: &Event) -> Option<u32>
+    ensures { (mine : List Event) → held ≡ proposal_number r mine
+        → result ≡ proposal_number r (event.now ∷ mine) }
+{
+    match event.verb {
+        Verb::Ask(p) => { if event.by == r && p == 0 { None } else { held } }
+        Verb::PutMin(_, b) => {
+            if event.by == r {
+                held.or(Some(b))
+            } else {
+                held
+            }
+        }
+        _ => held,
+    }
+}
+
+/// The greatest minimum read in the leadership, after the event.
+fn greatest_minimum_after(held: u64, r: u8, event: &Event) -> u64
+    ensures { (mine : List Event)
+        → held ≡ greatest (λ e. any_min_read r e.by e.verb e.answer) (leadership r mine)
+        → result
+        ≡ greatest (λ e. any_min_read r e.by e.verb e.answer) (leadership r (event.now ∷ mine)) }
+{
+    match (event.verb, event.answer) {
+        (Verb::Ask(p), _) => { if event.by == r && p == 0 { 0 } else { held } }
+        (Verb::Min(_), Answer::Number(x)) => { if event.by == r { x.max(held) } else { held } }
+        _ => held,
+    }
+}
+
+/// The greatest number put, after the event.
+fn greatest_number_after(held: u32, r: u8, event: &Event) -> u32
+    ensures { (mine : List Event) → held ≡ greatest (λ e. number_put r e.by e.verb) mine
+        → result ≡ greatest (λ e. number_put r e.by e.verb) (event.now ∷ mine) }
+{
+    match event.verb {
+        Verb::PutMin(_, b) => { if event.by == r { b.max(held) } else { held } }
+        _ => held,
+    }
+}
+
+/// Whether a fence isn't the one under which the region joined.
+fn is_fence_changed(joined: Option<Option<u32>>, fence: Fence) -> bool
+    ensures { result ≡ is_changed joined fence }
+{
+    match joined {
+        None => false,
+        Some(None) => true,
+        Some(Some(grant)) => fence.closing || fence.grant != grant,
+    }
+}
+
+/// For each region, the notes on one at which nothing was done.
+fn no_notes() -> [RegionNotes; 7]
+    ensures { (r : ℕ) → StandForRegionNotes r [] result }
+{
+    [RegionNotes::new(); 7]
+}
+
+/// What was done at each region, with the event.
+fn take_at_each(notes: &mut [RegionNotes; 7], r: u8, event: &Event)
+    ensures { (c : Config) → (mine : List Event) → IsPossible c r (event.now ∷ mine)
+        → StandForRegionNotes r mine notes.old
+        → StandForRegionNotes r (event.now ∷ mine) notes.new }
+{
+    for p in 0..7u8 {
+        let at = usize::from(p);
+        let held = notes[at];
+        notes[at] = held.after(r, p, event);
+    }
+}
+
+/// Whether the number 8 below `b` is too small.
+fn is_next(b: u32, read: u64, put: u32) -> bool
+    ensures { IsTrue result ↔ ((b < 16) ⊎ ((b ≤ read + 8) ⊎ (b ≤ put + 8))) }
+{
+    b < 16 || u64::from(b) - 8 <= read || b - 8 <= put
+}
+
+/// Whether `b` is a number of `r` above two others.
+fn is_own_above(b: u32, r: u8, read: u64, put: u32) -> bool
+    ensures { IsTrue result ↔ ((b % 8 ≡ r) × (8 ≤ b) × (read < b) × (put < b)) }
+{
+    b % 8 == u32::from(r) && 8 <= b && read < u64::from(b) && put < b
+}
+
+/// Whether both hold.
+fn both(own: bool, next: bool) -> bool
+    ensures { IsTrue result ↔ (IsTrue own × IsTrue next) }
+{
+    own && next
+}
+
+/// Whether `b` is the least number of `r` above two others.
+fn is_least_number(b: u32, r: u8, read: u64, put: u32) -> bool
+    ensures { IsTrue result
+        ↔ ((b % 8 ≡ r) × (8 ≤ b) × (read < b) × (put < b)
+        × ((n : ℕ) → n % 8 ≡ r → 8 ≤ n → read < n → put < n → b ≤ n)) }
+{
+    let own = is_own_above(b, r, read, put);
+    let next = is_next(b, read, put);
+    both(own, next)
+}
+
+impl Leadership {
+    /// The state of `r` before any leadership.
+    pub fn new(r: u8) -> Leadership
+        ensures { StandsForLeadership r [] result }
+    {
+        Leadership {
+            replica: r,
+            begun: false,
+            asked: None,
+            over: false,
+            number: None,
+            greatest_minimum: 0,
+            greatest_number: 0,
+            notes: no_notes(),
+        }
+    }
+
+    /// What was done at `p`.
+    fn notes_of(&self, p: u8) -> RegionNotes
+        ensures { (r : ℕ) → (mine : List Event) → p < 7 → StandsForLeadership r mine self.now
+            → StandsForRegionNotes r p mine result }
+    {
+        if p < 7 {
+            self.notes[usize::from(p)]
+        } else {
+            RegionNotes::new()
+        }
+    }
+
+    /// What was noted of `p` when it became a member, if it is one.
+    fn joined(&self, p: u8) -> Option<Option<u32>>
+        ensures { (r : ℕ) → (mine : List Event) → p < 7 → StandsForLeadership r mine self.now
+            → result ≡ grant_at_joining r p mine }
+    {
+        self.notes_of(p).joined
+    }
+
+    /// Whether the event ends the leadership.
+    fn is_ended_by(&self, event: &Event) -> bool
+        ensures { (r : ℕ) → (mine : List Event) → ReadsWithin 7 event.now.verb
+            → StandsForLeadership r mine self.now
+            → result ≡ ends_leadership r mine event.now.by event.now.verb event.now.answer }
+    {
+        event.by == self.replica
+            && match (event.verb, event.answer) {
+                (Verb::Enter(_, _), Answer::Lost(_)) => true,
+                (Verb::PutMin(_, _), Answer::Missed) => true,
+                (Verb::PutSlot(_, _, _, _), Answer::Missed) => true,
+                (Verb::Min(_), Answer::Number(x)) => match self.number {
+                    None => false,
+                    Some(number) => u64::from(number) < x,
+                },
+                (Verb::Fence(p), Answer::Seen(fence)) => is_fence_changed(self.joined(p), fence),
+                _ => false,
+            }
+    }
+
+    /// Whether the leadership is over after the event.
+    fn over_after(&self, r: u8, event: &Event) -> bool
+        ensures { (mine : List Event) → ReadsWithin 7 event.now.verb
+            → StandsForLeadership r mine self.now
+            → result ≡ is_over r (event.now ∷ mine) }
+    {
+        !begins(r, event) && (self.is_ended_by(event) || self.over)
+    }
+
+    /// Takes the next event of the replica, which it was allowed. Takes no memory.
+    #[inline(always)]
+    pub fn take(&mut self, r: u8, event: &Event)
+        ensures { (c : Config) → (mine : List Event) → c.replicas ≤ 7
+            → IsPossible c r (event.now ∷ mine)
+            → StandsForLeadership r mine self.old
+            → StandsForLeadership r (event.now ∷ mine) self.new }
+    {
+        if !changes_leadership(&event.verb) {
+            return;
+        }
+        self.take_change(r, event);
+    }
+
+    /// Takes an event that may change it.
+    #[inline(never)]
+    fn take_change(&mut self, r: u8, event: &Event)
+        ensures { (c : Config) → (mine : List Event) → c.replicas ≤ 7
+            → IsPossible c r (event.now ∷ mine)
+            → StandsForLeadership r mine self.old
+            → StandsForLeadership r (event.now ∷ mine) self.new }
+    {
+        self.over = self.over_after(r, event);
+        self.begun = begun_after(self.begun, r, event);
+        self.asked = asked_after(self.asked, r, event);
+        self.number = number_after(self.number, r, event);
+        self.greatest_minimum = greatest_minimum_after(self.greatest_minimum, r, event);
+        self.greatest_number = greatest_number_after(self.greatest_number, r, event);
+        take_at_each(&mut self.notes, r, event);
+    }
+
+    /// Whether the leadership is over.
+    pub fn is_over(&self) -> bool
+        ensures { (r : ℕ) → (mine : List Event) → StandsForLeadership r mine self.now
+            → result ≡ is_over r mine }
+    {
+        self.over
+    }
+
+    /// Whether a leadership has begun.
+    pub fn has_begun(&self) -> bool
+        ensures { (r : ℕ) → (mine : List Event) → StandsForLeadership r mine self.now
+            → result ≡ has_begun r mine }
+    {
+        self.begun
+    }
+
+    /// The region that was asked last.
+    pub fn asked(&self) -> Option<u8>
+        ensures { (r : ℕ) → (mine : List Event) → StandsForLeadership r mine self.now
+            → result ≡ newest (λ e. last_ask r e.by e.verb) mine }
+    {
+        self.asked
+    }
+
+    /// The number of the leadership.
+    pub fn number(&self) -> Option<u32>
+        ensures { (r : ℕ) → (mine : List Event) → StandsForLeadership r mine self.now
+            → result ≡ proposal_number r mine }
+    {
+        self.number
+    }
+
+    /// The greatest minimum read in the leadership.
+    pub fn greatest_minimum(&self) -> u64
+        ensures { (r : ℕ) → (mine : List Event) → StandsForLeadership r mine self.now
+            → result
+            ≡ greatest (λ e. any_min_read r e.by e.verb e.answer) (leadership r mine) }
+    {
+        self.greatest_minimum
+    }
+
+    /// The greatest number put.
+    pub fn greatest_number(&self) -> u32
+        ensures { (r : ℕ) → (mine : List Event) → StandsForLeadership r mine self.now
+            → result ≡ greatest (λ e. number_put r e.by e.verb) mine }
+    {
+        self.greatest_number
+    }
+
+    /// The number that a leadership without one takes: its least above all that it read and put.
+    pub fn next_number(&self) -> u32
+        ensures { (r : ℕ) → (mine : List Event) → r < 7
+            → greatest (λ e. any_min_read r e.by e.verb e.answer) (leadership r mine) < 8000000
+            → greatest (λ e. number_put r e.by e.verb) mine < 8000000
+            → StandsForLeadership r mine self.now → number_allowed r mine result None }
+    {
+        let read = self.greatest_minimum.min(7_999_999) as u32;
+        let above = read.max(self.greatest_number).min(7_999_999);
+        next_number(self.replica.min(6), above)
+    }
+
+    /// The grant of `p` that was noted.
+    pub fn noted(&self, p: u8) -> Option<u32>
+        ensures { (r : ℕ) → (mine : List Event) → p < 7 → StandsForLeadership r mine self.now
+            → result ≡ noted_grant r p mine }
+    {
+        self.notes_of(p).noted
+    }
+
+    /// The target that `p` was entered with last.
+    pub fn opened(&self, p: u8) -> Option<Target>
+        ensures { (r : ℕ) → (mine : List Event) → p < 7 → StandsForLeadership r mine self.now
+            → result ≡ last_opened r p mine }
+    {
+        self.notes_of(p).opened
+    }
+
+    /// The target that `p` is entered with in the leadership.
+    pub fn entered(&self, p: u8) -> Option<Target>
+        ensures { (r : ℕ) → (mine : List Event) → p < 7 → StandsForLeadership r mine self.now
+            → result ≡ open_target r p mine }
+    {
+        self.notes_of(p).entered
+    }
+
+    /// The minimum of `p` that was read last, else 0.
+    pub fn minimum(&self, p: u8) -> u64
+        ensures { (r : ℕ) → (mine : List Event) → p < 7 → StandsForLeadership r mine self.now
+            → result ≡ or_zero (newest (λ e. min_read r p e.by e.verb e.answer) mine) }
+    {
+        self.notes_of(p).minimum
+    }
+
+    /// Whether `p` is a member.
+    pub fn is_member(&self, p: u8) -> bool
+        ensures { (r : ℕ) → (mine : List Event) → p < 7 → StandsForLeadership r mine self.now
+            → result ≡ is_member r p mine }
+    {
+        self.joined(p).is_some()
+    }
+
+    /// How many regions below `n` are members.
+    fn members_below(&self, n: u8) -> u8
+        requires { n ≤ 7 }
+        ensures { (r : ℕ) → (mine : List Event) → StandsForLeadership r mine self.now
+            → result ≡ count_below n (λ p. is_member r p mine) }
+    {
+        let mut count: u8 = 0;
+        for p in 0..n {
+            if self.is_member(p) {
+                count += 1;
+            }
+        }
+        count
+    }
+
+    /// Whether the members are a majority of `n` with the replica.
+    pub fn has_quorum(&self, n: u8) -> bool
+        requires { n ≤ 7 }
+        ensures { (c : Config) → (r : ℕ) → (mine : List Event) → n ≡ c.replicas → r < 7
+            → StandsForLeadership r mine self.now → result ≡ has_quorum c r mine }
+    {
+        self.is_member(self.replica) && majority(n) <= self.members_below(n)
+    }
+
+    /// Whether the minimum of `p` was read under the noted grant.
+    pub fn has_read(&self, p: u8) -> bool
+        ensures { (r : ℕ) → (mine : List Event) → p < 7 → StandsForLeadership r mine self.now
+            → result ≡ has_read_min r p mine }
+    {
+        self.notes_of(p).has_read_minimum()
+    }
+
+    /// How many regions below `n` have told their minimum.
+    fn minimums_read(&self, n: u8) -> u8
+        requires { n ≤ 7 }
+        ensures { (r : ℕ) → (mine : List Event) → StandsForLeadership r mine self.now
+            → result ≡ count_below n (λ p. has_read_min r p mine) }
+    {
+        let mut count: u8 = 0;
+        for p in 0..n {
+            if self.has_read(p) {
+                count += 1;
+            }
+        }
+        count
+    }
+
+    /// Whether the regions that have told their minimum are a majority of `n` with its own region.
+    pub fn has_confirmed(&self, n: u8) -> bool
+        requires { n ≤ 7 }
+        ensures { (c : Config) → (r : ℕ) → (mine : List Event) → n ≡ c.replicas → r < 7
+            → StandsForLeadership r mine self.now → result ≡ has_confirmed_majority c r mine }
+    {
+        self.has_read(self.replica) && majority(n) <= self.minimums_read(n)
+    }
+
+    /// Whether it may ask the region `p`.
+    pub fn may_ask(&self, n: u8, p: u8) -> bool
+        ensures { (c : Config) → (r : ℕ) → (mine : List Event) → n ≡ c.replicas
+            → StandsForLeadership r mine self.now → (IsTrue result ↔ Needs c r mine (Verb.Ask p)) }
+    {
+        p < n && (p == 0 || (self.begun && self.asked == Some(p - 1)))
+    }
+
+    /// Whether it may read the fence of `p`.
+    pub fn may_read_fence(&self, n: u8, p: u8) -> bool
+        ensures { (c : Config) → (r : ℕ) → (mine : List Event) → n ≡ c.replicas
+            → StandsForLeadership r mine self.now
+            → (IsTrue result ↔ Needs c r mine (Verb.Fence p)) }
+    {
+        p < n && self.begun
+    }
+
+    /// Whether it may read the minimum of `p`.
+    pub fn may_read_minimum(&self, n: u8, p: u8) -> bool
+        requires { n ≤ 7 }
+        ensures { (c : Config) → (r : ℕ) → (mine : List Event) → n ≡ c.replicas
+            → StandsForLeadership r mine self.now → (IsTrue result ↔ Needs c r mine (Verb.Min p)) }
+    {
+        p < n && self.noted(p).is_some() && !self.over
+    }
+
+    /// Whether it may look at the region `p`, at any position that there is.
+    pub fn may_look(&self, n: u8, p: u8) -> bool
+        requires { n ≤ 7 }
+        ensures { (r : ℕ) → (mine : List Event) → StandsForLeadership r mine self.now
+            → (IsTrue result ↔ ((p < n) × ((p ≡ r) ⊎ (is_some (noted_grant r p mine) ≡ true)))) }
+    {
+        p < n && (p == self.replica || self.noted(p).is_some())
+    }
+
+    /// Whether it may enter the region `p` with the target.
+    pub fn may_enter(&self, n: u8, ring: u16, p: u8, target: Target) -> bool
+        requires { n ≤ 7 }
+        ensures { (c : Config) → (r : ℕ) → (mine : List Event) → n ≡ c.replicas → ring ≡ c.ring
+            → r < 7
+            → StandsForLeadership r mine self.now
+            → (IsTrue result ↔ Needs c r mine (Verb.Enter p target)) }
+    {
+        p < n
+            && match target {
+                Target::None => false,
+                Target::Min => {
+                    self.noted(p).is_some()
+                        && !self.over
+                        && self.has_read(p)
+                        && (self.number.is_some() || self.has_confirmed(n))
+                }
+                Target::Place(place) => self.is_member(p) && !self.over && place < ring,
+            }
+    }
+
+    /// Whether it may put the number.
+    pub fn may_take_number(&self, b: u32) -> bool
+        ensures { (r : ℕ) → (mine : List Event) → StandsForLeadership r mine self.now
+            → (IsTrue result ↔ number_allowed r mine b (proposal_number r mine)) }
+    {
+        match self.number {
+            Some(number) => b == number,
+            None => is_least_number(b, self.replica, self.greatest_minimum, self.greatest_number),
+        }
+    }
+
+    /// Whether it may put the number `b` into the minimum of `p`.
+    pub fn may_put_minimum(&self, n: u8, p: u8, b: u32) -> bool
+        requires { n ≤ 7 }
+        ensures { (c : Config) → (r : ℕ) → (mine : List Event) → n ≡ c.replicas
+            → StandsForLeadership r mine self.now
+            → (IsTrue result ↔ Needs c r mine (Verb.PutMin p b)) }
+    {
+        p < n
+            && !self.over
+            && self.notes_of(p).entered == Some(Target::Min)
+            && self.notes_of(p).minimum <= u64::from(b)
+            && self.may_take_number(b)
+    }
+}

@@ -1,0 +1,12 @@
+//! What a replica has read and done as a leader.
+//!
+//! The state stands for the replica's own events, and is kept up to date event by event.
+#![tactic(auto)]
+
+mod bearing;
+mod leadership;
+mod region_notes;
+
+pub use bearing::is_leader_verb;
+pub use leadership::Leadership;
+pub use region_notes::begins;

@@ -1,0 +1,254 @@
+//! What a replica has done at one region.
+ghost use Rattle.std.specs.Prelude.{List, Some, [], false, ℕ, ◌∷◌, ◌≡◌, ◌≢◌};
+ghost use Rattle.mu_model.specs.declared.config.Config.{Config};
+ghost use Rattle.mu_model.specs.declared.event.Event.{Event};
+ghost use Rattle.mu_model.specs.Entering.{has_read_min, last_opened, min_read, min_read_since, min_read_under, open_target};
+ghost use Rattle.mu_model.specs.Histories.{newest, or_zero};
+ghost use Rattle.mu_model.specs.Leaderships.{begins_leadership, grant_at_joining, grant_for, noted_grant};
+ghost use Rattle.mu_model.specs.Parts.{IsPossible};
+ghost use Rattle.mu_leadership.specs.Leadership.{StandsForRegionNotes, last_grant};
+
+use mu_model::{Answer, Event, Fence, Target, Verb};
+
+/// What a replica has done at one region.
+#[derive(Clone, Copy)]
+pub struct RegionNotes {
+    /// The grant that it noted.
+    pub noted: Option<u32>,
+    /// The grant that it had noted when the region became a member, if it is one.
+    pub joined: Option<Option<u32>>,
+    /// The target that it has entered with in the leadership.
+    pub entered: Option<Target>,
+    /// The target that it has entered with.
+    pub opened: Option<Target>,
+    /// The minimum that it read last.
+    pub minimum: u64,
+    /// The grant that it saw last.
+    pub shown: Option<u32>,
+    /// Whether it has read the minimum since it first saw that grant.
+    pub has_read: bool,
+}
+
+/// Whether the event begins a leadership of `r`.
+pub fn begins(r: u8, event: &Event) -> bool
+    ensures { result ≡ begins_leadership r event.now }
+{
+    match event.verb {
+        Verb::Ask(p) => event.by == r && p == 0,
+        _ => false,
+    }
+}
+
+/// The grant of a fence that names `r` and isn't closing.
+fn grant_named(r: u8, fence: Fence) -> Option<u32>
+    ensures { result ≡ grant_for r (Some fence) }
+{
+    if !fence.closing && fence.owner == Some(r) {
+        Some(fence.grant)
+    } else {
+        None
+    }
+}
+
+/// The noted grant of `p` after the event.
+fn noted_after(held: Option<u32>, r: u8, p: u8, event: &Event) -> Option<u32>
+    ensures { (mine : List Event) → held ≡ noted_grant r p mine
+        → result ≡ noted_grant r p (event.now ∷ mine) }
+{
+    match (event.verb, event.answer) {
+        (Verb::Ask(q), _) => { if event.by == r && q == 0 { None } else { held } }
+        (Verb::Fence(q), Answer::Seen(fence)) => {
+            if event.by == r && q == p {
+                grant_named(r, fence)
+            } else {
+                held
+            }
+        }
+        _ => held,
+    }
+}
+
+/// What was noted of `p` at its joining, after the event.
+fn joined_after(
+    held: Option<Option<u32>>,
+    noted: Option<u32>,
+    r: u8,
+    p: u8,
+    event: &Event,
+) -> Option<Option<u32>>
+    ensures { (mine : List Event) → noted ≡ noted_grant r p mine → held ≡ grant_at_joining r p mine
+        → result ≡ grant_at_joining r p (event.now ∷ mine) }
+{
+    match (event.verb, event.answer) {
+        (Verb::Ask(q), _) => { if event.by == r && q == 0 { None } else { held } }
+        (Verb::PutMin(q, _), Answer::Done) => {
+            if event.by == r && q == p && held.is_none() {
+                Some(noted)
+            } else {
+                held
+            }
+        }
+        _ => held,
+    }
+}
+
+/// The target that `r` entered `p` with in its leadership, after the event.
+fn entered_after(held: Option<Target>, r: u8, p: u8, event: &Event) -> Option<Target>
+    ensures { (mine : List Event) → held ≡ open_target r p mine
+        → result ≡ open_target r p (event.now ∷ mine) }
+{
+    match (event.verb, event.answer) {
+        (Verb::Ask(q), _) => { if event.by == r && q == 0 { None } else { held } }
+        (Verb::Enter(q, target), Answer::Entered) => {
+            if event.by == r && q == p {
+                Some(target)
+            } else {
+                held
+            }
+        }
+        (Verb::Enter(q, _), _) | (Verb::PutMin(q, _), _) | (Verb::PutSlot(q, _, _, _), _) => {
+            if event.by == r && q == p {
+                Some(Target::None)
+            } else {
+                held
+            }
+        }
+        _ => held,
+    }
+}
+
+/// The target that `r` entered `p` with, after the event.
+fn opened_after(held: Option<Target>, r: u8, p: u8, event: &Event) -> Option<Target>
+    ensures { (mine : List Event) → held ≡ last_opened r p mine
+        → result ≡ last_opened r p (event.now ∷ mine) }
+{
+    match (event.verb, event.answer) {
+        (Verb::Enter(q, target), Answer::Entered) => {
+            if event.by == r && q == p {
+                Some(target)
+            } else {
+                held
+            }
+        }
+        (Verb::Enter(q, _), _) | (Verb::PutMin(q, _), _) | (Verb::PutSlot(q, _, _, _), _) => {
+            if event.by == r && q == p {
+                Some(Target::None)
+            } else {
+                held
+            }
+        }
+        _ => held,
+    }
+}
+
+/// The minimum of `p` that `r` read last, after the event.
+fn minimum_after(held: u64, r: u8, p: u8, event: &Event) -> u64
+    ensures { (mine : List Event)
+        → held ≡ or_zero (newest (λ e. min_read r p e.by e.verb e.answer) mine)
+        → result ≡ or_zero (newest (λ e. min_read r p e.by e.verb e.answer) (event.now ∷ mine)) }
+{
+    match (event.verb, event.answer) {
+        (Verb::Min(q), Answer::Number(x)) => { if event.by == r && q == p { x } else { held } }
+        _ => held,
+    }
+}
+
+/// The grant of `p` that `r` saw last, after the event.
+fn shown_after(held: Option<u32>, r: u8, p: u8, event: &Event) -> Option<u32>
+    ensures { (mine : List Event) → held ≡ last_grant r p mine
+        → result ≡ last_grant r p (event.now ∷ mine) }
+{
+    match (event.verb, event.answer) {
+        (Verb::Fence(q), Answer::Seen(fence)) => {
+            if event.by == r && q == p {
+                Some(fence.grant)
+            } else {
+                held
+            }
+        }
+        _ => held,
+    }
+}
+
+/// Whether the minimum was read since the first answer with this grant. That can be so only if it
+/// is the grant that was seen last: any other grant is new.
+fn has_read_under(held: bool, shown: Option<u32>, grant: u32) -> bool
+    ensures { (r p : ℕ) → (mine : List Event) → shown ≡ last_grant r p mine
+        → held ≡ min_read_since r p mine (last_grant r p mine)
+        → (last_grant r p mine ≢ Some grant → min_read_under r p grant mine ≡ false)
+        → result ≡ min_read_under r p grant mine }
+{
+    match shown {
+        None => false,
+        Some(last) => held && last == grant,
+    }
+}
+
+/// Whether `r` has read the minimum of `p` since it first saw the grant that it saw last, after the
+/// event.
+fn has_read_after(held: bool, shown: Option<u32>, r: u8, p: u8, event: &Event) -> bool
+    ensures { (c : Config) → (mine : List Event) → IsPossible c r (event.now ∷ mine)
+        → shown ≡ last_grant r p mine → held ≡ min_read_since r p mine (last_grant r p mine)
+        → result ≡ min_read_since r p (event.now ∷ mine) (last_grant r p (event.now ∷ mine)) }
+{
+    match (event.verb, event.answer) {
+        (Verb::Fence(q), Answer::Seen(fence)) => {
+            if event.by == r && q == p {
+                has_read_under(held, shown, fence.grant)
+            } else {
+                held
+            }
+        }
+        (Verb::Min(q), Answer::Number(_)) => {
+            if event.by == r && q == p {
+                held || shown.is_some()
+            } else {
+                held
+            }
+        }
+        _ => held,
+    }
+}
+
+impl RegionNotes {
+    /// The notes on a region at which nothing was done.
+    pub fn new() -> RegionNotes
+        ensures { (r p : ℕ) → StandsForRegionNotes r p [] result }
+    {
+        RegionNotes {
+            noted: None,
+            joined: None,
+            entered: None,
+            opened: None,
+            minimum: 0,
+            shown: None,
+            has_read: false,
+        }
+    }
+
+    /// What `r` has done at `p` after the event.
+    pub fn after(self, r: u8, p: u8, event: &Event) -> RegionNotes
+        ensures { (c : Config) → (mine : List Event) → IsPossible c r (event.now ∷ mine)
+            → StandsForRegionNotes r p mine self
+            → StandsForRegionNotes r p (event.now ∷ mine) result }
+    {
+        RegionNotes {
+            noted: noted_after(self.noted, r, p, event),
+            joined: joined_after(self.joined, self.noted, r, p, event),
+            entered: entered_after(self.entered, r, p, event),
+            opened: opened_after(self.opened, r, p, event),
+            minimum: minimum_after(self.minimum, r, p, event),
+            shown: shown_after(self.shown, r, p, event),
+            has_read: has_read_after(self.has_read, self.shown, r, p, event),
+        }
+    }
+
+    /// Whether the minimum was read under the noted grant.
+    #[tactic(auto, using(crate::proofs::Grants::read_of_noted))]
+    pub fn has_read_minimum(&self) -> bool
+        ensures { (r p : ℕ) → (mine : List Event) → StandsForRegionNotes r p mine self.now
+            → result ≡ has_read_min r p mine }
+    {
+        self.noted.is_some() && self.has_read
+    }
+}

@@ -1,3 +1,0 @@
-mod Grants
-mod Kept
-pub mod Within

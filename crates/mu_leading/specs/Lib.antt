@@ -1,3 +1,0 @@
-pub mod Bearing
-pub mod Heads
-pub mod Leadership

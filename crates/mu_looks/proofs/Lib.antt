@@ -1,5 +1,0 @@
-mod Elsewhere
-mod RegionLooks
-mod Tables
-mod Times
-mod Kept

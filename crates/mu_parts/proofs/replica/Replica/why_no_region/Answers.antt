@@ -1,9 +1,0 @@
-use Rattle.mu_reasons.specs.Reasons.{bounds}
-use Rattle.mu_parts.proofs.Points.{less}
-use Rattle.mu_parts.proofs.replica.Replica.why_no_region.Goals as goal
-
-pub returns : goal.returns
-returns c r mine start =
-    let k = c.args.config.now in
-    let few = c.requires.replicas.1 in
-    c.needs.ensures k r mine (bounds r mine) start (λ m. less _ _)

@@ -1,0 +1,23 @@
+-- An event that tells nothing of the others changes nothing of what was read of them.
+use Rattle.std.proofs.Common.{◌≡◌, ℕ, false, List, ◌∷◌}
+use Rattle.mu_model.specs.declared.event.Answer.{Answer}
+use Rattle.mu_model.specs.declared.event.Event.{Event}
+use Rattle.mu_model.specs.declared.event.Verb.{Verb}
+use Rattle.mu_model.specs.declared.config.Config.{Config}
+use Rattle.mu_placing.specs.Heads.{tells_of_peers, StandsForHeads}
+use Rattle.mu_placing.specs.declared.heads.Heads.{Heads}
+use Rattle.mu_model.proofs.Basics.{event_by}
+
+told_by : (c : Config) (r by : ℕ) (verb : Verb) (answer : Answer) (mine : List Event) (state : Heads) → tells_of_peers verb ≡ false → StandsForHeads c r mine state → StandsForHeads c r (event_by by verb answer ∷ mine) state
+told_by c r by (Verb.Ask p) answer mine state none held = cc
+told_by c r by (Verb.Head q) answer mine state none held = cc
+told_by c r by (Verb.ReadBeat q) answer mine state none held = cc
+told_by c r by verb answer mine state none held =
+    let s = held.scores in
+    record {
+      scores = record { few = s.few; inside = s.inside; replicas = s.replicas; id = s.id; peers = λ q peer low there. let p = s.peers q peer low there in record { count = p.count; points = p.points; alive = p.alive } };
+      peers = λ q peer low there. let p = held.peers q peer low there in record { head = p.head; stuck = p.stuck };
+    }
+
+pub heads_kept : (c : Config) (r : ℕ) (e : Event) (mine : List Event) (state : Heads) → tells_of_peers e.verb ≡ false → StandsForHeads c r mine state → StandsForHeads c r (e ∷ mine) state
+heads_kept c r e mine state none held = told_by c r e.by e.verb e.answer mine state none held

@@ -1,0 +1,12 @@
+mod Alike
+mod Beyond
+mod Caught
+mod Cover
+mod Elsewhere
+mod HeadsKept
+mod LogsKept
+mod LooksKept
+mod Noted
+mod RegionLooks
+mod Tables
+mod Times

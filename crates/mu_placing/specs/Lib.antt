@@ -1,0 +1,4 @@
+pub mod FilledLogs
+pub mod Heads
+pub mod LandedPuts
+pub mod Looks

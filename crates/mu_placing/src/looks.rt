@@ -1,0 +1,413 @@
+//! What a replica has looked at and put, as far as it decides what it may put next.
+ghost use Rattle.std.specs.Prelude.{IfOk, List, None, Some, [], if◌then◌else◌, is_some, length, nat_lt, not, vec_capacity, ◌&&◌, ◌+◌, ◌<◌, ◌||◌, ◌∷◌, ◌≡◌, ◌≤◌, ℕ};
+ghost use Rattle.mu_model.specs.declared.config.Config.{Config};
+ghost use Rattle.mu_model.specs.declared.event.Event.{Event};
+ghost use Rattle.mu_model.specs.declared.event.Target.{Target as SomeTarget};
+ghost use Rattle.mu_model.specs.Contents.{IsConfig, row_count};
+ghost use Rattle.mu_model.specs.Entering.{last_opened};
+ghost use Rattle.mu_model.specs.Histories.{all_below, has};
+ghost use Rattle.mu_model.specs.Leaderships.{is_member, leadership};
+ghost use Rattle.mu_model.specs.Parts.{IsPossible};
+ghost use Rattle.mu_model.specs.Picks.{entry_of, first_value, highest_accepted, is_joining, is_past_look, joined_since_first_put, larger, last_look, look_answer};
+ghost use Rattle.mu_model.specs.Placing.{fuo_read_or_raised, is_within_ring, looked_before_entering, reaches_head};
+ghost use Rattle.mu_model.specs.Room.{reserve};
+ghost use Rattle.mu_leadership.specs.Leadership.{StandsForLeadership};
+ghost use Rattle.mu_placing.specs.Looks.{HoldsEachRegion, HoldsFirst, HoldsFirsts, HoldsOwnReach, StandsForLooks, begun_time, joining_time};
+
+use crate::region_looks::{RegionLooks, farther};
+use mu_leadership::{Leadership, begins, is_leader_verb};
+use mu_model::{Answer, Config, Event, NoMemory, Verb, positions_in};
+use std::alloc::Global;
+
+/// The first put at one position in a leadership. The time is that of the replica's own events,
+/// counted from 1; 0 is never.
+#[derive(Clone, Copy)]
+pub struct First {
+    /// The time of the put.
+    pub put_at: u32,
+    /// The value put.
+    pub value: u16,
+}
+
+/// What a replica has looked at and put. What an earlier leadership left is told by its time, so
+/// that nothing has to be cleared.
+#[derive(Drop)]
+pub struct Looks {
+    /// The replica.
+    replica: u8,
+    /// The time of its next event.
+    time: u32,
+    /// The time when its leadership began.
+    begun_at: u32,
+    /// The time when a region last became a member, or when its leadership began.
+    joined_at: u32,
+    /// The greatest FUO of its own region that it read or raised.
+    own_reach: Option<u64>,
+    /// The first put at each position.
+    firsts: Vec<First>,
+    /// What it has looked at and put at each region.
+    regions: Vec<RegionLooks>,
+}
+
+/// The time when the leadership began, after the event.
+fn begun_after(held: u32, r: u8, now: u32, event: &Event) -> u32
+    ensures { (mine : List Event) → now ≡ length mine + 1 → held ≡ begun_time r mine
+        → result ≡ begun_time r (event.now ∷ mine) }
+{
+    if begins(r, event) { now } else { held }
+}
+
+/// Whether a region becomes a member by the event.
+fn joins(before: &Leadership, r: u8, event: &Event) -> bool
+    ensures { (c : Config) → (mine : List Event) → c.replicas ≤ 7
+        → IsPossible c r (event.now ∷ mine)
+        → StandsForLeadership r mine before.now
+        → result ≡ is_joining r mine event.now.by event.now.verb event.now.answer }
+{
+    match (event.verb, event.answer) {
+        (Verb::PutMin(p, _), Answer::Done) => event.by == r && !before.is_member(p),
+        _ => false,
+    }
+}
+
+/// The time when a region last joined or the leadership began, after an event; `joins` tells
+/// whether a region joins by it.
+fn joined_after(held: u32, joins: bool, r: u8, now: u32, event: &Event) -> u32
+    ensures { (mine : List Event) → now ≡ length mine + 1
+        → joins ≡ is_joining r mine event.now.by event.now.verb event.now.answer
+        → held ≡ joining_time r mine → result ≡ joining_time r (event.now ∷ mine) }
+{
+    if joins || begins(r, event) { now } else { held }
+}
+
+/// The FUO of its own region that reaches farthest, after the event.
+fn own_reach_after(held: Option<u64>, r: u8, event: &Event) -> Option<u64>
+    ensures { (mine : List Event) → HoldsOwnReach r mine held
+        → HoldsOwnReach r (event.now ∷ mine) result }
+{
+    match (event.verb, event.answer) {
+        (Verb::Fuo(q), Answer::Number(x)) => {
+            if event.by == r && q == r {
+                farther(held, x)
+            } else {
+                held
+            }
+        }
+        (Verb::RaiseFuo(q, u), _) => {
+            if event.by == r && q == r {
+                farther(held, u64::from(u))
+            } else {
+                held
+            }
+        }
+        _ => held,
+    }
+}
+
+/// The first put at a position after a put of the value there.
+fn first_after(held: First, begun_at: u32, now: u32, value: u16) -> First
+    ensures { result
+        ≡ (if nat_lt begun_at held.put_at then held else record { put_at = now; value = value }) }
+{
+    if begun_at < held.put_at {
+        held
+    } else {
+        First { put_at: now, value }
+    }
+}
+
+/// Notes a put.
+fn note_first(firsts: &mut [First], begun_at: u32, r: u8, now: u32, event: &Event)
+    ensures { (mine : List Event) → now ≡ length mine + 1 → begun_at ≡ begun_time r mine
+        → HoldsFirsts r mine firsts.old → HoldsFirsts r (event.now ∷ mine) firsts.new }
+{
+    if let Verb::PutSlot(_, i, _, value) = event.verb {
+        let at = usize::from(i);
+        if event.by == r && at < firsts.len() {
+            let held = firsts[at];
+            firsts[at] = first_after(held, begun_at, now, value);
+        }
+    }
+}
+
+/// Takes the event at each region.
+fn take_at_each(regions: &mut [RegionLooks], r: u8, now: u32, event: &Event)
+    ensures { (c : Config) → (mine : List Event) → 0 < c.ring → now ≡ length mine + 1
+        → HoldsEachRegion c r mine regions.old
+        → HoldsEachRegion c r (event.now ∷ mine) regions.new }
+{
+    for looks in regions.iter_mut() {
+        looks.take(r, now, event);
+    }
+}
+
+/// Whether a FUO, if there is one, is at least `h`.
+fn reaches_to(reach: Option<u64>, h: u16) -> bool
+    ensures { result ≡ reaches_head h reach }
+{
+    match reach {
+        None => false,
+        Some(u) => u64::from(h) <= u,
+    }
+}
+
+/// The entry that a look showed.
+fn entry_in(look: Option<Answer>) -> Option<(u32, u16)>
+    ensures { result ≡ entry_of look }
+{
+    match look {
+        Some(Answer::Entry { number, value }) => Some((number, value)),
+        _ => None,
+    }
+}
+
+/// The entry of the larger number, the first at a tie.
+fn larger_of(x: Option<(u32, u16)>, y: Option<(u32, u16)>) -> Option<(u32, u16)>
+    ensures { result ≡ larger x y }
+{
+    match (x, y) {
+        (None, other) => other,
+        (Some(a), None) => Some(a),
+        (Some(a), Some(b)) => { if a.0 < b.0 { Some(b) } else { Some(a) } }
+    }
+}
+
+impl First {
+    /// No put was made.
+    fn new() -> First
+        ensures { (r i : ℕ) → HoldsFirst r i [] result }
+    {
+        First {
+            put_at: 0,
+            value: 0,
+        }
+    }
+}
+
+impl Looks {
+    /// The state of `r` before it did anything. Takes all memory that it ever needs.
+    pub fn new(alloc: Global, r: u8, config: &Config) -> Result<Looks, NoMemory>
+        requires { IsConfig config.now }
+        ensures stands { IfOk result (λ state. StandsForLooks config.now r [] state) }
+        ensures room { IfOk result (λ state. vec_capacity state.regions ≡ 7) }
+    {
+        let mut regions = Vec::with_capacity(alloc, 7)?;
+        for p in 0..7u8 {
+            regions.push_reserved(RegionLooks::new(alloc, p, config)?);
+        }
+        Ok(Looks {
+            replica: r,
+            time: 1,
+            begun_at: 0,
+            joined_at: 0,
+            own_reach: None,
+            firsts: vec![in alloc; First::new(); positions_in(config)]?,
+            regions,
+        })
+    }
+
+    /// Takes the next event of the replica, which it was allowed; `before` stands for the events
+    /// before it. Takes no memory.
+    pub fn take(&mut self, before: &Leadership, event: &Event)
+        ensures { (c : Config) → (r : ℕ) → (mine : List Event) → IsConfig c
+            → IsPossible c r (event.now ∷ mine) → StandsForLeadership r mine before.now
+            → StandsForLooks c r mine self.old → StandsForLooks c r (event.now ∷ mine) self.new }
+    {
+        let r = self.replica;
+        let now = self.time;
+        self.time = now.saturating_add(1);
+        if !is_leader_verb(&event.verb) {
+            return;
+        }
+        let joining = joins(before, r, event);
+        note_first(&mut self.firsts, self.begun_at, r, now, event);
+        self.begun_at = begun_after(self.begun_at, r, now, event);
+        self.joined_at = joined_after(self.joined_at, joining, r, now, event);
+        self.own_reach = own_reach_after(self.own_reach, r, event);
+        take_at_each(&mut self.regions, r, now, event);
+    }
+
+    /// Whether the leadership read or raised a FUO of `p` within a ring of position `i`.
+    pub fn is_within_ring(&self, p: u8, ring: u16, i: u16) -> bool
+        ensures { (c : Config) → (r : ℕ) → (mine : List Event) → p < 7
+            → StandsForLooks c r mine self.now
+            → result
+            ≡ has (λ e. is_within_ring i ring (fuo_read_or_raised r p e.by e.verb e.answer))
+            (leadership r mine) }
+    {
+        match self.regions.get(usize::from(p)) {
+            Some(looks) => looks.is_within_ring(ring, i),
+            None => false,
+        }
+    }
+
+    /// Whether the replica read or raised a FUO of its own region of at least `h`.
+    pub fn reaches_head(&self, h: u16) -> bool
+        ensures { (c : Config) → (r : ℕ) → (mine : List Event) → StandsForLooks c r mine self.now
+            → result ≡ has
+            (λ e. reaches_head h (fuo_read_or_raised r r e.by e.verb e.answer)) mine }
+    {
+        reaches_to(self.own_reach, h)
+    }
+
+    /// Whether `p` is entered, and before the last `Enter` there came a look at position `i` of `p`
+    /// that was made since `p` joined and since the last put in that place.
+    pub fn has_looked(&self, p: u8, i: u16) -> bool
+        ensures { (c : Config) → (r s : ℕ) → (mine : List Event) → p < 7 → IsConfig c
+            → i ≤ row_count c + reserve c → StandsForLooks c r mine self.now
+            → last_opened r p mine ≡ Some (SomeTarget.Place s)
+            → result ≡ looked_before_entering c r p i mine }
+    {
+        match self.regions.get(usize::from(p)) {
+            Some(looks) => looks.has_looked(i),
+            None => false,
+        }
+    }
+
+    /// What the last look at position `i` of `p` saw since a region joined last.
+    pub fn last_look(&self, p: u8, i: u16) -> Option<Answer>
+        ensures { (c : Config) → (r : ℕ) → (mine : List Event) → p < 7 → i ≤ row_count c + reserve c
+            → StandsForLooks c r mine self.now → result ≡ last_look r p i mine }
+    {
+        match self.regions.get(usize::from(p)) {
+            Some(looks) => looks.last_look(self.joined_at, i),
+            None => None,
+        }
+    }
+
+    /// Whether a look at position `i` of `p` saw `Past` in the leadership.
+    fn has_seen_past(&self, p: u8, i: u16) -> bool
+        ensures { (c : Config) → (r : ℕ) → (mine : List Event) → p < 7 → i ≤ row_count c + reserve c
+            → StandsForLooks c r mine self.now
+            → result
+            ≡ has (λ e. is_past_look (look_answer r p i e.by e.verb e.answer)) (leadership r mine) }
+    {
+        match self.regions.get(usize::from(p)) {
+            Some(looks) => looks.has_seen_past(self.begun_at, i),
+            None => false,
+        }
+    }
+
+    /// The first put at position `i`.
+    fn first(&self, i: u16) -> First
+        ensures { (c : Config) → (r : ℕ) → (mine : List Event) → i ≤ row_count c + reserve c
+            → StandsForLooks c r mine self.now → HoldsFirst r i mine result }
+    {
+        if usize::from(i) < self.firsts.len() {
+            self.firsts[usize::from(i)]
+        } else {
+            First::new()
+        }
+    }
+
+    /// The value of the first put at position `i` in the leadership.
+    pub fn first_value(&self, i: u16) -> Option<u16>
+        ensures { (c : Config) → (r : ℕ) → (mine : List Event) → i ≤ row_count c + reserve c
+            → StandsForLooks c r mine self.now → result ≡ first_value r i mine }
+    {
+        let first = self.first(i);
+        if self.begun_at < first.put_at {
+            Some(first.value)
+        } else {
+            None
+        }
+    }
+
+    /// Whether a region joined since the first put at position `i` in the leadership.
+    pub fn joined_since(&self, i: u16) -> bool
+        ensures { (c : Config) → (r : ℕ) → (mine : List Event) → i ≤ row_count c + reserve c
+            → StandsForLooks c r mine self.now → result ≡ joined_since_first_put r i mine }
+    {
+        let first = self.first(i);
+        self.begun_at < first.put_at && first.put_at < self.joined_at
+    }
+
+    /// Whether `p` is no member, or no look at position `i` there saw `Past` in the leadership.
+    pub fn is_clear(&self, p: u8, leading: &Leadership, i: u16) -> bool
+        ensures { (c : Config) → (r : ℕ) → (mine : List Event) → p < 7 → i ≤ row_count c + reserve c
+            → StandsForLeadership r mine leading.now → StandsForLooks c r mine self.now
+            → result
+            ≡ not
+            (is_member r p mine
+            && has (λ e. is_past_look (look_answer r p i e.by e.verb e.answer))
+            (leadership r mine)) }
+    {
+        if leading.is_member(p) {
+            !self.has_seen_past(p, i)
+        } else {
+            true
+        }
+    }
+
+    /// Whether no look at position `i` of a member below `n` saw `Past` in the leadership.
+    pub fn none_past(&self, n: u8, leading: &Leadership, i: u16) -> bool
+        ensures { (c : Config) → (r : ℕ) → (mine : List Event) → n ≤ 7 → i ≤ row_count c + reserve c
+            → StandsForLeadership r mine leading.now → StandsForLooks c r mine self.now
+            → result
+            ≡ all_below n
+            (λ p. not
+            (is_member r p mine
+            && has (λ e. is_past_look (look_answer r p i e.by e.verb e.answer))
+            (leadership r mine))) }
+    {
+        let mut none = true;
+        for p in 0..n {
+            if !self.is_clear(p, leading, i) {
+                none = false;
+            }
+        }
+        none
+    }
+
+    /// Whether `p` is no member, or was looked at in position `i` since a region joined last.
+    fn is_looked_at(&self, p: u8, leading: &Leadership, i: u16) -> bool
+        ensures { (c : Config) → (r : ℕ) → (mine : List Event) → p < 7 → i ≤ row_count c + reserve c
+            → StandsForLeadership r mine leading.now → StandsForLooks c r mine self.now
+            → result ≡ (not (is_member r p mine) || is_some (last_look r p i mine)) }
+    {
+        !leading.is_member(p) || self.last_look(p, i).is_some()
+    }
+
+    /// Whether each member below `n` was looked at in position `i` since a region joined last.
+    pub fn have_looked(&self, n: u8, leading: &Leadership, i: u16) -> bool
+        ensures { (c : Config) → (r : ℕ) → (mine : List Event) → n ≤ 7 → i ≤ row_count c + reserve c
+            → StandsForLeadership r mine leading.now → StandsForLooks c r mine self.now
+            → result ≡ all_below n
+            (λ p. not (is_member r p mine) || is_some (last_look r p i mine)) }
+    {
+        let mut all = true;
+        for p in 0..n {
+            if !self.is_looked_at(p, leading, i) {
+                all = false;
+            }
+        }
+        all
+    }
+
+    /// What the last look at position `i` of `p` showed, if `p` is a member.
+    fn entry_shown(&self, p: u8, leading: &Leadership, i: u16) -> Option<(u32, u16)>
+        ensures { (c : Config) → (r : ℕ) → (mine : List Event) → p < 7 → i ≤ row_count c + reserve c
+            → StandsForLeadership r mine leading.now → StandsForLooks c r mine self.now
+            → result ≡ (if is_member r p mine then entry_of (last_look r p i mine) else None) }
+    {
+        if leading.is_member(p) {
+            entry_in(self.last_look(p, i))
+        } else {
+            None
+        }
+    }
+
+    /// The entry of the largest number that the last looks at the members below `n` showed in
+    /// position `i`, that of the least region at a tie.
+    pub fn highest_accepted(&self, n: u8, leading: &Leadership, i: u16) -> Option<(u32, u16)>
+        ensures { (c : Config) → (r : ℕ) → (mine : List Event) → n ≤ 7 → i ≤ row_count c + reserve c
+            → StandsForLeadership r mine leading.now → StandsForLooks c r mine self.now
+            → result ≡ highest_accepted r i mine n }
+    {
+        let mut best: Option<(u32, u16)> = None;
+        for p in 0..n {
+            best = larger_of(best, self.entry_shown(p, leading, i));
+        }
+        best
+    }
+}

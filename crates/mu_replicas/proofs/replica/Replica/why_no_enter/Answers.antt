@@ -1,0 +1,13 @@
+use Rattle.std.proofs.lemmas.Bool.{false≢true}
+use Rattle.std.proofs.Common.{[], ◌++◌, ◌∷◌}
+use Rattle.mu_reasons.specs.declared.reason.Reason.{Reason}
+use Rattle.mu_reasons.specs.Reasons.{bounds}
+use Rattle.mu_replicas.proofs.Points.{less}
+use Rattle.mu_replicas.proofs.replica.Replica.why_no_enter.Goals as goal
+
+pub returns : goal.returns
+returns c r mine held start =
+    let k = c.args.config.now in
+    let few = c.requires.replicas.1 in
+    let one = c.needs.ensures k r mine (bounds r mine) start (λ m. less _ _) in
+    c.needs-2.ensures k r mine ((bounds r mine) ++ Reason.NoRegion c.args.p ∷ []) one (λ m. (λ t. false≢true t, λ h. absurd h))

@@ -1,0 +1,12 @@
+use Rattle.std.proofs.Common.{[], ◌++◌, ◌∷◌}
+use Rattle.mu_reasons.specs.declared.reason.Reason.{Reason}
+use Rattle.mu_reasons.specs.Reasons.{bounds}
+use Rattle.mu_replicas.proofs.Points.{denies, tells}
+use Rattle.mu_replicas.proofs.replica.Replica.why_no_look_target.Goals as goal
+
+pub returns : goal.returns
+returns c r mine held start =
+    let k = c.args.config.now in
+    let few = c.requires.replicas.1 in
+    let one = c.needs.ensures k r mine (bounds r mine) start (λ m. tells _ _ (c.has_to_drain.ensures k.replicas r mine held.grants)) in
+    c.needs-2.ensures k r mine ((bounds r mine) ++ Reason.NothingToDrain ∷ []) one (λ m. denies _ _ (c.has_looked.ensures k.replicas r mine held.grants))

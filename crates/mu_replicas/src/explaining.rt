@@ -1,0 +1,403 @@
+//! Why a replica may not make a verb: the first point of what is allowed that it doesn't meet.
+ghost use Rattle.std.specs.Prelude.{IsTrue, List, None, Some, is_some, not, ◌||◌, true, ◌+◌, ◌/◌, ◌<◌, ◌≡◌, ◌↔◌, ℕ};
+ghost use Rattle.mu_model.specs.declared.config.Config.{Config};
+ghost use Rattle.mu_model.specs.declared.event.Event.{Event};
+ghost use Rattle.mu_model.specs.declared.event.Target.{Target as SomeTarget};
+ghost use Rattle.mu_model.specs.declared.event.Verb.{Verb as SomeVerb};
+ghost use Rattle.mu_model.specs.Contents.{IsConfig};
+ghost use Rattle.mu_model.specs.Entering.{has_confirmed_majority};
+ghost use Rattle.std.specs.List.{slice_get};
+ghost use Rattle.mu_model.specs.Knowledge.{known};
+ghost use Rattle.mu_model.specs.Leaderships.{is_member, proposal_number};
+ghost use Rattle.mu_model.specs.Parts.{IsPossible};
+ghost use Rattle.mu_model.specs.Serving.{drained_since_close, must_drain};
+ghost use Rattle.mu_reasons.specs.Reasons.{Finds, bounds, last_position, least_number, points, right_number};
+ghost use Rattle.mu_replicas.specs.Stands.{StandsForReplica};
+
+use crate::replica::{Replica, is_position};
+use mu_model::{Config, Target, Verb, positions_in};
+use mu_reasons::{Found, Reason};
+
+/// Whether a region is entered for the target.
+pub(crate) fn is_entered_for(entered: Option<Target>, target: Target) -> bool
+    ensures { IsTrue result ↔ (entered ≡ Some target) }
+{
+    entered == Some(target)
+}
+
+/// The last position of a log.
+pub(crate) fn last_position(config: &Config) -> usize
+    requires { IsConfig config.now }
+    ensures { result ≡ last_position config.now }
+{
+    positions_in(config) - 1
+}
+
+/// The least number above this that is `r` modulo 8, from 8 on.
+fn least_number(r: u8, above: u64) -> u128
+    ensures { result ≡ least_number r above }
+{
+    let round = u128::from(above / 8 * 8);
+    let same = round + u128::from(r);
+    if 7 < above && u128::from(above) < same {
+        same
+    } else {
+        same + 8
+    }
+}
+
+/// The number to put: that of the leadership, or the least of 32 bits that a new one may take.
+fn right_number(r: u8, above: u64, own: Option<u32>) -> Option<u32>
+    ensures { result ≡ right_number r above own }
+{
+    match own {
+        Some(number) => Some(number),
+        None => u32::try_from(least_number(r, above)).ok(),
+    }
+}
+
+impl Replica {
+    /// Whether the minimums of a majority are read, if no number is put in the leadership.
+    fn is_confirmed(&self, config: &Config) -> bool
+        requires { IsConfig config.now }
+        ensures { (r : ℕ) → (mine : List Event) → StandsForReplica config.now r mine self.now
+            → (IsTrue result
+            ↔ (proposal_number r mine ≡ None → has_confirmed_majority config.now r mine ≡ true)) }
+    {
+        let confirmed = self.leadership.has_confirmed(config.replicas);
+        self.leadership.number().is_some() || confirmed
+    }
+
+    /// Whether the word that a closed fence names is drained, if it names one.
+    fn is_drained(&self) -> bool
+        ensures { (c : Config) → (r : ℕ) → (mine : List Event) → StandsForReplica c r mine self.now
+            → (IsTrue result
+            ↔ (must_drain r mine ≡ true → drained_since_close r mine ≡ true)) }
+    {
+        let drained = self.grants.has_drained();
+        !self.grants.has_to_drain() || drained
+    }
+
+    /// The value that is known at a position.
+    pub(crate) fn value_at(&self, i: usize) -> Option<u16>
+        ensures { (c : Config) → (r : ℕ) → (mine : List Event) → StandsForReplica c r mine self.now
+            → result ≡ slice_get (known c r mine) i }
+    {
+        self.known_log.known().get(i).copied()
+    }
+
+    /// What an `Ask` needs.
+    fn why_no_ask(&self, config: &Config, p: u8, found: Found) -> Found
+        requires { IsConfig config.now }
+        ensures { (r : ℕ) → (mine : List Event) → StandsForReplica config.now r mine self.now
+            → Finds config.now r mine (bounds r mine) found.reason
+            → Finds config.now r mine (points config.now r mine (SomeVerb.Ask p)) result.reason }
+    {
+        let n = config.replicas;
+        let asked = self.leadership.asked();
+        found.needs(p < n, Reason::NoRegion { region: p }).needs(
+            self.leadership.may_ask(n, p),
+            Reason::OutOfTurn { region: p, asked },
+        )
+    }
+
+    /// What a `Fence` needs.
+    fn why_no_fence(&self, config: &Config, p: u8, found: Found) -> Found
+        requires { IsConfig config.now }
+        ensures { (r : ℕ) → (mine : List Event) → StandsForReplica config.now r mine self.now
+            → Finds config.now r mine (bounds r mine) found.reason
+            → Finds config.now r mine (points config.now r mine (SomeVerb.Fence p)) result.reason }
+    {
+        found
+            .needs(p < config.replicas, Reason::NoRegion { region: p })
+            .needs(self.leadership.has_begun(), Reason::NotBegun)
+    }
+
+    /// What a `Min` needs.
+    fn why_no_minimum(&self, config: &Config, p: u8, found: Found) -> Found
+        requires { IsConfig config.now }
+        ensures { (r : ℕ) → (mine : List Event) → StandsForReplica config.now r mine self.now
+            → Finds config.now r mine (bounds r mine) found.reason
+            → Finds config.now r mine (points config.now r mine (SomeVerb.Min p)) result.reason }
+    {
+        let leading = &self.leadership;
+        found
+            .needs(p < config.replicas, Reason::NoRegion { region: p })
+            .needs(leading.noted(p).is_some(), Reason::NotGranted { region: p })
+            .needs(!leading.is_over(), Reason::Over)
+    }
+
+    /// What an `Enter` for nothing needs.
+    fn why_no_enter(&self, config: &Config, p: u8, found: Found) -> Found
+        requires { IsConfig config.now }
+        ensures { (r : ℕ) → (mine : List Event) → StandsForReplica config.now r mine self.now
+            → Finds config.now r mine (bounds r mine) found.reason
+            → Finds config.now r mine
+            (points config.now r mine (SomeVerb.Enter p SomeTarget.None)) result.reason }
+    {
+        found
+            .needs(p < config.replicas, Reason::NoRegion { region: p })
+            .needs(false, Reason::NoTarget)
+    }
+
+    /// What an `Enter` for a minimum needs.
+    fn why_no_enter_for_minimum(&self, config: &Config, p: u8, found: Found) -> Found
+        requires { IsConfig config.now }
+        ensures { (r : ℕ) → (mine : List Event) → StandsForReplica config.now r mine self.now
+            → Finds config.now r mine (bounds r mine) found.reason
+            → Finds config.now r mine
+            (points config.now r mine (SomeVerb.Enter p SomeTarget.Min)) result.reason }
+    {
+        let leading = &self.leadership;
+        found
+            .needs(p < config.replicas, Reason::NoRegion { region: p })
+            .needs(leading.noted(p).is_some(), Reason::NotGranted { region: p })
+            .needs(!leading.is_over(), Reason::Over)
+            .needs(leading.has_read(p), Reason::MinimumUnread { region: p })
+            .needs(self.is_confirmed(config), Reason::Unconfirmed)
+    }
+
+    /// What an `Enter` for a place needs.
+    fn why_no_enter_for_place(&self, config: &Config, p: u8, s: u16, found: Found) -> Found
+        requires { IsConfig config.now }
+        ensures { (r : ℕ) → (mine : List Event) → StandsForReplica config.now r mine self.now
+            → Finds config.now r mine (bounds r mine) found.reason
+            → Finds config.now r mine
+            (points config.now r mine (SomeVerb.Enter p (SomeTarget.Place s))) result.reason }
+    {
+        let leading = &self.leadership;
+        found
+            .needs(p < config.replicas, Reason::NoRegion { region: p })
+            .needs(leading.is_member(p), Reason::NotMember { region: p })
+            .needs(!leading.is_over(), Reason::Over)
+            .needs(s < config.ring, Reason::NoPlace { place: s })
+    }
+
+    /// What an `Enter` needs.
+    fn why_no_enter_for(&self, config: &Config, p: u8, target: Target, found: Found) -> Found
+        requires { IsConfig config.now }
+        ensures { (r : ℕ) → (mine : List Event) → StandsForReplica config.now r mine self.now
+            → Finds config.now r mine (bounds r mine) found.reason
+            → Finds config.now r mine (points config.now r mine (SomeVerb.Enter p target))
+            result.reason }
+    {
+        match target {
+            Target::None => self.why_no_enter(config, p, found),
+            Target::Min => self.why_no_enter_for_minimum(config, p, found),
+            Target::Place(s) => self.why_no_enter_for_place(config, p, s, found),
+        }
+    }
+
+    /// What a `PutMin` needs.
+    fn why_no_put_minimum(&self, config: &Config, p: u8, b: u32, found: Found) -> Found
+        requires { IsConfig config.now }
+        ensures { (r : ℕ) → (mine : List Event) → StandsForReplica config.now r mine self.now
+            → Finds config.now r mine (bounds r mine) found.reason
+            → Finds config.now r mine (points config.now r mine (SomeVerb.PutMin p b))
+            result.reason }
+    {
+        let leading = &self.leadership;
+        let entered = leading.entered(p);
+        let minimum = leading.minimum(p);
+        let own = leading.number();
+        let read = leading.greatest_minimum();
+        let put = leading.greatest_number();
+        let right = right_number(self.replica, read.max(u64::from(put)), own);
+        let open = is_entered_for(entered, Target::Min);
+        found
+            .needs(p < config.replicas, Reason::NoRegion { region: p })
+            .needs(!leading.is_over(), Reason::Over)
+            .needs(open, Reason::NotEnteredForMinimum { region: p, entered })
+            .needs(
+                minimum <= u64::from(b),
+                Reason::BelowMinimum { number: b, minimum },
+            )
+            .needs(
+                leading.may_take_number(b),
+                Reason::NotTheNumber {
+                    number: b,
+                    own,
+                    read,
+                    put,
+                    right,
+                },
+            )
+    }
+
+    /// What a `Look` needs.
+    fn why_no_look(&self, config: &Config, p: u8, i: u16, found: Found) -> Found
+        requires { IsConfig config.now }
+        ensures { (r : ℕ) → (mine : List Event) → StandsForReplica config.now r mine self.now
+            → Finds config.now r mine (bounds r mine) found.reason
+            → Finds config.now r mine (points config.now r mine (SomeVerb.Look p i))
+            result.reason }
+    {
+        let n = config.replicas;
+        let last = last_position(config);
+        found
+            .needs(p < n, Reason::NoRegion { region: p })
+            .needs(
+                is_position(config, i),
+                Reason::NoPosition { position: i, last },
+            )
+            .needs(
+                self.leadership.may_look(n, p),
+                Reason::NotReadable { region: p },
+            )
+    }
+
+    /// That there is the region, which is all that some verbs need.
+    fn why_no_region(&self, config: &Config, p: u8, found: Found) -> Found
+        requires { IsConfig config.now }
+        ensures { (r : ℕ) → (mine : List Event)
+            → Finds config.now r mine (bounds r mine) found.reason
+            → Finds config.now r mine (points config.now r mine (SomeVerb.Fuo p)) result.reason }
+    {
+        found.needs(p < config.replicas, Reason::NoRegion { region: p })
+    }
+
+    /// What a `ReadBeat` needs.
+    fn why_no_read_beat(&self, config: &Config, q: u8, found: Found) -> Found
+        requires { IsConfig config.now }
+        ensures { (r : ℕ) → (mine : List Event) → StandsForReplica config.now r mine self.now
+            → Finds config.now r mine (bounds r mine) found.reason
+            → Finds config.now r mine (points config.now r mine (SomeVerb.ReadBeat q))
+            result.reason }
+    {
+        found
+            .needs(q < config.replicas, Reason::NoRegion { region: q })
+            .needs(q != self.replica, Reason::OwnBeat { replica: q })
+    }
+
+    /// What a `RaiseFuo` needs.
+    fn why_no_raise_fuo(&self, config: &Config, p: u8, u: u16, found: Found) -> Found
+        requires { IsConfig config.now }
+        ensures { (r : ℕ) → (mine : List Event) → IsPossible config.now r mine
+            → StandsForReplica config.now r mine self.now
+            → Finds config.now r mine (bounds r mine) found.reason
+            → Finds config.now r mine (points config.now r mine (SomeVerb.RaiseFuo p u))
+            result.reason }
+    {
+        let known = self.known_log.known().len();
+        let mut found = found
+            .needs(p < config.replicas, Reason::NoRegion { region: p })
+            .needs(usize::from(u) <= known, Reason::NotKnown { fuo: u, known });
+        for j in 0..u {
+            let filled = self.filled_logs.are_filled(p, j + 1);
+            found = found.needs(
+                filled,
+                Reason::NotFilled {
+                    region: p,
+                    position: j,
+                },
+            );
+        }
+        found
+    }
+
+    /// What a `Close` needs.
+    fn why_no_close(&self, config: &Config, found: Found) -> Found
+        requires { IsConfig config.now }
+        ensures { (r : ℕ) → (mine : List Event) → StandsForReplica config.now r mine self.now
+            → Finds config.now r mine (bounds r mine) found.reason
+            → Finds config.now r mine (points config.now r mine SomeVerb.Close) result.reason }
+    {
+        found
+            .needs(!self.grants.is_closing(), Reason::Closing)
+            .needs(self.grants.may_close(), Reason::NobodyWaits)
+    }
+
+    /// What a `LookTarget` needs.
+    fn why_no_look_target(&self, config: &Config, found: Found) -> Found
+        requires { IsConfig config.now }
+        ensures { (r : ℕ) → (mine : List Event) → StandsForReplica config.now r mine self.now
+            → Finds config.now r mine (bounds r mine) found.reason
+            → Finds config.now r mine (points config.now r mine SomeVerb.LookTarget)
+            result.reason }
+    {
+        found
+            .needs(self.grants.has_to_drain(), Reason::NothingToDrain)
+            .needs(!self.grants.has_looked(), Reason::TargetLooked)
+    }
+
+    /// What a `Drain` needs.
+    fn why_no_drain(&self, config: &Config, found: Found) -> Found
+        requires { IsConfig config.now }
+        ensures { (r : ℕ) → (mine : List Event) → StandsForReplica config.now r mine self.now
+            → Finds config.now r mine (bounds r mine) found.reason
+            → Finds config.now r mine (points config.now r mine SomeVerb.Drain) result.reason }
+    {
+        found
+            .needs(self.grants.has_to_drain(), Reason::NothingToDrain)
+            .needs(self.grants.has_looked(), Reason::TargetNotLooked)
+            .needs(!self.grants.has_drained(), Reason::Drained)
+    }
+
+    /// What a `Grant` needs.
+    fn why_no_grant(&self, config: &Config, w: u8, found: Found) -> Found
+        requires { IsConfig config.now }
+        ensures { (r : ℕ) → (mine : List Event) → StandsForReplica config.now r mine self.now
+            → Finds config.now r mine (bounds r mine) found.reason
+            → Finds config.now r mine (points config.now r mine (SomeVerb.Grant w))
+            result.reason }
+    {
+        let grants = &self.grants;
+        let least = grants.first_waiting();
+        found
+            .needs(w < config.replicas, Reason::NoRegion { region: w })
+            .needs(grants.is_closing(), Reason::NotClosing)
+            .needs(self.is_drained(), Reason::NotDrained)
+            .needs(
+                grants.may_grant(w),
+                Reason::NotLeastWaiting { replica: w, least },
+            )
+    }
+
+    /// What the verb needs.
+    fn why_no_verb(&self, config: &Config, verb: &Verb, found: Found) -> Found
+        requires { IsConfig config.now }
+        ensures { (r : ℕ) → (mine : List Event) → IsPossible config.now r mine
+            → StandsForReplica config.now r mine self.now
+            → Finds config.now r mine (bounds r mine) found.reason
+            → Finds config.now r mine (points config.now r mine verb.now) result.reason }
+    {
+        match *verb {
+            Verb::Ask(p) => self.why_no_ask(config, p, found),
+            Verb::Fence(p) => self.why_no_fence(config, p, found),
+            Verb::Min(p) => self.why_no_minimum(config, p, found),
+            Verb::Enter(p, target) => self.why_no_enter_for(config, p, target, found),
+            Verb::PutMin(p, b) => self.why_no_put_minimum(config, p, b, found),
+            Verb::Look(p, i) => self.why_no_look(config, p, i, found),
+            Verb::PutSlot(p, i, b, v) => self.why_no_put(config, p, i, b, v, found),
+            Verb::Fuo(p) => self.why_no_region(config, p, found),
+            Verb::RaiseFuo(p, u) => self.why_no_raise_fuo(config, p, u, found),
+            Verb::Head(q) => self.why_no_region(config, q, found),
+            Verb::ReadBeat(q) => self.why_no_read_beat(config, q, found),
+            Verb::WriteRow(j, k, x) => self.why_no_write_row(config, j, k, x, found),
+            Verb::ReadRow(v, k) => self.why_no_read_row(config, v, k, found),
+            Verb::RaiseHead(h) => self.why_no_raise_head(config, h, found),
+            Verb::Beat => found,
+            Verb::ReadAsk(w) => self.why_no_region(config, w, found),
+            Verb::Close => self.why_no_close(config, found),
+            Verb::LookTarget => self.why_no_look_target(config, found),
+            Verb::Drain => self.why_no_drain(config, found),
+            Verb::Grant(w) => self.why_no_grant(config, w, found),
+        }
+    }
+
+    /// The first point that keeps the replica from making the verb next, if any does. Takes no
+    /// memory.
+    pub fn why_not(&self, config: &Config, verb: &Verb) -> Option<Reason>
+        requires { IsConfig config.now }
+        ensures { (r : ℕ) → (mine : List Event) → IsPossible config.now r mine
+            → StandsForReplica config.now r mine self.now
+            → Finds config.now r mine (points config.now r mine verb.now) result }
+    {
+        let steps = self.steps;
+        let replica = self.replica;
+        let found = Found::new()
+            .needs(replica < config.replicas, Reason::NoReplica { replica })
+            .needs(steps < config.budget, Reason::Budget { steps });
+        self.why_no_verb(config, verb, found).reason()
+    }
+}
