@@ -187,9 +187,12 @@ impl Driven {
         ensures config { self.new.lead.config ≡ self.old.lead.config }
     {
         let by = self.lead.id;
-        let note = self
-            .lead
-            .take(verb, answer, self.own.known_log.known(), &self.own.known_log);
+        let note = self.lead.take(
+            verb,
+            answer,
+            self.own.known_log.known(),
+            &self.own.known_log,
+        );
         note_own(
             &mut self.own,
             &mut self.scores,
@@ -223,8 +226,12 @@ impl Driven {
             &self.lead.config,
             &Event { by, verb, answer },
         );
-        self.lead
-            .take(verb, answer, self.own.known_log.known(), &self.own.known_log)
+        self.lead.take(
+            verb,
+            answer,
+            self.own.known_log.known(),
+            &self.own.known_log,
+        )
     }
 
     /// Makes the step that is due, and takes its answer.
