@@ -221,7 +221,7 @@ front_begins test (x ∷ xs) ys long = go (test x) long (front_begins test xs ys
     go true long ih = let k = ih (omega (arith, long)) in (k.0, ap (λ l. x ∷ l) k.1)
     go false long ih = absurd (omega (arith, long))
 
--- so who knows every command after so many steps has applied it `fetching_steps` later
+-- so who knows every command has applied it `fetching_steps` later
 pub applied_by : (c : Config) (live : ℕ → Bool) (a start most : ℕ) (past : List Event) → IsConfig c → LeadsLast c live a start past → FetchesInTime c a (part a past) → ((newer older : List Event) → past ≡ newer ++ older → most ≤ length (part a older) → knows_all c a (part a older) ≡ true) → most + fetching_steps c ≤ length (part a past)
     → holds_all c (applied c a (part a past)) ≡ true
 applied_by c live a start most past good last fetches by many =

@@ -39,7 +39,7 @@ use Rattle.mu_cluster.proofs.Taken.{GoOn, TakenAt, fetches_at, keep_at, moments_
 abbrev StopBy : Config → (ℕ → Bool) → List Event → ℕ → Type 0
 StopBy c live events k = (q : ℕ) → q < c.replicas → live q ≡ false → length (part_of q events) ≤ k
 
--- up to a moment at which s has taken so many steps nothing but heads blocks it
+-- up to a moment at which s has taken these steps nothing but heads blocks it
 unblocked_at : (c : Config) (live : ℕ → Bool) (s : ℕ) (events : List Event) (lengths : List ℕ) (rounds k most : ℕ) → IsConfig c → AreUnpaused c events lengths rounds → AreNodes c events → GoOn c live s events → StopBy c live events k → (t : TakenAt c live s events most) → ((r : ℕ) → r < c.replicas → live r ≡ true → most ≤ slice_index lengths r)
     → IsUnblocked c live s (k + failing_steps c) (t.last ∷ t.older)
 unblocked_at c live s events lengths rounds k most good run nodes on stop t late = record {

@@ -63,8 +63,8 @@ HasAllAfterStops o =
 abbrev pub steps_after_in_any_ring : Config → ℕ → ℕ
 steps_after_in_any_ring c s = failing_steps c + last_steps_in_any_ring c s + fetching_steps c
 
--- in version 2 each replica that was stopped took at most k steps, and so many more are within the
--- budget
+-- in version 2 each replica that was stopped took at most k steps, and k and the steps above are
+-- within the budget
 pub record HasTimeAfterInAnyRing (o : Outcome) (s k : ℕ) : Type 0 where
   pub version : o.job.config.version ≡ 2
   pub ended :
