@@ -176,7 +176,7 @@ governs c live a start newer older good last asks begun late = record {
             ap is_some (seen_again a p (below ++ older) (owned_top c a p (below ++ older) there.legal there.turns there.highest)
             (owned c live a start p (below ++ older) there (λ front rest is. asks (above ++ front) rest (whole ∙ ap (λ l. above ++ l) is ∙ sym (append_assoc above front rest))) low lives (omega (arith, more, late))))
 
--- so some steps after it knows every command all that keep up with it have applied all and
+-- so once it knows every command, all that keep up with it have applied all and
 -- raised their heads to it `spreading_steps` later
 pub raised_by : (c : Config) (live : ℕ → Bool) (a start most : ℕ) (past : List Event) → IsConfig c → LeadsLast c live a start past → OpensInTime c a (part a past) → FetchesInTime c a (part a past) → KeepUp c live a past → start + last_granting_steps c a + 2 * asking_steps c + 2 * (c.replicas + 2) ≤ most
     → ((newer older : List Event) → past ≡ newer ++ older → most ≤ length (part a older) → knows_all c a (part a older) ≡ true) → most + spreading_steps c ≤ length (part a past) → HaveAllRaised c live past
