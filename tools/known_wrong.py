@@ -200,6 +200,10 @@ def tells_pages():
     line, wanted = PAGE_LINE
     yield [name for name, _ in pages.names_in(line)] == wanted
     yield pages.judged()[0] >= LEAST_NAMED
+    page = {"docs/PACE.md"}
+    yield pages.leads("README.md", "docs/PACE.md#how-long-things-take", page)
+    yield not pages.leads("README.md", "docs/PACE.md#how-long", page)
+    yield not pages.leads("docs/PACE.md", "docs/PACE.md", page)
 
 
 def ending(names, *ends):

@@ -7,6 +7,7 @@ What stands between backquotes in README.md and docs/ is checked: a path from th
 from the crate named before it; a name of code or of a definition. Words of the formats (lower case,
 without `_`) and commands are no names. The status is 1 if something is stale.
 """
+import functools
 import os
 import re
 import sys
@@ -71,6 +72,21 @@ def names_in(line):
                 yield from ((it, False) for it in re.split(r"[^A-Za-z0-9_]+", word) if NAME.fullmatch(it))
 
 
+@functools.lru_cache(None)
+def headings(page):
+    """The headings of a page, as links name them: in small letters, spaces as `-`, other signs left out."""
+    with open(os.path.join(TOP, page), encoding="utf-8") as text:
+        found = re.findall(r"^#+ (.+)$", text.read(), re.MULTILINE)
+    return {re.sub(r"[^\w -]", "", it.lower()).replace(" ", "-") for it in found}
+
+
+def leads(page, link, known):
+    """Whether a link of a page leads to a file, and to a heading of it if it names one."""
+    path, _, heading = link.partition("#")
+    at = os.path.normpath(os.path.join(os.path.dirname(page), path)) if path else page
+    return at in known and (not heading or heading in headings(at))
+
+
 def judged():
     """How many things the pages name, and where one is stale."""
     paths = list(files())
@@ -85,10 +101,8 @@ def judged():
         with open(os.path.join(TOP, page), encoding="utf-8") as text:
             for number, line in enumerate(text, 1):
                 found = [(it, stands(it, known) if is_path else it in words) for it, is_path in names_in(line)]
-                for link in re.findall(r"\]\(([^)#]+)\)", line):
-                    if not link.startswith("http"):
-                        at = os.path.normpath(os.path.join(os.path.dirname(page), link))
-                        found.append((link, at in known))
+                found += [(it, leads(page, it, known)) for it in re.findall(r"\]\(([^) ]+)\)", line)
+                          if not it.startswith("http")]
                 named += len(found)
                 stale += [f"{page}:{number}: {it}" for it, good in found if not good]
     return named, stale
