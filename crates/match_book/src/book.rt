@@ -24,7 +24,7 @@ pub struct Book {
 }
 
 impl Model for Book {
-    ghost use Rattle.std.specs.Prelude.{◌+◌, ◌<◌, ◌≤◌, ◌^◌, vec_capacity, vec_len};
+    ghost use Rattle.std.specs.Prelude.{◌+◌, ◌<◌, ◌≡◌, ◌≤◌, ◌^◌, vec_capacity, vec_len};
     ghost use Rattle.match_book.specs.Stands.{Held};
 
     ghost Value = { Held };
@@ -38,13 +38,13 @@ impl Model for Book {
 
     ghost invariant = { λ b. (b.applied + b.room < 2 ^ 16)
         × (vec_len b.trades + vec_len b.resting ≤ b.applied)
-        × (vec_len b.resting + b.room ≤ vec_capacity b.resting)
-        × (vec_len b.trades + vec_len b.resting + b.room ≤ vec_capacity b.trades) };
+        × (vec_capacity b.resting ≡ b.applied + b.room)
+        × (vec_capacity b.trades ≡ b.applied + b.room) };
 }
 
 impl Book {
-    /// The empty book, with room for this many commands and twice as many trades. An `Err` comes
-    /// only for want of memory.
+    /// The empty book, with room for this many commands: each adds at most one to the orders that
+    /// rest and the trades together. An `Err` comes only for want of memory.
     pub fn with_room(alloc: Global, commands: usize) -> Result<Book, NoMemory>
         requires { commands ≤ 65535 }
         ensures empty { IfOk result (λ book. StandsFor [] book) }
@@ -52,7 +52,7 @@ impl Book {
     {
         Ok(Book {
             resting: Vec::with_capacity(alloc, commands)?,
-            trades: Vec::with_capacity(alloc, 2 * commands)?,
+            trades: Vec::with_capacity(alloc, commands)?,
             applied: 0,
             room: commands as u16,
         })
