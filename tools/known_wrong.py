@@ -16,6 +16,7 @@ from types import SimpleNamespace
 from unittest import mock
 
 import bound_jobs
+import clauses
 import cost_bounds
 import definitions
 import figures
@@ -53,7 +54,7 @@ WRONG_REPORTS = [
 ]
 # The least that there is of each kind: a judge that looks at nothing finds nothing.
 LEAST_NAMED, LEAST_JUDGED, LEAST_BOUND, LEAST_VERDICTS = 1000, 200, 300, 150
-LEAST_FIGURES, LEAST_SHOWN = 200, 100
+LEAST_FIGURES, LEAST_SHOWN, LEAST_CLAUSES = 200, 100, 100
 # Two lemmas, of which nothing cites the first.
 LEMMAS = "pub idle : A\nidle zero = x\nidle (suc n) = idle n\n\npub used : A\nused = x\n\nlast : A\nlast = used\n"
 # A page, what stands in it, and what would be stale.
@@ -68,6 +69,9 @@ STOP_JOBS = 3_872
 # A line of a page, and what it names.
 PAGE_LINE = ("`crates/kv_store`, `src/no_such_file.rt`, `no_such_name`, `NoSuchName` and `mu replay < no_input`",
              ["crates/kv_store", "src/no_such_file.rt", "no_such_name", "NoSuchName"])
+# A row that names clauses, and a source that has some.
+CLAUSE_ROW = "| a claim | `Node::turn`: `made` (`HasMade`); `first`, `next`: `kept`; `alone` | `mu_node/src/node.rt` |"
+CLAUSE_SOURCE = "impl Node {\n    /// A turn.\n    pub fn turn(&mut self)\n        ensures made { true }\n    {\n"
 
 
 def tells_answers():
@@ -206,6 +210,13 @@ def tells_pages():
     yield not pages.leads("docs/PACE.md", "docs/PACE.md", page)
 
 
+def tells_clauses():
+    """The clauses that a row names are found, and a source's are those of its functions, types and records."""
+    yield list(clauses.named_in(CLAUSE_ROW)) == [("Node::turn", "made"), ("first", "kept"), ("next", "kept")]
+    yield list(clauses.parts_of(CLAUSE_SOURCE)) == [("Node", "turn"), ("turn", "made"), ("Node::turn", "made")]
+    yield clauses.judged()[0] >= LEAST_CLAUSES
+
+
 def ending(names, *ends):
     """How many of the names end so."""
     return sum(name.endswith(ends) for name in names)
@@ -272,7 +283,7 @@ def tells_refused_memory():
 
 JUDGES = [
     tells_failures, tells_answers, tells_sums, tells_missing_answers, tells_statuses, tells_reports, tells_bounds,
-    tells_own_traces, tells_pages, tells_figures, tells_uncited_lemmas, tells_stored_inputs, tells_rules,
+    tells_own_traces, tells_pages, tells_clauses, tells_figures, tells_uncited_lemmas, tells_stored_inputs, tells_rules,
     tells_breaks, tells_refused_memory, tells_finishers, tells_costs, tells_stale_definitions]
 
 
