@@ -73,7 +73,7 @@ def leaders_stopped(replicas):
 
 
 def written(version, replicas, batch, ring, budget, commands, stops):
-    """The text of a job; None where no budget is as large."""
+    """The text of a job; None if no budget is as large."""
     if budget > MOST_BUDGET:
         return None
     lines = [f"mu {version}", f"replicas {replicas}", f"ring {ring}", f"budget {budget}"]

@@ -63,7 +63,7 @@ def named_in(line):
 
 
 def judged():
-    """How many clauses stand as the page says, and where one doesn't."""
+    """How many clauses stand as the page says, and which doesn't."""
     parts, right, stale = known(), 0, []
     with open(PAGE, encoding="utf-8") as page:
         for number, line in enumerate(page, 1):

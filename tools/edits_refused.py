@@ -32,7 +32,7 @@ def function_at(crate, name, line):
 
 
 def read_place(crate, told):
-    """Where the refusal stands, and the kind of it: goal, shape, or none where it says nothing."""
+    """Where the refusal stands, and the kind of it: goal, shape, or none if it says nothing."""
     place = PLACE.search(told)
     if not place:
         return told, "unknown"

@@ -1,5 +1,5 @@
 /* Loaded before the C library by tools/run_hostile.py: lets the call fail that HOSTILE_CALL names by its number, or cuts
-   each read or write to HOSTILE_PIECE bytes, and writes a line into the file HOSTILE_HIT where a call failed. */
+   each read or write to HOSTILE_PIECE bytes, and writes a line into the file HOSTILE_HIT if a call failed. */
 #define _GNU_SOURCE
 #include <dlfcn.h>
 #include <errno.h>

@@ -115,7 +115,7 @@ class Reader:
 
 
 def refusal(data):
-    """The line and the cause where the bytes are no job, else None."""
+    """The line and the cause if the bytes are no job, else None."""
     reader = Reader(data)
     try:
         reader.commands(reader.settings())

@@ -3,7 +3,7 @@
 
     tools/measure_runs.py [--runs 9] [PROGRAM ..]
 
-PROGRAM is out/bin/mu where none is named; name several that rest otherwise. For 1, 3, 5 and 7
+PROGRAM is out/bin/mu if none is named; name several that rest otherwise. For 1, 3, 5 and 7
 replicas and 100, 400 and 1,500 commands each program runs as often, one after the other in turn, so
 that what else the machine does meets all alike. A row tells of each program the least and the middle
 time of a command in nanoseconds (of the whole process, its start included), how many runs had all

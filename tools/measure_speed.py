@@ -7,7 +7,7 @@ Of each job it tells the events, the instructions of the whole process and those
 `valgrind --tool=callgrind` counts them, which doesn't vary with the load of the machine. With
 --before another program is counted beside it, and both have to write the same bytes. With --wall it
 also tells the least time of RUNS runs, in milliseconds: a page fault, a write and a yield don't
-show in instructions. NAMES are the rows to measure, all where none is named.
+show in instructions. NAMES are the rows to measure, all if none is named.
 """
 import argparse
 import os
@@ -41,7 +41,7 @@ def job(replicas, shares, version=1, batch=None):
 
 
 def even(commands, clients=4):
-    """How many commands each client has, where they share them evenly."""
+    """How many commands each client has if they share them evenly."""
     return [(commands + clients - 1 - client) // clients for client in range(clients)]
 
 

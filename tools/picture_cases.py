@@ -205,7 +205,7 @@ class Drawing:
         self.add(f"<path class='{kind}' d='{way}'/>\n")
 
     def across(self, kind, r, y, p):
-        """A line from the lane of r to the region of p: from a square to an arrow head, or to a cross where it missed."""
+        """A line from the lane of r to the region of p: from a square to an arrow head, or to a cross if it missed."""
         right = p >= r
         square = "v3h-6v-6h6v3" if right else "v3h6v-6h-6v3"
         x = lane(r) + (11 if right else 5)

@@ -17,7 +17,7 @@ BIN = os.path.join(TOP, "out", "bin")
 MARK = os.path.join(BIN, "proved.sum")
 # The crate of each program.
 CRATE_OF = {"mu": "mu_tool", "mu_draw": "mu_draw"}
-# The status where there is no answer of a program.
+# The status if there is no answer of a program.
 NO_ANSWER = 70
 
 
@@ -36,7 +36,7 @@ def toolchain_found():
 
 
 def logic_of(toolchain):
-    """What a toolchain proves by, which kits of several letters share; "" where none is told."""
+    """What a toolchain proves by, which kits of several letters share; "" if none is told."""
     return toolchain.partition(" logic ")[2]
 
 
@@ -75,7 +75,7 @@ def set_mark_time(moment):
 
 
 def proved_program(name):
-    """The program that ./prove left, where it proved just these sources; else None."""
+    """The program that ./prove left, if it proved just these sources; else None."""
     path, now = os.path.join(BIN, name), time.time()
     if not os.access(path, os.X_OK) or not os.path.exists(MARK):
         return None

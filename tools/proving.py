@@ -42,7 +42,7 @@ def expected_seconds(crates):
 
 
 def ways_up(below, seconds):
-    """How long it takes from each crate up to a program, where nothing waits."""
+    """How long it takes from each crate up to a program, if nothing waits."""
     ways = {}
 
     def way(crate):
@@ -82,7 +82,7 @@ class Lane:
             shutil.copytree(other.out(crate, part), self.out(crate, part), copy_function=os.link)
 
     def prove(self, crate, jobs):
-        """Proves a crate, and builds and tries a program; the log where that doesn't pass."""
+        """Proves a crate, and builds and tries a program; the log if that doesn't pass."""
         words, given = ["rt", "lib", "--jobs", str(jobs)], subprocess.DEVNULL
         if crate in self.tries:
             words = ["rt", "run", "--jobs", str(jobs), "--", *self.tries[crate][0]]

@@ -5,7 +5,7 @@
     tools/run_cases.py PROGRAM CASES [CASES..]     a program that is named
 
 CASES is a folder or a table. In a folder a case NAME is a file NAME with the input, NAME.args with the
-words, one a line, and NAME.stdout with what has to be printed; where there is a file NAME.told, it is what
+words, one a line, and NAME.stdout with what has to be printed; if there is a file NAME.told, it is what
 `tell` has to print of NAME.stdout, a trace. A table is a file NAME.table. A case of
 it is a line `case NAME WORD`, the input, and a line `prints` with what has to be printed below it, or
 `prints sha256 SUM` with its checksum. The status that is wanted is that of the last line, `status S`,
@@ -27,7 +27,7 @@ def contents(path):
 
 
 def wanted_status(text):
-    """The status that belongs to what is printed; None where the text doesn't tell."""
+    """The status that belongs to what is printed; None if the text doesn't tell."""
     last = text.rstrip(b"\n").rsplit(b"\n", 1)[-1]
     if last.startswith(b"status "):
         return int(last.split()[1])

@@ -1,16 +1,16 @@
 #!/usr/bin/env python3
 """Uses the built programs in hostile ways, and counts what they answered.
 
-    tools/run_hostile.py [MU [MU_DRAW]]     those that ./prove left in out/bin/ where none is named
+    tools/run_hostile.py [MU [MU_DRAW]]     those that ./prove left in out/bin/ if none is named
 
-- Every prefix of two jobs, and every change of one byte of one of them: refused exactly where tools/job_reader.py
+- Every prefix of two jobs, and every change of one byte of one of them: refused exactly if tools/job_reader.py
   refuses it, with its line and cause; else the status is 0 or 3.
 - The n-th read, write or allocation fails, for each n: status 4, 5 or 6 exactly then; what was written is a prefix.
 - Each read and write moves at most 1 to 7 bytes: the same is printed, and the same holds of the n-th that fails.
 - Inputs at each limit and one above it; words that are no text get the usage line; output into a full device is status 5.
 - `run` with all cores busy, and with long pauses: each report is one that tools/run_trials.py permits.
 - `mu_draw`: every prefix of a trace, every change of one byte of it, long lines and numbers, and inputs at the limit:
-  the answer of `mu check` where that is a refusal, else the picture that tools/picture_cases.py draws; faults and
+  the answer of `mu check` if that is a refusal, else the picture that tools/picture_cases.py draws; faults and
   pieces as above; words that ask for nothing, and steps out of range; a full device, a closed pipe, a stop and go on.
 
 It needs a C compiler, for the library that lets calls fail (tools/hostile.c).
@@ -92,7 +92,7 @@ class Trials:
         print(f"{what}: {count} runs, {len(wrong)} wrong", *wrong[:5], sep="\n  ", flush=True)
 
     def reads(self, what, inputs):
-        """Each input is refused exactly where the reader refuses it."""
+        """Each input is refused exactly if the reader refuses it."""
         wrong = []
         for given in inputs:
             told = job_reader.refusal(given)

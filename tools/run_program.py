@@ -1,7 +1,7 @@
 #!/usr/bin/env python3
 """Runs a program of this repository: run_program.py NAME WORDS..
 
-It is the one that ./prove left, where it proved just these sources; else a build that nothing has
+It is the one that ./prove left, if it proved just these sources; else a build that nothing has
 proved, which it says in one line on standard error.
 """
 import os

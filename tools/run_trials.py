@@ -4,7 +4,7 @@
     tools/run_trials.py [--command run] [--runs 200] [--program out/bin/mu] [JOBS]
     tools/run_trials.py --speed [--program PROGRAM]
 
-JOBS is a folder of jobs, examples/jobs where none is named. Files with the endings .args and .stdout
+JOBS is a folder of jobs, examples/jobs if none is named. Files with the endings .args and .stdout
 are passed over. Runs go round the jobs until there are as many as asked for. Of each run it is
 checked that
 
@@ -13,7 +13,7 @@ checked that
   - each entry is a batch of the job's commands, or the mark of a replica, each mark at most once;
   - each client's commands stand in order and once;
   - the replies are those of a key-value store over the commands of the longest log;
-  - the status is 0 exactly where all commands are in the longest log.
+  - the status is 0 exactly if all commands are in the longest log.
 
 Nothing of the program is used for this but its output. With --speed it compares how long `replay`
 and `run` take for a job of four replicas and 800 commands, and on how many cores `run` was.
@@ -210,7 +210,7 @@ def check_end(job, log):
 
 
 def check_report(job, text, status):
-    """Raises `Wrong` where the report is none that the definitions permit."""
+    """Raises `Wrong` if the report is none that the definitions permit."""
     report = Report(text, job)
     if [log.replica for log in report.logs] != list(range(job.replicas)):
         raise Wrong('not a log for each replica, in order')

@@ -55,7 +55,7 @@ def worked_jobs(bound):
 
 
 def short_job(version, replicas, stops, commands=COMMANDS, batch=1, bound=None, ring=None):
-    """A job with these stops: with a large ring, and at its bound where leaders stop, if no others are given."""
+    """A job with these stops: with a large ring, and at its bound if leaders stop, unless others are given."""
     reserve = replicas if version == 2 else 0
     if bound is None:
         least = next(q for q in range(replicas) if q not in stops)

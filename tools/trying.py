@@ -20,7 +20,7 @@ SILENT_LINE = re.compile(r"tests: |test \S+ \.\.\. ok|test result: |races: |run=
 
 
 class NotBuilt(Exception):
-    """What rt says where it builds nothing."""
+    """What rt says if it builds nothing."""
 
 
 class Answer:
@@ -31,7 +31,7 @@ class Answer:
 
 
 class Case:
-    """A run of a program: its words and its input, and what is wanted where that is known."""
+    """A run of a program: its words and its input, and what is wanted if that is known."""
 
     def __init__(self, name, words, given, wanted=None, status=None):
         self.name, self.words, self.given = name, words, given
@@ -212,7 +212,7 @@ def run_cases(path, cases):
 
 
 def answers_of(name, cases):
-    """The answers of a program: the proved one where ./prove left it, else one unproved build."""
+    """The answers of a program: the proved one if ./prove left it, else one unproved build."""
     path = proved_program(name)
     return run_cases(path, cases) if path else try_cases(CRATE_OF[name], cases)
 

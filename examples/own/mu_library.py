@@ -30,7 +30,7 @@ library.mu_judge_free.restype = None
 
 
 def told(call, *given, room=4096):
-    """The status and the whole text of a call, with more room where the first wasn't enough."""
+    """The status and the whole text of a call, with more room if the first wasn't enough."""
     taken = SIZE()
     while True:
         out = ctypes.create_string_buffer(room)

@@ -74,7 +74,7 @@ impl Handle {
 /// The judge is plain data, so a handle may go to another thread.
 unsafe impl Send for Handle {}
 
-/// A handle may go to another thread, so a value of it may stand where that is asked.
+/// A handle may go to another thread, so it may be given to what asks for that.
 pub fn handles_may_cross(handle: Handle) -> Handle
     ensures { result ≡ handle }
 {

@@ -53,8 +53,8 @@ fn says_short_answers(rt: HostRuntime) -> Result<(), Fail> {
     Ok(())
 }
 
-/// Whether printing whose third write fails, if a write takes at most this many bytes, ends with so
-/// many bytes taken, and leaves just these.
+/// Whether printing ends with `taken` bytes taken, and leaves just these, if a write takes at most
+/// `piece` bytes and the third one fails.
 fn is_cut(alloc: Global, piece: usize, taken: usize) -> Result<bool, AllocError>
     requires { 0 < piece }
 {
