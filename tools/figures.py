@@ -88,6 +88,24 @@ STATED = [
                   for name in os.listdir(os.path.join(TOP, "cases", "replay")))]),
     ("docs/MEASURED.md", r"(\d+) judged traces in `crates/mu_judge/stdin`",
      lambda: [sum(name.startswith("check/") for name in contents("cases/judged.names").split("\n"))]),
+    # What ALIVE and PACE say in short of three replicas. A part that is left out may stand between two figures.
+    ("docs/ALIVE.md", r"(?s)has a place for each command \| ([\d,]+) \|.*?as in the first line \| ([\d,]+) \|",
+     lambda: [most("steps_enough"), most("finishing_steps")]),
+    ("docs/ALIVE.md", r"(?s)such a ring \| \(([\d,]+) - k\) / ([\d,]+) .*?such a ring \| \(([\d,]+) - k\) / ([\d,]+) ",
+     lambda: [*after_stops("steps_after", 1), *after_stops("finishing_after", 1)]),
+    ("docs/ALIVE.md", r"(?s)nobody stops; any ring \| ([\d,]+) \|.*?nobody stops; any ring \| ([\d,]+) \|",
+     lambda: [most("steps_in_any_ring"), most("finishing_in_any_ring")]),
+    ("docs/ALIVE.md", r"(?s)on; any ring \| \(([\d,]+) - k\) / ([\d,]+) .*?on; any ring \| \(([\d,]+) - k\) / ([\d,]+) ",
+     lambda: [*after_stops("steps_after_in_any_ring", 2), *after_stops("finishing_after_in_any_ring", 2)]),
+    ("docs/ALIVE.md", r"status is 0 up to N = ([\d,]+), and each replica finishes up to N = ([\d,]+)",
+     lambda: [most("steps_in_any_ring"), most("finishing_in_any_ring")]),
+    ("docs/ALIVE.md", r"a budget of 1,000; ([\d,]+) is enough", lambda: [steps("steps_enough", 1, 3, 1, 2)]),
+    ("docs/PACE.md", r"56 steps of each a command. The bound that is proved pays for ([\d,]+)",
+     lambda: [steps("steps_enough", 1, 3, 1, 1) - steps("steps_enough", 1, 3, 1, 0)]),
+    ("docs/PACE.md", r"a budget of ([\d,]+) steps is enough for 2 commands, ([\d,]+) for 10, ([\d,]+) for 100",
+     lambda: [steps("steps_enough", 1, 3, 1, commands) for commands in (2, 10, 100)]),
+    ("docs/PACE.md", r"if only replica 0 is stopped, ([\d,]+), ([\d,]+) and ([\d,]+) after its last step",
+     lambda: [steps("steps_after", 1, 3, 1, commands, 1) for commands in (2, 10, 100)]),
 ]
 
 
@@ -117,15 +135,18 @@ class Table:
     def steps(self, replicas, commands, values):
         return steps(self.name, self.version, replicas, self.width, commands, *values)
 
+    def spared(self):
+        """How many steps the budget has above the bound."""
+        return 1 if self.name.startswith("finishing") else 0
+
     def most_commands(self, replicas, values):
         """For how many commands the greatest budget is enough; the ring has a place for each position."""
-        spared = 1 if self.name.startswith("finishing") else 0
         reserve = replicas if self.version == 2 else 0
         most = MOST_COMMANDS if self.name.endswith("any_ring") else LARGEST_RING - reserve
         enough, too_many = 0, most + 1
         while enough + 1 < too_many:
             middle = (enough + too_many) // 2
-            if self.steps(replicas, middle, values) + spared <= MOST_BUDGET:
+            if self.steps(replicas, middle, values) + self.spared() <= MOST_BUDGET:
                 enough = middle
             else:
                 too_many = middle
@@ -139,6 +160,18 @@ class Table:
             return self.steps(replicas, 1, values) - self.steps(replicas, 0, values)
         found = self.steps(replicas, 0 if column == "fixed" else number(column), values)
         return found if found <= MOST_BUDGET else None
+
+
+def most(name):
+    """For how many commands of three replicas, in version 1, the greatest budget is enough by a bound."""
+    return Table(name, 1, 1).most_commands(3, [])
+
+
+def after_stops(name, version):
+    """For three replicas, of which 1 goes on: what the greatest budget leaves for commands, and what each takes."""
+    table = Table(name, version, 1)
+    fixed = table.steps(3, 0, [1])
+    return [MOST_BUDGET - fixed - table.spared(), table.steps(3, 1, [1]) - fixed]
 
 
 def tables():

@@ -62,6 +62,7 @@ WRONG_FIGURES = [
     ("docs/ALIVE.md", "| 3 | 580 | 166 | 912 |", "| 3 | 580 | 166 | 913 |"),
     ("docs/ALIVE.md", "gain_steps        = 8 n + 90", "gain_steps        = 8 n + 91"),
     ("docs/FORMATS.md", "b from 1 to 131,071", "b from 1 to 131,072"),
+    ("docs/PACE.md", "2,240 for 10", "2,241 for 10"),
     ("docs/FORMATS.md", "at most 100 lines of the script", "a hundred lines of the script"),
 ]
 # How many jobs of stops there are: each family of them is whole.
