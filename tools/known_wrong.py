@@ -209,6 +209,7 @@ def tells_pages():
     yield pages.leads("README.md", "docs/PACE.md#how-long-things-take", page)
     yield not pages.leads("README.md", "docs/PACE.md#how-long", page)
     yield not pages.leads("docs/PACE.md", "docs/PACE.md", page)
+    yield pages.words_of("# A page\n\nwith words\n\n    an example\n\n| a | table |\n![a picture](here)\n") == 5
 
 
 def tells_clauses():

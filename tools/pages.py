@@ -1,5 +1,6 @@
 #!/usr/bin/env python3
-"""Checks what the pages name: each path stands, each name is in some source, each link leads somewhere.
+"""Checks what the pages name: each path stands, each name is in some source, each link leads somewhere;
+and that two pages stay short.
 
     tools/pages.py        prints what is stale; the last line is `pages: N named, N stale`
 
@@ -23,6 +24,9 @@ NAME = re.compile(r"[A-Za-z][A-Za-z0-9]*(_[A-Za-z0-9]+)+|([A-Z][a-z0-9]+){2,}")
 PATH = re.compile(r"[\w.-]+(/[\w.-]+)+/?|[\w-]+\.(rt|antt|md|py|job|trace|svg|table|edit|txt)")
 # Names of the toolchain and of the system, which stand in no source of ours.
 FOREIGN = {"sched_yield", "NoMemory", "BTreeMap", "BTreeMaps", "crossbeam_utils", "left_right"}
+
+# The most words of a page, without its examples, tables and pictures.
+MOST_WORDS = {"README.md": 1_100, "docs/DECISIONS.md": 2_000}
 
 
 def files():
@@ -87,6 +91,20 @@ def leads(page, link, known):
     return at in known and (not heading or heading in headings(at))
 
 
+def words_of(text):
+    """How many words a page has, without its examples, tables and pictures."""
+    return sum(len(line.split()) for line in text.split("\n") if not line.startswith(("    ", "|", "![")))
+
+
+def too_long():
+    """The pages that are longer than they may be."""
+    for page, most in MOST_WORDS.items():
+        with open(os.path.join(TOP, page), encoding="utf-8") as text:
+            words = words_of(text.read())
+        if words > most:
+            yield f"{page}: {words} words without examples and tables, at most {most} are wanted"
+
+
 def judged():
     """How many things the pages name, and where one is stale."""
     paths = list(files())
@@ -105,7 +123,7 @@ def judged():
                           if not it.startswith("http")]
                 named += len(found)
                 stale += [f"{page}:{number}: {it}" for it, good in found if not good]
-    return named, stale
+    return named, stale + list(too_long())
 
 
 def main():
