@@ -1,3 +1,4 @@
+mod Elsewhere
 mod Grants
 mod Kept
 mod Within

@@ -1,6 +1,7 @@
 -- verb of a leader: the events that change what is known of logs and looks, and those among them
 -- that may change the state of a leadership; the states skip all other events.
-use Rattle.std.specs.Prelude.{Bool, false, true}
+use Rattle.std.specs.Prelude.{Bool, None, Some, false, true, ℕ}
+use Rattle.std.specs.declared.option.Option.{Option}
 use Rattle.mu_model.specs.declared.event.Verb.{Verb}
 
 -- a verb of a leader
@@ -25,3 +26,12 @@ changes_leadership (Verb.Enter p t) = true
 changes_leadership (Verb.PutMin p b) = true
 changes_leadership (Verb.PutSlot p i b v) = true
 changes_leadership _ = false
+
+-- the region at which the verb is a step, if it may change what was done there and nowhere else
+abbrev pub region_named : Verb → Option ℕ
+region_named (Verb.Fence p) = Some p
+region_named (Verb.Min p) = Some p
+region_named (Verb.Enter p t) = Some p
+region_named (Verb.PutMin p b) = Some p
+region_named (Verb.PutSlot p i b v) = Some p
+region_named _ = None

@@ -1,6 +1,6 @@
 //! Which verbs bear on what a replica does as a leader.
 ghost use Rattle.std.specs.Prelude.{◌≡◌};
-ghost use Rattle.mu_leadership.specs.Bearing.{changes_leadership, is_leader_verb};
+ghost use Rattle.mu_leadership.specs.Bearing.{changes_leadership, is_leader_verb, region_named};
 
 use mu_model::Verb;
 
@@ -37,5 +37,20 @@ pub(crate) fn changes_leadership(verb: &Verb) -> bool
         | Verb::PutMin(_, _)
         | Verb::PutSlot(_, _, _, _) => true,
         _ => false,
+    }
+}
+
+/// The region at which the verb is a step, if it may change what was done there and nowhere else:
+/// an ask may begin a leadership, which changes it everywhere.
+pub(crate) fn region_of(verb: &Verb) -> Option<u8>
+    ensures { result ≡ region_named verb.now }
+{
+    match *verb {
+        Verb::Fence(p)
+        | Verb::Min(p)
+        | Verb::Enter(p, _)
+        | Verb::PutMin(p, _)
+        | Verb::PutSlot(p, _, _, _) => Some(p),
+        _ => None,
     }
 }

@@ -9,8 +9,9 @@ ghost use Rattle.mu_model.specs.Histories.{count_below, greatest, newest, or_zer
 ghost use Rattle.mu_model.specs.Leaderships.{ends_leadership, grant_at_joining, has_begun, has_quorum, is_changed, is_member, is_over, leadership, noted_grant, number_put, proposal_number};
 ghost use Rattle.mu_model.specs.Parts.{IsPossible};
 ghost use Rattle.mu_leadership.specs.Leadership.{StandsForRegionNotes, StandForRegionNotes, StandsForLeadership, ReadsWithin};
+ghost use Rattle.mu_leadership.specs.Bearing.{region_named};
 
-use crate::bearing::changes_leadership;
+use crate::bearing::{changes_leadership, region_of};
 use crate::region_notes::{RegionNotes, begins};
 use mu_model::{Answer, Config, Event, Fence, Target, Verb, majority, next_number};
 
@@ -117,6 +118,31 @@ fn take_at_each(notes: &mut [RegionNotes; 7], r: u8, event: &Event)
         let at = usize::from(p);
         let held = notes[at];
         notes[at] = held.after(r, p, event);
+    }
+}
+
+/// What was done at the region that the event names, with the event.
+fn take_at(notes: &mut [RegionNotes; 7], p: u8, r: u8, event: &Event)
+    ensures { (c : Config) → (mine : List Event) → IsPossible c r (event.now ∷ mine)
+        → region_named event.now.verb ≡ Some p → StandForRegionNotes r mine notes.old
+        → StandForRegionNotes r (event.now ∷ mine) notes.new }
+{
+    if p < 7 {
+        let at = usize::from(p);
+        let held = notes[at];
+        notes[at] = held.after(r, p, event);
+    }
+}
+
+/// What was done at the regions that the event bears on, with the event.
+fn take_at_regions(notes: &mut [RegionNotes; 7], r: u8, event: &Event)
+    ensures { (c : Config) → (mine : List Event) → IsPossible c r (event.now ∷ mine)
+        → StandForRegionNotes r mine notes.old
+        → StandForRegionNotes r (event.now ∷ mine) notes.new }
+{
+    match region_of(&event.verb) {
+        Some(p) => take_at(notes, p, r, event),
+        None => take_at_each(notes, r, event),
     }
 }
 
@@ -246,7 +272,7 @@ impl Leadership {
         self.number = number_after(self.number, r, event);
         self.greatest_minimum = greatest_minimum_after(self.greatest_minimum, r, event);
         self.greatest_number = greatest_number_after(self.greatest_number, r, event);
-        take_at_each(&mut self.notes, r, event);
+        take_at_regions(&mut self.notes, r, event);
     }
 
     /// Whether the leadership is over.

@@ -10,5 +10,5 @@ returns c c' mine few possible held = record {
   number = c.number_after-self.ensures mine held.number;
   read = c.greatest_minimum_after-self.ensures mine held.read;
   put = c.greatest_number_after-self.ensures mine held.put;
-  notes = c.take_at_each.ensures c' mine possible held.notes;
+  notes = c.take_at_regions.ensures c' mine possible held.notes;
 }

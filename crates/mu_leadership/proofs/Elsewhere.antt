@@ -1,0 +1,53 @@
+-- A step at one region leaves what was done at every other.
+use Rattle.std.proofs.Common.{List, None, Some, false, refl, ℕ, ◌==◌, ◌∷◌, ◌≡◌, ◌≢◌, ◌∙◌, sym}
+use Rattle.std.specs.declared.option.Option.{Option}
+use Rattle.std.proofs.Math.Bool.{and-false}
+use Rattle.std.proofs.lemmas.Bool.{ne_eqb}
+use Rattle.mu_model.specs.declared.event.Answer.{Answer}
+use Rattle.mu_model.specs.declared.event.Event.{Event}
+use Rattle.mu_model.specs.declared.event.Verb.{Verb}
+use Rattle.mu_model.specs.Entering.{min_read_since}
+use Rattle.mu_leadership.specs.Bearing.{region_named}
+use Rattle.mu_leadership.specs.Leadership.{StandsForRegionNotes, last_grant}
+use Rattle.mu_leadership.specs.declared.region_notes.RegionNotes.{RegionNotes}
+use Rattle.mu_model.proofs.Basics.{event_by, none_some, same_some}
+
+-- another region is another number
+apart : (f p q : ℕ) → Some f ≡ Some q → q ≢ p → (f == p) ≡ false
+apart f p q names differs = ne_eqb f p (λ same. differs (sym (same_some f q names) ∙ same))
+
+-- the minimum of another region says nothing of what was read at p
+min_elsewhere : (r p f by x : ℕ) (mine : List Event) (grant : Option ℕ) → (f == p) ≡ false → min_read_since r p (event_by by (Verb.Min f) (Answer.Number x) ∷ mine) grant ≡ min_read_since r p mine grant
+min_elsewhere r p f by x mine None other = refl
+min_elsewhere r p f by x mine (Some g) other = rw (other, and-false (by == r)) refl
+
+-- an event at the region q leaves what was done at p
+pub notes_kept : (r p q by : ℕ) (verb : Verb) (answer : Answer) (mine : List Event) (notes : RegionNotes) → region_named verb ≡ Some q → q ≢ p → StandsForRegionNotes r p mine notes → StandsForRegionNotes r p (event_by by verb answer ∷ mine) notes
+notes_kept r p q by (Verb.Fence f) (Answer.Seen fence) mine notes names differs held =
+    let other : (f == p) ≡ false = apart f p q names differs in
+    record { noted = rw (other, and-false (by == r)) held.noted; joined = held.joined; entered = held.entered; opened = held.opened; minimum = held.minimum; shown = rw (other, and-false (by == r)) held.shown; has_read = rw (other, and-false (by == r)) held.has_read }
+notes_kept r p q by (Verb.Fence f) answer mine notes names differs held =
+    let other : (f == p) ≡ false = apart f p q names differs in
+    record { noted = held.noted; joined = held.joined; entered = held.entered; opened = held.opened; minimum = held.minimum; shown = held.shown; has_read = held.has_read }
+notes_kept r p q by (Verb.Min f) (Answer.Number x) mine notes names differs held =
+    let other : (f == p) ≡ false = apart f p q names differs in
+    record { noted = held.noted; joined = held.joined; entered = held.entered; opened = held.opened; minimum = rw (other, and-false (by == r)) held.minimum; shown = held.shown; has_read = held.has_read ∙ sym (min_elsewhere r p f by x mine (last_grant r p mine) other) }
+notes_kept r p q by (Verb.Min f) answer mine notes names differs held =
+    let other : (f == p) ≡ false = apart f p q names differs in
+    record { noted = held.noted; joined = held.joined; entered = held.entered; opened = held.opened; minimum = held.minimum; shown = held.shown; has_read = held.has_read }
+notes_kept r p q by (Verb.Enter f t) Answer.Entered mine notes names differs held =
+    let other : (f == p) ≡ false = apart f p q names differs in
+    record { noted = held.noted; joined = held.joined; entered = rw (other, and-false (by == r)) held.entered; opened = rw (other, and-false (by == r)) held.opened; minimum = held.minimum; shown = held.shown; has_read = held.has_read }
+notes_kept r p q by (Verb.Enter f t) answer mine notes names differs held =
+    let other : (f == p) ≡ false = apart f p q names differs in
+    record { noted = held.noted; joined = held.joined; entered = rw (other, and-false (by == r)) held.entered; opened = rw (other, and-false (by == r)) held.opened; minimum = held.minimum; shown = held.shown; has_read = held.has_read }
+notes_kept r p q by (Verb.PutMin f b) Answer.Done mine notes names differs held =
+    let other : (f == p) ≡ false = apart f p q names differs in
+    record { noted = held.noted; joined = rw (other, and-false (by == r)) held.joined; entered = rw (other, and-false (by == r)) held.entered; opened = rw (other, and-false (by == r)) held.opened; minimum = held.minimum; shown = held.shown; has_read = held.has_read }
+notes_kept r p q by (Verb.PutMin f b) answer mine notes names differs held =
+    let other : (f == p) ≡ false = apart f p q names differs in
+    record { noted = held.noted; joined = held.joined; entered = rw (other, and-false (by == r)) held.entered; opened = rw (other, and-false (by == r)) held.opened; minimum = held.minimum; shown = held.shown; has_read = held.has_read }
+notes_kept r p q by (Verb.PutSlot f i b v) answer mine notes names differs held =
+    let other : (f == p) ≡ false = apart f p q names differs in
+    record { noted = held.noted; joined = held.joined; entered = rw (other, and-false (by == r)) held.entered; opened = rw (other, and-false (by == r)) held.opened; minimum = held.minimum; shown = held.shown; has_read = held.has_read }
+notes_kept r p q by verb answer mine notes names differs held = absurd (none_some q names)
