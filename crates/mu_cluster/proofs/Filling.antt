@@ -281,11 +281,15 @@ few_replies job script events lists good legal held =
     let each = length-replies (commands_in job (longest lists.logs.items)) in
     omega (arith, few, each)
 
--- what is printed are the replies over the longest log
-pub printed_is : (job : Job) (script : Script) (events : List Event) (lists : Lists) (told : List Reply) (empty : Type 0) (room : ℕ) → IsConfig job.config → IsLegal job.config events → AreSpelled job.config job.commands
-    → HoldsLists job.config script events job.config.replicas lists → empty → row_count job.config ≤ room
-    → ((f : List ℕ → List Reply) → f [] ≡ [] → AreOf f lists → empty → length (f (longest lists.logs.items)) ≤ room → told ≡ f (longest lists.logs.items))
-    → told ≡ replies (commands_in job (longest lists.logs.items))
-printed_is job script events lists told empty room good legal are held is_empty wide is =
+-- and room for all rows is enough for them
+pub printed_fit : (job : Job) (script : Script) (events : List Event) (lists : Lists) (room : ℕ) → IsConfig job.config → IsLegal job.config events → AreSpelled job.config job.commands
+    → HoldsLists job.config script events job.config.replicas lists → row_count job.config ≤ room
+    → (f : List ℕ → List Reply) × (f [] ≡ []) × AreOf f lists × (length (f (longest lists.logs.items)) ≤ room)
+printed_fit job script events lists room good legal are held wide =
     let few = few_replies job script events lists good legal held in
-    is (λ log. replies (commands_in job log)) refl (replies_are job script events lists are held) is_empty (omega (arith, few, wide))
+    (λ log. replies (commands_in job log), refl, replies_are job script events lists are held, omega (arith, few, wide))
+
+-- what is printed are the replies over the longest log
+pub printed_is : (job : Job) (script : Script) (events : List Event) (lists : Lists) (told : List Reply) → AreSpelled job.config job.commands → HoldsLists job.config script events job.config.replicas lists
+    → ((f : List ℕ → List Reply) → f [] ≡ [] → AreOf f lists → told ≡ f (longest lists.logs.items)) → told ≡ replies (commands_in job (longest lists.logs.items))
+printed_is job script events lists told are held is = is (λ log. replies (commands_in job log)) refl (replies_are job script events lists are held)

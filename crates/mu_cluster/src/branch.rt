@@ -135,8 +135,8 @@ pub(crate) fn parted(
     mut nodes: Vec<Node>,
     mut ports: Vec<SharedPort>,
 ) -> (Vec<Node>, Vec<SharedPort>)
-    requires nodes { (nodes.items ≡ []) × (vec_len branches ≤ vec_capacity nodes) }
-    requires ports { (ports.items ≡ []) × (vec_len branches ≤ vec_capacity ports) }
+    requires nodes { (nodes.items ≡ []) × (vec_capacity nodes ≡ vec_len branches) }
+    requires ports { (ports.items ≡ []) × (vec_capacity ports ≡ vec_len branches) }
     ensures nodes { result.0.items ≡ map (λ b. b.node) branches.items }
     ensures ports { result.1.items ≡ map (λ b. b.port) branches.items }
 {

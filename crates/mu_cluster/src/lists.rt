@@ -54,25 +54,15 @@ fn add_end(ends: &mut Vec<End>, end: Option<End>)
     }
 }
 
-/// Adds the replies, if there is room: there is, for all.
-fn fill_replies(list: &mut Vec<Reply>, replies: &[Reply])
-    ensures { list.old.items ≡ [] → length replies.now ≤ vec_capacity list.old
-        → list.new.items ≡ replies.now }
-{
-    for reply in replies {
-        if list.len() < list.capacity() {
-            list.push_reserved(*reply);
-        }
-    }
-}
-
 /// A copy of the replies over the longest log, the first at a tie. Takes no memory.
 pub(crate) fn printed(mut room: Vec<Reply>, lists: &Lists) -> Replies
-    ensures { (f : List ℕ → List SomeReply) → f [] ≡ [] → AreOf f lists.now → room.items ≡ []
-        → length (f (longest lists.now.logs.items)) ≤ vec_capacity room
+    requires empty { room.items ≡ [] }
+    requires room { (f : List ℕ → List SomeReply) × (f [] ≡ []) × AreOf f lists.now
+        × (length (f (longest lists.now.logs.items)) ≤ vec_capacity room) }
+    ensures { (f : List ℕ → List SomeReply) → f [] ≡ [] → AreOf f lists.now
         → result ≡ f (longest lists.now.logs.items) }
 {
-    fill_replies(&mut room, lists.longest_replies());
+    room.extend_from_slice(lists.longest_replies()).unwrap();
     Sequence::from_vec(room)
 }
 

@@ -56,6 +56,8 @@ impl Seat {
 
     /// What the replica leaves.
     pub(crate) fn into_result(self) -> NodeResult
+        requires stands { (c : Config) × (r : ℕ) × (mine : List Event) × IsConfig c
+            × IsPossible c r mine × StandsForNode c r mine self.node }
         ensures is { (c : Config) → (r : ℕ) → (mine : List Event) → IsConfig c → IsPossible c r mine
             → StandsForNode c r mine self.node → IsResult c r mine result }
         ensures end { (c : Config) → (script : Script) → (r : ℕ) → (mine : List Event)

@@ -1,5 +1,5 @@
 //! One replica and its turns.
-ghost use Rattle.std.specs.Prelude.{IfOk, List, None, Some, [], false, length, take, vec_capacity, ℕ, ◌+◌, ◌<◌, ◌≡◌, ◌≤◌};
+ghost use Rattle.std.specs.Prelude.{IfOk, List, None, Some, [], false, length, vec_capacity, ℕ, ◌+◌, ◌<◌, ◌≡◌};
 ghost use Rattle.mu_model.specs.declared.config.Config.{Config};
 ghost use Rattle.mu_model.specs.declared.event.Event.{Event as SomeEvent};
 ghost use Rattle.mu_model.specs.declared.script.Script.{Script};
@@ -61,30 +61,6 @@ pub struct Node {
     pub(crate) commits: Vec<Commit>,
     /// Its store, and its replies.
     pub(crate) answers: Answers,
-}
-
-/// Adds the values, if there is room: there is, for all.
-fn fill_log(log: &mut Vec<u16>, values: &[u16])
-    ensures { log.old.items ≡ [] → length values.now ≤ vec_capacity log.old
-        → log.new.items ≡ values.now }
-{
-    for value in values {
-        if log.len() < log.capacity() {
-            log.push_reserved(*value);
-        }
-    }
-}
-
-/// Adds the commits, if there is room: there is, for all.
-fn fill_commits(list: &mut Vec<Commit>, commits: &[Commit])
-    ensures { list.old.items ≡ [] → length commits.now ≤ vec_capacity list.old
-        → list.new.items ≡ commits.now }
-{
-    for commit in commits {
-        if list.len() < list.capacity() {
-            list.push_reserved(*commit);
-        }
-    }
 }
 
 impl Node {
@@ -225,6 +201,8 @@ impl Node {
 
     /// What the replica leaves. Takes no memory.
     pub fn into_result(self) -> NodeResult
+        requires stands { (c : Config) × (r : ℕ) × (mine : List SomeEvent) × IsConfig c
+            × IsPossible c r mine × StandsForNode c r mine self }
         ensures is { (c : Config) → (r : ℕ) → (mine : List SomeEvent) → IsConfig c
             → IsPossible c r mine
             → StandsForNode c r mine self → IsResult c r mine result }
@@ -249,11 +227,9 @@ impl Node {
             mut answers,
         } = self;
         apply_ready(&mut follow, &mut answers);
-        fill_log(
-            &mut log,
-            first_values(follow.known(), follow.applied_count()),
-        );
-        fill_commits(&mut commits, follow.commits());
+        log.extend_from_slice(first_values(follow.known(), follow.applied_count()))
+            .unwrap();
+        commits.extend_from_slice(follow.commits()).unwrap();
         NodeResult {
             journal,
             log: Sequence::from_vec(log),

@@ -58,7 +58,14 @@ impl Layout {
             | Verb::ReadBeat(_)
             | Verb::ReadRow(_, _)
             | Verb::ReadAsk(_) => Answer::Number(word),
-            _ => Answer::Done,
+            Verb::Ask(_)
+            | Verb::RaiseFuo(_, _)
+            | Verb::WriteRow(_, _, _)
+            | Verb::RaiseHead(_)
+            | Verb::Beat
+            | Verb::LookTarget
+            | Verb::Drain
+            | Verb::Grant(_) => Answer::Done,
         }
     }
 
@@ -90,7 +97,15 @@ impl Layout {
                     word
                 }
             }
-            _ => word,
+            Verb::Fence(_)
+            | Verb::Min(_)
+            | Verb::Look(_, _)
+            | Verb::Fuo(_)
+            | Verb::Head(_)
+            | Verb::ReadBeat(_)
+            | Verb::ReadRow(_, _)
+            | Verb::ReadAsk(_)
+            | Verb::LookTarget => word,
         }
     }
 
@@ -118,7 +133,22 @@ impl Layout {
                         + u64::from(value))
             }
             Verb::Drain => expected.wrapping_add(STAMP),
-            _ => expected,
+            Verb::Ask(_)
+            | Verb::Fence(_)
+            | Verb::Min(_)
+            | Verb::Look(_, _)
+            | Verb::Fuo(_)
+            | Verb::RaiseFuo(_, _)
+            | Verb::Head(_)
+            | Verb::ReadBeat(_)
+            | Verb::WriteRow(_, _, _)
+            | Verb::ReadRow(_, _)
+            | Verb::RaiseHead(_)
+            | Verb::Beat
+            | Verb::ReadAsk(_)
+            | Verb::Close
+            | Verb::LookTarget
+            | Verb::Grant(_) => expected,
         }
     }
 }

@@ -1,5 +1,5 @@
 //! The ports of all replicas, and the room for their parts.
-ghost use Rattle.std.specs.Prelude.{IfOk, ◌≡◌, ◌≤◌};
+ghost use Rattle.std.specs.Prelude.{IfOk, ◌≡◌};
 ghost use Rattle.shared_fabric.specs.Gathering.{AreAllPorts};
 
 use crate::port::SharedPort;
@@ -63,9 +63,9 @@ impl Model for PartsRoom {
 impl PartsRoom {
     ghost use Rattle.std.specs.Prelude.{[], vec_capacity};
 
-    /// Room for at least `parts` parts. Takes memory once.
+    /// Room for this many parts, and no more. Takes memory once.
     pub(crate) fn with_room(alloc: Global, parts: u8) -> Result<PartsRoom, NoMemory>
-        ensures { IfOk result (λ r. parts ≤ r) }
+        ensures { IfOk result (λ r. r ≡ parts) }
     {
         Ok(PartsRoom {
             parts: Vec::with_capacity(alloc, usize::from(parts))?,

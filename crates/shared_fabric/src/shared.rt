@@ -68,7 +68,7 @@ impl Shared {
         ensures ports { IfOk result
             (λ t. t.0 ≡ fresh_ports self.old.table self.old.config self.old.config.replicas) }
         ensures are { IfOk result (λ t. ArePorts self.new.table self.new.config t.0) }
-        ensures room { IfOk result (λ t. self.old.config.replicas ≤ t.1) }
+        ensures room { IfOk result (λ t. t.1 ≡ self.old.config.replicas) }
         ensures err { OnErr result (self.new ≡ self.old) }
     {
         let rooms = rooms(&self.words, &self.config, alloc)?;
@@ -118,7 +118,7 @@ fn seated(
     requires fresh { root.old.entries ≡ empty_entries config.now.replicas }
     requires rooms { (vec_len rooms ≡ config.now.replicas)
         × All (IsRoom (arc_value words.now) config.now) rooms.items }
-    requires ports { (ports.items ≡ []) × (config.now.replicas ≤ vec_capacity ports) }
+    requires ports { (ports.items ≡ []) × (vec_capacity ports ≡ config.now.replicas) }
     ensures same { (root.new.table ≡ root.old.table) × (root.new.config ≡ root.old.config) }
     ensures ports { result.items ≡ fresh_ports root.old.table config.now config.now.replicas }
 {

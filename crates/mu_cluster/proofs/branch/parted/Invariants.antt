@@ -1,4 +1,4 @@
-use Rattle.std.proofs.Common.{◌≡◌, ◌≤◌, ◌++◌, length, map}
+use Rattle.std.proofs.Common.{◌≡◌, ◌++◌, length, map}
 use Rattle.std.specs.Prelude.{vec_capacity, vec_len}
 use Rattle.std.specs.Vec.Iter.{into_iter_items, into_iter_len}
 use Rattle.mu_cluster.proofs.branch.parted.Given as goal
@@ -12,5 +12,5 @@ invariant-loop-branch l =
     × (l.ports.items ≡ map (λ b. b.port) l.yielded)
     × (length l.nodes.items ≡ length l.yielded)
     × (length l.ports.items ≡ length l.yielded)
-    × (vec_len l.fn.branches ≤ vec_capacity l.nodes)
-    × (vec_len l.fn.branches ≤ vec_capacity l.ports)
+    × (vec_capacity l.nodes ≡ vec_len l.fn.branches)
+    × (vec_capacity l.ports ≡ vec_len l.fn.branches)

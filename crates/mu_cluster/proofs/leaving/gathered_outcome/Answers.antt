@@ -5,7 +5,7 @@ use Rattle.mu_cluster.specs.Branches.{AreLeft}
 use Rattle.mu_outcome.specs.Outcomes.{events_of}
 use Rattle.mu_outcome.specs.Runs.{IsRunOver}
 use Rattle.mu_cluster.proofs.Branching.{one_list, parts_same}
-use Rattle.mu_cluster.proofs.Filling.{diligent_of, printed_is, run_over}
+use Rattle.mu_cluster.proofs.Filling.{diligent_of, printed_fit, printed_is, run_over}
 use Rattle.mu_cluster.proofs.leaving.gathered_outcome.Goals as goal
 
 pub left_by-lists-requires-clause-list : goal.left_by-lists-requires-clause-list
@@ -13,6 +13,14 @@ left_by-lists-requires-clause-list c = one_list c.args.job.config c.args.gathere
 
 pub left_by-lists-requires-clause-left : goal.left_by-lists-requires-clause-left
 left_by-lists-requires-clause-left c = subst (λ l. AreLeft c.args.job.config c.args.job.script l c.args.nodes.items) (sym c.parts.ensures.parts) c.requires.left
+
+pub printed-printed-requires-clause-room : goal.printed-printed-requires-clause-room
+printed-printed-requires-clause-room c =
+    let job = c.args.job in
+    let lists = c.left_by-lists.result in
+    let one = one_list job.config c.args.gathered (map (λ j. j.events) c.parts.result.now) c.requires.config c.parts.ensures.parts c.parts.ensures.list in
+    let held = c.left_by-lists.ensures one.0 one.1.0 one.1.1 in
+    printed_fit job job.script one.0 lists _ c.requires.good one.1.0 c.requires.spelled held c.requires.room.printed
 
 pub returns-clause-run : goal.returns-clause-run
 returns-clause-run c =
@@ -24,7 +32,7 @@ returns-clause-run c =
     let held = c.left_by-lists.ensures one.0 one.1.0 one.1.1 in
     let o : Outcome = record { job = job; journals = c.from_vec.result; logs = c.from_vec-2.result; commits = c.from_vec-3.result; replies = c.printed-printed.result; own_replies = c.from_vec-4.result; ends = c.from_vec-5.result; order = None; gathered = Some g } in
     let over : IsRunOver one.0 o = run_over o one.0 lists one.1.0 c.from_vec.ensures c.from_vec-2.ensures c.from_vec-3.ensures c.from_vec-4.ensures c.from_vec-5.ensures held one.1.1.whole c.requires.spelled
-    (printed_is job job.script one.0 lists c.printed-printed.result _ _ c.requires.good one.1.0 c.requires.spelled held c.requires.room.empty c.requires.room.printed c.printed-printed.ensures) in
+    (printed_is job job.script one.0 lists c.printed-printed.result c.requires.spelled held c.printed-printed.ensures) in
     let has : HasParts k one.0 g.parts = subst (λ l. HasParts k one.0 l) c.parts.ensures.parts one.1.1 in
     record {
       no_order = refl;

@@ -12,6 +12,26 @@ use Rattle.mu_cluster.proofs.Branching.{mine_part}
 use Rattle.mu_cluster.proofs.Filling.{held_left}
 use Rattle.mu_cluster.proofs.leaving.left_by.Goals as goal
 
+pub into_result-requires : goal.into_result-requires
+into_result-requires c =
+    let n = length c.loop-node.yielded in
+    let node = c.in-Some.node in
+    let all = c.args.nodes.items in
+    let k = c.args._job.now.config in
+    let script = c.args._job.now.script in
+    let parts = map (λ j. j.events) c.args._parts.now in
+    let list = c.requires.list in
+    let events = list.0 in
+    let head : into_iter_items c.loop-node.node-iterator ≡ node ∷ into_iter_items c.next.new.self = c.in-Some.ensures.steps.0 in
+    let zero : n + 0 ≡ n = omega arith in
+    let found : slice_get all n ≡ Some node = ap (slice_get all) (sym zero) ∙ (sym (c.loop-node.invariant.rest 0) ∙ ap (λ l. slice_get l 0) head) in
+    let within = slice_get_within all n node found in
+    let many = c.requires.left.count in
+    let left = c.requires.left.each n node found in
+    let mine = mine_part k events parts n left.0 (omega (arith, within, many)) list.1.1 left.1 in
+    let goes = subst (λ l. Goes k script n l node) mine left.2 in
+    record { stands = (k, n, part_of n events, c.requires.good, part_is_possible k n (history events) list.1.0, goes.stands) }
+
 pub add-requires : goal.add-requires
 add-requires c =
     let l = c.requires.list in

@@ -9,6 +9,19 @@ use Rattle.mu_cluster.specs.Rounds.{part_of}
 use Rattle.mu_cluster.proofs.Filling.{held_next}
 use Rattle.mu_cluster.proofs.lists.filled.Goals as goal
 
+pub into_result-requires : goal.into_result-requires
+into_result-requires c =
+    let n = length c.loop-seat.yielded in
+    let seat = c.in-Some.seat in
+    let all = c.args.seats.items in
+    let k = c.args._job.now.config in
+    let events = c.args._events.now in
+    let head : into_iter_items c.loop-seat.seat-iterator ≡ seat ∷ into_iter_items c.next.new.self = c.in-Some.ensures.steps.0 in
+    let zero : n + 0 ≡ n = omega arith in
+    let found : slice_get all n ≡ Some seat = ap (slice_get all) (sym zero) ∙ (sym (c.loop-seat.invariant.rest 0) ∙ ap (λ l. slice_get l 0) head) in
+    let sits = c.requires.played.1.waits n seat found (omega arith) in
+    record { stands = (k, n, part_of n events, c.requires.good, part_is_possible k n (history events) c.requires.legal, sits.stands) }
+
 pub loop-seat-preserved : goal.loop-seat-preserved
 loop-seat-preserved c =
     let n = length c.loop-seat.yielded in

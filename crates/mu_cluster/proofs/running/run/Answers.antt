@@ -32,7 +32,7 @@ parted-nodes-requires-clause-nodes g c =
     let fresh = c.in_ok-first.ensures.ports ∙ fresh_of table k c.in_ok-shared.shared.config c.into_ports.result.items c.in_ok-ports.ports c.into_ports.ensures.ports c.in_ok-ports.ensures.ports c.in_ok-shared.ensures.config in
     let first = many table k c.args.job.script c.in_ok-first.first.items c.driven.result.items fresh c.driven.ensures.count c.driven.ensures.each in
     let count = c.driven.ensures.count in
-    (c.in_ok-nodes.ensures.items, omega (arith, first, count, c.in_ok-nodes.ensures.capacity, c.from-count.ensures))
+    (c.in_ok-nodes.ensures.items, omega (arith, first, count, c.in_ok-nodes.ensures.exact, c.from-count.ensures))
 
 pub parted-nodes-requires-clause-ports : goal.parted-nodes-requires-clause-ports
 parted-nodes-requires-clause-ports g c =
@@ -41,7 +41,7 @@ parted-nodes-requires-clause-ports g c =
     let fresh = c.in_ok-first.ensures.ports ∙ fresh_of table k c.in_ok-shared.shared.config c.into_ports.result.items c.in_ok-ports.ports c.into_ports.ensures.ports c.in_ok-ports.ensures.ports c.in_ok-shared.ensures.config in
     let first = many table k c.args.job.script c.in_ok-first.first.items c.driven.result.items fresh c.driven.ensures.count c.driven.ensures.each in
     let count = c.driven.ensures.count in
-    (c.in_ok-back.ensures.items, omega (arith, first, count, c.in_ok-back.ensures.capacity, c.from-count.ensures))
+    (c.in_ok-back.ensures.items, omega (arith, first, count, c.in_ok-back.ensures.exact, c.from-count.ensures))
 
 pub of_ports-requires : goal.of_ports-requires
 of_ports-requires g c =

@@ -1,4 +1,4 @@
-use Rattle.std.proofs.Common.{◌≡◌, ℕ, ◌+◌, ◌<◌, ◌≤◌, All, Some, [], vec_len, vec_capacity}
+use Rattle.std.proofs.Common.{◌≡◌, ℕ, ◌+◌, ◌≤◌, ◌<◌, All, Some, [], vec_len, vec_capacity}
 use Rattle.std.specs.Arc.{arc_value}
 use Rattle.shared_steps.specs.Rule.{entry, entry_of}
 use Rattle.shared_fabric.specs.Gathering.{fresh_ports}
@@ -12,7 +12,7 @@ invariant-loop-room l =
     × (l.root.config ≡ l.initial.root.config)
     × All (IsRoom (arc_value l.words) l.config) l.rooms.items
     × (l.ports.items ≡ fresh_ports l.initial.root.table l.config l.id)
-    × (l.config.replicas ≤ vec_capacity l.ports)
+    × (vec_capacity l.ports ≡ l.config.replicas)
     × ((r : ℕ) → l.id ≤ r → r < l.config.replicas → entry_of r l.root.entries ≡ Some (entry r [] []))
 
 abbrev pub decreases-loop-room : goal.decreases-loop-room

@@ -2,7 +2,7 @@ use Rattle.std.proofs.Common.{None, Some, refl, subst}
 use Rattle.mu_model.specs.Legal.{IsLegal}
 use Rattle.mu_outcome.specs.declared.outcome.Outcome.{Outcome}
 use Rattle.mu_cluster.specs.Lists.{HoldsLists}
-use Rattle.mu_cluster.proofs.Filling.{diligent_of, printed_is, run_of}
+use Rattle.mu_cluster.proofs.Filling.{diligent_of, printed_fit, printed_is, run_of}
 use Rattle.mu_cluster.proofs.AnyRing.{any_ring_of}
 use Rattle.mu_cluster.proofs.Finishing.{finishes_after, finishes_in_any_ring, finishes_of}
 use Rattle.mu_cluster.proofs.Unblocking.{applies_in_any_ring, finishes_in_small_rings}
@@ -12,6 +12,14 @@ use Rattle.mu_cluster.proofs.Onward.{leads_of}
 use Rattle.mu_cluster.proofs.Outliving.{applies_after}
 use Rattle.mu_cluster.proofs.Outrunning.{none_outrun_of}
 use Rattle.mu_cluster.proofs.lists.OutcomeRoom.outcome.Goals as goal
+
+pub printed-printed-requires-clause-room : goal.printed-printed-requires-clause-room
+printed-printed-requires-clause-room c =
+    let job = c.args.job in
+    let order = c.args.order in
+    let lists = c.filled-lists.result in
+    let held = subst (λ l. HoldsLists job.config job.script l job.config.replicas lists) c.as_slice.ensures c.filled-lists.ensures in
+    printed_fit job job.script order.events lists _ c.requires.good c.requires.legal c.requires.spelled held c.requires.room.printed
 
 pub returns-clause-run : goal.returns-clause-run
 returns-clause-run c =
@@ -24,7 +32,7 @@ returns-clause-run c =
     let played = c.requires.played.1 in
     let o : Outcome = record { job = job; journals = c.from_vec.result; logs = c.from_vec-2.result; commits = c.from_vec-3.result; replies = c.printed-printed.result; own_replies = c.from_vec-4.result; ends = c.from_vec-5.result; order = Some order; gathered = None } in
     run_of o order lists c.args.seats.items c.requires.played.0 refl legal c.from_vec.ensures c.from_vec-2.ensures c.from_vec-3.ensures c.from_vec-4.ensures c.from_vec-5.ensures held played c.requires.ended c.requires.spelled
-    (printed_is job job.script order.events lists c.printed-printed.result _ _ c.requires.good legal c.requires.spelled held c.requires.room.empty c.requires.room.printed c.printed-printed.ensures)
+    (printed_is job job.script order.events lists c.printed-printed.result c.requires.spelled held c.printed-printed.ensures)
 
 pub returns-clause-diligent : goal.returns-clause-diligent
 returns-clause-diligent c =
@@ -47,7 +55,7 @@ returns-clause-names c =
     let played = c.requires.played.1 in
     let o : Outcome = record { job = job; journals = c.from_vec.result; logs = c.from_vec-2.result; commits = c.from_vec-3.result; replies = c.printed-printed.result; own_replies = c.from_vec-4.result; ends = c.from_vec-5.result; order = Some order; gathered = None } in
     let run = run_of o order lists c.args.seats.items c.requires.played.0 refl legal c.from_vec.ensures c.from_vec-2.ensures c.from_vec-3.ensures c.from_vec-4.ensures c.from_vec-5.ensures held played c.requires.ended c.requires.spelled
-    (printed_is job job.script order.events lists c.printed-printed.result _ _ c.requires.good legal c.requires.spelled held c.requires.room.empty c.requires.room.printed c.printed-printed.ensures) in
+    (printed_is job job.script order.events lists c.printed-printed.result c.requires.spelled held c.printed-printed.ensures) in
     named_of o order c.args.seats.items c.requires.played.0 run refl played
 
 pub returns-clause-none_outrun : goal.returns-clause-none_outrun
@@ -61,7 +69,7 @@ returns-clause-none_outrun c =
     let played = c.requires.played.1 in
     let o : Outcome = record { job = job; journals = c.from_vec.result; logs = c.from_vec-2.result; commits = c.from_vec-3.result; replies = c.printed-printed.result; own_replies = c.from_vec-4.result; ends = c.from_vec-5.result; order = Some order; gathered = None } in
     let run = run_of o order lists c.args.seats.items c.requires.played.0 refl legal c.from_vec.ensures c.from_vec-2.ensures c.from_vec-3.ensures c.from_vec-4.ensures c.from_vec-5.ensures held played c.requires.ended c.requires.spelled
-    (printed_is job job.script order.events lists c.printed-printed.result _ _ c.requires.good legal c.requires.spelled held c.requires.room.empty c.requires.room.printed c.printed-printed.ensures) in
+    (printed_is job job.script order.events lists c.printed-printed.result c.requires.spelled held c.printed-printed.ensures) in
     none_outrun_of o order c.args.seats.items c.requires.played.0 c.requires.good run refl played
 
 pub returns-clause-applies : goal.returns-clause-applies
@@ -75,7 +83,7 @@ returns-clause-applies c =
     let played = c.requires.played.1 in
     let o : Outcome = record { job = job; journals = c.from_vec.result; logs = c.from_vec-2.result; commits = c.from_vec-3.result; replies = c.printed-printed.result; own_replies = c.from_vec-4.result; ends = c.from_vec-5.result; order = Some order; gathered = None } in
     let run = run_of o order lists c.args.seats.items c.requires.played.0 refl legal c.from_vec.ensures c.from_vec-2.ensures c.from_vec-3.ensures c.from_vec-4.ensures c.from_vec-5.ensures held played c.requires.ended c.requires.spelled
-    (printed_is job job.script order.events lists c.printed-printed.result _ _ c.requires.good legal c.requires.spelled held c.requires.room.empty c.requires.room.printed c.printed-printed.ensures) in
+    (printed_is job job.script order.events lists c.printed-printed.result c.requires.spelled held c.printed-printed.ensures) in
     let diligent = diligent_of o order.events lists c.from_vec.ensures held in
     record { first = applies_of o order c.args.seats.items c.requires.played.0 c.requires.good run refl played diligent; last = applies_after o order c.args.seats.items c.requires.played.0 c.requires.good run refl played diligent; any = any_ring_of o order c.args.seats.items c.requires.played.0 c.requires.good run refl played diligent; each = finishes_of o order c.args.seats.items c.requires.played.0 c.requires.good run refl played diligent; each_after_stops = finishes_after o order c.args.seats.items c.requires.played.0 c.requires.good run refl played diligent; each_in_any_ring = finishes_in_any_ring o order c.args.seats.items c.requires.played.0 c.requires.good run refl played diligent; last_in_any_ring = applies_in_any_ring o order c.args.seats.items c.requires.played.0 c.requires.good run refl played diligent; each_after_stops_in_any_ring = finishes_in_small_rings o order c.args.seats.items c.requires.played.0 c.requires.good run refl played diligent }
 
@@ -90,5 +98,5 @@ returns-clause-leads c =
     let played = c.requires.played.1 in
     let o : Outcome = record { job = job; journals = c.from_vec.result; logs = c.from_vec-2.result; commits = c.from_vec-3.result; replies = c.printed-printed.result; own_replies = c.from_vec-4.result; ends = c.from_vec-5.result; order = Some order; gathered = None } in
     let run = run_of o order lists c.args.seats.items c.requires.played.0 refl legal c.from_vec.ensures c.from_vec-2.ensures c.from_vec-3.ensures c.from_vec-4.ensures c.from_vec-5.ensures held played c.requires.ended c.requires.spelled
-    (printed_is job job.script order.events lists c.printed-printed.result _ _ c.requires.good legal c.requires.spelled held c.requires.room.empty c.requires.room.printed c.printed-printed.ensures) in
+    (printed_is job job.script order.events lists c.printed-printed.result c.requires.spelled held c.printed-printed.ensures) in
     leads_of o order c.args.seats.items c.requires.played.0 c.requires.good run refl played (diligent_of o order.events lists c.from_vec.ensures held)

@@ -1,4 +1,4 @@
-use Rattle.std.proofs.Common.{◌≡◌, ◌∙◌, ap, arith, length, map, subst, sym, take}
+use Rattle.std.proofs.Common.{◌≡◌, ◌∙◌, ◌++◌, ap, arith, cond, is_ok, length, map, subst, sym, take}
 use Rattle.std.proofs.lemmas.List.{length-map}
 use Rattle.mu_model.specs.Knowledge.{applied, commits, has_entry, known}
 use Rattle.mu_agree.proofs.Readings.{known_within}
@@ -10,10 +10,14 @@ use Rattle.mu_node.proofs.Reading.{reads_known}
 use Rattle.mu_node.proofs.Diligent.{journal_is_diligent}
 use Rattle.mu_node.proofs.node.Node.into_result.Goals as goal
 
-pub returns-clause-is : goal.returns-clause-is
-returns-clause-is c k r mine good possible held =
+pub unwrap-requires : goal.unwrap-requires
+unwrap-requires c =
+    let k = c.requires.stands.0 in
+    let r = c.requires.stands.1 in
+    let mine = c.requires.stands.2 in
+    let held = c.requires.stands.5 in
     let follow = c.apply_ready.ensures.stands k r mine held.beside.follow in
-    let within = known_within k r mine possible in
+    let within = known_within k r mine c.requires.stands.4 in
     let fits = front_fits (λ v. has_entry k r v mine) (known k r mine) in
     let values = c.known.ensures k r mine (length mine) follow in
     let count = c.applied_count.ensures k r mine follow in
@@ -21,11 +25,39 @@ returns-clause-is c k r mine good possible held =
     let first = c.first_values.ensures (omega (arith, fits, long, count)) in
     let is : c.first_values.result.now ≡ applied k r mine = first ∙ (ap (λ n. take n c.known.result.now) count ∙ (ap (λ l. take (length (applied k r mine)) l) values ∙ applied_is k r mine)) in
     let log_long = ap length is in
-    let log = c.fill_log.ensures held.beside.no_log (omega (arith, log_long, fits, within, held.beside.log_room)) in
+    let none = ap length held.beside.no_log in
+    c.extend_from_slice.ensures.succeeds (omega (arith, none, log_long, fits, within, held.beside.log_room))
+
+pub unwrap-requires-2 : goal.unwrap-requires-2
+unwrap-requires-2 c =
+    let k = c.requires.stands.0 in
+    let r = c.requires.stands.1 in
+    let mine = c.requires.stands.2 in
+    let held = c.requires.stands.5 in
+    let follow = c.apply_ready.ensures.stands k r mine held.beside.follow in
+    let within = known_within k r mine c.requires.stands.4 in
     let listed = c.commits.ensures k r mine follow in
     let few = few_commits k r mine in
-    let commits_long : length c.commits.result.now ≡ length (commits k r mine) = sym (length-map c.commits.result.now pair_of) ∙ ap length listed in
-    let list = c.fill_commits.ensures held.beside.no_commits (omega (arith, commits_long, few, within, held.beside.commit_room)) in
+    let long : length c.commits.result.now ≡ length (commits k r mine) = sym (length-map c.commits.result.now pair_of) ∙ ap length listed in
+    let none = ap length held.beside.no_commits in
+    c.extend_from_slice-2.ensures.succeeds (omega (arith, none, long, few, within, held.beside.commit_room))
+
+pub returns-clause-is : goal.returns-clause-is
+returns-clause-is c k r mine good possible held =
+    let follow = c.apply_ready.ensures.stands k r mine held.beside.follow in
+    let fits = front_fits (λ v. has_entry k r v mine) (known k r mine) in
+    let values = c.known.ensures k r mine (length mine) follow in
+    let count = c.applied_count.ensures k r mine follow in
+    let long = ap length values in
+    let first = c.first_values.ensures (omega (arith, fits, long, count)) in
+    let told = c.first_values.result.now in
+    let is : told ≡ applied k r mine = first ∙ (ap (λ n. take n c.known.result.now) count ∙ (ap (λ l. take (length (applied k r mine)) l) values ∙ applied_is k r mine)) in
+    let before = c.args.self.log.items in
+    let log = c.extend_from_slice.ensures.items ∙ (ap (λ x. cond (is_ok x) (before ++ told) before) c.unwrap.ensures ∙ ap (λ l. l ++ told) held.beside.no_log) in
+    let listed = c.commits.ensures k r mine follow in
+    let made = c.commits.result.now in
+    let none = c.args.self.commits.items in
+    let list = c.extend_from_slice-2.ensures.items ∙ (ap (λ x. cond (is_ok x) (none ++ made) none) c.unwrap-2.ensures ∙ ap (λ l. l ++ made) held.beside.no_commits) in
     record {
       journal = held.beside.journal;
       log = c.from_vec.ensures ∙ (log ∙ is);
