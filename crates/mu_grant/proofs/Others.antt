@@ -1,13 +1,18 @@
 -- What events that the host doesn't note leave as it is.
-use Rattle.std.proofs.Common.{List, Some, false, refl, ℕ, ◌==◌, ◌∷◌, ◌≡◌, ◌≢◌}
+use Rattle.std.proofs.Common.{List, Some, false, refl, sym, true, ℕ, ◌==◌, ◌∷◌, ◌≡◌, ◌≢◌}
 use Rattle.std.proofs.Math.Bool.{and-false}
 use Rattle.std.proofs.lemmas.Bool.{ne_eqb, true≢false}
 use Rattle.mu_model.specs.declared.event.Answer.{Answer}
 use Rattle.mu_model.specs.declared.event.Event.{Event}
 use Rattle.mu_model.specs.declared.event.Verb.{Verb}
-use Rattle.mu_grant.specs.Stands.{HoldsGuest, OthersKeep, StandsFor, guest_named, is_host_step, is_noted}
+use Rattle.mu_grant.specs.Stands.{HoldsGuest, HoldsGuests, OthersKeep, StandsFor, guest_named, is_host_step, is_noted, is_read_of_asks}
+use Rattle.mu_model.proofs.Basics.{event_by}
 use Rattle.mu_grant.specs.declared.grants.Grants.{Grants}
 use Rattle.mu_grant.specs.declared.grants.Guest.{Guest}
+
+-- the state with other guests
+abbrev pub with_guests : Grants → List Guest → Grants
+with_guests state guests = record { replicas = state.replicas; id = state.id; owner = state.owner; closing = state.closing; named = state.named; looked = state.looked; drained = state.drained; guests = guests }
 
 -- an event in parts that the host doesn't note
 kept_by : (n r by : ℕ) (verb : Verb) (answer : Answer) (mine : List Event) (state : Grants) → is_noted verb answer ≡ false → StandsFor n r mine state → StandsFor n r (record { by = by; verb = verb; answer = answer } ∷ mine) state
@@ -52,3 +57,20 @@ guest_kept r w by (Verb.Grant q) answer mine guest differs held =
     let other : (q == w) ≡ false = ne_eqb q w (differs q refl) in
     record { seen = held.seen; at_grant = rw (other, and-false (by == r)) held.at_grant; as_owner = held.as_owner }
 guest_kept r w by verb answer mine guest differs held = record { seen = held.seen; at_grant = held.at_grant; as_owner = held.as_owner }
+
+-- a read of asks changes nothing but what is held of guests
+pub asks_change_guests : (n r by : ℕ) (verb : Verb) (answer : Answer) (mine : List Event) (state : Grants) (guests : List Guest) → is_read_of_asks verb ≡ true → StandsFor n r mine state → HoldsGuests r (event_by by verb answer ∷ mine) guests → StandsFor n r (event_by by verb answer ∷ mine) (with_guests state guests)
+asks_change_guests n r by (Verb.ReadAsk w) answer mine state guests is held now = record {
+  few = held.few;
+  inside = held.inside;
+  replicas = held.replicas;
+  id = held.id;
+  owner = held.owner;
+  closing = held.closing;
+  named = held.named;
+  looked = held.looked;
+  drained = held.drained;
+  looked_first = held.looked_first;
+  guests = now;
+}
+asks_change_guests n r by verb answer mine state guests is held now = absurd (true≢false (sym is))

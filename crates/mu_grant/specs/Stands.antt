@@ -102,6 +102,11 @@ is_host_step Verb.Drain = true
 is_host_step (Verb.Grant w) = true
 is_host_step _ = false
 
+-- the verb reads asks
+abbrev pub is_read_of_asks : Verb → Bool
+is_read_of_asks (Verb.ReadAsk w) = true
+is_read_of_asks _ = false
+
 -- the replica whose asks are read, or that is granted the region
 abbrev pub guest_named : Verb → Option ℕ
 guest_named (Verb.ReadAsk w) = Some w

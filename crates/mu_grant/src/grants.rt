@@ -11,7 +11,7 @@ ghost use Rattle.mu_model.specs.Regions.{fence_closing, fence_owner};
 ghost use Rattle.mu_model.specs.Serving.{drained_since_close, has_unserved_ask, is_least_waiting, looked_since_close, must_drain, seen_asks, served, served_as_owner, served_by_grant};
 ghost use Rattle.mu_grant.specs.Stands.{close_named, Gives, HoldsGuest, HoldsGuests, IsDue, StandsFor, guest_named};
 
-use crate::verbs::{guest_of, is_of_host};
+use crate::verbs::{guest_of, is_of_host, reads_asks};
 use mu_model::{Answer, Event, Target, Verb};
 
 /// What the host has read of the asks of one replica.
@@ -292,6 +292,9 @@ impl Grants {
     {
         let r = self.id;
         take_at_guests(&mut self.guests, self.owner, self.closing, r, event);
+        if reads_asks(&event.verb) {
+            return;
+        }
         self.owner = owner_after(self.owner, r, event);
         self.closing = closing_after(self.closing, r, event);
         self.named = named_after(self.named, r, event);

@@ -1,6 +1,6 @@
 //! Which verbs change what a host holds, and at whom.
 ghost use Rattle.std.specs.Prelude.{◌≡◌};
-ghost use Rattle.mu_grant.specs.Stands.{guest_named, is_host_step};
+ghost use Rattle.mu_grant.specs.Stands.{guest_named, is_read_of_asks, is_host_step};
 
 use mu_model::Verb;
 
@@ -21,5 +21,15 @@ pub fn guest_of(verb: &Verb) -> Option<u8>
     match *verb {
         Verb::ReadAsk(w) | Verb::Grant(w) => Some(w),
         _ => None,
+    }
+}
+
+/// Whether the verb reads asks: it changes nothing but what is held of a guest.
+pub(crate) fn reads_asks(verb: &Verb) -> bool
+    ensures { result ≡ is_read_of_asks verb.now }
+{
+    match *verb {
+        Verb::ReadAsk(_) => true,
+        _ => false,
     }
 }
