@@ -106,12 +106,13 @@ def too_long():
 
 
 def off_the_map():
-    """The crates that docs/MAP.md doesn't name."""
+    """The crates that docs/MAP.md has neither in its picture nor among the tests."""
     with open(os.path.join(TOP, "crates.txt"), encoding="utf-8") as crates:
         names = re.findall(r"^(\w+)[^:\n]*:", crates.read(), re.MULTILINE)
     with open(os.path.join(TOP, "docs", "MAP.md"), encoding="utf-8") as text:
-        words = set(re.findall(r"\w+", text.read()))
-    return [f"docs/MAP.md: the crate {name} isn't there" for name in names if name not in words]
+        lines = re.findall(r"^      \w+|^Tests: .*", text.read(), re.MULTILINE)
+    there = set(re.findall(r"\w+", " ".join(lines)))
+    return [f"docs/MAP.md: the crate {name} isn't there" for name in names if name not in there]
 
 
 def judged():
