@@ -47,6 +47,12 @@ def edits():
     return sum(name.endswith(".edit") for it in folders if os.path.isdir(it) for name in os.listdir(it))
 
 
+def cases_of(path, data):
+    """How many cases a type of definitions has."""
+    body = re.search(rf"^pub data {data} .*\n((?:  .*\n)+)", contents(os.path.join("crates", path)), re.M).group(1)
+    return len(re.findall(r"^  \w+ :", body, re.M))
+
+
 @functools.lru_cache(None)
 def jobs_at_bounds(tool):
     """How many jobs a tool runs."""
@@ -76,6 +82,10 @@ STATED = [
     ("docs/FORMATS.md", r"`mu_draw` reads a trace of at most ([\d,]+) bytes",
      lambda: [constant("mu_input", "TRACE_LIMIT")]),
     ("docs/PROVED.md", r"([\d,]+) units high", lambda: [32_767]),
+    ("docs/PROTOCOL.md", r"has (\d+) lists of events that break one rule each",
+     lambda: [sum(it.endswith(".trace") for it in os.listdir(os.path.join(TOP, "examples", "rules")))]),
+    ("docs/PACE.md", r"(\d+) go on, (\d+) copy or learn, by (\d+) a region joins",
+     lambda: [cases_of("mu_pace/specs/Weights.antt", it) for it in ("GoesOn", "Copies", "Joins")]),
     ("docs/WORKING.md", r"There are (\d+) edits", lambda: [edits()]),
     ("docs/WORKING.md", r"runs `replay` over ([\d,]+) jobs whose budget is exactly",
      lambda: [jobs_at_bounds("bound_jobs")]),

@@ -1,6 +1,6 @@
 #!/usr/bin/env python3
 """Checks what the pages name: each path stands, each name is in some source, each link leads somewhere;
-and that two pages stay short.
+that two pages stay short, and that each crate is on the map.
 
     tools/pages.py        prints what is stale; the last line is `pages: N named, N stale`
 
@@ -105,6 +105,16 @@ def too_long():
             yield f"{page}: {words} words without examples and tables, at most {most} are wanted"
 
 
+def off_the_map():
+    """The crates that docs/MAP.md has neither in its picture nor among the tests."""
+    with open(os.path.join(TOP, "crates.txt"), encoding="utf-8") as crates:
+        names = re.findall(r"^(\w+)[^:\n]*:", crates.read(), re.MULTILINE)
+    with open(os.path.join(TOP, "docs", "MAP.md"), encoding="utf-8") as text:
+        lines = re.findall(r"^      \w+|^Tests: .*", text.read(), re.MULTILINE)
+    there = set(re.findall(r"\w+", " ".join(lines)))
+    return [f"docs/MAP.md: the crate {name} isn't there" for name in names if name not in there]
+
+
 def judged():
     """How many things the pages name, and where one is stale."""
     paths = list(files())
@@ -123,7 +133,7 @@ def judged():
                           if not it.startswith("http")]
                 named += len(found)
                 stale += [f"{page}:{number}: {it}" for it, good in found if not good]
-    return named, stale + list(too_long())
+    return named, stale + list(too_long()) + off_the_map()
 
 
 def main():
