@@ -1,0 +1,85 @@
+//! The protocol of `docs/PROTOCOL.md` in plain Rust, without proofs: a second, independent program
+//! that has to print what `mu replay` and `mu trace` print, and a measure of what they cost.
+//!
+//!     plain_mu replay < JOB     the report of a replay
+//!     plain_mu keep < JOB       the same, with all events kept in a list
+//!     plain_mu trace < JOB      the trace of a replay
+//!     plain_mu run < JOB        the report of a run on threads
+//!     plain_mu read < TRACE     how many events a trace has; nothing is judged
+//!     plain_mu copy < TRACE     the trace as it was read
+mod host;
+mod job;
+mod known;
+mod leader;
+mod place;
+mod port;
+mod reader;
+mod replay;
+mod replica;
+mod report;
+mod run;
+mod store;
+mod words;
+
+use job::Job;
+use std::io::{Read, Write};
+use std::process::ExitCode;
+
+/// The statuses of `docs/FORMATS.md`.
+const USAGE: u8 = 1;
+const REFUSED: u8 = 2;
+const READ_FAULT: u8 = 4;
+const WRITE_FAULT: u8 = 5;
+
+/// Reads and tells: the status.
+fn answer(command: &str, text: &str, out: &mut Vec<u8>) -> u8 {
+    if matches!(command, "read" | "copy") {
+        let Some((job, job_text, events)) = reader::read(text) else { return REFUSED };
+        if command == "copy" {
+            report::trace(out, &job, job_text, &events);
+        } else {
+            out.extend(format!("read {}\n", events.len()).bytes());
+        }
+        return 0;
+    }
+    match job::read(text) {
+        Some(job) => run(command, text, &job, out),
+        None => REFUSED,
+    }
+}
+
+/// Runs a job: the status.
+fn run(command: &str, text: &str, job: &Job, out: &mut Vec<u8>) -> u8 {
+    let room = usize::from(job.replicas) * job.budget as usize;
+    match command {
+        "replay" => report::report(out, job, &replay::replay(job, &mut port::Nothing)),
+        "run" => report::report(out, job, &run::run(job)),
+        "keep" => report::report(out, job, &replay::replay(job, &mut Vec::with_capacity(room))),
+        "trace" => {
+            let mut events = Vec::with_capacity(room);
+            let results = replay::replay(job, &mut events);
+            report::trace(out, job, text, &events);
+            report::status(job, &results)
+        }
+        _ => USAGE,
+    }
+}
+
+fn main() -> ExitCode {
+    let command = std::env::args().nth(1).unwrap_or_default();
+    let (mut text, mut out) = (String::new(), Vec::new());
+    let status = match std::io::stdin().read_to_string(&mut text) {
+        Ok(_) => answer(&command, &text, &mut out),
+        Err(_) => READ_FAULT,
+    };
+    match status {
+        USAGE => eprintln!("usage: plain_mu replay | keep | trace | run | read | copy"),
+        REFUSED => eprintln!("the input isn't what the command reads"),
+        READ_FAULT => eprintln!("the input can't be read as text"),
+        _ => {}
+    }
+    match std::io::stdout().write_all(&out) {
+        Ok(()) => ExitCode::from(status),
+        Err(_) => ExitCode::from(WRITE_FAULT),
+    }
+}

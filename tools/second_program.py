@@ -1,0 +1,113 @@
+#!/usr/bin/env python3
+"""Compares the built program with plain_mu of tools/anchors, the same protocol in plain Rust, byte for byte.
+
+    tools/second_program.py [--program out/bin/mu] [--jobs 300] [--seed 1]
+
+plain_mu has to print what the stored replays and traces want, and the jobs of tools/bound_jobs.py and
+tools/stop_jobs.py have to go well with it. Then both programs replay and trace random jobs of both versions,
+with stops and pauses, some of whose budgets or rings are too small. It needs rustc, and a built program for
+the random jobs.
+"""
+import argparse
+import os
+import random
+import shutil
+import subprocess
+import sys
+import tempfile
+
+import run_cases
+import trying
+from bound_jobs import bound_cases
+from programs import TOP
+from stop_jobs import stop_cases
+
+ANCHORS = os.path.join(TOP, "tools", "anchors")
+SOURCES = {"plain_mu": "plain_mu/main.rs", "locked_log": "locked_log.rs", "rings": "rings.rs"}
+STORED = ("replay", "trace", "more.table")
+
+
+def build(room, name):
+    """Builds a plain program into a folder: its path."""
+    if shutil.which("rustc") is None:
+        sys.exit(f"{name}: rustc isn't found in PATH")
+    path = os.path.join(room, name)
+    options = ["--edition", "2021", "-O", "-C", "codegen-units=1", "-C", "panic=abort"]
+    subprocess.run(["rustc", *options, "-o", path, os.path.join(ANCHORS, SOURCES[name])], check=True)
+    return path
+
+
+def command(chance):
+    """A line of a command with few keys and texts, so that commands meet."""
+    key, texts = chance.choice("abc"), ["0", "1", "long-text", "x" * 32]
+    return " ".join(chance.choice([("put", key, chance.choice(texts)), ("get", key), ("del", key),
+                                   ("swap", key, chance.choice(texts)),
+                                   ("cas", key, chance.choice(texts), chance.choice(texts))]))
+
+
+def script(chance, replicas):
+    """Stops of some replicas and pauses of some, which may be the same."""
+    lines = [f"stop {r} {chance.randint(0, 900)}" for r in range(replicas) if chance.random() < 0.25]
+    for r in range(replicas):
+        steps = 0
+        while chance.random() < 0.3:
+            steps += chance.randint(1, 500)
+            lines.append(f"pause {r} {steps} {chance.randint(1, 3000)}")
+    chance.shuffle(lines)
+    # the pauses of one replica stand in order of their steps
+    return sorted(lines, key=lambda line: int(line.split()[2]))
+
+
+def random_job(chance):
+    """A job that ends well, or that runs out of steps or of room."""
+    version, replicas = chance.randint(1, 2), chance.randint(1, 7)
+    lines = [f"mu {version}", f"replicas {replicas}", f"ring {chance.choice([8, 9, 13, 32])}",
+             f"budget {chance.choice([500, 3000, 30000])}"]
+    lines += [f"batch {chance.randint(1, 4)}"] if version == 2 else []
+    for client in range(chance.randint(0, 5)):
+        lines += [f"client {client}", *(command(chance) for _ in range(chance.randint(0, 12)))]
+    told = script(chance, replicas) if chance.random() < 0.8 else []
+    return "\n".join([*lines, *(["script", *told] if told else []), "end", ""]).encode()
+
+
+def printed(program, word, given):
+    """What a program prints, and its status."""
+    done = subprocess.run([program, word], input=given, stdout=subprocess.PIPE, check=False)
+    return done.stdout, done.returncode
+
+
+def compare(program, plain, jobs, seed):
+    """How many random jobs both programs tell alike; any other one is printed."""
+    chance, same = random.Random(seed), 0
+    for _ in range(jobs):
+        given = random_job(chance)
+        is_same = all(printed(program, word, given) == printed(plain, word, given) for word in ("replay", "trace"))
+        if not is_same:
+            print(f"not the same of this job:\n{given.decode()}")
+        same += is_same
+    return same
+
+
+def main():
+    parser = argparse.ArgumentParser(description=__doc__.split("\n", maxsplit=1)[0])
+    parser.add_argument("--program", default=os.path.join(TOP, "out", "bin", "mu"))
+    parser.add_argument("--jobs", type=int, default=300)
+    parser.add_argument("--seed", type=int, default=1)
+    given = parser.parse_args()
+    stored = [case for place in STORED for case in run_cases.cases_at(os.path.join(TOP, "cases", place))]
+    stored = [case for case in stored if case.words[0] in ("replay", "trace")]
+    with tempfile.TemporaryDirectory() as room:
+        plain, failed = build(room, "plain_mu"), 0
+        for name, cases in (("stored", stored), ("at a bound", [*bound_cases(), *stop_cases()])):
+            wrong = trying.troubles(cases, trying.run_cases(plain, cases))
+            failed += len(wrong)
+            print("\n".join([*wrong, f"{name}: {len(cases) - len(wrong)} passed, {len(wrong)} failed"]), flush=True)
+        if given.jobs:
+            same = compare(given.program, plain, given.jobs, given.seed)
+            failed += given.jobs - same
+            print(f"random: {same} of {given.jobs} jobs have the same report and the same trace")
+    return 1 if failed else 0
+
+
+if __name__ == "__main__":
+    sys.exit(main())
