@@ -26,31 +26,15 @@ fn own_after(held: u16, r: u8, event: &Event) -> u16
     }
 }
 
-/// The head of `q` read last, after the event.
-fn read_after(held: Option<u64>, r: u8, q: u8, event: &Event) -> Option<u64>
-    ensures { (mine : List Event) → held ≡ head_heard r q mine
-        → result ≡ head_heard r q (event.now ∷ mine) }
-{
-    match (event.verb, event.answer) {
-        (Verb::Head(p), Answer::Number(head)) => {
-            if event.by == r && p == q {
-                Some(head)
-            } else {
-                held
-            }
-        }
-        _ => held,
-    }
-}
-
-/// Takes the event at each head that is read.
+/// Takes the event at the head that is read.
 fn note_read(read: &mut [Option<u64>; 7], r: u8, event: &Event)
     ensures { (mine : List Event) → HearsHeads r mine read.old
         → HearsHeads r (event.now ∷ mine) read.new }
 {
-    for q in 0..7u8 {
-        let at = usize::from(q);
-        read[at] = read_after(read[at], r, q, event);
+    if let (Verb::Head(q), Answer::Number(head)) = (event.verb, event.answer) {
+        if event.by == r && q < 7 {
+            read[usize::from(q)] = Some(head);
+        }
     }
 }
 

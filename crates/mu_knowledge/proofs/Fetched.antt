@@ -32,7 +32,7 @@ same_test a b d f to from = elim (eqb_tells a b) [
 ]
 
 -- a payload number is that of a row of a replica
-row_test : (v r row : ℕ) → row < 4096 → (v == r * 4096 + row) ≡ ((v / 4096 == r) && (row == v % 4096))
+pub row_test : (v r row : ℕ) → row < 4096 → (v == r * 4096 + row) ≡ ((v / 4096 == r) && (row == v % 4096))
 row_test v r row low = elim (eqb_tells (v / 4096) r) [
   | inl x ↦ let same = x.1 in rw x.0 (same_test v (r * 4096 + row) row (v % 4096) (λ e. omega arith) (λ e. omega arith))
   | inr x ↦ let other = x.1 in rw x.0 (elim (eqb_tells v (r * 4096 + row)) [ inl y ↦ let is = y.1 in absurd (other (omega arith)) | inr y ↦ y.0 ])

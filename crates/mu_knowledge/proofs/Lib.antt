@@ -7,3 +7,4 @@ pub mod NextRows
 pub mod Placed
 pub mod Rows
 mod Untouched
+mod Whole

@@ -1,5 +1,6 @@
 -- stands for (held rows): the state of the rows that replica r wrote or read stands for its events.
-use Rattle.std.specs.Prelude.{Bool, List, Some, false, length, true, ℕ, ◌%◌, ◌*◌, ◌+◌, ◌/◌, ◌<◌, ◌≡◌}
+use Rattle.std.specs.Prelude.{Bool, List, None, Some, false, length, true, ℕ, ◌%◌, ◌*◌, ◌+◌, ◌/◌, ◌<◌, ◌≡◌}
+use Rattle.std.specs.declared.option.Option.{Option}
 use Rattle.std.specs.List.{slice_get}
 use Rattle.mu_model.specs.declared.config.Config.{Config}
 use Rattle.mu_model.specs.declared.event.Event.{Event}
@@ -45,3 +46,9 @@ abbrev pub is_of_row : Verb → Bool
 is_of_row (Verb.WriteRow j k x) = true
 is_of_row (Verb.ReadRow v k) = true
 is_of_row _ = false
+
+-- the payload number of the row that the verb of r writes or reads
+abbrev pub row_named : ℕ → Verb → Option ℕ
+row_named r (Verb.WriteRow j k x) = Some (r * 4096 + j)
+row_named r (Verb.ReadRow v k) = Some v
+row_named r _ = None

@@ -1,12 +1,12 @@
 //! Which rows a replica has written or read, and what it has applied.
-ghost use Rattle.std.specs.Prelude.{IfOk, List, [], length, replicate, ℕ, Bool, ◌%◌, ◌&&◌, ◌*◌, ◌+◌, ◌/◌, ◌<◌, ◌==◌, ◌||◌, ◌∷◌, ◌≡◌, ◌≤◌, false};
+ghost use Rattle.std.specs.Prelude.{IfOk, IsTrue, List, Some, [], length, replicate, ℕ, Bool, ◌%◌, ◌&&◌, ◌*◌, ◌+◌, ◌/◌, ◌<◌, ◌==◌, ◌||◌, ◌∷◌, ◌≡◌, ◌≤◌, false};
 ghost use Rattle.mu_model.specs.declared.config.Config.{Config};
 ghost use Rattle.mu_model.specs.declared.event.Event.{Event};
 ghost use Rattle.mu_model.specs.Contents.{IsConfig, row_count};
 ghost use Rattle.mu_model.specs.Histories.{all_below};
 ghost use Rattle.mu_model.specs.Knowledge.{applied, fetched_prefix, has_entry, has_row, has_word, known, wrote, wrote_batch};
 ghost use Rattle.mu_model.specs.Parts.{IsPossible};
-ghost use Rattle.mu_knowledge.specs.HeldRows.{AreThere, HasWords, StandsForHeldRows, IsOfRows, WroteWords, is_of_row, word_place};
+ghost use Rattle.mu_knowledge.specs.HeldRows.{AreThere, HasWords, StandsForHeldRows, IsOfRows, WroteWords, is_of_row, row_named, word_place};
 
 use mu_model::{Config, Event, NoMemory, PAYLOADS, Verb, row_rest, stands_for_batch};
 use std::alloc::Global;
@@ -76,6 +76,17 @@ fn note_got(got: &mut [bool], r: u8, event: &Event)
             }
         }
         _ => {}
+    }
+}
+
+/// The payload number of the row that a verb of `r` writes or reads.
+fn row_of(r: u8, verb: &Verb) -> Option<usize>
+    ensures { result ≡ row_named r verb.now }
+{
+    match *verb {
+        Verb::WriteRow(row, _, _) => Some(usize::from(r) * 4096 + usize::from(row)),
+        Verb::ReadRow(v, _) => Some(usize::from(v)),
+        _ => None,
     }
 }
 
@@ -185,6 +196,19 @@ impl HeldRows {
         count
     }
 
+    /// Whether the row that a verb of `r` writes or reads lacks its last word: then no row is whole
+    /// that wasn't before.
+    fn lacks_last_word(&self, r: u8, verb: &Verb) -> bool
+        ensures { (c : Config) → (mine : List Event) → IsConfig c → r < 7 → IsOfRows c verb.now
+            → HasWords c r mine self.now.got.items → IsTrue result
+            → (v : ℕ) × ((row_named r verb.now ≡ Some v) × (has_word r v 11 mine ≡ false)) }
+    {
+        match row_of(r, verb) {
+            Some(v) => !self.has_word(v, LAST_WORD),
+            None => false,
+        }
+    }
+
     /// Takes the next event of `r`, which it was allowed and after which it knows these values.
     /// Takes no memory. Each entry is passed once, so that a list of events costs no more than its
     /// length and the entries.
@@ -197,7 +221,9 @@ impl HeldRows {
     {
         note_written(&mut self.written, r, event);
         note_got(&mut self.got, r, event);
-        self.applied = self.front_from(config, known_after, self.applied);
+        if !self.lacks_last_word(r, &event.verb) {
+            self.applied = self.front_from(config, known_after, self.applied);
+        }
     }
 
     /// Takes the next event of `r`, if that neither writes nor reads a row, after which it knows
