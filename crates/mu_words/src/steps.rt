@@ -58,12 +58,20 @@ impl Layout {
             | Verb::ReadBeat(_)
             | Verb::ReadRow(_, _)
             | Verb::ReadAsk(_) => Answer::Number(word),
-            _ => Answer::Done,
+            Verb::Ask(_)
+            | Verb::RaiseFuo(_, _)
+            | Verb::WriteRow(_, _, _)
+            | Verb::RaiseHead(_)
+            | Verb::Beat
+            | Verb::LookTarget
+            | Verb::Drain
+            | Verb::Grant(_) => Answer::Done,
         }
     }
 
     /// The word that the step leaves. An exchange that finds another word than it expects leaves
     /// it.
+    #[inline(always)]
     pub fn word_after(&self, verb: &Verb, expected: u64, word: u64) -> u64
         requires ring { 0 < self.now.ring }
         requires fields { VerbFits self.now.ring verb.now }
@@ -90,7 +98,15 @@ impl Layout {
                     word
                 }
             }
-            _ => word,
+            Verb::Fence(_)
+            | Verb::Min(_)
+            | Verb::Look(_, _)
+            | Verb::Fuo(_)
+            | Verb::Head(_)
+            | Verb::ReadBeat(_)
+            | Verb::ReadRow(_, _)
+            | Verb::ReadAsk(_)
+            | Verb::LookTarget => word,
         }
     }
 
@@ -103,6 +119,7 @@ impl Layout {
     }
 
     /// The word that an exchange leaves if it takes, made from the word that it expects.
+    #[inline(always)]
     pub fn exchanged(&self, verb: &Verb, expected: u64) -> u64
         requires ring { 0 < self.now.ring }
         requires fields { VerbFits self.now.ring verb.now }
@@ -118,7 +135,22 @@ impl Layout {
                         + u64::from(value))
             }
             Verb::Drain => expected.wrapping_add(STAMP),
-            _ => expected,
+            Verb::Ask(_)
+            | Verb::Fence(_)
+            | Verb::Min(_)
+            | Verb::Look(_, _)
+            | Verb::Fuo(_)
+            | Verb::RaiseFuo(_, _)
+            | Verb::Head(_)
+            | Verb::ReadBeat(_)
+            | Verb::WriteRow(_, _, _)
+            | Verb::ReadRow(_, _)
+            | Verb::RaiseHead(_)
+            | Verb::Beat
+            | Verb::ReadAsk(_)
+            | Verb::Close
+            | Verb::LookTarget
+            | Verb::Grant(_) => expected,
         }
     }
 }
