@@ -114,6 +114,7 @@ impl Found {
     }
 
     /// The word that the next step of the replica `id` expects: 0 if it is no exchange.
+    #[inline(always)]
     pub fn expected(&self, id: u8, verb: &Verb) -> u64
         ensures { (c : Config) (mine : List Event) (seen : List (Event × ℕ))
             → FoundIs c id self.now mine seen → IsPrepared c mine verb.now
@@ -130,29 +131,6 @@ impl Found {
     /// Takes one more event of the replica `id`, and the word that its step found. Takes no memory.
     #[inline(always)]
     pub fn note(&mut self, id: u8, verb: &Verb, answer: &Answer, word: u64)
-        requires { 0 < self.old.ring }
-        ensures { Notes id verb.now answer.now word self.old self.new }
-    {
-        match *verb {
-            Verb::PutSlot(_, _, _, _)
-            | Verb::Fuo(_)
-            | Verb::RaiseFuo(_, _)
-            | Verb::Head(_)
-            | Verb::ReadBeat(_)
-            | Verb::WriteRow(_, _, _)
-            | Verb::ReadRow(_, _)
-            | Verb::RaiseHead(_)
-            | Verb::Beat
-            | Verb::ReadAsk(_)
-            | Verb::Drain
-            | Verb::Grant(_) => {}
-            _ => self.note_kept(id, verb, answer, word),
-        }
-    }
-
-    /// The same, in a call: what other verbs find isn't kept, and they need none.
-    #[inline(never)]
-    fn note_kept(&mut self, id: u8, verb: &Verb, answer: &Answer, word: u64)
         requires { 0 < self.old.ring }
         ensures { Notes id verb.now answer.now word self.old self.new }
     {

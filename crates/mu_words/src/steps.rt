@@ -71,6 +71,7 @@ impl Layout {
 
     /// The word that the step leaves. An exchange that finds another word than it expects leaves
     /// it.
+    #[inline(always)]
     pub fn word_after(&self, verb: &Verb, expected: u64, word: u64) -> u64
         requires ring { 0 < self.now.ring }
         requires fields { VerbFits self.now.ring verb.now }
@@ -118,6 +119,7 @@ impl Layout {
     }
 
     /// The word that an exchange leaves if it takes, made from the word that it expects.
+    #[inline(always)]
     pub fn exchanged(&self, verb: &Verb, expected: u64) -> u64
         requires ring { 0 < self.now.ring }
         requires fields { VerbFits self.now.ring verb.now }

@@ -32,7 +32,12 @@ impl Model for WordFabric {
 }
 
 impl WordFabric {
+    ghost use Rattle.std.specs.Prelude.{◌++◌, ◌∷◌};
+    ghost use Rattle.mu_model.specs.Allowed.{Allowed};
+    ghost use Rattle.mu_model.specs.Answers.{answer_of};
     ghost use Rattle.mu_model.specs.Contents.{IsConfig};
+    ghost use Rattle.mu_model.specs.Histories.{history, part};
+    ghost use Rattle.mu_model.specs.Legal.{IsLegal};
 
     /// A fabric with no event yet. Takes memory for the budgets of all replicas, for the words and
     /// for what is kept of them.
@@ -51,6 +56,24 @@ impl WordFabric {
             founds: first_founds(alloc, config)?,
         })
     }
+
+    /// Makes a step that is allowed, inlined where the verb is named: so the compiler settles its
+    /// word, what it expects, answers and leaves, and what is noted. Looking at the verb for each of
+    /// these took a fifth of a replay.
+    #[inline(always)]
+    fn make(&mut self, by: u8, verb: Verb) -> Answer
+        requires { Allowed self.old.config by (part by (history self.old.events)) verb }
+        ensures answer { result ≡ answer_of self.old.config by (history self.old.events) verb }
+        ensures events { self.new.events
+            ≡ self.old.events ++ (record { by = by; verb = verb; answer = result }) ∷ [] }
+        ensures config { self.new.config ≡ self.old.config }
+        ensures legal { IsLegal self.new.config self.new.events }
+    {
+        let found = &mut self.founds[usize::from(by)];
+        let answer = make_step(&self.layout, &mut self.words, found, by, &verb);
+        self.kept.push(Event { by, verb, answer });
+        answer
+    }
 }
 
 impl Memory for WordFabric {
@@ -63,10 +86,30 @@ impl Memory for WordFabric {
     }
 
     fn step(&mut self, by: u8, verb: Verb) -> Answer {
-        let found = &mut self.founds[usize::from(by)];
-        let answer = make_step(&self.layout, &mut self.words, found, by, &verb);
-        self.kept.push(Event { by, verb, answer });
-        answer
+        match verb {
+            Verb::Ask(p) => self.make(by, Verb::Ask(p)),
+            Verb::Fence(p) => self.make(by, Verb::Fence(p)),
+            Verb::Min(p) => self.make(by, Verb::Min(p)),
+            Verb::Enter(p, target) => self.make(by, Verb::Enter(p, target)),
+            Verb::PutMin(p, number) => self.make(by, Verb::PutMin(p, number)),
+            Verb::Look(p, position) => self.make(by, Verb::Look(p, position)),
+            Verb::PutSlot(p, position, number, value) => {
+                self.make(by, Verb::PutSlot(p, position, number, value))
+            }
+            Verb::Fuo(p) => self.make(by, Verb::Fuo(p)),
+            Verb::RaiseFuo(p, fuo) => self.make(by, Verb::RaiseFuo(p, fuo)),
+            Verb::Head(q) => self.make(by, Verb::Head(q)),
+            Verb::ReadBeat(q) => self.make(by, Verb::ReadBeat(q)),
+            Verb::WriteRow(row, word, content) => self.make(by, Verb::WriteRow(row, word, content)),
+            Verb::ReadRow(value, word) => self.make(by, Verb::ReadRow(value, word)),
+            Verb::RaiseHead(head) => self.make(by, Verb::RaiseHead(head)),
+            Verb::Beat => self.make(by, Verb::Beat),
+            Verb::ReadAsk(w) => self.make(by, Verb::ReadAsk(w)),
+            Verb::Close => self.make(by, Verb::Close),
+            Verb::LookTarget => self.make(by, Verb::LookTarget),
+            Verb::Drain => self.make(by, Verb::Drain),
+            Verb::Grant(owner) => self.make(by, Verb::Grant(owner)),
+        }
     }
 
     fn events(&self) -> &[Event] {

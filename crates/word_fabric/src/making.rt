@@ -45,6 +45,7 @@ pub(crate) fn first_founds(alloc: Global, config: &Config) -> Result<Vec<Found>,
 /// The place of the word on which the replica `id` makes the step, if its last `Close` found the
 /// target. It is the layout's place of the step's name, by one look at the verb instead of two:
 /// every step of a replay comes through here.
+#[inline(always)]
 fn place_of_step(layout: &Layout, id: u8, target: Target, verb: &Verb) -> usize
     requires ring { 0 < layout.now.ring }
     requires named { IsName layout.now (name_at layout.now.ring id target verb.now) }
@@ -72,6 +73,7 @@ fn place_of_step(layout: &Layout, id: u8, target: Target, verb: &Verb) -> usize
 }
 
 /// Makes a step on its word: it answers by the word that it finds, and the replica notes it.
+#[inline(always)]
 #[tactic(auto, using(crate::proofs::FirstWords::place_inside))]
 pub(crate) fn make_step(
     layout: &Layout,

@@ -1,6 +1,6 @@
 use Rattle.std.proofs.Common.{sym, subst}
 use Rattle.mu_words.specs.Founds.{Notes}
-use Rattle.mu_words.proofs.found.Found.note_kept.Goals as goal
+use Rattle.mu_words.proofs.found.Found.note.Goals as goal
 
 pub returns-in-Ask : goal.returns-in-Ask
 returns-in-Ask c = subst (λ v. Notes c.args.id v c.args.answer.now c.args.word c.args.self.now c.note_ask.new.self) (sym c.in-Ask.is) (c.note_ask.ensures c.args.id c.args.answer.now c.args.word)

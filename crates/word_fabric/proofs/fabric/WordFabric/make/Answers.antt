@@ -7,7 +7,7 @@ use Rattle.mu_words.specs.Steps.{WordFits}
 use Rattle.mu_port.specs.Keeping.{Kept}
 use Rattle.word_fabric.specs.Kept.{IsMade, IsWordsKept, place_at}
 use Rattle.word_fabric.proofs.Going.{found_there, has_room, kept_next, ready, refilled}
-use Rattle.word_fabric.proofs.fabric.WordFabricMemory.step.Goals as goal
+use Rattle.word_fabric.proofs.fabric.WordFabric.make.Goals as goal
 
 pub make_step-answer-requires-clause-fields : goal.make_step-answer-requires-clause-fields
 make_step-answer-requires-clause-fields c =
