@@ -5,7 +5,7 @@ use Rattle.mu_knowledge.specs.HeldRows.{HasWords, WroteWords}
 use Rattle.mu_agree.proofs.Within.{replica_is_low}
 use Rattle.mu_knowledge.proofs.Placed.{event_of_rows}
 use Rattle.mu_knowledge.proofs.Fetched.{applied_grows}
-use Rattle.mu_knowledge.proofs.held_rows.HeldRows.take.Goals as goal
+use Rattle.mu_knowledge.proofs.held_rows.HeldRows.take_change.Goals as goal
 
 pub returns : goal.returns
 returns c mine good possible are held =
