@@ -1,8 +1,12 @@
--- Lists of borrowed words, by how many they are.
-use Rattle.std.proofs.Common.{◌≡◌, ℕ, ◌-◌, ◌<◌, ◌≤◌, List, [], ◌∷◌, length, take, drop, get_or, Bor, None, refl, ap, arith}
-use Rattle.mu_events.specs.Events.{answer_of, answer_of_many, fence_of, verb_of}
-use Rattle.mu_text.proofs.Cutting.{all_after}
-use Rattle.mu_events.proofs.Sides.{said}
+-- Words of a fence and of an answer, by how many they are.
+use Rattle.std.proofs.Common.{◌≡◌, ℕ, ◌<◌, List, [], ◌∷◌, length, take, map, Bor, None, Some, refl, sym, ap, ◌∙◌, arith}
+use Rattle.std.specs.declared.option.Option.{Option}
+use Rattle.mu_events.specs.Events.{answer_of, answer_of_many, fence_of, of_four, owner_of, state_of}
+use Rattle.mu_text.specs.Numbers.{of_32}
+
+-- what borrowed words say
+abbrev said : List (Bor (List ℕ)) → List (List ℕ)
+said words = map (λ (word : Bor (List ℕ)). word.now) words
 
 -- a fence has at least three words
 pub fence_of-few : (words : List (Bor (List ℕ))) → length words < 3 → fence_of (said words) ≡ None
@@ -11,23 +15,23 @@ fence_of-few (a ∷ []) few = refl
 fence_of-few (a ∷ b ∷ []) few = refl
 fence_of-few (a ∷ b ∷ c ∷ rest) few = absurd (omega (arith, few))
 
--- a verb has at most five words
-pub verb_of-many : (words : List (Bor (List ℕ))) → 6 ≤ length words → verb_of (said words) ≡ None
-verb_of-many [] many = absurd (omega (arith, many))
-verb_of-many (a ∷ []) many = absurd (omega (arith, many))
-verb_of-many (a ∷ b ∷ []) many = absurd (omega (arith, many))
-verb_of-many (a ∷ b ∷ c ∷ []) many = absurd (omega (arith, many))
-verb_of-many (a ∷ b ∷ c ∷ d ∷ []) many = absurd (omega (arith, many))
-verb_of-many (a ∷ b ∷ c ∷ d ∷ e ∷ []) many = absurd (omega (arith, many))
-verb_of-many (a ∷ b ∷ c ∷ d ∷ e ∷ f ∷ rest) many = refl
+of_four-none : {A B C D E : Type 0} (make : A → B → C → D → E) (a : Option A) (b : Option B) (c : Option C) → of_four make a b c None ≡ None
+of_four-none make None b c = refl
+of_four-none make (Some a) None c = refl
+of_four-none make (Some a) (Some b) None = refl
+of_four-none make (Some a) (Some b) (Some c) = refl
 
--- what follows the first word
-rest-said : (word : Bor (List ℕ)) (words : List (Bor (List ℕ))) → said (take (length (word ∷ words) - 1) (drop 1 (word ∷ words))) ≡ said words
-rest-said word words = ap said (all_after (word ∷ words) 1)
+-- a fence has at most five words, so the first fourteen tell it
+pub fence_of-first : (words : List (List ℕ)) → fence_of (take 14 words) ≡ fence_of words
+fence_of-first [] = refl
+fence_of-first (a ∷ []) = refl
+fence_of-first (a ∷ b ∷ []) = refl
+fence_of-first (a ∷ b ∷ c ∷ []) = refl
+fence_of-first (a ∷ b ∷ c ∷ d ∷ []) = refl
+fence_of-first (a ∷ b ∷ c ∷ d ∷ e ∷ []) = refl
+fence_of-first (a ∷ b ∷ c ∷ d ∷ e ∷ f ∷ rest) = of_four-none _ (owner_of a) (of_32 b) (state_of c) ∙ sym (of_four-none _ (owner_of a) (of_32 b) (state_of c))
 
 -- an answer of two words and more
-pub answer_of-more : (words : List (Bor (List ℕ))) (d : Bor (List ℕ)) → 2 ≤ length words
-    → answer_of_many (get_or words 0 d).now (said (take (length words - 1) (drop 1 words))) ≡ answer_of (said words)
-answer_of-more [] d more = absurd (omega (arith, more))
-answer_of-more (a ∷ []) d more = absurd (omega (arith, more))
-answer_of-more (a ∷ b ∷ rest) d more = ap (answer_of_many a.now) (rest-said a (b ∷ rest))
+pub answer_of-more : (text : List (List ℕ)) (word : List ℕ) (words : List (List ℕ)) → text ≡ word ∷ words → 0 < length words → answer_of_many word words ≡ answer_of text
+answer_of-more text word [] e some = absurd (omega (arith, some))
+answer_of-more text word (next ∷ words) e some = ap answer_of (sym e)

@@ -1,67 +1,27 @@
 //! Lines of events: `BY VERB = ANSWER`.
-ghost use Rattle.std.specs.Prelude.{◌≡◌, ◌∷◌, codes, map, position, MatchOption};
+ghost use Rattle.std.specs.Prelude.{◌≡◌, [], ◌∷◌, codes, map};
 ghost use Rattle.std.specs.Str.{bytes_eq};
-ghost use Rattle.mu_events.specs.Events.{event_between, event_of, sides};
-ghost use Rattle.mu_events.specs.Events.{target_of, verb_alone, verb_of, verb_of_one, verb_of_two};
+ghost use Rattle.mu_events.specs.Events.{event_of, sides};
+ghost use Rattle.mu_events.specs.Events.{target_of, verb_alone, verb_of_one, verb_of_two};
 ghost use Rattle.mu_events.specs.Events.{verb_of_three, verb_of_four};
 ghost use Rattle.mu_events.specs.Events.{answer_alone, answer_of, answer_of_many, entry_of};
 ghost use Rattle.mu_events.specs.Events.{fence_of, named_of, owner_of, state_of};
+ghost use Rattle.mu_events.specs.Steps.{both, step_after};
 ghost use Rattle.mu_text.specs.Lines.{words};
 ghost use Rattle.mu_text.specs.Numbers.{below, wide_number_of};
 
 use mu_model::{Answer, Event, Fence, Target, Verb};
-use mu_text::{MANY_WORDS, of_8, of_16, of_32, of_64, split_words};
+use mu_text::{MANY_WORDS, is_word, of_8, of_16, of_32, of_64, split_word, split_words, two_words};
 
 /// The event that a line spells, if it spells an event of one of `replicas` replicas. Takes no
 /// memory.
 pub fn event(replicas: u8, line: &[u8]) -> Option<Event>
     ensures { result ≡ event_of replicas (words line.now) }
 {
-    let mut items = [line; MANY_WORDS];
-    let count = split_words(line, &mut items);
-    event_of(replicas, &items[..count])
-}
-
-fn event_of(replicas: u8, words: &[&[u8]]) -> Option<Event>
-    ensures { result ≡ event_of replicas (map (λ word. word.now) words.now) }
-{
-    let (before, answer) = sides(words)?;
-    match before {
-        [by, verb @ ..] => event_between(replicas, by, verb, answer),
-        [] => None,
-    }
-}
-
-/// The place of the first `=`, if there is one.
-fn place_of_equals(words: &[&[u8]]) -> Option<usize>
-    ensures { result ≡ position (λ word. bytes_eq word.now (codes "=")) words.now }
-{
-    words.iter().position(|word| *word == b"=".as_slice())
-}
-
-/// The words before and after the first `=`.
-fn sides<'a, 'b>(words: &'b [&'a [u8]]) -> Option<(&'b [&'a [u8]], &'b [&'a [u8]])>
-    ensures { MatchOption result
-        (sides (map (λ word. word.now) words.now) ≡ None)
-        (λ parts. sides (map (λ word. word.now) words.now)
-        ≡ Some (map (λ word. word.now) parts.0.now, map (λ word. word.now) parts.1.now)) }
-{
-    match place_of_equals(words) {
-        Some(place) => Some((&words[..place], &words[place + 1..])),
-        None => None,
-    }
-}
-
-/// The event that the words before and after a `=` spell.
-fn event_between(replicas: u8, by: &[u8], verb: &[&[u8]], answer: &[&[u8]]) -> Option<Event>
-    ensures { result ≡ event_between replicas (Some
-        (by.now ∷ map (λ word. word.now) verb.now, map (λ word. word.now) answer.now)) }
-{
-    Some(Event {
-        by: replica_of(replicas, by)?,
-        verb: verb_of(verb)?,
-        answer: answer_of(answer)?,
-    })
+    let (by, rest) = split_word(line);
+    let by = replica_of(replicas, by)?;
+    let (verb, answer) = step_of(rest?)?;
+    Some(Event { by, verb, answer })
 }
 
 /// The replica that a word names, if it is one of `replicas`.
@@ -72,41 +32,120 @@ fn replica_of(replicas: u8, word: &[u8]) -> Option<u8>
     (replica < replicas).then_some(replica)
 }
 
-/// A verb and its words.
-fn verb_of(words: &[&[u8]]) -> Option<Verb>
-    ensures { result ≡ verb_of (map (λ word. word.now) words.now) }
+/// The step that follows the replica: its verb and what it found. More than half of all lines are
+/// beats, so the text is first compared with theirs.
+fn step_of(text: &[u8]) -> Option<(Verb, Answer)>
+    ensures { result ≡ step_after [] (sides (words text.now)) }
 {
-    match words {
-        [name] => verb_alone(name),
-        [name, a] => verb_of_one(name, a),
-        [name, a, b] => verb_of_two(name, a, b),
-        [name, a, b, c] => verb_of_three(name, a, b, c),
-        [name, a, b, c, d] => verb_of_four(name, a, b, c, d),
-        _ => None,
+    if is_word(text, b"beat = done") {
+        Some((Verb::Beat, Answer::Done))
+    } else {
+        let (name, rest) = split_word(text);
+        step_named(name, rest?)
     }
 }
 
-/// Whether the word is `beat`, as in most lines: a pattern is compared in place, and by `==` words
-/// that begin alike are compared in a call.
-fn is_beat(word: &[u8]) -> bool
-    ensures { result ≡ bytes_eq word.now (codes "beat") }
+/// Whether the word stands between a verb and its answer: a pattern is compared in place.
+fn is_equals(word: &[u8]) -> bool
+    ensures { result ≡ bytes_eq word.now (codes "=") }
 {
     match word {
-        b"beat" => true,
+        b"=" => true,
         _ => false,
+    }
+}
+
+/// A verb and what it found, if both are there.
+fn found(verb: Option<Verb>, text: &[u8]) -> Option<(Verb, Answer)>
+    ensures { result ≡ both verb (answer_of (words text.now)) }
+{
+    Some((verb?, answer_of(text)?))
+}
+
+/// The step of a verb with this name, from what follows the name.
+fn step_named(name: &[u8], text: &[u8]) -> Option<(Verb, Answer)>
+    ensures { result ≡ step_after (name.now ∷ []) (sides (words text.now)) }
+{
+    let (word, rest) = split_word(text);
+    let rest = rest?;
+    if is_equals(word) {
+        found(verb_alone(name), rest)
+    } else {
+        step_of_one(name, word, rest)
+    }
+}
+
+/// The step of a verb with this name and first word, from what follows them.
+fn step_of_one(name: &[u8], a: &[u8], text: &[u8]) -> Option<(Verb, Answer)>
+    ensures { result ≡ step_after (name.now ∷ a.now ∷ []) (sides (words text.now)) }
+{
+    let (word, rest) = split_word(text);
+    let rest = rest?;
+    if is_equals(word) {
+        found(verb_of_one(name, a), rest)
+    } else {
+        step_of_two(name, a, word, rest)
+    }
+}
+
+/// The step of a verb with this name and first two words, from what follows them.
+fn step_of_two(name: &[u8], a: &[u8], b: &[u8], text: &[u8]) -> Option<(Verb, Answer)>
+    ensures { result ≡ step_after (name.now ∷ a.now ∷ b.now ∷ []) (sides (words text.now)) }
+{
+    let (word, rest) = split_word(text);
+    let rest = rest?;
+    if is_equals(word) {
+        found(verb_of_two(name, a, b), rest)
+    } else {
+        step_of_three(name, a, b, word, rest)
+    }
+}
+
+/// The step of a verb with this name and first three words, from what follows them.
+fn step_of_three(name: &[u8], a: &[u8], b: &[u8], c: &[u8], text: &[u8]) -> Option<(Verb, Answer)>
+    ensures { result
+        ≡ step_after (name.now ∷ a.now ∷ b.now ∷ c.now ∷ []) (sides (words text.now)) }
+{
+    let (word, rest) = split_word(text);
+    let rest = rest?;
+    if is_equals(word) {
+        found(verb_of_three(name, a, b, c), rest)
+    } else {
+        step_of_four(name, a, b, c, word, rest)
+    }
+}
+
+/// The step of a verb with this name and four words, from what follows them.
+fn step_of_four(
+    name: &[u8],
+    a: &[u8],
+    b: &[u8],
+    c: &[u8],
+    d: &[u8],
+    text: &[u8],
+) -> Option<(Verb, Answer)>
+    ensures { result
+        ≡ step_after (name.now ∷ a.now ∷ b.now ∷ c.now ∷ d.now ∷ []) (sides (words text.now)) }
+{
+    let (word, rest) = split_word(text);
+    let rest = rest?;
+    if is_equals(word) {
+        found(verb_of_four(name, a, b, c, d), rest)
+    } else {
+        None
     }
 }
 
 fn verb_alone(name: &[u8]) -> Option<Verb>
     ensures { result ≡ verb_alone name.now }
 {
-    if is_beat(name) {
+    if is_word(name, b"beat") {
         Some(Verb::Beat)
-    } else if name == b"close".as_slice() {
+    } else if is_word(name, b"close") {
         Some(Verb::Close)
-    } else if name == b"looktarget".as_slice() {
+    } else if is_word(name, b"looktarget") {
         Some(Verb::LookTarget)
-    } else if name == b"drain".as_slice() {
+    } else if is_word(name, b"drain") {
         Some(Verb::Drain)
     } else {
         None
@@ -116,23 +155,23 @@ fn verb_alone(name: &[u8]) -> Option<Verb>
 fn verb_of_one(name: &[u8], a: &[u8]) -> Option<Verb>
     ensures { result ≡ verb_of_one name.now a.now }
 {
-    if name == b"ask".as_slice() {
+    if is_word(name, b"ask") {
         Some(Verb::Ask(of_8(a)?))
-    } else if name == b"fence".as_slice() {
+    } else if is_word(name, b"fence") {
         Some(Verb::Fence(of_8(a)?))
-    } else if name == b"min".as_slice() {
+    } else if is_word(name, b"min") {
         Some(Verb::Min(of_8(a)?))
-    } else if name == b"fuo".as_slice() {
+    } else if is_word(name, b"fuo") {
         Some(Verb::Fuo(of_8(a)?))
-    } else if name == b"head".as_slice() {
+    } else if is_word(name, b"head") {
         Some(Verb::Head(of_8(a)?))
-    } else if name == b"readbeat".as_slice() {
+    } else if is_word(name, b"readbeat") {
         Some(Verb::ReadBeat(of_8(a)?))
-    } else if name == b"raisehead".as_slice() {
+    } else if is_word(name, b"raisehead") {
         Some(Verb::RaiseHead(of_16(a)?))
-    } else if name == b"readask".as_slice() {
+    } else if is_word(name, b"readask") {
         Some(Verb::ReadAsk(of_8(a)?))
-    } else if name == b"grant".as_slice() {
+    } else if is_word(name, b"grant") {
         Some(Verb::Grant(of_8(a)?))
     } else {
         None
@@ -142,15 +181,15 @@ fn verb_of_one(name: &[u8], a: &[u8]) -> Option<Verb>
 fn verb_of_two(name: &[u8], a: &[u8], b: &[u8]) -> Option<Verb>
     ensures { result ≡ verb_of_two name.now a.now b.now }
 {
-    if name == b"enter".as_slice() {
+    if is_word(name, b"enter") {
         Some(Verb::Enter(of_8(a)?, target_of(&[b])?))
-    } else if name == b"putmin".as_slice() {
+    } else if is_word(name, b"putmin") {
         Some(Verb::PutMin(of_8(a)?, of_32(b)?))
-    } else if name == b"look".as_slice() {
+    } else if is_word(name, b"look") {
         Some(Verb::Look(of_8(a)?, of_16(b)?))
-    } else if name == b"raisefuo".as_slice() {
+    } else if is_word(name, b"raisefuo") {
         Some(Verb::RaiseFuo(of_8(a)?, of_16(b)?))
-    } else if name == b"readrow".as_slice() {
+    } else if is_word(name, b"readrow") {
         Some(Verb::ReadRow(of_16(a)?, of_8(b)?))
     } else {
         None
@@ -160,9 +199,9 @@ fn verb_of_two(name: &[u8], a: &[u8], b: &[u8]) -> Option<Verb>
 fn verb_of_three(name: &[u8], a: &[u8], b: &[u8], c: &[u8]) -> Option<Verb>
     ensures { result ≡ verb_of_three name.now a.now b.now c.now }
 {
-    if name == b"enter".as_slice() {
+    if is_word(name, b"enter") {
         Some(Verb::Enter(of_8(a)?, target_of(&[b, c])?))
-    } else if name == b"writerow".as_slice() {
+    } else if is_word(name, b"writerow") {
         Some(Verb::WriteRow(of_16(a)?, of_8(b)?, of_64(c)?))
     } else {
         None
@@ -172,7 +211,7 @@ fn verb_of_three(name: &[u8], a: &[u8], b: &[u8], c: &[u8]) -> Option<Verb>
 fn verb_of_four(name: &[u8], a: &[u8], b: &[u8], c: &[u8], d: &[u8]) -> Option<Verb>
     ensures { result ≡ verb_of_four name.now a.now b.now c.now d.now }
 {
-    if name == b"putslot".as_slice() {
+    if is_word(name, b"putslot") {
         Some(Verb::PutSlot(of_8(a)?, of_16(b)?, of_32(c)?, of_16(d)?))
     } else {
         None
@@ -191,13 +230,13 @@ fn target_of(words: &[&[u8]]) -> Option<Target>
 }
 
 /// An answer and its words.
-fn answer_of(words: &[&[u8]]) -> Option<Answer>
-    ensures { result ≡ answer_of (map (λ word. word.now) words.now) }
+fn answer_of(text: &[u8]) -> Option<Answer>
+    ensures { result ≡ answer_of (words text.now) }
 {
-    match words {
-        [] => None,
-        [word] => answer_alone(word),
-        [name, rest @ ..] => answer_of_many(name, rest),
+    let (word, rest) = split_word(text);
+    match rest {
+        None => answer_alone(word),
+        Some(rest) => answer_of_many(word, rest),
     }
 }
 
@@ -216,40 +255,38 @@ fn answer_alone(word: &[u8]) -> Option<Answer>
 {
     if is_done(word) {
         Some(Answer::Done)
-    } else if word == b"missed".as_slice() {
+    } else if is_word(word, b"missed") {
         Some(Answer::Missed)
-    } else if word == b"entered".as_slice() {
+    } else if is_word(word, b"entered") {
         Some(Answer::Entered)
-    } else if word == b"empty".as_slice() {
+    } else if is_word(word, b"empty") {
         Some(Answer::Empty)
-    } else if word == b"past".as_slice() {
+    } else if is_word(word, b"past") {
         Some(Answer::Past)
     } else {
         Some(Answer::Number(of_64(word)?))
     }
 }
 
-fn answer_of_many(name: &[u8], words: &[&[u8]]) -> Option<Answer>
-    ensures { result ≡ answer_of_many name.now (map (λ word. word.now) words.now) }
+fn answer_of_many(name: &[u8], text: &[u8]) -> Option<Answer>
+    ensures { result ≡ answer_of_many name.now (words text.now) }
 {
-    if name == b"entry".as_slice() {
-        entry_of(words)
-    } else if name == b"fence".as_slice() {
-        Some(Answer::Seen(fence_of(words)?))
-    } else if name == b"lost".as_slice() {
-        Some(Answer::Lost(fence_of(words)?))
+    if is_word(name, b"entry") {
+        entry_of(text)
+    } else if is_word(name, b"fence") {
+        Some(Answer::Seen(fence_of(text)?))
+    } else if is_word(name, b"lost") {
+        Some(Answer::Lost(fence_of(text)?))
     } else {
         None
     }
 }
 
 /// An entry: its proposal number and its payload number.
-fn entry_of(words: &[&[u8]]) -> Option<Answer>
-    ensures { result ≡ entry_of (map (λ word. word.now) words.now) }
+fn entry_of(text: &[u8]) -> Option<Answer>
+    ensures { result ≡ entry_of (words text.now) }
 {
-    let [number, value] = words else {
-        return None;
-    };
+    let (number, value) = two_words(text)?;
     Some(Answer::Entry {
         number: of_32(number)?,
         value: of_16(value)?,
@@ -257,7 +294,15 @@ fn entry_of(words: &[&[u8]]) -> Option<Answer>
 }
 
 /// A fence: the owner, the grant, the state and what it names.
-fn fence_of(words: &[&[u8]]) -> Option<Fence>
+fn fence_of(text: &[u8]) -> Option<Fence>
+    ensures { result ≡ fence_of (words text.now) }
+{
+    let mut items = [text; MANY_WORDS];
+    let count = split_words(text, &mut items);
+    fence_of_words(&items[..count])
+}
+
+fn fence_of_words(words: &[&[u8]]) -> Option<Fence>
     ensures { result ≡ fence_of (map (λ word. word.now) words.now) }
 {
     let [owner, grant, state, named @ ..] = words else {
@@ -275,7 +320,7 @@ fn fence_of(words: &[&[u8]]) -> Option<Fence>
 fn owner_of(word: &[u8]) -> Option<Option<u8>>
     ensures { result ≡ owner_of word.now }
 {
-    if word == b"none".as_slice() {
+    if is_word(word, b"none") {
         Some(None)
     } else {
         Some(Some(of_8(word)?))
@@ -286,9 +331,9 @@ fn owner_of(word: &[u8]) -> Option<Option<u8>>
 fn state_of(word: &[u8]) -> Option<bool>
     ensures { result ≡ state_of word.now }
 {
-    if word == b"open".as_slice() {
+    if is_word(word, b"open") {
         Some(false)
-    } else if word == b"closing".as_slice() {
+    } else if is_word(word, b"closing") {
         Some(true)
     } else {
         None

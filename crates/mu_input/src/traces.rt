@@ -14,7 +14,7 @@ use crate::cause::{EVENT, NO_END};
 use crate::job::InputEnd;
 use mu_events::event;
 use mu_model::Event;
-use mu_text::LineReader;
+use mu_text::{LineReader, is_word};
 use std::alloc::Global;
 
 /// Takes the events of `replicas` replicas, up to the line `end`. Takes memory only for the events,
@@ -43,7 +43,7 @@ pub fn read_events(
         let Some(text) = lines.next() else {
             return Err(InputEnd::at(line, NO_END));
         };
-        if text == b"end".as_slice() {
+        if is_word(text, b"end") {
             return Ok(events);
         }
         let Some(event) = event(replicas, text) else {

@@ -1,13 +1,14 @@
 -- An event that neither writes nor reads a row leaves the rows as they were, and one that tells nothing what is known.
-use Rattle.std.proofs.Common.{◌≡◌, ℕ, Bool, false, List, ◌∷◌}
+use Rattle.std.proofs.Common.{◌≡◌, ◌||◌, ℕ, Bool, true, false, List, ◌∷◌, refl}
 use Rattle.std.proofs.lemmas.Bool.{true≢false}
 use Rattle.mu_model.specs.declared.config.Config.{Config}
 use Rattle.mu_model.specs.declared.event.Answer.{Answer}
 use Rattle.mu_model.specs.declared.event.Event.{Event}
 use Rattle.mu_model.specs.declared.event.Verb.{Verb}
 use Rattle.mu_model.proofs.Basics.{event_by}
-use Rattle.mu_knowledge.specs.HeldRows.{HasWords, WroteWords, is_of_row}
+use Rattle.mu_knowledge.specs.HeldRows.{HasWords, StandsForHeldRows, WroteWords, is_of_row}
 use Rattle.mu_knowledge.specs.KnownLog.{StandsForKnownLog, is_telling}
+use Rattle.mu_knowledge.specs.declared.held_rows.HeldRows.{HeldRows}
 use Rattle.mu_knowledge.specs.declared.known_log.KnownLog.{KnownLog}
 
 -- the words that r has
@@ -31,3 +32,19 @@ known_stays c r by verb answer mine state other held = record { values = held.va
 
 pub known_kept : (c : Config) (r : ℕ) (e : Event) (mine : List Event) (state : KnownLog) → is_telling e.verb ≡ false → StandsForKnownLog c r mine state → StandsForKnownLog c r (e ∷ mine) state
 known_kept c r e mine state other held = known_stays c r e.by e.verb e.answer mine state other held
+
+-- with neither, which rows are there and what is applied
+rows_stay : (c : Config) (r by : ℕ) (verb : Verb) (answer : Answer) (mine : List Event) (state : HeldRows) → is_of_row verb ≡ false → is_telling verb ≡ false → StandsForHeldRows c r mine state → StandsForHeldRows c r (event_by by verb answer ∷ mine) state
+rows_stay c r by (Verb.WriteRow j k x) answer mine state other quiet held = absurd (true≢false other)
+rows_stay c r by (Verb.ReadRow v k) answer mine state other quiet held = absurd (true≢false other)
+rows_stay c r by (Verb.Look p i) answer mine state other quiet held = absurd (true≢false quiet)
+rows_stay c r by (Verb.PutSlot p i b v) answer mine state other quiet held = absurd (true≢false quiet)
+rows_stay c r by (Verb.Fuo p) answer mine state other quiet held = absurd (true≢false quiet)
+rows_stay c r by verb answer mine state other quiet held = record { written = held.written; got = held.got; applied = held.applied }
+
+neither : (a b : Bool) → (a || b) ≡ false → (a ≡ false) × (b ≡ false)
+neither true b e = absurd (true≢false e)
+neither false b e = (refl, e)
+
+pub rows_kept : (c : Config) (r : ℕ) (e : Event) (mine : List Event) (state : HeldRows) → (is_of_row e.verb || is_telling e.verb) ≡ false → StandsForHeldRows c r mine state → StandsForHeldRows c r (e ∷ mine) state
+rows_kept c r e mine state still held = let parts = neither (is_of_row e.verb) (is_telling e.verb) still in rows_stay c r e.by e.verb e.answer mine state parts.0 parts.1 held

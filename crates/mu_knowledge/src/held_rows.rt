@@ -7,6 +7,7 @@ ghost use Rattle.mu_model.specs.Histories.{all_below};
 ghost use Rattle.mu_model.specs.Knowledge.{applied, fetched_prefix, has_entry, has_row, has_word, known, wrote, wrote_batch};
 ghost use Rattle.mu_model.specs.Parts.{IsPossible};
 ghost use Rattle.mu_knowledge.specs.HeldRows.{AreThere, HasWords, StandsForHeldRows, IsOfRows, WroteWords, is_of_row, row_named, word_place};
+ghost use Rattle.mu_knowledge.specs.KnownLog.{is_telling};
 
 use mu_model::{Config, Event, NoMemory, PAYLOADS, Verb, row_rest, stands_for_batch};
 use std::alloc::Global;
@@ -87,6 +88,17 @@ fn row_of(r: u8, verb: &Verb) -> Option<usize>
         Verb::WriteRow(row, _, _) => Some(usize::from(r) * 4096 + usize::from(row)),
         Verb::ReadRow(v, _) => Some(usize::from(v)),
         _ => None,
+    }
+}
+
+/// Whether the verb may change which rows are there, or what is known.
+fn may_change(verb: &Verb) -> bool
+    ensures { result ≡ (is_of_row verb.now || is_telling verb.now) }
+{
+    match *verb {
+        Verb::WriteRow(_, _, _) | Verb::ReadRow(_, _) => true,
+        Verb::Look(_, _) | Verb::PutSlot(_, _, _, _) | Verb::Fuo(_) => true,
+        _ => false,
     }
 }
 
@@ -212,7 +224,23 @@ impl HeldRows {
     /// Takes the next event of `r`, which it was allowed and after which it knows these values.
     /// Takes no memory. Each entry is passed once, so that a list of events costs no more than its
     /// length and the entries.
+    #[inline(always)]
     pub fn take(&mut self, config: &Config, r: u8, known_after: &[u16], event: &Event)
+        ensures { (mine : List Event) → IsConfig config.now
+            → IsPossible config.now r (event.now ∷ mine)
+            → known_after.now ≡ known config.now r (event.now ∷ mine)
+            → StandsForHeldRows config.now r mine self.old
+            → StandsForHeldRows config.now r (event.now ∷ mine) self.new }
+    {
+        if !may_change(&event.verb) {
+            return;
+        }
+        self.take_change(config, r, known_after, event);
+    }
+
+    /// Takes an event that may change which rows are there, or what is known.
+    #[inline(never)]
+    fn take_change(&mut self, config: &Config, r: u8, known_after: &[u16], event: &Event)
         ensures { (mine : List Event) → IsConfig config.now
             → IsPossible config.now r (event.now ∷ mine)
             → known_after.now ≡ known config.now r (event.now ∷ mine)

@@ -20,15 +20,16 @@ value_of-push (first ∷ digits) digit =
 pub value_of-take : (word : List ℕ) (i : ℕ) → i < length word → value_of (take (i + 1) word) ≡ value_of (take i word) * 10 + (get_or word i 0 - ZERO)
 value_of-take word i below = ap value_of (grind (arith, common_steps, take-suc word i 0 below)) ∙ value_of-push (take i word) (get_or word i 0)
 
--- a number of at most nineteen digits is below ten to the nineteenth
-pub small : (i value : ℕ) → value + 1 ≤ 10 ^ i → i ≤ 19 → value < 10000000000000000000
+-- a number of at most eighteen digits is below ten to the eighteenth
+pub small : (i value : ℕ) → value + 1 ≤ 10 ^ i → i ≤ 18 → value < 1000000000000000000
 small i value below few = omega (arith, pow-le-pow_right {n = 10} (lit≤ tt) few)
 
 -- a number of at most this many digits is below ten to their count
 pub below_power : (i most value : ℕ) → value + 1 ≤ 10 ^ i → i ≤ most → value < 10 ^ most
 below_power i most value below few = omega (arith, pow-le-pow_right {n = 10} (lit≤ tt) few)
 
-chosen : (b : Bool) (n value : ℕ) → Some value ≡ cond b (Some n) None → (b ≡ true) × (value ≡ n)
+-- a value that is there
+pub chosen : (b : Bool) (n value : ℕ) → Some value ≡ cond b (Some n) None → (b ≡ true) × (value ≡ n)
 chosen true n value e = (refl, cc)
 chosen false n value e = cc
 

@@ -5,3 +5,4 @@ mod FirstWords
 mod LastDigits
 mod Places
 pub mod SpelledWords
+mod Wide

@@ -11,8 +11,8 @@ mod numbers;
 
 pub use line_reader::LineReader;
 pub use line_text::{LINE_BYTES, Line};
-pub use line_words::{Words, is_alone, is_first, split_words};
-pub use lines::two_words;
+pub use line_words::{Words, is_alone, is_first, is_word, split_words};
+pub use lines::{split_word, two_words};
 pub use numbers::{limited, number, of_8, of_16, of_32, of_64};
 
 /// The byte that ends a line.

@@ -1,5 +1,6 @@
 //! The words of one line.
 ghost use Rattle.std.specs.Prelude.{◌≡◌, ◌≤◌, length, map, take};
+ghost use Rattle.std.specs.Str.{bytes_eq};
 ghost use Rattle.mu_text.specs.declared.TheConstants.{MANY_WORDS};
 ghost use Rattle.mu_text.specs.Lines.{is_alone, is_first, words};
 
@@ -64,12 +65,29 @@ pub fn split_words<'a>(line: &'a [u8], items: &mut [&'a [u8]; MANY_WORDS]) -> us
     count
 }
 
+/// Whether a word is the wanted one. Most words differ in length, so bytes are seldom compared.
+#[inline]
+pub fn is_word(word: &[u8], wanted: &[u8]) -> bool
+    ensures { result ≡ bytes_eq word.now wanted.now }
+{
+    word.len() == wanted.len() && has_bytes(word, wanted)
+}
+
+/// Whether a word has these bytes: in a call, so that no caller writes the words to memory for `==`
+/// before their lengths are compared.
+#[inline(never)]
+fn has_bytes(word: &[u8], wanted: &[u8]) -> bool
+    ensures { result ≡ bytes_eq word.now wanted.now }
+{
+    word == wanted
+}
+
 /// Whether the first word is this one.
 pub fn is_first(words: &[&[u8]], wanted: &[u8]) -> bool
     ensures { result ≡ is_first wanted.now (map (λ word. word.now) words.now) }
 {
     match words {
-        [word, ..] => *word == wanted,
+        [word, ..] => is_word(word, wanted),
         [] => false,
     }
 }
@@ -79,7 +97,7 @@ pub fn is_alone(words: &[&[u8]], wanted: &[u8]) -> bool
     ensures { result ≡ is_alone wanted.now (map (λ word. word.now) words.now) }
 {
     match words {
-        [word] => *word == wanted,
+        [word] => is_word(word, wanted),
         _ => false,
     }
 }

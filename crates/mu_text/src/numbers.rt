@@ -1,7 +1,7 @@
 //! Numbers in decimal.
-ghost use Rattle.std.specs.Prelude.{◌≡◌, ◌<◌, ◌≤◌, ◌-◌, ◌^◌, if◌then◌else◌, IfSome};
+ghost use Rattle.std.specs.Prelude.{◌≡◌, ◌<◌, ◌≤◌, ◌-◌, ◌^◌, if◌then◌else◌, length, IfSome};
 ghost use Rattle.mu_text.specs.Numbers.{is_decimal, is_digit, value_of};
-ghost use Rattle.mu_text.specs.Numbers.{number_of, wide_number_of, within};
+ghost use Rattle.mu_text.specs.Numbers.{number_of, within};
 ghost use Rattle.mu_text.specs.Numbers.{of_8, of_16, of_32, of_64};
 
 use crate::{MOST_DIGITS, MOST_WIDE_DIGITS, NINE, ZERO};
@@ -18,20 +18,36 @@ fn digit(byte: u8) -> Option<u8>
     }
 }
 
-/// The value of one to `most` digits, without a leading zero.
-fn decimal(word: &[u8], most: usize) -> Option<u128>
-    requires { most ≤ MOST_WIDE_DIGITS }
+/// The value of one to `most` digits, without a leading zero: of at most 19, whose values have 64
+/// bits.
+fn decimal(word: &[u8], most: usize) -> Option<u64>
+    requires { most < MOST_WIDE_DIGITS }
     ensures exact { result ≡ (if is_decimal most word.now then Some (value_of word.now) else None) }
     ensures small { IfSome result (λ value. value < 10 ^ most) }
 {
     if word.is_empty() || word.len() > most || (word.len() > 1 && word[0] == ZERO) {
         return None;
     }
-    let mut value: u128 = 0;
+    let mut value: u64 = 0;
     for &byte in word {
-        value = value * 10 + u128::from(digit(byte)?);
+        value = value * 10 + u64::from(digit(byte)?);
     }
     Some(value)
+}
+
+/// The number that a word of twenty digits spells, if it has 64 bits.
+fn of_twenty(word: &[u8]) -> Option<u64>
+    requires { length word.now ≡ MOST_WIDE_DIGITS }
+    ensures { result ≡ of_64 word.now }
+{
+    let first = decimal(&word[..MOST_WIDE_DIGITS - 1], MOST_WIDE_DIGITS - 1)?;
+    let last = digit(word[MOST_WIDE_DIGITS - 1])?;
+    let value = u128::from(first) * 10 + u128::from(last);
+    if value <= u128::from(u64::MAX) {
+        Some(value as u64)
+    } else {
+        None
+    }
 }
 
 /// The number that a word spells: one to seven digits, without a leading zero.
@@ -55,37 +71,37 @@ pub fn limited(word: &[u8], low: u32, high: u32) -> Option<u32>
     }
 }
 
-/// The number that a word of an event spells: one to twenty digits, without a leading zero.
-pub fn wide_number(word: &[u8]) -> Option<u128>
-    ensures { result ≡ wide_number_of word.now }
-{
-    decimal(word, MOST_WIDE_DIGITS)
-}
-
 /// The number of 8 bits that a word of an event spells.
 pub fn of_8(word: &[u8]) -> Option<u8>
     ensures { result ≡ of_8 word.now }
 {
-    u8::try_from(wide_number(word)?).ok()
+    u8::try_from(of_64(word)?).ok()
 }
 
 /// The number of 16 bits that a word of an event spells.
 pub fn of_16(word: &[u8]) -> Option<u16>
     ensures { result ≡ of_16 word.now }
 {
-    u16::try_from(wide_number(word)?).ok()
+    u16::try_from(of_64(word)?).ok()
 }
 
 /// The number of 32 bits that a word of an event spells.
 pub fn of_32(word: &[u8]) -> Option<u32>
     ensures { result ≡ of_32 word.now }
 {
-    u32::try_from(wide_number(word)?).ok()
+    u32::try_from(of_64(word)?).ok()
 }
 
-/// The number of 64 bits that a word of an event spells.
+/// The number of 64 bits that a word of an event spells: one to twenty digits, without a leading
+/// zero.
 pub fn of_64(word: &[u8]) -> Option<u64>
     ensures { result ≡ of_64 word.now }
 {
-    u64::try_from(wide_number(word)?).ok()
+    if let [byte] = word {
+        Some(u64::from(digit(*byte)?))
+    } else if word.len() == MOST_WIDE_DIGITS {
+        of_twenty(word)
+    } else {
+        decimal(word, MOST_WIDE_DIGITS - 1)
+    }
 }

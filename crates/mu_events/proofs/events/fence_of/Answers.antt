@@ -1,6 +1,8 @@
-use Rattle.std.proofs.Common.{sym}
-use Rattle.mu_events.proofs.EventWords.{fence_of-few}
+use Rattle.std.proofs.Common.{◌∙◌, ap}
+use Rattle.mu_events.specs.Events.{fence_of}
+use Rattle.mu_events.proofs.EventWords.{fence_of-first}
+use Rattle.mu_text.specs.Lines.{words}
 use Rattle.mu_events.proofs.events.fence_of.Goals as goal
 
-pub returns-in_default : goal.returns-in_default
-returns-in_default c = sym (fence_of-few c.args.words.now c.in_default.len_below)
+pub returns : goal.returns
+returns c = c.fence_of_words.ensures ∙ ap fence_of c.split_words-count.ensures.words ∙ fence_of-first (words c.args.text.now)

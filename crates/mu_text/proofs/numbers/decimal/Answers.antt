@@ -7,12 +7,12 @@ use Rattle.mu_text.proofs.numbers.decimal.Goals as goal
 
 pub overflow_mul-value : goal.overflow_mul-value
 overflow_mul-value c =
-    let below : c.loop-byte.value < 10000000000000000000 = small c.loop-byte.byte-index c.loop-byte.value c.loop-byte.invariant.small (omega arith) in
+    let below : c.loop-byte.value < 1000000000000000000 = small c.loop-byte.byte-index c.loop-byte.value c.loop-byte.invariant.small (omega arith) in
     omega arith
 
 pub overflow_add-value : goal.overflow_add-value
 overflow_add-value c =
-    let below : c.loop-byte.value < 10000000000000000000 = small c.loop-byte.byte-index c.loop-byte.value c.loop-byte.invariant.small (omega arith) in
+    let below : c.loop-byte.value < 1000000000000000000 = small c.loop-byte.byte-index c.loop-byte.value c.loop-byte.invariant.small (omega arith) in
     omega (arith, c.in_ok-digit.ensures.small)
 
 pub loop-byte-preserved : goal.loop-byte-preserved
