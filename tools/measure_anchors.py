@@ -5,8 +5,9 @@
 
 The plain programs are in tools/anchors, and need rustc. plain_mu is the same protocol without proofs: it has
 to write the same bytes as the built program (tools/second_program.py compares them). `keep` is its replay
-with all events kept in a list; `read` reads a trace, and judges nothing. In locked_log the replicas share a log and their stores under one lock;
-in rings a leader sends each command through a ring to each follower, and waits for a majority.
+with all events kept in a list; `read` reads a trace, and judges nothing. In locked_log the replicas share a
+log and their stores under one lock; in rings a leader sends each command through a ring to each follower,
+and waits for a majority.
 
 Instructions are those of the whole process for each event, as `valgrind --tool=callgrind` counts them,
 which doesn't vary with the load. Times are the least and the middle of the runs, of whole processes, which
@@ -115,7 +116,7 @@ def check(paths, program, count):
     print("\ncheck: mu, plain_mu")
     rows = [("check", [("mu", "check"), ("plain", "check")], True)]
     instructions_table(program, paths["plain_mu"], rows, count)
-    print("\nreading alone: mu of a trace with one line more, which is no event, so that nothing is judged; plain_mu read")
+    print("\nreading alone: mu of a trace with one line more, which is no event, so that none is judged; plain_mu read")
     instructions_table(program, paths["plain_mu"], [("refused", [("mu", "check"), ("plain", "read")], False)], count)
 
 
