@@ -3,10 +3,11 @@
 
     tools/second_program.py [--program out/bin/mu] [--jobs 300] [--seed 1]
 
-plain_mu has to print what the stored replays and traces want, and the jobs of tools/bound_jobs.py and
-tools/stop_jobs.py have to go well with it. Then both programs replay and trace random jobs of both versions,
-with stops and pauses, some of whose budgets or rings are too small. It needs rustc, and a built program for
-the random jobs.
+plain_mu has to print what the stored replays, traces and verdicts want, and the jobs of tools/bound_jobs.py
+and tools/stop_jobs.py have to go well with it. Then both programs replay and trace random jobs of both
+versions, with stops and pauses, some of whose budgets or rings are too small; and they judge each of these
+traces, whole and with a line dropped, repeated, moved or changed. It needs rustc, and a built program for the
+random jobs.
 """
 import argparse
 import os
@@ -19,12 +20,16 @@ import tempfile
 import run_cases
 import trying
 from bound_jobs import bound_cases
+from judged_table import judged
 from programs import TOP
 from stop_jobs import stop_cases
 
 ANCHORS = os.path.join(TOP, "tools", "anchors")
 SOURCES = {"plain_mu": "plain_mu/main.rs", "locked_log": "locked_log.rs", "rings": "rings.rs"}
 STORED = ("replay", "trace", "more.table")
+REFUSED = 2
+# How often each random trace is broken.
+BROKEN = 6
 
 
 def build(room, name):
@@ -70,22 +75,64 @@ def random_job(chance):
     return "\n".join([*lines, *(["script", *told] if told else []), "end", ""]).encode()
 
 
+def broken(chance, trace):
+    """The trace with one of its events dropped, repeated, moved behind the next ones, or changed."""
+    lines = trace.decode().split("\n")
+    first = lines.index("end") + 1
+    if len(lines) - first < 4:
+        return trace
+    at = chance.randrange(first, len(lines) - 3)
+    line = lines.pop(at)
+    kind = chance.choice(("dropped", "repeated", "moved", "changed"))
+    if kind == "repeated":
+        lines[at:at] = [line, line]
+    elif kind == "moved":
+        lines.insert(min(at + chance.randint(1, 9), len(lines) - 2), line)
+    elif kind == "changed":
+        words = line.split(" ")
+        numbers = [place for place, word in enumerate(words) if word.isdigit()]
+        place = chance.choice(numbers)
+        words[place] = str(max(0, int(words[place]) + chance.choice((-1, 1))))
+        lines.insert(at, " ".join(words))
+    return "\n".join(lines).encode()
+
+
 def printed(program, word, given):
-    """What a program prints, and its status."""
-    done = subprocess.run([program, word], input=given, stdout=subprocess.PIPE, check=False)
-    return done.stdout, done.returncode
+    """What a program prints, and its status. What isn't in the grammar is told by the status alone."""
+    done = subprocess.run([program, word], input=given, stdout=subprocess.PIPE, stderr=subprocess.DEVNULL, check=False)
+    return (b"" if done.returncode == REFUSED else done.stdout), done.returncode
 
 
-def compare(program, plain, jobs, seed):
-    """How many random jobs both programs tell alike; any other one is printed."""
+def are_same(programs, chance, given):
+    """Whether both programs print the same of a job, and of its trace, whole and broken."""
+    first, second = programs
+    trace, status = printed(first, "trace", given)
+    lists = [trace, *(broken(chance, trace) for _ in range(BROKEN))]
+    return (printed(second, "trace", given) == (trace, status)
+            and printed(first, "replay", given) == printed(second, "replay", given)
+            and all(printed(first, "check", events) == printed(second, "check", events) for events in lists))
+
+
+def compare(programs, jobs, seed):
+    """Of how many random jobs both programs tell the same; any other one is printed."""
     chance, same = random.Random(seed), 0
     for _ in range(jobs):
         given = random_job(chance)
-        is_same = all(printed(program, word, given) == printed(plain, word, given) for word in ("replay", "trace"))
+        is_same = are_same(programs, chance, given)
         if not is_same:
             print(f"not the same of this job:\n{given.decode()}")
         same += is_same
     return same
+
+
+def stored_cases():
+    """The stored cases that plain_mu can run, and the judged traces."""
+    cases = [case for place in STORED for case in run_cases.cases_at(os.path.join(TOP, "cases", place))]
+    for name, trace, line in judged():
+        if line.startswith((b"legal", b"illegal")):
+            wanted = line.rstrip(b"\n") + b"\n"
+            cases.append(trying.Case(name, ["check"], trace, wanted, run_cases.wanted_status(wanted)))
+    return [case for case in cases if case.words[0] in ("replay", "trace", "check")]
 
 
 def main():
@@ -94,18 +141,16 @@ def main():
     parser.add_argument("--jobs", type=int, default=300)
     parser.add_argument("--seed", type=int, default=1)
     given = parser.parse_args()
-    stored = [case for place in STORED for case in run_cases.cases_at(os.path.join(TOP, "cases", place))]
-    stored = [case for case in stored if case.words[0] in ("replay", "trace")]
     with tempfile.TemporaryDirectory() as room:
         plain, failed = build(room, "plain_mu"), 0
-        for name, cases in (("stored", stored), ("at a bound", [*bound_cases(), *stop_cases()])):
+        for name, cases in (("stored", stored_cases()), ("at a bound", [*bound_cases(), *stop_cases()])):
             wrong = trying.troubles(cases, trying.run_cases(plain, cases))
             failed += len(wrong)
             print("\n".join([*wrong, f"{name}: {len(cases) - len(wrong)} passed, {len(wrong)} failed"]), flush=True)
         if given.jobs:
-            same = compare(given.program, plain, given.jobs, given.seed)
+            same = compare((given.program, plain), given.jobs, given.seed)
             failed += given.jobs - same
-            print(f"random: {same} of {given.jobs} jobs have the same report and the same trace")
+            print(f"random: {same} of {given.jobs} jobs have the same report, trace and {1 + BROKEN} verdicts")
     return 1 if failed else 0
 
 

@@ -72,6 +72,11 @@ impl<'a> Known<'a> {
         }
     }
 
+    /// The first row of a client that isn't known; the one after its last if all are.
+    pub fn next_row(&self, client: u8) -> u16 {
+        self.next_rows[usize::from(client)]
+    }
+
     /// The first row of the batch to offer next: of the first client with one, from the given one on
     /// and round.
     pub fn offer(&self, from: u16) -> Option<u16> {

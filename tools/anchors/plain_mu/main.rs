@@ -7,13 +7,17 @@
 //!     plain_mu run < JOB        the report of a run on threads
 //!     plain_mu read < TRACE     how many events a trace has; nothing is judged
 //!     plain_mu copy < TRACE     the trace as it was read
+//!     plain_mu check < TRACE    whether each event was allowed and found what it had to find
 mod host;
 mod job;
+mod judge;
 mod known;
 mod leader;
+mod part;
 mod place;
 mod port;
 mod reader;
+mod regions;
 mod replay;
 mod replica;
 mod report;
@@ -33,14 +37,13 @@ const WRITE_FAULT: u8 = 5;
 
 /// Reads and tells: the status.
 fn answer(command: &str, text: &str, out: &mut Vec<u8>) -> u8 {
-    if matches!(command, "read" | "copy") {
+    if matches!(command, "read" | "copy" | "check") {
         let Some((job, job_text, events)) = reader::read(text) else { return REFUSED };
-        if command == "copy" {
-            report::trace(out, &job, job_text, &events);
-        } else {
-            out.extend(format!("read {}\n", events.len()).bytes());
-        }
-        return 0;
+        return match command {
+            "check" => report::verdict(out, events.len(), &judge::judge(&job, &events)),
+            "copy" => report::trace(out, &job, job_text, &events),
+            _ => report::count(out, events.len()),
+        };
     }
     match job::read(text) {
         Some(job) => run(command, text, &job, out),
@@ -73,7 +76,7 @@ fn main() -> ExitCode {
         Err(_) => READ_FAULT,
     };
     match status {
-        USAGE => eprintln!("usage: plain_mu replay | keep | trace | run | read | copy"),
+        USAGE => eprintln!("usage: plain_mu replay | keep | trace | run | read | copy | check"),
         REFUSED => eprintln!("the input isn't what the command reads"),
         READ_FAULT => eprintln!("the input can't be read as text"),
         _ => {}

@@ -28,7 +28,7 @@ pub enum Verb {
 }
 
 /// An answer; fences are told as their words.
-#[derive(Clone, Copy)]
+#[derive(Clone, Copy, PartialEq)]
 pub enum Answer {
     Done,
     Missed,

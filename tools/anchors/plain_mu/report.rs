@@ -1,5 +1,6 @@
 //! The report of a run, and its trace.
 use crate::job::Job;
+use crate::judge::Verdict;
 use crate::known::mark_of;
 use crate::port::{Answer, Event, Verb};
 use crate::replay::Result;
@@ -84,8 +85,31 @@ fn replies(out: &mut Vec<u8>, job: &Job, results: &[Result]) {
     }
 }
 
-/// Writes the job as it was given, and the events.
-pub fn trace(out: &mut Vec<u8>, job: &Job, text: &str, events: &[Event]) {
+/// Tells how many events were read: status 0.
+pub fn count(out: &mut Vec<u8>, events: usize) -> u8 {
+    tell!(out, "read {events}\n");
+    0
+}
+
+/// Writes a verdict on so many events: status 0 if they are legal, else 7.
+pub fn verdict(out: &mut Vec<u8>, events: usize, verdict: &Verdict) -> u8 {
+    match *verdict {
+        Verdict::Legal => {
+            tell!(out, "legal {events}\n");
+            return 0;
+        }
+        Verdict::NotAllowed { index } => tell!(out, "illegal {index} not allowed\n"),
+        Verdict::Expected { index, answer: expected } => {
+            tell!(out, "illegal {index} expected ");
+            answer(out, expected);
+            out.push(b'\n');
+        }
+    }
+    7
+}
+
+/// Writes the job as it was given, and the events: status 0.
+pub fn trace(out: &mut Vec<u8>, job: &Job, text: &str, events: &[Event]) -> u8 {
     job_lines(out, job, text);
     for event in events {
         number(out, event.by.into());
@@ -96,6 +120,7 @@ pub fn trace(out: &mut Vec<u8>, job: &Job, text: &str, events: &[Event]) {
         out.push(b'\n');
     }
     tell!(out, "end\n");
+    0
 }
 
 /// Writes a number: by itself, since `write!` would be most of what a trace costs.
