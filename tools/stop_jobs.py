@@ -19,7 +19,8 @@ Each budget is exactly the bound of docs/ALIVE.md for leaders that stop. The fam
   second and the third family;
 * in version 2 with a ring of 8 and more commands than that: replica 0 of three stops at each fourth of 0 to
   400 steps, leaders and hosts as above, and followers. Each has to have all commands at the bound for that,
-  and each other replica has to finish at the other one.
+  and each other replica has to finish at the other one;
+* the longest such jobs that the greatest budget is enough for.
 
 tools/bound_jobs.py reckons the other bounds, and the reports are judged as it does.
 """
@@ -43,6 +44,8 @@ FINISHED_COMMANDS = (2, 30)
 RING = 8
 # More commands than the least ring has places.
 COMMANDS_AROUND = 12
+# As many commands as the greatest budget is enough for, with a ring of 8 and these stops.
+LONGEST_AROUND = ((3, {0: 100}, 166), (3, {2: 100}, 166), (5, {0: 100, 1: 1_200}, 124))
 
 
 def worked_jobs(bound):
@@ -111,19 +114,14 @@ def finishing_after(replicas, batch, positions, least):
 
 
 def steps_in_small_rings(replicas, batch, positions, least):
-    """In version 2, in any ring, from the last stop of any replica until `least` knows all."""
+    """In version 2, in any ring, from the last stop of any replica until `least` has every row."""
     limit = 13 * replicas + 8 + 12 * batch
     paid = 6 * replicas + 8 * (replicas + 1) * positions
     gain = 2 * cycle(replicas) + 2
     opening = 3 * (34 * replicas + 2) + (least + 1) * 2 * cycle(replicas) + 2 + 2 * (replicas + 2)
-    entry = 8 * limit + 12 + gain + cycle(replicas) + 2
-    gains = replicas * (batch + 1) * positions + 1
-    return 15 * cycle(replicas) + opening + 2 * (limit + paid) + positions * entry + gains * gain + 8 * paid
-
-
-def all_in_small_rings(replicas, batch, positions, least):
-    """And until it has every row."""
-    return steps_in_small_rings(replicas, batch, positions, least) + (batch * positions + 1) * 2 * cycle(replicas)
+    entry = 4 * limit + gain + cycle(replicas) + 2
+    gains = (batch + 1) * positions + 1
+    return 15 * cycle(replicas) + opening + positions * entry + gains * gain + 4 * paid
 
 
 def finishing_in_small_rings(replicas, batch, positions, least):
@@ -212,9 +210,20 @@ def small_rings(bound, every):
             yield f"{name}, ring {RING}", text
 
 
+def longest_in_small_rings():
+    """The longest jobs of version 2 with one command in a batch and a ring of 8, at the bound for all commands."""
+    for replicas, stops, commands in LONGEST_AROUND:
+        least = next(q for q in range(replicas) if q not in stops)
+        budget = max(stops.values()) + steps_in_small_rings(replicas, 1, commands + replicas, least)
+        name, text = short_job(2, replicas, stops, commands, 1, budget, RING)
+        yield f"{name}, {commands} commands, ring {RING}", text
+
+
 def stop_cases():
     """A case for each job."""
-    for name, text in small_rings(all_in_small_rings, 4):
+    for name, text in longest_in_small_rings():
+        yield BoundCase(name, ["replay"], text.encode(), None, 0)
+    for name, text in small_rings(steps_in_small_rings, 4):
         yield BoundCase(name, ["replay"], text.encode(), None, 0)
     for name, text in small_rings(finishing_in_small_rings, 8):
         yield FinishCase(f"each finishes: {name}", ["replay"], text.encode(), None, 0)

@@ -253,13 +253,13 @@ landing_joins a p e past same lands =
     go (Some x) = refl
 
 -- a FUO that is read above i
-above_read : (a p i by old : ℕ) (verb : Verb) (answer : Answer) → is_fuo_above a p i (event_by by verb answer) ≡ true → i ≤ max_with (fuo_read_or_raised a p by verb answer) old
+above_read : (a p i by old : ℕ) (verb : Verb) (answer : Answer) → is_fuo_above a p i (event_by by verb answer) ≡ true → i < max_with (fuo_read_or_raised a p by verb answer) old
 above_read a p i by old (Verb.Fuo q) (Answer.Number x) is = go ((by == a) && (q == p)) is
   where
-    go : (t : Bool) → (not (is_at_most i (cond t (Some x) None)) && is_some (cond t (Some x) None)) ≡ true → i ≤ max_with (cond t (Some x) None) old
+    go : (t : Bool) → (not (is_at_most i (cond t (Some x) None)) && is_some (cond t (Some x) None)) ≡ true → i < max_with (cond t (Some x) None) old
     go true is = high (nat_le x i) refl (and_parts (not (nat_le x i)) true is).0
       where
-        high : (u : Bool) → nat_le x i ≡ u → not u ≡ true → i ≤ max_with (Some x) old
+        high : (u : Bool) → nat_le x i ≡ u → not u ≡ true → i < max_with (Some x) old
         high true low is = absurd (true≢false (sym is))
         high false low is = let l = leb-false x i low in omega (arith, l)
     go false is = absurd (true≢false (sym is))
@@ -416,7 +416,7 @@ joins_up c a p l window base good leads granted knows long =
     stayed : stays a first.newer ≡ true
     stayed = stays_newer a first.newer first.rest (subst (λ z. stays a z ≡ true) first.is granted.same)
 
-pub ahead_covers : (c : Config) (a p l : ℕ) (now : List Event) → Ahead c a p l now → l ≤ greatest (λ e. fuo_read_or_raised a p e.by e.verb e.answer) now
+pub ahead_covers : (c : Config) (a p l : ℕ) (now : List Event) → Ahead c a p l now → l < greatest (λ e. fuo_read_or_raised a p e.by e.verb e.answer) now
 ahead_covers c a p l now k =
     let high = above_read a p (length (known c a k.older)) k.event.by (greatest (λ f. fuo_read_or_raised a p f.by f.verb f.answer) k.older) k.event.verb k.event.answer k.above in
     let along = greatest_along (λ f. fuo_read_or_raised a p f.by f.verb f.answer) k.newer (k.event ∷ k.older) in

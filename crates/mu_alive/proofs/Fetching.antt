@@ -43,7 +43,7 @@ word_on r u k e past is = go (u / 4096 == r) (wrote r (u % 4096) k past) refl (h
     go true false hw false hx is = absurd (true≢false (sym is))
     go false w hw false hx is = absurd (true≢false (sym is))
 
-row_on : (r u : ℕ) (e : Event) (past : List Event) → has_row r u past ≡ true → has_row r u (e ∷ past) ≡ true
+pub row_on : (r u : ℕ) (e : Event) (past : List Event) → has_row r u past ≡ true → has_row r u (e ∷ past) ≡ true
 row_on r u e past is = each_all 12 (λ k. has_word r u k (e ∷ past)) (λ k low. word_on r u k e past (all_at 12 (λ k. has_word r u k past) is k low))
 
 entry_on : (c : Config) (r v : ℕ) (e : Event) (past : List Event) → has_entry c r v past ≡ true → has_entry c r v (e ∷ past) ≡ true
@@ -105,18 +105,18 @@ few_rows c r past (v ∷ vs) good =
         omega (arith, most, rests)
     few false other = omega arith
 
-more_of_entry : (c : Config) (r : ℕ) (e : Event) (past : List Event) (v : ℕ) → rows_of_entry c r past v ≤ rows_of_entry c r (e ∷ past) v
+pub more_of_entry : (c : Config) (r : ℕ) (e : Event) (past : List Event) (v : ℕ) → rows_of_entry c r past v ≤ rows_of_entry c r (e ∷ past) v
 more_of_entry c r e past v = go (is_batch c v)
   where
     go : (t : Bool) → cond t (count_below (rest_of c (v % 4096) + 1) (λ x. has_row r (v + x) past)) 0 ≤ cond t (count_below (rest_of c (v % 4096) + 1) (λ x. has_row r (v + x) (e ∷ past))) 0
     go true = count_more (rest_of c (v % 4096) + 1) (λ x. has_row r (v + x) past) (λ x. has_row r (v + x) (e ∷ past)) (λ x low is. row_on r (v + x) e past is)
     go false = omega arith
 
-more_got : (c : Config) (r : ℕ) (e : Event) (past : List Event) (values : List ℕ) → rows_got c r past values ≤ rows_got c r (e ∷ past) values
+pub more_got : (c : Config) (r : ℕ) (e : Event) (past : List Event) (values : List ℕ) → rows_got c r past values ≤ rows_got c r (e ∷ past) values
 more_got c r e past [] = omega arith
 more_got c r e past (v ∷ vs) = let ih = more_got c r e past vs in let one = more_of_entry c r e past v in omega (arith, ih, one)
 
-got_both : (c : Config) (r : ℕ) (past : List Event) (xs ys : List ℕ) → rows_got c r past xs ≤ rows_got c r past (xs ++ ys)
+pub got_both : (c : Config) (r : ℕ) (past : List Event) (xs ys : List ℕ) → rows_got c r past xs ≤ rows_got c r past (xs ++ ys)
 got_both c r past [] ys = omega arith
 got_both c r past (x ∷ xs) ys = let ih = got_both c r past xs ys in omega (arith, ih)
 
@@ -138,7 +138,7 @@ got_stays c r (e ∷ newer) older =
     omega (arith, ih, here, on)
 
 -- a row that is completed is one more
-one_more : (c : Config) (r u : ℕ) (e : Event) (past : List Event) (values : List ℕ) → is_row_of c u values ≡ true → has_row r u past ≡ false → has_row r u (e ∷ past) ≡ true → rows_got c r past values + 1 ≤ rows_got c r (e ∷ past) values
+pub one_more : (c : Config) (r u : ℕ) (e : Event) (past : List Event) (values : List ℕ) → is_row_of c u values ≡ true → has_row r u past ≡ false → has_row r u (e ∷ past) ≡ true → rows_got c r past values + 1 ≤ rows_got c r (e ∷ past) values
 one_more c r u e past [] is lacks has_it = absurd (true≢false (sym is))
 one_more c r u e past (v ∷ vs) is lacks has_it = go (is_batch c v) refl (nat_le v u) refl (nat_le u (v + rest_of c (v % 4096))) refl is (one_more c r u e past vs)
   where
@@ -213,7 +213,7 @@ fetched c r whole top window base good possible fetches is long = elim (cases_lt
         omega (arith, few, same, more, less)))
 
 -- a front as long as what the list begins with begins so too
-front_begins : (test : ℕ → Bool) (xs ys : List ℕ) → length xs ≤ length (front test (xs ++ ys)) → IsPrefixOf xs (front test (xs ++ ys))
+pub front_begins : (test : ℕ → Bool) (xs ys : List ℕ) → length xs ≤ length (front test (xs ++ ys)) → IsPrefixOf xs (front test (xs ++ ys))
 front_begins test [] ys long = (front test ys, refl)
 front_begins test (x ∷ xs) ys long = go (test x) long (front_begins test xs ys)
   where

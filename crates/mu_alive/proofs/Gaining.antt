@@ -58,7 +58,7 @@ gain_some c r (e ∷ window) older some = go (gains c r (window ++ older) e) ref
     go false is some ih = let more = ih some in let stays = gain_stays c r (e ∷ []) (window ++ older) in omega (arith, more, stays)
 
 -- who has all rows of an entry has as many as anybody
-full_count : (n : ℕ) (f g : ℕ → Bool) → all_below n f ≡ true → count_below n g ≤ count_below n f
+pub full_count : (n : ℕ) (f g : ℕ → Bool) → all_below n f ≡ true → count_below n g ≤ count_below n f
 full_count zero f g all = omega arith
 full_count (suc n) f g all =
     let both = and_parts (f n) (all_below n f) all in
@@ -77,7 +77,7 @@ full_rows c q r v theirs mine is = go (is_batch c v) is
     go false is = omega arith
 
 -- the same over a list that the entries that r applied begin with
-all_rows : (c : Config) (q r : ℕ) (theirs mine : List Event) (xs ys : List ℕ) → length xs ≤ length (front (λ v. has_entry c r v mine) ys) → ((i v w : ℕ) → slice_get xs i ≡ Some v → slice_get ys i ≡ Some w → v ≡ w)
+pub all_rows : (c : Config) (q r : ℕ) (theirs mine : List Event) (xs ys : List ℕ) → length xs ≤ length (front (λ v. has_entry c r v mine) ys) → ((i v w : ℕ) → slice_get xs i ≡ Some v → slice_get ys i ≡ Some w → v ≡ w)
     → length xs + rows_got c q theirs xs ≤ length ys + rows_got c r mine ys
 all_rows c q r theirs mine [] ys long agree = omega arith
 all_rows c q r theirs mine (x ∷ xs) [] long agree = absurd (omega (arith, long))

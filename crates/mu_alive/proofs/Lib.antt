@@ -6,13 +6,16 @@ mod Calm
 mod Catching
 mod CatchingUp
 pub mod Cutting
+mod Ending
 pub mod Enough
 pub mod Failing
 pub mod Fetching
 pub mod Finishing
 mod Following
 mod Gaining
+mod GainingUpTo
 mod Granting
+mod Joining
 mod KnowsMost
 pub mod Lagging
 mod LastNoting
@@ -32,7 +35,7 @@ mod Started
 mod Steady
 mod Stopped
 pub mod Stopping
-mod Summing
+mod Ticking
 pub mod TurnFences
 pub mod TurnGrants
 mod TurnNumbers

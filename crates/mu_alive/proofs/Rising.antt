@@ -125,7 +125,7 @@ pub lacking_on : (c : Config) (live : ℕ → Bool) (a : ℕ) (past : List Event
 lacking_on c live a past l = record { legal = l.lone.legal; near = l.lone.near; keep = l.keep }
 
 -- how many steps the others take meanwhile
-near_steps : (c : Config) (live : ℕ → Bool) (a r n : ℕ) (newer older : List Event) → GoOn c live a (newer ++ older) → r < c.replicas → live r ≡ true → n + 2 ≤ length (part a newer) → n ≤ length (part r newer)
+pub near_steps : (c : Config) (live : ℕ → Bool) (a r n : ℕ) (newer older : List Event) → GoOn c live a (newer ++ older) → r < c.replicas → live r ≡ true → n + 2 ≤ length (part a newer) → n ≤ length (part r newer)
 near_steps c live a r n newer older l low lives long =
     let late = (last_moment (IsNear c live a) (newer ++ older) l.near r low lives).1 in
     let early = (last_moment (IsNear c live a) older (moments_before (IsNear c live a) newer older l.near) r low lives).0 in

@@ -20,16 +20,15 @@ use Rattle.mu_model.proofs.Parts.{filter-append, part_is_possible}
 use Rattle.mu_model.proofs.Scans.{each_all}
 use Rattle.mu_pace.specs.Blocking.{can_be_marked, is_blocking}
 use Rattle.mu_pace.specs.Counters.{AtEachMoment, AtEachStep}
-use Rattle.mu_pace.proofs.Counting.{moments_before}
-use Rattle.mu_alive.specs.Bringing.{LeadsOn}
+use Rattle.mu_pace.proofs.Counting.{moments_before, steps_before}
 use Rattle.mu_alive.specs.Enough.{asking_steps}
 use Rattle.mu_alive.specs.Last.{LeadsLast, last_granting_steps}
-use Rattle.mu_alive.specs.Stopping.{HoldsFailed, IsUnblocked}
+use Rattle.mu_alive.specs.Stopping.{HoldsFailed, IsUnblocked, ReadsInOrder}
 use Rattle.mu_alive.proofs.Enough.{IsFine, Leads, fine_moments}
 use Rattle.mu_alive.proofs.Finishing.{keep_before}
 use Rattle.mu_alive.proofs.LastRaising.{last_started, number_named}
 use Rattle.mu_alive.proofs.Lasting.{last_before, last_leads}
-use Rattle.mu_alive.proofs.Rising.{GoOn, lacks_older, reserve_fits}
+use Rattle.mu_alive.proofs.Rising.{GoOn, reserve_fits}
 use Rattle.mu_alive.proofs.Started.{Started}
 use Rattle.mu_alive.proofs.Steady.{Steady, steady_steps}
 use Rattle.mu_alive.proofs.TurnFences.{lead_on_moments}
@@ -71,7 +70,8 @@ none_blocks c live a start k past e good two legal failed late exact heads = ap 
 pub unblocked_before : (c : Config) (live : ℕ → Bool) (a start : ℕ) (newer older : List Event) → IsUnblocked c live a start (newer ++ older) → IsUnblocked c live a start older
 unblocked_before c live a start newer older u = record {
   opens = record { asks = λ p window o low s. u.opens.asks p window o low (more window o s); numbers = λ e window o s. u.opens.numbers e window o (more window (e ∷ o) s) };
-  fetches = λ window o s. u.fetches window o (more window o s);
+  fetches = λ r low lives window o s. u.fetches r low lives window o (record { newer = part r newer ++ s.newer; is = filter-append (λ e. e.by == r) newer older ∙ ap (λ l. part r newer ++ l) s.is ∙ sym (append_assoc (part r newer) s.newer (window ++ o)) });
+  ordered = λ r low lives. steps_before (ReadsInOrder c r) (part r newer) (part r older) (subst (AtEachStep (ReadsInOrder c r)) (filter-append (λ e. e.by == r) newer older) (u.ordered r low lives));
   keep = keep_before c live a newer older u.keep;
   failed = moments_before (HoldsFailed c live a start) (part a newer) (part a older) (subst (AtEachMoment (HoldsFailed c live a start)) split u.failed);
 }
@@ -82,13 +82,12 @@ unblocked_before c live a start newer older u = record {
     more : (window o : List Event) → IsStretch (part a older) window o → IsStretch (part a (newer ++ older)) window o
     more window o s = record { newer = part a newer ++ s.newer; is = split ∙ ap (λ l. part a newer ++ l) s.is ∙ sym (append_assoc (part a newer) s.newer (window ++ o)) }
 
--- what is refuted: a leads last, nothing but heads blocks it, and a command is missing
+-- a leads last in version 2, and nothing but heads blocks it
 pub record Waits (c : Config) (live : ℕ → Bool) (a start : ℕ) (past : List Event) : Type 0 where
   pub good : IsConfig c
   pub two : c.version ≡ 2
   pub last : LeadsLast c live a start past
   pub free : IsUnblocked c live a start past
-  pub lacks : knows_all c a (part a past) ≡ false
 
 pub waits_before : (c : Config) (live : ℕ → Bool) (a start : ℕ) (newer older : List Event) → Waits c live a start (newer ++ older) → Waits c live a start older
 waits_before c live a start newer older w = record {
@@ -96,7 +95,6 @@ waits_before c live a start newer older w = record {
   two = w.two;
   last = last_before c live a start newer older w.last;
   free = unblocked_before c live a start newer older w.free;
-  lacks = lacks_older c a newer older w.lacks;
 }
 
 -- the steps after which it has started to lead
@@ -109,20 +107,11 @@ begun_by c live a start past w late = last_started c live a start past w.good w.
 pub leads_of : (c : Config) (live : ℕ → Bool) (a start : ℕ) (past : List Event) → Waits c live a start past → AtEachStep (Leads c a) (part a past)
 leads_of c live a start past w = last_leads c a start past w.last.turns w.last.named
 
-pub fine_of : (c : Config) (live : ℕ → Bool) (a start : ℕ) (past : List Event) → Waits c live a start past → AtEachMoment (IsFine c a) (part a past)
-fine_of c live a start past w = fine_moments c a past w.last.legal (lead_on_moments c a past w.last.legal w.last.turns (let most = w.good.replicas.1 in omega (arith, most))) w.last.going w.lacks
+pub fine_of : (c : Config) (live : ℕ → Bool) (a start : ℕ) (past : List Event) → Waits c live a start past → knows_all c a (part a past) ≡ false → AtEachMoment (IsFine c a) (part a past)
+fine_of c live a start past w lacks = fine_moments c a past w.last.legal (lead_on_moments c a past w.last.legal w.last.turns (let most = w.good.replicas.1 in omega (arith, most))) w.last.going lacks
 
 pub go_on : (c : Config) (live : ℕ → Bool) (a start : ℕ) (past : List Event) → Waits c live a start past → GoOn c live a past
 go_on c live a start past w = record { legal = w.last.legal; near = w.last.near; keep = w.free.keep }
 
 pub steady_of : (c : Config) (live : ℕ → Bool) (a start : ℕ) (past : List Event) → Waits c live a start past → AtEachStep (Steady c a) (part a past)
 steady_of c live a start past w = steady_steps c a (part a past) (part_is_possible c a past w.last.legal) (lead_on_moments c a past w.last.legal w.last.turns (let most = w.good.replicas.1 in omega (arith, most))) (number_named c a start past w.last.legal w.last.named)
-
-pub leads_on_of : (c : Config) (live : ℕ → Bool) (a start : ℕ) (past : List Event) → Waits c live a start past → LeadsOn c a (part a past)
-leads_on_of c live a start past w = record {
-  inside = w.last.inside;
-  possible = part_is_possible c a past w.last.legal;
-  on = lead_on_moments c a past w.last.legal w.last.turns (let most = w.good.replicas.1 in omega (arith, most));
-  named = number_named c a start past w.last.legal w.last.named;
-  led = w.last.led;
-}

@@ -169,7 +169,7 @@ holds_after : (c : Config) (live : ℕ → Bool) (events : List Event) (lengths 
 holds_after c live events lengths rounds a k good run nodes inside lives majority all short diligent large enough =
     subst (λ l. holds_all c (applied c a l) ≡ true) (sym (ap (part a) t.is ∙ filter-append (λ e. e.by == a) t.front (t.last ∷ t.older)))
     (applied_on c a (part a t.front) (part a (t.last ∷ t.older))
-    (last_applies_all c live a (k + failing_steps c) (t.last ∷ t.older) good large (leads_last c live events lengths rounds a k c.budget good run nodes inside lives majority short diligent t) (fetches_at c live a events lengths rounds c.budget good run inside t)
+    (last_applies_all c live a (k + failing_steps c) (t.last ∷ t.older) good large (leads_last c live events lengths rounds a k c.budget good run nodes inside lives majority short diligent t) (fetches_at c live a events lengths rounds c.budget a good run inside t)
     (let n = t.taken in omega (arith, n, enough))))
   where
     t : TakenAt c live a events c.budget

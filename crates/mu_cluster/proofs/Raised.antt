@@ -192,7 +192,7 @@ raised_last c live s events lengths rounds k good large run nodes on short late 
   is = t.is;
   few = t.few;
   raised = last_raises_all c live s (k + failing_steps c) (t.last ∷ t.older) good large (leads_last c live events lengths rounds s k (k + failing_steps c + last_raising_steps c s) good run nodes on.inside on.lives on.majority short on.diligent t)
-      (opens_at c live s events lengths rounds (k + failing_steps c + last_raising_steps c s) run on.inside t) (fetches_at c live s events lengths rounds (k + failing_steps c + last_raising_steps c s) good run on.inside t) (keep_at c live s events lengths rounds (k + failing_steps c + last_raising_steps c s) run on t late) (let n = t.taken in omega (arith, n));
+      (opens_at c live s events lengths rounds (k + failing_steps c + last_raising_steps c s) run on.inside t) (fetches_at c live s events lengths rounds (k + failing_steps c + last_raising_steps c s) s good run on.inside t) (keep_at c live s events lengths rounds (k + failing_steps c + last_raising_steps c s) run on t late) (let n = t.taken in omega (arith, n));
 }
   where
     t : TakenAt c live s events (k + failing_steps c + last_raising_steps c s)

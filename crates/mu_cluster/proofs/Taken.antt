@@ -33,10 +33,12 @@ use Rattle.mu_cluster.proofs.Naming.{AreUnpaused, few_steps, part_before, trusts
 use Rattle.mu_detect.proofs.Leaders.{alive_leads, may_lead}
 use Rattle.mu_node.proofs.Asked.{asks_until_min, numbers_in_time}
 use Rattle.mu_node.proofs.Fetching.{rows_fetched}
+use Rattle.mu_node.proofs.Reading.{reads_in_order}
 use Rattle.mu_alive.specs.Finishing.{AsksAllFirst}
 use Rattle.mu_alive.specs.Last.{FetchesInTime}
 use Rattle.mu_alive.specs.Lone.{IsNear}
 use Rattle.mu_alive.specs.Opens.{OpensInTime}
+use Rattle.mu_alive.specs.Stopping.{ReadsInOrder}
 use Rattle.mu_alive.proofs.Finishing.{heads_before, replays_before}
 use Rattle.mu_cluster.proofs.Turning.{least_most}
 
@@ -125,8 +127,8 @@ pub record GoOn (c : Config) (live : ℕ → Bool) (s : ℕ) (events : List Even
 made_at : (c : Config) (live : ℕ → Bool) (a : ℕ) (events : List Event) (lengths : List ℕ) (rounds most r : ℕ) → AreUnpaused c events lengths rounds → (t : TakenAt c live a events most) → r < c.replicas → AtEachStep (WasMade c r) (part r (t.last ∷ t.older))
 made_at c live a events lengths rounds most r run t low = part_before (WasMade c r) r t.front (t.last ∷ t.older) (subst (λ x. AtEachStep (WasMade c r) (part r x)) t.is (run.made r low))
 
-possible_at : (c : Config) (live : ℕ → Bool) (a : ℕ) (events : List Event) (lengths : List ℕ) (rounds most : ℕ) → AreUnpaused c events lengths rounds → (t : TakenAt c live a events most) → IsPossible c a (part a (t.last ∷ t.older))
-possible_at c live a events lengths rounds most run t = part_is_possible c a (t.last ∷ t.older) (legal_older c t.front (t.last ∷ t.older) (subst (IsLegalHistory c) t.is run.legal))
+possible_at : (c : Config) (live : ℕ → Bool) (a : ℕ) (events : List Event) (lengths : List ℕ) (rounds most r : ℕ) → AreUnpaused c events lengths rounds → (t : TakenAt c live a events most) → IsPossible c r (part r (t.last ∷ t.older))
+possible_at c live a events lengths rounds most r run t = part_is_possible c r (t.last ∷ t.older) (legal_older c t.front (t.last ∷ t.older) (subst (IsLegalHistory c) t.is run.legal))
 
 raises_steps : (c : Config) (r : ℕ) (mine : List Event) → AtEachStep (WasMade c r) mine → AtEachStep (RaisesToAll c r) mine
 raises_steps c r [] made = tt
@@ -170,7 +172,7 @@ keep_at c live s events lengths rounds most run on t late = record {
 pub opens_at : (c : Config) (live : ℕ → Bool) (a : ℕ) (events : List Event) (lengths : List ℕ) (rounds most : ℕ) → AreUnpaused c events lengths rounds → a < c.replicas → (t : TakenAt c live a events most) → OpensInTime c a (part a (t.last ∷ t.older))
 opens_at c live a events lengths rounds most run inside t = record {
   asks = λ p window older low s many named none. asks_until_min c a p window older inside low (made s.newer (window ++ older) s.is) none many named;
-  numbers = λ e window older s min none on named long. numbers_in_time c a e window older inside (possible_here s.newer (window ++ e ∷ older) (subst (IsPossible c a) s.is (possible_at c live a events lengths rounds most run t))) (made s.newer (window ++ e ∷ older) s.is) min none on named long;
+  numbers = λ e window older s min none on named long. numbers_in_time c a e window older inside (possible_here s.newer (window ++ e ∷ older) (subst (IsPossible c a) s.is (possible_at c live a events lengths rounds most a run t))) (made s.newer (window ++ e ∷ older) s.is) min none on named long;
 }
   where
     mine : List Event
@@ -183,7 +185,10 @@ opens_at c live a events lengths rounds most run inside t = record {
     possible_here [] ys is = is
     possible_here (x ∷ xs) ys is = possible_here xs ys (parts_shorten_law c a (xs ++ ys) x is).before
 
--- and fetches rows in time
-pub fetches_at : (c : Config) (live : ℕ → Bool) (a : ℕ) (events : List Event) (lengths : List ℕ) (rounds most : ℕ) → IsConfig c → AreUnpaused c events lengths rounds → a < c.replicas → (t : TakenAt c live a events most) → FetchesInTime c a (part a (t.last ∷ t.older))
-fetches_at c live a events lengths rounds most good run inside t window older stretch many low =
-    rows_fetched c a (part a (t.last ∷ t.older)) window older good (possible_at c live a events lengths rounds most run t) (made_at c live a events lengths rounds most a run t inside) stretch many low
+-- and each fetches rows in time, and reads them in order
+pub fetches_at : (c : Config) (live : ℕ → Bool) (a : ℕ) (events : List Event) (lengths : List ℕ) (rounds most r : ℕ) → IsConfig c → AreUnpaused c events lengths rounds → r < c.replicas → (t : TakenAt c live a events most) → FetchesInTime c r (part r (t.last ∷ t.older))
+fetches_at c live a events lengths rounds most r good run inside t window older stretch many low =
+    rows_fetched c r (part r (t.last ∷ t.older)) window older good (possible_at c live a events lengths rounds most r run t) (made_at c live a events lengths rounds most r run t inside) stretch many low
+
+pub ordered_at : (c : Config) (live : ℕ → Bool) (a : ℕ) (events : List Event) (lengths : List ℕ) (rounds most r : ℕ) → AreUnpaused c events lengths rounds → r < c.replicas → (t : TakenAt c live a events most) → AtEachStep (ReadsInOrder c r) (part r (t.last ∷ t.older))
+ordered_at c live a events lengths rounds most r run inside t = reads_in_order c r (part r (t.last ∷ t.older)) (made_at c live a events lengths rounds most r run t inside)

@@ -33,7 +33,7 @@ use Rattle.mu_cluster.proofs.Naming.{AreUnpaused, unpaused_of}
 use Rattle.mu_cluster.proofs.Onward.{AreNodes, journal_part, nodes_of, score-part}
 use Rattle.mu_cluster.proofs.Outliving.{fails_then, leads_last, not_stopped, spent_by, stopped_so, whole_budget}
 use Rattle.mu_cluster.proofs.Raised.{RaisedBy}
-use Rattle.mu_cluster.proofs.Taken.{GoOn, TakenAt, fetches_at, keep_at, moments_of, opens_at, taken_at}
+use Rattle.mu_cluster.proofs.Taken.{GoOn, TakenAt, fetches_at, keep_at, moments_of, opens_at, ordered_at, taken_at}
 
 -- each that stopped took at most k steps
 abbrev StopBy : Config → (ℕ → Bool) → List Event → ℕ → Type 0
@@ -44,7 +44,8 @@ unblocked_at : (c : Config) (live : ℕ → Bool) (s : ℕ) (events : List Event
     → IsUnblocked c live s (k + failing_steps c) (t.last ∷ t.older)
 unblocked_at c live s events lengths rounds k most good run nodes on stop t late = record {
   opens = opens_at c live s events lengths rounds most run on.inside t;
-  fetches = fetches_at c live s events lengths rounds most good run on.inside t;
+  fetches = λ r low _. fetches_at c live s events lengths rounds most r good run low t;
+  ordered = λ r low _. ordered_at c live s events lengths rounds most r run low t;
   keep = keep_at c live s events lengths rounds most run on t late;
   failed = moments_of s (HoldsFailed c live s (k + failing_steps c)) (t.last ∷ t.older) (λ newer before cuts. held newer before cuts);
 }

@@ -61,7 +61,7 @@ HasAllAfterStops o =
 
 -- the steps after the last one of all that were stopped until s has every command, in any ring
 abbrev pub steps_after_in_any_ring : Config → ℕ → ℕ
-steps_after_in_any_ring c s = failing_steps c + last_steps_in_any_ring c s + fetching_steps c
+steps_after_in_any_ring c s = failing_steps c + last_steps_in_any_ring c s
 
 -- in version 2 each replica that was stopped took at most k steps, and k and the steps above are
 -- within the budget

@@ -17,7 +17,7 @@ mod Open
 mod OwnRows
 mod Paces
 mod Pacing
-mod Reading
+pub mod Reading
 mod Replaying
 pub mod Rounding
 mod Turning
