@@ -1,7 +1,7 @@
 #!/usr/bin/env python3
 """Measures the built program beside plain Rust programs, and prints the tables of docs/MEASURED.md.
 
-    tools/measure_anchors.py [--program out/bin/mu] [--runs 9] [TABLES]     TABLES: replay, run, check, trace
+    tools/measure_anchors.py [--program out/bin/mu] [--runs 9] [TABLES]     TABLES: one, run
 
 The plain programs are in tools/anchors, and need rustc. plain_mu is the same protocol without proofs: it has
 to write the same bytes as the built program (tools/second_program.py compares them). `keep` is its replay
@@ -14,9 +14,10 @@ which doesn't vary with the load. Times are the least and the middle of the runs
 take turns, so that what else the machine does meets all alike; with first rank (as by `chrt -f 1`) if that is
 permitted. Of the anchors without Mu's protocol it is the time that they tell themselves, from the first
 command to the last one applied; how long the others take without a command stands below their table. Above
-the tables stand the processors and the load.
+the tables stand the processors and the load. `one` is the table of the commands that take no threads.
 """
 import argparse
+import itertools
 import os
 import re
 import statistics
@@ -26,10 +27,25 @@ import tempfile
 import time
 
 from measure_runs import COMMANDS, REPLICAS, load
-from measure_speed import ROWS, TOP, counted, even, events_of, input_of, job
+from measure_speed import TOP, counted, even, events_of, input_of, job
 from second_program import build
 
 NAMES = ("plain_mu", "locked_log", "rings")
+# Each job: its row of tools/measure_speed.py, its title, and the commands of the program and of plain_mu.
+REPLAYS = ("replay", "replay", "keep")
+JOBS = (
+    ("7x400", "`replay`, 7 replicas, 400 commands", REPLAYS),
+    ("7x1500", "7 and 1,500", REPLAYS),
+    ("3x400", "3 and 400", REPLAYS),
+    ("3x1500", "3 and 1,500", REPLAYS),
+    ("sixteen", "3 and 1,500, from 16 clients", REPLAYS),
+    ("unequal", "the same, 15 clients with one command and one with 1,485", REPLAYS),
+    ("1x1500", "1 and 1,500", REPLAYS),
+    ("batches", "version 2, batches of four, 3 and 1,500, from 16 clients", REPLAYS),
+    ("trace", "`trace`, 7 and 400", ("trace", "trace")),
+    ("check", "`check` of the trace of `tools/long_trace.py`, 14.5 MB", ("check", "check")),
+    ("refused", "the same read and not judged, since a last line is no event", ("check", "read")),
+)
 
 
 def take_first_rank():
@@ -77,77 +93,57 @@ def runs_of(commands, given, count):
     return [list(own) for own in zip(*turns)]
 
 
-def milliseconds(runs):
-    times = [1000 * run.seconds for run in runs]
-    return f"{min(times):.1f} | {statistics.median(times):.1f}"
+def least_and_middle(numbers, form):
+    return f"{min(numbers):{form}} ({statistics.median(numbers):{form}})"
 
 
-def instructions_table(program, plain, rows, count):
-    """A table of instructions, times and memory. A row has its name, and for each program its words."""
-    print("| job | events | " + " | ".join(["instructions", "least ms", "middle ms", "MB"] * len(rows[0][1])) + " |")
-    for name, words, alike in rows:
+def measured(command, given, runs, events):
+    """The instructions of an event, the times and the memory of a command."""
+    times = least_and_middle([1000 * run.seconds for run in runs], ".1f")
+    return f"{counted(*command, given)[0] / events:.0f} | {times} | {megabytes(command, given):.0f}"
+
+
+def one_thread(paths, program, count):
+    """The table of the commands that take no threads."""
+    mu, plain = f"{os.path.basename(program)}: instructions", "plain_mu: instructions"
+    told = ["job", "events", mu, "ms", "MB", plain, "ms", "MB", "with events kept: instructions", "ms", "MB"]
+    print(f"| {' | '.join(told)} |\n{'|---' * len(told)}|", flush=True)
+    for name, title, words in JOBS:
         given = input_of(name)
-        commands = [[program if first == "mu" else plain, command] for first, command in words]
+        commands = [[program if place == 0 else paths["plain_mu"], word] for place, word in enumerate(words)]
         runs = runs_of(commands, given, count)
         events = events_of(name, program, given)
+        cells = [measured(command, given, own, events) for command, own in zip(commands, runs)]
+        is_same = name == "refused" or len({own[0].output for own in runs}) == 1
+        end = ("" if len(cells) == len(REPLAYS) else " | | |") + ("" if is_same else " NOT THE SAME BYTES")
+        print(f"| {title} | {events:,} | {' | '.join(cells)} |{end}", flush=True)
+
+
+def threads(paths, program, count):
+    """The table of runs on threads."""
+    told = ["replicas", "commands", os.path.basename(program), "finished", "cores", "plain_mu", "finished", "cores",
+            "a log under one lock", "rings"]
+    print(f"\n| {' | '.join(told)} |\n{'|---' * len(told)}|", flush=True)
+    protocols = [[program, "run"], [paths["plain_mu"], "run"]]
+    anchors = [[paths["locked_log"]], [paths["rings"]]]
+    for replicas, commands in itertools.product(REPLICAS, COMMANDS):
+        own = runs_of(protocols + anchors, job(replicas, even(commands)), count)
         cells = []
-        for command, own in zip(commands, runs):
-            told = counted(*command, given)[0] / events
-            cells.append(f"{told:.0f} | {milliseconds(own)} | {megabytes(command, given):.0f}")
-        outputs = {own[0].output for own in runs}
-        same = " NOT THE SAME BYTES" if alike and len(outputs) > 1 else ""
-        print(f"| {name} | {events:,} | {' | '.join(cells)} |{same}", flush=True)
-
-
-def replay(paths, program, count):
-    words = [("mu", "replay"), ("plain", "replay"), ("plain", "keep")]
-    print("\nreplay: mu, plain_mu, plain_mu that keeps the events")
-    names = [name for name, (command, _) in ROWS.items() if command == "replay"]
-    instructions_table(program, paths["plain_mu"], [(name, words, True) for name in names], count)
-
-
-def trace(paths, program, count):
-    print("\ntrace: mu, plain_mu")
-    rows = [("trace", [("mu", "trace"), ("plain", "trace")], True)]
-    instructions_table(program, paths["plain_mu"], rows, count)
-
-
-def check(paths, program, count):
-    print("\ncheck: mu, plain_mu")
-    rows = [("check", [("mu", "check"), ("plain", "check")], True)]
-    instructions_table(program, paths["plain_mu"], rows, count)
-    print("\nreading alone: mu of a trace with one line more, which is no event, so that none is judged; plain_mu read")
-    instructions_table(program, paths["plain_mu"], [("refused", [("mu", "check"), ("plain", "read")], False)], count)
-
-
-def nanoseconds(times, commands):
-    each = [1e9 * seconds / commands for seconds in times]
-    return f"{min(each):,.0f} | {statistics.median(each):,.0f}"
-
-
-def run(paths, program, count):
-    print("\nrun: nanoseconds a command of mu and of plain_mu; of locked_log and of rings as they tell themselves")
-    told = ["least", "middle", "finished", "cores"] * 2 + ["least", "middle"] * 2
-    print(f"| replicas | commands | {' | '.join(told)} |")
-    commands = [[program, "run"], [paths["plain_mu"], "run"], [paths["locked_log"]], [paths["rings"]]]
+        for runs in own[:2]:
+            finished = sum(run.output.endswith(b"status 0\n") for run in runs)
+            times = least_and_middle([1e9 * run.seconds / commands for run in runs], ",.0f")
+            cells.append(f"{times} | {finished} | {statistics.median(run.cores for run in runs):.1f}")
+        for runs in own[2:]:
+            inside = [int(re.search(rb"\d+", run.output)[0]) / commands for run in runs]
+            cells.append(least_and_middle(inside, ",.0f"))
+        print(f"| {replicas} | {commands:,} | {' | '.join(cells)} |", flush=True)
     for replicas in REPLICAS:
-        for asked in COMMANDS:
-            cells = []
-            *protocols, locked, rings = runs_of(commands, job(replicas, even(asked)), count)
-            for own in protocols:
-                finished = sum(one.output.endswith(b"status 0\n") for one in own)
-                cores = statistics.median(one.cores for one in own)
-                cells.append(f"{nanoseconds([one.seconds for one in own], asked)} | {finished} | {cores:.1f}")
-            for own in (locked, rings):
-                inside = [int(re.search(rb"\d+", one.output)[0]) / 1e9 for one in own]
-                cells.append(nanoseconds(inside, asked))
-            print(f"| {replicas} | {asked:,} | {' | '.join(cells)} |", flush=True)
-    for replicas in REPLICAS:
-        own = [milliseconds(runs) for runs in runs_of(commands[:2], job(replicas, even(0)), count)]
-        print(f"{replicas} replicas and no command, least and middle milliseconds: {' | '.join(own)}")
+        own = runs_of(protocols, job(replicas, even(0)), count)
+        times = [least_and_middle([1000 * run.seconds for run in runs], ".1f") for runs in own]
+        print(f"without a command, {replicas} replicas: {' and '.join(times)} milliseconds", flush=True)
 
 
-TABLES = {"replay": replay, "run": run, "check": check, "trace": trace}
+TABLES = {"one": one_thread, "run": threads}
 
 
 def main():

@@ -22,7 +22,6 @@ pub struct Notes {
     pub entered_at: u32,
     /// The greatest FUO that was read, and that was read or raised in this leadership.
     fuo: u16,
-
     pub reach: Option<u16>,
     /// Of each position: the first look since the last put there or the joining, the last look and what
     /// it showed, the last look that was past, and what was put in this leadership and when.
