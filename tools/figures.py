@@ -99,8 +99,8 @@ STATED = [
     ("docs/MEASURED.md", r"(\d+) judged traces in `crates/mu_judge/stdin`",
      lambda: [sum(name.startswith("check/") for name in contents("cases/judged.names").split("\n"))]),
     # What ALIVE and PACE say in short of three replicas. A part that is left out may stand between two figures.
-    ("docs/ALIVE.md", r"(?s)has a place for each command \| ([\d,]+) \|.*?as in the first line \| ([\d,]+) \|",
-     lambda: [most("steps_enough"), most("finishing_steps")]),
+    ("docs/ALIVE.md", r"(?s)has a place for each command \| ([\d,]+) \|.*?stops after at most ([\d,]+) steps \| ([\d,]+) \|",
+     lambda: [most("steps_enough"), MOST_BUDGET - steps("failing_steps", 1, 3, 1, 0) - 1, most("finishing_steps")]),
     ("docs/ALIVE.md", r"(?s)such a ring \| \(([\d,]+) - k\) / ([\d,]+) .*?such a ring \| \(([\d,]+) - k\) / ([\d,]+) ",
      lambda: [*after_stops("steps_after", 1), *after_stops("finishing_after", 1)]),
     ("docs/ALIVE.md", r"(?s)nobody stops; any ring \| ([\d,]+) \|.*?nobody stops; any ring \| ([\d,]+) \|",
@@ -152,7 +152,7 @@ class Table:
     def most_commands(self, replicas, values):
         """For how many commands the greatest budget is enough; the ring has a place for each position."""
         reserve = replicas if self.version == 2 else 0
-        most = MOST_COMMANDS if self.name.endswith("any_ring") else LARGEST_RING - reserve
+        most = MOST_COMMANDS if self.name.endswith("any_ring") else LARGEST_RING - 2 * reserve
         enough, too_many = 0, most + 1
         while enough + 1 < too_many:
             middle = (enough + too_many) // 2
@@ -206,6 +206,20 @@ def tables():
             columns = []
 
 
+def in_version_two():
+    """Each figure of the table whose rows name their bound: in version 2 with one command in a batch."""
+    columns = []
+    for at, line in enumerate(contents("docs/ALIVE.md").split("\n"), 1):
+        cells = [it.strip() for it in line.strip("|").split("|")]
+        if line.startswith("| bound | replicas | s |"):
+            columns = cells
+        elif line.startswith("| `") and cells[0].strip("`") in BOUNDS:
+            values = [int(cells[2])] if cells[2] else []
+            for column, text in list(zip(columns, cells))[3:]:
+                wanted = Table(cells[0].strip("`"), 2, 1).cell(column, int(cells[1]), values)
+                yield f"docs/ALIVE.md:{at}: {cells[0]}, {column}", number(text), wanted
+
+
 class Formula:
     """A sum of a page, in which a product is written without a sign."""
 
@@ -248,7 +262,7 @@ def formulas():
 
 def judged():
     """How many figures are right, and which are stale."""
-    found = [*stated(), *tables(), *formulas()]
+    found = [*stated(), *tables(), *in_version_two(), *formulas()]
     stale = [f"{where}: {stands}, and {wanted} is right" for where, stands, wanted in found if stands != wanted]
     return len(found) - len(stale), stale
 
