@@ -67,7 +67,7 @@ WRONG_FIGURES = [
     ("docs/FORMATS.md", "at most 100 lines of the script", "a hundred lines of the script"),
 ]
 # How many jobs of stops there are: each family of them is whole.
-STOP_JOBS = 3_872
+STOP_JOBS = 3_875
 # A line of a page, and what it names.
 PAGE_LINE = ("`crates/kv_store`, `src/no_such_file.rt`, `no_such_name`, `NoSuchName` and `mu replay < no_input`",
              ["crates/kv_store", "src/no_such_file.rt", "no_such_name", "NoSuchName"])
