@@ -28,7 +28,7 @@ TESTS = "worked_"
 ROW = re.compile(r"(?P<terms>[a-z][a-z0-9 ,()'-]*): (?P<sentence>.+)\.")
 HEAD = """# Definitions
 
-A *history* is a list of events with the newest first; contracts cite the history of a list. The crates come from the ground up, and in a crate each file after those that it cites. `tools/definitions.py` makes this page: a row is the first comment of its file.
+A *history* is a list of events with the newest first; contracts cite the history of a list. The crates come from the ground up, and in a crate each file after those that it cites. `tools/definitions.py` makes this page: a row is the first comment of its file. `READING.md` tells how such a file is read.
 
 | term | in one sentence | file |
 |---|---|---|
