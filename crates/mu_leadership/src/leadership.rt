@@ -9,10 +9,9 @@ ghost use Rattle.mu_model.specs.Histories.{count_below, greatest, newest, or_zer
 ghost use Rattle.mu_model.specs.Leaderships.{ends_leadership, grant_at_joining, has_begun, has_quorum, is_changed, is_member, is_over, leadership, noted_grant, number_put, proposal_number};
 ghost use Rattle.mu_model.specs.Parts.{IsPossible};
 ghost use Rattle.mu_leadership.specs.Leadership.{StandsForRegionNotes, StandForRegionNotes, StandsForLeadership, ReadsWithin};
-ghost use Rattle.mu_leadership.specs.Bearing.{region_named};
 
-use crate::bearing::{changes_leadership, region_of};
-use crate::region_notes::{RegionNotes, begins};
+use crate::bearing::changes_leadership;
+use crate::region_notes::{RegionNotes, begins, no_notes, take_at_regions};
 use mu_model::{Answer, Config, Event, Fence, Target, Verb, majority, next_number};
 
 /// What the leaderships of a replica have come to.
@@ -98,51 +97,6 @@ fn is_fence_changed(joined: Option<Option<u32>>, fence: Fence) -> bool
         None => false,
         Some(None) => true,
         Some(Some(grant)) => fence.closing || fence.grant != grant,
-    }
-}
-
-/// For each region, the notes on one at which nothing was done.
-fn no_notes() -> [RegionNotes; 7]
-    ensures { (r : ℕ) → StandForRegionNotes r [] result }
-{
-    [RegionNotes::new(); 7]
-}
-
-/// What was done at each region, with the event.
-fn take_at_each(notes: &mut [RegionNotes; 7], r: u8, event: &Event)
-    ensures { (c : Config) → (mine : List Event) → IsPossible c r (event.now ∷ mine)
-        → StandForRegionNotes r mine notes.old
-        → StandForRegionNotes r (event.now ∷ mine) notes.new }
-{
-    for p in 0..7u8 {
-        let at = usize::from(p);
-        let held = notes[at];
-        notes[at] = held.after(r, p, event);
-    }
-}
-
-/// What was done at the region that the event names, with the event.
-fn take_at(notes: &mut [RegionNotes; 7], p: u8, r: u8, event: &Event)
-    ensures { (c : Config) → (mine : List Event) → IsPossible c r (event.now ∷ mine)
-        → region_named event.now.verb ≡ Some p → StandForRegionNotes r mine notes.old
-        → StandForRegionNotes r (event.now ∷ mine) notes.new }
-{
-    if p < 7 {
-        let at = usize::from(p);
-        let held = notes[at];
-        notes[at] = held.after(r, p, event);
-    }
-}
-
-/// What was done at the regions that the event bears on, with the event.
-fn take_at_regions(notes: &mut [RegionNotes; 7], r: u8, event: &Event)
-    ensures { (c : Config) → (mine : List Event) → IsPossible c r (event.now ∷ mine)
-        → StandForRegionNotes r mine notes.old
-        → StandForRegionNotes r (event.now ∷ mine) notes.new }
-{
-    match region_of(&event.verb) {
-        Some(p) => take_at(notes, p, r, event),
-        None => take_at_each(notes, r, event),
     }
 }
 

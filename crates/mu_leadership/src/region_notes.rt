@@ -6,8 +6,10 @@ ghost use Rattle.mu_model.specs.Entering.{has_read_min, last_opened, min_read, m
 ghost use Rattle.mu_model.specs.Histories.{newest, or_zero};
 ghost use Rattle.mu_model.specs.Leaderships.{begins_leadership, grant_at_joining, grant_for, noted_grant};
 ghost use Rattle.mu_model.specs.Parts.{IsPossible};
-ghost use Rattle.mu_leadership.specs.Leadership.{StandsForRegionNotes, last_grant};
+ghost use Rattle.mu_leadership.specs.Leadership.{StandForRegionNotes, StandsForRegionNotes, last_grant};
+ghost use Rattle.mu_leadership.specs.Bearing.{region_named};
 
+use crate::bearing::region_of;
 use mu_model::{Answer, Event, Fence, Target, Verb};
 
 /// What a replica has done at one region.
@@ -250,5 +252,50 @@ impl RegionNotes {
             → result ≡ has_read_min r p mine }
     {
         self.noted.is_some() && self.has_read
+    }
+}
+
+/// For each region, the notes on one at which nothing was done.
+pub(crate) fn no_notes() -> [RegionNotes; 7]
+    ensures { (r : ℕ) → StandForRegionNotes r [] result }
+{
+    [RegionNotes::new(); 7]
+}
+
+/// What was done at each region, with the event.
+fn take_at_each(notes: &mut [RegionNotes; 7], r: u8, event: &Event)
+    ensures { (c : Config) → (mine : List Event) → IsPossible c r (event.now ∷ mine)
+        → StandForRegionNotes r mine notes.old
+        → StandForRegionNotes r (event.now ∷ mine) notes.new }
+{
+    for p in 0..7u8 {
+        let at = usize::from(p);
+        let held = notes[at];
+        notes[at] = held.after(r, p, event);
+    }
+}
+
+/// What was done at the region that the event names, with the event.
+fn take_at(notes: &mut [RegionNotes; 7], p: u8, r: u8, event: &Event)
+    ensures { (c : Config) → (mine : List Event) → IsPossible c r (event.now ∷ mine)
+        → region_named event.now.verb ≡ Some p → StandForRegionNotes r mine notes.old
+        → StandForRegionNotes r (event.now ∷ mine) notes.new }
+{
+    if p < 7 {
+        let at = usize::from(p);
+        let held = notes[at];
+        notes[at] = held.after(r, p, event);
+    }
+}
+
+/// What was done at the regions that the event bears on, with the event.
+pub(crate) fn take_at_regions(notes: &mut [RegionNotes; 7], r: u8, event: &Event)
+    ensures { (c : Config) → (mine : List Event) → IsPossible c r (event.now ∷ mine)
+        → StandForRegionNotes r mine notes.old
+        → StandForRegionNotes r (event.now ∷ mine) notes.new }
+{
+    match region_of(&event.verb) {
+        Some(p) => take_at(notes, p, r, event),
+        None => take_at_each(notes, r, event),
     }
 }

@@ -3,7 +3,7 @@ use Rattle.std.proofs.lemmas.Option.{slice_get_within}
 use Rattle.mu_model.proofs.Lists.{item_read, set_get}
 use Rattle.mu_leadership.specs.Leadership.{StandsForRegionNotes}
 use Rattle.mu_leadership.proofs.Elsewhere.{notes_kept}
-use Rattle.mu_leadership.proofs.leadership.take_at.Goals as goal
+use Rattle.mu_leadership.proofs.region_notes.take_at.Goals as goal
 
 pub returns-then-p-lt7 : goal.returns-then-p-lt7
 returns-then-p-lt7 c c' mine possible names held k notes there =

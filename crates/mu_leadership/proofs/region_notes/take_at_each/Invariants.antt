@@ -4,7 +4,7 @@ use Rattle.mu_model.specs.declared.event.Event.{Event}
 use Rattle.mu_model.specs.Parts.{IsPossible}
 use Rattle.mu_leadership.specs.Leadership.{StandsForRegionNotes, StandForRegionNotes}
 use Rattle.mu_model.proofs.Lists.{HoldsUpto}
-use Rattle.mu_leadership.proofs.leadership.take_at_each.Given as goal
+use Rattle.mu_leadership.proofs.region_notes.take_at_each.Given as goal
 
 abbrev pub invariant-loop-p : goal.invariant-loop-p
 invariant-loop-p l = record {

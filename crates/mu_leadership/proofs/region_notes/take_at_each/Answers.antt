@@ -1,7 +1,7 @@
 use Rattle.std.proofs.Common.{arith, ◌∷◌, ◌≡◌, length, length-set, ◌∙◌}
 use Rattle.mu_leadership.specs.Leadership.{StandsForRegionNotes}
 use Rattle.mu_model.proofs.Lists.{upto_next, upto_all}
-use Rattle.mu_leadership.proofs.leadership.take_at_each.Goals as goal
+use Rattle.mu_leadership.proofs.region_notes.take_at_each.Goals as goal
 
 pub loop-p-preserved : goal.loop-p-preserved
 loop-p-preserved c =
