@@ -65,18 +65,9 @@ pub fn split_words<'a>(line: &'a [u8], items: &mut [&'a [u8]; MANY_WORDS]) -> us
     count
 }
 
-/// Whether a word is the wanted one. Most words differ in length, so bytes are seldom compared.
+/// Whether a word is the wanted one. Most words differ in length, which is compared in place.
 #[inline]
 pub fn is_word(word: &[u8], wanted: &[u8]) -> bool
-    ensures { result ≡ bytes_eq word.now wanted.now }
-{
-    word.len() == wanted.len() && has_bytes(word, wanted)
-}
-
-/// Whether a word has these bytes: in a call, so that no caller writes the words to memory for `==`
-/// before their lengths are compared.
-#[inline(never)]
-fn has_bytes(word: &[u8], wanted: &[u8]) -> bool
     ensures { result ≡ bytes_eq word.now wanted.now }
 {
     word == wanted
