@@ -109,6 +109,7 @@ impl Lead {
         requires { StandsFor mine self.old }
         ensures stands { StandsFor mine self.new }
         ensures named { self.new.named ≡ (leader == self.old.id) }
+        ensures failed { self.new.failed ≡ failed }
         ensures heeded { TellsFailed self.old.config self.old.id mine failed
             → HasHeeded mine self.new }
         ensures resigned { result
@@ -319,6 +320,7 @@ impl Lead {
         ensures config { self.new.config ≡ self.old.config }
         ensures id { self.new.id ≡ self.old.id }
         ensures named { self.new.named ≡ self.old.named }
+        ensures failed { self.new.failed ≡ self.old.failed }
         ensures says { SaysNext mine self.old known.now answer result }
         ensures noted { NotedNext mine self.old known.now answer result }
         ensures going { self.new.under_way
@@ -336,6 +338,7 @@ impl Lead {
         ensures config { self.new.config ≡ self.old.config }
         ensures id { self.new.id ≡ self.old.id }
         ensures named { self.new.named ≡ self.old.named }
+        ensures failed { self.new.failed ≡ self.old.failed }
         ensures going { self.new.under_way
             ≡ going_after (begins_at self.old.place || self.old.under_way) result }
     {

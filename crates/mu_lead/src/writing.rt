@@ -96,6 +96,8 @@ impl Lead {
         ensures id { self.new.id ≡ self.old.id }
         ensures place { self.new.place ≡ self.old.place }
         ensures going { self.new.under_way ≡ self.old.under_way }
+        ensures named { self.new.named ≡ self.old.named }
+        ensures failed { self.new.failed ≡ self.old.failed }
     {
         count_word(&mut self.written, j);
     }
