@@ -1,7 +1,7 @@
 -- A leader with the other parts of its node: what keeps what it stands for, and what the node
 -- makes.
-use Rattle.std.proofs.Common.{inl, ◌≡◌, ◌∙◌, ◌==◌, ◌++◌, ◌+◌, ◌&&◌, ◌*◌, ◌-◌, ◌≢◌, ℕ, ◌<◌, eqb-true, Bool, true, false, List, [], ◌∷◌, ap, arith, length, refl, subst, sym, Some, None}
-use Rattle.std.specs.Prelude.{IfSome, if◌then◌else◌, nat_lt}
+use Rattle.std.proofs.Common.{◌≡◌, ◌∙◌, ◌==◌, ◌++◌, ◌+◌, ◌&&◌, ◌*◌, ◌-◌, ◌≢◌, ℕ, ◌<◌, eqb-true, Bool, true, false, List, [], ◌∷◌, ap, arith, length, refl, subst, sym, Some, None}
+use Rattle.std.specs.Prelude.{IfSome, if◌then◌else◌, is_some, nat_lt}
 use Rattle.std.proofs.Math.Bool.{and-false}
 use Rattle.std.specs.declared.option.Option.{Option}
 use Rattle.std.proofs.lemmas.Bool.{eqb-false, le-ltb, ltb-false, ltb-true, true≢false}
@@ -181,18 +181,23 @@ pub fits_led : (c : Config) (r : ℕ) (mine : List Event) (lead : Lead) (leads :
 fits_led c r mine lead true due verb fits is some = (fits.0, sym fits.1 ∙ some)
 fits_led c r mine lead false due verb fits is some = absurd (true≢false (sym is))
 
--- if none is, the turn is idle
-pub fits_idle : (c : Config) (r : ℕ) (mine : List Event) (lead : Lead) (leads : Bool) (due : Option Verb) → FitsLead c r mine lead leads due → due ≡ None → IsIdle c r mine lead Verb.Beat
-fits_idle c r mine lead true due fits none = λ odd. (sym fits.1 ∙ none, inl refl)
-fits_idle c r mine lead false due fits none = subst (λ d. IsIdle c r mine lead (verb_or_beat d)) none fits.1.1
+-- what is due is what is made, if something is
+pub due_kept : (due : Option Verb) (verb : Verb) (is : Bool) → verb ≡ verb_or_beat due → is ≡ is_some due → (if is then Some verb else None) ≡ due
+due_kept None verb is made some = rw some refl
+due_kept (Some due) verb is made some = rw (some, made) refl
+
+-- what is made is what is due, if something is
+pub some_made : (due : Option Verb) (verb : Verb) → is_some due ≡ true → verb ≡ verb_or_beat due → due ≡ Some verb
+some_made None verb some made = absurd (true≢false (sym some))
+some_made (Some due) verb some made = ap (λ v. Some v) (sym made)
 
 -- in another turn the verb is not of the listing
 abbrev pub IsOther : Config → ℕ → List Event → Lead → Verb → Type 0
 IsOther c r mine lead verb = (is_beside (leads_at lead.place) verb ≡ true) × (WritesAhead lead verb × IsIdle c r mine lead verb)
 
-pub fits_other : (c : Config) (r : ℕ) (mine : List Event) (lead : Lead) (leads : Bool) (due : Option Verb) (verb : Verb) → FitsLead c r mine lead leads due → leads ≡ false → due ≡ Some verb → IsOther c r mine lead verb
-fits_other c r mine lead true due verb fits is some = absurd (true≢false is)
-fits_other c r mine lead false due verb fits is some = subst (λ d. IsOther c r mine lead (verb_or_beat d)) some fits
+pub fits_other : (c : Config) (r : ℕ) (mine : List Event) (lead : Lead) (leads : Bool) (due : Option Verb) (verb : Verb) → FitsLead c r mine lead leads due → leads ≡ false → verb ≡ verb_or_beat due → IsOther c r mine lead verb
+fits_other c r mine lead true due verb fits is made = absurd (true≢false is)
+fits_other c r mine lead false due verb fits is made = subst (λ v. IsOther c r mine lead v) (sym made) fits
 
 -- the value that the leader tells its put made known is the one that r learns
 pub lead_tells : (c : Config) (r : ℕ) (mine : List Event) (old : Lead) (verb : Verb) (answer : Answer) (values : List ℕ) (note : Note) → StandsForLead c r mine old → TellsNext mine old values answer note

@@ -6,5 +6,6 @@ pub mod Journal
 pub mod Node
 pub mod Notes
 pub mod Paced
+pub mod Plans
 pub mod Turns
 pub mod Watch

@@ -18,7 +18,6 @@ ghost use Rattle.mu_pace.specs.Cycles.{KeepsBeside};
 
 use crate::answers::{Answers, apply_ready};
 use crate::ending::{end_of_going, is_stop};
-use crate::planning::or_beat;
 use crate::result::NodeResult;
 use crate::turn::Turn;
 use crate::watch::Watch;
@@ -194,8 +193,7 @@ impl Node {
             self.old.lead self.new.lead result }
     {
         let plan = self.plan();
-        let verb = or_beat(plan.due);
-        let answer = port.step(verb);
+        let answer = port.step(plan.verb);
         self.took(plan, id, answer)
     }
 

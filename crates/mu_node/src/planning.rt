@@ -17,6 +17,7 @@ ghost use Rattle.mu_lead.specs.Journal.{place_after};
 ghost use Rattle.mu_lead.specs.Notes.{value_committed};
 ghost use Rattle.mu_lead.specs.Standing.{HasHeeded, TellsNext};
 ghost use Rattle.mu_node.specs.Cycle.{IsCycleDue};
+ghost use Rattle.mu_node.specs.Plans.{due_of};
 ghost use Rattle.mu_node.specs.Due.{FitsLead, IsIdle, WritesAhead, write_due, idle_due, lead_due, verb_or_beat, written_row};
 ghost use Rattle.mu_node.specs.Journal.{FollowsTurn};
 ghost use Rattle.mu_node.specs.Node.{AwaitsBeside, HasHeard, HasPlanned, HoldsBeside, StandsForNode};
@@ -28,11 +29,13 @@ use crate::zeal::Zeal;
 use mu_lead::Note;
 use mu_model::{Answer, Event, Verb};
 
-/// What is due in a turn.
+/// What is made in a turn.
 #[derive(Drop)]
 pub(crate) struct Plan {
-    /// The verb, if one is due.
-    pub(crate) due: Option<Verb>,
+    /// The verb that is due, else a beat.
+    pub(crate) verb: Verb,
+    /// Whether one is due.
+    pub(crate) is_due: bool,
     /// Whether it is of the leader.
     pub(crate) leads: bool,
     /// What the leader noted when it was told which leader the scores name.
@@ -47,8 +50,26 @@ fn is_turn_of_leader(steps: u32) -> bool
     steps % 2 == 1
 }
 
+impl Plan {
+    /// The plan of a step that isn't the leader's: what is due, if anything is.
+    #[inline(always)]
+    fn beside(due: Option<Verb>, heeded: Note) -> Plan
+        ensures due { due_of result ≡ due }
+        ensures made { result.verb ≡ verb_or_beat due }
+        ensures leads { result.leads ≡ false }
+        ensures heeded { result.heeded ≡ heeded }
+    {
+        Plan {
+            verb: or_beat(due),
+            is_due: due.is_some(),
+            leads: false,
+            heeded,
+        }
+    }
+}
+
 /// The step that is made if this one is due, if any.
-pub(crate) fn or_beat(due: Option<Verb>) -> Verb
+fn or_beat(due: Option<Verb>) -> Verb
     ensures { result ≡ verb_or_beat due }
 {
     match due {
@@ -104,18 +125,20 @@ impl Node {
         ensures zeal { self.new.zeal ≡ self.old.zeal }
         ensures stops { self.new.stops ≡ self.old.stops }
         ensures allowed { Allowed self.old.follow.config self.old.id mine
-            (verb_or_beat result.due) }
+            (verb_or_beat (due_of result)) }
+        ensures made { result.verb ≡ verb_or_beat (due_of result) }
+        ensures some { result.leads ≡ true → is_some (due_of result) ≡ true }
         ensures fits { FitsLead self.old.follow.config self.old.id mine self.new.lead result.leads
-            result.due }
+            (due_of result) }
         ensures leads { result.leads ≡ (is_odd (length mine)
             && is_some (lead_due self.old.follow.config self.old.id mine self.old.lead)) }
         ensures led { is_odd (length mine) ≡ true
-            → result.due
+            → due_of result
             ≡ or_else (lead_due self.old.follow.config self.old.id mine self.old.lead)
             (idle_due self.old.zeal self.old.follow.config self.old.id mine) }
         ensures cycle { is_odd (length mine) ≡ false
             → IsCycleDue self.old.zeal self.old.follow.config self.old.id mine
-            (leads_at self.old.lead.place) result.due }
+            (leads_at self.old.lead.place) (due_of result) }
         ensures heeded { result.heeded
             ≡ note_before self.old.follow.config self.old.id mine self.old.lead }
         ensures told { is_odd (length mine) ≡ true
@@ -143,14 +166,16 @@ impl Node {
         ensures zeal { self.new.zeal ≡ self.old.zeal }
         ensures stops { self.new.stops ≡ self.old.stops }
         ensures allowed { Allowed self.old.follow.config self.old.id mine
-            (verb_or_beat result.due) }
+            (verb_or_beat (due_of result)) }
+        ensures made { result.verb ≡ verb_or_beat (due_of result) }
+        ensures some { result.leads ≡ true → is_some (due_of result) ≡ true }
         ensures fits { FitsLead self.old.follow.config self.old.id mine self.new.lead result.leads
-            result.due }
+            (due_of result) }
         ensures leads { result.leads
             ≡ is_some (lead_due self.old.follow.config self.old.id mine self.old.lead) }
         ensures named { leads_at self.new.lead.place ≡ true
             → is_named self.old.follow.config self.old.id mine ≡ true }
-        ensures led { result.due
+        ensures led { due_of result
             ≡ or_else (lead_due self.old.follow.config self.old.id mine self.old.lead)
             (idle_due self.old.zeal self.old.follow.config self.old.id mine) }
         ensures heeded { result.heeded
@@ -161,15 +186,12 @@ impl Node {
         let heeded = self.heed();
         match self.lead.due(self.follow.known()) {
             Some(verb) => Plan {
-                due: Some(verb),
+                verb,
+                is_due: true,
                 leads: true,
                 heeded,
             },
-            None => Plan {
-                due: self.idle(leading),
-                leads: false,
-                heeded,
-            },
+            None => Plan::beside(self.idle(leading), heeded),
         }
     }
 
@@ -216,21 +238,19 @@ impl Node {
         ensures zeal { self.new.zeal ≡ self.old.zeal }
         ensures stops { self.new.stops ≡ self.old.stops }
         ensures allowed { Allowed self.old.follow.config self.old.id mine
-            (verb_or_beat result.due) }
+            (verb_or_beat (due_of result)) }
+        ensures made { result.verb ≡ verb_or_beat (due_of result) }
+        ensures some { result.leads ≡ true → is_some (due_of result) ≡ true }
         ensures fits { FitsLead self.old.follow.config self.old.id mine self.new.lead false
-            result.due }
+            (due_of result) }
         ensures leads { result.leads ≡ false }
         ensures cycle { IsCycleDue self.old.zeal self.old.follow.config self.old.id mine
-            (leads_at self.old.lead.place) result.due }
+            (leads_at self.old.lead.place) (due_of result) }
         ensures heeded { result.heeded ≡ SomeNote.Working }
         ensures lead { self.new.lead ≡ self.old.lead }
     {
         let due = self.background();
-        Plan {
-            due: self.or_ahead(due),
-            leads: false,
-            heeded: Note::Working,
-        }
+        Plan::beside(self.or_ahead(due), Note::Working)
     }
 
     /// What is due in the cycle, else what an eager leader writes ahead.
@@ -341,36 +361,30 @@ impl Node {
         requires config { IsConfig self.old.follow.config }
         requires room { 0 < self.old.journal.room }
         requires fits { FitsLead self.old.follow.config self.old.id mine self.old.lead plan.leads
-            plan.due }
+            (due_of plan) }
         requires turn { plan.leads ≡ true → is_odd (length mine) ≡ true }
         requires planned { HasPlanned self.old.follow.config self.old.id mine self.old }
+        requires made { plan.verb ≡ verb_or_beat (due_of plan) }
+        requires some { plan.leads ≡ true → is_some (due_of plan) ≡ true }
         ensures stands { FollowsTurn self.old.zeal self.old.follow.config id mine
-            (record { by = id; verb = verb_or_beat plan.due; answer = answer })
+            (record { by = id; verb = verb_or_beat (due_of plan); answer = answer })
             → IsPossible self.old.follow.config id
-            (record { by = id; verb = verb_or_beat plan.due; answer = answer } ∷ mine)
+            (record { by = id; verb = verb_or_beat (due_of plan); answer = answer } ∷ mine)
             → StandsForNode self.old.follow.config id
-            (record { by = id; verb = verb_or_beat plan.due; answer = answer } ∷ mine) self.new }
+            (record { by = id; verb = verb_or_beat (due_of plan); answer = answer } ∷ mine) self.new }
         ensures zeal { self.new.zeal ≡ self.old.zeal }
         ensures stops { self.new.stops ≡ self.old.stops }
-        ensures note { TellsTook self.old.follow.config id mine plan.leads plan.due plan.heeded
+        ensures note { TellsTook self.old.follow.config id mine plan.leads (due_of plan) plan.heeded
             answer
             result }
-        ensures says { SaysTook self.old.follow.config id mine plan.leads plan.due plan.heeded
+        ensures says { SaysTook self.old.follow.config id mine plan.leads (due_of plan) plan.heeded
             self.old.lead self.new.lead answer result }
     {
-        match plan.due {
-            Some(verb) => {
-                if plan.leads {
-                    self.took_led(verb, id, answer, plan.heeded)
-                } else {
-                    self.note_other(id, verb, answer);
-                    plan.heeded
-                }
-            }
-            None => {
-                self.note_other(id, Verb::Beat, answer);
-                plan.heeded
-            }
+        if plan.leads {
+            self.took_led(plan.verb, id, answer, plan.heeded)
+        } else {
+            self.note_other(id, plan.verb, answer);
+            plan.heeded
         }
     }
 

@@ -3,6 +3,7 @@ use Rattle.std.specs.Prelude.{if◌then◌else◌, is_some}
 use Rattle.std.proofs.lemmas.Bool.{true≢false}
 use Rattle.mu_model.specs.Stretches.{is_odd}
 use Rattle.mu_lead.specs.declared.note.Note.{Note}
+use Rattle.mu_node.specs.Plans.{due_of}
 use Rattle.mu_node.specs.Due.{FitsLead, lead_due}
 use Rattle.mu_node.specs.Notes.{heed_note}
 use Rattle.mu_node.proofs.Turning.{odd_planned}
@@ -57,7 +58,7 @@ returns-then-is_turn_of_leader-clause-heeded g c =
 pub returns-else-is_turn_of_leader-clause-fits : goal.returns-else-is_turn_of_leader-clause-fits
 returns-else-is_turn_of_leader-clause-fits g c =
     let node = c.args.self.now in
-    subst (λ t. FitsLead node.follow.config node.id g.mine c.plan_cycle.new.self.lead t c.plan_cycle.result.due) (sym c.plan_cycle.ensures.leads) c.plan_cycle.ensures.fits
+    subst (λ t. FitsLead node.follow.config node.id g.mine c.plan_cycle.new.self.lead t (due_of c.plan_cycle.result)) (sym c.plan_cycle.ensures.leads) c.plan_cycle.ensures.fits
 
 pub returns-else-is_turn_of_leader-clause-leads : goal.returns-else-is_turn_of_leader-clause-leads
 returns-else-is_turn_of_leader-clause-leads g c =

@@ -1,8 +1,10 @@
 use Rattle.std.proofs.Common.{◌∙◌, ap, false, subst, sym}
+use Rattle.std.proofs.lemmas.Bool.{true≢false}
 use Rattle.mu_model.specs.Allowed.{Allowed}
 use Rattle.mu_follow.specs.CatchingUp.{or_else}
 use Rattle.mu_lead.specs.declared.lead.Lead.{Lead}
 use Rattle.mu_lead.specs.Beside.{leads_at}
+use Rattle.mu_node.specs.Plans.{due_of}
 use Rattle.mu_node.specs.Due.{FitsLead, write_due, verb_or_beat}
 use Rattle.mu_node.proofs.Rounding.{cycle_writes_none}
 use Rattle.mu_node.proofs.Writing.{cycle_fits}
@@ -22,7 +24,7 @@ returns-clause-allowed g c =
     let due = c.background-due.ensures.due k node.id g.mine c.requires.1.0 c.requires.1.1.0 c.requires.1.1.1.0 held in
     let planned = c.background-due.ensures.stands k node.id g.mine c.requires.1.1.1.0 c.requires.1.0 held in
     let is = c.or_ahead.ensures k node.id g.mine c.requires.0 c.requires.1.0 planned c.requires.1.1.1.0 in
-    subst (λ d. Allowed k node.id g.mine (verb_or_beat d)) (sym is)
+    subst (λ d. Allowed k node.id g.mine (verb_or_beat d)) (sym (c.beside.ensures.due ∙ is))
     (cycle_fits c.background-due.new.self.zeal k node.id g.mine node.lead c.background-due.result held.lead held.paces.listed c.requires.1.1.0 held.beside.follow.inside c.requires.1.1.1.0 may (cycle_writes_none k node.id g.mine (leads_at node.lead.place) c.background-due.result due)).allowed
 
 pub returns-clause-fits : goal.returns-clause-fits
@@ -34,8 +36,8 @@ returns-clause-fits g c =
     let due = c.background-due.ensures.due k node.id g.mine c.requires.1.0 c.requires.1.1.0 c.requires.1.1.1.0 held in
     let planned = c.background-due.ensures.stands k node.id g.mine c.requires.1.1.1.0 c.requires.1.0 held in
     let is = c.or_ahead.ensures k node.id g.mine c.requires.0 c.requires.1.0 planned c.requires.1.1.1.0 in
-    subst (λ (l : Lead). FitsLead k node.id g.mine l false c.or_ahead.result) (sym c.background-due.ensures.lead)
-    (subst (λ d. FitsLead k node.id g.mine node.lead false d) (sym is)
+    subst (λ (l : Lead). FitsLead k node.id g.mine l false (due_of c.beside.result)) (sym c.background-due.ensures.lead)
+    (subst (λ d. FitsLead k node.id g.mine node.lead false d) (sym (c.beside.ensures.due ∙ is))
     (cycle_fits c.background-due.new.self.zeal k node.id g.mine node.lead c.background-due.result held.lead held.paces.listed c.requires.1.1.0 held.beside.follow.inside c.requires.1.1.1.0 may (cycle_writes_none k node.id g.mine (leads_at node.lead.place) c.background-due.result due)).fits)
 
 pub returns-clause-cycle : goal.returns-clause-cycle
@@ -47,5 +49,11 @@ returns-clause-cycle g c =
     record {
       first = c.background-due.result;
       background = c.background-due.ensures.due k node.id g.mine c.requires.1.0 c.requires.1.1.0 c.requires.1.1.1.0 held;
-      whole = c.or_ahead.ensures k node.id g.mine c.requires.0 c.requires.1.0 planned c.requires.1.1.1.0 ∙ ap (λ z. or_else c.background-due.result (write_due z k node.id g.mine)) c.background-due.ensures.zeal;
+      whole = c.beside.ensures.due ∙ (c.or_ahead.ensures k node.id g.mine c.requires.0 c.requires.1.0 planned c.requires.1.1.1.0 ∙ ap (λ z. or_else c.background-due.result (write_due z k node.id g.mine)) c.background-due.ensures.zeal);
     }
+
+pub returns-clause-made : goal.returns-clause-made
+returns-clause-made g c = c.beside.ensures.made ∙ ap verb_or_beat (sym c.beside.ensures.due)
+
+pub returns-clause-some : goal.returns-clause-some
+returns-clause-some g c on = absurd (true≢false (sym on ∙ c.beside.ensures.leads))

@@ -1,6 +1,7 @@
 use Rattle.std.proofs.Common.{◌≡◌, ◌∙◌, ◌==◌, false, None, ap, length, subst, sym}
 use Rattle.std.specs.Prelude.{IfSome, if◌then◌else◌, is_some}
 use Rattle.std.specs.declared.option.Option.{Option}
+use Rattle.std.proofs.lemmas.Bool.{true≢false}
 use Rattle.mu_model.specs.declared.event.Verb.{Verb}
 use Rattle.mu_model.specs.Allowed.{Allowed}
 use Rattle.mu_model.specs.Scores.{leader}
@@ -8,7 +9,7 @@ use Rattle.mu_follow.specs.declared.follow.Follow.{Follow}
 use Rattle.mu_follow.specs.CatchingUp.{or_else}
 use Rattle.mu_follow.specs.Due.{IsReplay}
 use Rattle.mu_lead.specs.Standing.{verb_of}
-use Rattle.mu_node.specs.Due.{idle_due, lead_due, verb_or_beat}
+use Rattle.mu_node.specs.Due.{FitsLead, idle_due, lead_due, verb_or_beat}
 use Rattle.mu_node.proofs.CatchingUp.{idle_fits}
 use Rattle.mu_node.proofs.Leads.{allowed_of, lead_allowed, made_allowed}
 use Rattle.mu_node.proofs.node.Node.plan_led.Goals as goal
@@ -55,9 +56,11 @@ returns-in-None-clause-fits g c =
     let known = c.known.ensures node.follow.config node.id g.mine (length g.mine) c.heed-heeded.ensures.stands.beside.follow in
     let due : c.due.result ≡ lead_due node.follow.config node.id g.mine new.lead =
     c.due.ensures.exact ∙ (ap (λ t. if t then verb_of new.lead c.known.result.now else None) c.heed-heeded.ensures.named ∙ ap (λ l. if leader node.follow.config node.id g.mine == node.id then verb_of new.lead l else None) known) in
-    idle_fits new.zeal node.follow.config node.id g.mine new.lead c.idle.result
+    subst (λ d. FitsLead node.follow.config node.id g.mine new.lead c.beside.result.leads d) (sym c.beside.ensures.due)
+    (subst (λ l. FitsLead node.follow.config node.id g.mine new.lead l c.idle.result) (sym c.beside.ensures.leads)
+    (idle_fits new.zeal node.follow.config node.id g.mine new.lead c.idle.result
     (c.idle.ensures.exact ∙ (ap (λ (f : Follow). idle_due new.zeal f.config new.id g.mine) c.heed-heeded.ensures.follow ∙ ap (λ i. idle_due new.zeal node.follow.config i g.mine) c.heed-heeded.ensures.id))
-    (sym due ∙ c.in-None.is) c.heed-heeded.ensures.leads
+    (sym due ∙ c.in-None.is) c.heed-heeded.ensures.leads))
 
 pub returns-in-None-clause-led : goal.returns-in-None-clause-led
 returns-in-None-clause-led g c =
@@ -67,11 +70,12 @@ returns-in-None-clause-led g c =
     let due : c.due.result ≡ lead_due node.follow.config node.id g.mine new.lead =
     c.due.ensures.exact ∙ (ap (λ t. if t then verb_of new.lead c.known.result.now else None) c.heed-heeded.ensures.named ∙ ap (λ l. if leader node.follow.config node.id g.mine == node.id then verb_of new.lead l else None) known) in
     let none : lead_due node.follow.config node.id g.mine node.lead ≡ None = sym c.heed-heeded.ensures.due ∙ (sym due ∙ c.in-None.is) in
-    c.idle.ensures.exact
+    c.beside.ensures.due
+    ∙ (c.idle.ensures.exact
     ∙ (ap (λ (f : Follow). idle_due new.zeal f.config new.id g.mine) c.heed-heeded.ensures.follow
     ∙ (ap (λ i. idle_due new.zeal node.follow.config i g.mine) c.heed-heeded.ensures.id
     ∙ (ap (λ z. idle_due z node.follow.config node.id g.mine) c.heed-heeded.ensures.zeal
-    ∙ sym (ap (λ o. or_else o (idle_due node.zeal node.follow.config node.id g.mine)) none))))
+    ∙ sym (ap (λ o. or_else o (idle_due node.zeal node.follow.config node.id g.mine)) none)))))
 
 pub returns-in-None-clause-allowed : goal.returns-in-None-clause-allowed
 returns-in-None-clause-allowed g c =
@@ -80,4 +84,20 @@ returns-in-None-clause-allowed g c =
     let held = c.heed-heeded.ensures.stands in
     let may = subst (λ i. IfSome c.idle.result (λ verb. Allowed node.follow.config i g.mine verb × IsReplay false verb)) c.heed-heeded.ensures.id
     (subst (λ (f : Follow). IfSome c.idle.result (λ verb. Allowed f.config new.id g.mine verb × IsReplay false verb)) c.heed-heeded.ensures.follow c.idle.ensures.allowed) in
-    made_allowed node.follow.config node.id g.mine c.idle.result c.requires.1.1.0 held.beside.follow.inside (allowed_of node.follow.config node.id g.mine c.idle.result may)
+    subst (λ d. Allowed node.follow.config node.id g.mine (verb_or_beat d)) (sym c.beside.ensures.due)
+    (made_allowed node.follow.config node.id g.mine c.idle.result c.requires.1.1.0 held.beside.follow.inside (allowed_of node.follow.config node.id g.mine c.idle.result may))
+
+pub returns-in-None-clause-leads : goal.returns-in-None-clause-leads
+returns-in-None-clause-leads g c =
+    let node = c.args.self.now in
+    let lead = c.heed-heeded.new.self.lead in
+    let known = c.known.ensures node.follow.config node.id g.mine (length g.mine) c.heed-heeded.ensures.stands.beside.follow in
+    let due : c.due.result ≡ lead_due node.follow.config node.id g.mine lead =
+    c.due.ensures.exact ∙ (ap (λ t. if t then verb_of lead c.known.result.now else None) c.heed-heeded.ensures.named ∙ ap (λ l. if leader node.follow.config node.id g.mine == node.id then verb_of lead l else None) known) in
+    c.beside.ensures.leads ∙ sym (ap (λ (o : Option Verb). is_some o) (sym c.heed-heeded.ensures.due ∙ (sym due ∙ c.in-None.is)))
+
+pub returns-in-None-clause-made : goal.returns-in-None-clause-made
+returns-in-None-clause-made g c = c.beside.ensures.made ∙ ap verb_or_beat (sym c.beside.ensures.due)
+
+pub returns-in-None-clause-some : goal.returns-in-None-clause-some
+returns-in-None-clause-some g c on = absurd (true≢false (sym on ∙ c.beside.ensures.leads))

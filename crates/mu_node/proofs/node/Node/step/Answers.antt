@@ -14,6 +14,7 @@ use Rattle.mu_model.specs.Stretches.{is_odd}
 use Rattle.mu_lead.specs.Beside.{leads_at}
 use Rattle.mu_node.specs.declared.node.Node.{Node}
 use Rattle.mu_node.specs.Cycle.{IsBackgroundDue, IsCycleDue, IsMade}
+use Rattle.mu_node.specs.Plans.{due_of}
 use Rattle.mu_node.specs.Due.{FitsLead, idle_due, lead_due, turn_due, verb_or_beat}
 use Rattle.mu_follow.specs.CatchingUp.{or_else}
 use Rattle.mu_lead.specs.Journal.{tables_at}
@@ -54,8 +55,8 @@ step-answer-requires g c =
     let mine = g.P.Port.part c.args.port.now in
     let node = c.args.self.now in
     let held = c.requires.1.1.1.1.1.1.0 in
-    to_port (λ x i l. Allowed x i l c.or_beat-verb.result) k node.follow.config r node.id mine g.mine held.beside.follow.config held.beside.id c.requires.1.0
-    (subst (λ v. Allowed node.follow.config node.id g.mine v) (sym c.or_beat-verb.ensures) c.plan-plan.ensures.allowed)
+    to_port (λ x i l. Allowed x i l c.plan-plan.result.verb) k node.follow.config r node.id mine g.mine held.beside.follow.config held.beside.id c.requires.1.0
+    (subst (λ v. Allowed node.follow.config node.id g.mine v) (sym c.plan-plan.ensures.made) c.plan-plan.ensures.allowed)
 
 pub took-requires : goal.took-requires
 took-requires g c =
@@ -73,8 +74,8 @@ took-requires g c =
         (
           omega (arith, short, room),
           (
-            to_own (λ x i l. FitsLead x i l new.lead c.plan-plan.result.leads c.plan-plan.result.due) node.follow.config new.follow.config node.id new.id g.mine g.mine plan.config plan.id refl plan.fits,
-            (λ on. (and_parts (is_odd (length g.mine)) (is_some (lead_due node.follow.config node.id g.mine node.lead)) (sym plan.leads ∙ on)).0, to_own (λ x i l. HasPlanned x i l new) node.follow.config new.follow.config node.id new.id g.mine g.mine plan.config plan.id refl plan.planned),
+            to_own (λ x i l. FitsLead x i l new.lead c.plan-plan.result.leads (due_of c.plan-plan.result)) node.follow.config new.follow.config node.id new.id g.mine g.mine plan.config plan.id refl plan.fits,
+            (λ on. (and_parts (is_odd (length g.mine)) (is_some (lead_due node.follow.config node.id g.mine node.lead)) (sym plan.leads ∙ on)).0, (to_own (λ x i l. HasPlanned x i l new) node.follow.config new.follow.config node.id new.id g.mine g.mine plan.config plan.id refl plan.planned, (plan.made, plan.some))),
           ),
         ),
       ),
@@ -120,15 +121,15 @@ returns-clause-stands g c =
     let good = subst (λ x. IsConfig x) (sym own) c.requires.1.1.1.0 in
     let possible = to_own IsPossible (g.P.Port.config old) node.follow.config (g.P.Port.number old) node.id (g.P.Port.part old) g.mine own id c.requires.1.0 c.requires.1.1.1.1.0 in
     let short = to_own (λ x i l. length l < x.budget) (g.P.Port.config old) node.follow.config (g.P.Port.number old) node.id (g.P.Port.part old) g.mine own id c.requires.1.0 c.requires.1.1.1.1.1.0 in
-    let due = c.plan-plan.result.due in
+    let due = due_of c.plan-plan.result in
     let answer = c.step-answer.result in
     let going = to_own (λ x i l. outrun x i l ≡ None) (g.P.Port.config old) node.follow.config (g.P.Port.number old) node.id (g.P.Port.part old) g.mine own id c.requires.1.0 c.requires.1.1.1.1.1.1.1 in
     let stands = to_own (λ x i l. StandsForNode x i l node) (g.P.Port.config old) node.follow.config (g.P.Port.number old) node.id (g.P.Port.part old) g.mine own id c.requires.1.0 held in
     let follows = to_own (λ x i l. FollowsTurn new.zeal x i l (event_by i (verb_or_beat due) answer)) node.follow.config new.follow.config node.id c.args.id g.mine g.mine plan.config (c.requires.1.1.0 ∙ sym id) refl
     (subst (λ z. FollowsTurn z node.follow.config node.id g.mine (event_by node.id (verb_or_beat due) answer)) (sym plan.zeal) (follows_of node.follow.config node.id g.mine node new due answer good possible short going stands plan.planned plan.led plan.cycle)) in
-    moved (g.P.Port.config old) (g.P.Port.config now) new.follow.config (g.P.Port.number old) (g.P.Port.number now) c.args.id (g.P.Port.part old) g.mine (g.P.Port.part now) c.or_beat-verb.result (verb_or_beat due) answer c.took.new.self
+    moved (g.P.Port.config old) (g.P.Port.config now) new.follow.config (g.P.Port.number old) (g.P.Port.number now) c.args.id (g.P.Port.part old) g.mine (g.P.Port.part now) c.plan-plan.result.verb (verb_or_beat due) answer c.took.new.self
     (g.met.P.Port.same_config old now c.step-answer.ensures.same) (g.met.P.Port.same_number old now c.step-answer.ensures.same)
-    (plan.config ∙ own) c.requires.1.1.0 c.requires.1.0 c.or_beat-verb.ensures c.step-answer.ensures.part c.step-answer.ensures.possible (c.took.ensures.stands follows)
+    (plan.config ∙ own) c.requires.1.1.0 c.requires.1.0 c.plan-plan.ensures.made c.step-answer.ensures.part c.step-answer.ensures.possible (c.took.ensures.stands follows)
 
 pub returns-clause-made : goal.returns-clause-made
 returns-clause-made g c =
@@ -143,21 +144,21 @@ returns-clause-made g c =
     let held = c.requires.1.1.1.1.1.1.0 in
     let own = held.beside.follow.config in
     let id = held.beside.id in
-    let due = c.plan-plan.result.due in
+    let due = due_of c.plan-plan.result in
     let answer = c.step-answer.result in
-    let possible = possible_own k (g.P.Port.config now) node.follow.config r (g.P.Port.number now) node.id mine g.mine (g.P.Port.part now) c.or_beat-verb.result (verb_or_beat due) answer
+    let possible = possible_own k (g.P.Port.config now) node.follow.config r (g.P.Port.number now) node.id mine g.mine (g.P.Port.part now) c.plan-plan.result.verb (verb_or_beat due) answer
     (g.met.P.Port.same_config old now c.step-answer.ensures.same) (g.met.P.Port.same_number old now c.step-answer.ensures.same)
-    own id c.requires.1.0 c.or_beat-verb.ensures c.step-answer.ensures.part c.step-answer.ensures.possible in
+    own id c.requires.1.0 c.plan-plan.ensures.made c.step-answer.ensures.part c.step-answer.ensures.possible in
     let took = to_own (λ x i l. TellsTook x i l c.plan-plan.result.leads due c.plan-plan.result.heeded answer c.took.result) new.follow.config node.follow.config c.args.id node.id g.mine g.mine (sym plan.config) (id ∙ sym c.requires.1.1.0) refl c.took.ensures.note in
     let says = to_own (λ x i l. SaysTook x i l c.plan-plan.result.leads due c.plan-plan.result.heeded new.lead c.took.new.self.lead answer c.took.result) new.follow.config node.follow.config c.args.id node.id g.mine g.mine (sym plan.config) (id ∙ sym c.requires.1.1.0) refl c.took.ensures.says in
     let stands = to_own (λ x i l. StandsForNode x i l node) k node.follow.config r node.id mine g.mine own id c.requires.1.0 held in
     let listed = stands.paces.listed in
     record {
-      verb = c.or_beat-verb.result;
+      verb = c.plan-plan.result.verb;
       answer = answer;
       part = c.step-answer.ensures.part;
-      made = to_port (λ x i l. IsMade node.zeal x i l c.or_beat-verb.result) k node.follow.config r node.id mine g.mine own id c.requires.1.0
-          (subst (λ v. IsMade node.zeal node.follow.config node.id g.mine v) (sym c.or_beat-verb.ensures) (record { replication = λ odd. ap verb_or_beat (turn_listed node.follow.config node.id g.mine node due stands plan.led odd); background = λ even. ((plan.cycle even).first, subst (λ l. IsBackgroundDue node.follow.config node.id g.mine l (plan.cycle even).first) (ap leads_at listed.place) (plan.cycle even).background, ap verb_or_beat (plan.cycle even).whole) }));
+      made = to_port (λ x i l. IsMade node.zeal x i l c.plan-plan.result.verb) k node.follow.config r node.id mine g.mine own id c.requires.1.0
+          (subst (λ v. IsMade node.zeal node.follow.config node.id g.mine v) (sym c.plan-plan.ensures.made) (record { replication = λ odd. ap verb_or_beat (turn_listed node.follow.config node.id g.mine node due stands plan.led odd); background = λ even. ((plan.cycle even).first, subst (λ l. IsBackgroundDue node.follow.config node.id g.mine l (plan.cycle even).first) (ap leads_at listed.place) (plan.cycle even).background, ap verb_or_beat (plan.cycle even).whole) }));
       tells = to_port (λ x i l. TellsNote x i l node.lead answer c.took.result) k node.follow.config r node.id mine g.mine own id c.requires.1.0
           (note_told node.zeal node.follow.config node.id g.mine node.lead new.lead c.took.new.self.lead c.plan-plan.result.leads due c.plan-plan.result.heeded answer c.took.result plan.leads plan.led plan.heeded possible took plan.told says stands.lead listed);
     }
@@ -171,7 +172,7 @@ returns-clause-going g c =
     let held = c.requires.1.1.1.1.1.1.0 in
     let own = held.beside.follow.config in
     let id = held.beside.id in
-    let due = c.plan-plan.result.due in
+    let due = due_of c.plan-plan.result in
     let answer = c.step-answer.result in
     let next = c.took.new.self.lead in
     let says = to_own (λ x i l. SaysTook x i l c.plan-plan.result.leads due c.plan-plan.result.heeded new.lead next answer c.took.result) new.follow.config node.follow.config c.args.id node.id g.mine g.mine (sym plan.config) (id ∙ sym c.requires.1.1.0) refl c.took.ensures.says in
