@@ -2,11 +2,11 @@
 ghost use Rattle.std.specs.Prelude.{IfOk, [], length, slice_index, ◌<◌, ◌≡◌};
 ghost use Rattle.mu_model.specs.Contents.{IsConfig};
 ghost use Rattle.mu_words.specs.Finding.{name_at};
-ghost use Rattle.mu_words.specs.Places.{IsLayoutOf, IsName, place_of, word_count};
+ghost use Rattle.mu_words.specs.Places.{IsLayoutOf, IsName, word_count};
 ghost use Rattle.mu_words.specs.Steps.{VerbFits, WordFits};
 ghost use Rattle.word_fabric.specs.Kept.{HoldsFirst, HoldsFounds, IsMade, place_at};
 
-use mu_model::{Answer, Config, NoMemory, Target, Verb};
+use mu_model::{Answer, Config, NoMemory, Verb};
 use mu_words::{Found, Layout};
 use std::alloc::Global;
 
@@ -42,36 +42,6 @@ pub(crate) fn first_founds(alloc: Global, config: &Config) -> Result<Vec<Found>,
     Ok(founds)
 }
 
-/// The place of the word on which the replica `id` makes the step, if its last `Close` found the
-/// target. It is the layout's place of the step's name, by one look at the verb instead of two:
-/// every step of a replay comes through here.
-#[inline(always)]
-fn place_of_step(layout: &Layout, id: u8, target: Target, verb: &Verb) -> usize
-    requires ring { 0 < layout.now.ring }
-    requires named { IsName layout.now (name_at layout.now.ring id target verb.now) }
-    ensures { result ≡ place_of layout.now (name_at layout.now.ring id target verb.now) }
-{
-    match *verb {
-        Verb::Ask(p) => layout.ask_of(p, id),
-        Verb::Fence(p) | Verb::Enter(p, _) => layout.fence_of(p),
-        Verb::Min(p) | Verb::PutMin(p, _) => layout.min_of(p),
-        Verb::Look(p, position) | Verb::PutSlot(p, position, _, _) => layout.slot_place(
-            p, position,
-        ),
-        Verb::Fuo(p) | Verb::RaiseFuo(p, _) => layout.fuo_of(p),
-        Verb::Head(q) => layout.head_of(q),
-        Verb::ReadBeat(q) => layout.beat_of(q),
-        Verb::ReadRow(value, word) => layout.row_of(value, word),
-        Verb::RaiseHead(_) => layout.head_of(id),
-        Verb::Beat => layout.beat_of(id),
-        Verb::ReadAsk(w) => layout.ask_of(id, w),
-        Verb::Close | Verb::Grant(_) => layout.fence_of(id),
-        Verb::WriteRow(_, _, _) | Verb::LookTarget | Verb::Drain => {
-            layout.place_of(layout.name_of(id, target, verb))
-        }
-    }
-}
-
 /// Makes a step on its word: it answers by the word that it finds, and the replica notes it.
 #[inline(always)]
 #[tactic(auto, using(crate::proofs::FirstWords::place_inside))]
@@ -92,7 +62,7 @@ pub(crate) fn make_step(
         (slice_index words.old (place_at layout.now by found.old verb.now)) }
     ensures { IsMade layout.now by verb.now words.old found.old result words.new found.new }
 {
-    let place = place_of_step(layout, by, found.close_target(), verb);
+    let place = layout.place_of(layout.name_of(by, found.close_target(), verb));
     let expected = found.expected(by, verb);
     let word = words[place];
     let answer = layout.answer_from(verb, expected, word);
