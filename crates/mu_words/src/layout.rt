@@ -1,5 +1,5 @@
 //! The places of all words.
-ghost use Rattle.std.specs.Prelude.{◌*◌, ◌<◌, ◌≡◌, ◌≤◌};
+ghost use Rattle.std.specs.Prelude.{◌%◌, ◌*◌, ◌/◌, ◌<◌, ◌≡◌, ◌≤◌};
 ghost use Rattle.mu_model.specs.Contents.{row_count};
 ghost use Rattle.mu_words.specs.Finding.{name_at};
 ghost use Rattle.mu_words.specs.Places.{IsLayoutOf, IsName, place_of, region_start, rows_start, word_count};
@@ -68,7 +68,7 @@ impl Layout {
     }
 
     /// The place of a minimum.
-    fn min_of(&self, p: u8) -> usize
+    pub fn min_of(&self, p: u8) -> usize
         requires { p < self.now.replicas }
         ensures { result ≡ place_of self.now (Name.Min p) }
     {
@@ -76,7 +76,7 @@ impl Layout {
     }
 
     /// The place of a FUO.
-    fn fuo_of(&self, p: u8) -> usize
+    pub fn fuo_of(&self, p: u8) -> usize
         requires { p < self.now.replicas }
         ensures { result ≡ place_of self.now (Name.Fuo p) }
     {
@@ -84,7 +84,7 @@ impl Layout {
     }
 
     /// The place of a head.
-    fn head_of(&self, p: u8) -> usize
+    pub fn head_of(&self, p: u8) -> usize
         requires { p < self.now.replicas }
         ensures { result ≡ place_of self.now (Name.Head p) }
     {
@@ -92,7 +92,7 @@ impl Layout {
     }
 
     /// The place of a count of beats.
-    fn beat_of(&self, p: u8) -> usize
+    pub fn beat_of(&self, p: u8) -> usize
         requires { p < self.now.replicas }
         ensures { result ≡ place_of self.now (Name.Beat p) }
     {
@@ -100,11 +100,29 @@ impl Layout {
     }
 
     /// The place of the word by which `w` asks for the region `p`.
-    fn ask_of(&self, p: u8, w: u8) -> usize
+    pub fn ask_of(&self, p: u8, w: u8) -> usize
         requires { IsName self.now (Name.Ask p w) }
         ensures { result ≡ place_of self.now (Name.Ask p w) }
     {
         self.region_start(p) + 5 + usize::from(w)
+    }
+
+    /// The place of the slot of a position: positions that differ by a multiple of the ring share
+    /// it.
+    pub fn slot_place(&self, p: u8, position: u16) -> usize
+        requires region { p < self.now.replicas }
+        requires ring { 0 < self.now.ring }
+        ensures { result ≡ place_of self.now (Name.Slot p (position % self.now.ring)) }
+    {
+        self.place_in_ring(p, position % self.ring)
+    }
+
+    /// The place of a word of the row of a payload number.
+    pub fn row_of(&self, payload: u16, word: u8) -> usize
+        requires { IsName self.now (Name.Row (payload / 4096) (payload % 4096) word) }
+        ensures { result ≡ place_of self.now (Name.Row (payload / 4096) (payload % 4096) word) }
+    {
+        self.place_in_row((payload / 4_096) as u8, payload % 4_096, word)
     }
 
     /// The place of a word by its name.
