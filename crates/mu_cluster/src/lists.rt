@@ -62,6 +62,7 @@ pub(crate) fn printed(mut room: Vec<Reply>, lists: &Lists) -> Replies
     ensures { (f : List ℕ → List SomeReply) → f [] ≡ [] → AreOf f lists.now
         → result ≡ f (longest lists.now.logs.items) }
 {
+    // There is room for all, so no memory is wanted.
     room.extend_from_slice(lists.longest_replies()).unwrap();
     Sequence::from_vec(room)
 }

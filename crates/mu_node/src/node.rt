@@ -225,6 +225,7 @@ impl Node {
             mut answers,
         } = self;
         apply_ready(&mut follow, &mut answers);
+        // `Node::new` took room for all, so no memory is wanted.
         log.extend_from_slice(first_values(follow.known(), follow.applied_count()))
             .unwrap();
         commits.extend_from_slice(follow.commits()).unwrap();

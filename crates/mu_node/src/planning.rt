@@ -34,7 +34,7 @@ use mu_model::{Answer, Event, Verb};
 pub(crate) struct Plan {
     /// The verb that is due, else a beat.
     pub(crate) verb: Verb,
-    /// Whether one is due.
+    /// Whether one is due. Only contracts read this.
     pub(crate) is_due: bool,
     /// Whether it is of the leader.
     pub(crate) leads: bool,
@@ -371,7 +371,8 @@ impl Node {
             → IsPossible self.old.follow.config id
             (record { by = id; verb = verb_or_beat (due_of plan); answer = answer } ∷ mine)
             → StandsForNode self.old.follow.config id
-            (record { by = id; verb = verb_or_beat (due_of plan); answer = answer } ∷ mine) self.new }
+            (record { by = id; verb = verb_or_beat (due_of plan); answer = answer } ∷ mine)
+            self.new }
         ensures zeal { self.new.zeal ≡ self.old.zeal }
         ensures stops { self.new.stops ≡ self.old.stops }
         ensures note { TellsTook self.old.follow.config id mine plan.leads (due_of plan) plan.heeded
