@@ -62,25 +62,35 @@ impl Port for SharedPort {
     }
 
     fn step(&mut self, verb: Verb) -> Answer {
+        // The verb is named in each arm, so the compiler settles its word, what it expects, its
+        // answer and what is noted.
         match verb {
-            Verb::WriteRow(_, _, _) => self.seat.store(&self.words, verb),
-            Verb::RaiseFuo(_, _) | Verb::RaiseHead(_) => self.seat.raise(&self.words, verb),
-            Verb::Ask(_) | Verb::Beat => self.seat.add(&self.words, verb),
-            Verb::Enter(_, _) => self.seat.enter(&self.words, verb),
-            Verb::PutMin(_, _) => self.seat.put_min(&self.words, verb),
-            Verb::PutSlot(_, _, _, _) => self.seat.put_slot(&self.words, verb),
-            Verb::Close => self.seat.close(&self.words, verb),
-            Verb::Drain => self.seat.drain(&self.words, verb),
-            Verb::Grant(_) => self.seat.grant(&self.words, verb),
-            Verb::Fence(_)
-            | Verb::Min(_)
-            | Verb::Look(_, _)
-            | Verb::Fuo(_)
-            | Verb::Head(_)
-            | Verb::ReadBeat(_)
-            | Verb::ReadRow(_, _)
-            | Verb::ReadAsk(_)
-            | Verb::LookTarget => self.seat.load(&self.words, verb),
+            Verb::WriteRow(row, word, content) => {
+                self.seat
+                    .store(&self.words, Verb::WriteRow(row, word, content))
+            }
+            Verb::RaiseFuo(p, fuo) => self.seat.raise(&self.words, Verb::RaiseFuo(p, fuo)),
+            Verb::RaiseHead(head) => self.seat.raise(&self.words, Verb::RaiseHead(head)),
+            Verb::Ask(p) => self.seat.add(&self.words, Verb::Ask(p)),
+            Verb::Beat => self.seat.add(&self.words, Verb::Beat),
+            Verb::Enter(p, target) => self.seat.enter(&self.words, Verb::Enter(p, target)),
+            Verb::PutMin(p, number) => self.seat.put_min(&self.words, Verb::PutMin(p, number)),
+            Verb::PutSlot(p, position, number, value) => {
+                let verb = Verb::PutSlot(p, position, number, value);
+                self.seat.put_slot(&self.words, verb)
+            }
+            Verb::Close => self.seat.close(&self.words, Verb::Close),
+            Verb::Drain => self.seat.drain(&self.words, Verb::Drain),
+            Verb::Grant(owner) => self.seat.grant(&self.words, Verb::Grant(owner)),
+            Verb::Fence(p) => self.seat.load(&self.words, Verb::Fence(p)),
+            Verb::Min(p) => self.seat.load(&self.words, Verb::Min(p)),
+            Verb::Look(p, position) => self.seat.load(&self.words, Verb::Look(p, position)),
+            Verb::Fuo(p) => self.seat.load(&self.words, Verb::Fuo(p)),
+            Verb::Head(q) => self.seat.load(&self.words, Verb::Head(q)),
+            Verb::ReadBeat(q) => self.seat.load(&self.words, Verb::ReadBeat(q)),
+            Verb::ReadRow(value, word) => self.seat.load(&self.words, Verb::ReadRow(value, word)),
+            Verb::ReadAsk(w) => self.seat.load(&self.words, Verb::ReadAsk(w)),
+            Verb::LookTarget => self.seat.load(&self.words, Verb::LookTarget),
         }
     }
 

@@ -13,6 +13,7 @@ use std::marker::Brand;
 
 impl PortSeat {
     /// Adds 1 to the replica's own beat or to an ask. Takes no memory, and does not wait.
+    #[inline(always)]
     pub fn add(&mut self, words: &Words, verb: Verb) -> Answer
         requires of { IsOf words.now self.old }
         requires kind { is_add verb ≡ true }

@@ -14,6 +14,7 @@ use std::marker::Brand;
 
 impl PortSeat {
     /// Sets the closing bit of the replica's own fence. Takes no memory, and does not wait.
+    #[inline(always)]
     pub fn close(&mut self, words: &Words, verb: Verb) -> Answer
         requires of { IsOf words.now self.old }
         requires kind { is_close verb ≡ true }

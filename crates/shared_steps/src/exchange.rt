@@ -16,6 +16,7 @@ use std::marker::Brand;
 impl PortSeat {
     /// Exchanges the word of the verb for the word that the verb makes of it, if it still is the
     /// one that the replica keeps.
+    #[inline(always)]
     fn exchange(&mut self, words: &Words, verb: Verb) -> Answer
         requires of { IsOf words.now self.old }
         requires kind { is_exchange verb ≡ true }
@@ -47,6 +48,7 @@ impl PortSeat {
 
     /// Names at the fence of a region what the replica is about to put there, if the fence is as
     /// the replica noted it. Takes no memory, and does not wait.
+    #[inline(always)]
     pub fn enter(&mut self, words: &Words, verb: Verb) -> Answer
         requires of { IsOf words.now self.old }
         requires kind { is_enter verb ≡ true }
@@ -59,6 +61,7 @@ impl PortSeat {
 
     /// Puts into a minimum, if it still is the word that was seen or put last before the last
     /// `Enter`. Takes no memory, and does not wait.
+    #[inline(always)]
     pub fn put_min(&mut self, words: &Words, verb: Verb) -> Answer
         requires of { IsOf words.now self.old }
         requires kind { is_put_min verb ≡ true }
@@ -71,6 +74,7 @@ impl PortSeat {
 
     /// Puts into a slot, if it still is the word that was seen last before the last `Enter`. Takes
     /// no memory, and does not wait.
+    #[inline(always)]
     pub fn put_slot(&mut self, words: &Words, verb: Verb) -> Answer
         requires of { IsOf words.now self.old }
         requires kind { is_slot_put_verb verb ≡ true }
@@ -83,6 +87,7 @@ impl PortSeat {
 
     /// Raises the stamp of the word that was looked at, if no put changed it since. Takes no
     /// memory, and does not wait.
+    #[inline(always)]
     pub fn drain(&mut self, words: &Words, verb: Verb) -> Answer
         requires of { IsOf words.now self.old }
         requires kind { is_drain verb ≡ true }

@@ -25,6 +25,7 @@ fn owner(verb: &Verb) -> u8
 impl PortSeat {
     /// Grants the replica's own region: the fence gets the next grant and another owner. Takes no
     /// memory, and does not wait.
+    #[inline(always)]
     pub fn grant(&mut self, words: &Words, verb: Verb) -> Answer
         requires of { IsOf words.now self.old }
         requires kind { is_granting_verb verb ≡ true }

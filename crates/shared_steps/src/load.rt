@@ -14,6 +14,7 @@ use std::marker::Brand;
 
 impl PortSeat {
     /// Loads the word of a verb that only reads. Takes no memory, and does not wait.
+    #[inline(always)]
     pub fn load(&mut self, words: &Words, verb: Verb) -> Answer
         requires of { IsOf words.now self.old }
         requires kind { is_load verb ≡ true }

@@ -24,6 +24,7 @@ fn least(verb: &Verb) -> u64
 
 impl PortSeat {
     /// Raises a FUO or the replica's own head, if it is less. Takes no memory, and does not wait.
+    #[inline(always)]
     pub fn raise(&mut self, words: &Words, verb: Verb) -> Answer
         requires of { IsOf words.now self.old }
         requires kind { is_raise verb ≡ true }

@@ -9,6 +9,7 @@ use mu_model::{Answer, Event, Journal, Verb};
 use mu_words::{Found, Layout};
 
 /// The place of the word on which the replica makes a step.
+#[inline(always)]
 pub(crate) fn word_place(layout: &Layout, found: &Found, id: u8, verb: &Verb) -> usize
     requires ring { 0 < layout.now.ring }
     requires named { IsName layout.now
@@ -27,6 +28,7 @@ pub(crate) struct Sight {
 }
 
 /// Adds the event of a step to the journal, and keeps the word that it found. Takes no memory.
+#[inline(always)]
 pub(crate) fn note(
     layout: &Layout,
     journal: &mut Journal,

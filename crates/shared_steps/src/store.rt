@@ -23,6 +23,7 @@ fn content(verb: &Verb) -> u64
 
 impl PortSeat {
     /// Stores a word of one of the replica's own rows. Takes no memory, and does not wait.
+    #[inline(always)]
     pub fn store(&mut self, words: &Words, verb: Verb) -> Answer
         requires of { IsOf words.now self.old }
         requires kind { is_store verb ≡ true }
