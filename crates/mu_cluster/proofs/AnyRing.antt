@@ -13,7 +13,7 @@ use Rattle.mu_model.proofs.Parts.{filter-append}
 use Rattle.mu_outcome.specs.declared.outcome.Outcome.{Outcome}
 use Rattle.mu_outcome.specs.Completion.{Completes}
 use Rattle.mu_outcome.specs.Entries.{commands_in, longest}
-use Rattle.mu_outcome.specs.Outcomes.{IsRun, events_of}
+use Rattle.mu_outcome.specs.Outcomes.{IsRun, journals_of}
 use Rattle.mu_outcome.proofs.Completing.{all_from_log, completes_over}
 use Rattle.mu_alive.specs.Lagging.{steps_in_any_ring}
 use Rattle.mu_alive.proofs.Fetching.{applied_on}
@@ -45,7 +45,7 @@ any_ring_of o order seats rounds good run given played diligent unpaused unstopp
     events = run.order.events
 
     lengths : List ℕ
-    lengths = map (λ journal. length (events_of journal)) o.journals
+    lengths = map length (journals_of o)
 
     some : 0 < c.replicas
     some = (let l = good.replicas.0 in omega (arith, l))

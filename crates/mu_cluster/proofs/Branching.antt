@@ -1,5 +1,5 @@
 -- The turns of a replica over a port of its own, and what is left of it in the lists of an outcome.
-use Rattle.std.proofs.Common.{◌≡◌, ◌∙◌, ℕ, suc, ◌<◌, List, [], ◌∷◌, None, Some, ap, arith, length, refl, reverse, subst, sym}
+use Rattle.std.proofs.Common.{◌≡◌, ◌∙◌, ℕ, ◌<◌, List, [], ◌∷◌, None, Some, ap, arith, length, refl, reverse, subst, sym}
 use Rattle.std.specs.declared.option.Option.{Option}
 use Rattle.std.specs.List.{slice_get}
 use Rattle.std.proofs.lemmas.List.{reverse-reverse}
@@ -78,16 +78,3 @@ mine_part c events parts r mine low has at =
 pub one_list : (c : Config) (g : Collected) (parts : List (List Event)) → g.config ≡ c → parts ≡ g.parts → AreOfOneList g → (events : List Event) × (IsLegal c events × HasParts c events parts)
 one_list c g parts config is one =
     (one.events, (subst (λ k. IsLegal k one.events) config one.legal, subst (λ l. HasParts c one.events l) (sym is) (subst (λ k. HasParts k one.events g.parts) config one.has_parts)))
-
-lists_same : {A : Type 0} (xs ys : List A) → length xs ≡ length ys → ((r : ℕ) → r < length xs → slice_get xs r ≡ slice_get ys r) → xs ≡ ys
-lists_same [] [] count same = refl
-lists_same [] (y ∷ ys) count same = cc
-lists_same (x ∷ xs) [] count same = cc
-lists_same (x ∷ xs) (y ∷ ys) count same =
-    let first = same_some x y (same 0 (omega arith)) in
-    let rest = lists_same xs ys (omega (arith, count)) (λ r low. same (suc r) (omega (arith, low))) in
-    ap (λ z. z ∷ xs) first ∙ ap (λ l. y ∷ l) rest
-
--- a list has one list of parts
-pub parts_same : (c : Config) (events : List Event) (xs ys : List (List Event)) → HasParts c events xs → HasParts c events ys → xs ≡ ys
-parts_same c events xs ys a b = lists_same xs ys (a.count ∙ sym b.count) (λ r low. let count = a.count in let inside : r < c.replicas = omega (arith, low, count) in a.each r inside ∙ sym (b.each r inside))

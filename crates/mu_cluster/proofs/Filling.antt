@@ -1,17 +1,17 @@
 -- What each replica leaves stands in the lists of an outcome, and the outcome is a run.
-use Rattle.std.proofs.Common.{◌≡◌, ◌∙◌, ℕ, suc, zero, ◌+◌, ◌<◌, ◌≤◌, true, false, List, [], ◌∷◌, ◌++◌, None, Some, ap, append-nil, arith, inl, inr, length, map, refl, subst, sym}
+use Rattle.std.proofs.Common.{◌≡◌, ◌∙◌, ℕ, suc, zero, ◌+◌, ◌<◌, ◌≤◌, true, List, [], ◌∷◌, ◌++◌, None, Some, ap, append-nil, arith, inl, inr, length, map, refl, subst, sym}
 use Rattle.std.specs.declared.option.Option.{Option}
-use Rattle.std.specs.Prelude.{nat_lt, not, slice_index}
+use Rattle.std.specs.Prelude.{slice_index}
 use Rattle.std.specs.List.{slice_get}
 use Rattle.std.proofs.lemmas.Bool.{cases_lt}
-use Rattle.std.proofs.lemmas.List.{length_push, length-map, length-reverse, reverse-reverse}
+use Rattle.std.proofs.lemmas.List.{length_push, length-map}
 use Rattle.std.proofs.lemmas.Option.{slice_get_within}
-use mathlib.Core.List.{reverse}
 use Rattle.kv_store.specs.Tables.{replies}
 use Rattle.kv_store.specs.declared.store.Reply.{Reply}
 use Rattle.kv_store.proofs.Runs.{length-replies}
 use Rattle.mu_follow.specs.Groups.{AreSpelled, groups_of}
 use Rattle.mu_node.proofs.FewRows.{few_applied}
+use Rattle.mu_outcome.proofs.Journals.{journal_is, length_at, length_of_part, order_parts}
 use Rattle.mu_outcome.proofs.LongestLogs.{longest_is}
 use Rattle.mu_input.specs.declared.job.Job.{Job}
 use Rattle.mu_model.specs.declared.config.Config.{Config}
@@ -20,13 +20,14 @@ use Rattle.mu_model.specs.declared.script.End.{End}
 use Rattle.mu_model.specs.declared.script.Script.{Script}
 use Rattle.mu_model.specs.Contents.{IsConfig, row_count}
 use Rattle.mu_model.specs.Ends.{EndsBy, Obeys}
-use Rattle.mu_model.specs.Histories.{has, history, part}
+use Rattle.mu_model.specs.Histories.{history, part}
 use Rattle.mu_model.specs.Journals.{Record}
 use Rattle.mu_model.specs.Knowledge.{applied, commits}
 use Rattle.mu_model.specs.Legal.{IsLegal}
+use Rattle.mu_model.specs.Parts.{HasParts}
 use Rattle.mu_model.proofs.Basics.{same_some}
 use Rattle.mu_model.proofs.Lists.{get_front, get_push_here, item_below}
-use Rattle.mu_model.proofs.Parts.{history-part, part_is_possible}
+use Rattle.mu_model.proofs.Parts.{part_is_possible}
 use Rattle.mu_knowledge.specs.declared.commit.Commit.{Commit}
 use Rattle.mu_knowledge.specs.Commits.{pair_of}
 use Rattle.mu_node.specs.declared.result.NodeResult.{NodeResult}
@@ -38,7 +39,7 @@ use Rattle.mu_cluster.specs.declared.rounds.Seat.{Seat}
 use Rattle.mu_outcome.specs.Entries.{commands_in, commands_of, longest}
 use Rattle.mu_cluster.specs.Lists.{Adds, AreOf, HasRoom, HoldsLists, Leaves}
 use Rattle.mu_cluster.specs.Paces.{AreDiligent}
-use Rattle.mu_outcome.specs.Outcomes.{IsRun, events_of, journal_of, or_empty}
+use Rattle.mu_outcome.specs.Outcomes.{IsRun, journal_of, journals_of, or_empty}
 use Rattle.mu_outcome.specs.Runs.{IsRunOver}
 use Rattle.mu_cluster.specs.Rounds.{EndsNowhereBefore, MayTake, Played, Sits, part_of}
 use Rattle.mu_outcome.specs.Turns.{ids_after, pace}
@@ -54,12 +55,9 @@ commands_grouped job [] = refl
 commands_grouped job (v ∷ vs) = ap (λ l. commands_of job v ++ l) (commands_grouped job vs)
 
 -- longer lists still hold it
-leaves_front : (c : Config) (script : Script) (r : ℕ) (mine : List Event) (js ks : List Record) (ls ms : List (List ℕ)) (cs ds : List (List Commit)) (rs ts : List (List Reply)) (es fs : List End)
-    → Leaves c script r mine js ls cs rs es → Leaves c script r mine (js ++ ks) (ls ++ ms) (cs ++ ds) (rs ++ ts) (es ++ fs)
-leaves_front c script r mine js ks ls ms cs ds rs ts es fs was = record {
-  journal = was.journal;
-  journal_at = get_front js ks r was.journal was.journal_at;
-  journal_is = was.journal_is;
+leaves_front : (c : Config) (script : Script) (r : ℕ) (mine : List Event) (ls ms : List (List ℕ)) (cs ds : List (List Commit)) (rs ts : List (List Reply)) (es fs : List End)
+    → Leaves c script r mine ls cs rs es → Leaves c script r mine (ls ++ ms) (cs ++ ds) (rs ++ ts) (es ++ fs)
+leaves_front c script r mine ls ms cs ds rs ts es fs was = record {
   log_at = get_front ls ms r (applied c r mine) was.log_at;
   made = was.made;
   made_at = get_front cs ds r was.made was.made_at;
@@ -74,11 +72,11 @@ leaves_front c script r mine js ks ls ms cs ds rs ts es fs was = record {
 }
 
 -- the same of lists that are equal to these
-leaves_in : (c : Config) (script : Script) (r : ℕ) (mine : List Event) (js ks : List Record) (ls ms : List (List ℕ)) (cs ds : List (List Commit)) (rs ts : List (List Reply)) (es fs : List End)
-    → ks ≡ js → ms ≡ ls → ds ≡ cs → ts ≡ rs → fs ≡ es → Leaves c script r mine js ls cs rs es → Leaves c script r mine ks ms ds ts fs
-leaves_in c script r mine js ks ls ms cs ds rs ts es fs a b d t e was =
-    subst (λ x. Leaves c script r mine ks ms ds ts x) (sym e) (subst (λ x. Leaves c script r mine ks ms ds x es) (sym t)
-    (subst (λ x. Leaves c script r mine ks ms x rs es) (sym d) (subst (λ x. Leaves c script r mine ks x cs rs es) (sym b) (subst (λ x. Leaves c script r mine x ls cs rs es) (sym a) was))))
+leaves_in : (c : Config) (script : Script) (r : ℕ) (mine : List Event) (ls ms : List (List ℕ)) (cs ds : List (List Commit)) (rs ts : List (List Reply)) (es fs : List End)
+    → ms ≡ ls → ds ≡ cs → ts ≡ rs → fs ≡ es → Leaves c script r mine ls cs rs es → Leaves c script r mine ms ds ts fs
+leaves_in c script r mine ls ms cs ds rs ts es fs b d t e was =
+    subst (λ x. Leaves c script r mine ms ds ts x) (sym e) (subst (λ x. Leaves c script r mine ms ds x es) (sym t)
+    (subst (λ x. Leaves c script r mine ms x rs es) (sym d) (subst (λ x. Leaves c script r mine x cs rs es) (sym b) was)))
 
 -- one more replica
 pub held_left : (c : Config) (script : Script) (events : List Event) (n : ℕ) (old new : Lists) (result : NodeResult) → HoldsLists c script events n old → Adds old new result → EndsNowhereBefore c script n (part_of n events)
@@ -93,18 +91,14 @@ held_left c script events n old new result was adds before ends is told = record
 
     room : HasRoom c.replicas (n + 1) new
     room = record {
-      journals = (ap length adds.journals.0 ∙ (length_push old.journals.items result.journal ∙ ap (λ m. m + 1) was.room.journals.0), (let a = was.room.journals.1 in let b = adds.journals.1 in omega (arith, a, b)));
       logs = (ap length adds.logs.0 ∙ (length_push old.logs.items result.log ∙ ap (λ m. m + 1) was.room.logs.0), (let a = was.room.logs.1 in let b = adds.logs.1 in omega (arith, a, b)));
       commits = (ap length adds.commits.0 ∙ (length_push old.commits.items result.commits ∙ ap (λ m. m + 1) was.room.commits.0), (let a = was.room.commits.1 in let b = adds.commits.1 in omega (arith, a, b)));
       replies = (ap length adds.replies.0 ∙ (length_push old.replies.items result.replies ∙ ap (λ m. m + 1) was.room.replies.0), (let a = was.room.replies.1 in let b = adds.replies.1 in omega (arith, a, b)));
       ends = (ap length ends_are ∙ (length_push old.ends.items end.0 ∙ ap (λ m. m + 1) was.room.ends.0), (let a = was.room.ends.1 in let b = adds.ends.1 in omega (arith, a, b)));
     }
 
-    here : Leaves c script n (part_of n events) (old.journals.items ++ result.journal ∷ []) (old.logs.items ++ result.log ∷ []) (old.commits.items ++ result.commits ∷ []) (old.replies.items ++ result.replies ∷ []) (old.ends.items ++ end.0 ∷ [])
+    here : Leaves c script n (part_of n events) (old.logs.items ++ result.log ∷ []) (old.commits.items ++ result.commits ∷ []) (old.replies.items ++ result.replies ∷ []) (old.ends.items ++ end.0 ∷ [])
     here = record {
-      journal = result.journal;
-      journal_at = get_push_here old.journals.items n result.journal (sym was.room.journals.0);
-      journal_is = is.journal;
       log_at = get_push_here old.logs.items n result.log (sym was.room.logs.0) ∙ ap (λ l. Some l) is.log;
       made = result.commits;
       made_at = get_push_here old.commits.items n result.commits (sym was.room.commits.0);
@@ -118,18 +112,18 @@ held_left c script events n old new result was adds before ends is told = record
       diligent = is.diligent;
     }
 
-    both : (r : ℕ) → Leaves c script r (part_of r events) (old.journals.items ++ result.journal ∷ []) (old.logs.items ++ result.log ∷ []) (old.commits.items ++ result.commits ∷ []) (old.replies.items ++ result.replies ∷ []) (old.ends.items ++ end.0 ∷ [])
-        → Leaves c script r (part_of r events) new.journals.items new.logs.items new.commits.items new.replies.items new.ends.items
+    both : (r : ℕ) → Leaves c script r (part_of r events) (old.logs.items ++ result.log ∷ []) (old.commits.items ++ result.commits ∷ []) (old.replies.items ++ result.replies ∷ []) (old.ends.items ++ end.0 ∷ [])
+        → Leaves c script r (part_of r events) new.logs.items new.commits.items new.replies.items new.ends.items
     both r leaves =
-        leaves_in c script r (part_of r events) (old.journals.items ++ result.journal ∷ []) new.journals.items (old.logs.items ++ result.log ∷ []) new.logs.items (old.commits.items ++ result.commits ∷ []) new.commits.items (old.replies.items ++ result.replies ∷ []) new.replies.items (old.ends.items ++ end.0 ∷ []) new.ends.items
-        adds.journals.0 adds.logs.0 adds.commits.0 adds.replies.0 ends_are leaves
+        leaves_in c script r (part_of r events) (old.logs.items ++ result.log ∷ []) new.logs.items (old.commits.items ++ result.commits ∷ []) new.commits.items (old.replies.items ++ result.replies ∷ []) new.replies.items (old.ends.items ++ end.0 ∷ []) new.ends.items
+        adds.logs.0 adds.commits.0 adds.replies.0 ends_are leaves
 
-    each : (r : ℕ) → r < n + 1 → Leaves c script r (part_of r events) new.journals.items new.logs.items new.commits.items new.replies.items new.ends.items
+    each : (r : ℕ) → r < n + 1 → Leaves c script r (part_of r events) new.logs.items new.commits.items new.replies.items new.ends.items
     each r low = both r (elim (cases_lt r n) [
-      | inl below ↦ leaves_front c script r (part_of r events) old.journals.items (result.journal ∷ []) old.logs.items (result.log ∷ []) old.commits.items (result.commits ∷ []) old.replies.items (result.replies ∷ []) old.ends.items (end.0 ∷ []) (was.each r below)
+      | inl below ↦ leaves_front c script r (part_of r events) old.logs.items (result.log ∷ []) old.commits.items (result.commits ∷ []) old.replies.items (result.replies ∷ []) old.ends.items (end.0 ∷ []) (was.each r below)
       | inr above ↦
           let same : n ≡ r = omega (arith, low, above) in
-          subst (λ i. Leaves c script i (part_of i events) (old.journals.items ++ result.journal ∷ []) (old.logs.items ++ result.log ∷ []) (old.commits.items ++ result.commits ∷ []) (old.replies.items ++ result.replies ∷ []) (old.ends.items ++ end.0 ∷ [])) same here
+          subst (λ i. Leaves c script i (part_of i events) (old.logs.items ++ result.log ∷ []) (old.commits.items ++ result.commits ∷ []) (old.replies.items ++ result.replies ∷ []) (old.ends.items ++ end.0 ∷ [])) same here
     ])
 
 -- the same if the replica sits in rounds
@@ -137,27 +131,18 @@ pub held_next : (c : Config) (script : Script) (events : List Event) (n rounds :
     → Sits c script n (part_of n events) seat rounds → seat.ended ≡ true → IsResult c n (part_of n events) result → TellsEnd c script n (part_of n events) result.end → HoldsLists c script events (n + 1) new
 held_next c script events n rounds old new result seat was adds sits ended is told = held_left c script events n old new result was adds sits.before (sits.ended ended) is told
 
--- a journal whose history is the part is the part itself
-journal_part : (r : ℕ) (journal events : List Event) → history journal ≡ part_of r events → journal ≡ part r events
-journal_part r journal events is = sym (reverse-reverse journal) ∙ (ap reverse (is ∙ sym (history-part r events)) ∙ reverse-reverse (part r events))
-
 pub get_map : {A : Type 0} {B : Type 0} (f : A → B) (xs : List A) (i : ℕ) (x : A) → slice_get xs i ≡ Some x → slice_get (map f xs) i ≡ Some (f x)
 get_map f [] i x at = cc
 get_map f (y ∷ ys) zero x at = ap (λ v. Some (f v)) (same_some y x at)
 get_map f (y ∷ ys) (suc i) x at = get_map f ys i x at
 
-index_of : (xs : List ℕ) (i x : ℕ) → slice_get xs i ≡ Some x → slice_index xs i ≡ x
-index_of [] i x at = cc
-index_of (y ∷ ys) zero x at = same_some y x at
-index_of (y ∷ ys) (suc i) x at = index_of ys i x at
-
 -- what a run leaves is what the definitions give of the parts of its list
-pub run_over : (o : Outcome) (events : List Event) (lists : Lists) → IsLegal o.job.config events → o.journals ≡ lists.journals.items → o.logs ≡ lists.logs.items → o.commits ≡ lists.commits.items → o.own_replies ≡ lists.replies.items → o.ends ≡ lists.ends.items
-    → HoldsLists o.job.config o.job.script events o.job.config.replicas lists → has (λ e. not (nat_lt e.by o.job.config.replicas)) (history events) ≡ false → AreSpelled o.job.config o.job.commands
+pub run_over : (o : Outcome) (events : List Event) (lists : Lists) → IsLegal o.job.config events → HasParts o.job.config events (journals_of o) → o.logs ≡ lists.logs.items → o.commits ≡ lists.commits.items → o.own_replies ≡ lists.replies.items → o.ends ≡ lists.ends.items
+    → HoldsLists o.job.config o.job.script events o.job.config.replicas lists → AreSpelled o.job.config o.job.commands
     → o.replies ≡ replies (commands_in o.job (longest lists.logs.items)) → IsRunOver events o
-run_over o events lists legal js ls cs rs es held whole are answered = record {
+run_over o events lists legal parts ls cs rs es held are answered = record {
   legal = legal;
-  parts = record { count = count; each = λ r low. part_at r low; whole = whole };
+  parts = parts;
   counts = (ap length ls ∙ held.room.logs.0, ap length cs ∙ held.room.commits.0, ap length es ∙ held.room.ends.0);
   ended = λ r low. let l = left r low in (l.end, l.end_at, subst (λ h. Obeys o.job.config o.job.script r h l.end) (sym (own r low)) l.obeys);
   logs = λ r low. let l = left r low in ap or_empty l.log_at ∙ ap (applied o.job.config r) (sym (own r low));
@@ -170,31 +155,21 @@ run_over o events lists legal js ls cs rs es held whole are answered = record {
       ap or_empty l.told_at ∙ (l.told_is o.job.commands are ∙ ap replies (commands_grouped o.job log)) ∙ ap (λ x. replies (commands_in o.job (or_empty x))) (sym l.log_at);
 }
   where
-    left : (r : ℕ) → r < o.job.config.replicas → Leaves o.job.config o.job.script r (part_of r events) o.journals o.logs o.commits o.own_replies o.ends
-    left r low = leaves_in o.job.config o.job.script r (part_of r events) lists.journals.items o.journals lists.logs.items o.logs lists.commits.items o.commits lists.replies.items o.own_replies lists.ends.items o.ends js ls cs rs es (held.each r low)
+    left : (r : ℕ) → r < o.job.config.replicas → Leaves o.job.config o.job.script r (part_of r events) o.logs o.commits o.own_replies o.ends
+    left r low = leaves_in o.job.config o.job.script r (part_of r events) lists.logs.items o.logs lists.commits.items o.commits lists.replies.items o.own_replies lists.ends.items o.ends ls cs rs es (held.each r low)
 
     own : (r : ℕ) → r < o.job.config.replicas → history (journal_of o r) ≡ part_of r events
-    own r low = let l = left r low in ap (λ x. history (or_empty x)) (get_map events_of o.journals r l.journal l.journal_at) ∙ l.journal_is
-
-    count : length (map events_of o.journals) ≡ o.job.config.replicas
-    count = length-map o.journals events_of ∙ (ap length js ∙ held.room.journals.0)
-
-    part_at : (r : ℕ) → r < o.job.config.replicas → slice_get (map events_of o.journals) r ≡ Some (part r events)
-    part_at r low = let l = left r low in get_map events_of o.journals r l.journal l.journal_at ∙ ap (λ x. Some x) (journal_part r l.journal.events events l.journal_is)
+    own r low = journal_is o events parts r low
 
 -- the journals are diligent, as those of the replicas were
-pub diligent_of : (o : Outcome) (events : List Event) (lists : Lists) → o.journals ≡ lists.journals.items → HoldsLists o.job.config o.job.script events o.job.config.replicas lists → AreDiligent o
-diligent_of o events lists js held r low =
-    let l = held.each r low in
-    let at = ap (λ j. slice_get j r) js ∙ l.journal_at in
-    let own : history (journal_of o r) ≡ part_of r events = ap (λ x. history (or_empty x)) (get_map events_of o.journals r l.journal at) ∙ l.journal_is in
-    subst (λ h. IsDiligent o.job.config r h) (sym own) l.diligent
+pub diligent_of : (o : Outcome) (events : List Event) (lists : Lists) → HasParts o.job.config events (journals_of o) → HoldsLists o.job.config o.job.script events o.job.config.replicas lists → AreDiligent o
+diligent_of o events lists parts held r low = subst (λ h. IsDiligent o.job.config r h) (sym (journal_is o events parts r low)) (held.each r low).diligent
 
 -- what a replay leaves is a run of its job
-pub run_of : (o : Outcome) (order : Record) (lists : Lists) (seats : List Seat) (rounds : ℕ) → o.order ≡ Some order → IsLegal o.job.config order.events → o.journals ≡ lists.journals.items → o.logs ≡ lists.logs.items
+pub run_of : (o : Outcome) (order : Record) (lists : Lists) (seats : List Seat) (rounds : ℕ) → o.order ≡ Some order → IsLegal o.job.config order.events → o.logs ≡ lists.logs.items
     → o.commits ≡ lists.commits.items → o.own_replies ≡ lists.replies.items → o.ends ≡ lists.ends.items → HoldsLists o.job.config o.job.script order.events o.job.config.replicas lists
     → Played o.job.config o.job.script order.events seats rounds 0 → ((r : ℕ) (seat : Seat) → slice_get seats r ≡ Some seat → seat.ended ≡ true) → AreSpelled o.job.config o.job.commands → o.replies ≡ replies (commands_in o.job (longest lists.logs.items)) → IsRun o
-run_of o order lists seats rounds given legal js ls cs rs es held played ended are answered = record {
+run_of o order lists seats rounds given legal ls cs rs es held played ended are answered = record {
   order = order;
   given = given;
   legal = legal;
@@ -214,18 +189,16 @@ run_of o order lists seats rounds given legal js ls cs rs es held played ended a
 }
   where
     over : IsRunOver order.events o
-    over = run_over o order.events lists legal js ls cs rs es held played.own are answered
+    over = run_over o order.events lists legal (order_parts o order given played.own) ls cs rs es held are answered
 
     lengths : List ℕ
-    lengths = map (λ journal. length (events_of journal)) o.journals
+    lengths = map length (journals_of o)
 
     many : length lengths ≡ o.job.config.replicas
-    many = length-map o.journals (λ journal. length (events_of journal)) ∙ (ap length js ∙ held.room.journals.0)
+    many = length-map (journals_of o) length ∙ over.parts.count
 
     long : (r : ℕ) → r < o.job.config.replicas → slice_index lengths r ≡ length (part_of r order.events)
-    long r low =
-        let l = leaves_in o.job.config o.job.script r (part_of r order.events) lists.journals.items o.journals lists.logs.items o.logs lists.commits.items o.commits lists.replies.items o.own_replies lists.ends.items o.ends js ls cs rs es (held.each r low) in
-        index_of lengths r (length l.journal.events) (get_map (λ journal. length (events_of journal)) o.journals r l.journal l.journal_at) ∙ (sym (length-reverse l.journal.events) ∙ ap length l.journal_is)
+    long r low = length_at (journals_of o) r (part r order.events) (over.parts.each r low) ∙ length_of_part r order.events
 
     may : MayTake order.events seats lengths
     may = record {

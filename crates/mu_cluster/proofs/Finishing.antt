@@ -32,7 +32,7 @@ use Rattle.mu_model.proofs.Owned.{greatest-part}
 use Rattle.mu_model.proofs.Parts.{filter-append}
 use Rattle.mu_model.proofs.Scans.{each_all}
 use Rattle.mu_outcome.specs.declared.outcome.Outcome.{Outcome}
-use Rattle.mu_outcome.specs.Outcomes.{IsRun, events_of, journal_of}
+use Rattle.mu_outcome.specs.Outcomes.{IsRun, journal_of, journals_of}
 use Rattle.mu_alive.specs.Failing.{failing_steps}
 use Rattle.mu_alive.specs.Finishing.{last_raising_steps, raising_steps}
 use Rattle.mu_alive.specs.Lagging.{raising_in_any_ring}
@@ -220,7 +220,7 @@ heads_are f (suc (suc (suc (suc (suc (suc (suc q))))))) low = absurd (omega (ari
 
 -- how many steps each took
 abbrev pub lengths_of : Outcome → List ℕ
-lengths_of o = map (λ journal. length (events_of journal)) o.journals
+lengths_of o = map length (journals_of o)
 
 -- in what a replay leaves, those that weren't stopped go on
 pub goes_on_of : (o : Outcome) (order : Record) (seats : List Seat) (rounds s : ℕ) → IsConfig o.job.config → (run : IsRun o) → o.order ≡ Some order → Played o.job.config o.job.script order.events seats rounds 0 → AreDiligent o → o.job.script.pauses ≡ [] → GoesOnWith o s → GoOn o.job.config (λ r. not (was_stopped o r)) s run.order.events
@@ -246,7 +246,7 @@ goes_on_of o order seats rounds s good run given played diligent unpaused on = r
         go : (end : End) → slice_get o.ends q ≡ Some end → EndsBy c o.job.script q (history (journal_of o q)) end → (length (part_of q events) ≡ c.budget) ⊎ (is_finished c q (part_of q events) ≡ true)
         go End.Stopped is ends = absurd (true≢false (sym (ap is_stop is) ∙ not_stopped (was_stopped o q) goes))
         go End.Budget is ends = inl (ap length (sym (journal_part o run q inside)) ∙ ends.1)
-        go (End.Outrun p i) is ends = absurd (none_outrun c events (map (λ journal. length (events_of journal)) o.journals) run.turns.rounds q p i good (unpaused_of o order seats rounds run given played unpaused) inside (ap (outrun c q) (sym (journal_part o run q inside)) ∙ ends.1))
+        go (End.Outrun p i) is ends = absurd (none_outrun c events (map length (journals_of o)) run.turns.rounds q p i good (unpaused_of o order seats rounds run given played unpaused) inside (ap (outrun c q) (sym (journal_part o run q inside)) ∙ ends.1))
         go (End.Finished heads) is ends = inr (ap (is_finished c q) (sym (journal_part o run q inside)) ∙ ends.2)
 
 -- and each of them finishes, if all raise their heads in time and hold the others failed in time

@@ -27,7 +27,7 @@ use Rattle.mu_model.proofs.Parts.{filter-append, history-part}
 use Rattle.mu_node.specs.Journal.{WasMade}
 use Rattle.mu_node.proofs.Naming.{first_named, is_row_write, writer_named}
 use Rattle.mu_outcome.specs.declared.outcome.Outcome.{Outcome}
-use Rattle.mu_outcome.specs.Outcomes.{IsRun, events_of, journal_of, or_empty}
+use Rattle.mu_outcome.specs.Outcomes.{IsRun, journal_of, journals_of, or_empty}
 use Rattle.mu_pace.specs.Collecting.{LeaderKeeps}
 use Rattle.mu_pace.specs.Counters.{AtEachMoment, AtEachStep}
 use Rattle.mu_pace.proofs.Counting.{moments_before}
@@ -209,7 +209,7 @@ applies_of o order seats rounds good run given played diligent unpaused left lar
     let count = played.count in
     let found = item_below seats 0 (omega (arith, some, count)) in
     let led = subst (λ (x : Record). AtEachStep (LeaderKeeps c 0) (part_of 0 x.events)) (same_some order run.order (sym given ∙ run.given)) (played.waits 0 found.0 found.1 (omega arith)).stands.led in
-    let holds = holds_in c (is_left o.job.script.stops) run.order.events (map (λ journal. length (events_of journal)) o.journals) run.turns.rounds good all names left.first left.majority
+    let holds = holds_in c (is_left o.job.script.stops) run.order.events (map length (journals_of o)) run.turns.rounds good all names left.first left.majority
     (λ r low there. all.taken r low ∙ ap length (sym (journal r low)) ∙ budget r low there) (λ r low. subst (IsDiligent c r) (journal r low) (diligent r low)) led large enough in
     ap (holds_all c) (run.logs 0 some ∙ ap (applied c 0) (journal 0 some)) ∙ holds
   where

@@ -1,9 +1,8 @@
 -- In a replay whose script has no pause replica 0 is named leader until it has ended.
-use Rattle.std.proofs.Common.{◌≡◌, ◌∙◌, ◌≢◌, ℕ, suc, zero, ◌+◌, ◌<◌, ◌≤◌, ◌==◌, inl, inr, Bool, true, false, cond, Some, List, [], ◌∷◌, ◌++◌, ap, append_assoc, arith, eqb-true, length, map, refl, subst, sym}
+use Rattle.std.proofs.Common.{◌≡◌, ◌∙◌, ◌≢◌, ℕ, ◌+◌, ◌<◌, ◌≤◌, ◌==◌, inl, inr, Bool, true, false, cond, Some, List, [], ◌∷◌, ◌++◌, ap, append_assoc, arith, eqb-true, length, map, refl, subst, sym}
 use Rattle.std.specs.Prelude.{nat_lt, not, slice_index}
-use Rattle.std.specs.List.{slice_get}
 use Rattle.std.proofs.lemmas.Bool.{cases_lt, ltb-true, ne_eqb, true≢false}
-use Rattle.std.proofs.lemmas.List.{length-append, length-map, length-reverse, reverse-append}
+use Rattle.std.proofs.lemmas.List.{length-append, length-map, reverse-append}
 use Rattle.mu_agree.proofs.Legal.{legal_older}
 use Rattle.mu_model.specs.declared.config.Config.{Config}
 use Rattle.mu_model.specs.declared.event.Event.{Event}
@@ -14,12 +13,13 @@ use Rattle.mu_model.specs.Legal.{IsLegal, IsLegalHistory}
 use Rattle.mu_model.specs.Scores.{leader, score}
 use Rattle.mu_model.specs.Steps.{is_asking_verb}
 use Rattle.mu_model.proofs.Basics.{same_number, same_some}
-use Rattle.mu_model.proofs.Parts.{filter-append, history-part}
+use Rattle.mu_model.proofs.Parts.{filter-append}
 use Rattle.mu_node.specs.Journal.{WasMade}
 use Rattle.mu_node.proofs.Naming.{asker_named, first_named}
 use Rattle.mu_outcome.specs.declared.outcome.Outcome.{Outcome}
-use Rattle.mu_outcome.specs.Outcomes.{IsRun, events_of}
+use Rattle.mu_outcome.specs.Outcomes.{IsRun, journals_of}
 use Rattle.mu_outcome.specs.Turns.{ids_after}
+use Rattle.mu_outcome.proofs.Journals.{length_at, length_of_part}
 use Rattle.mu_pace.specs.Counters.{AtEachStep}
 use Rattle.mu_pace.proofs.Counting.{steps_before}
 use Rattle.mu_cluster.specs.declared.rounds.Seat.{Seat}
@@ -170,24 +170,15 @@ names_in c events lengths rounds run = record { named = named; asks = asks }
         let made = part_step (WasMade c e.by) (history earlier) e (part_before (WasMade c e.by) e.by (history at.later) (e ∷ history earlier) there) in
         sym (asker_named c e.by p (part_of e.by earlier) e made (ap (is_asking_verb p) asked ∙ same_number p)) ∙ named earlier e.by (before_end events earlier e at) inside
 
--- the length of a journal
-length_at : (journals : List Record) (r : ℕ) (events : List Event) → slice_get (map events_of journals) r ≡ Some events → slice_index (map (λ journal. length (events_of journal)) journals) r ≡ length events
-length_at [] r events at = cc
-length_at (journal ∷ journals) zero events at = ap length (same_some journal.events events at)
-length_at (journal ∷ journals) (suc r) events at = length_at journals r events at
-
-length_of_part : (r : ℕ) (events : List Event) → length (part r events) ≡ length (part_of r events)
-length_of_part r events = sym (length-reverse (part r events)) ∙ ap length (history-part r events)
-
 -- in what a replay leaves
 pub unpaused_of : (o : Outcome) (order : Record) (seats : List Seat) (rounds : ℕ) (run : IsRun o) → o.order ≡ Some order → Played o.job.config o.job.script order.events seats rounds 0 → o.job.script.pauses ≡ []
-    → AreUnpaused o.job.config run.order.events (map (λ journal. length (events_of journal)) o.journals) run.turns.rounds
+    → AreUnpaused o.job.config run.order.events (map length (journals_of o)) run.turns.rounds
 unpaused_of o order seats rounds run given played unpaused = record {
   legal = run.legal;
   whole = run.parts.whole;
-  order = subst (λ pauses. map id_of run.order.events ≡ ids_after pauses (map (λ journal. length (events_of journal)) o.journals) run.turns.rounds) unpaused run.turns.is;
-  count = length-map o.journals (λ journal. length (events_of journal)) ∙ (sym (length-map o.journals events_of) ∙ run.parts.count);
-  taken = λ r low. length_at o.journals r (part r run.order.events) (run.parts.each r low) ∙ length_of_part r run.order.events;
+  order = subst (λ pauses. map id_of run.order.events ≡ ids_after pauses (map length (journals_of o)) run.turns.rounds) unpaused run.turns.is;
+  count = length-map (journals_of o) length ∙ run.parts.count;
+  taken = λ r low. length_at (journals_of o) r (part r run.order.events) (run.parts.each r low) ∙ length_of_part r run.order.events;
   made = λ r low. made r low;
 }
   where
@@ -200,4 +191,4 @@ unpaused_of o order seats rounds run given played unpaused = record {
 pub named_of : (o : Outcome) (order : Record) (seats : List Seat) (rounds : ℕ) → IsRun o → o.order ≡ Some order → Played o.job.config o.job.script order.events seats rounds 0 → NamesFirstUnpaused o
 named_of o order seats rounds run given played unpaused other also =
     subst (λ (x : Record). NamesFirst o.job.config x.events) (same_some run.order other (sym run.given ∙ also))
-    (names_in o.job.config run.order.events (map (λ journal. length (events_of journal)) o.journals) run.turns.rounds (unpaused_of o order seats rounds run given played unpaused))
+    (names_in o.job.config run.order.events (map length (journals_of o)) run.turns.rounds (unpaused_of o order seats rounds run given played unpaused))

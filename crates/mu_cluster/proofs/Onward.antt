@@ -33,7 +33,7 @@ use Rattle.mu_grant.specs.Pace.{InCycleOrder}
 use Rattle.mu_node.specs.Journal.{WasMade}
 use Rattle.mu_node.proofs.Naming.{asker_named}
 use Rattle.mu_outcome.specs.declared.outcome.Outcome.{Outcome}
-use Rattle.mu_outcome.specs.Outcomes.{IsRun, events_of, journal_of, or_empty}
+use Rattle.mu_outcome.specs.Outcomes.{IsRun, journal_of, journals_of, or_empty}
 use Rattle.mu_pace.specs.Collecting.{LeaderKeeps}
 use Rattle.mu_pace.specs.Counters.{AtEachMoment, AtEachStep}
 use Rattle.mu_pace.proofs.Counting.{last_moment, moments_before, steps_before}
@@ -313,6 +313,6 @@ leads_of o order seats rounds good run given played diligent unpaused r newer ol
     let all = unpaused_of o order seats rounds run given played unpaused in
     let few : c.replicas < 8 = (let most = good.replicas.1 in omega (arith, most)) in
     let nodes = nodes_of o order seats rounds run given played diligent in
-    let turns = in_turn c run.order.events (map (λ journal. length (events_of journal)) o.journals) run.turns.rounds [] (history run.order.events) few all nodes refl in
+    let turns = in_turn c run.order.events (map length (journals_of o)) run.turns.rounds [] (history run.order.events) few all nodes refl in
     let moments = lead_on_moments c r (history run.order.events) all.legal turns few in
     last_moment (λ now. is_over r now ≡ false) older (moments_before (λ now. is_over r now ≡ false) newer older (subst (AtEachMoment (λ now. is_over r now ≡ false)) (sym (journal_part o run r low) ∙ is) moments))

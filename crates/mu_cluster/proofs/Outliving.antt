@@ -26,7 +26,7 @@ use Rattle.mu_node.proofs.Naming.{asker_named}
 use Rattle.mu_outcome.specs.declared.outcome.Outcome.{Outcome}
 use Rattle.mu_outcome.specs.Completion.{Completes, HasAllCommands, IsCutShort}
 use Rattle.mu_outcome.specs.Entries.{commands_in, longest}
-use Rattle.mu_outcome.specs.Outcomes.{IsRun, events_of, journal_of}
+use Rattle.mu_outcome.specs.Outcomes.{IsRun, journal_of, journals_of}
 use Rattle.mu_outcome.proofs.Completing.{all_from_log, completes_over}
 use Rattle.mu_pace.specs.Collecting.{LeaderKeeps}
 use Rattle.mu_pace.specs.Counters.{AtEachStep}
@@ -196,7 +196,7 @@ applies_after o order seats rounds good run given played diligent unpaused s k o
     let c = o.job.config in
     let all = unpaused_of o order seats rounds run given played unpaused in
     let nodes = nodes_of o order seats rounds run given played diligent in
-    let holds = holds_after c (λ r. not (was_stopped o r)) run.order.events (map (λ journal. length (events_of journal)) o.journals) run.turns.rounds s k good all nodes on.inside (ap not on.left) on.majority
+    let holds = holds_after c (λ r. not (was_stopped o r)) run.order.events (map length (journals_of o)) run.turns.rounds s k good all nodes on.inside (ap not on.left) on.majority
     (λ r low there. all.taken r low ∙ ap length (sym (journal_part o run r low)) ∙ whole_budget o run r low (spent r low (not_stopped (was_stopped o r) there)))
     (λ q below. let inside = on.inside in let few = time.ended q below in let same = ap length (journal_part o run q (omega (arith, below, inside))) in let long = length-reverse (journal_of o q) in omega (arith, few, same, long))
     (λ r low. subst (IsDiligent c r) (journal_part o run r low) (diligent r low)) time.large time.enough in

@@ -28,7 +28,7 @@ use Rattle.mu_node.specs.Journal.{WasMade}
 use Rattle.mu_pace.specs.Counters.{AtEachStep}
 use Rattle.mu_outcome.specs.declared.outcome.Outcome.{Outcome}
 use Rattle.mu_outcome.specs.Completion.{Completes, HasAllCommands, IsCutShort}
-use Rattle.mu_outcome.specs.Outcomes.{IsRun, events_of, journal_of, or_empty}
+use Rattle.mu_outcome.specs.Outcomes.{IsRun, journal_of, journals_of, or_empty}
 use Rattle.mu_cluster.specs.declared.rounds.Seat.{Seat}
 use Rattle.mu_cluster.specs.Naming.{NoneOutrunUnpaused, SpendsBudgets}
 use Rattle.mu_cluster.specs.Rounds.{Played, part_of}
@@ -111,7 +111,7 @@ none_outrun_of o order seats rounds good run given played unpaused r p i low is 
     let all = unpaused_of o order seats rounds run given played unpaused in
     let ended = run.ended r low in
     let journal : history (journal_of o r) ≡ part_of r run.order.events = ap (λ l. history (or_empty l)) (run.parts.each r low) ∙ history-part r run.order.events in
-    none_outrun o.job.config run.order.events (map (λ journal. length (events_of journal)) o.journals) run.turns.rounds r p i good all low
+    none_outrun o.job.config run.order.events (map length (journals_of o)) run.turns.rounds r p i good all low
     (subst (λ l. outrun o.job.config r l ≡ Some (p, i)) journal (outrun_end o.job.config o.job.script r p i (history (journal_of o r)) ended.0 (same_some ended.0 (End.Outrun p i) (sym ended.1 ∙ is)) ended.2.ends))
 
 -- if none is stopped or outrun, who is cut short spent its budget

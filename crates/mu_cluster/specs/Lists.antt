@@ -8,8 +8,6 @@ use Rattle.mu_model.specs.declared.script.Script.{Script}
 use Rattle.mu_model.specs.Contents.{row_count}
 use Rattle.mu_model.specs.Diligence.{IsDiligent}
 use Rattle.mu_model.specs.Ends.{Obeys}
-use Rattle.mu_model.specs.Histories.{history}
-use Rattle.mu_model.specs.Journals.{Record}
 use Rattle.mu_model.specs.Knowledge.{applied, commits}
 use Rattle.mu_knowledge.specs.declared.commit.Commit.{Commit}
 use Rattle.kv_store.specs.Commands.{Request}
@@ -24,7 +22,6 @@ use Rattle.mu_cluster.specs.Rounds.{part_of}
 
 -- each list has k items, and room for n, and no more
 pub record HasRoom (n k : ℕ) (lists : Lists) : Type 0 where
-  pub journals : (length lists.journals.items ≡ k) × (n ≡ vec_capacity lists.journals)
   pub logs : (length lists.logs.items ≡ k) × (n ≡ vec_capacity lists.logs)
   pub commits : (length lists.commits.items ≡ k) × (n ≡ vec_capacity lists.commits)
   pub replies : (length lists.replies.items ≡ k) × (n ≡ vec_capacity lists.replies)
@@ -32,9 +29,6 @@ pub record HasRoom (n k : ℕ) (lists : Lists) : Type 0 where
 
 -- what a replica leaves is added
 pub record Adds (old new : Lists) (result : NodeResult) : Type 0 where
-  pub journals :
-      (new.journals.items ≡ old.journals.items ++ result.journal ∷ [])
-      × (vec_capacity new.journals ≡ vec_capacity old.journals)
   pub logs :
       (new.logs.items ≡ old.logs.items ++ result.log ∷ [])
       × (vec_capacity new.logs ≡ vec_capacity old.logs)
@@ -48,13 +42,10 @@ pub record Adds (old new : Lists) (result : NodeResult) : Type 0 where
       ((e : End) → result.end ≡ Some e → new.ends.items ≡ old.ends.items ++ e ∷ [])
       × (vec_capacity new.ends ≡ vec_capacity old.ends)
 
--- what replica r left stands in the lists
+-- what replica r left after these events stands in the lists
 pub record Leaves (c : Config) (script : Script) (r : ℕ) (mine : List Event)
-    (journals : List Record) (logs : List (List ℕ)) (commits_made : List (List Commit))
-    (replies_made : List (List Reply)) (ends : List End) : Type 0 where
-  pub journal : Record
-  pub journal_at : slice_get journals r ≡ Some journal
-  pub journal_is : history journal.events ≡ mine
+    (logs : List (List ℕ)) (commits_made : List (List Commit)) (replies_made : List (List Reply))
+    (ends : List End) : Type 0 where
   pub log_at : slice_get logs r ≡ Some (applied c r mine)
   pub made : List Commit
   pub made_at : slice_get commits_made r ≡ Some made
@@ -75,8 +66,8 @@ pub record HoldsLists (c : Config) (script : Script) (events : List Event) (n : 
   pub room : HasRoom c.replicas n lists
   pub each :
       (r : ℕ) → r < n
-      → Leaves c script r (part_of r events) lists.journals.items lists.logs.items
-      lists.commits.items lists.replies.items lists.ends.items
+      → Leaves c script r (part_of r events) lists.logs.items lists.commits.items
+      lists.replies.items lists.ends.items
 
 -- each replica's replies are those that f gives of its log
 abbrev pub AreOf : (List ℕ → List Reply) → Lists → Type 0

@@ -40,7 +40,6 @@ pub(crate) fn gathered_outcome(
     let lists = left_by(lists, &job, gathered.parts(), nodes);
     let printed = printed(room, &lists);
     let Lists {
-        journals,
         logs,
         commits,
         replies,
@@ -48,7 +47,6 @@ pub(crate) fn gathered_outcome(
     } = lists;
     Outcome {
         job,
-        journals: Sequence::from_vec(journals),
         logs: Sequence::from_vec(logs),
         commits: Sequence::from_vec(commits),
         replies: printed,

@@ -28,7 +28,6 @@ use std::alloc::Global;
 /// What the replicas left so far.
 #[derive(Drop)]
 pub(crate) struct Lists {
-    pub(crate) journals: Vec<Journal>,
     pub(crate) logs: Vec<Log>,
     pub(crate) commits: Vec<Commits>,
     pub(crate) replies: Vec<Replies>,
@@ -73,7 +72,6 @@ impl Lists {
         ensures { IfOk result (λ lists. HasRoom replicas 0 lists) }
     {
         Ok(Lists {
-            journals: Vec::with_capacity(alloc, replicas)?,
             logs: Vec::with_capacity(alloc, replicas)?,
             commits: Vec::with_capacity(alloc, replicas)?,
             replies: Vec::with_capacity(alloc, replicas)?,
@@ -87,13 +85,11 @@ impl Lists {
         ensures { Adds self.old self.new left }
     {
         let NodeResult {
-            journal,
             log,
             commits,
             replies,
             end,
         } = left;
-        self.journals.push_reserved(journal);
         self.logs.push_reserved(log);
         self.commits.push_reserved(commits);
         self.replies.push_reserved(replies);
@@ -166,7 +162,6 @@ impl OutcomeRoom {
         let lists = filled(lists, &job, order.as_slice(), seats);
         let printed = printed(room, &lists);
         let Lists {
-            journals,
             logs,
             commits,
             replies,
@@ -174,7 +169,6 @@ impl OutcomeRoom {
         } = lists;
         Outcome {
             job,
-            journals: Sequence::from_vec(journals),
             logs: Sequence::from_vec(logs),
             commits: Sequence::from_vec(commits),
             replies: printed,

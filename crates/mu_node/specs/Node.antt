@@ -1,10 +1,9 @@
 -- stands for (node): the state of a node stands for the events of replica r.
-use Rattle.std.specs.Prelude.{Bool, List, [], length, not, take, true, vec_capacity, ℕ, ◌+◌, ◌<◌, ◌∷◌, ◌≡◌, ◌≤◌}
+use Rattle.std.specs.Prelude.{Bool, List, [], not, take, true, vec_capacity, ℕ, ◌+◌, ◌<◌, ◌∷◌, ◌≡◌}
 use Rattle.kv_store.specs.Commands.{Request}
 use Rattle.mu_model.specs.declared.config.Config.{Config}
 use Rattle.mu_model.specs.declared.event.Event.{Event}
 use Rattle.mu_model.specs.Contents.{row_count}
-use Rattle.mu_model.specs.Histories.{history}
 use Rattle.mu_model.specs.Knowledge.{applied}
 use Rattle.mu_model.specs.Room.{reserve}
 use Rattle.mu_model.specs.Steps.{is_named}
@@ -25,15 +24,13 @@ use Rattle.mu_node.specs.Watch.{StandsForWatch}
 use Rattle.mu_pace.specs.Collecting.{LeaderKeeps}
 use Rattle.mu_pace.specs.Counters.{AtEachStep}
 
--- its journal is these events, its parts but the leader stand for them, with what is said of the
--- replayer, and there is room for what is left
+-- its parts but the leader stand for these events, with what is said of the replayer, and there is
+-- room for its log and for what it committed
 pub record HoldsWith (Follows : Follow → Type 0) (c : Config) (r : ℕ) (mine : List Event)
     (node : Node) : Type 0 where
   pub id : node.id ≡ r
   pub replicas : node.replicas ≡ c.replicas
   pub budget : node.budget ≡ c.budget
-  pub journal : history node.journal.events ≡ mine
-  pub journal_room : c.budget ≤ length mine + node.journal.room
   pub grants : HostStandsFor c.replicas r mine node.grants
   pub watch : StandsForWatch c r mine node.watch
   pub follow : Follows node.follow

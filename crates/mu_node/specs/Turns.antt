@@ -11,7 +11,6 @@ use Rattle.mu_model.specs.declared.script.End.{End}
 use Rattle.mu_model.specs.declared.script.Script.{Script}
 use Rattle.mu_model.specs.Diligence.{IsDiligent}
 use Rattle.mu_model.specs.Ends.{EndsBy}
-use Rattle.mu_model.specs.Histories.{history}
 use Rattle.mu_model.specs.Knowledge.{applied, commits}
 use Rattle.mu_port.specs.Telling.{Tells}
 use Rattle.mu_knowledge.specs.Commits.{pair_of}
@@ -48,7 +47,6 @@ IsTurn c script r mine now before after (Turn.Ended end) =
 -- what a replica leaves is what the definitions give of its events, which are diligent; its replies
 -- are those of the store to the commands that the rows of what it applied spell
 pub record IsResult (c : Config) (r : ℕ) (mine : List Event) (result : NodeResult) : Type 0 where
-  pub journal : history result.journal.events ≡ mine
   pub log : result.log ≡ applied c r mine
   pub commits : map pair_of result.commits ≡ commits c r mine
   pub replies :

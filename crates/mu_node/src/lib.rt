@@ -1,4 +1,4 @@
-//! One replica: its turns, its journal and its end.
+//! One replica: its turns and its end.
 //!
 //! A turn makes the step that the leader, the host, the failure detector or the replayer has due,
 //! which the replica may make by its own events; if none is due, it beats.

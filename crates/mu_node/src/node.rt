@@ -27,7 +27,7 @@ use mu_grant::Grants;
 use mu_input::Job;
 use mu_knowledge::{Commit, first_values};
 use mu_lead::{Lead, Note};
-use mu_model::{End, Journal, NoMemory, Sequence, Stop, positions_in};
+use mu_model::{End, NoMemory, Sequence, Stop, positions_in};
 use mu_port::Port;
 use std::alloc::Global;
 
@@ -44,8 +44,6 @@ pub struct Node {
     pub(crate) budget: u32,
     /// The stops of the script.
     pub(crate) stops: Vec<Stop>,
-    /// Its events.
-    pub(crate) journal: Journal,
     /// What it does as the host of its region.
     pub(crate) grants: Grants,
     /// Which replicas it holds to be failed, and which it names leader.
@@ -72,7 +70,6 @@ impl Node {
         ensures zeal { IfOk result (λ node. node.zeal ≡ zeal) }
         ensures stops { IfOk result (λ node. node.stops.items ≡ job.now.script.stops) }
         ensures idle { IfOk result (λ node. node.lead.under_way ≡ false) }
-        ensures room { IfOk result (λ node. node.journal.room ≡ job.now.config.budget) }
         ensures answers { IfOk result (λ node. node.answers.left ≡ length job.now.config.rows) }
         ensures log_room { IfOk result (λ node. vec_capacity node.log
             ≡ row_count job.now.config + reserve job.now.config + 1) }
@@ -86,7 +83,6 @@ impl Node {
             zeal,
             budget: config.budget,
             stops: Vec::from_slice(alloc, job.script.stops.as_slice())?,
-            journal: Journal::with_room(alloc, config.budget as usize)?,
             grants: Grants::new(config.replicas, id),
             watch: Watch::new(config.replicas, id),
             lead: Lead::new(alloc, config, id)?,
@@ -112,8 +108,8 @@ impl Node {
         self.follow.steps()
     }
 
-    /// The end of its journal, if it has one: by the script, by the budget, because it was outrun,
-    /// or because all is applied.
+    /// The end of its events, if they have one: by the script, by the budget, because it was
+    /// outrun, or because all is applied.
     #[inline(always)]
     pub fn end(&self) -> Option<End>
         ensures { (c : Config) → (script : Script) → (r : ℕ) → (mine : List SomeEvent)
@@ -130,7 +126,7 @@ impl Node {
         }
     }
 
-    /// One turn: one step through the port, or none if the journal has an end. Takes no memory.
+    /// One turn: one step through the port, or none if its events have an end. Takes no memory.
     pub fn turn<P: Port>(&mut self, port: &mut P) -> Turn
         requires config { IsConfig (P.config port.old) }
         requires stands { StandsForNode (P.config port.old) (P.number port.old)
@@ -215,7 +211,6 @@ impl Node {
             zeal: _,
             budget: _,
             stops: _,
-            journal,
             grants: _,
             watch: _,
             lead: _,
@@ -230,7 +225,6 @@ impl Node {
             .unwrap();
         commits.extend_from_slice(follow.commits()).unwrap();
         NodeResult {
-            journal,
             log: Sequence::from_vec(log),
             commits: Sequence::from_vec(commits),
             replies: answers.into_replies(),

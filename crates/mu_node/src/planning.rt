@@ -298,7 +298,6 @@ impl Node {
     #[inline(always)]
     fn note(&mut self, by: u8, verb: Verb, answer: Answer)
         requires config { IsConfig self.old.follow.config }
-        requires room { 0 < self.old.journal.room }
         ensures stands { (mine : List SomeEvent)
             → IsPossible self.old.follow.config by
             (record { by = by; verb = verb; answer = answer } ∷ mine)
@@ -325,7 +324,6 @@ impl Node {
         ensures handed { self.new.follow.progress.handed ≡ self.old.follow.progress.handed }
     {
         let event = Event { by, verb, answer };
-        self.journal.push(event);
         self.grants.note(&event);
         self.watch.note(self.replicas, &event);
         self.follow.note(&event);
@@ -359,7 +357,6 @@ impl Node {
         ghost mine: { List SomeEvent }
         requires id { id ≡ self.old.id }
         requires config { IsConfig self.old.follow.config }
-        requires room { 0 < self.old.journal.room }
         requires fits { FitsLead self.old.follow.config self.old.id mine self.old.lead plan.leads
             (due_of plan) }
         requires turn { plan.leads ≡ true → is_odd (length mine) ≡ true }
@@ -375,9 +372,8 @@ impl Node {
             self.new }
         ensures zeal { self.new.zeal ≡ self.old.zeal }
         ensures stops { self.new.stops ≡ self.old.stops }
-        ensures note { TellsTook self.old.follow.config id mine plan.leads (due_of plan) plan.heeded
-            answer
-            result }
+        ensures note { TellsTook self.old.follow.config id mine plan.leads (due_of plan)
+            plan.heeded answer result }
         ensures says { SaysTook self.old.follow.config id mine plan.leads (due_of plan) plan.heeded
             self.old.lead self.new.lead answer result }
     {
@@ -393,7 +389,6 @@ impl Node {
     #[inline(always)]
     fn note_other(&mut self, by: u8, verb: Verb, answer: Answer)
         requires config { IsConfig self.old.follow.config }
-        requires room { 0 < self.old.journal.room }
         ensures stands { (mine : List SomeEvent)
             → is_beside (leads_at self.old.lead.place) verb ≡ true
             → WritesAhead self.old.lead verb
@@ -421,7 +416,6 @@ impl Node {
     fn took_led(&mut self, verb: Verb, by: u8, answer: Answer, heeded: Note) -> Note
         ghost mine: { List SomeEvent }
         requires config { IsConfig self.old.follow.config }
-        requires room { 0 < self.old.journal.room }
         requires heeded { HasHeeded mine self.old.lead }
         requires due { lead_due self.old.follow.config by mine self.old.lead ≡ Some verb }
         requires turn { is_odd (length mine) ≡ true }

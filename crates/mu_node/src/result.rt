@@ -1,13 +1,11 @@
 //! What one replica leaves.
 use crate::answers::Replies;
 use mu_knowledge::{Commits, Log};
-use mu_model::{End, Journal};
+use mu_model::End;
 
 /// What one replica leaves.
 #[derive(Drop)]
 pub struct NodeResult {
-    /// Its events.
-    pub journal: Journal,
     /// What it applied.
     pub log: Log,
     /// What it committed.

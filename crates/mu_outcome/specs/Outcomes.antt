@@ -3,7 +3,9 @@
 -- those of the store.
 --
 -- run of its job: an outcome whose journals are parts of one legal list.
-use Rattle.std.specs.Prelude.{ℕ, ◌+◌, ◌≡◌, ◌<◌, ◌≤◌, ◌⊎◌, ◌==◌, if◌then◌else◌, List, [], length, slice_get, map, Some, None, All}
+--
+-- journals of an outcome: the events of each replica, as the order or the threads' ports have them.
+use Rattle.std.specs.Prelude.{ℕ, zero, suc, ◌+◌, ◌++◌, ◌≡◌, ◌<◌, ◌≤◌, ◌⊎◌, ◌==◌, if◌then◌else◌, List, [], ◌∷◌, length, slice_get, map, Some, None, All}
 use Rattle.std.specs.declared.option.Option.{Option}
 use Rattle.kv_store.specs.Tables.{replies}
 use Rattle.kv_store.specs.declared.store.Reply.{Reply}
@@ -11,13 +13,14 @@ use Rattle.kv_store.specs.Sessions.{IsInSession}
 use Rattle.mu_model.specs.declared.event.Event.{Event}
 use Rattle.mu_model.specs.declared.script.End.{End}
 use Rattle.mu_model.specs.Journals.{Record}
-use Rattle.mu_model.specs.Histories.{history, IsPrefixOf}
+use Rattle.mu_model.specs.Histories.{history, part, IsPrefixOf}
 use Rattle.mu_model.specs.Contents.{StandsForEntry, row_count}
 use Rattle.mu_model.specs.Ends.{Obeys}
 use Rattle.mu_model.specs.Knowledge.{applied, commits}
 use Rattle.mu_model.specs.Legal.{IsLegal}
 use Rattle.mu_model.specs.Parts.{HasParts}
 use Rattle.mu_model.specs.Room.{reserve}
+use Rattle.shared_fabric.specs.Gathering.{Collected}
 use Rattle.mu_outcome.specs.declared.outcome.Outcome.{Outcome}
 use Rattle.mu_outcome.specs.declared.status.Status.{Status}
 use Rattle.mu_knowledge.specs.Commits.{pair_of}
@@ -30,12 +33,25 @@ abbrev pub or_empty : {A : Type 0} → Option (List A) → List A
 or_empty None = []
 or_empty (Some xs) = xs
 
-abbrev pub events_of : Record → List Event
-events_of journal = journal.events
+-- the parts of the replicas below n, in order of id
+abbrev pub parts_below : ℕ → List Event → List (List Event)
+parts_below zero events = []
+parts_below (suc n) events = parts_below n events ++ part n events ∷ []
+
+-- each replica's events, as they are kept: the parts of the order if there is one, else those that
+-- the threads' ports had, else nothing
+abbrev pub kept_events : ℕ → Option Record → Option Collected → List (List Event)
+kept_events n (Some order) gathered = parts_below n order.events
+kept_events n None (Some gathered) = gathered.parts
+kept_events n None None = []
+
+-- the journals: the events of each replica, in order of id
+abbrev pub journals_of : Outcome → List (List Event)
+journals_of o = kept_events o.job.config.replicas o.order o.gathered
 
 -- the events of replica r
 abbrev pub journal_of : Outcome → ℕ → List Event
-journal_of o r = or_empty (slice_get (map events_of o.journals) r)
+journal_of o r = or_empty (slice_get (journals_of o) r)
 
 -- what replica r applied
 abbrev pub log_of : Outcome → ℕ → List ℕ
@@ -85,10 +101,9 @@ pub record IsRun (o : Outcome) : Type 0 where
   pub order : Record
   pub given : o.order ≡ Some order
   pub legal : IsLegal o.job.config order.events
-  pub parts : HasParts o.job.config order.events (map events_of o.journals)
+  pub parts : HasParts o.job.config order.events (journals_of o)
   pub turns :
-      IsTurns o.job.script (map (λ journal. length (events_of journal)) o.journals)
-      (map (λ e. e.by) order.events)
+      IsTurns o.job.script (map length (journals_of o)) (map (λ e. e.by) order.events)
   pub counts :
       (length o.logs ≡ o.job.config.replicas) × (length o.commits ≡ o.job.config.replicas)
       × (length o.ends ≡ o.job.config.replicas)

@@ -1,5 +1,5 @@
 -- run over a list: runs whose order of turns isn't stated.
-use Rattle.std.specs.Prelude.{List, None, Some, length, map, ℕ, ◌<◌, ◌≡◌}
+use Rattle.std.specs.Prelude.{List, None, Some, length, ℕ, ◌<◌, ◌≡◌}
 use Rattle.std.specs.List.{slice_get}
 use Rattle.kv_store.specs.Tables.{replies}
 use Rattle.mu_model.specs.declared.event.Event.{Event}
@@ -12,14 +12,14 @@ use Rattle.mu_model.specs.Parts.{HasParts}
 use Rattle.shared_fabric.specs.Gathering.{Collected}
 use Rattle.mu_outcome.specs.declared.outcome.Outcome.{Outcome}
 use Rattle.mu_outcome.specs.Entries.{commands_in, longest}
-use Rattle.mu_outcome.specs.Outcomes.{commits_of, events_of, journal_of, log_of, replies_of}
+use Rattle.mu_outcome.specs.Outcomes.{commits_of, journal_of, journals_of, log_of, replies_of}
 
 -- the list is legal and has the journals as its parts; each journal ends exactly there; the logs,
 -- commits, ends and replies are those that the definitions give of the journals, each replica's
 -- replies those over its own log
 pub record IsRunOver (events : List Event) (o : Outcome) : Type 0 where
   pub legal : IsLegal o.job.config events
-  pub parts : HasParts o.job.config events (map events_of o.journals)
+  pub parts : HasParts o.job.config events (journals_of o)
   pub counts :
       (length o.logs ≡ o.job.config.replicas) × (length o.commits ≡ o.job.config.replicas)
       × (length o.ends ≡ o.job.config.replicas)
@@ -39,13 +39,12 @@ pub record IsRunOver (events : List Event) (o : Outcome) : Type 0 where
       → replies_of o r ≡ replies (commands_in o.job (log_of o r))
   pub replies : o.replies ≡ replies (commands_in o.job (longest o.logs))
 
--- the outcome is a run of its job by threads: no order is given, the parts that were gathered are
--- the journals, and some legal list has them
+-- the outcome is a run of its job by threads: no order is given, so the journals are the parts that
+-- were gathered, and some legal list has them
 pub record IsThreadRun (o : Outcome) : Type 0 where
   pub no_order : o.order ≡ None
   pub gathered : Collected
   pub given : o.gathered ≡ Some gathered
   pub config : gathered.config ≡ o.job.config
-  pub parts : gathered.parts ≡ map events_of o.journals
   pub events : List Event
   pub over : IsRunOver events o

@@ -15,6 +15,6 @@ pub use entries::commands_of;
 pub use logs::longest;
 pub use moment::{Fact, Leads, Moment};
 pub use mu_knowledge::{Commit, Commits, Log};
-pub use outcome::{AllCommits, AllEvents, AllReplies, Ends, Journals, Logs, Outcome, Replies};
+pub use outcome::{AllCommits, AllEvents, AllReplies, Ends, Logs, Outcome, Replies};
 pub use status::Status;
 pub use verdict::{Verdict, Wrong, at_most_one_verdict};

@@ -10,9 +10,6 @@ use shared_fabric::Gathered;
 /// The log of each replica.
 pub type Logs = Sequence<Log>;
 
-/// The events of each replica.
-pub type Journals = Sequence<Journal>;
-
 /// What each replica committed.
 pub type AllCommits = Sequence<Commits>;
 
@@ -25,13 +22,12 @@ pub type AllReplies = Sequence<Replies>;
 /// How each replica ended.
 pub type Ends = Sequence<End>;
 
-/// What a run leaves. Lists of replicas are in order of id.
+/// What a run leaves. Lists of replicas are in order of id. Each event is kept once, in the order
+/// or in the parts of the threads' ports; the journal of a replica is read off these.
 #[derive(Drop)]
 pub struct Outcome {
     /// What was run.
     pub job: Job,
-    /// The events of each replica.
-    pub journals: Journals,
     /// What each replica applied.
     pub logs: Logs,
     /// What each replica committed.

@@ -40,7 +40,6 @@ pub fn account_of(alloc: Global, job: Job, events: &[Event]) -> Result<Account, 
     Ok(Account {
         outcome: Outcome {
             job,
-            journals: Sequence::from_vec(Vec::new(alloc)),
             logs,
             commits,
             replies,

@@ -1,6 +1,7 @@
 //! The largest replay, by its figures.
 use crate::replays::outcome_of;
 use mu_cluster::Outcome;
+use mu_model::Event;
 use std::alloc::{AllocError, Global};
 use std::test::Fail;
 
@@ -35,12 +36,12 @@ fn largest_job(alloc: Global) -> Result<String, AllocError> {
 
 /// How many steps each replica took.
 fn steps(outcome: &Outcome) -> [usize; 7] {
-    [0, 1, 2, 3, 4, 5, 6].map(|replica| {
-        outcome
-            .journals
-            .as_slice()
-            .get(replica)
-            .map_or(0, |journal| journal.as_slice().len())
+    let order: &[Event] = match &outcome.order {
+        Some(order) => order.as_slice(),
+        None => &[],
+    };
+    [0, 1, 2, 3, 4, 5, 6].map(|replica: u8| {
+        order.iter().filter(|event| event.by == replica).count()
     })
 }
 

@@ -249,10 +249,10 @@ fn agree(outcome: &Outcome, one: u8, other: u8) -> bool {
 
 /// Whether these are 93 events, and the 49th writes an entry, the last one the head.
 fn are_of_one_put(outcome: &Outcome) -> bool {
-    let Some(journal) = outcome.journals.as_slice().first() else {
+    let Some(order) = &outcome.order else {
         return false;
     };
-    let events = journal.as_slice();
+    let events = order.as_slice();
     let commit = events.get(49).map(|event| event.verb);
     let last = events.last().map(|event| event.verb);
     events.len() == 93

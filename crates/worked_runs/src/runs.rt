@@ -2,7 +2,7 @@
 use crate::replays::{ONE_PUT, TWO_CLIENTS, job_of};
 use kv_store::Reply;
 use mu_cluster::{Gate, OpenGate, Outcome, rows_spell_commands, run};
-use mu_model::{Answer, End, Event, Verb};
+use mu_model::{Answer, End, Event, Journal, Verb};
 use mu_outcome::Log;
 use std::alloc::Global;
 use std::sync::Wait;
@@ -101,6 +101,14 @@ fn ran<R: Threads + Wait + Clock + Sync, G: Gate + Sync>(
     Ok(run(rt, alloc, job, gate)?)
 }
 
+/// The events of each replica.
+fn parts(outcome: &Outcome) -> &[Journal] {
+    match &outcome.gathered {
+        Some(gathered) => gathered.parts().as_slice(),
+        None => &[],
+    }
+}
+
 /// Whether one list begins the other.
 fn is_prefix(one: &[u16], other: &[u16]) -> bool {
     let both = one.len().min(other.len());
@@ -114,8 +122,7 @@ fn are_three(outcome: &Outcome) -> bool {
         .iter()
         .all(|other| is_prefix(one.as_slice(), other.as_slice()));
     outcome.order.is_none()
-        && outcome.gathered.is_some()
-        && (logs.len(), outcome.journals.len()) == (3, 3)
+        && (logs.len(), parts(outcome).len()) == (3, 3)
         && logs.iter().all(agree)
 }
 
@@ -157,7 +164,7 @@ fn reads_no_beat<R: Threads + Wait + Clock + Sync, G: Gate + Sync>(
     gate: &G,
 ) -> Result<bool, Fail> {
     let outcome = ran(rt, alloc, TWO_CLIENTS, gate)?;
-    let first = match outcome.journals.as_slice().first() {
+    let first = match parts(&outcome).first() {
         Some(journal) => beats_read(journal.as_slice()),
         None => None,
     };
@@ -179,7 +186,7 @@ fn gate_comes_before_the_turn(rt: HostRuntime) -> Result<(), Fail> {
 /// Whether this is what one replica leaves of one put.
 fn is_of_one_put(outcome: &Outcome) -> bool {
     let logs = outcome.logs.as_slice().iter().map(|log| log.len());
-    let journals = outcome.journals.as_slice().iter();
+    let journals = parts(outcome).iter();
     let commits = outcome.commits.as_slice().iter();
     logs.eq([1])
         && journals.map(|journal| journal.as_slice().len()).eq([93])

@@ -2,9 +2,8 @@ use Rattle.std.proofs.Common.{None, Some, map, refl, subst, sym}
 use Rattle.mu_model.specs.Parts.{HasParts}
 use Rattle.mu_outcome.specs.declared.outcome.Outcome.{Outcome}
 use Rattle.mu_cluster.specs.Branches.{AreLeft}
-use Rattle.mu_outcome.specs.Outcomes.{events_of}
 use Rattle.mu_outcome.specs.Runs.{IsRunOver}
-use Rattle.mu_cluster.proofs.Branching.{one_list, parts_same}
+use Rattle.mu_cluster.proofs.Branching.{one_list}
 use Rattle.mu_cluster.proofs.Filling.{diligent_of, printed_fit, printed_is, run_over}
 use Rattle.mu_cluster.proofs.leaving.gathered_outcome.Goals as goal
 
@@ -30,16 +29,15 @@ returns-clause-run c =
     let g = c.args.gathered in
     let one = one_list k g (map (λ j. j.events) c.parts.result.now) c.requires.config c.parts.ensures.parts c.parts.ensures.list in
     let held = c.left_by-lists.ensures one.0 one.1.0 one.1.1 in
-    let o : Outcome = record { job = job; journals = c.from_vec.result; logs = c.from_vec-2.result; commits = c.from_vec-3.result; replies = c.printed-printed.result; own_replies = c.from_vec-4.result; ends = c.from_vec-5.result; order = None; gathered = Some g } in
-    let over : IsRunOver one.0 o = run_over o one.0 lists one.1.0 c.from_vec.ensures c.from_vec-2.ensures c.from_vec-3.ensures c.from_vec-4.ensures c.from_vec-5.ensures held one.1.1.whole c.requires.spelled
-    (printed_is job job.script one.0 lists c.printed-printed.result c.requires.spelled held c.printed-printed.ensures) in
+    let o : Outcome = record { job = job; logs = c.from_vec.result; commits = c.from_vec-2.result; replies = c.printed-printed.result; own_replies = c.from_vec-3.result; ends = c.from_vec-4.result; order = None; gathered = Some g } in
     let has : HasParts k one.0 g.parts = subst (λ l. HasParts k one.0 l) c.parts.ensures.parts one.1.1 in
+    let over : IsRunOver one.0 o = run_over o one.0 lists one.1.0 has c.from_vec.ensures c.from_vec-2.ensures c.from_vec-3.ensures c.from_vec-4.ensures held c.requires.spelled
+    (printed_is job job.script one.0 lists c.printed-printed.result c.requires.spelled held c.printed-printed.ensures) in
     record {
       no_order = refl;
       gathered = g;
       given = refl;
       config = c.requires.config;
-      parts = parts_same k one.0 g.parts (map events_of o.journals) has over.parts;
       events = one.0;
       over = over;
     }
@@ -52,5 +50,6 @@ returns-clause-diligent c =
     let g = c.args.gathered in
     let one = one_list k g (map (λ j. j.events) c.parts.result.now) c.requires.config c.parts.ensures.parts c.parts.ensures.list in
     let held = c.left_by-lists.ensures one.0 one.1.0 one.1.1 in
-    let o : Outcome = record { job = job; journals = c.from_vec.result; logs = c.from_vec-2.result; commits = c.from_vec-3.result; replies = c.printed-printed.result; own_replies = c.from_vec-4.result; ends = c.from_vec-5.result; order = None; gathered = Some g } in
-    diligent_of o one.0 lists c.from_vec.ensures held
+    let o : Outcome = record { job = job; logs = c.from_vec.result; commits = c.from_vec-2.result; replies = c.printed-printed.result; own_replies = c.from_vec-3.result; ends = c.from_vec-4.result; order = None; gathered = Some g } in
+    let has : HasParts k one.0 g.parts = subst (λ l. HasParts k one.0 l) c.parts.ensures.parts one.1.1 in
+    diligent_of o one.0 lists has held

@@ -22,7 +22,7 @@ returns-clause-is c =
     let events = c.args.events.now in
     let past = history events in
     let held = all_taken job.config events c.in_ok-walk.walk c.in_ok-walk.ensures in
-    let o : Outcome = record { job = job; journals = c.from_vec.result; logs = c.in_ok-logs.logs; commits = c.in_ok-commits.commits; replies = c.in_ok-replies.replies; own_replies = c.in_ok-own_replies.own_replies; ends = c.from_vec-2.result; order = None; gathered = None } in
+    let o : Outcome = record { job = job; logs = c.in_ok-logs.logs; commits = c.in_ok-commits.commits; replies = c.in_ok-replies.replies; own_replies = c.in_ok-own_replies.own_replies; ends = c.from_vec.result; order = None; gathered = None } in
     record {
       reached = reached_of o events (c.in_ok-logs.ensures past job.config refl held) (c.in_ok-commits.ensures past job.config refl held)
           (c.in_ok-own_replies.ensures ∙ ap (map (λ log. replies (commands_in job log))) c.as_slice.ensures)
@@ -36,7 +36,7 @@ returns-clause-agrees c =
     let events = c.args.events.now in
     let past = history events in
     let held = all_taken job.config events c.in_ok-walk.walk c.in_ok-walk.ensures in
-    let o : Outcome = record { job = job; journals = c.from_vec.result; logs = c.in_ok-logs.logs; commits = c.in_ok-commits.commits; replies = c.in_ok-replies.replies; own_replies = c.in_ok-own_replies.own_replies; ends = c.from_vec-2.result; order = None; gathered = None } in
+    let o : Outcome = record { job = job; logs = c.in_ok-logs.logs; commits = c.in_ok-commits.commits; replies = c.in_ok-replies.replies; own_replies = c.in_ok-own_replies.own_replies; ends = c.from_vec.result; order = None; gathered = None } in
     agrees_on o events c.requires.config c.requires.heads c.requires.legal
     (reached_of o events (c.in_ok-logs.ensures past job.config refl held) (c.in_ok-commits.ensures past job.config refl held)
     (c.in_ok-own_replies.ensures ∙ ap (map (λ log. replies (commands_in job log))) c.as_slice.ensures)
@@ -48,7 +48,7 @@ returns-clause-reach c =
     let events = c.args.events.now in
     let past = history events in
     let held = all_taken job.config events c.in_ok-walk.walk c.in_ok-walk.ensures in
-    let o : Outcome = record { job = job; journals = c.from_vec.result; logs = c.in_ok-logs.logs; commits = c.in_ok-commits.commits; replies = c.in_ok-replies.replies; own_replies = c.in_ok-own_replies.own_replies; ends = c.from_vec-2.result; order = None; gathered = None } in
+    let o : Outcome = record { job = job; logs = c.in_ok-logs.logs; commits = c.in_ok-commits.commits; replies = c.in_ok-replies.replies; own_replies = c.in_ok-own_replies.own_replies; ends = c.from_vec.result; order = None; gathered = None } in
     within_on o events c.requires.config c.requires.heads c.requires.legal
     (reached_of o events (c.in_ok-logs.ensures past job.config refl held) (c.in_ok-commits.ensures past job.config refl held)
     (c.in_ok-own_replies.ensures ∙ ap (map (λ log. replies (commands_in job log))) c.as_slice.ensures)

@@ -1,6 +1,7 @@
 use Rattle.std.proofs.Common.{None, Some, refl, subst}
 use Rattle.mu_model.specs.Legal.{IsLegal}
 use Rattle.mu_outcome.specs.declared.outcome.Outcome.{Outcome}
+use Rattle.mu_outcome.proofs.Journals.{order_parts}
 use Rattle.mu_cluster.specs.Lists.{HoldsLists}
 use Rattle.mu_cluster.proofs.Filling.{diligent_of, printed_fit, printed_is, run_of}
 use Rattle.mu_cluster.proofs.AnyRing.{any_ring_of}
@@ -30,8 +31,8 @@ returns-clause-run c =
     let legal : IsLegal k order.events = c.requires.legal in
     let held = subst (λ l. HoldsLists k job.script l k.replicas lists) c.as_slice.ensures c.filled-lists.ensures in
     let played = c.requires.played.1 in
-    let o : Outcome = record { job = job; journals = c.from_vec.result; logs = c.from_vec-2.result; commits = c.from_vec-3.result; replies = c.printed-printed.result; own_replies = c.from_vec-4.result; ends = c.from_vec-5.result; order = Some order; gathered = None } in
-    run_of o order lists c.args.seats.items c.requires.played.0 refl legal c.from_vec.ensures c.from_vec-2.ensures c.from_vec-3.ensures c.from_vec-4.ensures c.from_vec-5.ensures held played c.requires.ended c.requires.spelled
+    let o : Outcome = record { job = job; logs = c.from_vec.result; commits = c.from_vec-2.result; replies = c.printed-printed.result; own_replies = c.from_vec-3.result; ends = c.from_vec-4.result; order = Some order; gathered = None } in
+    run_of o order lists c.args.seats.items c.requires.played.0 refl legal c.from_vec.ensures c.from_vec-2.ensures c.from_vec-3.ensures c.from_vec-4.ensures held played c.requires.ended c.requires.spelled
     (printed_is job job.script order.events lists c.printed-printed.result c.requires.spelled held c.printed-printed.ensures)
 
 pub returns-clause-diligent : goal.returns-clause-diligent
@@ -41,8 +42,8 @@ returns-clause-diligent c =
     let order = c.args.order in
     let lists = c.filled-lists.result in
     let held = subst (λ l. HoldsLists k job.script l k.replicas lists) c.as_slice.ensures c.filled-lists.ensures in
-    let o : Outcome = record { job = job; journals = c.from_vec.result; logs = c.from_vec-2.result; commits = c.from_vec-3.result; replies = c.printed-printed.result; own_replies = c.from_vec-4.result; ends = c.from_vec-5.result; order = Some order; gathered = None } in
-    diligent_of o order.events lists c.from_vec.ensures held
+    let o : Outcome = record { job = job; logs = c.from_vec.result; commits = c.from_vec-2.result; replies = c.printed-printed.result; own_replies = c.from_vec-3.result; ends = c.from_vec-4.result; order = Some order; gathered = None } in
+    diligent_of o order.events lists (order_parts o order refl c.requires.played.1.own) held
 
 pub returns-clause-names : goal.returns-clause-names
 returns-clause-names c =
@@ -53,8 +54,8 @@ returns-clause-names c =
     let legal : IsLegal k order.events = c.requires.legal in
     let held = subst (λ l. HoldsLists k job.script l k.replicas lists) c.as_slice.ensures c.filled-lists.ensures in
     let played = c.requires.played.1 in
-    let o : Outcome = record { job = job; journals = c.from_vec.result; logs = c.from_vec-2.result; commits = c.from_vec-3.result; replies = c.printed-printed.result; own_replies = c.from_vec-4.result; ends = c.from_vec-5.result; order = Some order; gathered = None } in
-    let run = run_of o order lists c.args.seats.items c.requires.played.0 refl legal c.from_vec.ensures c.from_vec-2.ensures c.from_vec-3.ensures c.from_vec-4.ensures c.from_vec-5.ensures held played c.requires.ended c.requires.spelled
+    let o : Outcome = record { job = job; logs = c.from_vec.result; commits = c.from_vec-2.result; replies = c.printed-printed.result; own_replies = c.from_vec-3.result; ends = c.from_vec-4.result; order = Some order; gathered = None } in
+    let run = run_of o order lists c.args.seats.items c.requires.played.0 refl legal c.from_vec.ensures c.from_vec-2.ensures c.from_vec-3.ensures c.from_vec-4.ensures held played c.requires.ended c.requires.spelled
     (printed_is job job.script order.events lists c.printed-printed.result c.requires.spelled held c.printed-printed.ensures) in
     named_of o order c.args.seats.items c.requires.played.0 run refl played
 
@@ -67,8 +68,8 @@ returns-clause-none_outrun c =
     let legal : IsLegal k order.events = c.requires.legal in
     let held = subst (λ l. HoldsLists k job.script l k.replicas lists) c.as_slice.ensures c.filled-lists.ensures in
     let played = c.requires.played.1 in
-    let o : Outcome = record { job = job; journals = c.from_vec.result; logs = c.from_vec-2.result; commits = c.from_vec-3.result; replies = c.printed-printed.result; own_replies = c.from_vec-4.result; ends = c.from_vec-5.result; order = Some order; gathered = None } in
-    let run = run_of o order lists c.args.seats.items c.requires.played.0 refl legal c.from_vec.ensures c.from_vec-2.ensures c.from_vec-3.ensures c.from_vec-4.ensures c.from_vec-5.ensures held played c.requires.ended c.requires.spelled
+    let o : Outcome = record { job = job; logs = c.from_vec.result; commits = c.from_vec-2.result; replies = c.printed-printed.result; own_replies = c.from_vec-3.result; ends = c.from_vec-4.result; order = Some order; gathered = None } in
+    let run = run_of o order lists c.args.seats.items c.requires.played.0 refl legal c.from_vec.ensures c.from_vec-2.ensures c.from_vec-3.ensures c.from_vec-4.ensures held played c.requires.ended c.requires.spelled
     (printed_is job job.script order.events lists c.printed-printed.result c.requires.spelled held c.printed-printed.ensures) in
     none_outrun_of o order c.args.seats.items c.requires.played.0 c.requires.good run refl played
 
@@ -81,10 +82,10 @@ returns-clause-applies c =
     let legal : IsLegal k order.events = c.requires.legal in
     let held = subst (λ l. HoldsLists k job.script l k.replicas lists) c.as_slice.ensures c.filled-lists.ensures in
     let played = c.requires.played.1 in
-    let o : Outcome = record { job = job; journals = c.from_vec.result; logs = c.from_vec-2.result; commits = c.from_vec-3.result; replies = c.printed-printed.result; own_replies = c.from_vec-4.result; ends = c.from_vec-5.result; order = Some order; gathered = None } in
-    let run = run_of o order lists c.args.seats.items c.requires.played.0 refl legal c.from_vec.ensures c.from_vec-2.ensures c.from_vec-3.ensures c.from_vec-4.ensures c.from_vec-5.ensures held played c.requires.ended c.requires.spelled
+    let o : Outcome = record { job = job; logs = c.from_vec.result; commits = c.from_vec-2.result; replies = c.printed-printed.result; own_replies = c.from_vec-3.result; ends = c.from_vec-4.result; order = Some order; gathered = None } in
+    let run = run_of o order lists c.args.seats.items c.requires.played.0 refl legal c.from_vec.ensures c.from_vec-2.ensures c.from_vec-3.ensures c.from_vec-4.ensures held played c.requires.ended c.requires.spelled
     (printed_is job job.script order.events lists c.printed-printed.result c.requires.spelled held c.printed-printed.ensures) in
-    let diligent = diligent_of o order.events lists c.from_vec.ensures held in
+    let diligent = diligent_of o order.events lists (order_parts o order refl c.requires.played.1.own) held in
     record { first = applies_of o order c.args.seats.items c.requires.played.0 c.requires.good run refl played diligent; last = applies_after o order c.args.seats.items c.requires.played.0 c.requires.good run refl played diligent; any = any_ring_of o order c.args.seats.items c.requires.played.0 c.requires.good run refl played diligent; each = finishes_of o order c.args.seats.items c.requires.played.0 c.requires.good run refl played diligent; each_after_stops = finishes_after o order c.args.seats.items c.requires.played.0 c.requires.good run refl played diligent; each_in_any_ring = finishes_in_any_ring o order c.args.seats.items c.requires.played.0 c.requires.good run refl played diligent; last_in_any_ring = applies_in_any_ring o order c.args.seats.items c.requires.played.0 c.requires.good run refl played diligent; each_after_stops_in_any_ring = finishes_in_small_rings o order c.args.seats.items c.requires.played.0 c.requires.good run refl played diligent }
 
 pub returns-clause-leads : goal.returns-clause-leads
@@ -96,7 +97,7 @@ returns-clause-leads c =
     let legal : IsLegal k order.events = c.requires.legal in
     let held = subst (λ l. HoldsLists k job.script l k.replicas lists) c.as_slice.ensures c.filled-lists.ensures in
     let played = c.requires.played.1 in
-    let o : Outcome = record { job = job; journals = c.from_vec.result; logs = c.from_vec-2.result; commits = c.from_vec-3.result; replies = c.printed-printed.result; own_replies = c.from_vec-4.result; ends = c.from_vec-5.result; order = Some order; gathered = None } in
-    let run = run_of o order lists c.args.seats.items c.requires.played.0 refl legal c.from_vec.ensures c.from_vec-2.ensures c.from_vec-3.ensures c.from_vec-4.ensures c.from_vec-5.ensures held played c.requires.ended c.requires.spelled
+    let o : Outcome = record { job = job; logs = c.from_vec.result; commits = c.from_vec-2.result; replies = c.printed-printed.result; own_replies = c.from_vec-3.result; ends = c.from_vec-4.result; order = Some order; gathered = None } in
+    let run = run_of o order lists c.args.seats.items c.requires.played.0 refl legal c.from_vec.ensures c.from_vec-2.ensures c.from_vec-3.ensures c.from_vec-4.ensures held played c.requires.ended c.requires.spelled
     (printed_is job job.script order.events lists c.printed-printed.result c.requires.spelled held c.printed-printed.ensures) in
-    leads_of o order c.args.seats.items c.requires.played.0 c.requires.good run refl played (diligent_of o order.events lists c.from_vec.ensures held)
+    leads_of o order c.args.seats.items c.requires.played.0 c.requires.good run refl played (diligent_of o order.events lists (order_parts o order refl c.requires.played.1.own) held)

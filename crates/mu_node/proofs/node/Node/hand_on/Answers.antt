@@ -23,8 +23,6 @@ returns-then-place-saturating_add-clause-stands c k r mine even possible at held
         id = b.id;
         replicas = b.replicas;
         budget = b.budget;
-        journal = b.journal;
-        journal_room = b.journal_room;
         grants = b.grants;
         watch = b.watch;
         follow = c.apply_ready.ensures.stands k r mine b.follow;

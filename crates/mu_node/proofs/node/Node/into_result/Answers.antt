@@ -59,7 +59,6 @@ returns-clause-is c k r mine good possible held =
     let none = c.args.self.commits.items in
     let list = c.extend_from_slice-2.ensures.items ∙ (ap (λ x. cond (is_ok x) (none ++ made) none) c.unwrap-2.ensures ∙ ap (λ l. l ++ made) held.beside.no_commits) in
     record {
-      journal = held.beside.journal;
       log = c.from_vec.ensures ∙ (log ∙ is);
       commits = ap (map pair_of) (c.from_vec-2.ensures ∙ list) ∙ listed;
       replies = λ commands are.

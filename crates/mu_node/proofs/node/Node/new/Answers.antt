@@ -1,6 +1,5 @@
-use Rattle.std.proofs.Common.{◌∙◌, ap, arith, refl, sym}
+use Rattle.std.proofs.Common.{◌∙◌, arith, refl, sym}
 use Rattle.std.proofs.lemmas.Bool.{true≢false}
-use Rattle.mu_model.specs.Histories.{history}
 use Rattle.mu_node.proofs.Answering.{first_answers}
 use Rattle.mu_node.proofs.Pacing.{paces_first}
 use Rattle.mu_node.proofs.node.Node.new.Goals as goal
@@ -11,8 +10,6 @@ returns-clause-stands c = record {
     id = refl;
     replicas = refl;
     budget = refl;
-    journal = ap history c.in_ok-with_room.ensures.empty;
-    journal_room = omega (arith, c.in_ok-with_room.ensures.room);
     grants = c.new.ensures;
     watch = c.new-2.ensures c.args.job.now.config refl;
     follow = c.in_ok-new-2.ensures.stands;
@@ -23,7 +20,7 @@ returns-clause-stands c = record {
   };
   lead = record { config = c.in_ok-new.ensures.config; id = c.in_ok-new.ensures.id; stands = c.in_ok-new.ensures.stands };
   handed = c.in_ok-new-2.ensures.handed;
-  answers = λ commands are. first_answers c.args.job.now.config commands c.in_ok-with_room-2.field-0 c.in_ok-with_room-2.ensures.table c.in_ok-with_room-2.ensures.replies (c.in_ok-with_room-2.ensures.left ∙ c.len.ensures);
+  answers = λ commands are. first_answers c.args.job.now.config commands c.in_ok-with_room.field-0 c.in_ok-with_room.ensures.table c.in_ok-with_room.ensures.replies (c.in_ok-with_room.ensures.left ∙ c.len.ensures);
   cycle = tt;
   made = tt;
   listed = tt;

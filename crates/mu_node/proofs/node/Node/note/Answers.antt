@@ -1,8 +1,5 @@
-use Rattle.std.proofs.Common.{[], ◌∷◌, ◌∙◌, ap, arith, subst}
+use Rattle.std.proofs.Common.{subst}
 use Rattle.mu_model.specs.Allowed.{Needs}
-use Rattle.mu_model.specs.Histories.{history}
-use Rattle.std.proofs.lemmas.List.{reverse-append}
-use Rattle.mu_model.specs.declared.event.Event.{Event}
 use Rattle.mu_agree.proofs.Possible.{parts_shorten_law}
 use Rattle.mu_node.proofs.node.Node.note.Goals as goal
 
@@ -10,13 +7,10 @@ pub returns-clause-stands : goal.returns-clause-stands
 returns-clause-stands c mine possible held none =
     let k = c.args.self.now.follow.config in
     let r = c.args.by in
-    let e : Event = record { by = r; verb = c.args.verb; answer = c.args.answer } in
     record {
       id = held.id;
       replicas = held.replicas;
       budget = held.budget;
-      journal = ap history c.push.ensures.events ∙ (reverse-append c.args.self.now.journal.events (e ∷ []) ∙ ap (λ l. e ∷ l) held.journal);
-      journal_room = omega (arith, held.journal_room, c.push.ensures.room);
       grants = c.note.ensures k.replicas r mine (λ drains. (subst (λ v. Needs k r mine v) drains (parts_shorten_law k r mine _ possible).allowed.may).1) held.grants;
       watch = c.note-2.ensures k r mine held.replicas held.watch;
       follow = c.note-3.ensures.stands mine possible held.follow none;
@@ -30,13 +24,10 @@ pub returns-clause-awaits : goal.returns-clause-awaits
 returns-clause-awaits c mine entry possible held some =
     let k = c.args.self.now.follow.config in
     let r = c.args.by in
-    let e : Event = record { by = r; verb = c.args.verb; answer = c.args.answer } in
     record {
       id = held.id;
       replicas = held.replicas;
       budget = held.budget;
-      journal = ap history c.push.ensures.events ∙ (reverse-append c.args.self.now.journal.events (e ∷ []) ∙ ap (λ l. e ∷ l) held.journal);
-      journal_room = omega (arith, held.journal_room, c.push.ensures.room);
       grants = c.note.ensures k.replicas r mine (λ drains. (subst (λ v. Needs k r mine v) drains (parts_shorten_law k r mine _ possible).allowed.may).1) held.grants;
       watch = c.note-2.ensures k r mine held.replicas held.watch;
       follow = c.note-3.ensures.awaits mine entry possible held.follow some;

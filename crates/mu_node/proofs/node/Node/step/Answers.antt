@@ -60,23 +60,17 @@ step-answer-requires g c =
 
 pub took-requires : goal.took-requires
 took-requires g c =
-    let k = g.P.Port.config c.args.port.now in
     let node = c.args.self.now in
     let new = c.plan-plan.new.self in
     let plan = c.plan-plan.ensures in
     let held = c.requires.1.1.1.1.1.1.0 in
-    let own = plan.config ∙ held.beside.follow.config in
-    let short = to_own (λ x i l. length l < x.budget) k node.follow.config (g.P.Port.number c.args.port.now) node.id (g.P.Port.part c.args.port.now) g.mine held.beside.follow.config held.beside.id c.requires.1.0 c.requires.1.1.1.1.1.0 in
-    let room = plan.planned.beside.journal_room in (
+    let own = plan.config ∙ held.beside.follow.config in (
       c.requires.1.1.0 ∙ sym (plan.id ∙ held.beside.id),
       (
         subst (λ x. IsConfig x) (sym own) c.requires.1.1.1.0,
         (
-          omega (arith, short, room),
-          (
-            to_own (λ x i l. FitsLead x i l new.lead c.plan-plan.result.leads (due_of c.plan-plan.result)) node.follow.config new.follow.config node.id new.id g.mine g.mine plan.config plan.id refl plan.fits,
-            (λ on. (and_parts (is_odd (length g.mine)) (is_some (lead_due node.follow.config node.id g.mine node.lead)) (sym plan.leads ∙ on)).0, (to_own (λ x i l. HasPlanned x i l new) node.follow.config new.follow.config node.id new.id g.mine g.mine plan.config plan.id refl plan.planned, (plan.made, plan.some))),
-          ),
+          to_own (λ x i l. FitsLead x i l new.lead c.plan-plan.result.leads (due_of c.plan-plan.result)) node.follow.config new.follow.config node.id new.id g.mine g.mine plan.config plan.id refl plan.fits,
+          (λ on. (and_parts (is_odd (length g.mine)) (is_some (lead_due node.follow.config node.id g.mine node.lead)) (sym plan.leads ∙ on)).0, (to_own (λ x i l. HasPlanned x i l new) node.follow.config new.follow.config node.id new.id g.mine g.mine plan.config plan.id refl plan.planned, (plan.made, plan.some))),
         ),
       ),
     )

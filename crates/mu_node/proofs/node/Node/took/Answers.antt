@@ -17,24 +17,24 @@ took_led-requires g c =
     let id = c.args.id in
     let due = due_of c.args.plan in
     let verb = c.args.plan.verb in
-    let fits = subst (λ i. FitsLead k i g.mine node.lead c.args.plan.leads due) (sym c.requires.0) c.requires.1.1.1.0 in
-    let planned = subst (λ i. HasPlanned k i g.mine node) (sym c.requires.0) c.requires.1.1.1.1.1.0 in
-    let some = some_made due verb (c.requires.1.1.1.1.1.1.1 c.if-plan.true) c.requires.1.1.1.1.1.1.0 in
+    let fits = subst (λ i. FitsLead k i g.mine node.lead c.args.plan.leads due) (sym c.requires.0) c.requires.1.1.0 in
+    let planned = subst (λ i. HasPlanned k i g.mine node) (sym c.requires.0) c.requires.1.1.1.1.0 in
+    let some = some_made due verb (c.requires.1.1.1.1.1.1 c.if-plan.true) c.requires.1.1.1.1.1.0 in
     let led = fits_led k id g.mine node.lead c.args.plan.leads due verb fits c.if-plan.true some in
-    (c.requires.1.0, (c.requires.1.1.0, (led.0, (led.1, (c.requires.1.1.1.1.0 c.if-plan.true, planned)))))
+    (c.requires.1.0, (led.0, (led.1, (c.requires.1.1.1.0 c.if-plan.true, planned))))
 
 pub returns-then-plan-clause-stands : goal.returns-then-plan-clause-stands
 returns-then-plan-clause-stands g c =
     let node = c.args.self.now in
     let k = node.follow.config in
     let id = c.args.id in
-    subst (λ v. FollowsTurn node.zeal k id g.mine (event_by id v c.args.answer) → IsPossible k id (event_by id v c.args.answer ∷ g.mine) → StandsForNode k id (event_by id v c.args.answer ∷ g.mine) c.took_led.new.self) c.requires.1.1.1.1.1.1.0 c.took_led.ensures.stands
+    subst (λ v. FollowsTurn node.zeal k id g.mine (event_by id v c.args.answer) → IsPossible k id (event_by id v c.args.answer ∷ g.mine) → StandsForNode k id (event_by id v c.args.answer ∷ g.mine) c.took_led.new.self) c.requires.1.1.1.1.1.0 c.took_led.ensures.stands
 
 pub returns-then-plan-clause-note : goal.returns-then-plan-clause-note
 returns-then-plan-clause-note g c =
     let k = c.args.self.now.follow.config in
     let plan = c.args.plan in
-    let some = some_made (due_of plan) plan.verb (c.requires.1.1.1.1.1.1.1 c.if-plan.true) c.requires.1.1.1.1.1.1.0 in
+    let some = some_made (due_of plan) plan.verb (c.requires.1.1.1.1.1.1 c.if-plan.true) c.requires.1.1.1.1.1.0 in
     subst (λ d. TellsTook k c.args.id g.mine plan.leads d plan.heeded c.args.answer c.took_led.result) (sym some)
     (subst (λ l. TellsTook k c.args.id g.mine l (Some plan.verb) plan.heeded c.args.answer c.took_led.result) (sym c.if-plan.true) c.took_led.ensures.note)
 
@@ -44,7 +44,7 @@ returns-then-plan-clause-says g c =
     let k = node.follow.config in
     let plan = c.args.plan in
     let next = c.took_led.new.self.lead in
-    let some = some_made (due_of plan) plan.verb (c.requires.1.1.1.1.1.1.1 c.if-plan.true) c.requires.1.1.1.1.1.1.0 in
+    let some = some_made (due_of plan) plan.verb (c.requires.1.1.1.1.1.1 c.if-plan.true) c.requires.1.1.1.1.1.0 in
     subst (λ d. SaysTook k c.args.id g.mine plan.leads d plan.heeded node.lead next c.args.answer c.took_led.result) (sym some)
     (subst (λ l. SaysTook k c.args.id g.mine l (Some plan.verb) plan.heeded node.lead next c.args.answer c.took_led.result) (sym c.if-plan.true) c.took_led.ensures.says)
 
@@ -54,10 +54,10 @@ returns-else-plan-clause-stands g c =
     let k = node.follow.config in
     let id = c.args.id in
     let due = due_of c.args.plan in
-    let fits = subst (λ i. FitsLead k i g.mine node.lead c.args.plan.leads due) (sym c.requires.0) c.requires.1.1.1.0 in
-    let beside = fits_other k id g.mine node.lead c.args.plan.leads due c.args.plan.verb fits c.if-plan.false c.requires.1.1.1.1.1.1.0 in
-    let held = subst (λ i. HasPlanned k i g.mine node) (sym c.requires.0) c.requires.1.1.1.1.1.0 in
-    subst (λ v. FollowsTurn node.zeal k id g.mine (event_by id v c.args.answer) → IsPossible k id (event_by id v c.args.answer ∷ g.mine) → StandsForNode k id (event_by id v c.args.answer ∷ g.mine) c.note_other.new.self) c.requires.1.1.1.1.1.1.0
+    let fits = subst (λ i. FitsLead k i g.mine node.lead c.args.plan.leads due) (sym c.requires.0) c.requires.1.1.0 in
+    let beside = fits_other k id g.mine node.lead c.args.plan.leads due c.args.plan.verb fits c.if-plan.false c.requires.1.1.1.1.1.0 in
+    let held = subst (λ i. HasPlanned k i g.mine node) (sym c.requires.0) c.requires.1.1.1.1.0 in
+    subst (λ v. FollowsTurn node.zeal k id g.mine (event_by id v c.args.answer) → IsPossible k id (event_by id v c.args.answer ∷ g.mine) → StandsForNode k id (event_by id v c.args.answer ∷ g.mine) c.note_other.new.self) c.requires.1.1.1.1.1.0
     (λ follows possible. c.note_other.ensures.stands g.mine beside.0 beside.1.0 beside.1.1 follows possible held)
 
 pub returns-else-plan-clause-note : goal.returns-else-plan-clause-note
