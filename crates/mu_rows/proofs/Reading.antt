@@ -160,14 +160,6 @@ pub none-del : (op : Op) → code_of op ≡ 3 → NoText op
 none-del (Del key) code = record { first = refl; second = refl; same = λ j. refl }
 none-del op code = absurd (omega arith)
 
-pub record TwoTexts (op : Op) : Type 0 where
-  pub first : IsText (first_text op)
-  pub first_short : length (first_text op) ≤ 32
-  pub first_same : take 4 (texts op) ≡ map (word_of (first_text op)) (range_with_len 0 4)
-  pub second : IsText (second_text op)
-  pub second_short : length (second_text op) ≤ 32
-  pub second_same : drop 4 (texts op) ≡ map (word_of (second_text op)) (range_with_len 0 4)
-
 -- the words of a row of an operation without a text
 pub no-text-words : (words : List ℕ) (r : Request) (k : ℕ) → words ≡ spelled r k → NoText r.op → (j : ℕ) → j < 8 → get_or words (4 + j) 0 ≡ 0
 no-text-words words r k same none j lt =
