@@ -12,7 +12,7 @@ use Rattle.mu_model.specs.Stretches.{IsStretch, each_step, is_odd, is_replicatio
 use Rattle.mu_pace.specs.Counters.{AtEachMoment}
 use Rattle.mu_alive.specs.Enough.{asking_steps}
 use Rattle.mu_pace.proofs.Counting.{last_moment, moments_before}
-use Rattle.mu_alive.proofs.Cutting.{cut}
+use Rattle.mu_pace.proofs.Pasts.{cut}
 
 -- of two moments in a row one has an odd count
 one_odd : (m k : ℕ) → (if is_odd (suc m) then (if is_odd m then k + 1 else k) + 1 else (if is_odd m then k + 1 else k)) ≡ k + 1

@@ -5,6 +5,7 @@ use Rattle.std.specs.Prelude.{if◌then◌else◌, min, not}
 use Rattle.mu_model.specs.declared.event.Event.{Event}
 use Rattle.mu_model.specs.Stretches.{IsStretch, each_step, steps}
 use Rattle.mu_pace.specs.Counters.{AtEachMoment, AtEachStep, IsInTime, Watch, allowed_after, allowed_while, fewer, left_after, paid, steps_left}
+use Rattle.mu_pace.proofs.Pasts.{not_true}
 
 -- what holds at each moment held at each earlier moment
 pub moments_before : (P : List Event → Type 0) (newer older : List Event) → AtEachMoment P (newer ++ older) → AtEachMoment P older
@@ -71,10 +72,6 @@ step_sum false s = omega arith
 both_of : (t u : Bool) → (if t then u else false) ≡ true → (t ≡ true) × (u ≡ true)
 both_of true u h = (refl, h)
 both_of false u h = absurd (true≢false (sym h))
-
-not_true : (t : Bool) → not t ≡ true → t ≡ false
-not_true true h = absurd (true≢false (sym h))
-not_true false h = refl
 
 pub remains : (w : Watch) (a : ℕ) (window older : List Event) → AtEachMoment (IsInTime w) (window ++ older) → w.allows older ≡ Some a
     → each_step (λ past e. not (w.closes past e)) window older ≡ true → Remains w window older a
