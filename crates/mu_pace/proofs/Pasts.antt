@@ -1,5 +1,5 @@
 -- What stays as a history grows.
-use Rattle.std.proofs.Common.{◌≡◌, ◌∙◌, ℕ, ◌+◌, ◌≤◌, ◌==◌, ◌&&◌, Bool, true, false, cond, not, List, [], ◌∷◌, ◌++◌, ap, arith, inl, inr, length, refl, sym, true≢false}
+use Rattle.std.proofs.Common.{◌≡◌, ◌∙◌, ℕ, ◌+◌, ◌≤◌, ◌==◌, ◌&&◌, Bool, true, false, cond, not, List, [], ◌∷◌, ◌++◌, ap, arith, eqb-true, inl, inr, length, refl, sym, true≢false}
 use Rattle.std.proofs.lemmas.Bool.{and_from, and_parts, cases_lt}
 use Rattle.mu_agree.proofs.Possible.{parts_shorten_law}
 use Rattle.mu_model.specs.declared.config.Config.{Config}
@@ -10,7 +10,7 @@ use Rattle.mu_model.specs.Histories.{has, how_many}
 use Rattle.mu_model.specs.Knowledge.{is_written}
 use Rattle.mu_model.specs.Leaderships.{begins_leadership, has_begun, leadership}
 use Rattle.mu_model.specs.Parts.{IsPossible}
-use Rattle.mu_model.specs.Steps.{has_min, is_min, is_min_verb}
+use Rattle.mu_model.specs.Steps.{has_min, is_ask_read_verb, is_min, is_min_verb}
 use Rattle.mu_model.proofs.Owned.{IsOwnTest}
 
 pub not_true : (t : Bool) → not t ≡ true → t ≡ false
@@ -103,6 +103,10 @@ min_now r e past is begun = go e.by e.verb e.answer is
     go : (by : ℕ) (verb : Verb) (answer : Answer) → is_min_verb verb ≡ true → has_min r (record { by = by; verb = verb; answer = answer } ∷ past) ≡ true
     go by (Verb.Min q) answer is = and_from (has_begun r past) true begun refl
     go by verb answer is = absurd (true≢false (sym is))
+
+pub reads_ask : (w : ℕ) (verb : Verb) → is_ask_read_verb w verb ≡ true → verb ≡ Verb.ReadAsk w
+reads_ask w (Verb.ReadAsk q) h = ap (λ x. Verb.ReadAsk x) (eqb-true q w h)
+reads_ask w verb h = absurd (true≢false (sym h))
 
 -- whether r wrote a word depends on its own events
 pub written-own : (r j k : ℕ) → IsOwnTest r (λ e. is_written r j k e.by e.verb)
