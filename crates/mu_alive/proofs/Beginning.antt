@@ -22,14 +22,14 @@ use Rattle.mu_agree.proofs.Members.{over-part}
 use Rattle.mu_pace.specs.Collecting.{LeaderKeeps}
 use Rattle.mu_pace.specs.Counters.{AtEachMoment, AtEachStep, fewer, left_after, steps_left}
 use Rattle.mu_pace.specs.Watches.{confirming, is_confirming}
-use Rattle.mu_pace.proofs.Counting.{last_moment, moments_before, steps_before}
+use Rattle.mu_pace.proofs.Counting.{last_moment, moments_before, steps_before, both_moments}
 use Rattle.mu_alive.specs.Alone.{AsksAlone}
 use Rattle.mu_alive.specs.Enough.{asking_steps, beginning_steps, granting_steps}
 use Rattle.mu_alive.specs.Lone.{IsNear, LeadsAlone}
 use Rattle.mu_alive.proofs.Alone.{never_over}
 use Rattle.mu_alive.proofs.Cutting.{located, met}
 use Rattle.mu_alive.proofs.Granting.{granted}
-use Rattle.mu_alive.proofs.Moments.{AsksEach, From, asks_there, both_moments, from_each}
+use Rattle.mu_alive.proofs.Moments.{AsksEach, From, asks_there, from_each}
 use Rattle.mu_alive.proofs.Noting.{confirmed, notes_owned, reads_fence}
 use Rattle.mu_pace.proofs.Pasts.{has_later, cut}
 

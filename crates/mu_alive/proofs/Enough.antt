@@ -31,7 +31,7 @@ use Rattle.mu_agree.proofs.Possible.{parts_shorten_law}
 use Rattle.mu_pace.specs.Collecting.{LeaderKeeps}
 use Rattle.mu_pace.specs.Counters.{AtEachMoment, AtEachStep, IsInTime}
 use Rattle.mu_pace.specs.Watches.{progressing}
-use Rattle.mu_pace.proofs.Counting.{last_moment, moments_before, steps_before}
+use Rattle.mu_pace.proofs.Counting.{last_moment, moments_before, steps_before, both_moments}
 use Rattle.mu_pace.proofs.Positions.{known_fits}
 use Rattle.mu_alive.specs.Alone.{AsksAlone}
 use Rattle.mu_alive.specs.Calm.{IsCalm, calm_steps}
@@ -41,7 +41,7 @@ use Rattle.mu_alive.proofs.Alone.{never_over}
 use Rattle.mu_alive.proofs.Beginning.{alone_before, begins_in_time, cause_is, grants_before, never_unnamed, reads_before}
 use Rattle.mu_alive.proofs.Calm.{calm_commits}
 use Rattle.mu_alive.proofs.Cutting.{located}
-use Rattle.mu_alive.proofs.Moments.{at_least_halves, both_moments}
+use Rattle.mu_alive.proofs.Moments.{at_least_halves}
 use Rattle.mu_pace.proofs.Pasts.{min_on, min_now}
 
 -- a first minimum of a leadership, before which the journal has none under way

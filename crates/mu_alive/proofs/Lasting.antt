@@ -19,7 +19,7 @@ use Rattle.mu_model.proofs.Parts.{filter-append}
 use Rattle.mu_agree.proofs.Legal.{legal_older}
 use Rattle.mu_pace.specs.Collecting.{LeaderKeeps}
 use Rattle.mu_pace.specs.Counters.{AtEachMoment, AtEachStep}
-use Rattle.mu_pace.proofs.Counting.{last_moment, moments_before, steps_before}
+use Rattle.mu_pace.proofs.Counting.{last_moment, moments_before, steps_before, both_moments}
 use Rattle.mu_alive.specs.Enough.{asking_steps}
 use Rattle.mu_alive.specs.Last.{LastLeadersKnowAll, LeadsLast, NamesItself, last_granting_steps}
 use Rattle.mu_alive.specs.Lone.{IsNear}
@@ -28,7 +28,7 @@ use Rattle.mu_alive.proofs.Beginning.{CutAt, HasNoMin, MayConfirm, asked_once, a
 use Rattle.mu_alive.proofs.Cutting.{located}
 use Rattle.mu_alive.proofs.Enough.{Leads, asks_before, begins_verb, few_after, fine_moments, lacks_moments, min_or_none, min_parts, outrun_before}
 use Rattle.mu_alive.proofs.LastNoting.{notes_own}
-use Rattle.mu_alive.proofs.Moments.{AsksEach, From, asks_there, both_moments, each_older}
+use Rattle.mu_alive.proofs.Moments.{AsksEach, From, asks_there, each_older}
 use Rattle.mu_alive.proofs.TurnFences.{lead_on_moments, turns_lead_on}
 use Rattle.mu_alive.proofs.TurnOwners.{IsHighest}
 use Rattle.mu_alive.proofs.TurnGrants.{highest_older, hosts_grant, turns_before}

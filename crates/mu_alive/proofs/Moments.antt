@@ -66,11 +66,6 @@ some_event test (e ∷ window) older some = go (is_replication (window ++ older)
     go false true some ih = refl
     go false false some ih = ih some
 
--- a fact at each moment, from two
-pub both_moments : (P Q R : List Event → Type 0) → ((now : List Event) → P now → Q now → R now) → (past : List Event) → AtEachMoment P past → AtEachMoment Q past → AtEachMoment R past
-both_moments P Q R more [] p q = more [] p q
-both_moments P Q R more (e ∷ past) p q = (both_moments P Q R more past p.0 q.0, more (e ∷ past) p.1 q.1)
-
 -- at most one event of a stretch is in no pair with a replication event
 pub at_least_halves : (window older : List Event) → length window ≤ 2 * replications window older + 1
 at_least_halves [] older = omega arith

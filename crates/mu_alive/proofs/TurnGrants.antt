@@ -28,8 +28,8 @@ use Rattle.mu_alive.proofs.Calm.{count_adds, count_few}
 use Rattle.mu_alive.proofs.Cutting.{Located, located, met, more_pass}
 use Rattle.mu_alive.proofs.TurnOwners.{IsHighest, OwnedTop, Waits, no_grant, owned_top, served-part, top_induction, waiter_begun, waits}
 use Rattle.mu_alive.proofs.Turns.{not_begun}
-use Rattle.mu_pace.proofs.Pasts.{has_later, begun_on, begun_still, cut}
-use Rattle.mu_alive.proofs.Granting.{none_before, reads_ask}
+use Rattle.mu_pace.proofs.Pasts.{has_later, begun_on, begun_still, cut, reads_ask}
+use Rattle.mu_alive.proofs.Granting.{none_before}
 
 -- what came before some events in turn was in turn
 pub turns_before : (newer older : List Event) → AreInTurn (newer ++ older) → AreInTurn older
