@@ -1,5 +1,7 @@
+pub mod Agreeing
 pub mod Completing
 mod Deciding
+pub mod LogCommands
 pub mod LongestLogs
 pub mod Places
 mod Spelled

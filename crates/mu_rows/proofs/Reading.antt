@@ -176,10 +176,6 @@ pub says-put : (words key text : List ℕ) → get_or words 0 0 % 256 ≡ 1 → 
 says-put words key text code k t alone =
     record { has = (k.0, t.0); code = code; key_length = k.1; first_length = t.1; second_length = alone; key = k.2; texts = t.2 }
 
--- what words without a text say of their lengths
-abbrev pub SaysNoText : List ℕ → Type 0
-SaysNoText words = (get_or words 0 0 / 1099511627776 % 256 ≡ 0) × (get_or words 0 0 / 281474976710656 % 256 ≡ 0) × ((j : ℕ) → j < 8 → get_or words (4 + j) 0 ≡ 0)
-
 byte-and-rest : (n p : ℕ) → n / p ≡ n / p % 256 + n / (p * 256) * 256
 byte-and-rest n p = omega (arith, div-div-eq-div-mul n p 256)
 
