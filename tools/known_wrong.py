@@ -195,9 +195,11 @@ def tells_figures():
 
 
 def tells_uncited_lemmas():
-    """A lemma that only itself cites is told, and one that another cites isn't."""
+    """A lemma that only itself cites is told, one that another cites isn't, and a source cites by its imports."""
     yield not surface.cited_beside(LEMMAS, "idle")
     yield surface.cited_beside(LEMMAS, "used")
+    yield list(surface.imported("b", "use Rattle.a.proofs.One.{idle as own, used}")) == [("a", "One", "idle"), ("a", "One", "used")]
+    yield list(surface.imported("b", "using(crate::proofs::Two::used)")) == [("b", "Two", "used")]
     yield sum(len(list(surface.shown(crate))) for crate in os.listdir(surface.CRATES)) >= LEAST_SHOWN
 
 

@@ -6,10 +6,10 @@
 Looked at are lemma files (`pub mod` in proofs/Lib.antt, used by an import of the file), and what
 src/lib.rt shows of other crates (`pub use other::..`, used by an import of the name from this crate). A
 lemma file that is `mod` but that another crate imports is hidden, and that crate won't be proved. A lemma
-is cited if its name stands in some source beside its own lines; proofs of goals are cited by the prover, and
-examples by nobody. The status is 1 if something is unused, hidden or uncited.
+or a definition in a lemma file is cited if its name stands in that file beside its own lines, or if another
+source imports it from that file; proofs of goals are cited by the prover, and examples by nobody. The status
+is 1 if something is unused, hidden or uncited.
 """
-import collections
 import os
 import re
 import sys
@@ -19,7 +19,9 @@ CRATES = os.path.join(TOP, "crates")
 LEMMA_FILE = re.compile(r"Rattle\.(\w+)\.proofs\.(\w+)")
 # Files of proofs whose names the prover looks for, or that are examples.
 OTHER_PROOFS = ("Answers.antt", "Invariants.antt", "Measures.antt", "Proof.antt", "Examples.antt")
-LEMMA = re.compile(r"^(?:pub )?([A-Za-z_][\w'-]*) :", re.MULTILINE)
+LEMMA = re.compile(r"^(?:pub )?(?:abbrev )?(?:pub )?(?:record )?([A-Za-z_][\w'-]*) [:({]", re.MULTILINE)
+IMPORTED = re.compile(r"Rattle\.(\w+)\.proofs\.(\w+)\.\{([^}]*)\}")
+NAMED = re.compile(r"(\w+)::proofs::(\w+)::([\w-]+)")
 WORD = re.compile(r"[A-Za-z_][\w'-]*")
 NAMES = re.compile(r"\b(\w+)::(\{[^}]*\}|\w+)")
 
@@ -79,22 +81,29 @@ def hidden(crate):
 
 def cited_beside(text, name):
     """Whether a name stands in a text outside the lines of its own declaration."""
-    own = rf"(?ms)^(?:pub )?{re.escape(name)}(?![\w'-]).*?(?=^\S)"
+    own = rf"(?ms)^(?:pub )?(?:abbrev )?(?:pub )?(?:record )?{re.escape(name)}(?![\w'-]).*?(?=^\S)"
     return name in WORD.findall(re.sub(own, "", text + "\nend"))
+
+
+def imported(crate, text):
+    """The lemmas that a source of a crate imports, each with its crate and its file."""
+    for owner, lemmas, names in IMPORTED.findall(text):
+        for name in names.split(","):
+            yield owner, lemmas, name.split(" as ")[0].strip()
+    for owner, lemmas, name in NAMED.findall(text):
+        yield crate if owner == "crate" else owner, lemmas, name
 
 
 def uncited(crates):
     """Lemmas that nothing cites."""
-    all_sources = [it for crate in crates for it in sources(crate)]
-    counts = collections.Counter()
-    for _, text in all_sources:
-        counts.update(WORD.findall(text))
-    for path, text in all_sources:
-        if f"{os.sep}proofs{os.sep}" in path and not path.endswith(OTHER_PROOFS):
-            here = collections.Counter(WORD.findall(text))
-            for name in set(LEMMA.findall(text)):
-                if counts[name] == here[name] and not cited_beside(text, name):
-                    yield f"{os.path.relpath(path, TOP)}: {name} is cited nowhere"
+    cited = {it for crate in crates for text in texts(crate) for it in imported(crate, text)}
+    for crate in crates:
+        for path, text in sources(crate):
+            folder, file = os.path.split(path)
+            if os.path.basename(folder) == "proofs" and not path.endswith(OTHER_PROOFS):
+                for name in sorted(set(LEMMA.findall(text))):
+                    if (crate, file[: -len(".antt")], name) not in cited and not cited_beside(text, name):
+                        yield f"{os.path.relpath(path, TOP)}: {name} is cited nowhere"
 
 
 def judged():

@@ -358,7 +358,7 @@ low c a p = alone_induction c a (IsLow a p) (omega arith) (λ past by v h alone 
 abbrev pub GoesOn : ℕ → List Event → Type 0
 GoesOn a past = is_over a past ≡ false
 
-over_ask : (c : Config) (a by q : ℕ) (past : List Event) → GoesOn a past → (t : Bool) → is_first_ask a by (Verb.Ask q) ≡ t → GoesOn a (event_after c past by (Verb.Ask q) ∷ past)
+pub over_ask : (c : Config) (a by q : ℕ) (past : List Event) → GoesOn a past → (t : Bool) → is_first_ask a by (Verb.Ask q) ≡ t → GoesOn a (event_after c past by (Verb.Ask q) ∷ past)
 over_ask c a by q past s true h = rw h refl
 over_ask c a by q past s false h = rw h s
 
@@ -416,7 +416,7 @@ not_lost a p past n o noted owns =
     is : (n : Option ℕ) (t : Bool) (g : ℕ) → n ≡ Some 1 → t ≡ false → g ≡ 1 → entered_or_lost n (record { owner = fence_owner p past; grant = g; closing = t; target = fence_target p past }) ≡ Answer.Entered
     is n t g hn ht hg = rw (hn, ht, hg) refl
 
-over_enter : (a by q : ℕ) (t : Target) (past : List Event) → GoesOn a past → ((by == a) ≡ true → entered_or_lost (noted_grant by q past) (fence q past) ≡ Answer.Entered) → (answer : Answer) → entered_or_lost (noted_grant by q past) (fence q past) ≡ answer → (x : Bool) → (by == a) ≡ x
+pub over_enter : (a by q : ℕ) (t : Target) (past : List Event) → GoesOn a past → ((by == a) ≡ true → entered_or_lost (noted_grant by q past) (fence q past) ≡ Answer.Entered) → (answer : Answer) → entered_or_lost (noted_grant by q past) (fence q past) ≡ answer → (x : Bool) → (by == a) ≡ x
     → GoesOn a (record { by = by; verb = Verb.Enter q t; answer = answer } ∷ past)
 over_enter a by q t past s in' (Answer.Lost f) e true h = absurd (let k = sym (in' h) ∙ e in cc)
 over_enter a by q t past s in' (Answer.Lost f) e false h = rw h s
@@ -431,7 +431,7 @@ over_put a by q v past past' same s fine false e x h = rw h (go x)
     go true = refl
     go false = refl
 
-over_put_min : (c : Config) (a by q b : ℕ) (past : List Event) → GoesOn a past → (d : Bool) → ((by == a) && d) ≡ false → GoesOn a (record { by = by; verb = Verb.PutMin q b; answer = put_answer d } ∷ past)
+pub over_put_min : (c : Config) (a by q b : ℕ) (past : List Event) → GoesOn a past → (d : Bool) → ((by == a) && d) ≡ false → GoesOn a (record { by = by; verb = Verb.PutMin q b; answer = put_answer d } ∷ past)
 over_put_min c a by q b past s true h = still_on (by == a) (is_over a past) (true_and (by == a) h) s
   where
     true_and : (x : Bool) → (x && true) ≡ false → x ≡ false
@@ -439,7 +439,7 @@ over_put_min c a by q b past s true h = still_on (by == a) (is_over a past) (tru
     true_and false h = refl
 over_put_min c a by q b past s false h = s
 
-over_put_slot : (c : Config) (a by q i b v : ℕ) (past : List Event) → GoesOn a past → (d : Bool) → ((by == a) && d) ≡ false → GoesOn a (record { by = by; verb = Verb.PutSlot q i b v; answer = put_answer d } ∷ past)
+pub over_put_slot : (c : Config) (a by q i b v : ℕ) (past : List Event) → GoesOn a past → (d : Bool) → ((by == a) && d) ≡ false → GoesOn a (record { by = by; verb = Verb.PutSlot q i b v; answer = put_answer d } ∷ past)
 over_put_slot c a by q i b v past s true h = still_on (by == a) (is_over a past) (true_and (by == a) h) s
   where
     true_and : (x : Bool) → (x && true) ≡ false → x ≡ false

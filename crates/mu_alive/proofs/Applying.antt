@@ -18,6 +18,7 @@ use Rattle.mu_agree.proofs.Sound.{Fits, by_batch, by_mark, chosen_sound}
 use Rattle.mu_alive.specs.Alone.{WritesAlone}
 use Rattle.mu_alive.specs.Enough.{LoneLeadersApplyAll}
 use Rattle.mu_alive.proofs.Enough.{knows_all_in_time}
+use Rattle.mu_pace.proofs.Pasts.{written-own}
 
 -- who wrote a word is a
 writer_is : (a q j k : ℕ) (past : List Event) → WritesAlone a past → wrote q j k past ≡ true → q ≡ a
@@ -31,13 +32,6 @@ writer_is a q j k (e ∷ past) alone some = go (is_written q j k e.by e.verb) re
     go : (t : Bool) → is_written q j k e.by e.verb ≡ t → cond t true (wrote q j k past) ≡ true → (wrote q j k past ≡ true → q ≡ a) → q ≡ a
     go true is some ih = here e.by e.verb is alone.1
     go false is some ih = ih some
-
-written-own : (r j k : ℕ) → IsOwnTest r (λ e. is_written r j k e.by e.verb)
-written-own r j k = record { own = λ e h. go e.by e.verb h }
-  where
-    go : (by : ℕ) (verb : Verb) → (by == r) ≡ false → is_written r j k by verb ≡ false
-    go by (Verb.WriteRow row word x) h = rw h refl
-    go by verb h = refl
 
 -- the rows of a batch that a wrote are there
 batch_had : (c : Config) (a v : ℕ) (past : List Event) → IsConfig c → WritesAlone a past → is_batch c v ≡ true → wrote_batch c (v / 4096) (v % 4096) past ≡ true → all_below (rest_of c (v % 4096) + 1) (λ t. has_row a (v + t) (part a past)) ≡ true

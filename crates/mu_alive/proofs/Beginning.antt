@@ -22,15 +22,16 @@ use Rattle.mu_agree.proofs.Members.{over-part}
 use Rattle.mu_pace.specs.Collecting.{LeaderKeeps}
 use Rattle.mu_pace.specs.Counters.{AtEachMoment, AtEachStep, fewer, left_after, steps_left}
 use Rattle.mu_pace.specs.Watches.{confirming, is_confirming}
-use Rattle.mu_pace.proofs.Counting.{last_moment, moments_before, steps_before}
+use Rattle.mu_pace.proofs.Counting.{last_moment, moments_before, steps_before, both_moments}
 use Rattle.mu_alive.specs.Alone.{AsksAlone}
 use Rattle.mu_alive.specs.Enough.{asking_steps, beginning_steps, granting_steps}
 use Rattle.mu_alive.specs.Lone.{IsNear, LeadsAlone}
 use Rattle.mu_alive.proofs.Alone.{never_over}
-use Rattle.mu_alive.proofs.Cutting.{cut, located, met}
+use Rattle.mu_alive.proofs.Cutting.{located, met}
 use Rattle.mu_alive.proofs.Granting.{granted}
-use Rattle.mu_alive.proofs.Moments.{AsksEach, From, asks_there, both_moments, from_each}
+use Rattle.mu_alive.proofs.Moments.{AsksEach, From, asks_there, from_each}
 use Rattle.mu_alive.proofs.Noting.{confirmed, notes_owned, reads_fence}
+use Rattle.mu_pace.proofs.Pasts.{has_later, cut}
 
 -- what a host keeps it kept before
 pub reads_before : (c : Config) (r : ℕ) (newer older : List Event) → ReadsInTime c r (newer ++ older) → ReadsInTime c r older
@@ -154,14 +155,6 @@ confirmed_still c a e past same none =
 unconfirmed : (c : Config) (a : ℕ) (e : Event) (past : List Event) → begins_leadership a e ≡ true → is_confirmed c a (e ∷ past) ≡ false
 unconfirmed c a e past begins = ap (λ t. is_some (grant_for a (newest (λ f. fence_seen a a f.by f.verb f.answer) (cond t [] (e ∷ leadership a past)))) && nat_le (majority_of c.replicas) (count_below c.replicas (λ p. is_some (noted_grant a p (e ∷ past))))) begins
 
-has_more : (test : Event → Bool) (newer older : List Event) → has test older ≡ true → has test (newer ++ older) ≡ true
-has_more test [] older some = some
-has_more test (e ∷ newer) older some = go (test e) (has_more test newer older some)
-  where
-    go : (t : Bool) → has test (newer ++ older) ≡ true → cond t true (has test (newer ++ older)) ≡ true
-    go true ih = refl
-    go false ih = ih
-
 some_left : (n : ℕ) (o : Option ℕ) → (left : ℕ) × (fewer (Some n) o ≡ Some left)
 some_left n None = (n, refl)
 some_left n (Some x) = (min n x, refl)
@@ -192,7 +185,7 @@ waits_for c a start (e ∷ newer) older late none begun not_yet is = go (begins_
     past = newer ++ older
 
     begun_now : has_begun a past ≡ true
-    begun_now = has_more (begins_leadership a) newer older begun
+    begun_now = has_later (begins_leadership a) newer older begun
 
     here : (has_min a past ≡ false) × (is_named c a past ≡ true)
     here = quiet_last c a start newer older late none.0
@@ -370,7 +363,7 @@ not_twice c live a start between middle oldest later first inside lives majority
     begins = begins_now a first own_first asks_first
 
     begun : has_begun a (middle ++ first ∷ part a oldest) ≡ true
-    begun = has_more (begins_leadership a) middle (first ∷ part a oldest) (ap (λ t. cond t true (has_begun a (part a oldest))) begins)
+    begun = has_later (begins_leadership a) middle (first ∷ part a oldest) (ap (λ t. cond t true (has_begun a (part a oldest))) begins)
 
     on : is_over a (middle ++ first ∷ part a oldest) ≡ false
     on = ap (is_over a) (sym mine) ∙ over-part a (between ++ first ∷ oldest) ∙ may.on

@@ -34,11 +34,12 @@ use Rattle.mu_pace.proofs.Growing.{greatest_on, known_grows, member_on, member_s
 use Rattle.mu_pace.proofs.Positions.{known_fits}
 use Rattle.mu_alive.specs.Bringing.{FollowersAreBroughtUp, IsGranted, LeadsOn, bringing_steps}
 use Rattle.mu_alive.proofs.Calm.{PutsInside, count_few, limit_fits, paid_few}
-use Rattle.mu_alive.proofs.Cutting.{Cut, Located, cut, located}
+use Rattle.mu_alive.proofs.Cutting.{Located, located}
 use Rattle.mu_alive.proofs.Enough.{puts_inside}
 use Rattle.mu_alive.proofs.Moments.{at_least_halves, halves}
 use Rattle.mu_alive.proofs.Waiting.{Closed, Pending, closed_or, more_steps, open_short, pending_on, stays_both, stays_newer, stays_older, unpaid}
 use Rattle.mu_alive.proofs.Steady.{Steady, away_by, joins_here, member_numbered, min_stays, not_away, numbered_on, numbered_stays, raises_brought, same_known, steady_steps}
+use Rattle.mu_pace.proofs.Pasts.{possible_before, cut, Cut}
 
 -- a member is brought up, or a count is held open that waits for it
 abbrev pub BroughtBy : (Watch → Type 0) → Config → ℕ → ℕ → List Event → Type 0
@@ -114,11 +115,6 @@ brought_step c a p e past steady before now =
 pub has_brought : (c : Config) (a p : ℕ) (mine : List Event) → AtEachStep (Steady c a) mine → HasBrought c a p mine
 has_brought c a p [] steady = λ member. absurd (true≢false (sym member))
 has_brought c a p (e ∷ mine) steady = brought_step c a p e mine steady.1 (has_brought c a p mine steady.0)
-
--- what is true of a journal is of each beginning
-possible_older : (c : Config) (r : ℕ) (newer older : List Event) → IsPossible c r (newer ++ older) → IsPossible c r older
-possible_older c r [] older possible = possible
-possible_older c r (e ∷ newer) older possible = possible_older c r newer older (parts_shorten_law c r (newer ++ older) e possible).before
 
 inside_puts : (c : Config) (a : ℕ) (window base : List Event) → IsPossible c a (window ++ base) → PutsInside c window
 inside_puts c a [] base possible = tt
@@ -268,7 +264,7 @@ above_read a p i by old verb answer is = absurd (true≢false (sym is))
 pub leads_older : (c : Config) (a : ℕ) (newer older : List Event) → LeadsOn c a (newer ++ older) → LeadsOn c a older
 leads_older c a newer older leads = record {
   inside = leads.inside;
-  possible = possible_older c a newer older leads.possible;
+  possible = possible_before c a newer older leads.possible;
   on = moments_before (λ now. is_over a now ≡ false) newer older leads.on;
   named = moments_before (λ now. is_some (proposal_number a now) ≡ true → is_named c a now ≡ true) newer older leads.named;
   led = steps_before (LeaderKeeps c a) newer older leads.led;
@@ -293,7 +289,7 @@ joins_in_time c a p l later first base good goes granted late knows long enough 
         subst (Joins c a p l) (sym whole) (joins_stays c a p l newer (e ∷ past) stayed (by_kind s (is_min_put p e) refl (is_over_after a past e) s.on (away_by (begins_leadership a e) (is_replication past e) (is_named c a past) (is_answer_to_welcome c a p past e) same (s.named numbered) closes).1))
       where
         by_kind : Steady c a past e → (m : Bool) → is_min_put p e ≡ m → (o : Bool) → o ≡ false → (m || (o || is_fuo_above a p (length (known c a past)) e)) ≡ true → Joins c a p l (e ∷ past)
-        by_kind s true put o off is = inl (landing_joins a p e past same (lands_there c a p e past (possible_older c a newer (e ∷ past) (subst (IsPossible c a) whole goes.possible)) s.own put s.on))
+        by_kind s true put o off is = inl (landing_joins a p e past same (lands_there c a p e past (possible_before c a newer (e ∷ past) (subst (IsPossible c a) whole goes.possible)) s.own put s.on))
         by_kind s false put false off is = inr (record { newer = []; event = e; older = past; is = refl; above = is; least = knew })
         by_kind s false put true off is = absurd (true≢false off)
 

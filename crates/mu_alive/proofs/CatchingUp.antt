@@ -30,12 +30,13 @@ use Rattle.mu_alive.proofs.Fetching.{applied_grows}
 use Rattle.mu_alive.proofs.Gaining.{gain_few}
 use Rattle.mu_alive.proofs.GainingUpTo.{applied_up_to, gain_up_to, up_to_gain, up_to_grows}
 use Rattle.mu_alive.proofs.Joining.{Began, HasJoined, began_on, joined_then}
-use Rattle.mu_alive.proofs.Reaching.{NoneBlocks, advances, advancing_moments}
+use Rattle.mu_alive.proofs.Reaching.{NoneBlocks, advances}
 use Rattle.mu_alive.proofs.Rising.{Decided, decided_on, raise_in_time}
 use Rattle.mu_alive.proofs.Stopped.{Waits, fine_of, go_on, leads_of, none_blocks, opening_steps, waits_before}
 use Rattle.mu_alive.proofs.Stands.{Stands, Ticked, lags_gains, ticked}
 use Rattle.mu_alive.proofs.Ticking.{closes_by}
 use Rattle.mu_alive.proofs.Waiting.{Closed}
+use Rattle.mu_pace.proofs.Cycles.{advancing_moments}
 
 -- each that goes on has gained m or more of the first k entries
 abbrev pub HaveGained : Config → (ℕ → Bool) → ℕ → ℕ → List Event → Type 0

@@ -4,20 +4,6 @@ use Rattle.std.proofs.lemmas.Bool.{cases_lt}
 use Rattle.mu_model.specs.declared.event.Event.{Event}
 use Rattle.mu_model.specs.Histories.{has, how_many, part}
 
--- the oldest n of the events, and those after them
-pub record Cut (n : ℕ) (events : List Event) : Type 0 where
-  pub newer : List Event
-  pub rest : List Event
-  pub is : events ≡ newer ++ rest
-  pub count : length rest ≡ n
-
-pub cut : (n : ℕ) (events : List Event) → n ≤ length events → Cut n events
-cut n [] few = record { newer = []; rest = []; is = refl; count = omega (arith, few) }
-cut n (e ∷ events) few = elim (cases_lt (length events) n) [
-  | inl more ↦ record { newer = []; rest = e ∷ events; is = refl; count = omega (arith, few, more) }
-  | inr less ↦ let k = cut n events less in record { newer = e ∷ k.newer; rest = k.rest; is = ap (λ l. e ∷ l) k.is; count = k.count }
-]
-
 -- the newest event that passes
 pub record Met (test : Event → Bool) (events : List Event) : Type 0 where
   pub newer : List Event

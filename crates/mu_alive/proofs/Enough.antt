@@ -31,7 +31,7 @@ use Rattle.mu_agree.proofs.Possible.{parts_shorten_law}
 use Rattle.mu_pace.specs.Collecting.{LeaderKeeps}
 use Rattle.mu_pace.specs.Counters.{AtEachMoment, AtEachStep, IsInTime}
 use Rattle.mu_pace.specs.Watches.{progressing}
-use Rattle.mu_pace.proofs.Counting.{last_moment, moments_before, steps_before}
+use Rattle.mu_pace.proofs.Counting.{last_moment, moments_before, steps_before, both_moments}
 use Rattle.mu_pace.proofs.Positions.{known_fits}
 use Rattle.mu_alive.specs.Alone.{AsksAlone}
 use Rattle.mu_alive.specs.Calm.{IsCalm, calm_steps}
@@ -41,7 +41,8 @@ use Rattle.mu_alive.proofs.Alone.{never_over}
 use Rattle.mu_alive.proofs.Beginning.{alone_before, begins_in_time, cause_is, grants_before, never_unnamed, reads_before}
 use Rattle.mu_alive.proofs.Calm.{calm_commits}
 use Rattle.mu_alive.proofs.Cutting.{located}
-use Rattle.mu_alive.proofs.Moments.{at_least_halves, both_moments}
+use Rattle.mu_alive.proofs.Moments.{at_least_halves}
+use Rattle.mu_pace.proofs.Pasts.{min_on, min_now}
 
 -- a first minimum of a leadership, before which the journal has none under way
 pub record FirstMin (a : ℕ) (mine : List Event) : Type 0 where
@@ -217,16 +218,6 @@ lone_leads c a (e ∷ past) on named kept = (lone_leads c a past on.0 named.0 ke
         absurd (true≢false (sym has_one ∙ cause.0))
     go has_one false is = refl
 
-pub min_on : (a : ℕ) (e : Event) (past : List Event) → begins_leadership a e ≡ false → has_min a past ≡ true → has_min a (e ∷ past) ≡ true
-min_on a e past same is =
-    let parts = min_parts a past is in
-    and_from (has_begun a (e ∷ past)) (has is_min (leadership a (e ∷ past))) (ap (λ t. cond t true (has_begun a past)) same ∙ parts.0)
-    (ap (λ t. has is_min (cond t [] (e ∷ leadership a past))) same ∙ any (is_min e) parts.1)
-  where
-    any : (t : Bool) → has is_min (leadership a past) ≡ true → cond t true (has is_min (leadership a past)) ≡ true
-    any true h = refl
-    any false h = h
-
 -- so what comes after the first minimum is calm
 pub puts_inside : (c : Config) (a : ℕ) (past : List Event) (e : Event) → IsPossible c a (e ∷ past) → (p i b v : ℕ) → e.verb ≡ Verb.PutSlot p i b v → p < c.replicas
 puts_inside c a past e possible p i b v is = go e.verb (parts_shorten_law c a past e possible).allowed.may is
@@ -262,12 +253,6 @@ pub progress_moments : (c : Config) (a : ℕ) (mine : List Event) → AtEachStep
 progress_moments c a [] kept = λ left is. absurd (none_some left is)
 progress_moments c a (e ∷ mine) kept = (progress_moments c a mine kept.0, kept.1.places.progressing)
 
-pub first_has_min : (a : ℕ) (first : Event) (older : List Event) → is_min first ≡ true → has_begun a older ≡ true → has_min a (first ∷ older) ≡ true
-first_has_min a first older is begun =
-    let other = first_verb a first.by first.verb first.answer is in
-    and_from (has_begun a (first ∷ older)) (has is_min (leadership a (first ∷ older))) (ap (λ t. cond t true (has_begun a older)) other ∙ begun)
-    (ap (λ t. has is_min (cond t [] (first ∷ leadership a older))) other ∙ ap (λ t. cond t true (has is_min (leadership a older))) is)
-
 pub first_is_milestone : (c : Config) (a : ℕ) (first : Event) (older : List Event) → is_min first ≡ true → has_begun a older ≡ true → has_min a older ≡ false → is_milestone c a older first ≡ true
 first_is_milestone c a first older is begun none =
     go (is_min first) (has is_min (leadership a older)) (commits_more c a older first || (is_replication older first && is_lagging c a older first)) is (no_min (has_begun a older) (has is_min (leadership a older)) begun none)
@@ -284,7 +269,7 @@ pub few_after : (c : Config) (a : ℕ) (mine : List Event) → IsConfig c → Ha
 few_after c a mine good large all led leads m =
     let fine = subst (AtEachMoment (IsFine c a)) m.is all in
     let kept = subst (AtEachStep (LeaderKeeps c a)) m.is led in
-    let calm = calm_on c a m.newer (m.first ∷ m.older) good large fine (subst (AtEachStep (Leads c a)) m.is leads) (first_has_min a m.first m.older m.min m.begun) in
+    let calm = calm_on c a m.newer (m.first ∷ m.older) good large fine (subst (AtEachStep (Leads c a)) m.is leads) (min_now a m.first m.older m.min m.begun) in
     let last = last_moment (IsFine c a) (m.newer ++ m.first ∷ m.older) fine in
     let few = calm_commits c a (row_count c + reserve c) m.first m.newer m.older (progress_moments c a (m.newer ++ m.first ∷ m.older) kept) (first_is_milestone c a m.first m.older m.min m.begun (last_moment (λ now. has_min a now ≡ false) m.older m.none)) calm.0 (known_fits c a (m.newer ++ m.first ∷ m.older) good last.possible) in
     let half = at_least_halves m.newer (m.first ∷ m.older) in

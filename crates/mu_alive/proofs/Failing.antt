@@ -18,7 +18,8 @@ use Rattle.mu_model.specs.Steps.{is_beat_read, is_beat_read_verb}
 use Rattle.mu_model.proofs.Parts.{filter-append}
 use Rattle.mu_agree.proofs.Legal.{legal_older}
 use Rattle.mu_alive.specs.Failing.{HeldFailedInTime}
-use Rattle.mu_alive.proofs.Cutting.{Located, cut, located, met}
+use Rattle.mu_alive.proofs.Cutting.{Located, located, met}
+use Rattle.mu_pace.proofs.Pasts.{how_many-append, some_counted, cut}
 
 -- the count of q that r read last, 0 before any
 abbrev pub last_read : ℕ → ℕ → List Event → ℕ
@@ -137,23 +138,6 @@ score_falls c r q (e ∷ newer) older legal none seen =
     counted : (t : Bool) (n : ℕ) → cond t (n + 1) n ≡ n + cond t 1 0
     counted true n = refl
     counted false n = omega arith
-
--- a stretch holds the reads of both its parts
-how_many-append : (test : Event → Bool) (xs ys : List Event) → how_many test (xs ++ ys) ≡ how_many test xs + how_many test ys
-how_many-append test [] ys = omega arith
-how_many-append test (x ∷ xs) ys = go (test x) (how_many-append test xs ys)
-  where
-    go : (t : Bool) → how_many test (xs ++ ys) ≡ how_many test xs + how_many test ys → cond t (how_many test (xs ++ ys) + 1) (how_many test (xs ++ ys)) ≡ cond t (how_many test xs + 1) (how_many test xs) + how_many test ys
-    go true ih = omega (arith, ih)
-    go false ih = ih
-
-some_counted : (test : Event → Bool) (xs : List Event) → has test xs ≡ true → 1 ≤ how_many test xs
-some_counted test [] some = absurd (true≢false (sym some))
-some_counted test (x ∷ xs) some = go (test x) some (some_counted test xs)
-  where
-    go : (t : Bool) → cond t true (has test xs) ≡ true → (has test xs ≡ true → 1 ≤ how_many test xs) → 1 ≤ cond t (how_many test xs + 1) (how_many test xs)
-    go true some ih = omega arith
-    go false some ih = ih some
 
 many_reads : (c : Config) (q r k : ℕ) (mine top window older : List Event) → ReadsInTime c r mine → mine ≡ top ++ (window ++ older) → q < c.replicas → q ≢ r → k * cycle c ≤ length window → k ≤ how_many (is_beat_read q) window
 many_reads c q r zero mine top window older reads is low other long = omega arith

@@ -29,10 +29,11 @@ use Rattle.mu_agree.proofs.Prefixes.{greatest_along}
 use Rattle.mu_pace.specs.Counters.{AtEachMoment, AtEachStep}
 use Rattle.mu_pace.proofs.Counting.{moments_before, steps_before}
 use Rattle.mu_alive.specs.Following.{FollowersCatchUp, FollowsOn, RaisesToAll, catching_steps}
-use Rattle.mu_alive.proofs.Cutting.{Cut, Located, Met, cut, located, met}
+use Rattle.mu_alive.proofs.Cutting.{Located, Met, located, met}
 use Rattle.mu_alive.proofs.Fetching.{applied_grows}
 use Rattle.mu_alive.proofs.Gaining.{gain, gain_few, gain_some, gain_stays, gains}
 use Rattle.mu_alive.proofs.Moments.{From, adds_up, each_before}
+use Rattle.mu_pace.proofs.Pasts.{cut, Cut}
 
 -- who gains in each two rounds while it has applied less than l entries has applied l in time
 pub catches_up : (c : Config) (r l : ℕ) (window base : List Event) → IsConfig c → IsPossible c r (window ++ base)

@@ -21,7 +21,8 @@ use Rattle.mu_model.proofs.Parts.{filter-append}
 use Rattle.mu_agree.proofs.Legal.{legal_older}
 use Rattle.mu_alive.specs.Alone.{AsksAlone}
 use Rattle.mu_alive.proofs.Alone.{once}
-use Rattle.mu_alive.proofs.Cutting.{Cut, Located, Met, cut, located, met, more_pass, none_newer, none_older}
+use Rattle.mu_alive.proofs.Cutting.{Located, Met, located, met, more_pass, none_newer, none_older}
+use Rattle.mu_pace.proofs.Pasts.{cut, Cut, reads_ask}
 
 -- a host that never granted has no grant in its part
 ungranted : (p : ℕ) (past : List Event) → fence_grant p past ≡ 0 → has is_granting (part p past) ≡ false
@@ -51,7 +52,7 @@ no_owner p (e ∷ mine) none = go (is_granting e) refl none (no_owner p mine)
     go false ht none ih = ap (λ o. newer_or o (fence_owner p mine)) (nobody e.by e.verb ht) ∙ ih none
 
 -- and has served nobody
-none_before : (test : Event → Bool) (mine : List Event) → has test mine ≡ false → before test mine ≡ []
+pub none_before : (test : Event → Bool) (mine : List Event) → has test mine ≡ false → before test mine ≡ []
 none_before test [] none = refl
 none_before test (e ∷ mine) none = go (test e) none (none_before test mine)
   where
@@ -115,10 +116,6 @@ unserved p a by x verb answer mine none own reads tells some =
 
     here : has_unserved_ask p now a ≡ true
     here = and_from (not (owner_is a (fence_owner p now))) (nat_lt (served p a now) (seen_asks p a now)) (ap (λ o. not (owner_is a o)) owner) (lt-ltb (served p a now) (seen_asks p a now) (omega (arith, serves, sees, some)))
-
-reads_ask : (w : ℕ) (verb : Verb) → is_ask_read_verb w verb ≡ true → verb ≡ Verb.ReadAsk w
-reads_ask w (Verb.ReadAsk q) h = ap (λ x. Verb.ReadAsk x) (eqb-true q w h)
-reads_ask w verb h = absurd (true≢false (sym h))
 
 -- if an ask is there for two rounds of the host's cycle, the region is granted
 pub granted : (c : Config) (a p : ℕ) (newer older : List Event) → a < c.replicas → IsLegalHistory c (newer ++ older) → AsksAlone a (newer ++ older) → ReadsInTime c p (part p (newer ++ older)) → GrantsInTime c p (part p (newer ++ older))

@@ -27,11 +27,11 @@ use Rattle.mu_alive.specs.Bringing.{IsGranted, LeadsOn}
 use Rattle.mu_alive.specs.Enough.{asking_steps}
 use Rattle.mu_alive.specs.Finishing.{AsksAllFirst, HaveAllRaised, KeepUp, LastLeadersRaiseAll, spreading_steps}
 use Rattle.mu_alive.specs.Last.{FetchesInTime, LeadsLast, NamesItself, fetching_steps, last_granting_steps, last_steps}
-use Rattle.mu_alive.specs.Opens.{AsksUntilMin, OpensInTime, puts_number}
+use Rattle.mu_alive.specs.Opens.{AsksUntilMin, OpensInTime}
 use Rattle.mu_alive.specs.Turns.{is_own_min}
 use Rattle.mu_alive.proofs.Beginning.{CutAt, cut_at}
 use Rattle.mu_alive.proofs.Cutting.{located}
-use Rattle.mu_alive.proofs.Enough.{FirstMin, Leads, first_has_min, min_or_none, min_parts}
+use Rattle.mu_alive.proofs.Enough.{FirstMin, Leads, min_or_none, min_parts}
 use Rattle.mu_alive.proofs.Fetching.{fetched}
 use Rattle.mu_alive.proofs.Finishing.{keep_before}
 use Rattle.mu_alive.proofs.Lasting.{AsksAllBy, all_by_each, last_before, last_begins, last_knows_all, last_leads, late_named, owned}
@@ -40,7 +40,9 @@ use Rattle.mu_alive.proofs.Spreading.{AppliesMeanwhile, Governs, all_raised, eac
 use Rattle.mu_alive.proofs.Started.{Started, numbered_there, numbered_with, one_leads, some_asked}
 use Rattle.mu_alive.proofs.TurnFences.{lead_on_moments}
 use Rattle.mu_alive.proofs.TurnOwners.{owned_top, seen_again}
-use Rattle.mu_alive.proofs.Turns.{begun-part, begun_on, min_begun, put_reads}
+use Rattle.mu_alive.proofs.Turns.{begun-part, min_begun, put_reads}
+use Rattle.mu_pace.proofs.Pasts.{begun_on, min_now}
+use Rattle.mu_pace.specs.Watches.{puts_number}
 
 -- while it has read no minimum it asks again and again, whatever it knows
 each_unread : (c : Config) (a start : ℕ) (mine : List Event) → AsksUntilMin c a mine → AtEachMoment (NamesItself c a start) mine → AtEachMoment (λ now. has_min a now ≡ false) mine → AsksEach c start mine
@@ -90,7 +92,7 @@ last_started c live a start past good last opens first many = elim (min_or_none 
     }
       where
         goes : (stays a f.newer ≡ true) × (has_min a (f.newer ++ f.first ∷ f.older) ≡ true)
-        goes = one_leads c a f.newer (f.first ∷ f.older) (subst (AtEachStep (Leads c a)) f.is (last_leads c a start past last.turns last.named)) (first_has_min a f.first f.older f.min f.begun)
+        goes = one_leads c a f.newer (f.first ∷ f.older) (subst (AtEachStep (Leads c a)) f.is (last_leads c a start past last.turns last.named)) (min_now a f.first f.older f.min f.begun)
 
         few : length f.older < start + last_granting_steps c a + 2 * asking_steps c
         few =

@@ -19,19 +19,20 @@ use Rattle.mu_model.proofs.Parts.{filter-append}
 use Rattle.mu_agree.proofs.Legal.{legal_older}
 use Rattle.mu_pace.specs.Collecting.{LeaderKeeps}
 use Rattle.mu_pace.specs.Counters.{AtEachMoment, AtEachStep}
-use Rattle.mu_pace.proofs.Counting.{last_moment, moments_before, steps_before}
+use Rattle.mu_pace.proofs.Counting.{last_moment, moments_before, steps_before, both_moments}
 use Rattle.mu_alive.specs.Enough.{asking_steps}
 use Rattle.mu_alive.specs.Last.{LastLeadersKnowAll, LeadsLast, NamesItself, last_granting_steps}
 use Rattle.mu_alive.specs.Lone.{IsNear}
 use Rattle.mu_alive.specs.Turns.{AreInTurn, is_own_min}
 use Rattle.mu_alive.proofs.Beginning.{CutAt, HasNoMin, MayConfirm, asked_once, asks_fail, cut_at, grants_before, has_to_ask_all, reads_before, two_asks}
-use Rattle.mu_alive.proofs.Cutting.{Cut, cut, located}
+use Rattle.mu_alive.proofs.Cutting.{located}
 use Rattle.mu_alive.proofs.Enough.{Leads, asks_before, begins_verb, few_after, fine_moments, lacks_moments, min_or_none, min_parts, outrun_before}
 use Rattle.mu_alive.proofs.LastNoting.{notes_own}
-use Rattle.mu_alive.proofs.Moments.{AsksEach, From, asks_there, both_moments, each_older}
+use Rattle.mu_alive.proofs.Moments.{AsksEach, From, asks_there, each_older}
 use Rattle.mu_alive.proofs.TurnFences.{lead_on_moments, turns_lead_on}
 use Rattle.mu_alive.proofs.TurnOwners.{IsHighest}
 use Rattle.mu_alive.proofs.TurnGrants.{highest_older, hosts_grant, turns_before}
+use Rattle.mu_pace.proofs.Pasts.{has_newer, cut, Cut}
 
 -- what holds of the whole history held of each beginning
 pub last_before : (c : Config) (live : ℕ → Bool) (a start : ℕ) (newer older : List Event) → LeadsLast c live a start (newer ++ older) → LeadsLast c live a start older
@@ -81,15 +82,6 @@ begun_there a (e ∷ past) some = go (e.by == a) refl some (begun_there a past)
         later true h = refl
         later false h = h
 
--- an ask in some events of the part is one in the part
-asked_more : (test : Event → Bool) (newer older : List Event) → has test newer ≡ true → has test (newer ++ older) ≡ true
-asked_more test [] older some = absurd (true≢false (sym some))
-asked_more test (e ∷ newer) older some = go (test e) some (asked_more test newer older)
-  where
-    go : (t : Bool) → cond t true (has test newer) ≡ true → (has test newer ≡ true → has test (newer ++ older) ≡ true) → cond t true (has test (newer ++ older)) ≡ true
-    go true some ih = refl
-    go false some ih = ih some
-
 -- once a has taken this many steps it has asked each region
 abbrev pub AsksAllBy : Config → ℕ → ℕ → List Event → Type 0
 AsksAllBy c a k past = (front rest : List Event) → past ≡ front ++ rest → length (part a rest) ≡ k → (q : ℕ) → q < c.replicas → has (is_asking q) (part a rest) ≡ true
@@ -98,7 +90,7 @@ AsksAllBy c a k past = (front rest : List Event) → past ≡ front ++ rest → 
 pub all_by_each : (c : Config) (a start : ℕ) (past : List Event) → AsksEach c start (part a past) → AsksAllBy c a (start + asking_steps c) past
 all_by_each c a start past each front rest is count q low =
     ap (has (is_asking q)) bottom.is
-    ∙ asked_more (is_asking q) bottom.newer bottom.rest
+    ∙ has_newer (is_asking q) bottom.newer bottom.rest
     (each q (part a front) bottom.newer bottom.rest (ap (part a) is ∙ filter-append (λ e. e.by == a) front rest ∙ ap (λ l. part a front ++ l) bottom.is)
     (let sum = ap length bottom.is ∙ length-append bottom.newer bottom.rest in let n = bottom.count in omega (arith, count, sum, n)) (let n = bottom.count in omega (arith, n)) low)
   where

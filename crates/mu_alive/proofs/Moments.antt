@@ -12,7 +12,7 @@ use Rattle.mu_model.specs.Stretches.{IsStretch, each_step, is_odd, is_replicatio
 use Rattle.mu_pace.specs.Counters.{AtEachMoment}
 use Rattle.mu_alive.specs.Enough.{asking_steps}
 use Rattle.mu_pace.proofs.Counting.{last_moment, moments_before}
-use Rattle.mu_alive.proofs.Cutting.{cut}
+use Rattle.mu_pace.proofs.Pasts.{cut}
 
 -- of two moments in a row one has an odd count
 one_odd : (m k : ℕ) → (if is_odd (suc m) then (if is_odd m then k + 1 else k) + 1 else (if is_odd m then k + 1 else k)) ≡ k + 1
@@ -65,11 +65,6 @@ some_event test (e ∷ window) older some = go (is_replication (window ++ older)
     go true false some ih = ih some
     go false true some ih = refl
     go false false some ih = ih some
-
--- a fact at each moment, from two
-pub both_moments : (P Q R : List Event → Type 0) → ((now : List Event) → P now → Q now → R now) → (past : List Event) → AtEachMoment P past → AtEachMoment Q past → AtEachMoment R past
-both_moments P Q R more [] p q = more [] p q
-both_moments P Q R more (e ∷ past) p q = (both_moments P Q R more past p.0 q.0, more (e ∷ past) p.1 q.1)
 
 -- at most one event of a stretch is in no pair with a replication event
 pub at_least_halves : (window older : List Event) → length window ≤ 2 * replications window older + 1

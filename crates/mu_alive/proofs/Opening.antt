@@ -38,11 +38,12 @@ use Rattle.mu_alive.specs.Lone.{LeadsAlone}
 use Rattle.mu_alive.proofs.Bringing.{paid_at_most}
 use Rattle.mu_alive.proofs.Calm.{limit_fits}
 use Rattle.mu_alive.proofs.Cutting.{Located, located}
-use Rattle.mu_alive.proofs.Enough.{FirstMin, IsFine, Leads, fine_moments, first_has_min, first_is_milestone, lone_leads, lone_on, min_on, progress_moments, roomy}
+use Rattle.mu_alive.proofs.Enough.{FirstMin, IsFine, Leads, fine_moments, first_is_milestone, lone_leads, lone_on, progress_moments, roomy}
 use Rattle.mu_alive.proofs.Moments.{at_least_halves}
 use Rattle.mu_alive.proofs.Started.{one_leads}
 use Rattle.mu_alive.proofs.Steady.{away_by}
 use Rattle.mu_alive.proofs.Waiting.{Closed, closed_or, each_both, more_steps, paid_both, stays_both}
+use Rattle.mu_pace.proofs.Pasts.{min_on, min_now}
 
 -- in one leadership since `base` the progress bound was opened last after x or more was paid
 pub record Open (c : Config) (a x : ℕ) (base now : List Event) : Type 0 where
@@ -79,7 +80,7 @@ open_first c a mine m = record {
   mid = [];
   amount = limit_now c a (m.first ∷ m.older);
   is = refl;
-  read = first_has_min a m.first m.older m.min m.begun;
+  read = min_now a m.first m.older m.min m.begun;
   same = refl;
   allows = allowed_here (is_milestone c a) (limit_now c a) m.older m.first (first_is_milestone c a m.first m.older m.min m.begun (last_moment (λ now. has_min a now ≡ false) m.older m.none));
   few = limit_fits c a (m.first ∷ m.older);

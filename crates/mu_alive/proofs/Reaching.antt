@@ -86,10 +86,6 @@ advancing_first c a mine n base m is = record {
   unclosed = refl;
 }
 
-pub advancing_moments : (c : Config) (a : ℕ) (mine : List Event) → AtEachStep (LeaderKeeps c a) mine → AtEachMoment (IsInTime (advancing c a)) mine
-advancing_moments c a [] kept = λ left is. absurd (none_some left is)
-advancing_moments c a (e ∷ mine) kept = (advancing_moments c a mine kept.0, kept.1.places.advancing)
-
 -- no head blocks while k entries are known
 abbrev pub NoneBlocks : Config → ℕ → ℕ → List Event → List Event → Type 0
 NoneBlocks c a k window base = (newer older : List Event) (e : Event) → window ≡ newer ++ e ∷ older → length (known c a (older ++ base)) ≡ k → is_blocking c a (older ++ base) e ≡ false

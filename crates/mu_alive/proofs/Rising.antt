@@ -32,7 +32,6 @@ use Rattle.mu_alive.specs.Lone.{IsNear, LeadsAlone}
 use Rattle.mu_alive.proofs.Applying.{applied_is_known}
 use Rattle.mu_alive.proofs.Beginning.{CutAt, cut_at}
 use Rattle.mu_alive.proofs.Bringing.{raising_moments}
-use Rattle.mu_alive.proofs.Cutting.{cut}
 use Rattle.mu_alive.proofs.Enough.{IsFine, Leads, fine_moments, lacks_moments, lone_before, lone_leads, lone_on}
 use Rattle.mu_alive.proofs.Finishing.{keep_before, leads_on, writes_before}
 use Rattle.mu_alive.proofs.Spreading.{follows_on, heads-own}
@@ -44,6 +43,7 @@ use Rattle.mu_alive.proofs.Opening.{Open, open_on}
 use Rattle.mu_alive.proofs.Settled.{HasRaised, IsQuiet, raised_along, reaches_known}
 use Rattle.mu_alive.proofs.Started.{one_leads}
 use Rattle.mu_alive.proofs.Steady.{Steady, steady_steps}
+use Rattle.mu_pace.proofs.Pasts.{cut}
 
 pub lacks_older : (c : Config) (a : ℕ) (newer older : List Event) → knows_all c a (part a (newer ++ older)) ≡ false → knows_all c a (part a older) ≡ false
 lacks_older c a newer older lacks = last_moment (λ now. knows_all c a now ≡ false) (part a older) (moments_before (λ now. knows_all c a now ≡ false) (part a newer) (part a older) (subst (AtEachMoment (λ now. knows_all c a now ≡ false)) (filter-append (λ e. e.by == a) newer older) (lacks_moments c a (part a (newer ++ older)) lacks)))

@@ -39,13 +39,7 @@ use Rattle.mu_alive.proofs.Bringing.{brought_up, granted_first, leads_older}
 use Rattle.mu_alive.proofs.Cutting.{Located, located}
 use Rattle.mu_alive.proofs.Fetching.{applied_grows}
 use Rattle.mu_alive.proofs.Following.{follows_up, head_follows}
-
--- two lists of one length that agree are one
-pub same_lists : (xs ys : List ℕ) → length xs ≡ length ys → ((i v w : ℕ) → slice_get xs i ≡ Some v → slice_get ys i ≡ Some w → v ≡ w) → xs ≡ ys
-same_lists [] [] long agree = refl
-same_lists [] (y ∷ ys) long agree = absurd (omega (arith, long))
-same_lists (x ∷ xs) [] long agree = absurd (omega (arith, long))
-same_lists (x ∷ xs) (y ∷ ys) long agree = ap (λ z. z ∷ xs) (agree 0 x y refl refl) ∙ ap (λ zs. y ∷ zs) (same_lists xs ys (omega (arith, long)) (λ i v w at there. agree (suc i) v w at there))
+use Rattle.mu_agree.proofs.Sessions.{same_list}
 
 pub get_take : (l : ℕ) (xs : List ℕ) (i v : ℕ) → slice_get (take l xs) i ≡ Some v → slice_get xs i ≡ Some v
 get_take zero xs i v at = cc
@@ -262,4 +256,4 @@ all_raised c live a newer older legal knows there = record { upto = length all; 
         (ap (λ l. slice_get l i) more.1 ∙ get_front all more.0 i w held)
 
     held : (r : ℕ) → r < c.replicas → live r ≡ true → holds_all c (take (length all) (applied c r (part r past))) ≡ true
-    held r low lives = ap (holds_all c) (same_lists (take (length all) (applied c r (part r past))) all (let long = (there r low lives).0 in let taken = length-take (length all) (applied c r (part r past)) in omega (arith, long, taken)) (agree r)) ∙ knows
+    held r low lives = ap (holds_all c) (same_list (take (length all) (applied c r (part r past))) all (let long = (there r low lives).0 in let taken = length-take (length all) (applied c r (part r past)) in omega (arith, long, taken)) (agree r)) ∙ knows

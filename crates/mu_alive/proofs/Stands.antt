@@ -18,7 +18,6 @@ use Rattle.mu_alive.specs.Bringing.{most_paid}
 use Rattle.mu_alive.specs.Lagging.{gain_steps}
 use Rattle.mu_alive.specs.Stopping.{ReadsInOrder}
 use Rattle.mu_alive.proofs.Bringing.{paid_at_most}
-use Rattle.mu_alive.proofs.Cutting.{cut}
 use Rattle.mu_alive.proofs.Enough.{IsFine, Leads}
 use Rattle.mu_alive.proofs.Gaining.{gain}
 use Rattle.mu_alive.proofs.GainingUpTo.{fetches_up_to, gain_up_to, learns_up_to, up_to_grows}
@@ -30,6 +29,7 @@ use Rattle.mu_alive.proofs.Steady.{Steady}
 use Rattle.mu_alive.proofs.Ticking.{IsBelow, IsReached, below_more, reached}
 use Rattle.mu_alive.proofs.Waiting.{stays_both}
 use Rattle.mu_alive.proofs.Stopped.{Waits, fine_of, go_on, leads_of, steady_of, waits_before}
+use Rattle.mu_pace.proofs.Pasts.{cut}
 
 -- one leadership, which has read a minimum, goes on since the base; the clock was never above `now`; counts of regions of
 -- those that go on were opened since then, and so was the count of its advance

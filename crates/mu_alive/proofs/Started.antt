@@ -29,13 +29,14 @@ use Rattle.mu_pace.proofs.Growing.{stays_less}
 use Rattle.mu_alive.specs.Alone.{AsksAlone}
 use Rattle.mu_alive.specs.Finishing.{AsksAllFirst}
 use Rattle.mu_alive.specs.Lone.{LeadsAlone}
-use Rattle.mu_alive.specs.Opens.{puts_number}
 use Rattle.mu_alive.specs.Turns.{is_own_min}
 use Rattle.mu_alive.proofs.Alone.{Once, alone_induction, once}
 use Rattle.mu_alive.proofs.Steady.{member_numbered, numbered_on, numbered_stays}
 use Rattle.mu_alive.proofs.Cutting.{Located, Met, located, met}
-use Rattle.mu_alive.proofs.Enough.{FirstMin, Leads, first_has_min, first_verb, lone_before, lone_leads, lone_on, min_on, min_or_none}
+use Rattle.mu_alive.proofs.Enough.{FirstMin, Leads, first_verb, lone_before, lone_leads, lone_on, min_or_none}
 use Rattle.mu_alive.proofs.Turns.{begun-part, min_begun, put_reads}
+use Rattle.mu_pace.proofs.Pasts.{min_on, min_now}
+use Rattle.mu_pace.specs.Watches.{puts_number}
 
 oldest_there : (tells : Event → Option ℕ) (events : List Event) → is_some (oldest tells events) ≡ true → has (λ e. is_some (tells e)) events ≡ true
 oldest_there tells [] some = absurd (true≢false (sym some))
@@ -125,7 +126,7 @@ none_read c a past legal none some = at (met is_min (part a past) some)
         let before : has_begun a l.older ≡ true = sym (ap (λ t. cond t true (has_begun a l.older)) (first_verb a m.event.by m.event.verb m.event.answer m.passes)) ∙ begun in
         let mine : has_begun a m.older ≡ true = ap (has_begun a) (sym l.before) ∙ (begun-part a l.older ∙ before) in
         let now = (moments_before (λ now. has_min a now ≡ false) m.newer (m.event ∷ m.older) (subst (AtEachMoment (λ now. has_min a now ≡ false)) m.is none)).1 in
-        true≢false (sym (first_has_min a m.event m.older m.passes mine) ∙ now)
+        true≢false (sym (min_now a m.event m.older m.passes mine) ∙ now)
 
     at : Met is_min (part a past) → ⊥
     at m = here m (located a past m.newer m.older m.event m.is)
@@ -234,7 +235,7 @@ started c live a past lone asks_first knows = go (has (puts_number a) (part a pa
                 found (inr f) =
                     let up : part a past ≡ (m.newer ++ m.event ∷ f.newer) ++ f.first ∷ f.older = m.is ∙ ap (λ x. m.newer ++ m.event ∷ x) f.is ∙ sym (append_assoc m.newer (m.event ∷ f.newer) (f.first ∷ f.older)) in
                     let kept = subst (AtEachStep (Leads c a)) up leads in
-                    let first = first_has_min a f.first f.older f.min f.begun in
+                    let first = min_now a f.first f.older f.min f.begun in
                     let on = one_leads c a (m.newer ++ m.event ∷ f.newer) (f.first ∷ f.older) kept first in
                     let same = not_first a m.event.by m.event.verb m.event.answer m.passes in
                     let here : is_some (proposal_number a (m.event ∷ m.older)) ≡ true = ap (λ t. is_some (oldest (λ e. number_put a e.by e.verb) (cond t [] (m.event ∷ leadership a m.older)))) same ∙ put_number a m.event.by m.event.verb (proposal_number a m.older) m.passes in

@@ -22,7 +22,7 @@ use Rattle.mu_pace.specs.Counters.{AtEachMoment, AtEachStep}
 use Rattle.mu_pace.specs.Watches.{is_brought_up, is_raise_to_verb}
 use Rattle.mu_pace.proofs.Counting.{last_moment}
 use Rattle.mu_pace.proofs.Growing.{stays_less}
-use Rattle.mu_alive.proofs.Enough.{min_on}
+use Rattle.mu_pace.proofs.Pasts.{min_on}
 
 -- a member has its number
 pub numbered_on : (a : ℕ) (e : Event) (past : List Event) → begins_leadership a e ≡ false → is_some (proposal_number a past) ≡ true → is_some (proposal_number a (e ∷ past)) ≡ true

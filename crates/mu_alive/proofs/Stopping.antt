@@ -29,7 +29,7 @@ use Rattle.mu_alive.proofs.Beginning.{CutAt, cut_at}
 use Rattle.mu_alive.proofs.Bringing.{bringing_moments, raising_moments}
 use Rattle.mu_alive.proofs.CatchingUp.{HaveGained, Next, Round, catch, gained_on}
 use Rattle.mu_alive.proofs.Ending.{HasEach, ends, finished}
-use Rattle.mu_alive.proofs.Enough.{FirstMin, IsFine, Leads, first_has_min, first_verb, min_or_none}
+use Rattle.mu_alive.proofs.Enough.{FirstMin, IsFine, Leads, first_verb, min_or_none}
 use Rattle.mu_alive.proofs.Following.{own_fuo, read_is_less}
 use Rattle.mu_alive.proofs.Joining.{Began, HasJoined, began_on}
 use Rattle.mu_alive.proofs.LastRaising.{raised_by}
@@ -44,6 +44,7 @@ use Rattle.mu_alive.proofs.Stopped.{Waits, begun_by, fine_of, go_on, leads_of, o
 use Rattle.mu_alive.proofs.Stands.{Stands, Ticked, ticked}
 use Rattle.mu_alive.proofs.Ticking.{closes_by}
 use Rattle.mu_alive.proofs.Waiting.{stays_both, unpaid}
+use Rattle.mu_pace.proofs.Pasts.{min_now}
 
 -- the FUOs of all that go on have come to k
 record Risen (c : Config) (live : ℕ → Bool) (a start k left m gains at first : ℕ) (n base newer older : List Event) : Type 0 where
@@ -234,7 +235,7 @@ begins c live a start newer older w late long = go (knows_all c a (part a older)
         flat = m.is ∙ ap (λ l. m.newer ++ l) opened ∙ sym (append_assoc m.newer first base)
 
         read : has_min a (first ++ base) ≡ true
-        read = subst (λ l. has_min a l ≡ true) opened (first_has_min a m.first m.older m.min m.begun)
+        read = subst (λ l. has_min a l ≡ true) opened (min_now a m.first m.older m.min m.begun)
 
         leads : AtEachStep (Leads c a) (n ++ base)
         leads = subst (AtEachStep (Leads c a)) flat (leads_of c live a start older here)

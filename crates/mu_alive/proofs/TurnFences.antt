@@ -24,7 +24,7 @@ use Rattle.mu_agree.proofs.Legal.{event_after}
 use Rattle.mu_agree.proofs.Members.{joined_under-part, over-part}
 use Rattle.mu_pace.specs.Counters.{AtEachMoment}
 use Rattle.mu_alive.specs.Turns.{AreInTurn, IsInTurn, TurnsLeadOn}
-use Rattle.mu_alive.proofs.Alone.{not_above, still_on}
+use Rattle.mu_alive.proofs.Alone.{not_above, still_on, GoesOn, over_ask, over_enter, over_put_min, over_put_slot}
 use Rattle.mu_alive.proofs.TurnOwners.{IsHighest, NotesStanding, OwnedTop, no_grant, notes_standing, owned_top, seen_again, top_induction}
 use Rattle.mu_alive.proofs.Turns.{turn_induction}
 use Rattle.mu_alive.proofs.TurnNumbers.{are_first, own_number, region_low}
@@ -149,16 +149,9 @@ pub members_held : (c : Config) (r p : ℕ) (past : List Event) → IsLegalHisto
 members_held c r p = top_induction c r (MembersHeld r p) (λ o e. cc) (λ past by v legal turns turn high may s. members_step c r p by v past (owned_top c r p past legal turns high) (opens_held c r p past legal turns high) may.may s)
 
 -- so a leadership never ends: its events come while nobody above has asked
-abbrev pub GoesOn : ℕ → List Event → Type 0
-GoesOn r past = is_over r past ≡ false
-
 none_both : (x y : Bool) → (x ≡ true → y ≡ false) → (x && y) ≡ false
 none_both true y h = h refl
 none_both false y h = refl
-
-over_ask : (c : Config) (r by q : ℕ) (past : List Event) → GoesOn r past → (t : Bool) → is_first_ask r by (Verb.Ask q) ≡ t → GoesOn r (event_after c past by (Verb.Ask q) ∷ past)
-over_ask c r by q past s true h = rw h refl
-over_ask c r by q past s false h = rw h s
 
 unchanged : (r p : ℕ) (past : List Event) (j : Option (Option ℕ)) → OwnedTop r p past → ((o : Option ℕ) → j ≡ Some o → HoldsMember r o (fence_owner p past) (noted_grant r p past) (fence_grant p past)) → is_changed j (fence p past) ≡ false
 unchanged r p past None top s = refl
@@ -210,28 +203,6 @@ not_lost r p past n top noted owns = is n (fence_closing p past) noted (top owns
   where
     is : (n : Option ℕ) (t : Bool) → n ≡ Some (fence_grant p past) → t ≡ false → entered_or_lost n (record { owner = fence_owner p past; grant = fence_grant p past; closing = t; target = fence_target p past }) ≡ Answer.Entered
     is n t hn ht = rw (hn, ht, same_number (fence_grant p past)) refl
-
-over_enter : (r by q : ℕ) (t : Target) (past : List Event) → GoesOn r past → ((by == r) ≡ true → entered_or_lost (noted_grant by q past) (fence q past) ≡ Answer.Entered) → (answer : Answer) → entered_or_lost (noted_grant by q past) (fence q past) ≡ answer → (x : Bool) → (by == r) ≡ x
-    → GoesOn r (record { by = by; verb = Verb.Enter q t; answer = answer } ∷ past)
-over_enter r by q t past s enters_now (Answer.Lost f) e true h = absurd (let k = sym (enters_now h) ∙ e in cc)
-over_enter r by q t past s enters_now (Answer.Lost f) e false h = rw h s
-over_enter r by q t past s enters_now answer e x h = s
-
-over_put_min : (c : Config) (r by q b : ℕ) (past : List Event) → GoesOn r past → (d : Bool) → ((by == r) && d) ≡ false → GoesOn r (record { by = by; verb = Verb.PutMin q b; answer = put_answer d } ∷ past)
-over_put_min c r by q b past s true h = still_on (by == r) (is_over r past) (true_and (by == r) h) s
-  where
-    true_and : (x : Bool) → (x && true) ≡ false → x ≡ false
-    true_and true h = h
-    true_and false h = refl
-over_put_min c r by q b past s false h = s
-
-over_put_slot : (c : Config) (r by q i b v : ℕ) (past : List Event) → GoesOn r past → (d : Bool) → ((by == r) && d) ≡ false → GoesOn r (record { by = by; verb = Verb.PutSlot q i b v; answer = put_answer d } ∷ past)
-over_put_slot c r by q i b v past s true h = still_on (by == r) (is_over r past) (true_and (by == r) h) s
-  where
-    true_and : (x : Bool) → (x && true) ≡ false → x ≡ false
-    true_and true h = h
-    true_and false h = refl
-over_put_slot c r by q i b v past s false h = s
 
 over_step : (c : Config) (r by : ℕ) (v : Verb) (past : List Event) → ((by == r) ≡ true → AtTurn c r past) → Needs c by (part by past) v → GoesOn r past → GoesOn r (event_after c past by v ∷ past)
 over_step c r by (Verb.Ask q) past at may s = over_ask c r by q past s (is_first_ask r by (Verb.Ask q)) refl

@@ -25,9 +25,11 @@ use Rattle.mu_alive.specs.Turns.{AreInTurn, HostsGrantInTurn}
 use Rattle.mu_alive.proofs.Alone.{owner-part, seen-part}
 use Rattle.mu_alive.proofs.Beginning.{cut_at, grants_before, reads_before}
 use Rattle.mu_alive.proofs.Calm.{count_adds, count_few}
-use Rattle.mu_alive.proofs.Cutting.{Located, cut, located, met, more_pass}
+use Rattle.mu_alive.proofs.Cutting.{Located, located, met, more_pass}
 use Rattle.mu_alive.proofs.TurnOwners.{IsHighest, OwnedTop, Waits, no_grant, owned_top, served-part, top_induction, waiter_begun, waits}
-use Rattle.mu_alive.proofs.Turns.{begun_on, not_begun}
+use Rattle.mu_alive.proofs.Turns.{not_begun}
+use Rattle.mu_pace.proofs.Pasts.{has_later, begun_on, begun_still, cut, reads_ask}
+use Rattle.mu_alive.proofs.Granting.{none_before}
 
 -- what came before some events in turn was in turn
 pub turns_before : (newer older : List Event) → AreInTurn (newer ++ older) → AreInTurn older
@@ -37,10 +39,6 @@ turns_before (e ∷ newer) older turns = turns_before newer older turns.0
 pub highest_older : (r : ℕ) (newer older : List Event) → IsHighest r (newer ++ older) → IsHighest r older
 highest_older r [] older high = high
 highest_older r (e ∷ newer) older high = highest_older r newer older (λ w above. not_begun w e (newer ++ older) (high w above))
-
-begun_still : (r : ℕ) (newer older : List Event) → has_begun r older ≡ true → has_begun r (newer ++ older) ≡ true
-begun_still r [] older begun = begun
-begun_still r (e ∷ newer) older begun = begun_on r e (newer ++ older) (begun_still r newer older begun)
 
 -- while r doesn't own the region it was never granted to it
 abbrev NeverGranted : ℕ → ℕ → List Event → Type 0
@@ -77,14 +75,6 @@ never_step c r p by v past top may s = s
 
 never_granted : (c : Config) (r p : ℕ) (past : List Event) → IsLegalHistory c past → AreInTurn past → IsHighest r past → NeverGranted r p past
 never_granted c r p = top_induction c r (NeverGranted r p) (λ _. (refl, refl)) (λ past by v legal turns turn high may s. never_step c r p by v past (owned_top c r p past legal turns high) may.may s)
-
-none_before : (test : Event → Bool) (past : List Event) → has test past ≡ false → before test past ≡ []
-none_before test [] none = refl
-none_before test (e ∷ past) none = go (test e) none (none_before test past)
-  where
-    go : (t : Bool) → cond t true (has test past) ≡ false → (has test past ≡ false → before test past ≡ []) → cond t past (before test past) ≡ []
-    go true none ih = absurd (true≢false none)
-    go false none ih = ih none
 
 never_served : (c : Config) (r p : ℕ) (past : List Event) → NeverGranted r p past → (fence_owner p past ≡ Some r → ⊥) → served p r past ≡ 0
 never_served c r p past never other =
@@ -173,18 +163,6 @@ record InRound (c : Config) (r p : ℕ) (whole older : List Event) : Type 0 wher
 abbrev granted_count : ℕ → ℕ → List Event → ℕ
 granted_count r p newer = count_below r (λ w. has (λ e. is_grant_to p w e.by e.verb) newer)
 
-has_later : (test : Event → Bool) (xs ys : List Event) → has test ys ≡ true → has test (xs ++ ys) ≡ true
-has_later test [] ys some = some
-has_later test (x ∷ xs) ys some = go (test x) (has_later test xs ys some)
-  where
-    go : (t : Bool) → has test (xs ++ ys) ≡ true → cond t true (has test (xs ++ ys)) ≡ true
-    go true ih = refl
-    go false ih = ih
-
-reads_verb : (w : ℕ) (verb : Verb) → is_ask_read_verb w verb ≡ true → verb ≡ Verb.ReadAsk w
-reads_verb w (Verb.ReadAsk q) h = ap (λ x. Verb.ReadAsk x) (eqb-true q w h)
-reads_verb w verb h = absurd (true≢false (sym h))
-
 -- the read of r's asks leaves it waiting
 read_waits : (c : Config) (r p : ℕ) (x : Event) (past : List Event) → IsLegalHistory c (x ∷ past) → AreInTurn (x ∷ past) → IsHighest r (x ∷ past) → (fence_owner p (x ∷ past) ≡ Some r → ⊥) → x.by ≡ p → is_ask_read r x ≡ true → 1 ≤ asks r p past → has_unserved_ask p (part p (x ∷ past)) r ≡ true
 read_waits c r p x past legal turns high other own reads asked =
@@ -202,7 +180,7 @@ read_waits c r p x past legal turns high other own reads asked =
         (subst (λ y. seen_asks p r (record { by = by; verb = Verb.ReadAsk r; answer = y } ∷ past) ≡ asks r p past) (sym says) (rw (eq-eqb by p own, same_number r) (ap (λ i. asks r i past) own)))
 
     seen : seen_asks p r (x ∷ past) ≡ asks r p past
-    seen = let verb = reads_verb r x.verb reads in sees x.by x.verb x.answer own verb (legal.1.answer ∙ ap (answer_of c x.by past) verb)
+    seen = let verb = reads_ask r x.verb reads in sees x.by x.verb x.answer own verb (legal.1.answer ∙ ap (answer_of c x.by past) verb)
 
 -- what a grant in turn does to the count
 grant_counts : (c : Config) (r p : ℕ) (front middle bottom older : List Event) (g : Event) → InRound c r p (front ++ g ∷ (middle ++ (bottom ++ older))) older → g.by ≡ p → is_granting g ≡ true → granted_count r p bottom + 1 ≤ granted_count r p ((front ++ g ∷ middle) ++ bottom)

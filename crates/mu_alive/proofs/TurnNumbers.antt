@@ -19,6 +19,8 @@ use Rattle.mu_agree.proofs.Numbers.{greatest_own_put, greatest_own_put-part, num
 use Rattle.mu_agree.proofs.Readings.{greatest_put, number_of_put}
 use Rattle.mu_alive.specs.Turns.{AreInTurn, IsInTurn, is_own_min}
 use Rattle.mu_alive.proofs.Turns.{min_begun, none_before, put_read, turn_induction}
+use Rattle.mu_agree.proofs.Landings.{greatest_since}
+use Rattle.mu_model.proofs.Counts.{max_with_grows}
 
 -- each number that was put is 8 and its writer's id
 abbrev pub AreFirst : List Event → Type 0
@@ -115,25 +117,13 @@ bigger : (o : Option ℕ) (x y : ℕ) → x ≤ y → max_with o x ≤ max_with 
 bigger None x y l = l
 bigger (Some z) x y l = omega (arith, l)
 
-big_enough : (o : Option ℕ) (x : ℕ) → x ≤ max_with o x
-big_enough None x = omega arith
-big_enough (Some z) x = omega arith
-
-greatest_since : (tells : Event → Option ℕ) (test : Event → Bool) (past : List Event) → greatest tells (since test past) ≤ greatest tells past
-greatest_since tells test [] = omega arith
-greatest_since tells test (e ∷ past) = go (test e) (greatest_since tells test past)
-  where
-    go : (t : Bool) → greatest tells (since test past) ≤ greatest tells past → greatest tells (cond t [] (e ∷ since test past)) ≤ max_with (tells e) (greatest tells past)
-    go true l = omega arith
-    go false l = bigger (tells e) (greatest tells (since test past)) (greatest tells past) l
-
 greatest_of_part : (tells : Event → Option ℕ) (r : ℕ) (past : List Event) → greatest tells (part r past) ≤ greatest tells past
 greatest_of_part tells r [] = omega arith
 greatest_of_part tells r (e ∷ past) = go (e.by == r) (greatest_of_part tells r past)
   where
     go : (t : Bool) → greatest tells (part r past) ≤ greatest tells past → greatest tells (cond t (e ∷ part r past) (part r past)) ≤ max_with (tells e) (greatest tells past)
     go true l = bigger (tells e) (greatest tells (part r past)) (greatest tells past) l
-    go false l = let m = big_enough (tells e) (greatest tells past) in omega (arith, l, m)
+    go false l = let m = max_with_grows (tells e) (greatest tells past) in omega (arith, l, m)
 
 -- nobody above one that is last in turn has put a number
 pub unput : (c : Config) (x : ℕ) (past : List Event) → IsLegalHistory c past → has_begun x past ≡ false → greatest_own_put x past ≡ 0

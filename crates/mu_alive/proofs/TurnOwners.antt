@@ -16,11 +16,12 @@ use Rattle.mu_model.specs.Serving.{has_unserved_ask, is_grant_to, read_while_own
 use Rattle.mu_model.proofs.Basics.{same_number, same_some}
 use Rattle.mu_model.proofs.Owned.{IsOwnTest, before-part, has-part, since-part}
 use Rattle.mu_model.proofs.Scans.{all_at}
-use Rattle.mu_agree.proofs.Access.{grant_needs}
+use Rattle.mu_agree.proofs.Access.{grant_needs, closes-own, grants-own}
 use Rattle.mu_agree.proofs.Legal.{event_after, legal_induction}
 use Rattle.mu_alive.specs.Turns.{AreInTurn, IsInTurn}
 use Rattle.mu_alive.proofs.Alone.{owner-part, owner_named, seen-part, some_passes}
-use Rattle.mu_alive.proofs.Turns.{none_seen, not_begun, begun_on, turn_induction}
+use Rattle.mu_alive.proofs.Turns.{none_seen, not_begun, turn_induction}
+use Rattle.mu_pace.proofs.Pasts.{begun_on}
 
 -- nobody above r has asked
 abbrev pub IsHighest : ℕ → List Event → Type 0
@@ -43,20 +44,6 @@ grants_to-own p w = record { own = λ e h. go e.by e.verb h }
   where
     go : (by : ℕ) (v : Verb) → (by == p) ≡ false → is_grant_to p w by v ≡ false
     go by (Verb.Grant q) h = rw h refl
-    go by v h = refl
-
-closes-own : (p : ℕ) → IsOwnTest p (is_close_of p)
-closes-own p = record { own = λ e h. go e.by e.verb h }
-  where
-    go : (by : ℕ) (v : Verb) → (by == p) ≡ false → is_close_by p by v ≡ false
-    go by Verb.Close h = h
-    go by v h = refl
-
-grants-own : (p : ℕ) → IsOwnTest p (is_grant_of p)
-grants-own p = record { own = λ e h. go e.by e.verb h }
-  where
-    go : (by : ℕ) (v : Verb) → (by == p) ≡ false → is_grant_by p by v ≡ false
-    go by (Verb.Grant w) h = h
     go by v h = refl
 
 pub closing-part : (p : ℕ) (past : List Event) → fence_closing p (part p past) ≡ fence_closing p past

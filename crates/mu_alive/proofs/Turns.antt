@@ -23,6 +23,7 @@ use Rattle.mu_agree.proofs.Access.{no_target, open_target-part}
 use Rattle.mu_agree.proofs.Legal.{event_after, legal_induction}
 use Rattle.mu_agree.proofs.Numbers.{greatest_own_put}
 use Rattle.mu_alive.specs.Turns.{AreInTurn, IsInTurn, is_own_min}
+use Rattle.mu_pace.proofs.Pasts.{begun_on, min_on}
 
 -- an induction over the legal histories in turn
 pub turn_induction : (c : Config) (P : List Event → Type 0) → P []
@@ -31,14 +32,6 @@ pub turn_induction : (c : Config) (P : List Event → Type 0) → P []
 turn_induction c P base step =
     legal_induction c (λ past. AreInTurn past → P past) (λ _. base)
     (λ past by v h may ih turns. step past by v h turns.0 turns.1 may (ih turns.0))
-
--- a leadership that has begun has begun
-pub begun_on : (r : ℕ) (e : Event) (past : List Event) → has_begun r past ≡ true → has_begun r (e ∷ past) ≡ true
-begun_on r e past is = go (begins_leadership r e)
-  where
-    go : (t : Bool) → cond t true (has_begun r past) ≡ true
-    go true = refl
-    go false = is
 
 pub begun-part : (r : ℕ) (past : List Event) → has_begun r (part r past) ≡ has_begun r past
 begun-part r past = has-part (begins_leadership r) r (begins-own r) past
@@ -253,20 +246,11 @@ none_before c w = turn_induction c (NoneBefore w) (λ _. refl) (λ past by v h t
 abbrev pub MinLeads : ℕ → List Event → Type 0
 MinLeads r past = has (is_own_min r) past ≡ true → has_min r (part r past) ≡ true
 
-min_same : (r : ℕ) (e : Event) (mine : List Event) → begins_leadership r e ≡ false → has_min r mine ≡ true → has_min r (e ∷ mine) ≡ true
-min_same r e mine same is =
-    let parts = and_parts (has_begun r mine) (has is_min (leadership r mine)) is in
-    and_from (has_begun r (e ∷ mine)) (has is_min (leadership r (e ∷ mine))) (ap (λ t. cond t true (has_begun r mine)) same ∙ parts.0) (ap (λ t. has is_min (cond t [] (e ∷ leadership r mine))) same ∙ any (is_min e) parts.1)
-  where
-    any : (t : Bool) → has is_min (leadership r mine) ≡ true → cond t true (has is_min (leadership r mine)) ≡ true
-    any true h = refl
-    any false h = h
-
-min_on : (r : ℕ) (e : Event) (past : List Event) → begins_leadership r e ≡ false → has_min r (part r past) ≡ true → has_min r (part r (e ∷ past)) ≡ true
-min_on r e past same is = go (e.by == r)
+part_min_on : (r : ℕ) (e : Event) (past : List Event) → begins_leadership r e ≡ false → has_min r (part r past) ≡ true → has_min r (part r (e ∷ past)) ≡ true
+part_min_on r e past same is = go (e.by == r)
   where
     go : (t : Bool) → has_min r (cond t (e ∷ part r past) (part r past)) ≡ true
-    go true = min_same r e (part r past) same is
+    go true = min_on r e (part r past) same is
     go false = is
 
 min_leads_step : (c : Config) (r by : ℕ) (v : Verb) (past : List Event) → IsLegalHistory c past → IsInTurn past (event_after c past by v) → Needs c by (part by past) v → MinLeads r past → MinLeads r (event_after c past by v ∷ past)
@@ -274,8 +258,8 @@ min_leads_step c r by (Verb.Ask q) past legal turn may s = λ some. go (by == r)
   where
     go : (t : Bool) → (by == r) ≡ t → (u : Bool) → (q == 0) ≡ u → has (is_own_min r) past ≡ true → has_min r (part r (event_after c past by (Verb.Ask q) ∷ past)) ≡ true
     go true ht true hu some = absurd (true≢false (sym some ∙ subst (λ x. has (is_own_min x) past ≡ false) (eqb-true by r ht) (turn.once (ap (λ x. Verb.Ask x) (eqb-true q 0 hu)))))
-    go true ht false hu some = min_on r (event_after c past by (Verb.Ask q)) past (rw (ht, hu) refl) (s some)
-    go false ht u hu some = min_on r (event_after c past by (Verb.Ask q)) past (rw ht refl) (s some)
+    go true ht false hu some = part_min_on r (event_after c past by (Verb.Ask q)) past (rw (ht, hu) refl) (s some)
+    go false ht u hu some = part_min_on r (event_after c past by (Verb.Ask q)) past (rw ht refl) (s some)
 min_leads_step c r by (Verb.Min q) past legal turn may s = λ some. go (by == r) refl some
   where
     begun : (by == r) ≡ true → has_begun r (part r past) ≡ true
@@ -284,7 +268,7 @@ min_leads_step c r by (Verb.Min q) past legal turn may s = λ some. go (by == r)
     go : (t : Bool) → (by == r) ≡ t → has (is_own_min r) (event_after c past by (Verb.Min q) ∷ past) ≡ true → has_min r (cond t (event_after c past by (Verb.Min q) ∷ part r past) (part r past)) ≡ true
     go true own some = and_from (has_begun r (event_after c past by (Verb.Min q) ∷ part r past)) (has is_min (leadership r (event_after c past by (Verb.Min q) ∷ part r past))) (begun own) refl
     go false other some = s (sym (ap (λ t. cond t true (has (is_own_min r) past)) other) ∙ some)
-min_leads_step c r by v past legal turn may s = λ some. min_on r (event_after c past by v) past refl (s some)
+min_leads_step c r by v past legal turn may s = λ some. part_min_on r (event_after c past by v) past refl (s some)
 
 pub min_leads : (c : Config) (r : ℕ) (past : List Event) → IsLegalHistory c past → AreInTurn past → MinLeads r past
 min_leads c r = turn_induction c (MinLeads r) (λ some. absurd (true≢false (sym some))) (λ past by v h turns turn may s. min_leads_step c r by v past h turn may.may s)

@@ -14,8 +14,10 @@ use Rattle.mu_model.specs.Steps.{commits_more, has_min, is_any_fencing, is_any_f
 use Rattle.mu_model.specs.Stretches.{IsStretch, each_step, is_replication, replications, some_step, steps}
 use Rattle.mu_pace.proofs.Growing.{members_on, stays_less}
 use Rattle.mu_alive.proofs.Cutting.{none_newer, none_older}
-use Rattle.mu_alive.proofs.Enough.{first_has_min, first_is_milestone, min_on}
+use Rattle.mu_alive.proofs.Enough.{first_is_milestone}
 use Rattle.mu_alive.specs.Unhindered.{CommitsWithin, IsConfirming, UnhinderedCommit, is_hindrance}
+use Rattle.mu_pace.proofs.Pasts.{begun_on, begun_still, min_on, min_now}
+use Rattle.mu_alive.proofs.Waiting.{stays_newer, stays_older}
 
 -- what passes in a part of a stretch passes in the whole
 some_newer : (test : List Event → Event → Bool) (newer rest older : List Event) → some_step test newer (rest ++ older) ≡ true → some_step test (newer ++ rest) older ≡ true
@@ -117,21 +119,6 @@ cut_at_bound c r (x ∷ window) older stay over =
       | inr reached ↦ (let at = cut_at_bound c r window older less.1 reached in record { newer = x ∷ at.newer; rest = at.rest; is = ap (λ l. x ∷ l) at.is; count = at.count })
     ]
 
--- a stretch of one leadership in two
-stays_newer : (r : ℕ) (newer rest : List Event) → stays r (newer ++ rest) ≡ true → stays r newer ≡ true
-stays_newer r newer rest stay = ap not (none_newer (begins_leadership r) newer rest (none_begins (has (begins_leadership r) (newer ++ rest)) stay))
-  where
-    none_begins : (t : Bool) → not t ≡ true → t ≡ false
-    none_begins true h = absurd (true≢false (sym h))
-    none_begins false h = refl
-
-stays_older : (r : ℕ) (newer rest : List Event) → stays r (newer ++ rest) ≡ true → stays r rest ≡ true
-stays_older r newer rest stay = ap not (none_older (begins_leadership r) newer rest (none_begins (has (begins_leadership r) (newer ++ rest)) stay))
-  where
-    none_begins : (t : Bool) → not t ≡ true → t ≡ false
-    none_begins true h = absurd (true≢false (sym h))
-    none_begins false h = refl
-
 stretch_newer : (past newer rest older : List Event) → IsStretch past (newer ++ rest) older → IsStretch past newer (rest ++ older)
 stretch_newer past newer rest older at = record { newer = at.newer; is = at.is ∙ ap (λ l. at.newer ++ l) (append_assoc newer rest older) }
 
@@ -188,14 +175,6 @@ leading_commits c r past window older e in_time stone follows free = elim (commi
   | inr hindered ↦ absurd (true≢false (sym hindered ∙ free))
 ]
 
--- a leadership goes on
-begun_on : (r : ℕ) (x : Event) (past : List Event) → has_begun r past ≡ true → has_begun r (x ∷ past) ≡ true
-begun_on r x past begun = some_still (begins_leadership r x) (has_begun r past) begun
-
-begun_still : (r : ℕ) (window older : List Event) → has_begun r older ≡ true → has_begun r (window ++ older) ≡ true
-begun_still r [] older begun = begun
-begun_still r (x ∷ window) older begun = begun_on r x (window ++ older) (begun_still r window older begun)
-
 -- what is to come after a confirmation: a minimum is read, or a fence shows it confirmed no more
 abbrev is_beginning : Config → ℕ → ℕ → List Event → Event → Bool
 is_beginning c r k before f = (is_min f && (leaderships r before == k)) || (is_any_fencing f && not (is_confirmed c r (f ∷ before)))
@@ -226,7 +205,7 @@ min_or_hindered c r k (x ∷ window) older stay begun some =
         → (replicates (is_beginning c r k) window older ≡ true → (has_min r (window ++ older) ≡ true) ⊎ (replicates (is_hindrance c r) window older ≡ true))
         → (has_min r (x ∷ (window ++ older)) ≡ true) ⊎ (replicates (is_hindrance c r) (x ∷ window) older ≡ true)
     go t m s f d true ht hm hd hh some ih = inl hh
-    go true true s f d false ht hm hd hh some ih = inl (first_has_min r x (window ++ older) hm (begun_still r window older begun))
+    go true true s f d false ht hm hd hh some ih = inl (min_now r x (window ++ older) hm (begun_still r window older begun))
     go true false s true false false ht hm hd hh some ih =
         inr (some_passes hindered (unconfirmed (is_replication (window ++ older) x) (is_over_after r (window ++ older) x) (is_lagging c r (window ++ older) x) (knows_all c r (window ++ older)) (is_some (outrun c r (x ∷ (window ++ older)))) (has_min r (x ∷ (window ++ older))) (is_confirmed c r (x ∷ (window ++ older))) ht hh hd) (replicates (is_hindrance c r) window older))
     go true false s true true false ht hm hd hh some ih = later (ih some)

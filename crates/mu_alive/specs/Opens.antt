@@ -1,17 +1,14 @@
 -- opens in time: a replica that names itself asks each region in time until it reads a minimum, and
 -- puts a number soon after, whatever it knows.
-use Rattle.std.specs.Prelude.{Bool, List, false, is_some, true, ℕ, ◌*◌, ◌++◌, ◌+◌, ◌<◌, ◌∷◌, ◌≡◌, ◌≤◌}
+use Rattle.std.specs.Prelude.{Bool, List, false, true, ℕ, ◌*◌, ◌++◌, ◌+◌, ◌<◌, ◌∷◌, ◌≡◌, ◌≤◌}
 use Rattle.mu_model.specs.declared.config.Config.{Config}
 use Rattle.mu_model.specs.declared.event.Event.{Event}
 use Rattle.mu_model.specs.Histories.{has}
-use Rattle.mu_model.specs.Leaderships.{is_over, number_put}
+use Rattle.mu_model.specs.Leaderships.{is_over}
 use Rattle.mu_model.specs.Steps.{has_min, is_asking, is_min, is_named, named_throughout, replicates}
 use Rattle.mu_model.specs.Stretches.{IsStretch, replications}
 use Rattle.mu_pace.specs.Counters.{AtEachMoment}
-
--- the event puts a number of a
-abbrev pub puts_number : ℕ → Event → Bool
-puts_number a e = is_some (number_put a e.by e.verb)
+use Rattle.mu_pace.specs.Watches.{puts_number}
 
 -- in any 17 n + 1 replication events throughout which r names itself each region is asked, if it
 -- has read no minimum

@@ -99,13 +99,6 @@ front_same c row_before row_now (v ∷ vs) same = go (is_batch c v) refl (front_
         (front (λ v. not (is_batch c v) || all_below (rest_of c (v % 4096) + 1) (λ t. row_before (v + t))) vs) (rows batch) ih
     go false batch ih = omega (arith, ih)
 
--- who learns nothing and completes no row has applied as much as before
-applied_same : (c : Config) (r : ℕ) (past : List Event) (verb : Verb) (answer : Answer) → is_write verb ≡ false → knows_more c r past (event_by r verb answer) ≡ false → completes_row c r past (event_by r verb answer) ≡ false
-    → length (applied c r (event_by r verb answer ∷ past)) ≡ length (applied c r past)
-applied_same c r past verb answer no_write no_more completes =
-    ap (λ xs. length (front (λ v. has_entry c r v (event_by r verb answer ∷ past)) xs)) (known_same c r past (event_by r verb answer) no_more)
-    ∙ front_same c (λ u. has_row r u past) (λ u. has_row r u (event_by r verb answer ∷ past)) (known c r past) (λ u is. row_same c r u past verb answer no_write is completes)
-
 -- the first value that fails
 front_stops : (test : ℕ → Bool) (xs : List ℕ) → length (front test xs) < length xs → (v : ℕ) × ((slice_get xs (length (front test xs)) ≡ Some v) × (test v ≡ false))
 front_stops test [] low = absurd (omega (arith, low))

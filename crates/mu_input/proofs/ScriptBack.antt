@@ -114,12 +114,6 @@ in_order-twice replicas stops pauses =
 other : (n k : ℕ) → n ≢ k → (n == k) ≡ false
 other n k different = ⊎_elim (λ (t : ((n == k) ≡ true) × (n ≡ k)). absurd (different t.1)) (λ (t : ((n == k) ≡ false) × (n ≢ k)). t.0) (eqb_tells n k)
 
--- a replica that doesn't stop yet
-not_stopped : (r : ℕ) (stops : List Stop) → All (λ stop. of_stop stop ≢ r) stops → is_stopped r stops ≡ false
-not_stopped r [] none = refl
-not_stopped r (stop ∷ stops) none =
-    ap (λ b. b || is_stopped r stops) (other stop.replica r (All-head (λ stop. of_stop stop ≢ r) stop stops none)) ∙ not_stopped r stops (All-tail (λ stop. of_stop stop ≢ r) stop stops none)
-
 stopped_none : (r : ℕ) (stops : List Stop) → is_stopped r stops ≡ false → All (λ stop. of_stop stop ≡ r → ⊥) stops
 stopped_none r [] e = All-nil (λ stop. of_stop stop ≡ r → ⊥)
 stopped_none r (stop ∷ stops) e = by_test (stop.replica == r) refl (stopped_none r stops) e

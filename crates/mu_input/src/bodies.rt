@@ -16,6 +16,9 @@ use mu_model::Sequence;
 use mu_text::{LineReader, Words, is_alone, is_first, number};
 use std::alloc::Global;
 
+/// More lines than all clients, all commands and the line behind them.
+pub const BODY_LINES: u32 = 1_600;
+
 /// What a line of this part says.
 #[derive(Clone, Copy)]
 pub enum BodyLine {
@@ -59,9 +62,9 @@ impl Body {
 /// client that isn't the next, or a command before any, 6 no command, 7 the key, 8 a text, 9 one
 /// client or command too many, 11 if the lines end. `NoMemory` for want of memory.
 pub fn read_body(alloc: Global, lines: &mut LineReader<'_>) -> Result<Body, InputEnd>
-    requires { lines.old.number + 1600 < 2 ^ 32 }
+    requires { lines.old.number + BODY_LINES < 2 ^ 32 }
     ensures reading { ReadsFront result (body_at lines.old) lines.new }
-    ensures few { IfOk result (λ _. lines.new.number ≤ lines.old.number + 1600) }
+    ensures few { IfOk result (λ _. lines.new.number ≤ lines.old.number + BODY_LINES) }
     ensures session { IfOk result (λ body. IsInSession body.commands) }
     ensures count { IfOk result (λ body. length body.commands ≤ MOST_COMMANDS) }
 {

@@ -10,6 +10,9 @@ use crate::job::InputEnd;
 use crate::{LEAST_RING, MOST_REPLICAS, MOST_RING, MOST_STEPS, MOST_WIDTH};
 use mu_text::{LineReader, limited, two_words};
 
+/// The most lines of settings.
+pub const SETTING_LINES: u32 = 5;
+
 /// The settings of a job.
 #[derive(Clone, Copy, Debug, PartialEq, Eq)]
 pub struct Settings {
@@ -36,7 +39,7 @@ pub fn read_settings(lines: &mut LineReader<'_>) -> Result<Settings, InputEnd>
     requires { lines.old.number + 6 < 2 ^ 32 }
     ensures reading { ReadsFront result (settings_at lines.old) lines.new }
     ensures limits { IfOk result HasLimits }
-    ensures few { IfOk result (λ _. lines.new.number ≤ lines.old.number + 5) }
+    ensures few { IfOk result (λ _. lines.new.number ≤ lines.old.number + SETTING_LINES) }
     ensures refused { IfErr result (λ end. end ≢ NoMemory) }
 {
     let version = next_setting(lines, b"mu", 1, 2, HEAD)?;

@@ -8,9 +8,9 @@ ghost use Rattle.mu_input.specs.Readings.{EndsHere, Reads, ReadsFront};
 ghost use Rattle.mu_input.specs.Traces.{ReadsTrace, trace};
 
 use crate::batches::job_of;
-use crate::bodies::read_body;
+use crate::bodies::{BODY_LINES, read_body};
 use crate::cause::AFTER_END;
-use crate::heading::read_settings;
+use crate::heading::{SETTING_LINES, read_settings};
 use crate::job::{InputEnd, Job};
 use crate::scripts::script_where;
 use crate::traces::read_events;
@@ -18,6 +18,9 @@ use crate::{MOST_COMMANDS, MOST_SCRIPT_LINES, TRACE_LIMIT};
 use mu_model::Journal;
 use mu_text::LineReader;
 use std::alloc::Global;
+
+/// The most lines before those of the events: settings, clients and commands, a script and its end.
+const MOST_LINES_BEFORE: u32 = SETTING_LINES + BODY_LINES + MOST_SCRIPT_LINES as u32 + 1;
 
 /// The job that bytes spell. Takes memory only for its commands, rows and script, and the time of
 /// one walk over the bytes.
@@ -72,7 +75,7 @@ fn read_job(alloc: Global, lines: &mut LineReader<'_>) -> Result<Job, InputEnd>
     ensures config { IfOk result (λ job. IsConfig job.config) }
     ensures session { IfOk result (λ job. IsInSession job.commands) }
     ensures heads { IfOk result (λ job. HaveHeads job.config.width job.commands job.config.rows) }
-    ensures few { IfOk result (λ job. lines.new.number ≤ 1707) }
+    ensures few { IfOk result (λ job. lines.new.number ≤ MOST_LINES_BEFORE + 1) }
     ensures commands { IfOk result (λ job. length job.commands ≤ MOST_COMMANDS) }
     ensures lines { IfOk result (λ job.
         length job.script.stops + length job.script.pauses ≤ MOST_SCRIPT_LINES) }

@@ -71,9 +71,9 @@ may_look_behind c r p i mine possible held region member low = (region, position
 pub may_look_new : (c : Config) (r p i : ℕ) (mine : List Event) → HoldsGrants c r mine → p < c.replicas → is_member r p mine ≡ true → i ≤ row_count c + reserve c → Needs c r mine (Verb.Look p i)
 may_look_new c r p i mine held region member low = (region, low, inr (is_noted r p mine (held p region member)))
 
-first_number : (r b : ℕ) (mine : List Event) (o : Option ℕ) → o ≡ Some b → number_allowed r mine b o
-first_number r b mine None is = absurd (none_some b is)
-first_number r b mine (Some x) is = sym (same x is)
+pub allowed_put : (r b : ℕ) (mine : List Event) (o : Option ℕ) → o ≡ Some b → number_allowed r mine b o
+allowed_put r b mine None is = absurd (none_some b is)
+allowed_put r b mine (Some x) is = sym (same x is)
   where
     same : (x : ℕ) → Some x ≡ Some b → x ≡ b
     same x is = cc
@@ -88,7 +88,7 @@ pub may_put_late : (c : Config) (r b p : ℕ) (mine : List Event) (up : List ℕ
 may_put_late c r b p mine up reach at =
     let t = at.entering.told in
     let leads = t.late.level.leads in
-    (t.late.region, record { not_over = leads.goes_on; entered = at.entered; read = t.low; numbered = first_number r b mine (proposal_number r mine) leads.numbered })
+    (t.late.region, record { not_over = leads.goes_on; entered = at.entered; read = t.low; numbered = allowed_put r b mine (proposal_number r mine) leads.numbered })
 
 pub may_enter_place : (c : Config) (r p i : ℕ) (mine : List Event) → 0 < c.ring → p < c.replicas → is_member r p mine ≡ true → is_over r mine ≡ false → Needs c r mine (Verb.Enter p (Target.Place (i % c.ring)))
 may_enter_place c r p i mine ring region member goes_on = (region, (member, goes_on, mod-lt i ring))

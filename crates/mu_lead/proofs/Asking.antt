@@ -11,6 +11,7 @@ use Rattle.mu_model.specs.Leaderships.{begins_leadership, grant_at_joining, is_c
 use Rattle.mu_model.proofs.Basics.{event_by, same_number}
 use Rattle.mu_lead.specs.Confirming.{AtAsk, AtConfirm, AtReadMin, Confirmed, Fresh}
 use Rattle.mu_knowledge.specs.Offers.{IsFirst}
+use Rattle.mu_lead.proofs.Lates.{is_quiet}
 
 -- an `Ask(0)` begins a leadership
 pub begins_now : (r : ℕ) (answer : Answer) → begins_leadership r (event_by r (Verb.Ask 0) answer) ≡ true
@@ -61,16 +62,11 @@ asked_on c r p q answer mine at next low = record {
 pub asked_all : (c : Config) (r p : ℕ) (answer : Answer) (mine : List Event) → AtAsk c r mine p → AtConfirm c r (event_by r (Verb.Ask p) answer ∷ mine) 0
 asked_all c r p answer mine at = record { region = (let low = at.region in omega (arith, low)); fresh = fresh_after c r p answer mine at }
 
-unchanged : (o : Option (Option ℕ)) (f : Fence) (by over : Bool) → is_some o ≡ false → over ≡ false → (by && is_changed o f || over) ≡ false
-unchanged None f true over none on = on
-unchanged None f false over none on = on
-unchanged (Some g) f by over none on = absurd (true≢false none)
-
 -- a fence that is read leaves a leadership fresh
 pub fresh_fenced : (r p : ℕ) (f : Fence) (mine : List Event) → Fresh r mine → Fresh r (event_by r (Verb.Fence p) (Answer.Seen f) ∷ mine)
 fresh_fenced r p f mine h = record {
   begun = h.begun;
-  goes_on = unchanged (grant_at_joining r p mine) f (r == r) (is_over r mine) (h.alone p) h.goes_on;
+  goes_on = is_quiet (grant_at_joining r p mine) f (r == r) (is_over r mine) (h.alone p) h.goes_on;
   unnumbered = h.unnumbered;
   alone = h.alone;
   unput = h.unput;

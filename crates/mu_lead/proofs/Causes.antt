@@ -26,6 +26,7 @@ use Rattle.mu_lead.specs.Causes.{CausesAt, HasReadRounds, LeadersAskWithCause, M
 use Rattle.mu_lead.specs.Gathering.{GoesFrom, ends_at, reads_first}
 use Rattle.mu_lead.specs.Standing.{At, verb_at}
 use Rattle.mu_lead.proofs.Elections.{min_beside}
+use Rattle.mu_lead.proofs.Resigning.{left_unnamed}
 
 -- why r may ask anew
 may_over : (c : Config) (r : ℕ) (mine : List Event) → is_over r mine ≡ true → may_ask_anew c r mine ≡ true
@@ -221,17 +222,13 @@ causes_beside c r mine leading (Place.Confirm round p) verb a beside at = record
 }
 causes_beside c r mine leading place verb a beside at = at
 
--- and if another is named before a turn of the leader, r has left
-left_now : (t n u : Bool) → t ≡ true → n ≡ false → (if t && not n then true else u) ≡ true
-left_now t n u turn unnamed = rw (turn, unnamed) refl
-
 causes_unnamed : (c : Config) (r : ℕ) (mine : List Event) (old new : Place) (leading : Bool) (verb : Verb) (a : Answer) → is_replication mine (event_by r verb a) ≡ true → is_named c r mine ≡ false → is_beside leading verb ≡ true
     → (new ≡ old) ⊎ (new ≡ Place.Ask 0) → CausesAt c r mine old → CausesAt c r (event_by r verb a ∷ mine) new
 causes_unnamed c r mine old new leading verb a turn unnamed beside goes at =
     let now = event_by r verb a ∷ mine in
     elim goes [
       | inl same ↦ subst (CausesAt c r now) (sym same) (causes_beside c r mine leading old verb a beside at)
-      | inr begins ↦ subst (CausesAt c r now) (sym begins) (record { first = λ first. may_left c r now (left_now (is_replication mine (event_by r verb a)) (is_named c r mine) _ turn unnamed); later = λ other. absurd (other refl) })
+      | inr begins ↦ subst (CausesAt c r now) (sym begins) (record { first = λ first. may_left c r now (left_unnamed (is_replication mine (event_by r verb a)) (is_named c r mine) _ turn unnamed); later = λ other. absurd (other refl) })
     ]
 
 -- a leader asks for the first region only at the place that begins

@@ -28,7 +28,7 @@ use Rattle.mu_lead.specs.Leading.{HasPutNone, IsClear, IsRead, is_put_at}
 use Rattle.mu_lead.proofs.Keeping.{fuo_event}
 
 -- the fence of a noted grant was seen
-seen_noted : (r p g : ℕ) (past : List Event) → grant_for r (newest (λ e. fence_seen r p e.by e.verb e.answer) past) ≡ Some g → has (λ e. grant_seen r p g e.by e.verb e.answer) past ≡ true
+pub seen_noted : (r p g : ℕ) (past : List Event) → grant_for r (newest (λ e. fence_seen r p e.by e.verb e.answer) past) ≡ Some g → has (λ e. grant_seen r p g e.by e.verb e.answer) past ≡ true
 seen_noted r p g [] is = absurd (none_some g is)
 seen_noted r p g (e ∷ past) is = go e.by e.verb e.answer is (seen_noted r p g past)
   where

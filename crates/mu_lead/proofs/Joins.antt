@@ -131,7 +131,7 @@ waits_on c r p left verb a mine plain at =
 pub over_answers : (c : Config) (r p : ℕ) (mine : List Event) (e : Event) → is_over r (e ∷ mine) ≡ true → is_answer_to_welcome c r p mine e ≡ true
 over_answers c r p mine e over = or_right (is_min_put p e) _ (or_left (is_over_after r mine e) (is_fuo_above r p (length (known c r mine)) e) over)
 
-above_number : (b x : ℕ) (over : Bool) → b < x → (nat_lt b x || over) ≡ true
+pub above_number : (b x : ℕ) (over : Bool) → b < x → (nat_lt b x || over) ≡ true
 above_number b x over more = rw (lt-ltb b x more) refl
 
 -- its minimum

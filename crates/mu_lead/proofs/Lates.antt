@@ -28,7 +28,7 @@ use Rattle.mu_lead.proofs.Numbering.{held_joined, joining_other, landed_min, mem
 abbrev pub fence_event : ℕ → ℕ → Fence → Event
 fence_event r p f = event_by r (Verb.Fence p) (Answer.Seen f)
 
-is_quiet : (o : Option (Option ℕ)) (f : Fence) (by over : Bool) → is_some o ≡ false → over ≡ false → (by && is_changed o f || over) ≡ false
+pub is_quiet : (o : Option (Option ℕ)) (f : Fence) (by over : Bool) → is_some o ≡ false → over ≡ false → (by && is_changed o f || over) ≡ false
 is_quiet None f true over none on = on
 is_quiet None f false over none on = on
 is_quiet (Some g) f by over none on = absurd (true≢false none)

@@ -266,9 +266,9 @@ seen_at : (m n : Bool) → (m ≡ true → n ≡ false) → not (m && n) ≡ tru
 seen_at true n h = ap not (h refl)
 seen_at false n h = refl
 
-last_at : (m n : Bool) → (m ≡ true → n ≡ true) → (not m || n) ≡ true
-last_at true n h = h refl
-last_at false n h = refl
+pub either_way : (m n : Bool) → (m ≡ true → n ≡ true) → (not m || n) ≡ true
+either_way true n h = h refl
+either_way false n h = refl
 
 -- the value that is picked may be put
 pub new_picked : (c : Config) (r b v : ℕ) (mine : List Event) (up : List ℕ) (reach : List (Option ℕ)) (candidate : Option ℕ) (best : Option Sight) → Looking c r b mine up reach c.replicas candidate best → MayOffer c r mine candidate v → IsNew c r mine (end_of c r mine) v
@@ -281,13 +281,13 @@ new_picked c r b v mine up reach candidate best l may =
       none_past = each_all c.replicas (λ q. not (is_member r q mine && has_seen_past r q i (leadership r mine))) (λ q low. seen_at (is_member r q mine) (has_seen_past r q i (leadership r mine)) (λ member. (l.looked q low member).clear));
       value = subst (λ o. may_propose c r mine i v o ≡ true) (sym (l.level.leads.unput i (omega arith)))
           (and_from (all_below c.replicas (λ q. not (is_member r q mine) || is_some (last_look r q i mine))) (may_pick_at c r mine i v)
-          (each_all c.replicas (λ q. not (is_member r q mine) || is_some (last_look r q i mine)) (λ q low. last_at (is_member r q mine) (is_some (last_look r q i mine)) (λ member. (l.looked q low member).last))) may.picked);
+          (each_all c.replicas (λ q. not (is_member r q mine) || is_some (last_look r q i mine)) (λ q low. either_way (is_member r q mine) (is_some (last_look r q i mine)) (λ member. (l.looked q low member).last))) may.picked);
     }
 
-earlier_later : (o x : Option ℕ) → earlier_or o x ≡ None → x ≡ None
-earlier_later None x is = is
-earlier_later (Some y) None is = absurd (none_some y (sym is))
-earlier_later (Some y) (Some z) is = absurd (none_some z (sym is))
+pub earlier_none : (o x : Option ℕ) → earlier_or o x ≡ None → x ≡ None
+earlier_none None x is = is
+earlier_none (Some y) None is = absurd (none_some y (sym is))
+earlier_none (Some y) (Some z) is = absurd (none_some z (sym is))
 
 earlier_some : (x : ℕ) (o : Option ℕ) → earlier_or (Some x) o ≡ None → ⊥
 earlier_some x None is = none_some x (sym is)
@@ -296,7 +296,7 @@ earlier_some x (Some y) is = none_some y (sym is)
 -- if nothing was put no region took anything
 took_none : (r q i b v : ℕ) (events : List Event) → oldest (λ e. value_put r i e.by e.verb) events ≡ None → has (lands_entry r q i b v) events ≡ false
 took_none r q i b v [] is = refl
-took_none r q i b v (e ∷ events) is = go e.by e.verb e.answer is (took_none r q i b v events (earlier_later (value_put r i e.by e.verb) (oldest (λ f. value_put r i f.by f.verb) events) is))
+took_none r q i b v (e ∷ events) is = go e.by e.verb e.answer is (took_none r q i b v events (earlier_none (value_put r i e.by e.verb) (oldest (λ f. value_put r i f.by f.verb) events) is))
   where
     go : (by : ℕ) (verb : Verb) (answer : Answer) → earlier_or (value_put r i by verb) (oldest (λ f. value_put r i f.by f.verb) events) ≡ None → has (lands_entry r q i b v) events ≡ false
         → cond (is_put_done r q i b v by verb answer) true (has (lands_entry r q i b v) events) ≡ false
@@ -354,7 +354,7 @@ all_fail n q f low fails = go (all_below n f) refl
     go true is = absurd (true≢false (sym (all_at n f is q low) ∙ fails))
     go false is = refl
 
-four : (a b d e : Bool) → a ≡ true → b ≡ true → d ≡ true → e ≡ true → (a && (b && (d && e))) ≡ true
+pub four : (a b d e : Bool) → a ≡ true → b ≡ true → d ≡ true → e ≡ true → (a && (b && (d && e))) ≡ true
 four a b d e h k l m = rw (h, k, l, m) refl
 
 -- a mark of the candidate may be offered

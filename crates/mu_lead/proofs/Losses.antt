@@ -7,7 +7,7 @@ use Rattle.mu_model.specs.Diligence.{is_confirmed}
 use Rattle.mu_lead.specs.Confirming.{HasGrant, Missed}
 use Rattle.mu_lead.specs.Lasting.{step_of, verb_or}
 use Rattle.mu_lead.specs.Leading.{end_of}
-use Rattle.mu_lead.specs.Listing.{Tables, is_missed, may_mark, number_told}
+use Rattle.mu_lead.specs.Listing.{Tables, is_missed, may_mark, number_told, is_lost as is_loss}
 use Rattle.mu_lead.specs.Losses.{LosesEntering, LosesReading, SaysLost, is_unlike}
 use Rattle.mu_lead.specs.Notes.{note_of_commit, note_of_head, note_of_min}
 use Rattle.mu_lead.specs.Noting.{next_note, note_of_enter, note_of_evidence, note_of_past, note_of_round}
@@ -37,6 +37,7 @@ use Rattle.std.proofs.Common.{Bool, List, None, Some, ap, arith, false, get_or, 
 use Rattle.std.proofs.lemmas.Bool.{ne_eqb}
 use Rattle.std.specs.Prelude.{if◌then◌else◌, min, nat_lt, not, ◌↔◌, ◌⊎◌}
 use Rattle.std.specs.declared.option.Option.{Option}
+use Rattle.mu_model.specs.Steps.{is_any_fencing_verb}
 
 abbrev pub is_lost : Note → Bool
 is_lost (Note.Aborted (AbortCause.Lost p f)) = true
@@ -46,17 +47,9 @@ abbrev is_enter : Verb → Bool
 is_enter (Verb.Enter p t) = true
 is_enter verb = false
 
-abbrev is_fence : Verb → Bool
-is_fence (Verb.Fence p) = true
-is_fence verb = false
-
 abbrev is_evidence : Place → Bool
 is_evidence (Place.Evidence p) = true
 is_evidence place = false
-
-abbrev is_loss : Answer → Bool
-is_loss (Answer.Lost f) = true
-is_loss answer = false
 
 same_lost : (p q : ℕ) (f g : Fence) → Note.Aborted (AbortCause.Lost p f) ≡ Note.Aborted (AbortCause.Lost q g) → (p ≡ q) × (f ≡ g)
 same_lost p q f g is = (cc, cc)
@@ -71,12 +64,12 @@ same_loss : (f g : Fence) → Answer.Lost f ≡ Answer.Lost g → f ≡ g
 same_loss f g is = cc
 
 -- no other verb loses a region
-loses_none : (r : ℕ) (mine : List Event) (place : Place) (verb : Verb) (answer : Answer) (note : Note) → is_lost note ≡ false → is_enter verb ≡ false → is_fence verb ≡ false → SaysLost r mine place verb answer note
+loses_none : (r : ℕ) (mine : List Event) (place : Place) (verb : Verb) (answer : Answer) (note : Note) → is_lost note ≡ false → is_enter verb ≡ false → is_any_fencing_verb verb ≡ false → SaysLost r mine place verb answer note
 loses_none r mine place verb answer note out enter read p f = ((λ is. absurd (differs_by_test is_lost note (Note.Aborted (AbortCause.Lost p f)) out refl is)), (λ loses. absurd (go loses)))
   where
     go : LosesEntering r mine verb answer p f ⊎ LosesReading r mine place verb answer p f → ⊥
     go (inl e) = differs_by_test is_enter verb (Verb.Enter p e.target) enter refl e.entered
-    go (inr l) = differs_by_test is_fence verb (Verb.Fence p) read refl l.read
+    go (inr l) = differs_by_test is_any_fencing_verb verb (Verb.Fence p) read refl l.read
 
 -- the fence of a region that is no member loses nothing
 fence_quiet : (r q : ℕ) (mine : List Event) (place : Place) (answer : Answer) (note : Note) → is_lost note ≡ false → is_evidence place ≡ false → is_member r q mine ≡ false → SaysLost r mine place (Verb.Fence q) answer note
@@ -122,11 +115,11 @@ enter_says c r q t mine place answer note possible notes p f = elim (enters_or c
   where
     none : answer ≡ Answer.Entered → LosesEntering r mine (Verb.Enter q t) answer p f ⊎ LosesReading r mine place (Verb.Enter q t) answer p f → ⊥
     none entered (inl e) = differs_by_test is_loss answer (Answer.Lost f) (ap is_loss entered) refl e.lost
-    none entered (inr l) = differs_by_test is_fence (Verb.Enter q t) (Verb.Fence p) refl refl l.read
+    none entered (inr l) = differs_by_test is_any_fencing_verb (Verb.Enter q t) (Verb.Fence p) refl refl l.read
 
     so : (g : Fence) → answer ≡ Answer.Lost g → LosesEntering r mine (Verb.Enter q t) answer p f ⊎ LosesReading r mine place (Verb.Enter q t) answer p f → Note.Aborted (AbortCause.Lost q g) ≡ Note.Aborted (AbortCause.Lost p f)
     so g lost (inl e) = ap (λ k. Note.Aborted (AbortCause.Lost k g)) (same_entered q p t e.target e.entered) ∙ ap (λ h. Note.Aborted (AbortCause.Lost p h)) (same_loss g f (sym lost ∙ e.lost))
-    so g lost (inr l) = absurd (differs_by_test is_fence (Verb.Enter q t) (Verb.Fence p) refl refl l.read)
+    so g lost (inr l) = absurd (differs_by_test is_any_fencing_verb (Verb.Enter q t) (Verb.Fence p) refl refl l.read)
 
 -- a fence that is read if it is noted as lost
 read_so : (r q p : ℕ) (g f : Fence) (mine : List Event) (place : Place) (answer : Answer) → answer ≡ Answer.Seen g → LosesEntering r mine (Verb.Fence q) answer p f ⊎ LosesReading r mine place (Verb.Fence q) answer p f → Note.Aborted (AbortCause.Lost q g) ≡ Note.Aborted (AbortCause.Lost p f)

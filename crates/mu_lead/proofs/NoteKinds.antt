@@ -14,6 +14,7 @@ use Rattle.mu_model.specs.declared.event.Fence.{Fence}
 use Rattle.mu_model.specs.declared.event.Verb.{Verb}
 use Rattle.std.proofs.Common.{Bool, List, ap, false, inl, inr, refl, sym, true, true≢false, ℕ, ◌-◌, ◌∙◌, ◌≡◌}
 use Rattle.std.specs.Prelude.{if◌then◌else◌, ◌↔◌}
+use Rattle.mu_model.specs.Steps.{is_min_verb}
 
 -- what kind a note is of
 abbrev pub is_higher : Note → Bool
@@ -31,11 +32,6 @@ is_learnt note = false
 abbrev pub is_joined : Note → Bool
 is_joined (Note.Joined p) = true
 is_joined note = false
-
--- which verb a verb is
-abbrev pub is_min : Verb → Bool
-is_min (Verb.Min p) = true
-is_min verb = false
 
 abbrev pub is_head : Verb → Bool
 is_head (Verb.Head q) = true
@@ -67,8 +63,8 @@ pub none_learnt : (c : Config) (r : ℕ) (mine : List Event) (verb : Verb) (answ
 none_learnt c r mine verb answer note out none i v = (λ is. absurd (differs_by_test is_learnt note (Note.Learnt i v) out refl is), λ teaches. absurd (none i v teaches))
 
 -- what the verb rules out
-pub not_min : (r : ℕ) (mine : List Event) (verb : Verb) (answer : Answer) → is_min verb ≡ false → (p m : ℕ) → ShowsHigher r mine verb answer p m → ⊥
-not_min r mine verb answer out p m shows = differs_by_test is_min verb (Verb.Min p) out refl shows.asked
+pub not_min : (r : ℕ) (mine : List Event) (verb : Verb) (answer : Answer) → is_min_verb verb ≡ false → (p m : ℕ) → ShowsHigher r mine verb answer p m → ⊥
+not_min r mine verb answer out p m shows = differs_by_test is_min_verb verb (Verb.Min p) out refl shows.asked
 
 pub not_head : (c : Config) (r : ℕ) (mine : List Event) (verb : Verb) (answer : Answer) → is_head verb ≡ false → (q h i : ℕ) → ShowsNoRoom c r mine verb answer q h i → ⊥
 not_head c r mine verb answer out q h i shows = differs_by_test is_head verb (Verb.Head q) out refl shows.asked
@@ -85,7 +81,7 @@ not_join c r mine up place answer out p ends = not_last ends.last
 
 -- a note of none of these kinds, if none of the rows holds
 pub says_none : (c : Config) (r : ℕ) (mine : List Event) (up : List ℕ) (place : Place) (verb : Verb) (answer : Answer) (note : Note) → is_higher note ≡ false → is_no_room note ≡ false → is_joined note ≡ false → is_learnt note ≡ false
-    → is_min verb ≡ false → is_head verb ≡ false → is_look verb ≡ false → may_join place ≡ false → SaysReads c r mine up place verb answer note
+    → is_min_verb verb ≡ false → is_head verb ≡ false → is_look verb ≡ false → may_join place ≡ false → SaysReads c r mine up place verb answer note
 says_none c r mine up place verb answer note h n j l min head look join = record {
   higher = none_higher r mine verb answer note h (not_min r mine verb answer min);
   no_room = none_room c r mine verb answer note n (not_head c r mine verb answer head);
@@ -94,7 +90,7 @@ says_none c r mine up place verb answer note h n j l min head look join = record
 }
 
 -- the same for `Working`
-pub says_working : (c : Config) (r : ℕ) (mine : List Event) (up : List ℕ) (place : Place) (verb : Verb) (answer : Answer) (note : Note) → note ≡ Note.Working → is_min verb ≡ false → is_head verb ≡ false → is_look verb ≡ false → may_join place ≡ false → SaysReads c r mine up place verb answer note
+pub says_working : (c : Config) (r : ℕ) (mine : List Event) (up : List ℕ) (place : Place) (verb : Verb) (answer : Answer) (note : Note) → note ≡ Note.Working → is_min_verb verb ≡ false → is_head verb ≡ false → is_look verb ≡ false → may_join place ≡ false → SaysReads c r mine up place verb answer note
 says_working c r mine up place verb answer note is min head look join = says_none c r mine up place verb answer note (ap is_higher is) (ap is_no_room is) (ap is_joined is) (ap is_learnt is) min head look join
 
 -- the note of a round, or none yet, is of no kind that these aren't of

@@ -18,33 +18,16 @@ use Rattle.mu_agree.proofs.Landings.{has_since}
 use Rattle.mu_lead.specs.Confirming.{AtEnterMin, AtPutMin, AtReadMin, HasGrant, HoldsGrants, Numbered, Telling, greatest_min}
 use Rattle.mu_lead.specs.Leading.{AtReadFuo, HasPutNone, Leads}
 use Rattle.mu_knowledge.specs.Offers.{IsFirst}
+use Rattle.mu_lead.proofs.Copying.{seen_noted}
+use Rattle.mu_lead.proofs.Allowing.{allowed_put}
 
 granted : (t : Bool) (x g : ℕ) → cond t (Some x) None ≡ Some g → (x == g) ≡ true
 granted true x g is = eq-eqb x g (same_some x g is)
 granted false x g is = absurd (none_some g is)
 
-fence_shows : (r p g by q : ℕ) (f : Fence) (past : List Event) (s t : Bool) → (by == r) ≡ s → (q == p) ≡ t
-    → (grant_for r (newest (λ e. fence_seen r p e.by e.verb e.answer) past) ≡ Some g → has (λ e. grant_seen r p g e.by e.verb e.answer) past ≡ true)
-    → grant_for r (newer_or (cond ((by == r) && (q == p)) (Some f) None) (newest (λ e. fence_seen r p e.by e.verb e.answer) past)) ≡ Some g
-    → cond ((by == r) && ((q == p) && (f.grant == g))) true (has (λ e. grant_seen r p g e.by e.verb e.answer) past) ≡ true
-fence_shows r p g by q f past true true hs ht ih = rw (hs, ht) (λ is. rw (granted (not f.closing && owner_is r f.owner) f.grant g is) refl)
-fence_shows r p g by q f past true false hs ht ih = rw (hs, ht) ih
-fence_shows r p g by q f past false t hs ht ih = rw hs ih
-
-event_shows : (r p g by : ℕ) (v : Verb) (a : Answer) (past : List Event)
-    → (grant_for r (newest (λ e. fence_seen r p e.by e.verb e.answer) past) ≡ Some g → has (λ e. grant_seen r p g e.by e.verb e.answer) past ≡ true)
-    → grant_for r (newer_or (fence_seen r p by v a) (newest (λ e. fence_seen r p e.by e.verb e.answer) past)) ≡ Some g
-    → cond (grant_seen r p g by v a) true (has (λ e. grant_seen r p g e.by e.verb e.answer) past) ≡ true
-event_shows r p g by (Verb.Fence q) (Answer.Seen f) past ih = fence_shows r p g by q f past (by == r) (q == p) refl refl ih
-event_shows r p g by v a past ih = ih
-
-shown_in : (r p g : ℕ) (past : List Event) → grant_for r (newest (λ e. fence_seen r p e.by e.verb e.answer) past) ≡ Some g → has (λ e. grant_seen r p g e.by e.verb e.answer) past ≡ true
-shown_in r p g [] is = absurd (none_some g is)
-shown_in r p g (e ∷ past) is = event_shows r p g e.by e.verb e.answer past (shown_in r p g past) is
-
 -- a noted grant was seen
 noted_shown : (r p g : ℕ) (mine : List Event) → noted_grant r p mine ≡ Some g → has (λ e. grant_seen r p g e.by e.verb e.answer) mine ≡ true
-noted_shown r p g mine is = has_since (λ e. grant_seen r p g e.by e.verb e.answer) (begins_leadership r) mine (shown_in r p g (leadership r mine) is)
+noted_shown r p g mine is = has_since (λ e. grant_seen r p g e.by e.verb e.answer) (begins_leadership r) mine (seen_noted r p g (leadership r mine) is)
 
 told_now : (r p m : ℕ) (mine : List Event) (o : Option ℕ) → ((g : ℕ) → o ≡ Some g → has (λ e. grant_seen r p g e.by e.verb e.answer) mine ≡ true) → is_some o ≡ true
     → min_read_since r p (event_by r (Verb.Min p) (Answer.Number m) ∷ mine) o ≡ true
@@ -160,10 +143,6 @@ first_put r b mine (Some x) allowed = ap Some (sym allowed)
 
 pub number_now : (c : Config) (r b p : ℕ) (mine : List Event) → Numbered c r b mine → proposal_number r (landed_min r p b ∷ mine) ≡ Some b
 number_now c r b p mine n = rw (same_number r) (first_put r b mine (proposal_number r mine) n.allowed)
-
-allowed_put : (r b : ℕ) (mine : List Event) (o : Option ℕ) → o ≡ Some b → number_allowed r mine b o
-allowed_put r b mine None is = absurd (none_some b is)
-allowed_put r b mine (Some x) is = sym (same_some x b is)
 
 numbered_on : (c : Config) (r b p : ℕ) (mine : List Event) → Numbered c r b mine → Numbered c r b (landed_min r p b ∷ mine)
 numbered_on c r b p mine n = record {

@@ -35,7 +35,7 @@ use Rattle.mu_lead.specs.Stepping.{is_calm}
 use Rattle.mu_lead.proofs.Keeping.{leading_calm, leads_kept, source_calm, most_on}
 use Rattle.mu_lead.proofs.Looks.{head_event}
 use Rattle.mu_lead.proofs.Sights.{keeps_looks, shows_kept}
-use Rattle.mu_lead.proofs.Tables.{is_write, tables_kept}
+use Rattle.mu_lead.proofs.Tables.{tables_kept}
 
 -- a mark that may be offered still may
 not_all : (n : ℕ) (f g : ℕ → Bool) → ((q : ℕ) → g q ≡ true → f q ≡ true) → not (all_below n f) ≡ true → not (all_below n g) ≡ true
@@ -228,7 +228,7 @@ begins_none : (leading : Bool) (r : ℕ) (verb : Verb) (answer : Answer) → is_
 begins_none leading r (Verb.Ask q) answer beside = absurd (true≢false (sym beside))
 begins_none leading r verb answer beside = refl
 
-writes_none : (leading : Bool) (verb : Verb) → leading ≡ false → is_beside leading verb ≡ true → is_write verb ≡ false
+writes_none : (leading : Bool) (verb : Verb) → leading ≡ false → is_beside leading verb ≡ true → writes_row verb ≡ false
 writes_none leading (Verb.WriteRow j k x) unled beside = absurd (true≢false (sym beside ∙ unled))
 writes_none leading verb unled beside = refl
 

@@ -30,6 +30,7 @@ use Rattle.mu_lead.proofs.Bringing.{enter_event, looked_then, put_event}
 use Rattle.mu_lead.proofs.Copying.{read_less}
 use Rattle.mu_lead.proofs.Keeping.{leads_kept, raise_event, raised_other}
 use Rattle.mu_lead.proofs.Tables.{brought_kept, caught_up_with}
+use Rattle.mu_lead.proofs.Looks.{four, either_way, earlier_none}
 
 held_same : (c : Config) (r : ℕ) (e : Event) (mine : List Event) → HoldsGrants c r mine → ((q : ℕ) → HasGrant r q mine → HasGrant r q (e ∷ mine)) → ((q : ℕ) → is_member r q (e ∷ mine) ≡ true → is_member r q mine ≡ true) → HoldsGrants c r (e ∷ mine)
 held_same c r e mine held on was q region member = on q (held q region (was q member))
@@ -115,15 +116,8 @@ pub known_same : (c : Config) (r p q i b v : ℕ) (mine : List Event) → q < c.
 known_same c r p q i b v mine region member other none =
     none_learnt (known c r mine) v (r == r) (i == length (known c r mine)) (is_accepted_by_all c r (put_event r p i b v ∷ mine) i b v) (not_accepted c r p q i b v mine region member other none)
 
-and_four : (a b d e : Bool) → a ≡ true → b ≡ true → d ≡ true → e ≡ true → (a && (b && (d && e))) ≡ true
-and_four a b d e h k l m = rw (h, k, l, m) refl
-
 is_number_at : (o : Option ℕ) (b : ℕ) → o ≡ Some b → is_number o b ≡ true
 is_number_at o b is = rw is (same_number b)
-
-either_way : (m t : Bool) → (m ≡ true → t ≡ true) → (not m || t) ≡ true
-either_way true t h = h refl
-either_way false t h = refl
 
 -- the last put makes the entry known
 pub known_more : (c : Config) (r b v p : ℕ) (mine : List Event) (up : List ℕ) (reach : List (Option ℕ)) → Offering c r b v mine up reach p
@@ -132,14 +126,9 @@ pub known_more : (c : Config) (r b v p : ℕ) (mine : List Event) (up : List ℕ
 known_more c r b v p mine up reach o all =
     let i = end_of c r mine in
     one_learnt (known c r mine) v (r == r) (i == length (known c r mine)) (is_accepted_by_all c r (put_event r p i b v ∷ mine) i b v) (same_number r) (same_number i)
-    (and_four (not (is_over r mine)) (is_number (proposal_number r mine) b) (has_quorum c r mine) (all_below c.replicas (λ q. not (is_member r q mine) || took r q i b v (put_event r p i b v ∷ mine)))
+    (four (not (is_over r mine)) (is_number (proposal_number r mine) b) (has_quorum c r mine) (all_below c.replicas (λ q. not (is_member r q mine) || took r q i b v (put_event r p i b v ∷ mine)))
     (ap not o.goes_on) (is_number_at (proposal_number r mine) b o.numbered) o.carried
     (each_all c.replicas (λ q. not (is_member r q mine) || took r q i b v (put_event r p i b v ∷ mine)) (λ q region. either_way (is_member r q mine) (took r q i b v (put_event r p i b v ∷ mine)) (all q region))))
-
-earlier_none : (o x : Option ℕ) → earlier_or o x ≡ None → x ≡ None
-earlier_none None x is = is
-earlier_none (Some y) None is = absurd (none_some y (sym is))
-earlier_none (Some y) (Some z) is = absurd (none_some z (sym is))
 
 -- without a put no region joined since the first one
 none_joined : (r i : ℕ) (mine : List Event) → first_value r i mine ≡ None → joined_since_first_put r i mine ≡ false

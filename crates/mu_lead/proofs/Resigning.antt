@@ -41,12 +41,9 @@ use Rattle.mu_lead.proofs.Raises.{raised_anywhere, raises_come_in_time}
 use Rattle.mu_lead.proofs.RoomsBeside.{others_keep_rooms}
 use Rattle.mu_lead.proofs.RoomsInTime.{rooms_are_in_time}
 use Rattle.mu_lead.proofs.RoomsQuiet.{silent_verbs_are_silent, config_is_sized}
+use Rattle.mu_pace.proofs.Pasts.{and_false}
 
 -- a beat opens no count
-and_false : (t : Bool) → (t && false) ≡ false
-and_false true = refl
-and_false false = refl
-
 beat_opens_none : (c : Config) (r : ℕ) (answer : Answer) (mine : List Event) → OpensNone c r mine (beat_of r answer)
 beat_opens_none c r answer mine =
     let quiet = silent_verbs_are_silent c r mine r Verb.Beat answer refl in
@@ -67,7 +64,7 @@ away_closed : (c : Config) (r : ℕ) (answer : Answer) (mine : List Event) → A
 away_closed c r answer mine closed = away_is_in_time.fresh_is_away c r (beat_of r answer ∷ mine) (fresh_closed c r answer mine closed)
 
 -- r is left unnamed by the beat
-left_unnamed : (turn named was : Bool) → turn ≡ true → named ≡ false → (if turn && not named then true else was) ≡ true
+pub left_unnamed : (turn named was : Bool) → turn ≡ true → named ≡ false → (if turn && not named then true else was) ≡ true
 left_unnamed turn named was on off = rw (on, off) refl
 
 out_closed : (c : Config) (r : ℕ) (answer : Answer) (mine : List Event) → was_unnamed c r (beat_of r answer ∷ mine) ≡ true → AreClosed c r (beat_of r answer ∷ mine) → IsOut c r (beat_of r answer ∷ mine)

@@ -20,6 +20,7 @@ use Rattle.mu_lead.specs.declared.place.Place.{Place}
 use Rattle.mu_lead.specs.Rooms.{IsOut, IsPlaced, sizes_of}
 use Rattle.mu_lead.proofs.RoomsMin.{min_now, over_unled, second}
 use Rattle.mu_lead.proofs.RoomsQuiet.{later_min_silent, silent_verbs_are_silent, config_is_sized, steps_on}
+use Rattle.mu_lead.proofs.Joins.{above_number}
 
 asks_entering : (s : Sizes) (p k : ℕ) → AsksOn s k (Stage.LateEnter p) (Stage.LatePut p)
 asks_entering s p k = elim (cases_lt p k) [ inl low ↦ near_enter p low | inr high ↦ far (Stage.LateEnter p) (Stage.LatePut p) (late_enter p) (le-leb k p high) (le-leb k p high) ]
@@ -44,9 +45,6 @@ rooms_late_min c r p a mine written is turn region begun at = record {
   placed = steps_on c r (Stage.LateMin p) (Stage.LateFuo p) mine (event_by r (Verb.Min p) a) is turn (later_min_silent c r p a mine (second (has_begun r mine) (has is_min (leadership r mine)) at.read)) at.placed (late_min p) (at_late_fuo p region)
       (λ k low stranger. inl (asks_reading (sizes_of c r mine) p k)) (λ level. inl refl);
 }
-
-above_number : (b x : ℕ) (over : Bool) → b < x → (nat_lt b x || over) ≡ true
-above_number b x over more = rw (lt-ltb b x more) refl
 
 -- or ends the leadership
 pub rooms_higher : (c : Config) (r p b x : ℕ) (mine : List Event) (written : List ℕ) → IsConfig c → is_replication mine (event_by r (Verb.Min p) (Answer.Number x)) ≡ true → proposal_number r mine ≡ Some b → b < x → IsPlaced c r mine written (Place.LateMin p)

@@ -20,7 +20,7 @@ use Rattle.mu_pace.specs.Members.{IsNextMember, members_below, members_from}
 use Rattle.mu_pace.specs.Watches.{is_brought_up}
 use Rattle.mu_pace.specs.Weights.{Bringing, From, GoesOn, Lag, Stage, asks, at_position, beyond, last_position, learnt_here, next_position}
 use Rattle.mu_pace.proofs.Beside.{not_more}
-use Rattle.mu_pace.proofs.Members.{counts_of_members}
+use Rattle.mu_pace.proofs.Members.{counts_of_members, none_counted}
 use Rattle.mu_pace.proofs.Placed.{places_lead}
 use Rattle.mu_pace.proofs.Weights.{weights_fall}
 use Rattle.mu_lead.specs.declared.place.Place.{Place}
@@ -93,10 +93,6 @@ rooms_next_position c r p q u mine written is turn next region member at step fi
       placed = steps_on c r (Stage.Bring (Lag.Position below) Bringing.Raise) (Stage.Bring (Lag.Position (below + 1)) step) mine e is turn (silent_verbs_are_silent c r mine r (Verb.RaiseFuo p u) Answer.Done refl) at.placed edge (at_position (below + 1) step (omega (arith, one, some, all)))
           (λ k low stranger. inl (far (Stage.Bring (Lag.Position below) Bringing.Raise) (Stage.Bring (Lag.Position (below + 1)) step) edge refl refl)) (λ level. absurd (true≢false (sym level)));
     })
-
-none_counted : (n : ℕ) (test : ℕ → Bool) → ((k : ℕ) → k < n → test k ≡ false) → count_below n test ≡ 0
-none_counted zero test none = refl
-none_counted (suc n) test none = rw (none n (omega arith)) (none_counted n test (λ k low. none k (omega (arith, low))))
 
 -- no member lies beyond all regions
 none_beyond : (c : Config) (r : ℕ) (mine : List Event) → members_from c r c.replicas mine ≡ 0

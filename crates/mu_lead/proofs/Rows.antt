@@ -3,7 +3,7 @@ use Rattle.mu_agree.proofs.Landings.{greatest_since}
 use Rattle.mu_agree.proofs.Possible.{parts_find_law}
 use Rattle.mu_agree.proofs.Readings.{number_is, parts_count_law}
 use Rattle.mu_lead.proofs.Bringing.{look_event, look_known}
-use Rattle.mu_lead.proofs.NoteKinds.{AreApart, differs_by_test, enter_loses, evidence_loses, is_head, is_higher, is_joined, is_learnt, is_look, is_min, is_no_room, lost_apart, may_join, none_higher, none_joined, none_learnt, none_room, not_head, not_join, not_look, not_min, past_loses, put_apart, round_apart, says_none, says_working}
+use Rattle.mu_lead.proofs.NoteKinds.{AreApart, differs_by_test, enter_loses, evidence_loses, is_head, is_higher, is_joined, is_learnt, is_look, is_no_room, lost_apart, may_join, none_higher, none_joined, none_learnt, none_room, not_head, not_join, not_look, not_min, past_loses, put_apart, round_apart, says_none, says_working}
 use Rattle.mu_lead.proofs.Replies.{puts_min_or, tells_head, tells_min}
 use Rattle.mu_model.specs.Diligence.{is_confirmed}
 use Rattle.mu_lead.proofs.Sights.{empty_is}
@@ -30,7 +30,7 @@ use Rattle.mu_model.specs.Picks.{is_past}
 use Rattle.mu_model.specs.Placing.{is_caught_up_at, is_known_put}
 use Rattle.mu_model.specs.Room.{reserve}
 use Rattle.mu_model.specs.Scores.{is_failed}
-use Rattle.mu_model.specs.Steps.{knows_more}
+use Rattle.mu_model.specs.Steps.{knows_more, is_min_verb}
 use Rattle.mu_model.specs.declared.config.Config.{Config}
 use Rattle.mu_model.specs.declared.event.Answer.{Answer}
 use Rattle.mu_model.specs.declared.event.Event.{Event}
@@ -42,6 +42,7 @@ use Rattle.std.proofs.lemmas.Option.{slice_get_past}
 use Rattle.std.specs.List.{slice_get}
 use Rattle.std.specs.Prelude.{if◌then◌else◌, nat_lt, not, ◌⊎◌}
 use Rattle.std.specs.declared.option.Option.{Option}
+use Rattle.mu_lead.specs.Stepping.{is_done}
 
 -- a minimum that is read is small
 pub min_small : (c : Config) (r p x : ℕ) (mine : List Event) → IsConfig c → IsPossible c r (event_by r (Verb.Min p) (Answer.Number x) ∷ mine) → x < 4294967296
@@ -171,10 +172,6 @@ says_raised c r q u mine up answer note late is = record {
     go : (p : ℕ) → IsLastStep c r mine up (Place.RaiseBehind q Then.Joined) answer p → q ≡ p
     go p (inl raised) = same_raise q p Then.Joined Then.Joined raised
     go p (inr put) = absurd (differs_by_test is_put (Place.RaiseBehind q Then.Joined) (Place.LatePut p) refl refl put.0)
-
-abbrev is_done : Answer → Bool
-is_done Answer.Done = true
-is_done answer = false
 
 -- the put that makes a late follower a member
 says_put : (c : Config) (r q b : ℕ) (mine : List Event) (up : List ℕ) (answer : Answer) (note : Note) → came_late r q mine ≡ true → ((answer ≡ Answer.Done) ⊎ (answer ≡ Answer.Missed)) → (t : Bool) → nat_lt (get_or up q 0) (end_of c r mine) ≡ t → (answer ≡ Answer.Done → note ≡ note_of_join q t) × (answer ≡ Answer.Missed → note ≡ Note.Working) → SaysReads c r mine up (Place.LatePut q) (Verb.PutMin q b) answer note
@@ -347,7 +344,7 @@ looking c r p i mine up place values answer note join here told is = go (learnt_
         shown false false out high is = absurd (true≢false (sym high))
 
 -- notes that are of none of these kinds
-apart_says : (c : Config) (r : ℕ) (mine : List Event) (up : List ℕ) (place : Place) (verb : Verb) (answer : Answer) (note : Note) → AreApart note → is_min verb ≡ false → is_head verb ≡ false → is_look verb ≡ false → may_join place ≡ false → SaysReads c r mine up place verb answer note
+apart_says : (c : Config) (r : ℕ) (mine : List Event) (up : List ℕ) (place : Place) (verb : Verb) (answer : Answer) (note : Note) → AreApart note → is_min_verb verb ≡ false → is_head verb ≡ false → is_look verb ≡ false → may_join place ≡ false → SaysReads c r mine up place verb answer note
 apart_says c r mine up place verb answer note a min head look join = says_none c r mine up place verb answer note a.0 a.1 a.2 a.3 min head look join
 
 -- the notes of what was read, and of steps for late followers, come exactly if their rows hold

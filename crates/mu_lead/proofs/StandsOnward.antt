@@ -7,9 +7,9 @@ use Rattle.mu_lead.proofs.Looks.{enters_new, may_adopt, may_mark_it, may_offer_o
 use Rattle.mu_lead.proofs.NextRows.{offered_none, offered_row}
 use Rattle.mu_lead.proofs.Offers.{own_batch, written_to, wrote_all}
 use Rattle.mu_lead.proofs.Rests.{no_end, rests, some_next}
-use Rattle.mu_lead.proofs.Rooms.{looks_first, not_so, reads_head, roomy_first}
+use Rattle.mu_lead.proofs.Rooms.{looks_first, reads_head, roomy_first}
 use Rattle.mu_lead.proofs.Sights.{looks_empty, looks_shown}
-use Rattle.mu_lead.proofs.Tables.{is_write, tables_kept}
+use Rattle.mu_lead.proofs.Tables.{tables_kept}
 use Rattle.mu_lead.specs.Leading.{AtWiden, HasPutNone, HaveAtMost, HaveFew, HoldsTables, IsClear, IsDone, IsMember, Leads, Level, RaisedBelow, end_of}
 use Rattle.mu_lead.specs.Listing.{Tables, after_members, behind_from, bring_up, bring_up_from, first_member, heads_from, late_from, learn_from, low_from, member_from, next_position, offer_row, or_else, or_own, own_offer, pick, stranger_from, write_from}
 use Rattle.mu_lead.specs.Offering.{Looking, LooksShow, MayOffer, Roomy, Writing}
@@ -31,6 +31,8 @@ use Rattle.std.proofs.Common.{Bool, List, None, Some, ap, arith, false, get_or, 
 use Rattle.std.proofs.lemmas.Bool.{and_parts, ltb-false, ltb-true}
 use Rattle.std.specs.Prelude.{if◌then◌else◌, nat_le, nat_lt, not}
 use Rattle.std.specs.declared.option.Option.{Option}
+use Rattle.mu_pace.proofs.Pasts.{not_true}
+use Rattle.mu_lead.specs.Beside.{writes_row}
 
 -- what a leader has after its events, with these tables
 pub record Ready (c : Config) (r : ℕ) (now : List Event) (t : Tables) : Type 0 where
@@ -58,7 +60,7 @@ pub ready : (c : Config) (r : ℕ) (mine now : List Event) (old t : Tables) → 
 ready c r mine now old t s possible h = record { is = s.is; inside = s.inside; possible = possible; tables = h }
 
 -- a step that writes no table
-pub keeps : (c : Config) (r : ℕ) (e : Event) (mine : List Event) (t : Tables) → Stand c r mine t → IsPossible c r (e ∷ mine) → begins_leadership r e ≡ false → is_write e.verb ≡ false → HoldsTables c r (e ∷ mine) t.up t.reach t.heads t.written
+pub keeps : (c : Config) (r : ℕ) (e : Event) (mine : List Event) (t : Tables) → Stand c r mine t → IsPossible c r (e ∷ mine) → begins_leadership r e ≡ false → writes_row e.verb ≡ false → HoldsTables c r (e ∷ mine) t.up t.reach t.heads t.written
 keeps c r e mine t s possible goes_on none = tables_kept c r e mine t.up t.reach t.heads t.written possible goes_on none s.tables
 
 -- r is a member in its leadership
@@ -90,7 +92,7 @@ pub position_stands : (c : Config) (r b : ℕ) (now : List Event) (t : Tables) �
 position_stands c r b now t x level = go (holds_all c (known c r now)) refl
   where
     stranger : holds_all c (known c r now) ≡ true → (o : Option ℕ) → IsFirst (λ k. not (is_member r k now)) 0 c.replicas o → StandsAt c r b now t (or_else o Place.LateFence Place.Rest)
-    stranger all (Some q) first = record { region = first.1; stranger = not_so _ first.2; level = level }
+    stranger all (Some q) first = record { region = first.1; stranger = not_true _ first.2; level = level }
     stranger all None none = (rests c r now all none, level)
 
     within : holds_all c (known c r now) ≡ false → (y : Bool) → nat_lt (end_of c r now) (row_count c + reserve c) ≡ y → StandsAt c r b now t (if y then heads_from c r now t.heads 0 None else Place.Rest)
@@ -106,7 +108,7 @@ pub late_stands : (c : Config) (r b p : ℕ) (now : List Event) (t : Tables) →
 late_stands c r b p now t x level = go (stranger_from c r now p) (first_in_is (λ k. not (is_member r k now)) p c.replicas)
   where
     go : (o : Option ℕ) → IsFirst (λ k. not (is_member r k now)) p c.replicas o → StandsAt c r b now t (or_else o Place.LateFence (next_position c r now t.heads))
-    go (Some q) first = record { region = first.1; stranger = not_so _ first.2; level = level }
+    go (Some q) first = record { region = first.1; stranger = not_true _ first.2; level = level }
     go None none = position_stands c r b now t x level
 
 -- a region is brought up

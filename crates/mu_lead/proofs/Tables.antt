@@ -20,6 +20,7 @@ use Rattle.mu_model.proofs.Lists.{get_push_other}
 use Rattle.mu_agree.proofs.Landings.{has_implied, has_more}
 use Rattle.mu_agree.proofs.Readings.{parts_climb_law}
 use Rattle.mu_lead.specs.Leading.{Brought, HoldsTables, IsReached}
+use Rattle.mu_lead.specs.Beside.{writes_row}
 
 -- what is known at a position stays
 pub value_stays : (values : List ℕ) (o : Option ℕ) (j v : ℕ) → is_value (slice_get values j) v ≡ true → is_value (slice_get (grown values o) j) v ≡ true
@@ -89,17 +90,12 @@ head_kept c r q e mine possible = go e.verb e.answer refl refl
         by_test false t same = omega arith
     go verb answer v a = omega arith
 
--- the verb writes a word of a row
-abbrev pub is_write : Verb → Bool
-is_write (Verb.WriteRow j k x) = true
-is_write _ = false
-
-words_kept : (r j k by : ℕ) (verb : Verb) (answer : Answer) (mine : List Event) → is_write verb ≡ false → wrote r j k (event_by by verb answer ∷ mine) ≡ wrote r j k mine
+words_kept : (r j k by : ℕ) (verb : Verb) (answer : Answer) (mine : List Event) → writes_row verb ≡ false → wrote r j k (event_by by verb answer ∷ mine) ≡ wrote r j k mine
 words_kept r j k by (Verb.WriteRow i w x) answer mine none = absurd (true≢false none)
 words_kept r j k by verb answer mine none = refl
 
 -- an event that begins no leadership and writes no row keeps the tables
-pub tables_kept : (c : Config) (r : ℕ) (e : Event) (mine : List Event) (up : List ℕ) (reach : List (Option ℕ)) (heads written : List ℕ) → IsPossible c r (e ∷ mine) → begins_leadership r e ≡ false → is_write e.verb ≡ false
+pub tables_kept : (c : Config) (r : ℕ) (e : Event) (mine : List Event) (up : List ℕ) (reach : List (Option ℕ)) (heads written : List ℕ) → IsPossible c r (e ∷ mine) → begins_leadership r e ≡ false → writes_row e.verb ≡ false
     → HoldsTables c r mine up reach heads written → HoldsTables c r (e ∷ mine) up reach heads written
 tables_kept c r e mine up reach heads written possible goes_on none t = record {
   ups = t.ups;

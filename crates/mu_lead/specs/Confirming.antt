@@ -5,16 +5,13 @@ use Rattle.mu_model.specs.declared.config.Config.{Config}
 use Rattle.mu_model.specs.declared.event.Event.{Event}
 use Rattle.mu_model.specs.declared.event.Target.{Target}
 use Rattle.mu_model.specs.Allowed.{last_ask}
-use Rattle.mu_model.specs.Entering.{any_min_read, has_read_min, min_read, number_allowed, open_target}
-use Rattle.mu_model.specs.Histories.{count_below, greatest, newest, or_zero}
+use Rattle.mu_model.specs.Entering.{any_min_read, has_read_min, number_allowed, open_target}
+use Rattle.mu_model.specs.Histories.{count_below, greatest, newest}
 use Rattle.mu_model.specs.Leaderships.{grant_at_joining, has_begun, is_member, is_over, leadership, majority_of, noted_grant, proposal_number}
 use Rattle.mu_model.specs.Picks.{first_value}
 use Rattle.mu_model.specs.Steps.{is_missed_at}
 use Rattle.mu_agree.specs.Possible.{entered_under}
-
--- the minimum of p that r read last, else 0
-abbrev pub last_min : ℕ → ℕ → List Event → ℕ
-last_min r p mine = or_zero (newest (λ e. min_read r p e.by e.verb e.answer) mine)
+use Rattle.mu_pace.specs.Watches.{last_min}
 
 -- the greatest minimum that r read in its leadership
 abbrev pub greatest_min : ℕ → List Event → ℕ

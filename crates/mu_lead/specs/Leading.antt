@@ -18,7 +18,8 @@ use Rattle.mu_model.specs.Placing.{fuo_read_or_raised, is_caught_up_at, is_withi
 use Rattle.mu_model.specs.Room.{last_head, reserve}
 use Rattle.mu_agree.specs.Agreement.{fuo_under, put_end}
 use Rattle.mu_lead.specs.declared.place.Then.{Then}
-use Rattle.mu_lead.specs.Confirming.{HoldsGrants, IsEnteredNow, last_min}
+use Rattle.mu_lead.specs.Confirming.{HoldsGrants, IsEnteredNow}
+use Rattle.mu_pace.specs.Watches.{last_min}
 
 -- the greatest number of replicas: each table of regions has as many places
 abbrev pub most_replicas : ℕ

@@ -38,6 +38,8 @@ use Rattle.mu_node.specs.Cycle.{other_at, place_now}
 use Rattle.mu_node.specs.Due.{or_ahead, verb_or_beat}
 use Rattle.mu_node.specs.Journal.{WasMade}
 use Rattle.mu_node.proofs.Rounding.{FailsBackground, background_fails}
+use Rattle.mu_pace.specs.Watches.{puts_number}
+use Rattle.mu_pace.proofs.Pasts.{min_on, min_now}
 
 -- such a verb is one of the leader, in a turn of its own
 record OfLead (c : Config) (r : ℕ) (mine : List Event) (e : Event) (held : WasMade c r mine e) : Type 0 where
@@ -150,13 +152,6 @@ begun_asked c r (e ∷ mine) made some = go (is_asking 0 e) refl some (begun_ask
     go : (t : Bool) → is_asking 0 e ≡ t → cond t true (has (is_asking 0) mine) ≡ true → (has (is_asking 0) mine ≡ true → has_begun r mine ≡ true) → has_begun r (e ∷ mine) ≡ true
     go true is some ih = ap (λ t. cond t true (has_begun r mine)) (begins e.by e.verb made.1.own is)
     go false is some ih = has_more (begins_leadership r) e mine (ih some)
-
-min_now : (r : ℕ) (e : Event) (mine : List Event) → is_min e ≡ true → has_begun r mine ≡ true → has_min r (e ∷ mine) ≡ true
-min_now r e mine is begun = go e.by e.verb e.answer is
-  where
-    go : (by : ℕ) (verb : Verb) (answer : Answer) → is_min_verb verb ≡ true → has_min r (record { by = by; verb = verb; answer = answer } ∷ mine) ≡ true
-    go by (Verb.Min q) answer is = and_from (has_begun r mine) true begun refl
-    go by verb answer is = absurd (true≢false (sym is))
 
 -- the places before the first minimum: those below were asked, then all
 abbrev Opens : Config → List Event → Place → Type 0
@@ -356,20 +351,17 @@ after_min c r d q mine e is needs near two = go (noted_from c r (e ∷ mine) (q 
     go (Some p) first = let l = first.0 in (first.1, omega (arith, near, l))
     go None none = first_noted c r 0 q (e ∷ mine) (ToPut c d) Place.EnterMin Place.Rest (omega arith) noted.0 noted.1 (λ _ _ _. two)
 
-abbrev pub puts : ℕ → Event → Bool
-puts r e = is_some (number_put r e.by e.verb)
-
 -- who loses an entering is over
 lost_over : (r q : ℕ) (t : Target) (by : ℕ) (answer : Answer) (mine : List Event) → by ≡ r → is_lost answer ≡ true → is_over r (record { by = by; verb = Verb.Enter q t; answer = answer } ∷ mine) ≡ true
 lost_over r q t by (Answer.Lost f) mine own is = ap (λ t. t || is_over r mine) (eq-eqb by r own)
 lost_over r q t by answer mine own is = absurd (true≢false (sym is))
 
 -- each step of a replica that names itself takes one, unless it puts the number
-nearer_put : (c : Config) (r d : ℕ) (mine : List Event) (e : Event) (place : Place) → e.by ≡ r → ((verb : Verb) → placed c r mine place ≡ Some verb → e.verb ≡ verb) → Needs c r mine e.verb → is_over r (e ∷ mine) ≡ false → ToPut c (suc d) place → (puts r e ≡ true) ⊎ ToPut c d (follows c r mine e place)
+nearer_put : (c : Config) (r d : ℕ) (mine : List Event) (e : Event) (place : Place) → e.by ≡ r → ((verb : Verb) → placed c r mine place ≡ Some verb → e.verb ≡ verb) → Needs c r mine e.verb → is_over r (e ∷ mine) ≡ false → ToPut c (suc d) place → (puts_number r e ≡ true) ⊎ ToPut c d (follows c r mine e place)
 nearer_put c r d mine e (Place.ReadMin q) own verb needs on near = inr (let l = near.0 in let k = near.1 in after_min c r d q mine e (verb (Verb.Min q) refl) needs (omega (arith, k)) (omega (arith, k, l)))
 nearer_put c r d mine e (Place.EnterMin q) own verb needs on near = go (is_lost e.answer) refl
   where
-    go : (t : Bool) → is_lost e.answer ≡ t → (puts r e ≡ true) ⊎ ToPut c d (if t then Place.Ask 0 else Place.PutMin q)
+    go : (t : Bool) → is_lost e.answer ≡ t → (puts_number r e ≡ true) ⊎ ToPut c d (if t then Place.Ask 0 else Place.PutMin q)
     go true lost = absurd (true≢false (sym (subst (λ v. is_over r (record { by = e.by; verb = v; answer = e.answer } ∷ mine) ≡ true) (sym (verb (Verb.Enter q Target.Min) refl)) (lost_over r q Target.Min e.by e.answer mine own lost)) ∙ on))
     go false entered = inr (omega (arith, near))
 nearer_put c r d mine e (Place.PutMin q) own verb needs on near = inl (ap (λ v. is_some (number_put r e.by v)) (verb (Verb.PutMin q (number_due r mine)) refl) ∙ ap (λ t. is_some (if t then Some (number_due r mine) else None)) (eq-eqb e.by r own))
@@ -400,11 +392,6 @@ asks_no_more c r d mine e held near = go (begins_leadership r e) refl
         let turn = of_lead is_any_ask c r mine e held any_asks_fail (λ j k x. refl) refl (λ q. refl) (λ w. refl) ask in
         absurd (true≢false (sym (ap due_ask turn.verb ∙ ask) ∙ none (place_after c r mine) near))
 
-min_on : (r : ℕ) (e : Event) (mine : List Event) → begins_leadership r e ≡ false → has_min r mine ≡ true → has_min r (e ∷ mine) ≡ true
-min_on r e mine same is =
-    let both = and_parts (has_begun r mine) (has is_min (leadership r mine)) is in
-    and_from (has_begun r (e ∷ mine)) (has is_min (leadership r (e ∷ mine))) (has_more (begins_leadership r) e mine both.0) (ap (λ t. has is_min (cond t [] (e ∷ leadership r mine))) same ∙ has_more is_min e (leadership r mine) both.1)
-
 -- so it is on its way to put its number after its first minimum
 record OnWay (c : Config) (r : ℕ) (window older : List Event) : Type 0 where
   left : ℕ
@@ -413,7 +400,7 @@ record OnWay (c : Config) (r : ℕ) (window older : List Event) : Type 0 where
   min : has_min r (window ++ older) ≡ true
 
 to_put : (c : Config) (r : ℕ) (e : Event) (window older : List Event) → r < c.replicas → IsPossible c r (window ++ e ∷ older) → AtEachStep (WasMade c r) (window ++ e ∷ older) → is_min e ≡ true → AtEachMoment (λ now. has_min r now ≡ false) older → AtEachMoment (λ now. is_over r now ≡ false) (window ++ e ∷ older)
-    → AtEachMoment (λ now. has_min r now ≡ true → is_named c r now ≡ true) (window ++ e ∷ older) → (has (puts r) window ≡ true) ⊎ OnWay c r window (e ∷ older)
+    → AtEachMoment (λ now. has_min r now ≡ true → is_named c r now ≡ true) (window ++ e ∷ older) → (has (puts_number r) window ≡ true) ⊎ OnWay c r window (e ∷ older)
 to_put c r e [] older inside possible made min none on named = inr (record { left = c.replicas + 1; near = near; all = omega arith; min = there })
   where
     turn : OfLead c r older e made.1
@@ -435,7 +422,7 @@ to_put c r e [] older inside possible made min none on named = inr (record { lef
     near : ToPut c (c.replicas + 1) (place_after c r (e ∷ older))
     near = subst (ToPut c (c.replicas + 1)) (sym (place_on c r older e turn.odd turn.named)) (go (place_after c r older) turn.verb (ap due_min turn.verb ∙ min) (opens c r older inside made.0 none))
 to_put c r e (f ∷ window) older inside possible made min none on named = elim (to_put c r e window older inside came.before made.0 min none on.0 named.0) [
-  | inl some ↦ inl (has_more (puts r) f window some)
+  | inl some ↦ inl (has_more (puts_number r) f window some)
   | inr k ↦ step k k.left k.near k.all (is_odd (length mine)) refl
 ]
   where
@@ -451,7 +438,7 @@ to_put c r e (f ∷ window) older inside possible made min none on named = elim 
     never (Place.PutMin q) near = omega (arith, near)
     never place near = near
 
-    step : (k : OnWay c r window (e ∷ older)) (d : ℕ) → ToPut c d (place_after c r mine) → d + replications window (e ∷ older) ≡ c.replicas + 1 → (t : Bool) → is_odd (length mine) ≡ t → (has (puts r) (f ∷ window) ≡ true) ⊎ OnWay c r (f ∷ window) (e ∷ older)
+    step : (k : OnWay c r window (e ∷ older)) (d : ℕ) → ToPut c d (place_after c r mine) → d + replications window (e ∷ older) ≡ c.replicas + 1 → (t : Bool) → is_odd (length mine) ≡ t → (has (puts_number r) (f ∷ window) ≡ true) ⊎ OnWay c r (f ∷ window) (e ∷ older)
     step k d near all false even =
         inr (record {
           left = d;
@@ -463,7 +450,7 @@ to_put c r e (f ∷ window) older inside possible made min none on named = elim 
     step k (suc d) near all true odd =
         let itself = last_moment (λ now. has_min r now ≡ true → is_named c r now ≡ true) mine named.0 k.min in
         elim (nearer_put c r d mine f (place_after c r mine) made.1.own (λ verb is. made_verb c r mine f verb made.1 odd itself is) came.allowed.may on.1 near) [
-          | inl put ↦ inl (ap (λ t. cond t true (has (puts r) window)) put)
+          | inl put ↦ inl (ap (λ t. cond t true (has (puts_number r) window)) put)
           | inr on_way ↦ inr (record {
             left = d;
             near = subst (ToPut c d) (sym (place_on c r mine f odd itself)) on_way;
@@ -474,7 +461,7 @@ to_put c r e (f ∷ window) older inside possible made min none on named = elim 
 
 -- n + 2 replication events after its first minimum it has put a number, if it goes on naming itself and isn't over
 pub numbers_in_time : (c : Config) (r : ℕ) (e : Event) (window older : List Event) → r < c.replicas → IsPossible c r (window ++ e ∷ older) → AtEachStep (WasMade c r) (window ++ e ∷ older) → is_min e ≡ true → AtEachMoment (λ now. has_min r now ≡ false) older → AtEachMoment (λ now. is_over r now ≡ false) (window ++ e ∷ older)
-    → AtEachMoment (λ now. has_min r now ≡ true → is_named c r now ≡ true) (window ++ e ∷ older) → c.replicas + 2 ≤ replications window (e ∷ older) → has (puts r) window ≡ true
+    → AtEachMoment (λ now. has_min r now ≡ true → is_named c r now ≡ true) (window ++ e ∷ older) → c.replicas + 2 ≤ replications window (e ∷ older) → has (puts_number r) window ≡ true
 numbers_in_time c r e window older inside possible made min none on named long = elim (to_put c r e window older inside possible made min none on named) [
   | inl some ↦ some
   | inr k ↦ absurd (let all = k.all in omega (arith, all, long))

@@ -37,6 +37,9 @@ use Rattle.mu_lead.proofs.RoomsQuiet.{no_heads, quiet_milestone}
 use Rattle.mu_node.specs.declared.zeal.Zeal.{Zeal}
 use Rattle.mu_node.specs.Due.{CatchesUp, FitsLead, idle_due, lead_due, turn_due, verb_or_beat}
 use Rattle.mu_node.specs.Paced.{PacesAt}
+use Rattle.mu_pace.proofs.Pasts.{and_false}
+use Rattle.mu_pace.proofs.Closing.{unnamed_turns}
+use Rattle.mu_lead.proofs.Resigning.{left_unnamed}
 
 -- the verb looks, or reads a word of a row
 abbrev pub is_reading : Verb → Bool
@@ -143,10 +146,6 @@ record OpensFew (c : Config) (r : ℕ) (past : List Event) (e : Event) : Type 0 
   commits : commits_more c r past e ≡ false
   welcoming : (p : ℕ) → is_welcoming c r p past e ≡ false
 
-and_false : (t : Bool) → (t && false) ≡ false
-and_false true = refl
-and_false false = refl
-
 opens_few : (c : Config) (r : ℕ) (past : List Event) (verb : Verb) (answer : Answer) → is_reading verb ≡ true → OpensFew c r past (event_by r verb answer)
 opens_few c r past (Verb.Look p i) answer reads = record {
   milestone = quiet_milestone c r past (event_by r (Verb.Look p i) answer) refl (not_more (length (commits c r past))) (no_heads c r past);
@@ -163,18 +162,6 @@ opens_few c r past (Verb.ReadRow v k) answer reads = record {
   welcoming = λ p. refl;
 }
 opens_few c r past verb answer reads = absurd (true≢false (sym reads))
-
--- a replication event before which another is named turns away, whatever is waited for
-unnamed_turns : (c : Config) (r : ℕ) (met : List Event → Event → Bool) (past : List Event) (e : Event) → is_replication past e ≡ true → is_named c r past ≡ false → turns_away c r met past e ≡ true
-unnamed_turns c r met past e t n = both (is_replication past e) (is_named c r past) (met past e) t n
-  where
-    both : (t u v : Bool) → t ≡ true → u ≡ false → (t && (not u || v)) ≡ true
-    both true true v t n = absurd (true≢false n)
-    both true false v t n = refl
-    both false u v t n = absurd (true≢false (sym t))
-
-left_unnamed : (turn named was : Bool) → turn ≡ true → named ≡ false → (if turn && not named then true else was) ≡ true
-left_unnamed turn named was on off = rw (on, off) refl
 
 after_allows : (test : List Event → Event → Bool) (amount : List Event → ℕ) (past : List Event) (e : Event) (allowed : ℕ) → allowed_after test amount (e ∷ past) ≡ Some allowed → amount (e ∷ past) ≡ allowed
 after_allows test amount past e allowed is = go (test past e) is

@@ -33,6 +33,7 @@ use Rattle.mu_node.proofs.Open.{IsStill, under_caught}
 use Rattle.mu_node.proofs.Replaying.{IsAfter, IsAt, at_next, at_rest, last_whole, next_place}
 use Rattle.mu_lead.specs.Journal.{number_due, place_after, tables_at}
 use Rattle.mu_node.specs.Due.{listed_due}
+use Rattle.mu_pace.proofs.Pasts.{possible_before, Cut, cut}
 
 -- and what is applied stays if some known entry isn't
 same_all : (n : ℕ) (f g : ℕ → Bool) → ((k : ℕ) → k < n → f k ≡ g k) → all_below n f ≡ all_below n g
@@ -93,11 +94,6 @@ still_low c r past e still low =
     let same = still.same in
     let long = ap length more.1 ∙ length-append (known c r past) more.0 in
     omega (arith, low, same, long)
-
--- what is true of a journal is of each beginning
-possible_before : (c : Config) (r : ℕ) (newer older : List Event) → IsPossible c r (newer ++ older) → IsPossible c r older
-possible_before c r [] older possible = possible
-possible_before c r (e ∷ newer) older possible = possible_before c r newer older (parts_shorten_law c r (newer ++ older) e possible).before
 
 -- along a stretch in which no row is completed some known entry isn't applied
 low_on : (c : Config) (r : ℕ) (window older : List Event) → IsConfig c → IsPossible c r (window ++ older) → AtEachStep (WasMade c r) (window ++ older) → some_step (completes_row c r) window older ≡ false → length (applied c r older) < length (known c r older)
@@ -186,20 +182,6 @@ to_place b k m inside = elim (cases_lt k (m % b)) [
     low : m % b < b
     low = mod-lt m {m = b} (omega (arith, inside))
 
--- the oldest n events of a stretch
-record Oldest (n : ℕ) (window : List Event) : Type 0 where
-  newer : List Event
-  rest : List Event
-  is : window ≡ newer ++ rest
-  count : length rest ≡ n
-
-oldest_of : (n : ℕ) (window : List Event) → n ≤ length window → Oldest n window
-oldest_of n [] few = record { newer = []; rest = []; is = refl; count = omega (arith, few) }
-oldest_of n (e ∷ window) few = elim (cases_lt (length window) n) [
-  | inl more ↦ record { newer = []; rest = e ∷ window; is = refl; count = omega (arith, few, more) }
-  | inr less ↦ let k = oldest_of n window less in record { newer = e ∷ k.newer; rest = k.rest; is = ap (λ l. e ∷ l) k.is; count = k.count }
-]
-
 -- if no step of a stretch passes, none of its parts does
 none_of_both : (test : List Event → Event → Bool) (xs ys older : List Event) → some_step test (xs ++ ys) older ≡ false → (some_step test ys older ≡ false) × (some_step test xs (ys ++ older) ≡ false)
 none_of_both test [] ys older none = (none, refl)
@@ -216,14 +198,14 @@ rows_fetched c r past window older good possible made stretch long low = go (som
     way : ToPlace (cycle c) (4 * c.replicas + 37) (length older)
     way = to_place (cycle c) (4 * c.replicas + 37) (length older) (omega arith)
 
-    first : Oldest way.steps window
-    first = oldest_of way.steps window (let few = way.few in omega (arith, few, long))
+    first : Cut way.steps window
+    first = cut way.steps window (let few = way.few in omega (arith, few, long))
 
     base : List Event
     base = first.rest ++ older
 
-    second : Oldest (cycle c) first.newer
-    second = oldest_of (cycle c) first.newer (let few = way.few in let n = first.count in let sum = ap length first.is ∙ length-append first.newer first.rest in omega (arith, few, n, sum, long))
+    second : Cut (cycle c) first.newer
+    second = cut (cycle c) first.newer (let few = way.few in let n = first.count in let sum = ap length first.is ∙ length-append first.newer first.rest in omega (arith, few, n, sum, long))
 
     whole : past ≡ (stretch.newer ++ second.newer) ++ (second.rest ++ base)
     whole =

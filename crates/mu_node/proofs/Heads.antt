@@ -17,6 +17,7 @@ use Rattle.mu_model.specs.Room.{head_read, last_head}
 use Rattle.mu_agree.proofs.Within.{known_few}
 use Rattle.mu_knowledge.proofs.Fetched.{front_fits}
 use Rattle.mu_model.proofs.Parts.{part_is_possible}
+use Rattle.mu_lead.specs.Listing.{number_told}
 
 few_applied : (c : Config) (r : ℕ) (mine : List Event) → IsConfig c → IsPossible c r mine → length (applied c r mine) < 65536
 few_applied c r mine good possible = let few = known_few c r mine good possible in let fits = front_fits (λ v. has_entry c r v mine) (known c r mine) in omega (arith, few, fits)
@@ -35,16 +36,12 @@ region_heads_fit c q [] good legal = omega arith
 region_heads_fit c q (e ∷ past) good legal =
     raised_by c q e.by (region_head q past) (part e.by past) e.verb legal.1.allowed.may (few_applied c e.by (part e.by past) good (part_is_possible c e.by past legal.0)) (region_heads_fit c q past good legal.0)
 
-abbrev number_in : Answer → ℕ
-number_in (Answer.Number x) = x
-number_in _ = 0
-
 read_by : (c : Config) (r q by : ℕ) (past : List Event) (old : Option ℕ) (verb : Verb) (answer : Answer) → answer ≡ answer_of c by past verb → ((p : ℕ) → region_head p past < 65536) → or_zero old < 65536
     → or_zero (newer_or (head_read r q by verb answer) old) < 65536
 read_by c r q by past old (Verb.Head p) (Answer.Number x) is heads fits = go ((by == r) && (p == q))
   where
     same : x ≡ region_head p past
-    same = ap number_in is
+    same = ap number_told is
 
     go : (t : Bool) → or_zero (newer_or (cond t (Some x) None) old) < 65536
     go true = let low = heads p in omega (arith, low, same)

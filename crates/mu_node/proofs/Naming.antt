@@ -40,6 +40,7 @@ use Rattle.mu_node.proofs.Rounding.{FailsBackground, background_fails, keeps_rou
 use Rattle.mu_node.proofs.Failing.{Fails}
 use Rattle.mu_lead.specs.Journal.{place_after, tables_at, number_due}
 use Rattle.mu_node.specs.Due.{listed_due}
+use Rattle.mu_pace.proofs.Pasts.{how_many-append, some_counted}
 
 -- how often q has beaten is how many beats its part has
 pub beats_part : (q : ℕ) (past : List Event) → how_many is_beat (part q past) ≡ beats q past
@@ -57,24 +58,6 @@ beats_part q (e ∷ past) = go (e.by == q) refl (beats_part q past)
     go : (t : Bool) → (e.by == q) ≡ t → how_many is_beat (part q past) ≡ beats q past → how_many is_beat (cond t (e ∷ part q past) (part q past)) ≡ (if is_beat_by q e.by e.verb then beats q past + 1 else beats q past)
     go true is ih = ap (λ n. cond (is_beat e) (n + 1) n) ih ∙ ap (λ t. cond t (beats q past + 1) (beats q past)) (own e.by e.verb is)
     go false is ih = ih ∙ sym (ap (λ t. cond t (beats q past + 1) (beats q past)) (others e.by e.verb is))
-
--- the beats of two stretches
-beats_append : (test : Event → Bool) (newer older : List Event) → how_many test (newer ++ older) ≡ how_many test newer + how_many test older
-beats_append test [] older = omega arith
-beats_append test (e ∷ newer) older = go (test e) (beats_append test newer older)
-  where
-    go : (t : Bool) → how_many test (newer ++ older) ≡ how_many test newer + how_many test older
-        → cond t (how_many test (newer ++ older) + 1) (how_many test (newer ++ older)) ≡ cond t (how_many test newer + 1) (how_many test newer) + how_many test older
-    go true ih = omega (arith, ih)
-    go false ih = ih
-
-some_beat : (test : Event → Bool) (past : List Event) → has test past ≡ true → 1 ≤ how_many test past
-some_beat test [] some = absurd (true≢false (sym some))
-some_beat test (e ∷ past) some = go (test e) some (some_beat test past)
-  where
-    go : (t : Bool) → cond t true (has test past) ≡ true → (has test past ≡ true → 1 ≤ how_many test past) → 1 ≤ cond t (how_many test past + 1) (how_many test past)
-    go true some ih = omega arith
-    go false some ih = ih some
 
 -- a node that has taken a step has beaten
 pub has_beaten : (c : Config) (r : ℕ) (mine : List Event) → r < c.replicas → AtEachStep (WasMade c r) mine → 1 ≤ length mine → 1 ≤ how_many is_beat mine
@@ -101,9 +84,9 @@ more_beaten c r newer older inside made long =
     let split : newer ++ older ≡ window ++ (rest ++ older) = ap (λ l. l ++ older) (sym whole) ∙ append_assoc window rest older in
     let taken = length-take (cycle c) newer in
     let full : length window ≡ cycle c = omega (arith, taken, long) in
-    let some = some_beat is_beat window ((rounds_read_in_time c r (newer ++ older) (keeps_rounds c r (newer ++ older) inside made)).beat window (rest ++ older) (record { newer = []; is = split }) full) in
-    let all = beats_append is_beat newer older in
-    let parts = ap (how_many is_beat) (sym whole) ∙ beats_append is_beat window rest in
+    let some = some_counted is_beat window ((rounds_read_in_time c r (newer ++ older) (keeps_rounds c r (newer ++ older) inside made)).beat window (rest ++ older) (record { newer = []; is = split }) full) in
+    let all = how_many-append is_beat newer older in
+    let parts = ap (how_many is_beat) (sym whole) ∙ how_many-append is_beat window rest in
     omega (arith, some, all, parts)
 
 -- it reads no count of beats twice in a round of its cycle

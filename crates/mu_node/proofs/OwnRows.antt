@@ -21,6 +21,7 @@ use Rattle.mu_agree.proofs.Sound.{Fits, by_batch, by_mark, chosen_sound}
 use Rattle.mu_follow.proofs.Waiting.{is_write, own_row_same, row_of_known}
 use Rattle.mu_model.proofs.Basics.{or_true}
 use Rattle.mu_agree.proofs.Landings.{has_more}
+use Rattle.mu_pace.proofs.Pasts.{written-own}
 
 -- a word that r has it goes on having
 pub word_on : (r u k : ℕ) (e : Event) (past : List Event) → has_word r u k past ≡ true → has_word r u k (e ∷ past) ≡ true
@@ -61,14 +62,6 @@ row_of_more c u xs ys is = let k = row_entry c u xs is in row_of_known c k.index
     there [] i v at = cc
     there (z ∷ zs) zero v at = at
     there (z ∷ zs) (suc i) v at = there zs i v at
-
--- a row of a known entry that r wrote it has
-written-own : (r j k : ℕ) → IsOwnTest r (λ e. is_written r j k e.by e.verb)
-written-own r j k = record { own = λ e h. go e.by e.verb h }
-  where
-    go : (by : ℕ) (verb : Verb) → (by == r) ≡ false → is_written r j k by verb ≡ false
-    go by (Verb.WriteRow row word x) h = rw h refl
-    go by verb h = refl
 
 whole_had : (c : Config) (r u : ℕ) (whole : List Event) → IsConfig c → IsLegalHistory c whole → is_row_of c u (known c r (part r whole)) ≡ true → (u / 4096 == r) ≡ true → has_row r u (part r whole) ≡ true
 whole_had c r u whole good legal is own = each_all 12 (λ k. has_word r u k (part r whole)) (λ k few. word k few)

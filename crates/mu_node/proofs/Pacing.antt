@@ -53,10 +53,6 @@ use Rattle.mu_node.proofs.Leading.{lower_named}
 of_node : (F : Config → ℕ → Type 0) (c : Config) (r : ℕ) (lead : Lead) → lead.config ≡ c → lead.id ≡ r → F lead.config lead.id → F c r
 of_node F c r lead same_c same_r it = subst (λ i. F c i) same_r (subst (λ k. F k lead.id) same_c it)
 
--- and the other way
-of_lead : (F : Config → ℕ → Type 0) (c : Config) (r : ℕ) (lead : Lead) → lead.config ≡ c → lead.id ≡ r → F c r → F lead.config lead.id
-of_lead F c r lead same_c same_r it = subst (λ k. F k lead.id) (sym same_c) (subst (λ i. F c i) (sym same_r) it)
-
 -- before any event
 pub paces_first : (c : Config) (r : ℕ) (lead : Lead) → lead.config ≡ c → lead.id ≡ r → HasPaces lead.config lead.id [] lead → HasPaces c r [] lead
 paces_first c r lead same_c same_r paces = of_node (λ k i. HasPaces k i [] lead) c r lead same_c same_r paces

@@ -46,6 +46,7 @@ use Rattle.mu_lead.specs.Journal.{IsWhere, due_after, place_after}
 use Rattle.mu_lead.specs.Lasting.{tables_of}
 use Rattle.mu_lead.specs.Listing.{Tables}
 use Rattle.mu_node.proofs.Pacing.{due_listed}
+use Rattle.mu_pace.proofs.Pasts.{not_true}
 
 -- the verb neither reads asks nor is one of the host
 abbrev pub IsPlain : Verb → Type 0
@@ -68,10 +69,6 @@ plain_due (Some verb) = not (is_host_step verb)
 plain_at : (c : Config) (b : ℕ) (values up written : List ℕ) (place : Place) → plain_due (verb_at c b values up written place) ≡ true
 plain_at c b values up written Place.Rest = refl
 plain_at c b values up written place = refl
-
-not_true : (t : Bool) → not t ≡ true → t ≡ false
-not_true false is = refl
-not_true true is = absurd (true≢false (sym is))
 
 -- so is what is made in its turn
 led_plain : (c : Config) (r : ℕ) (mine : List Event) (lead : Lead) → IsPlain (verb_or_beat (lead_due c r mine lead))
@@ -115,10 +112,6 @@ replay_plain leading verb is = absurd (true≢false (sym is))
 due_plain : (leading : Bool) (due : Option Verb) → IfSome due (λ verb. IsReplay leading verb) → IsPlain (verb_or_beat due)
 due_plain leading None is = refl
 due_plain leading (Some verb) is = replay_plain leading verb is
-
--- what is made if this was due
-made_as : (due : Option Verb) (wanted : Verb) → due ≡ Some wanted → verb_or_beat due ≡ wanted
-made_as due wanted is = ap verb_or_beat is
 
 -- a read at its place follows the cycle
 read_follows : (c : Config) (r : ℕ) (mine : List Event) (answer : Answer) → is_odd (length mine) ≡ false → place_now c mine < host_place c 0 → FollowsCycle c r mine (event_by r (read_at c.replicas r (place_now c mine)) answer)

@@ -131,7 +131,7 @@ by_unfinished a b differ = go (a == b) refl
     go false same = refl
 
 -- a least number that fits passes the test
-least_passes : (n : ℕ) (test : ℕ → Bool) → least_below n test < n → test (least_below n test) ≡ true
+pub least_passes : (n : ℕ) (test : ℕ → Bool) → least_below n test < n → test (least_below n test) ≡ true
 least_passes zero test low = absurd (omega (arith, low))
 least_passes (suc n) test low = go (least_below n test == n) refl (test n) refl low (least_passes n test)
   where
@@ -158,7 +158,7 @@ among_both q xs ys there = let at = place_of q xs there in stands_at (xs ++ ys) 
 among_front : (c : Config) (q : ℕ) (values rest all : List ℕ) → all ≡ values ++ rest → list_any (eqb q) (rows_in c values) ≡ true → list_any (eqb q) (rows_in c all) ≡ true
 among_front c q values rest all is there = subst (λ l. list_any (eqb q) l ≡ true) (sym (ap (rows_in c) is ∙ rows_in-append c values rest)) (among_both q (rows_in c values) (rows_in c rest) there)
 
-included_among : (q : ℕ) (js : List ℕ) → includes q js ≡ true → list_any (eqb q) js ≡ true
+pub included_among : (q : ℕ) (js : List ℕ) → includes q js ≡ true → list_any (eqb q) js ≡ true
 included_among q [] there = absurd (true≢false (sym there))
 included_among q (j ∷ js) there = go (j == q) refl there (included_among q js)
   where

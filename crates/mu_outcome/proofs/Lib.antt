@@ -1,6 +1,8 @@
+pub mod Agreeing
 pub mod Completing
 mod Deciding
 pub mod Journals
+pub mod LogCommands
 pub mod LongestLogs
 pub mod Places
 mod Spelled

@@ -2,6 +2,7 @@ pub mod AllEvents
 pub mod Completion
 pub mod Entries
 pub mod Outcomes
+pub mod Reached
 pub mod Runs
 pub mod Statuses
 pub mod Turns

@@ -18,6 +18,7 @@ use Rattle.mu_pace.specs.Counters.{HasRoom, Watch, allowed_after}
 use Rattle.mu_pace.specs.Watches.{advancing, asking_after, bringing_up, confirming, explaining, falls_behind, is_confirming, is_welcoming, joining, limit, limit_now, progressing, raising}
 use Rattle.mu_pace.proofs.Counting.{allowed_now, opened}
 use Rattle.mu_pace.proofs.Rooms.{kinds_of_step}
+use Rattle.mu_pace.proofs.Pasts.{and_false}
 
 pub not_more : (n : ℕ) → nat_lt n n ≡ false
 not_more n = go (nat_lt n n) refl
@@ -25,10 +26,6 @@ not_more n = go (nat_lt n n) refl
     go : (t : Bool) → nat_lt n n ≡ t → t ≡ false
     go true h = absurd (let l = ltb-true n n h in omega arith)
     go false h = refl
-
-and_false : (t : Bool) → (t && false) ≡ false
-and_false true = refl
-and_false false = refl
 
 -- what a count of such an event needs: nothing new is allowed
 pub unallowed : (test : List Event → Event → Bool) (amount : List Event → ℕ) (past : List Event) (e : Event) → test past e ≡ false → allowed_after test amount (e ∷ past) ≡ None

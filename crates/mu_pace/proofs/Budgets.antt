@@ -18,6 +18,7 @@ use Rattle.mu_agree.proofs.Possible.{answered, at_event, same_fence}
 use Rattle.mu_pace.specs.Possible.{CountsFit}
 use Rattle.mu_agree.proofs.Readings.{number_is}
 use Rattle.mu_model.proofs.Budgets.{part_within_budget}
+use Rattle.mu_agree.proofs.Access.{grants-own}
 
 -- how often a replica does something is at most its steps
 own_few : (c : Config) (q : ℕ) (test : Event → Bool) (past : List Event) → IsLegalHistory c past → IsOwnTest q test → how_many test past ≤ c.budget
@@ -25,13 +26,6 @@ own_few c q test past h own =
     let few = how_many_within test (part q past) in
     let same = how_many-part test q own past in
     let most = part_within_budget c q past h in omega arith
-
-grants-own : (q : ℕ) → IsOwnTest q (is_grant_of q)
-grants-own q = record { own = λ e h. go e.by e.verb h }
-  where
-    go : (by : ℕ) (v : Verb) → (by == q) ≡ false → is_grant_by q by v ≡ false
-    go by (Verb.Grant w) h = h
-    go by v h = refl
 
 grant_few : (c : Config) (p : ℕ) (past : List Event) → IsLegalHistory c past → fence_grant p past ≤ c.budget
 grant_few c p past h = own_few c p (is_grant_of p) past h (grants-own p)

@@ -22,7 +22,7 @@ use Rattle.mu_pace.proofs.Rooms.{kinds_of_step}
 use Rattle.mu_model.proofs.Basics.{or_true}
 
 -- a replication event before which another is named turns away, whatever is waited for
-unnamed_turns : (c : Config) (r : ℕ) (met : List Event → Event → Bool) (past : List Event) (e : Event) → is_replication past e ≡ true → is_named c r past ≡ false → turns_away c r met past e ≡ true
+pub unnamed_turns : (c : Config) (r : ℕ) (met : List Event → Event → Bool) (past : List Event) (e : Event) → is_replication past e ≡ true → is_named c r past ≡ false → turns_away c r met past e ≡ true
 unnamed_turns c r met past e t n = both (is_replication past e) (is_named c r past) (met past e) t n
   where
     both : (t u v : Bool) → t ≡ true → u ≡ false → (t && (not u || v)) ≡ true

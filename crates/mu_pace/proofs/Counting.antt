@@ -5,6 +5,12 @@ use Rattle.std.specs.Prelude.{if◌then◌else◌, min, not}
 use Rattle.mu_model.specs.declared.event.Event.{Event}
 use Rattle.mu_model.specs.Stretches.{IsStretch, each_step, steps}
 use Rattle.mu_pace.specs.Counters.{AtEachMoment, AtEachStep, IsInTime, Watch, allowed_after, allowed_while, fewer, left_after, paid, steps_left}
+use Rattle.mu_pace.proofs.Pasts.{not_true}
+
+-- what follows of two facts of each moment
+pub both_moments : (P Q R : List Event → Type 0) → ((now : List Event) → P now → Q now → R now) → (past : List Event) → AtEachMoment P past → AtEachMoment Q past → AtEachMoment R past
+both_moments P Q R more [] p q = more [] p q
+both_moments P Q R more (e ∷ past) p q = (both_moments P Q R more past p.0 q.0, more (e ∷ past) p.1 q.1)
 
 -- what holds at each moment held at each earlier moment
 pub moments_before : (P : List Event → Type 0) (newer older : List Event) → AtEachMoment P (newer ++ older) → AtEachMoment P older
@@ -72,10 +78,6 @@ both_of : (t u : Bool) → (if t then u else false) ≡ true → (t ≡ true) ×
 both_of true u h = (refl, h)
 both_of false u h = absurd (true≢false (sym h))
 
-not_true : (t : Bool) → not t ≡ true → t ≡ false
-not_true true h = absurd (true≢false (sym h))
-not_true false h = refl
-
 pub remains : (w : Watch) (a : ℕ) (window older : List Event) → AtEachMoment (IsInTime w) (window ++ older) → w.allows older ≡ Some a
     → each_step (λ past e. not (w.closes past e)) window older ≡ true → Remains w window older a
 remains w a [] older h s n = let o = opened w a older s in let few = o.few in record { left = o.left; is = o.is; within = omega arith }
@@ -96,11 +98,6 @@ shorter w a past window older h s o n =
     let r = remains w a window older here o n in
     let l = r.within in
     let m : 1 ≤ r.left = last_moment (IsInTime w) (window ++ older) here r.left r.is in omega arith
-
--- the count is open along such a stretch
-pub stays_open : (w : Watch) (a : ℕ) (past window older : List Event) → AtEachMoment (IsInTime w) past → IsStretch past window older → w.allows older ≡ Some a
-    → each_step (λ past e. not (w.closes past e)) window older ≡ true → Remains w window older a
-stays_open w a past window older h s o n = remains w a window older (moments_before (IsInTime w) s.newer (window ++ older) (subst (AtEachMoment (IsInTime w)) s.is h)) o n
 
 -- what an event that passes allows
 pub allowed_here : (test : List Event → Event → Bool) (amount : List Event → ℕ) (past : List Event) (e : Event) → test past e ≡ true → allowed_after test amount (e ∷ past) ≡ Some (amount (e ∷ past))

@@ -1,6 +1,7 @@
 pub mod Counting
 mod Stretched
 pub mod Growing
+pub mod Pasts
 mod Hosts
 pub mod Leading
 mod Confirming

@@ -103,12 +103,12 @@ some c r p past l m =
       | inr x ↦ le_true p k (is_member r k past) x ∙ sym (le_true (p + 1) k (is_member r k past) (elim (cases_lt p k) [ inl l' ↦ omega arith | inr g ↦ absurd (d (omega arith)) ]))
     ]) in omega arith
 
-none : (n : ℕ) (f : ℕ → Bool) → ((k : ℕ) → k < n → f k ≡ false) → count_below n f ≡ 0
-none zero f h = refl
-none (suc n) f h = rw (h n (omega arith)) (none n f (λ k l. h k (omega arith)))
+pub none_counted : (n : ℕ) (f : ℕ → Bool) → ((k : ℕ) → k < n → f k ≡ false) → count_below n f ≡ 0
+none_counted zero f h = refl
+none_counted (suc n) f h = rw (h n (omega arith)) (none_counted n f (λ k l. h k (omega arith)))
 
 none_below : (c : Config) (r p : ℕ) (past : List Event) → ((k : ℕ) → k < p → is_member r k past ≡ false) → members_below c r p past ≡ 0
-none_below c r p past h = none c.replicas (λ q. nat_lt q p && is_member r q past) (λ k l. elim (cases_lt k p) [ inl x ↦ and_false (nat_lt k p) (is_member r k past) (h k x) | inr x ↦ lt_false k p (is_member r k past) x ])
+none_below c r p past h = none_counted c.replicas (λ q. nat_lt q p && is_member r q past) (λ k l. elim (cases_lt k p) [ inl x ↦ and_false (nat_lt k p) (is_member r k past) (h k x) | inr x ↦ lt_false k p (is_member r k past) x ])
 
 -- who is a member after a number landed at p
 landed_here : (t : Bool) (old new : Option (Option ℕ)) → t ≡ true → new ≡ Some (None) ⊎ (is_some new ≡ true) → is_some (if t then newer_or old new else old) ≡ true

@@ -15,6 +15,7 @@ use Rattle.mu_pace.specs.Counters.{Watch, allowed_after, fewer, left_after, paid
 use Rattle.mu_pace.specs.Paces.{GrantsAreCounted}
 use Rattle.mu_pace.specs.Watches.{granting}
 use Rattle.mu_pace.proofs.Stretched.{all_count, unpaid}
+use Rattle.mu_pace.proofs.Pasts.{cut}
 
 -- the moment that opened the count, and what was spent since
 pub record Opened (w : Watch) (past : List Event) (left : ℕ) : Type 0 where
@@ -80,20 +81,6 @@ opened_by w (e ∷ past) left h = go (w.allows (e ∷ past)) refl (left_after (w
         let z = same_some (min x y) left f in
         elim (cases_lt y x) [ inl l ↦ goes y k (omega arith) ih | inr l ↦ at_once w (e ∷ past) x left a (omega arith) ]
 
--- the oldest n of more than n events
-record Oldest (n : ℕ) (events : List Event) : Type 0 where
-  pub newer : List Event
-  pub rest : List Event
-  pub is : events ≡ newer ++ rest
-  pub count : length rest ≡ n
-
-oldest_of : (n : ℕ) (events : List Event) → n ≤ length events → Oldest n events
-oldest_of n [] l = record { newer = []; rest = []; is = refl; count = omega arith }
-oldest_of n (e ∷ events) l = elim (cases_lt (length events) n) [
-  | inl m ↦ record { newer = []; rest = e ∷ events; is = refl; count = omega arith }
-  | inr m ↦ let k = oldest_of n events m in record { newer = e ∷ k.newer; rest = k.rest; is = ap (λ z. e ∷ z) k.is; count = k.count }
-]
-
 none_of_older : (test : Event → Bool) (newer rest older : List Event) → each_step (λ before e. not (test e)) (newer ++ rest) older ≡ true → has test rest ≡ false
 none_of_older test [] [] older h = refl
 none_of_older test [] (e ∷ rest) older h = go (test e) h (none_of_older test [] rest older)
@@ -132,7 +119,7 @@ grants_counted c r past h w left is = elim (cases_lt 0 left) [ inl l ↦ l | inr
         let both = and_parts (is_ask_read w k.event) (has_unserved_ask r (k.event ∷ k.before) w) k.passes in
         let long = all_count o.window o.older in let few = unpaid o.window o.older in
         let a = k.allowed in let sp = o.spent in
-        let split = oldest_of (cycle c) o.window (omega arith) in
+        let split = cut (cycle c) o.window (omega arith) in
         let stretch : IsStretch past split.rest (k.event ∷ k.before) = record {
           newer = split.newer;
           is = o.is ∙ ap (λ z. z ++ o.older) split.is ∙ append_assoc split.newer split.rest o.older ∙ ap (λ z. split.newer ++ (split.rest ++ z)) k.is;

@@ -20,6 +20,7 @@ use Rattle.mu_agree.proofs.Minimum.{rises_step}
 use Rattle.mu_agree.proofs.Possible.{answered, at_event, same_fence}
 use Rattle.mu_agree.proofs.Readings.{number_is}
 use Rattle.mu_pace.specs.Possible.{FuosRise, GrantsRise, MinimaRise}
+use Rattle.mu_pace.specs.Watches.{last_min}
 
 -- FUOs that r read or raised
 abbrev FuoKnown : ℕ → ℕ → List Event → Type 0
@@ -65,10 +66,6 @@ fuos_rise c r p u mine e poss v a =
     let s = at_event c r mine e poss in
     let is : u ≡ region_fuo p s.older = number_is u (region_fuo p s.older) (sym a ∙ answered c r mine e (Verb.Fuo p) poss v) in
     let low : greatest (λ f. fuo_read_or_raised r p f.by f.verb f.answer) mine ≤ region_fuo p s.older = subst (λ z. greatest (λ f. fuo_read_or_raised r p f.by f.verb f.answer) z ≤ region_fuo p s.older) s.part_is (fuo_known c r p s.older s.legal) in omega arith
-
--- minima that r read
-abbrev last_min : ℕ → ℕ → List Event → ℕ
-last_min r p past = or_zero (newest (λ f. min_read r p f.by f.verb f.answer) past)
 
 abbrev MinRead : ℕ → ℕ → List Event → Type 0
 MinRead r p past = last_min r p (part r past) ≤ region_min p past

@@ -6,9 +6,10 @@ use Rattle.mu_model.specs.declared.event.Event.{Event}
 use Rattle.mu_model.specs.declared.event.Verb.{Verb}
 use Rattle.mu_model.specs.Bounds.{cycle, is_copying, is_learning, members}
 use Rattle.mu_model.specs.Diligence.{completes_row, is_confirmed, is_fuo_above, is_joining_step, is_milestone}
-use Rattle.mu_model.specs.Histories.{greatest}
+use Rattle.mu_model.specs.Entering.{min_read}
+use Rattle.mu_model.specs.Histories.{greatest, newest, or_zero}
 use Rattle.mu_model.specs.Knowledge.{applied, greatest_fuo_read, known}
-use Rattle.mu_model.specs.Leaderships.{begins_leadership, has_begun, is_member, is_over, leadership, noted_grant, proposal_number}
+use Rattle.mu_model.specs.Leaderships.{begins_leadership, has_begun, is_member, is_over, leadership, noted_grant, number_put, proposal_number}
 use Rattle.mu_model.specs.Placing.{fuo_read_or_raised}
 use Rattle.mu_model.specs.Regions.{region_head}
 use Rattle.mu_model.specs.Serving.{has_unserved_ask}
@@ -24,6 +25,14 @@ every past e = true
 -- no step gives more steps
 abbrev pub nothing : List Event → Event → ℕ
 nothing past e = 0
+
+-- the event puts a number of r
+abbrev pub puts_number : ℕ → Event → Bool
+puts_number r e = is_some (number_put r e.by e.verb)
+
+-- the minimum of p that r read last, else 0
+abbrev pub last_min : ℕ → ℕ → List Event → ℕ
+last_min r p past = or_zero (newest (λ e. min_read r p e.by e.verb e.answer) past)
 
 -- a replication event before which another replica is named, or that meets what is waited for
 abbrev pub turns_away : Config → ℕ → (List Event → Event → Bool) → List Event → Event → Bool

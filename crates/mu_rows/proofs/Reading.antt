@@ -160,14 +160,6 @@ pub none-del : (op : Op) → code_of op ≡ 3 → NoText op
 none-del (Del key) code = record { first = refl; second = refl; same = λ j. refl }
 none-del op code = absurd (omega arith)
 
-pub record TwoTexts (op : Op) : Type 0 where
-  pub first : IsText (first_text op)
-  pub first_short : length (first_text op) ≤ 32
-  pub first_same : take 4 (texts op) ≡ map (word_of (first_text op)) (range_with_len 0 4)
-  pub second : IsText (second_text op)
-  pub second_short : length (second_text op) ≤ 32
-  pub second_same : drop 4 (texts op) ≡ map (word_of (second_text op)) (range_with_len 0 4)
-
 -- the words of a row of an operation without a text
 pub no-text-words : (words : List ℕ) (r : Request) (k : ℕ) → words ≡ spelled r k → NoText r.op → (j : ℕ) → j < 8 → get_or words (4 + j) 0 ≡ 0
 no-text-words words r k same none j lt =
@@ -183,10 +175,6 @@ SaysText words text count = IsText text × (get_or words 0 0 / 1099511627776 % 2
 pub says-put : (words key text : List ℕ) → get_or words 0 0 % 256 ≡ 1 → SaysKey words key → SaysText words text 8 → get_or words 0 0 / 281474976710656 % 256 ≡ 0 → SaysOp words (Put key text)
 says-put words key text code k t alone =
     record { has = (k.0, t.0); code = code; key_length = k.1; first_length = t.1; second_length = alone; key = k.2; texts = t.2 }
-
--- what words without a text say of their lengths
-abbrev pub SaysNoText : List ℕ → Type 0
-SaysNoText words = (get_or words 0 0 / 1099511627776 % 256 ≡ 0) × (get_or words 0 0 / 281474976710656 % 256 ≡ 0) × ((j : ℕ) → j < 8 → get_or words (4 + j) 0 ≡ 0)
 
 byte-and-rest : (n p : ℕ) → n / p ≡ n / p % 256 + n / (p * 256) * 256
 byte-and-rest n p = omega (arith, div-div-eq-div-mul n p 256)

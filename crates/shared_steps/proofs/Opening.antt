@@ -39,29 +39,6 @@ begins c words is shows = record { events = []; owner = λ r. Some 0; is_config 
 pub some_word : (c : Config) (count : ℕ) → IsConfig c → count ≡ word_count (layout_of c) → 0 < count
 some_word c count is same = let inside = places_inside_law (layout_of c) (Name.Fence 0) is.replicas.0 in omega (arith, same, inside)
 
-not_below : (p : ℕ) → nat_lt p 0 ≡ false
-not_below p = go (nat_lt p 0) refl
-  where
-    go : (t : Bool) → nat_lt p 0 ≡ t → t ≡ false
-    go true k = let less = ltb-true p 0 k in absurd (omega arith)
-    go false k = refl
-
--- nothing is written
-pub none_below : (n : Name) → first_below 0 n ≡ 0
-none_below (Name.Fence p) = ap (λ b. cond b 14336 0) (not_below p)
-none_below (Name.Min p) = refl
-none_below (Name.Fuo p) = refl
-none_below (Name.Head p) = refl
-none_below (Name.Beat p) = refl
-none_below (Name.Ask p w) = refl
-none_below (Name.Slot p s) = refl
-none_below (Name.Row r j k) = refl
-
-pub blank : (l : Layout) (words : List ℕ) → words ≡ replicate (word_count l) 0 → AreWrittenBelow l 0 words
-blank l words is = record {
-  count = ap length is ∙ length-replicate (word_count l) 0;
-  each = λ n h. ap (λ ws. slice_index ws (place_of l n)) is ∙ (get_or-replicate (word_count l) (place_of l n) 0 0 (places_inside_law l n h) ∙ sym (none_below n));
-}
 
 same_test : (p q k : ℕ) → p ≢ q → nat_lt p (q + 1) ≡ nat_lt p q
 same_test p q k ne = go (nat_lt p q) refl (nat_lt p (q + 1)) refl

@@ -59,9 +59,6 @@ room_in w s v r =
     let same : r.port.config ≡ w.table.shared.key = same_some r.port.config w.table.shared.key (sym (ap (λ (m : Me (Unit {0}) View). m.0.config) old.is_single) ∙ r.of.config) in
     subst (λ (c : Config). c.budget ≤ length (history s.journal.events) + s.journal.room) same r.port.room
 
-pub has_room : (w : words.Inside) (s : seat.Inside) (v : Verb) → Ready w s v → 0 < s.journal.room
-has_room w s v r = omega (arith, room_in w s v r, r.allowed.budget)
-
 -- the same of a part whose list is known
 name_there : (c : Config) (r : ℕ) (mine : List Event) (v : Verb) → Limits c → IsPossible c r mine → Allowed c r mine v → IsName (layout_of c) (name_of c r mine v)
 name_there c r mine v l p may =
