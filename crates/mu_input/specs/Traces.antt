@@ -1,6 +1,5 @@
--- trace: the grammar of a trace: a job, and after its `end` the lines of events and another `end`.
---
--- Has read, reads on: which job and first events were taken from the bytes; what the next line says.
+-- trace, has read, reads on: the grammar of a trace: a job, and after its `end` the lines of events
+-- and another `end`; the job and first events that were taken from bytes; what the next line says.
 use Rattle.std.specs.Prelude.{ℕ, ◌+◌, ◌<◌, ◌^◌, ◌≡◌, List, [], ◌∷◌, ◌++◌, None, Some, codes, if◌then◌else◌, length, ⊤}
 use Rattle.std.specs.declared.option.Option.{Option}
 use Rattle.std.specs.declared.result.Result.{Result}

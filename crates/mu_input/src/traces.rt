@@ -1,5 +1,6 @@
 //! The events of a trace: the lines after its job.
-ghost use Rattle.std.specs.Prelude.{◌≡◌, ◌+◌, ◌≤◌, ◌<◌, ◌^◌, ℕ, List, [], All, length, IfErr, IfOk, IfSome};
+ghost use Rattle.std.specs.Prelude.{◌≡◌, ◌+◌, ◌≤◌, ◌<◌, ◌^◌, ℕ, List, [], All, codes, length, IfErr, IfOk, IfSome};
+ghost use Rattle.std.specs.Str.{bytes_eq};
 ghost use Rattle.kv_store.specs.Sessions.{IsInSession};
 ghost use Rattle.mu_events.specs.Lines.{FitsEvent, IsSpelled};
 ghost use Rattle.mu_model.specs.Contents.{IsConfig};
@@ -19,7 +20,7 @@ use crate::job::{InputEnd, Job};
 use crate::reading::{read_end, read_job};
 use mu_events::event;
 use mu_model::{Event, Journal};
-use mu_text::{LineReader, is_word};
+use mu_text::LineReader;
 use std::alloc::Global;
 use std::marker::Model;
 
@@ -70,12 +71,14 @@ impl<'a> EventLines<'a> {
         Ok((job, events))
     }
 
-    /// Takes the next event; `None` if the trace ends here. Takes no memory.
+    /// Takes the next event; `None` if the trace ends here. Takes no memory. After `None` or an
+    /// error nothing is said of what comes.
     ///
     /// # Errors
     ///
     /// `Refused` with the first line that leaves the grammar, and the cause: 13 a line that is
     /// neither an event nor `end`, 11 no `end`, 12 a line after it.
+    #[inline(always)]
     pub fn next(&mut self) -> Result<Option<Event>, InputEnd>
         ensures reading { (bytes : List ℕ) (job : SomeJob) (past : List Made)
             → HasRead bytes job past self.old → ReadsOn bytes job past result self.new }
@@ -86,7 +89,7 @@ impl<'a> EventLines<'a> {
         let Some(text) = self.lines.next() else {
             return Err(InputEnd::at(line, NO_END));
         };
-        if is_word(text, b"end") {
+        if is_end(text) {
             read_end(&mut self.lines)?;
             return Ok(None);
         }
@@ -118,13 +121,22 @@ impl<'a> EventLines<'a> {
     }
 }
 
+/// Whether a line ends the events: a pattern is compared in place.
+fn is_end(line: &[u8]) -> bool
+    ensures { result ≡ bytes_eq line.now (codes "end") }
+{
+    match line {
+        b"end" => true,
+        _ => false,
+    }
+}
+
 /// The job and the events that the bytes of a trace spell. Takes memory only for these, and the
 /// time of one walk over the bytes.
 ///
 /// # Errors
 ///
-/// Those of `read`, and the cause 13 for a line that is no event of the job's
-/// replicas.
+/// Those of `read`, and the cause 13 for a line that is no event of the job's replicas.
 pub fn read_trace(alloc: Global, bytes: &[u8]) -> Result<(Job, Journal), InputEnd>
     requires { length bytes.now ≤ TRACE_LIMIT }
     ensures reading { ReadsTrace result (trace bytes.now) }

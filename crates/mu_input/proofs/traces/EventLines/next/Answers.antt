@@ -9,4 +9,4 @@ returns-in_err-read_end-clause-reading c = λ bytes job past held.
     let p = err_from_is_err_and c.from_residual.result c.from_residual.ensures.1 in
     let reading = held.reading ∙ ap (λ (lines : EventsLeft). trace_after job past lines.left) (sym c.self.view_is) in
     rw (p.1, p.2) (after_end bytes job past c.self.inside.lines c.next.new.self c.in-Some.text.now c.in_err-read_end.field-0.0 reading c.in-Some.ensures.0 c.in-Some.ensures.1
-    (sym c.is_word.ensures ∙ c.if-is_word.true) c.in_err-read_end.ensures.ends)
+    (sym c.is_end.ensures ∙ c.if-is_end.true) c.in_err-read_end.ensures.ends)
