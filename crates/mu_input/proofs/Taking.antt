@@ -1,28 +1,17 @@
 -- What a line of a trace does to what is left to read.
-use Rattle.std.proofs.Common.{◌≡◌, ◌≢◌, ℕ, ◌+◌, Bool, true, false, if◌then◌else◌, List, [], ◌∷◌, ◌++◌, None, Some, Option, append_assoc, codes, refl, sym, ap, subst, ◌∙◌}
-use Rattle.std.proofs.lemmas.List.{append-nil}
+use Rattle.std.proofs.Common.{◌≡◌, ◌≢◌, ℕ, ◌+◌, Bool, true, if◌then◌else◌, List, [], ◌∷◌, ◌++◌, Option, append_assoc, codes, refl, ap, subst, ◌∙◌}
 use Rattle.std.specs.Option.{option_map_or}
 use Rattle.std.specs.Str.{bytes_eq}
 use Rattle.std.specs.declared.result.Result.TheVariants.{Err}
 use Rattle.mu_events.specs.Events.{event_of}
 use Rattle.mu_model.specs.declared.event.Event.{Event}
-use Rattle.mu_text.specs.Lines.{Left, lines, words}
-use Rattle.mu_input.proofs.Fronts.{followed_by}
-use Rattle.mu_input.specs.Grammar.{all_lines, job_at}
-use Rattle.mu_input.specs.Readings.{Front, Begins, Breaks, EndsHere, Fits, Leaves, Reading, followed, whole, whole_from}
-use Rattle.mu_input.specs.Traces.{Trace, events_at, events_from, trace, trace_after, EventsLeft, GoesOn, HasRead, HasReadAll, IsEndOfTrace, IsRefused}
+use Rattle.mu_text.specs.Lines.{Left, words}
+use Rattle.mu_input.specs.Readings.{Begins, Breaks, EndsHere, Leaves, Reading, followed, whole, whole_from}
+use Rattle.mu_input.specs.Traces.{Trace, events_from, trace, trace_after, EventsLeft, GoesOn, HasRead, HasReadAll, IsEndOfTrace, IsRefused}
 use Rattle.mu_input.specs.declared.cause.TheConstants.{AFTER_END, EVENT}
 use Rattle.mu_input.specs.declared.job.InputEnd.{InputEnd}
 use Rattle.mu_input.specs.declared.job.InputEnd.TheVariants.{Refused, NoMemory}
 use Rattle.mu_input.specs.declared.job.Job.{Job}
-
--- behind the job no event was taken yet
-pub behind_job : (bytes : List ℕ) (job : Job) (left after : Left) → left.number ≡ 1 → left.lines ≡ lines bytes → job_at left ≡ Begins job after → trace bytes ≡ trace_after job [] after
-behind_job bytes job left after number text is =
-    let at : ℕ → List (List ℕ) → Left = λ n ls. record { number = n; lines = ls } in
-    let all : left ≡ all_lines bytes = ap (λ n. at n left.lines) number ∙ ap (at 1) text in
-    let next : Job → Left → Front Trace = λ job left. followed (events_at job.config.replicas left) (λ events left. Begins (record { job = job; events = events }) left) in
-    ap whole (followed_by (job_at (all_lines bytes)) next job after (next job after) (subst (λ l. job_at l ≡ Begins job after) all is) refl)
 
 abbrev reading_at : Job → List Event → ℕ → List (List ℕ) → Reading Trace
 reading_at job past number text = trace_after job past (record { number = number; lines = text })
@@ -59,9 +48,6 @@ refused_ends bytes NoMemory is = tt
 pub record HasReadMore (bytes : List ℕ) (job : Job) (past : List Event) (lines : EventsLeft) : Type 0 where
   pub more : List Event
   pub read : HasRead bytes job (past ++ more) lines
-
-pub no_more : (bytes : List ℕ) (job : Job) (past : List Event) (lines : EventsLeft) → HasRead bytes job past lines → HasReadMore bytes job past lines
-no_more bytes job past lines read = record { more = []; read = subst (λ es. HasRead bytes job es lines) (sym (append-nil past)) read }
 
 pub one_more : (bytes : List ℕ) (job : Job) (past more : List Event) (event : Event) (lines : EventsLeft) → HasRead bytes job (past ++ more ++ event ∷ []) lines → HasReadMore bytes job past lines
 one_more bytes job past more event lines read = record { more = more ++ event ∷ []; read = subst (λ es. HasRead bytes job es lines) (append_assoc past more (event ∷ [])) read }
