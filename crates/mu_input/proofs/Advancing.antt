@@ -1,24 +1,20 @@
 -- Each part of a job takes lines from the front: as many are taken as the number grows by.
-use Rattle.std.proofs.Common.{◌≡◌, ℕ, suc, ◌+◌, ◌≤◌, ◌==◌, Bool, true, false, if◌then◌else◌, List, [], ◌∷◌, ◌++◌, length, None, Some, Option, codes, refl, subst, ◌∙◌, arith}
+use Rattle.std.proofs.Common.{◌≡◌, ℕ, suc, ◌+◌, ◌≤◌, ◌==◌, Bool, true, false, if◌then◌else◌, List, [], ◌∷◌, length, None, Some, Option, codes, refl, subst, ◌∙◌, arith}
 use Rattle.std.specs.Option.{option_map_or}
 use Rattle.std.specs.List.{onto_first}
 use Rattle.kv_store.specs.Commands.{Request}
-use Rattle.std.specs.Str.{bytes_eq}
-use Rattle.mu_model.specs.declared.event.Event.{Event}
 use Rattle.mu_model.specs.declared.script.Pause.{Pause}
 use Rattle.mu_model.specs.declared.script.Script.{Script}
 use Rattle.mu_model.specs.declared.script.Stop.{Stop}
 use Rattle.mu_input.specs.Bodies.{body_after, body_from, body_line}
-use Rattle.mu_events.specs.Events.{event_of}
 use Rattle.mu_input.specs.Grammar.{job_at}
 use Rattle.mu_text.specs.Lines.{Left, lines, words}
 use Rattle.mu_input.specs.Readings.{Front, Begins, Breaks, Line, Says, Wrong, followed}
 use Rattle.mu_input.specs.Scripts.{script_after, script_at, script_from, script_line}
 use Rattle.mu_input.specs.Settings.{setting, setting_among, setting_at, settings_at, width_at}
-use Rattle.mu_input.specs.Traces.{events_at, events_from}
 use Rattle.mu_text.specs.declared.TheConstants.{LINE_FEED}
 use Rattle.mu_input.specs.declared.TheConstants.{MOST_REPLICAS, LEAST_RING, MOST_RING, MOST_STEPS, MOST_WIDTH}
-use Rattle.mu_input.specs.declared.cause.TheConstants.{HEAD, REPLICAS, RING, BUDGET, BATCH, EVENT}
+use Rattle.mu_input.specs.declared.cause.TheConstants.{HEAD, REPLICAS, RING, BUDGET, BATCH}
 use Rattle.mu_input.specs.declared.bodies.Body.{Body}
 use Rattle.mu_input.specs.declared.bodies.BodyLine.{BodyLine}
 use Rattle.mu_input.specs.declared.bodies.BodyLine.TheVariants as body
@@ -114,34 +110,9 @@ job_advances left =
     advances_followed left _ _ (body_advances 0 [] left.number left.lines) (λ body left.
     advances_followed left _ _ (script_at_advances body.has_script settings.replicas left) (λ script left. refl)))
 
-events_advance : (replicas : ℕ) (events : List Event) (number : ℕ) (text : List (List ℕ)) → Advances (record { number = number; lines = text }) (events_from replicas events number text)
-events_advance replicas events number [] = tt
-events_advance replicas events number (line ∷ text) = by_test (λ events. events_advance replicas events (number + 1) text) (bytes_eq line (codes "end"))
-  where
-    onward : (front : Front (List Event)) → Advances (record { number = number + 1; lines = text }) front → Advances (record { number = number; lines = line ∷ text }) front
-    onward (Begins es end) further = further ∙ omega arith
-    onward (Breaks at cause) further = tt
-
-    by_event : ((events : List Event) → Advances (record { number = number + 1; lines = text }) (events_from replicas events (number + 1) text))
-        → (event : Option Event) → Advances (record { number = number; lines = line ∷ text })
-        (option_map_or (λ event. events_from replicas (events ++ event ∷ []) (number + 1) text) event (Breaks number EVENT))
-    by_event again None = tt
-    by_event again (Some event) = onward (events_from replicas (events ++ event ∷ []) (number + 1) text) (again (events ++ event ∷ []))
-
-    by_test : ((events : List Event) → Advances (record { number = number + 1; lines = text }) (events_from replicas events (number + 1) text))
-        → (ends : Bool) → Advances (record { number = number; lines = line ∷ text })
-        (if ends then Begins events (record { number = number + 1; lines = text })
-        else option_map_or (λ event. events_from replicas (events ++ event ∷ []) (number + 1) text) (event_of replicas (words line)) (Breaks number EVENT))
-    by_test again true = omega arith
-    by_test again false = by_event again (event_of replicas (words line))
-
 -- this many lines are left after a job
 pub job_leaves : (left after : Left) (job : Job) → job_at left ≡ Begins job after → after.number + length after.lines ≡ left.number + length left.lines
 job_leaves left after job is = subst (Advances left) is (job_advances left)
-
--- and after events
-pub events_leave : (replicas : ℕ) (left after : Left) (events : List Event) → events_at replicas left ≡ Begins events after → after.number + length after.lines ≡ left.number + length left.lines
-events_leave replicas left after events is = subst (Advances left) is (events_advance replicas [] left.number left.lines)
 
 -- no input has more lines than bytes
 pub few_lines : (bytes : List ℕ) → length (lines bytes) ≤ length bytes

@@ -15,4 +15,5 @@ mod OperationsBack
 mod ScriptBack
 mod SettingsBack
 mod StopsAndPauses
+pub mod Taking
 mod TraceBack

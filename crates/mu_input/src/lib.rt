@@ -20,9 +20,9 @@ pub use batches::with_commands;
 pub use bulk_jobs::bulk;
 pub use job::{Commands, InputEnd, Job};
 pub use op_lines::{op_line, push_op};
-pub use reading::{read, read_trace};
+pub use reading::read;
 pub use senders::desk_line;
-pub use traces::traces_are_read_back;
+pub use traces::{EventLines, read_trace, traces_are_read_back};
 
 /// The most bytes of a trace.
 pub const TRACE_LIMIT: usize = 67_108_864;

@@ -5,7 +5,6 @@ ghost use Rattle.mu_model.specs.Contents.{IsConfig};
 ghost use Rattle.mu_input.specs.Heads.{HaveHeads};
 ghost use Rattle.mu_input.specs.Grammar.{job, job_at};
 ghost use Rattle.mu_input.specs.Readings.{EndsHere, Reads, ReadsFront};
-ghost use Rattle.mu_input.specs.Traces.{ReadsTrace, trace};
 
 use crate::batches::job_of;
 use crate::bodies::{BODY_LINES, read_body};
@@ -13,9 +12,7 @@ use crate::cause::AFTER_END;
 use crate::heading::{SETTING_LINES, read_settings};
 use crate::job::{InputEnd, Job};
 use crate::scripts::script_where;
-use crate::traces::read_events;
-use crate::{MOST_COMMANDS, MOST_SCRIPT_LINES, TRACE_LIMIT};
-use mu_model::Journal;
+use crate::{MOST_COMMANDS, MOST_SCRIPT_LINES};
 use mu_text::LineReader;
 use std::alloc::Global;
 
@@ -47,29 +44,8 @@ pub fn read(alloc: Global, bytes: &[u8]) -> Result<Job, InputEnd>
     Ok(job)
 }
 
-/// The job and the events that the bytes of a trace spell. Takes memory only for these, and the
-/// time of one walk over the bytes.
-///
-/// # Errors
-///
-/// Those of [`read`], and the cause 13 for a line that is no event of the job's replicas.
-pub fn read_trace(alloc: Global, bytes: &[u8]) -> Result<(Job, Journal), InputEnd>
-    requires { length bytes.now ≤ TRACE_LIMIT }
-    ensures reading { ReadsTrace result (trace bytes.now) }
-    ensures config { IfOk result (λ r. IsConfig r.0.config) }
-    ensures session { IfOk result (λ r. IsInSession r.0.commands) }
-    ensures heads { IfOk result (λ r. HaveHeads r.0.config.width r.0.commands r.0.config.rows) }
-    ensures few { IfOk result (λ r. length r.1.events < 2 ^ 32) }
-{
-    let mut lines = LineReader::new(bytes);
-    let job = read_job(alloc, &mut lines)?;
-    let events = read_events(alloc, &mut lines, job.config.replicas)?;
-    read_end(&mut lines)?;
-    Ok((job, Journal::from_vec(events)))
-}
-
 /// The job at the front of all lines.
-fn read_job(alloc: Global, lines: &mut LineReader<'_>) -> Result<Job, InputEnd>
+pub fn read_job(alloc: Global, lines: &mut LineReader<'_>) -> Result<Job, InputEnd>
     requires { lines.old.number ≡ 1 }
     ensures reading { ReadsFront result (job_at lines.old) lines.new }
     ensures config { IfOk result (λ job. IsConfig job.config) }
@@ -87,9 +63,12 @@ fn read_job(alloc: Global, lines: &mut LineReader<'_>) -> Result<Job, InputEnd>
 }
 
 /// No line is left.
-fn read_end(lines: &mut LineReader<'_>) -> Result<(), InputEnd>
+pub fn read_end(lines: &mut LineReader<'_>) -> Result<(), InputEnd>
     requires { lines.old.number + 1 < 2 ^ 32 }
-    ensures { EndsHere result lines.old }
+    ensures ends { EndsHere result lines.old }
+    ensures counted { lines.new.number + length lines.new.lines
+        ≡ lines.old.number + length lines.old.lines }
+    ensures onward { lines.old.number ≤ lines.new.number }
 {
     let line = lines.number();
     match lines.next() {

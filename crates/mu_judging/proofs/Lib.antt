@@ -1,3 +1,4 @@
 pub mod EventLines
 mod Firsts
+mod JudgedEvents
 mod TakenEvents

@@ -25,7 +25,7 @@ use Rattle.mu_reasons.specs.declared.fault.Fault.{Fault}
 use Rattle.mu_text.specs.Lines.{lines}
 
 -- the history of one event more
-history_push : (past : List Event) (e : Event) → history (past ++ e ∷ []) ≡ e ∷ history past
+pub history_push : (past : List Event) (e : Event) → history (past ++ e ∷ []) ≡ e ∷ history past
 history_push past e = reverse-append past (e ∷ [])
 
 -- a list that isn't broken: all its events were counted, and the states are those that it leads to

@@ -27,12 +27,6 @@ SaysOf bytes (Said.Judged events verdict) = IsJudged bytes events verdict
 SaysOf bytes Said.NoMemory = ⊤
 SaysOf bytes _ = ⊥
 
--- the bytes leave the grammar of traces first at this line for this cause; want of memory can come
--- at any bytes
-abbrev pub IsEndOfTrace : List ℕ → InputEnd → Type 0
-IsEndOfTrace bytes (InputEnd.Refused line cause) = trace bytes ≡ Leaves line cause
-IsEndOfTrace bytes InputEnd.NoMemory = ⊤
-
 -- what is said of this many events with this verdict, or of why no trace was judged
 abbrev pub said_of : Result (ℕ × Verdict) InputEnd → Said
 said_of (Ok judged) = Said.Judged judged.0 judged.1

@@ -1,18 +1,19 @@
 //! From the bytes of a trace to what is said of it.
 ghost use Rattle.std.specs.Prelude.{◌≡◌, ◌≤◌, length, IfErr, IfOk};
 ghost use Rattle.mu_input.specs.declared.TheConstants.{TRACE_LIMIT};
-ghost use Rattle.mu_judging.specs.Judged.{said_of, IsEndOfTrace, IsJudged, SaysOf};
+ghost use Rattle.mu_input.specs.Traces.{IsEndOfTrace};
+ghost use Rattle.mu_judging.specs.Judged.{said_of, IsJudged, SaysOf};
 ghost use Rattle.mu_report.specs.Said.{IsShort};
 
-use mu_check::check;
-use mu_input::{InputEnd, read_trace};
+use mu_check::Judge;
+use mu_input::{EventLines, InputEnd};
 use mu_outcome::Verdict;
 use mu_report::Said;
 use std::alloc::Global;
 
 /// What is said of the bytes of a trace: `Refused` exactly if they leave the grammar, with the
 /// first line that leaves it and the cause, and else `Judged`. `NoMemory` for want of memory. Takes
-/// the memory of the trace and of the states that its events lead to.
+/// the memory of the job and of the states that its events lead to: the events aren't kept.
 pub fn judge(alloc: Global, bytes: &[u8]) -> Said
     requires { length bytes.now ≤ TRACE_LIMIT }
     ensures says { SaysOf bytes.now result }
@@ -21,7 +22,8 @@ pub fn judge(alloc: Global, bytes: &[u8]) -> Said
     told(judged(alloc, bytes))
 }
 
-/// How many events the trace that the bytes spell has, and the verdict on them.
+/// How many events the trace that the bytes spell has, and the verdict on them. Each event is
+/// judged as it is read, and not kept; after one that breaks the list they are only read.
 ///
 /// # Errors
 ///
@@ -31,9 +33,15 @@ fn judged(alloc: Global, bytes: &[u8]) -> Result<(u32, Verdict), InputEnd>
     ensures verdict { IfOk result (λ judged. IsJudged bytes.now judged.0 judged.1) }
     ensures end { IfErr result (IsEndOfTrace bytes.now) }
 {
-    let (job, journal) = read_trace(alloc, bytes)?;
-    let events = journal.as_slice();
-    Ok((events.len() as u32, check(alloc, &job.config, events)?))
+    let (job, mut lines) = EventLines::of(alloc, bytes)?;
+    let mut judge = Judge::new(alloc, &job.config)?;
+    while let Some(event) = lines.next()? {
+        if let Some(cause) = judge.take(&job.config, &event) {
+            let index = lines.count() - 1;
+            return Ok((lines.count_all()?, Verdict::Illegal { index, cause }));
+        }
+    }
+    Ok((lines.count(), Verdict::Legal))
 }
 
 /// What is said of this many events with this verdict, or of why no trace was judged.

@@ -39,7 +39,8 @@ impl<'a> LineReader<'a> {
         self.number
     }
 
-    /// Takes the next line, without its line feed.
+    /// Takes the next line, without its line feed. Inlined, since a trace has many lines.
+    #[inline(always)]
     pub fn next(&mut self) -> Option<&'a [u8]>
         requires { self.old.number + 1 < 2 ^ 32 }
         ensures { MatchOption result

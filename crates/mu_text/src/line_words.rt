@@ -66,11 +66,11 @@ pub fn split_words<'a>(line: &'a [u8], items: &mut [&'a [u8]; MANY_WORDS]) -> us
 }
 
 /// Whether a word is the wanted one. Most words differ in length, which is compared in place.
-#[inline]
+#[inline(always)]
 pub fn is_word(word: &[u8], wanted: &[u8]) -> bool
     ensures { result ≡ bytes_eq word.now wanted.now }
 {
-    word == wanted
+    word.len() == wanted.len() && word == wanted
 }
 
 /// Whether the first word is this one.

@@ -19,6 +19,7 @@ fn word_end(line: &[u8]) -> Option<usize>
 }
 
 /// The place of the first line feed, if there is one.
+#[inline(always)]
 #[tactic(auto, using(crate::proofs::Places::byte_place))]
 fn line_end(bytes: &[u8]) -> Option<usize>
     ensures { result ≡ position (λ byte. byte == LINE_FEED) bytes.now }
@@ -27,6 +28,7 @@ fn line_end(bytes: &[u8]) -> Option<usize>
 }
 
 /// The first line, without its line feed, and the bytes after it. `None` if there is no line.
+#[inline(always)]
 pub fn next_line(bytes: &[u8]) -> Option<(&[u8], &[u8])>
     ensures lines { MatchOption result (lines bytes.now ≡ [])
         (λ r. lines bytes.now ≡ r.0.now ∷ lines r.1.now) }

@@ -93,13 +93,24 @@ pub fn of_32(word: &[u8]) -> Option<u32>
 }
 
 /// The number of 64 bits that a word of an event spells: one to twenty digits, without a leading
-/// zero.
+/// zero. A single digit is read in place.
+#[inline(always)]
 pub fn of_64(word: &[u8]) -> Option<u64>
     ensures { result ≡ of_64 word.now }
 {
     if let [byte] = word {
         Some(u64::from(digit(*byte)?))
-    } else if word.len() == MOST_WIDE_DIGITS {
+    } else {
+        of_many(word)
+    }
+}
+
+/// The same of any word.
+#[inline(never)]
+fn of_many(word: &[u8]) -> Option<u64>
+    ensures { result ≡ of_64 word.now }
+{
+    if word.len() == MOST_WIDE_DIGITS {
         of_twenty(word)
     } else {
         decimal(word, MOST_WIDE_DIGITS - 1)
