@@ -2,6 +2,7 @@ mod Appends
 mod Cursors
 mod Documents
 mod LastSteps
+mod OnePicture
 mod StandingsTaken
 mod Steps
 mod Unmarked
