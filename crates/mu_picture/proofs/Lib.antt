@@ -1,6 +1,7 @@
 mod Appends
 mod Cursors
 mod Documents
+mod GoingOn
 mod LastSteps
 mod OnePicture
 mod StandingsTaken

@@ -43,13 +43,23 @@ older_have c script brief first cursor (e ∷ newer) past rows =
     by_test true (Some mark) rows = first_have cursor before (mark ∷ []) rows
     by_test false mark rows = rows
 
+-- how long the history before a step is, and the history around a step
+pub length_before : (events : List Event) (n : ℕ) → n ≤ length events → length (history (take n events)) ≡ n
+length_before events n low = length-reverse (take n events) ∙ length-take-le n events low
+
+pub history_around : (events : List Event) (step end : ℕ) (e : Event) → slice_get events step ≡ Some e → step < end
+    → history (take end events) ≡ history (drop (suc step) (take end events)) ++ (e ∷ history (take step events))
+history_around events step end e there less =
+    history_at (take end events) step e (slice_get-take events end step less ∙ there)
+    ∙ ap (λ l. history (drop (suc step) (take end events)) ++ (e ∷ history l)) (take-take events end step (omega (arith, less)))
+
 -- if the marks before `end` have rows, a mark before `end` has one
 has_row : (c : Config) (script : Script) (brief : Bool) (first : ℕ) (cursor : Cursor) (events : List Event) (step end : ℕ) → first ≤ step → step < end → HasMark c script events brief step
     → HaveRows cursor (marks_of c script brief first (history (take end events))) → (after_marks cursor (marks_of c script brief first (history (take step events)))).y ≤ 32500
 has_row c script brief first cursor events step end low less marked rows =
     by_mark (kept brief (mark_of c script past e)) marked.drawn
     (subst (λ t. HaveRows cursor (if t then with_mark before (kept brief (mark_of c script past e)) else before)) (le-leb first (length past) (omega (arith, low, size)))
-    (older_have c script brief first cursor newer (e ∷ past) (subst (λ l. HaveRows cursor (marks_of c script brief first l)) parts rows)))
+    (older_have c script brief first cursor newer (e ∷ past) (subst (λ l. HaveRows cursor (marks_of c script brief first l)) (history_around events step end e marked.there less) rows)))
   where
     e : Event
     e = marked.event
@@ -57,11 +67,8 @@ has_row c script brief first cursor events step end low less marked rows =
     past : List Event
     past = history (take step events)
 
-    shown : List Event
-    shown = take end events
-
     newer : List Event
-    newer = history (drop (suc step) shown)
+    newer = history (drop (suc step) (take end events))
 
     before : List Mark
     before = marks_of c script brief first past
@@ -70,12 +77,7 @@ has_row c script brief first cursor events step end low less marked rows =
     within = slice_get_within events step e marked.there
 
     size : length past ≡ step
-    size = length-reverse (take step events) ∙ length-take-le step events (omega (arith, within))
-
-    parts : history shown ≡ newer ++ (e ∷ past)
-    parts =
-        history_at shown step e (slice_get-take events end step less ∙ marked.there)
-        ∙ ap (λ l. newer ++ (e ∷ history l)) (take-take events end step (omega (arith, less)))
+    size = length_before events step (omega (arith, within))
 
     by_mark : (mark : Option Mark) → is_some mark ≡ true → HaveRows cursor (with_mark before mark) → (after_marks cursor before).y ≤ 32500
     by_mark None some rows = cc
