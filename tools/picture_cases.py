@@ -592,6 +592,27 @@ def parts_of(text):
         yield ["brief", *map(str, part)], part, True
 
 
+def rows_of_a_page():
+    """How many rows of steps one after another have room."""
+    y, rows = TOP, 0
+    while y <= LOWEST_ROW:
+        y, rows = y + 12 + (16 if rows and rows % TITLES == 0 else 0), rows + 1
+    return rows
+
+
+def full_pages():
+    """Names, words and traces of pages that are full: the page ends with the trace, with steps that have no mark, or
+    before the next mark, after such steps or at once; and the page that follows, which begins with that mark."""
+    head, ask, beats = "mu 1\nreplicas 1\nring 8\nbudget 9999\nend\n", "0 ask 0 = done\n", "0 beat = done\n" * 40
+    rows = rows_of_a_page()
+    for name, after, onward in (("to its end", "", None), ("and steps without a mark", beats, None),
+                                ("and a mark", ask, rows), ("and a mark after steps without one", beats + ask, rows + 40)):
+        trace = head + ask * rows + after + "end\n"
+        yield f"a full page {name}", (), trace
+        if onward is not None:
+            yield f"the page after a full page {name}", (onward, 9999999), trace
+
+
 def breach_of(answer):
     """The index of the event that breaks a trace, and what is wrong, from what `mu why` says of it."""
     first, _, fault = answer.rstrip("\n").split("\n")

@@ -1,7 +1,9 @@
 mod Appends
 mod Cursors
 mod Documents
+mod GoingOn
 mod LastSteps
+mod OnePicture
 mod StandingsTaken
 mod Steps
 mod Unmarked

@@ -44,13 +44,13 @@ with_within at end marks None is within = later at end marks within
 with_within at end marks (Some mark) is within = one_more at end marks mark is within
 
 -- a mark is of its step, and so is one that is kept
-made_there : (step : ℕ) (e : Event) (resumed : Option Resumed) (deed : Option Deed) (halt : Option Halt) → IfSome (made_of step e resumed deed halt) (λ m. m.step ≡ step)
+pub made_there : (step : ℕ) (e : Event) (resumed : Option Resumed) (deed : Option Deed) (halt : Option Halt) → IfSome (made_of step e resumed deed halt) (λ m. m.step ≡ step)
 made_there step e None None None = tt
 made_there step e None None (Some halt) = refl
 made_there step e None (Some deed) halt = refl
 made_there step e (Some resumed) deed halt = refl
 
-kept_there : (brief : Bool) (step : ℕ) (mark : Option Mark) → IfSome mark (λ m. m.step ≡ step) → IfSome (kept brief mark) (λ m. m.step ≡ step)
+pub kept_there : (brief : Bool) (step : ℕ) (mark : Option Mark) → IfSome mark (λ m. m.step ≡ step) → IfSome (kept brief mark) (λ m. m.step ≡ step)
 kept_there brief step None is = tt
 kept_there brief step (Some mark) is = by_test (is_kept brief mark)
   where
@@ -58,7 +58,7 @@ kept_there brief step (Some mark) is = by_test (is_kept brief mark)
     by_test true = is
     by_test false = tt
 
-none_before : (c : Config) (script : Script) (brief : Bool) (first : ℕ) (past : List Event) → length past ≤ first → marks_of c script brief first past ≡ []
+pub none_before : (c : Config) (script : Script) (brief : Bool) (first : ℕ) (past : List Event) → length past ≤ first → marks_of c script brief first past ≡ []
 none_before c script brief first [] low = refl
 none_before c script brief first (e ∷ past) low =
     subst (λ t. (if t then with_mark (marks_of c script brief first past) (kept brief (mark_of c script past e)) else marks_of c script brief first past) ≡ [])

@@ -1,6 +1,6 @@
 -- Where things stand in a drawing: lanes side by side, time downwards. A step with a mark has a
 -- row; each other step of a short stretch takes one unit, and a long stretch is folded and told.
-use Rattle.std.specs.Prelude.{ℕ, ◌+◌, ◌-◌, ◌*◌, ◌%◌, ◌==◌, ◌&&◌, Bool, not, if◌then◌else◌, nat_lt, List, [], ◌∷◌}
+use Rattle.std.specs.Prelude.{ℕ, ◌≤◌, ◌+◌, ◌-◌, ◌*◌, ◌%◌, ◌==◌, ◌&&◌, ⊤, Bool, not, if◌then◌else◌, nat_lt, List, [], ◌∷◌}
 use Rattle.mu_picture.specs.declared.layout.Cursor.{Cursor}
 use Rattle.mu_picture.specs.declared.marks.Mark.{Mark}
 
@@ -37,6 +37,11 @@ after cursor step =
 abbrev pub after_marks : Cursor → List Mark → Cursor
 after_marks cursor [] = cursor
 after_marks cursor (mark ∷ marks) = after_marks (after cursor mark.step) marks
+
+-- each of these marks has a row, since none begins too low; the first may begin at the cursor
+abbrev pub HaveRows : Cursor → List Mark → Type 0
+HaveRows cursor [] = ⊤
+HaveRows cursor (mark ∷ marks) = (cursor.y ≤ 32500) × HaveRows (after cursor mark.step) marks
 
 -- where the steps before `end` end
 abbrev pub bottom_of : ℕ → Cursor → ℕ

@@ -6,6 +6,7 @@ pub mod Lanes
 pub mod Layout
 pub mod Marks
 pub mod Openings
+pub mod Pages
 pub mod Rows
 pub mod Shapes
 pub mod Standings

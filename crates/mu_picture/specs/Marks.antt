@@ -1,12 +1,13 @@
 -- Which marks a picture has.
-use Rattle.std.specs.Prelude.{ℕ, ◌≡◌, ◌≤◌, ◌+◌, ◌-◌, ◌||◌, Bool, true, false, not, if◌then◌else◌, is_some, nat_le, min, None, Some, List, [], ◌∷◌, ◌++◌, length, take}
+use Rattle.std.specs.Prelude.{ℕ, ◌≡◌, ◌<◌, ◌≤◌, ◌⊎◌, ◌+◌, ◌-◌, ◌||◌, Bool, true, false, not, if◌then◌else◌, is_some, nat_le, min, None, Some, List, [], ◌∷◌, ◌++◌, length, take}
+use Rattle.std.specs.List.{slice_get}
 use Rattle.std.specs.declared.option.Option.{Option}
 use Rattle.mu_model.specs.declared.config.Config.{Config}
 use Rattle.mu_model.specs.declared.event.Event.{Event}
 use Rattle.mu_model.specs.declared.script.Script.{Script}
 use Rattle.mu_model.specs.Histories.{history, part}
 use Rattle.mu_model.specs.Scores.{leader}
-use Rattle.mu_picture.specs.Layout.{after_marks, top}
+use Rattle.mu_picture.specs.Layout.{HaveRows, after_marks, top}
 use Rattle.mu_picture.specs.Openings.{openings_of}
 use Rattle.mu_course.specs.Resigning.{is_leading}
 use Rattle.mu_picture.specs.Standings.{deed_after, halt_by, resumed_with, standing_of}
@@ -85,8 +86,22 @@ end_of events last = min (last + 1) (length events)
 abbrev pub lowest : Picture → ℕ
 lowest picture = (after_marks (top picture.first) picture.marks.items).y
 
+-- a step of a run has a mark, in brief or not
+pub record HasMark (c : Config) (script : Script) (events : List Event) (brief : Bool)
+    (step : ℕ) : Type 0 where
+  pub event : Event
+  pub there : slice_get events step ≡ Some event
+  pub drawn :
+      is_some (kept brief (mark_of c script (history (take step events)) event)) ≡ true
+
+-- a picture ends with the steps that are asked for, or right before the first mark that has no row
+-- any more, since the row would go at y: there it goes on
+abbrev pub EndsInPlace : Config → Script → List Event → Bool → ℕ → ℕ → ℕ → Type 0
+EndsInPlace c script events brief asked y end =
+    (end ≡ asked) ⊎ ((32500 < y) × HasMark c script events brief end)
+
 -- the picture of the steps `from` one to the `last` of a run, in brief or not, if they are
--- there: of all of them, or if they have too many rows of the first ones
+-- there: of all of them, or of those before the first mark that has no row
 pub record IsPictureOf (c : Config) (script : Script) (events : List Event) (short : Bool)
     (from last : ℕ) (picture : Picture) : Type 0 where
   pub brief : picture.brief ≡ short
@@ -94,10 +109,11 @@ pub record IsPictureOf (c : Config) (script : Script) (events : List Event) (sho
   pub first : picture.first ≡ min from (end_of events last)
   pub order : picture.first ≤ picture.end
   pub end : picture.end ≤ picture.asked
-  pub all : lowest picture ≤ 32500 → picture.end ≡ picture.asked
   pub openings :
       picture.openings.items
       ≡ openings_of c script c.replicas (history (take picture.first events))
   pub marks :
       picture.marks.items
       ≡ marks_of c script short picture.first (history (take picture.end events))
+  pub rows : HaveRows (top picture.first) picture.marks.items
+  pub ends : EndsInPlace c script events short picture.asked (lowest picture) picture.end

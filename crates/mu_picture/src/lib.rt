@@ -12,6 +12,7 @@ mod lanes;
 mod layout;
 mod marks;
 mod openings;
+mod pages;
 mod pictures;
 mod rows;
 mod shapes;
@@ -22,5 +23,6 @@ mod words;
 
 pub use drawing::{Breach, drawn};
 pub use endings::ends_are_drawn;
+pub use pages::{pictures_are_one, pictures_go_on};
 pub use pictures::{Extent, Picture, picture_of};
 pub use sheet::Sheet;

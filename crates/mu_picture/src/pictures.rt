@@ -1,9 +1,9 @@
 //! The picture of some steps of a run.
-ghost use Rattle.std.specs.Prelude.{◌≡◌, ◌+◌, ◌-◌, ◌<◌, ◌≤◌, ◌^◌, [], ℕ, true, false, if◌then◌else◌, nat_le, IfOk, length, take};
+ghost use Rattle.std.specs.Prelude.{◌≡◌, ◌+◌, ◌-◌, ◌<◌, ◌≤◌, ◌^◌, [], ℕ, true, false, if◌then◌else◌, is_some, nat_le, IfOk, length, take};
 ghost use Rattle.mu_model.specs.Contents.{IsConfig};
 ghost use Rattle.mu_model.specs.Histories.{history};
 ghost use Rattle.mu_model.specs.Legal.{IsLegal};
-ghost use Rattle.mu_picture.specs.Marks.{hidden_from, lowest, marks_of, IsPictureOf, with_mark};
+ghost use Rattle.mu_picture.specs.Marks.{hidden_from, lowest, marks_of, EndsInPlace, IsPictureOf, with_mark};
 ghost use Rattle.mu_picture.specs.Rows.{HoldsRows};
 
 use crate::layout::{Cursor, top_of};
@@ -74,7 +74,7 @@ impl Rows {
             → IfOk result (λ full. HoldsRows (n + 1) self.new) }
         ensures first { self.new.first ≡ self.old.first }
         ensures full { IfOk result (λ full. full ≡ true → (self.new ≡ self.old)
-            × (32500 < self.old.cursor.y) × (self.old.first ≤ index)) }
+            × (32500 < self.old.cursor.y) × (self.old.first ≤ index) × (is_some mark ≡ true)) }
         ensures next { IfOk result (λ full. full ≡ false → self.new.marks.items
             ≡ (if nat_le self.old.first index then with_mark self.old.marks.items mark
             else self.old.marks.items)) }
@@ -94,8 +94,8 @@ impl Rows {
     }
 }
 
-/// The rows of the events from the first asked for on and before `asked`, of a legal list, and the
-/// step after the last of them that has room.
+/// The rows of the events from the first asked for on and before `asked`, of a legal list, and
+/// where they end: at `asked`, or at the first step whose mark has no row any more.
 fn rows_of(
     alloc: Global,
     config: &Config,
@@ -115,7 +115,8 @@ fn rows_of(
         ≡ marks_of config.now script.now brief first (history (take found.1 events.now))) }
     ensures from { IfOk result (λ found. first ≤ found.1) }
     ensures end { IfOk result (λ found. found.1 ≤ asked) }
-    ensures all { IfOk result (λ found. found.0.cursor.y ≤ 32500 → found.1 ≡ asked) }
+    ensures ends { IfOk result (λ found. EndsInPlace config.now script.now events.now brief asked
+        found.0.cursor.y found.1) }
 {
     let mut trail = Trail::new(alloc, config)?;
     let mut rows = Rows::new(alloc, first);
@@ -131,9 +132,9 @@ fn rows_of(
 
 /// The picture of the events that are asked for, of a legal list: what holds before the first of
 /// them, and exactly one mark for each of them that is drawn, in order; so the stretches between
-/// the marks hide exactly the other steps. If they have more rows than a page has room for, it is
-/// that of the first ones. Takes memory for the states of the replicas and regions, and for the
-/// marks.
+/// the marks hide exactly the other steps. If they have more rows than a page has room for, it ends
+/// right before the first mark that has none: with that the next page begins. Takes memory for the
+/// states of the replicas and regions, and for the marks.
 ///
 /// # Errors
 ///
