@@ -22,12 +22,6 @@ choose_stop true true c x y z e = cc
 choose_stop true false c x y z e = refl
 choose_stop false b c x y z e = refl
 
-lt_true : (a b : ℕ) → a < b → nat_lt a b ≡ true
-lt_true a b h = grind (arith, nat_tests)
-
-lt_false : (a b : ℕ) → b ≤ a → nat_lt a b ≡ false
-lt_false a b h = grind (arith, nat_tests)
-
 pub filled_stop : (index : ℕ) (order best : Resting) (left : ℕ) (queue : List Resting) → crosses order best ≡ false → filled index order left (best ∷ queue) ≡ unfilled left (best ∷ queue)
 filled_stop index order best left queue e = choose_stop (nat_lt 0 left) (crosses order best) (nat_lt left best.left) _ _ _ e
 

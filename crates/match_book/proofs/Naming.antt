@@ -19,10 +19,7 @@ use Rattle.match_book.specs.Places.{is_same, side_placing}
 use Rattle.match_book.proofs.Parting.{all_imply, all_pass, not_both, by_cases, filter_all}
 use Rattle.match_book.proofs.Remaining.{AreDifferent, IsApart, same_ids}
 use Rattle.std.proofs.lemmas.Bool.{and_parts}
-
-and_false : (b : Bool) → (b && false) ≡ false
-and_false true = refl
-and_false false = refl
+use Rattle.match_book.proofs.Trading.{and_false}
 
 equal_not_ahead : (o : Ordering) (side : Side) → is_eq o ≡ true → is_lt (ordering_then o (side_placing side Buy)) ≡ false
 equal_not_ahead Less side e = cc

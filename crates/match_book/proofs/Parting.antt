@@ -57,10 +57,6 @@ all_pass p (x ∷ xs) = all_choose (λ y. p y ≡ true) (p x) x (filter p xs) (�
 not_false : (b : Bool) → b ≡ false → not b ≡ true
 not_false b e = ap not e
 
-failed : (b : Bool) → not b ≡ true → b ≡ false
-failed true e = cc
-failed false e = refl
-
 -- a list whose front passes and whose back fails, through the filter and through its opposite
 pub filter_parted : {X : Type 0} (p : X → Bool) (front back : List X) → AllByRecursion (λ x. p x ≡ true) front → AllByRecursion (λ x. p x ≡ false) back → filter p (front ++ back) ≡ front
 filter_parted p [] back pass fail = filter_none p back fail
@@ -72,7 +68,7 @@ filter_other p (x ∷ front) back pass fail = ap (λ b. cond (not b) (x ∷ filt
 
 -- what fails a test doesn't pass its opposite
 pub all_fail : {X : Type 0} (p : X → Bool) (xs : List X) → AllByRecursion (λ x. p x ≡ false) (filter (λ x. not (p x)) xs)
-all_fail p xs = all_imply (λ x. not (p x) ≡ true) (λ x. p x ≡ false) (λ x e. failed (p x) e) (filter (λ x. not (p x)) xs) (all_pass (λ x. not (p x)) xs)
+all_fail p xs = all_imply (λ x. not (p x) ≡ true) (λ x. p x ≡ false) (λ x e. not_is (p x) e) (filter (λ x. not (p x)) xs) (all_pass (λ x. not (p x)) xs)
 
 pass_cond : {X : Type 0} (p : X → Bool) (b : Bool) (x : X) (xs : List X) → filter p (cond b (x ∷ xs) xs) ≡ cond b (cond (p x) (x ∷ filter p xs) (filter p xs)) (filter p xs)
 pass_cond p true x xs = refl

@@ -132,7 +132,7 @@ amounts_are_all left (best ∷ queue) (a ∷ b ∷ quantities) are =
     let within : a + sum (b ∷ quantities) ≤ left = omega (arith, sum_within left (best ∷ queue) (a ∷ b ∷ quantities) are.enough, sum_cons a (b ∷ quantities)) in
     ap (λ n. n ∷ b ∷ quantities) is ∙ ap (λ xs. best.left ∷ xs) (amounts_are_all (left - best.left) queue (b ∷ quantities) rest) ∙ sym (amounts_whole left best queue (omega arith) (omega arith))
 
-and_false : (b : Bool) → (b && false) ≡ false
+pub and_false : (b : Bool) → (b && false) ≡ false
 and_false true = refl
 and_false false = refl
 

@@ -10,7 +10,7 @@ use Rattle.mu_model.specs.Histories.{all_below, has, part}
 use Rattle.mu_model.specs.Knowledge.{applied, front, has_entry, has_row, has_word, is_read, is_written, known, wrote, wrote_batch}
 use Rattle.mu_model.specs.Legal.{IsLegalHistory}
 use Rattle.mu_model.proofs.Basics.{true_or}
-use Rattle.mu_model.proofs.Owned.{IsOwnTest, has-part}
+use Rattle.mu_model.proofs.Owned.{has-part}
 use Rattle.mu_model.proofs.Scans.{all_at, each_all}
 use Rattle.mu_agree.proofs.Phases.{known_chosen}
 use Rattle.mu_agree.proofs.Sessions.{batch_within, mark_no_batch, row_within}

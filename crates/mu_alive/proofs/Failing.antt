@@ -10,7 +10,7 @@ use Rattle.mu_model.specs.declared.event.Verb.{Verb}
 use Rattle.mu_model.specs.Answers.{answer_of}
 use Rattle.mu_model.specs.Bounds.{cycle}
 use Rattle.mu_model.specs.Diligence.{ReadsInTime}
-use Rattle.mu_model.specs.Histories.{has, how_many, newer_or, newest, or_zero, part}
+use Rattle.mu_model.specs.Histories.{how_many, newer_or, newest, or_zero, part}
 use Rattle.mu_model.specs.Legal.{IsLegalHistory}
 use Rattle.mu_model.specs.Regions.{beats, is_beat_by}
 use Rattle.mu_model.specs.Scores.{alive_after, beat_read, points_after, score, score_after_read}

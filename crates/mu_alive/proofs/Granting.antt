@@ -1,5 +1,5 @@
 -- A host grants its region to a replica that asks alone.
-use Rattle.std.proofs.Common.{◌≡◌, ◌⊎◌, ℕ, ◌+◌, ◌*◌, ◌<◌, ◌≤◌, ◌==◌, ◌&&◌, not, inl, inr, Bool, true, false, cond, Some, None, List, [], ◌∷◌, ◌++◌, length, refl, sym, ◌∙◌, ap, arith, subst, eqb-true, true≢false, append_assoc}
+use Rattle.std.proofs.Common.{◌≡◌, ◌⊎◌, ℕ, ◌+◌, ◌*◌, ◌<◌, ◌≤◌, ◌==◌, ◌&&◌, not, inl, inr, Bool, true, false, cond, Some, None, List, [], ◌∷◌, ◌++◌, length, refl, sym, ◌∙◌, ap, arith, subst, true≢false, append_assoc}
 use Rattle.std.specs.Prelude.{max, nat_lt}
 use Rattle.std.proofs.lemmas.Bool.{and_from, lt-ltb}
 use Rattle.std.proofs.lemmas.List.{length-append}
@@ -15,7 +15,7 @@ use Rattle.mu_model.specs.Leaderships.{owner_is}
 use Rattle.mu_model.specs.Legal.{IsLegalHistory}
 use Rattle.mu_model.specs.Regions.{asks, fence_closing, fence_grant, fence_owner, granted_by, is_ask_by, is_grant_by, is_grant_of}
 use Rattle.mu_model.specs.Serving.{has_unserved_ask, is_grant_to, read_while_owner, seen_asks, served, served_as_owner}
-use Rattle.mu_model.specs.Steps.{is_ask_read, is_ask_read_verb, is_granting, is_granting_verb}
+use Rattle.mu_model.specs.Steps.{is_ask_read, is_granting, is_granting_verb}
 use Rattle.mu_model.proofs.Basics.{same_number}
 use Rattle.mu_model.proofs.Parts.{filter-append}
 use Rattle.mu_agree.proofs.Legal.{legal_older}

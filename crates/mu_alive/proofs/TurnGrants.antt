@@ -17,7 +17,7 @@ use Rattle.mu_model.specs.Leaderships.{has_begun, owner_is}
 use Rattle.mu_model.specs.Legal.{IsLegalHistory}
 use Rattle.mu_model.specs.Regions.{asks, fence_closing, fence_owner, granted_by, is_ask_by}
 use Rattle.mu_model.specs.Serving.{ask_read, has_unserved_ask, is_grant_to, read_while_owner, seen_asks, served, served_as_owner, served_by_grant}
-use Rattle.mu_model.specs.Steps.{is_ask_read, is_ask_read_verb, is_granting, is_granting_verb}
+use Rattle.mu_model.specs.Steps.{is_ask_read, is_granting, is_granting_verb}
 use Rattle.mu_model.proofs.Basics.{same_number, same_some}
 use Rattle.mu_model.proofs.Parts.{filter-append}
 use Rattle.mu_agree.proofs.Legal.{event_after, legal_older}
@@ -28,7 +28,7 @@ use Rattle.mu_alive.proofs.Calm.{count_adds, count_few}
 use Rattle.mu_alive.proofs.Cutting.{Located, located, met, more_pass}
 use Rattle.mu_alive.proofs.TurnOwners.{IsHighest, OwnedTop, Waits, no_grant, owned_top, served-part, top_induction, waiter_begun, waits}
 use Rattle.mu_alive.proofs.Turns.{not_begun}
-use Rattle.mu_pace.proofs.Pasts.{has_later, begun_on, begun_still, cut, reads_ask}
+use Rattle.mu_pace.proofs.Pasts.{has_later, begun_still, cut, reads_ask}
 use Rattle.mu_alive.proofs.Granting.{none_before}
 
 -- what came before some events in turn was in turn

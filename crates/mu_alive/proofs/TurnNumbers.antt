@@ -9,7 +9,7 @@ use Rattle.mu_model.specs.declared.event.Event.{Event}
 use Rattle.mu_model.specs.declared.event.Verb.{Verb}
 use Rattle.mu_model.specs.Allowed.{Allowed}
 use Rattle.mu_model.specs.Entering.{any_min_read, number_allowed}
-use Rattle.mu_model.specs.Histories.{earlier_or, greatest, has, max_with, newer_or, newest, oldest, or_zero, part, since}
+use Rattle.mu_model.specs.Histories.{earlier_or, greatest, has, max_with, newer_or, newest, oldest, or_zero, part}
 use Rattle.mu_model.specs.Leaderships.{begins_leadership, has_begun, leadership, number_put, proposal_number}
 use Rattle.mu_model.specs.Legal.{IsLegalHistory}
 use Rattle.mu_model.specs.Regions.{min_landed, region_min}

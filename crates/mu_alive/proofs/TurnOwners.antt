@@ -11,7 +11,7 @@ use Rattle.mu_model.specs.Allowed.{Allowed, Needs}
 use Rattle.mu_model.specs.Histories.{all_below, before, has, newer_or, or_zero, part, since}
 use Rattle.mu_model.specs.Leaderships.{grant_for, has_begun, is_first_ask, noted_grant, owner_is}
 use Rattle.mu_model.specs.Legal.{IsLegalHistory}
-use Rattle.mu_model.specs.Regions.{asks, fence, fence_closing, fence_grant, fence_owner, is_close_by, is_close_of, is_grant_by, is_grant_of}
+use Rattle.mu_model.specs.Regions.{asks, fence, fence_closing, fence_grant, fence_owner, is_close_of, is_grant_of}
 use Rattle.mu_model.specs.Serving.{has_unserved_ask, is_grant_to, read_while_owner, seen_asks, served, served_as_owner, served_by_grant}
 use Rattle.mu_model.proofs.Basics.{same_number, same_some}
 use Rattle.mu_model.proofs.Owned.{IsOwnTest, before-part, has-part, since-part}

@@ -13,7 +13,6 @@ use Rattle.mu_model.specs.Leaderships.{begins_leadership, has_begun, is_first_as
 use Rattle.mu_model.specs.Steps.{commits_more, has_min, is_any_fencing, is_any_fencing_verb, is_lagging, is_min, is_min_verb, is_named, is_over_after, knows_all, named_throughout, replicates}
 use Rattle.mu_model.specs.Stretches.{IsStretch, each_step, is_replication, replications, some_step, steps}
 use Rattle.mu_pace.proofs.Growing.{members_on, stays_less}
-use Rattle.mu_alive.proofs.Cutting.{none_newer, none_older}
 use Rattle.mu_alive.proofs.Enough.{first_is_milestone}
 use Rattle.mu_alive.specs.Unhindered.{CommitsWithin, IsConfirming, UnhinderedCommit, is_hindrance}
 use Rattle.mu_pace.proofs.Pasts.{begun_on, begun_still, min_on, min_now}

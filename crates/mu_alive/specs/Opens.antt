@@ -1,6 +1,6 @@
 -- opens in time: a replica that names itself asks each region in time until it reads a minimum, and
 -- puts a number soon after, whatever it knows.
-use Rattle.std.specs.Prelude.{Bool, List, false, true, ℕ, ◌*◌, ◌++◌, ◌+◌, ◌<◌, ◌∷◌, ◌≡◌, ◌≤◌}
+use Rattle.std.specs.Prelude.{List, false, true, ℕ, ◌*◌, ◌++◌, ◌+◌, ◌<◌, ◌∷◌, ◌≡◌, ◌≤◌}
 use Rattle.mu_model.specs.declared.config.Config.{Config}
 use Rattle.mu_model.specs.declared.event.Event.{Event}
 use Rattle.mu_model.specs.Histories.{has}

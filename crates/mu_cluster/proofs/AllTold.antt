@@ -16,12 +16,12 @@ use Rattle.mu_model.proofs.Scans.{all_at}
 use Rattle.mu_outcome.specs.declared.outcome.Outcome.{Outcome}
 use Rattle.mu_outcome.specs.Entries.{commands_in, commands_of, longest}
 use Rattle.mu_outcome.specs.Outcomes.{Agrees, IsRun, log_of, or_empty}
-use Rattle.mu_outcome.proofs.Completing.{few_told}
+use Rattle.mu_outcome.proofs.Completing.{few_told, included_among}
 use Rattle.mu_outcome.proofs.LongestLogs.{longest_is, longest_most}
 use Rattle.mu_rows.proofs.RowsOnce.{at_least, length-from, place_of, stands_at}
 use Rattle.mu_cluster.specs.Finishing.{HasApplied, HasFinished}
 use Rattle.mu_cluster.proofs.Agreeing.{agrees_of, over_order}
-use Rattle.mu_cluster.proofs.LogCommands.{commands_in-append}
+use Rattle.mu_outcome.proofs.LogCommands.{commands_in-append}
 
 -- entries have as many commands as rows
 entry_many : (job : Job) (v : ℕ) → IsConfig job.config → HaveHeads job.config.width job.commands job.config.rows → length (commands_of job v) ≡ length (rows_of job.config v)
@@ -46,14 +46,6 @@ as_many_commands job (v ∷ vs) good have =
     let a = length-append (commands_of job v) (commands_in job vs) in
     let b = length-append (rows_of job.config v) (rows_in job.config vs) in
     omega (arith, one, rest, a, b)
-
-among : (q : ℕ) (js : List ℕ) → includes q js ≡ true → list_any (eqb q) js ≡ true
-among q [] there = absurd (true≢false (sym there))
-among q (j ∷ js) there = go (j == q) refl there (among q js)
-  where
-    go : (t : Bool) → (j == q) ≡ t → cond t true (includes q js) ≡ true → (includes q js ≡ true → list_any (eqb q) js ≡ true) → list_any (eqb q) (j ∷ js) ≡ true
-    go true same there rest = stands_at (j ∷ js) 0 q (ap (λ x. Some x) (eqb-true j q same))
-    go false other there rest = let at = place_of q js (rest there) in stands_at (j ∷ js) (suc at.0) q at.1
 
 -- a log with every row begins the longest one, or is it
 begins : (o : Outcome) (r : ℕ) → Agrees o → length o.logs ≡ o.job.config.replicas → r < o.job.config.replicas → IsPrefixOf (log_of o r) (longest o.logs)
@@ -105,7 +97,7 @@ finished_with o r good have run low done = record {
 
     enough : length o.job.commands ≤ length (commands_in o.job (log_of o r))
     enough =
-        let rows = at_least (row_count o.job.config) (rows_in o.job.config (log_of o r)) (λ q inside. among q (rows_in o.job.config (log_of o r)) (all_at (row_count o.job.config) (λ j. includes j (rows_in o.job.config (log_of o r))) done.holds q inside)) in
+        let rows = at_least (row_count o.job.config) (rows_in o.job.config (log_of o r)) (λ q inside. included_among q (rows_in o.job.config (log_of o r)) (all_at (row_count o.job.config) (λ j. includes j (rows_in o.job.config (log_of o r))) done.holds q inside)) in
         let same = as_many_commands o.job (log_of o r) good have in
         let many = as_many o.job.config.width o.job.commands o.job.config.rows have in
         omega (arith, rows, same, many)

@@ -36,11 +36,11 @@ use Rattle.mu_outcome.specs.Outcomes.{IsRun, journal_of, journals_of}
 use Rattle.mu_alive.specs.Failing.{failing_steps}
 use Rattle.mu_alive.specs.Finishing.{last_raising_steps, raising_steps}
 use Rattle.mu_alive.specs.Lagging.{raising_in_any_ring}
-use Rattle.mu_alive.proofs.Cutting.{Located, cut, located}
+use Rattle.mu_alive.proofs.Cutting.{Located, located}
 use Rattle.mu_alive.proofs.Enough.{holds_more, outrun_before}
 use Rattle.mu_alive.proofs.Fetching.{applied_grows}
 use Rattle.mu_alive.proofs.Finishing.{raise_all}
-use Rattle.mu_alive.proofs.Spreading.{get_of_front, get_take, heads-own, same_lists}
+use Rattle.mu_alive.proofs.Spreading.{get_of_front, get_take, heads-own}
 use Rattle.mu_alive.proofs.Lagging.{raises_in_any_ring}
 use Rattle.mu_cluster.specs.declared.rounds.Seat.{Seat}
 use Rattle.mu_cluster.specs.Finishing.{AppliesEachAfterStops, AppliesEachInAnyRing, AppliesEachInTime, HasApplied}
@@ -50,17 +50,18 @@ use Rattle.mu_cluster.specs.Rounds.{Played, part_of}
 use Rattle.mu_cluster.proofs.Living.{none_of}
 use Rattle.mu_cluster.proofs.Naming.{AreUnpaused, unpaused_of}
 use Rattle.mu_cluster.proofs.Onward.{journal_part, nodes_of, score-part}
-use Rattle.mu_cluster.proofs.Outliving.{fails_then, not_stopped, stopped_so}
+use Rattle.mu_cluster.proofs.Outliving.{fails_then}
 use Rattle.mu_cluster.proofs.Outrunning.{none_outrun}
-use Rattle.mu_cluster.proofs.Passes.{has_later}
 use Rattle.mu_cluster.proofs.Raised.{RaisedBy, full_holds, raised_alone, raised_by, raised_last}
 use Rattle.mu_cluster.proofs.Taken.{GoOn}
 use Rattle.mu_cluster.proofs.Turning.{least_most}
+use Rattle.mu_agree.proofs.Sessions.{same_list}
+use Rattle.mu_pace.proofs.Pasts.{cut, not_true, not_false, has_later}
 
 -- what a log held it holds later
 same_later : (c : Config) (r l : ℕ) (newer older : List Event) → l ≤ length (applied c r older) → take l (applied c r (newer ++ older)) ≡ take l (applied c r older)
 same_later c r l newer older low =
-    same_lists (take l (applied c r (newer ++ older))) (take l (applied c r older))
+    same_list (take l (applied c r (newer ++ older))) (take l (applied c r older))
     (let a = length-take l (applied c r (newer ++ older)) in let b = length-take l (applied c r older) in let grows = applied_grows c r newer older in omega (arith, a, b, low, grows))
     (λ i v w at there.
     let more = known_stays c r newer older in
@@ -244,7 +245,7 @@ goes_on_of o order seats rounds s good run given played diligent unpaused on = r
     ended q inside goes = go (run.ended q inside).0 (run.ended q inside).1 (run.ended q inside).2.ends
       where
         go : (end : End) → slice_get o.ends q ≡ Some end → EndsBy c o.job.script q (history (journal_of o q)) end → (length (part_of q events) ≡ c.budget) ⊎ (is_finished c q (part_of q events) ≡ true)
-        go End.Stopped is ends = absurd (true≢false (sym (ap is_stop is) ∙ not_stopped (was_stopped o q) goes))
+        go End.Stopped is ends = absurd (true≢false (sym (ap is_stop is) ∙ not_true (was_stopped o q) goes))
         go End.Budget is ends = inl (ap length (sym (journal_part o run q inside)) ∙ ends.1)
         go (End.Outrun p i) is ends = absurd (none_outrun c events (map length (journals_of o)) run.turns.rounds q p i good (unpaused_of o order seats rounds run given played unpaused) inside (ap (outrun c q) (sym (journal_part o run q inside)) ∙ ends.1))
         go (End.Finished heads) is ends = inr (ap (is_finished c q) (sym (journal_part o run q inside)) ∙ ends.2)
@@ -316,7 +317,7 @@ finishes_from o order seats rounds s most good run given played unpaused goes_on
 pub held_in_time : (o : Outcome) (run : IsRun o) → ((r : ℕ) → r < o.job.config.replicas → was_stopped o r ≡ true → length (journal_of o r) + failing_steps o.job.config < o.job.config.budget)
     → (q : ℕ) → q < o.job.config.replicas → not (was_stopped o q) ≡ false → length (part_of q run.order.events) + failing_steps o.job.config < o.job.config.budget
 held_in_time o run failing q inside stopped =
-    let few = failing q inside (stopped_so (was_stopped o q) stopped) in
+    let few = failing q inside (not_false (was_stopped o q) stopped) in
     let same = ap length (journal_part o run q inside) in
     let long = length-reverse (journal_of o q) in
     omega (arith, few, same, long)

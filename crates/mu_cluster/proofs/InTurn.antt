@@ -29,10 +29,6 @@ pub begins_ask : (r by : ℕ) (verb : Verb) (answer : Answer) → begins_leaders
 begins_ask r by (Verb.Ask q) answer is = let parts = and_parts (by == r) (q == 0) is in (eqb-true by r parts.0, parts.1)
 begins_ask r by verb answer is = absurd (true≢false (sym is))
 
-pub reads_verb : (w : ℕ) (verb : Verb) → is_ask_read_verb w verb ≡ true → verb ≡ Verb.ReadAsk w
-reads_verb w (Verb.ReadAsk q) h = ap (λ x. Verb.ReadAsk x) (eqb-true q w h)
-reads_verb w verb h = absurd (true≢false (sym h))
-
 -- if w makes no event its asks stay
 pub quiet_asks : (w p : ℕ) (newer older : List Event) → length (part w newer) ≡ 0 → asks w p (newer ++ older) ≡ asks w p older
 quiet_asks w p [] older none = refl

@@ -10,7 +10,6 @@ mod InStep
 mod InTurn
 mod Lives
 mod Living
-pub mod LogCommands
 mod Naming
 mod Onward
 mod Outrunning

@@ -30,7 +30,7 @@ use Rattle.mu_outcome.specs.declared.outcome.Outcome.{Outcome}
 use Rattle.mu_outcome.specs.Outcomes.{IsRun, journal_of, journals_of, or_empty}
 use Rattle.mu_pace.specs.Collecting.{LeaderKeeps}
 use Rattle.mu_pace.specs.Counters.{AtEachMoment, AtEachStep}
-use Rattle.mu_pace.proofs.Counting.{moments_before}
+use Rattle.mu_pace.proofs.Counting.{moments_before, both_moments}
 use Rattle.mu_alive.specs.Alone.{AsksAlone, WritesAlone}
 use Rattle.mu_alive.specs.Enough.{HasLargeRing, steps_enough}
 use Rattle.mu_alive.specs.Lone.{IsNear, LeadsAlone}
@@ -43,9 +43,10 @@ use Rattle.mu_cluster.specs.Naming.{IsReached, NamesFirst}
 use Rattle.mu_cluster.specs.Rounds.{Played, part_of}
 use Rattle.mu_cluster.proofs.InStep.{StaysAhead, in_step}
 use Rattle.mu_cluster.specs.Paces.{AreDiligent}
-use Rattle.mu_cluster.proofs.Passes.{has_both, has_history, has_later}
+use Rattle.mu_cluster.proofs.Passes.{has_history}
 use Rattle.mu_cluster.proofs.Naming.{AreUnpaused, before_end, named_of, none_here, part_before, part_step, unpaused_of}
 use Rattle.mu_cluster.proofs.Outrunning.{none_outrun}
+use Rattle.mu_pace.proofs.Pasts.{has_newer, has_later}
 
 -- r is at most a step ahead of q at each moment
 pub near_one : (lead q most r : ℕ) (past : List Event) → AtEachStep (StaysAhead lead q most r) past → length (part r past) ≤ most → AtEachMoment (λ now. length (part r now) ≤ length (part q now) + 1) past
@@ -78,10 +79,6 @@ pub each_near : (n : ℕ) (live : ℕ → Bool) (Q : ℕ → List Event → Type
 each_near n live Q [] all = λ r low there. all r low there
 each_near n live Q (e ∷ past) all = (each_near n live Q past (λ r low there. (all r low there).0), λ r low there. (all r low there).1)
 
-pub near_both : (P Q R : List Event → Type 0) → ((now : List Event) → P now → Q now → R now) → (past : List Event) → AtEachMoment P past → AtEachMoment Q past → AtEachMoment R past
-near_both P Q R more [] p q = more [] p q
-near_both P Q R more (e ∷ past) p q = (near_both P Q R more past p.0 q.0, more (e ∷ past) p.1 q.1)
-
 pub near_self : (a : ℕ) (past : List Event) → AtEachMoment (λ now. (length (part a now) ≤ length (part a now) + 1) × (length (part a now) ≤ length (part a now) + 1)) past
 near_self a [] = (omega arith, omega arith)
 near_self a (e ∷ past) = (near_self a past, (omega arith, omega arith))
@@ -104,7 +101,7 @@ all_near c live a events lengths rounds most run some lives all = each_near c.re
     one : (r : ℕ) → r < c.replicas → live r ≡ true → (r ≡ a) ⊎ (r ≢ a) → AtEachMoment (λ now. (length (part r now) ≤ length (part a now) + 1) × (length (part a now) ≤ length (part r now) + 1)) (history events)
     one r low there (inl same) = subst (λ i. AtEachMoment (λ now. (length (part i now) ≤ length (part a now) + 1) × (length (part a now) ≤ length (part i now) + 1)) (history events)) (sym same) (near_self a (history events))
     one r low there (inr other) =
-        near_both (λ now. length (part r now) ≤ length (part a now) + 1) (λ now. length (part a now) ≤ length (part r now) + 1) (λ now. (length (part r now) ≤ length (part a now) + 1) × (length (part a now) ≤ length (part r now) + 1)) (λ now x y. (x, y)) (history events)
+        both_moments (λ now. length (part r now) ≤ length (part a now) + 1) (λ now. length (part a now) ≤ length (part r now) + 1) (λ now. (length (part r now) ≤ length (part a now) + 1) × (length (part a now) ≤ length (part r now) + 1)) (λ now x y. (x, y)) (history events)
         (behind a r (λ same. other (sym same)) some lives low there) (behind r a other low there some lives)
 
 -- an event before a later one of replica 0 is reached
@@ -122,13 +119,13 @@ more_front events front older e is = is ∙ sym (append_assoc front (e ∷ []) o
 pub asks_alone : (c : Config) (events front past : List Event) → NamesFirst c events → history events ≡ front ++ past → has (λ f. f.by == 0) front ≡ true → AsksAlone 0 past
 asks_alone c events front [] names is some = tt
 asks_alone c events front (e ∷ past) names is some =
-    (asks_alone c events (front ++ e ∷ []) past names (more_front events front past e is) (has_both (λ f. f.by == 0) front (e ∷ []) some), λ p asked. names.asks (history past) e p (reached events front past e is some) asked)
+    (asks_alone c events (front ++ e ∷ []) past names (more_front events front past e is) (has_newer (λ f. f.by == 0) front (e ∷ []) some), λ p asked. names.asks (history past) e p (reached events front past e is some) asked)
 
 -- and no other writes rows
 pub writes_alone : (c : Config) (events front past : List Event) (lengths : List ℕ) (rounds : ℕ) → NamesFirst c events → AreUnpaused c events lengths rounds → history events ≡ front ++ past → has (λ f. f.by == 0) front ≡ true → WritesAlone 0 past
 writes_alone c events front [] lengths rounds names run is some = tt
 writes_alone c events front (e ∷ past) lengths rounds names run is some =
-    (writes_alone c events (front ++ e ∷ []) past lengths rounds names run (more_front events front past e is) (has_both (λ f. f.by == 0) front (e ∷ []) some), writes)
+    (writes_alone c events (front ++ e ∷ []) past lengths rounds names run (more_front events front past e is) (has_newer (λ f. f.by == 0) front (e ∷ []) some), writes)
   where
     inside : (t : Bool) → nat_lt e.by c.replicas ≡ t → e.by < c.replicas
     inside true low = ltb-true e.by c.replicas low

@@ -27,8 +27,9 @@ use Rattle.mu_cluster.specs.Naming.{IsBeforeEnd, IsReached, NamesFirst, NamesFir
 use Rattle.mu_cluster.specs.Rounds.{Played, id_of, part_of}
 use Rattle.mu_model.proofs.Lists.{item_below}
 use Rattle.mu_cluster.proofs.InStep.{StaysAhead, in_step}
-use Rattle.mu_cluster.proofs.Passes.{has_both, has_history}
+use Rattle.mu_cluster.proofs.Passes.{has_history}
 use Rattle.mu_cluster.proofs.Trusting.{trusts}
+use Rattle.mu_pace.proofs.Pasts.{has_newer}
 
 -- the history before an event, and with it
 before_event : (events earlier later : List Event) (e : Event) → events ≡ earlier ++ e ∷ later → history events ≡ history (e ∷ later) ++ history earlier
@@ -138,7 +139,7 @@ few_then : (c : Config) (events : List Event) (lengths : List ℕ) (rounds r : �
     → length (part r older) ≤ length (part_of 0 events)
 few_then c events lengths rounds r newer [] run is left other some = omega arith
 few_then c events lengths rounds r newer (e ∷ older) run is left other some =
-    go (e.by == r) refl (few_then c events lengths rounds r (newer ++ e ∷ []) older run (is ∙ sym (append_assoc newer (e ∷ []) older)) (has_both (λ f. f.by == 0) newer (e ∷ []) left) other some)
+    go (e.by == r) refl (few_then c events lengths rounds r (newer ++ e ∷ []) older run (is ∙ sym (append_assoc newer (e ∷ []) older)) (has_newer (λ f. f.by == 0) newer (e ∷ []) left) other some)
   where
     go : (t : Bool) → (e.by == r) ≡ t → length (part r older) ≤ length (part_of 0 events) → length (cond t (e ∷ part r older) (part r older)) ≤ length (part_of 0 events)
     go true own _ = (let few = few_with c events lengths rounds r newer older e run is left (eqb-true e.by r own) other some in omega (arith, few))

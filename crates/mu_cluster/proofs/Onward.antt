@@ -39,7 +39,7 @@ use Rattle.mu_pace.specs.Counters.{AtEachMoment, AtEachStep}
 use Rattle.mu_pace.proofs.Counting.{last_moment, moments_before, steps_before}
 use Rattle.mu_alive.specs.Turns.{AreInTurn, is_own_min}
 use Rattle.mu_alive.proofs.Beginning.{begins_now, cause_is}
-use Rattle.mu_alive.proofs.Cutting.{Located, cut, located, met}
+use Rattle.mu_alive.proofs.Cutting.{Located, located, met}
 use Rattle.mu_alive.proofs.Failing.{beat_verb, quiet_beats, quiet_last}
 use Rattle.mu_alive.proofs.TurnFences.{lead_on_moments, turns_lead_on}
 use Rattle.mu_alive.proofs.Turns.{begun-part, min_begun, min_leads}
@@ -51,6 +51,7 @@ use Rattle.mu_cluster.proofs.Naming.{AreUnpaused, part_before, part_step, unpaus
 use Rattle.mu_cluster.proofs.Turning.{asks_late, names_failed, outlasted}
 use Rattle.mu_cluster.proofs.InTurn.{Asked, asked, insider, none_below, none_left}
 use Rattle.mu_cluster.proofs.Turned.{fresh_read, part_split, resting_read}
+use Rattle.mu_pace.proofs.Pasts.{cut}
 
 -- a score is the same of the part
 beat_read-own : (r q : ℕ) → IsOwn r (λ e. beat_read r q e.by e.verb e.answer)

@@ -36,7 +36,7 @@ use Rattle.mu_alive.specs.Failing.{failing_steps}
 use Rattle.mu_alive.specs.Last.{LeadsLast, NamesItself}
 use Rattle.mu_alive.specs.Turns.{AreInTurn}
 use Rattle.mu_alive.proofs.Beginning.{grants_before, reads_before}
-use Rattle.mu_alive.proofs.Cutting.{Located, cut, located}
+use Rattle.mu_alive.proofs.Cutting.{Located, located}
 use Rattle.mu_alive.proofs.Failing.{held_failed}
 use Rattle.mu_alive.proofs.Enough.{asks_before, outrun_before}
 use Rattle.mu_alive.proofs.Fetching.{applied_on, last_applies_all}
@@ -56,6 +56,7 @@ use Rattle.mu_cluster.proofs.Onward.{AreNodes, in_turn, journal_part, names_own,
 use Rattle.mu_cluster.proofs.Outrunning.{none_outrun}
 use Rattle.mu_cluster.proofs.Taken.{TakenAt, fetches_at, moments_of, taken_at}
 use Rattle.mu_cluster.proofs.Turning.{outlasted}
+use Rattle.mu_pace.proofs.Pasts.{cut, not_true}
 
 -- who makes no events has none
 none_there : (events : List Event) → length events ≡ 0 → events ≡ []
@@ -175,15 +176,6 @@ holds_after c live events lengths rounds a k good run nodes inside lives majorit
     t : TakenAt c live a events c.budget
     t = taken_at c live a events lengths rounds c.budget run inside lives (omega (arith, enough)) (λ r low there. let is = all r low there in omega (arith, is))
 
--- in what a replay leaves
-pub not_stopped : (t : Bool) → not t ≡ true → t ≡ false
-not_stopped true is = absurd (true≢false (sym is))
-not_stopped false is = refl
-
-pub stopped_so : (t : Bool) → not t ≡ false → t ≡ true
-stopped_so true is = refl
-stopped_so false is = absurd (true≢false is)
-
 -- who spent its budget made as many steps
 pub whole_budget : (o : Outcome) (run : IsRun o) (r : ℕ) → r < o.job.config.replicas → slice_get o.ends r ≡ Some End.Budget → length (history (journal_of o r)) ≡ o.job.config.budget
 whole_budget o run r low spent = go (run.ended r low).0 (run.ended r low).1 (run.ended r low).2.ends
@@ -197,7 +189,7 @@ applies_after o order seats rounds good run given played diligent unpaused s k o
     let all = unpaused_of o order seats rounds run given played unpaused in
     let nodes = nodes_of o order seats rounds run given played diligent in
     let holds = holds_after c (λ r. not (was_stopped o r)) run.order.events (map length (journals_of o)) run.turns.rounds s k good all nodes on.inside (ap not on.left) on.majority
-    (λ r low there. all.taken r low ∙ ap length (sym (journal_part o run r low)) ∙ whole_budget o run r low (spent r low (not_stopped (was_stopped o r) there)))
+    (λ r low there. all.taken r low ∙ ap length (sym (journal_part o run r low)) ∙ whole_budget o run r low (spent r low (not_true (was_stopped o r) there)))
     (λ q below. let inside = on.inside in let few = time.ended q below in let same = ap length (journal_part o run q (omega (arith, below, inside))) in let long = length-reverse (journal_of o q) in omega (arith, few, same, long))
     (λ r low. subst (IsDiligent c r) (journal_part o run r low) (diligent r low)) time.large time.enough in
     ap (holds_all c) (run.logs s on.inside ∙ ap (applied c s) (journal_part o run s on.inside)) ∙ holds

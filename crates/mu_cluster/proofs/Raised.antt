@@ -35,7 +35,7 @@ use Rattle.mu_alive.proofs.Beginning.{grants_before, reads_before}
 use Rattle.mu_alive.proofs.Enough.{asks_before, outrun_before}
 use Rattle.mu_alive.proofs.Fetching.{applied_grows}
 use Rattle.mu_alive.proofs.LastRaising.{last_raises_all}
-use Rattle.mu_alive.proofs.Spreading.{get_of_front, get_take, heads-own, same_lists}
+use Rattle.mu_alive.proofs.Spreading.{get_of_front, get_take, heads-own}
 use Rattle.mu_cluster.specs.Rounds.{part_of}
 use Rattle.mu_cluster.specs.Naming.{NamesFirst}
 use Rattle.mu_cluster.proofs.Living.{asks_alone, more_front, names_itself, none_of, writes_alone}
@@ -43,8 +43,10 @@ use Rattle.mu_cluster.proofs.Naming.{AreUnpaused, few_steps, names_in, trusts_th
 use Rattle.mu_cluster.proofs.Onward.{AreNodes}
 use Rattle.mu_cluster.proofs.Outliving.{leads_last}
 use Rattle.mu_cluster.proofs.Outrunning.{none_outrun}
-use Rattle.mu_cluster.proofs.Passes.{has_later}
 use Rattle.mu_cluster.proofs.Taken.{GoOn, TakenAt, fetches_at, keep_at, opens_at, taken_at}
+use Rattle.mu_agree.proofs.Sessions.{same_list}
+use Rattle.mu_outcome.proofs.Completing.{least_passes}
+use Rattle.mu_pace.proofs.Pasts.{has_later}
 
 -- the least of the numbers of those that pass
 record Least (n : ℕ) (live : ℕ → Bool) (f : ℕ → ℕ) : Type 0 where
@@ -95,19 +97,6 @@ head_applied c r = legal_induction c (λ past. region_head r past ≤ length (ap
         raised false other = grows (event_after c past by (Verb.RaiseHead h)) past ih
     step past by v needs ih = grows (event_after c past by v) past ih
 
--- the least number that passes does, if there is one
-least_passes : (n : ℕ) (test : ℕ → Bool) → least_below n test < n → test (least_below n test) ≡ true
-least_passes zero test low = absurd (omega (arith, low))
-least_passes (suc n) test low = go (least_below n test == n) refl (test n) refl low (λ less. least_passes n test less)
-  where
-    go : (s : Bool) → (least_below n test == n) ≡ s → (t : Bool) → test n ≡ t → cond s (cond t n (n + 1)) (least_below n test) < suc n → (least_below n test < n → test (least_below n test) ≡ true) → test (cond s (cond t n (n + 1)) (least_below n test)) ≡ true
-    go true hs true ht low ih = ht
-    go true hs false ht low ih = absurd (omega (arith, low))
-    go false hs t ht low ih = ih (let fits = least_below_fits n test in let other = not_same hs in omega (arith, fits, other))
-      where
-        not_same : (least_below n test == n) ≡ false → least_below n test ≢ n
-        not_same off same = true≢false (sym (eq-eqb (least_below n test) n same) ∙ off)
-
 -- a full log holds all commands up to its full length
 pub full_holds : (c : Config) (r : ℕ) (mine : List Event) → is_full c r mine ≡ true → holds_all c (take (full_length c r mine) (applied c r mine)) ≡ true
 full_holds c r mine full = let fits = leb-true (full_length c r mine) (length (applied c r mine)) full in least_passes (length (applied c r mine) + 1) (λ k. holds_all c (take k (applied c r mine))) (omega (arith, fits))
@@ -115,7 +104,7 @@ full_holds c r mine full = let fits = leb-true (full_length c r mine) (length (a
 -- two logs agree as far as both reach
 pub same_taken : (c : Config) (r s l : ℕ) (past : List Event) → IsLegalHistory c past → l ≤ length (applied c r (part r past)) → l ≤ length (applied c s (part s past)) → take l (applied c r (part r past)) ≡ take l (applied c s (part s past))
 same_taken c r s l past legal one other =
-    same_lists (take l (applied c r (part r past))) (take l (applied c s (part s past)))
+    same_list (take l (applied c r (part r past))) (take l (applied c s (part s past)))
     (let a = length-take l (applied c r (part r past)) in let b = length-take l (applied c s (part s past)) in omega (arith, a, b, one, other))
     (λ i v w at there.
     known_agree c r s past legal i v w (get_of_front (λ x. has_entry c r x (part r past)) (known c r (part r past)) i v (get_take l (applied c r (part r past)) i v at)) (get_of_front (λ x. has_entry c s x (part s past)) (known c s (part s past)) i w (get_take l (applied c s (part s past)) i w there)))

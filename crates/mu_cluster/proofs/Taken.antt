@@ -22,13 +22,13 @@ use Rattle.mu_node.proofs.Asked.{asks_all_first}
 use Rattle.mu_node.proofs.HeadRaises.{raises_to_all}
 use Rattle.mu_pace.specs.Collecting.{LeaderKeeps}
 use Rattle.mu_pace.specs.Counters.{AtEachMoment, AtEachStep}
-use Rattle.mu_pace.proofs.Counting.{steps_before}
+use Rattle.mu_pace.proofs.Counting.{steps_before, both_moments}
 use Rattle.mu_alive.specs.Finishing.{KeepUp}
 use Rattle.mu_alive.specs.Following.{RaisesToAll}
-use Rattle.mu_alive.proofs.Cutting.{Cut, Located, cut, located}
+use Rattle.mu_alive.proofs.Cutting.{Located, located}
 use Rattle.mu_cluster.specs.Rounds.{part_of}
 use Rattle.mu_cluster.proofs.InStep.{StaysAhead, in_step}
-use Rattle.mu_cluster.proofs.Living.{each_near, near_both, near_one, near_self}
+use Rattle.mu_cluster.proofs.Living.{each_near, near_one, near_self}
 use Rattle.mu_cluster.proofs.Naming.{AreUnpaused, few_steps, part_before, trusts_then}
 use Rattle.mu_detect.proofs.Leaders.{alive_leads, may_lead}
 use Rattle.mu_node.proofs.Asked.{asks_until_min, numbers_in_time}
@@ -41,6 +41,7 @@ use Rattle.mu_alive.specs.Opens.{OpensInTime}
 use Rattle.mu_alive.specs.Stopping.{ReadsInOrder}
 use Rattle.mu_alive.proofs.Finishing.{heads_before, replays_before}
 use Rattle.mu_cluster.proofs.Turning.{least_most}
+use Rattle.mu_pace.proofs.Pasts.{cut, Cut}
 
 -- what holds of each beginning of the list holds at each moment of a part
 pub moments_of : (a : ℕ) (P : List Event → Type 0) (past : List Event) → ((newer older : List Event) → past ≡ newer ++ older → P (part a older)) → AtEachMoment P (part a past)
@@ -107,7 +108,7 @@ taken_at c live a events lengths rounds most run inside lives one_more late = at
             one : (r : ℕ) → r < c.replicas → live r ≡ true → (r ≡ a) ⊎ (r ≢ a) → AtEachMoment (λ now. (length (part r now) ≤ length (part a now) + 1) × (length (part a now) ≤ length (part r now) + 1)) past
             one r low goes (inl same) = subst (λ i. AtEachMoment (λ now. (length (part i now) ≤ length (part a now) + 1) × (length (part a now) ≤ length (part i now) + 1)) past) (sym same) (near_self a past)
             one r low goes (inr other) =
-                near_both (λ now. length (part r now) ≤ length (part a now) + 1) (λ now. length (part a now) ≤ length (part r now) + 1) (λ now. (length (part r now) ≤ length (part a now) + 1) × (length (part a now) ≤ length (part r now) + 1)) (λ now x y. (x, y)) past
+                both_moments (λ now. length (part r now) ≤ length (part a now) + 1) (λ now. length (part a now) ≤ length (part r now) + 1) (λ now. (length (part r now) ≤ length (part a now) + 1) × (length (part a now) ≤ length (part r now) + 1)) (λ now x y. (x, y)) past
                 (behind a r (λ same. other (sym same)) inside lives low goes) (behind r a other low goes inside lives)
 
             near : AtEachMoment (IsNear c live a) past

@@ -20,12 +20,13 @@ use Rattle.mu_model.proofs.Basics.{same_number}
 use Rattle.mu_model.proofs.Parts.{filter-append}
 use Rattle.mu_grant.specs.Pace.{InCycleOrder}
 use Rattle.mu_grant.proofs.Rounds.{reads_open}
-use Rattle.mu_alive.proofs.Cutting.{Located, cut, located, met}
+use Rattle.mu_alive.proofs.Cutting.{Located, located, met}
 use Rattle.mu_alive.proofs.TurnOwners.{closing-part}
 use Rattle.mu_cluster.specs.Rounds.{part_of}
 use Rattle.mu_cluster.proofs.Naming.{AreUnpaused}
 use Rattle.mu_cluster.proofs.Turning.{asks_late, outlasted}
-use Rattle.mu_cluster.proofs.InTurn.{asked, insider, none_below, none_left, quiet_asks, quiet_seen, reads_verb, steps_then}
+use Rattle.mu_cluster.proofs.InTurn.{asked, insider, none_below, none_left, quiet_asks, quiet_seen, steps_then}
+use Rattle.mu_pace.proofs.Pasts.{cut, reads_ask}
 
 -- the whole part of a maker
 pub part_split : (events front past : List Event) (e : Event) (p : ℕ) → history events ≡ front ++ e ∷ past → e.by ≡ p → part_of p events ≡ (part p front ++ e ∷ []) ++ part p past
@@ -71,7 +72,7 @@ fresh_read c events lengths rounds front past e w r run reads is below begun =
             let quiet = none_left c events (front ++ e ∷ []) l.newer (x ∷ l.older) w split (same ∙ gone) in
             let legal = legal_older c (front ++ e ∷ []) (l.newer ++ x ∷ l.older) (subst (IsLegalHistory c) split run.legal) in
             let here = legal_older c l.newer (x ∷ l.older) legal in
-            let verb = reads_verb w x.verb reads_it in
+            let verb = reads_ask w x.verb reads_it in
             let answer = here.1.answer ∙ ap (answer_of c x.by l.older) verb in
             let seen : seen_asks e.by w (x ∷ l.older) ≡ asks w e.by (x ∷ l.older) = sees x.by x.verb x.answer l.older l.own verb answer in
             ap (asks w e.by) l.is ∙ quiet_asks w e.by l.newer (x ∷ l.older) quiet ∙ sym (ap (seen_asks e.by w) l.is ∙ quiet_seen c w e.by l.newer (x ∷ l.older) legal quiet seen)

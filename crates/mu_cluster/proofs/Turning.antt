@@ -28,6 +28,7 @@ use Rattle.mu_cluster.specs.Rounds.{part_of}
 use Rattle.mu_cluster.proofs.InStep.{StaysAhead, in_step}
 use Rattle.mu_cluster.proofs.Naming.{AreUnpaused, part_before, part_step}
 use Rattle.mu_cluster.proofs.Trusting.{trusts}
+use Rattle.mu_pace.proofs.Pasts.{has_newer}
 
 -- the least that passes is at most each that does
 pub least_most : (n q : ℕ) (test : ℕ → Bool) → q < n → test q ≡ true → least_below n test ≤ q
@@ -108,14 +109,6 @@ since_newer test (e ∷ window) older some = go (test e) some (since_newer test 
     go : (t : Bool) → cond t true (has test window) ≡ true → (has test window ≡ true → since test (window ++ older) ≡ since test window) → cond t [] (e ∷ since test (window ++ older)) ≡ cond t [] (e ∷ since test window)
     go true some ih = refl
     go false some ih = ap (λ l. e ∷ l) (ih some)
-
-has_newer : (test : Event → Bool) (window older : List Event) → has test window ≡ true → has test (window ++ older) ≡ true
-has_newer test [] older some = absurd (true≢false (sym some))
-has_newer test (e ∷ window) older some = go (test e) some (has_newer test window older)
-  where
-    go : (t : Bool) → cond t true (has test window) ≡ true → (has test window ≡ true → has test (window ++ older) ≡ true) → cond t true (has test (window ++ older)) ≡ true
-    go true some ih = refl
-    go false some ih = ih some
 
 abbrev IsSparse : Config → ℕ → List Event → Type 0
 IsSparse c q window = (how_many (is_beat_read q) window ≡ 0) ⊎ ((how_many (is_beat_read q) window * cycle c + length (since (is_beat_read q) window) ≤ length window + cycle c) × (has (is_beat_read q) window ≡ true))

@@ -31,9 +31,10 @@ use Rattle.mu_cluster.proofs.Finishing.{finishes_from, goes_on_of, held_in_time,
 use Rattle.mu_cluster.proofs.Lives.{done_or_not}
 use Rattle.mu_cluster.proofs.Naming.{AreUnpaused, unpaused_of}
 use Rattle.mu_cluster.proofs.Onward.{AreNodes, journal_part, nodes_of, score-part}
-use Rattle.mu_cluster.proofs.Outliving.{fails_then, leads_last, not_stopped, spent_by, stopped_so, whole_budget}
+use Rattle.mu_cluster.proofs.Outliving.{fails_then, leads_last, spent_by, whole_budget}
 use Rattle.mu_cluster.proofs.Raised.{RaisedBy}
 use Rattle.mu_cluster.proofs.Taken.{GoOn, TakenAt, fetches_at, keep_at, moments_of, opens_at, ordered_at, taken_at}
+use Rattle.mu_pace.proofs.Pasts.{not_true, not_false}
 
 -- each that stopped took at most k steps
 abbrev StopBy : Config → (ℕ → Bool) → List Event → ℕ → Type 0
@@ -93,7 +94,7 @@ raised_last c live s events lengths rounds k good two run nodes on stop late = r
 
 -- in what a replay leaves
 stop_by : (o : Outcome) (run : IsRun o) (k : ℕ) → ((r : ℕ) → r < o.job.config.replicas → was_stopped o r ≡ true → length (journal_of o r) ≤ k) → StopBy o.job.config (λ r. not (was_stopped o r)) run.order.events k
-stop_by o run k ended q low gone = let few = ended q low (stopped_so (was_stopped o q) gone) in let same = ap length (journal_part o run q low) in let long = length-reverse (journal_of o q) in omega (arith, few, same, long)
+stop_by o run k ended q low gone = let few = ended q low (not_false (was_stopped o q) gone) in let same = ap length (journal_part o run q low) in let long = length-reverse (journal_of o q) in omega (arith, few, same, long)
 
 pub applies_in_any_ring : (o : Outcome) (order : Record) (seats : List Seat) (rounds : ℕ) → IsConfig o.job.config → (run : IsRun o) → o.order ≡ Some order → Played o.job.config o.job.script order.events seats rounds 0 → AreDiligent o → AppliesAllAfterStopsInAnyRing o
 applies_in_any_ring o order seats rounds good run given played diligent unpaused s k on time spent =
@@ -102,7 +103,7 @@ applies_in_any_ring o order seats rounds good run given played diligent unpaused
     let nodes = nodes_of o order seats rounds run given played diligent in
     let goes_on = goes_on_of o order seats rounds s good run given played diligent unpaused on in
     let holds = holds_after c (λ r. not (was_stopped o r)) s run.order.events (lengths_of o) run.turns.rounds k good time.version all nodes goes_on (stop_by o run k time.ended)
-    (λ r low there. all.taken r low ∙ ap length (sym (journal_part o run r low)) ∙ whole_budget o run r low (spent r low (not_stopped (was_stopped o r) there))) time.enough in
+    (λ r low there. all.taken r low ∙ ap length (sym (journal_part o run r low)) ∙ whole_budget o run r low (spent r low (not_true (was_stopped o r) there))) time.enough in
     ap (holds_all c) (run.logs s on.inside ∙ ap (applied c s) (journal_part o run s on.inside)) ∙ holds
 
 pub finishes_in_small_rings : (o : Outcome) (order : Record) (seats : List Seat) (rounds : ℕ) → IsConfig o.job.config → (run : IsRun o) → o.order ≡ Some order → Played o.job.config o.job.script order.events seats rounds 0 → AreDiligent o → AppliesEachAfterStopsInAnyRing o

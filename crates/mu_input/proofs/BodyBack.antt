@@ -2,7 +2,7 @@
 use Rattle.std.proofs.Common.{◌≡◌, ◌≢◌, ℕ, zero, suc, ◌+◌, ◌-◌, ◌<◌, ◌≤◌, ◌==◌, nat_le, true, false, cond, List, [], ◌∷◌, ◌++◌, length, codes, refl, sym, ap, subst, ◌∙◌, ⊎_elim, arith, append_assoc, append-nil, length-append}
 use Rattle.std.specs.Fmt.{decimal}
 use Rattle.std.specs.List.{All}
-use Rattle.std.proofs.lemmas.Bool.Decides.{Decides-eqb, eqb_tells, nat_tests}
+use Rattle.std.proofs.lemmas.Bool.Decides.{Decides-eqb, nat_tests}
 use Rattle.std.proofs.lemmas.List.Elements.{All-append, All-cons, All-head, All-nil, All-push, All-tail}
 use Rattle.kv_store.specs.Commands.{Request}
 use Rattle.kv_store.specs.declared.command.Op.{Op}
@@ -18,6 +18,7 @@ use Rattle.mu_input.specs.declared.bodies.BodyLine.TheVariants as body
 use Rattle.mu_input.proofs.Clients.{AreOf}
 use Rattle.mu_input.proofs.Fronts.{Gives}
 use Rattle.mu_input.proofs.OperationsBack.{HasPlace, IsJudged, client-spells, client_line-back, line-places, op-spells, operation_line-back}
+use Rattle.std.proofs.lemmas.Bool.{ne_eqb}
 
 -- a client and its commands
 abbrev block : List Request → ℕ → List (List ℕ)
@@ -37,11 +38,8 @@ commands_lines-push client [] command = append-nil (command_lines client command
 commands_lines-push client (first ∷ commands) command =
     ap (λ rest. command_lines client first ++ rest) (commands_lines-push client commands command) ∙ sym (append_assoc (command_lines client first) (commands_lines client commands) (command_lines client command))
 
-other : (n k : ℕ) → n ≢ k → (n == k) ≡ false
-other n k different = ⊎_elim (λ (t : ((n == k) ≡ true) × (n ≡ k)). absurd (different t.1)) (λ (t : ((n == k) ≡ false) × (n ≢ k)). t.0) (eqb_tells n k)
-
 others_lines : (client : ℕ) (command : Request) → command.client ≢ client → command_lines client command ≡ []
-others_lines client command different = ap (λ b. cond b (op_words command.op ∷ []) []) (other command.client client different)
+others_lines client command different = ap (λ b. cond b (op_words command.op ∷ []) []) (ne_eqb command.client client different)
 
 own_lines : (client : ℕ) (command : Request) → command.client ≡ client → command_lines client command ≡ op_words command.op ∷ []
 own_lines client command same = ap (λ b. cond b (op_words command.op ∷ []) []) ((Decides-eqb command.client client).1 same)

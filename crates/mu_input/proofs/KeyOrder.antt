@@ -3,7 +3,7 @@
 use Rattle.std.proofs.Common.{◌≡◌, ◌≢◌, ℕ, zero, suc, ◌+◌, ◌<◌, ◌≤◌, ◌==◌, Bool, true, false, cond, List, [], ◌∷◌, ◌++◌, length, get_or, refl, sym, ap, ◌∙◌, ⊎_elim, arith, length-append, append-nil}
 use Rattle.std.specs.Bool.{⊤}
 use Rattle.std.specs.List.{All, filter}
-use Rattle.std.proofs.lemmas.Bool.{cases_lt}
+use Rattle.std.proofs.lemmas.Bool.{cases_lt, ne_eqb}
 use Rattle.std.proofs.lemmas.Bool.Decides.{Decides-eqb, eqb_tells}
 use Rattle.std.proofs.lemmas.List.Elements.{All-append, All-cons, All-filter, All-head, All-nil, All-tail, filter-append, filter_passes}
 
@@ -73,17 +73,14 @@ filter-none p [] all = refl
 filter-none p (x ∷ xs) all =
     ap (λ b. cond b (x ∷ filter p xs) (filter p xs)) (All-head (λ x. p x ≡ false) x xs all) ∙ filter-none p xs (All-tail (λ x. p x ≡ false) x xs all)
 
-other_key : (n k : ℕ) → n ≢ k → (n == k) ≡ false
-other_key n k other = ⊎_elim (λ (t : ((n == k) ≡ true) × (n ≡ k)). absurd (other t.1)) (λ (t : ((n == k) ≡ false) × (n ≢ k)). t.0) (eqb_tells n k)
-
 none_of : {A : Type 0} (key : A → ℕ) (k n : ℕ) (xs : List A) → n ≤ k → of_key key k (in_key_order key n xs) ≡ []
-none_of key k n xs above = filter-none (λ x. key x == k) (in_key_order key n xs) (λ i d below. let low = keys_below key n xs i d below in other_key (key (get_or (in_key_order key n xs) i d)) k (λ e. omega (arith, e, low)))
+none_of key k n xs above = filter-none (λ x. key x == k) (in_key_order key n xs) (λ i d below. let low = keys_below key n xs i d below in ne_eqb (key (get_or (in_key_order key n xs) i d)) k (λ e. omega (arith, e, low)))
 
 of_key-twice : {A : Type 0} (key : A → ℕ) (k : ℕ) (xs : List A) → of_key key k (of_key key k xs) ≡ of_key key k xs
 of_key-twice key k xs = filter-all (λ x. key x == k) (of_key key k xs) (filter_passes (λ x. key x == k) xs)
 
 of_key-other : {A : Type 0} (key : A → ℕ) (k n : ℕ) (xs : List A) → k < n → of_key key k (of_key key n xs) ≡ []
-of_key-other key k n xs below = filter-none (λ x. key x == k) (of_key key n xs) (λ i d here. let is = have_key key n xs i d here in other_key (key (get_or (of_key key n xs) i d)) k (λ e. omega (arith, e, is)))
+of_key-other key k n xs below = filter-none (λ x. key x == k) (of_key key n xs) (λ i d here. let is = have_key key n xs i d here in ne_eqb (key (get_or (of_key key n xs) i d)) k (λ e. omega (arith, e, is)))
 
 of_key-in : {A : Type 0} (key : A → ℕ) (k n : ℕ) (xs : List A) → k < n → of_key key k (in_key_order key n xs) ≡ of_key key k xs
 of_key-in key k zero xs below = absurd (omega arith)

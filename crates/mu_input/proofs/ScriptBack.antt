@@ -29,7 +29,7 @@ use Rattle.mu_input.proofs.Fronts.{Gives}
 use Rattle.mu_input.proofs.SettingsBack.{numbered-spells, within-gives}
 use Rattle.mu_input.proofs.KeyOrder.{All-in_key_order, Pairs, Pairs-in_key_order, Pairs-push, in_key_order, in_key_order-twice, length-in_key_order}
 use Rattle.mu_input.proofs.StopsAndPauses.{pauses_of-filter, stops_of-filter}
-use Rattle.std.proofs.lemmas.Bool.{and_parts}
+use Rattle.std.proofs.lemmas.Bool.{and_parts, ne_eqb}
 
 abbrev of_stop : Stop → ℕ
 of_stop stop = stop.replica
@@ -111,9 +111,6 @@ in_order-twice replicas stops pauses =
     ap (λ (stops : List Stop). let made : Script = record { stops = stops; pauses = pauses_in_order replicas (pauses_in_order replicas pauses) } in made) same_stops
     ∙ ap (λ (pauses : List Pause). let made : Script = record { stops = stops_in_order replicas stops; pauses = pauses } in made) same_pauses
 
-other : (n k : ℕ) → n ≢ k → (n == k) ≡ false
-other n k different = ⊎_elim (λ (t : ((n == k) ≡ true) × (n ≡ k)). absurd (different t.1)) (λ (t : ((n == k) ≡ false) × (n ≢ k)). t.0) (eqb_tells n k)
-
 stopped_none : (r : ℕ) (stops : List Stop) → is_stopped r stops ≡ false → All (λ stop. of_stop stop ≡ r → ⊥) stops
 stopped_none r [] e = All-nil (λ stop. of_stop stop ≡ r → ⊥)
 stopped_none r (stop ∷ stops) e = by_test (stop.replica == r) refl (stopped_none r stops) e
@@ -193,7 +190,7 @@ pause-back replicas stops pauses pause few is later room =
     ∙ room-is (length stops + length pauses) (line.Pause pause) room
 
 still_new : (r : ℕ) (stop : Stop) (done : List Stop) → is_stopped r done ≡ false → (of_stop stop ≡ r → ⊥) → is_stopped r (done ++ stop ∷ []) ≡ false
-still_new r stop [] none different = ap (λ b. b || false) (other stop.replica r different)
+still_new r stop [] none different = ap (λ b. b || false) (ne_eqb stop.replica r different)
 still_new r stop (first ∷ done) none different = by_test (first.replica == r) (λ none. still_new r stop done none different) none
   where
     by_test : (b : Bool) → (is_stopped r done ≡ false → is_stopped r (done ++ stop ∷ []) ≡ false) → (b || is_stopped r done) ≡ false → (b || is_stopped r (done ++ stop ∷ [])) ≡ false

@@ -1,5 +1,5 @@
 -- What is counted for a replica is at most its steps.
-use Rattle.std.proofs.Common.{◌≡◌, ℕ, ◌≤◌, Bool, true, false, ◌==◌, ◌&&◌, List, refl, sym, ◌∙◌, ap, arith, Some, None}
+use Rattle.std.proofs.Common.{◌≡◌, ℕ, ◌≤◌, Bool, true, false, ◌==◌, ◌&&◌, List, sym, ◌∙◌, ap, arith, Some, None}
 use Rattle.std.specs.declared.option.Option.{Option}
 use Rattle.std.specs.Prelude.{if◌then◌else◌, not}
 use Rattle.mu_model.specs.declared.config.Config.{Config}
@@ -11,7 +11,7 @@ use Rattle.mu_model.specs.Answers.{entered_or_lost}
 use Rattle.mu_model.specs.Histories.{how_many, part}
 use Rattle.mu_model.specs.Leaderships.{noted_grant}
 use Rattle.mu_model.specs.Legal.{IsLegalHistory}
-use Rattle.mu_model.specs.Regions.{asks, beats, fence, fence_grant, is_ask_by, is_beat_by, is_grant_by, is_grant_of}
+use Rattle.mu_model.specs.Regions.{asks, beats, fence, fence_grant, is_ask_by, is_beat_by, is_grant_of}
 use Rattle.mu_model.proofs.Counts.{how_many_within}
 use Rattle.mu_model.proofs.Owned.{IsOwnTest, how_many-part, beats-own, asks-own}
 use Rattle.mu_agree.proofs.Possible.{answered, at_event, same_fence}

@@ -1,8 +1,8 @@
 -- The words and the rule at the start.
-use Rattle.std.proofs.Common.{◌≡◌, ◌≢◌, ℕ, zero, suc, ◌+◌, ◌<◌, ◌==◌, Bool, true, false, cond, List, [], ◌∷◌, length, set, replicate, get_or, slice_index, Some, refl, sym, ap, subst, ◌∙◌, eqb-true, length-set, arith}
+use Rattle.std.proofs.Common.{◌≡◌, ◌≢◌, ℕ, zero, suc, ◌+◌, ◌<◌, ◌==◌, Bool, true, false, cond, List, [], ◌∷◌, length, set, get_or, slice_index, Some, refl, sym, ap, subst, ◌∙◌, eqb-true, length-set, arith}
 use Rattle.std.specs.Prelude.{nat_lt}
 use Rattle.std.proofs.lemmas.Bool.{eqb-false, ltb-true, lt-ltb}
-use Rattle.std.proofs.lemmas.List.{get_or-replicate, get_or-set_other, get_or-set_same, length-replicate}
+use Rattle.std.proofs.lemmas.List.{get_or-set_other, get_or-set_same}
 use mathlib.Core.Option as opt
 use mathlib.Core.Option.{some-injective, some-ne-none}
 use lib.ListN.{get_elem?}
@@ -38,7 +38,6 @@ begins c words is shows = record { events = []; owner = λ r. Some 0; is_config 
 -- there is a word
 pub some_word : (c : Config) (count : ℕ) → IsConfig c → count ≡ word_count (layout_of c) → 0 < count
 some_word c count is same = let inside = places_inside_law (layout_of c) (Name.Fence 0) is.replicas.0 in omega (arith, same, inside)
-
 
 same_test : (p q k : ℕ) → p ≢ q → nat_lt p (q + 1) ≡ nat_lt p q
 same_test p q k ne = go (nat_lt p q) refl (nat_lt p (q + 1)) refl
