@@ -8,11 +8,9 @@ ghost use Rattle.mu_model.specs.Knowledge.{known as known_to};
 ghost use Rattle.mu_model.specs.Legal.{IsLegal};
 
 use crate::states::replica_after;
+use mu_knowledge::Log;
 use mu_model::{Config, Event, NoMemory, Sequence};
 use std::alloc::Global;
-
-/// The values that a replica knows, by position.
-pub type Log = Sequence<u16>;
 
 /// The values that `r` knows.
 pub fn values_known(

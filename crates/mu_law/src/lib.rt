@@ -13,6 +13,6 @@ mod states;
 
 pub use choosing::{chosen_at, marked};
 pub use keeping::kept;
-pub use knowing::{Log, both_know, known};
+pub use knowing::{both_know, known};
 pub use legality::is_legal;
 pub use sessions::session_of;

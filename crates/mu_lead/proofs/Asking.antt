@@ -1,13 +1,12 @@
 -- Asks and rounds of fences.
-use Rattle.std.proofs.Common.{Bool, List, None, Some, ap, arith, false, inl, inr, is_some, refl, subst, sym, true, true≢false, ℕ, ◌&&◌, ◌+◌, ◌<◌, ◌==◌, ◌||◌, ◌∙◌, ◌∷◌, ◌≡◌, ◌≢◌}
-use Rattle.std.specs.declared.option.Option.{Option}
+use Rattle.std.proofs.Common.{List, Some, ap, arith, false, inl, inr, is_some, refl, subst, sym, true, true≢false, ℕ, ◌&&◌, ◌+◌, ◌<◌, ◌==◌, ◌||◌, ◌∙◌, ◌∷◌, ◌≡◌, ◌≢◌}
 use Rattle.std.proofs.lemmas.Bool.{cases_eq, ne_eqb}
 use Rattle.mu_model.specs.declared.config.Config.{Config}
 use Rattle.mu_model.specs.declared.event.Answer.{Answer}
 use Rattle.mu_model.specs.declared.event.Event.{Event}
 use Rattle.mu_model.specs.declared.event.Fence.{Fence}
 use Rattle.mu_model.specs.declared.event.Verb.{Verb}
-use Rattle.mu_model.specs.Leaderships.{begins_leadership, grant_at_joining, is_changed, is_over, noted_grant}
+use Rattle.mu_model.specs.Leaderships.{begins_leadership, grant_at_joining, is_over, noted_grant}
 use Rattle.mu_model.proofs.Basics.{event_by, same_number}
 use Rattle.mu_lead.specs.Confirming.{AtAsk, AtConfirm, AtReadMin, Confirmed, Fresh}
 use Rattle.mu_knowledge.specs.Offers.{IsFirst}

@@ -1,17 +1,16 @@
 -- Minima, the number, and the regions that join.
 use Rattle.std.proofs.Common.{Bool, List, None, Some, [], ap, arith, cond, eq-eqb, false, inl, inr, is_some, max, refl, subst, sym, true, true≢false, ℕ, ◌&&◌, ◌+◌, ◌<◌, ◌==◌, ◌||◌, ◌∙◌, ◌∷◌, ◌≡◌, ◌≢◌, ◌≤◌}
-use Rattle.std.specs.Prelude.{nat_le, not}
+use Rattle.std.specs.Prelude.{nat_le}
 use Rattle.std.specs.declared.option.Option.{Option}
 use Rattle.std.proofs.lemmas.Bool.{and_from, cases_eq, cases_lt, le-leb, ne_eqb}
 use Rattle.mu_model.specs.declared.config.Config.{Config}
 use Rattle.mu_model.specs.declared.event.Answer.{Answer}
 use Rattle.mu_model.specs.declared.event.Event.{Event}
-use Rattle.mu_model.specs.declared.event.Fence.{Fence}
 use Rattle.mu_model.specs.declared.event.Target.{Target}
 use Rattle.mu_model.specs.declared.event.Verb.{Verb}
 use Rattle.mu_model.specs.Entering.{grant_seen, has_read_min, min_read, min_read_since, min_read_under, number_allowed}
 use Rattle.mu_model.specs.Histories.{count_below, earlier_or, has, newer_or, newest, or_zero}
-use Rattle.mu_model.specs.Leaderships.{begins_leadership, fence_seen, grant_at_joining, grant_for, is_above, is_member, is_over, leadership, majority_of, noted_grant, owner_is, proposal_number}
+use Rattle.mu_model.specs.Leaderships.{begins_leadership, grant_at_joining, is_above, is_member, is_over, leadership, majority_of, noted_grant, proposal_number}
 use Rattle.mu_model.proofs.Basics.{event_by, none_some, or_true, same_number, same_some}
 use Rattle.mu_agree.proofs.Counting.{count_more}
 use Rattle.mu_agree.proofs.Landings.{has_since}

@@ -17,7 +17,7 @@ use Rattle.mu_model.specs.Parts.{IsPossible}
 use Rattle.mu_model.specs.Picks.{first_value, is_joining, joined_since_first_put, may_propose, value_put}
 use Rattle.mu_model.specs.Placing.{IsNew, is_caught_up_at, is_known_put, has_looked_since}
 use Rattle.mu_model.specs.Room.{last_head, reserve}
-use Rattle.mu_model.proofs.Basics.{event_by, none_some, or_true, same_number, true_or}
+use Rattle.mu_model.proofs.Basics.{event_by, or_true, same_number, true_or}
 use Rattle.mu_model.proofs.Lists.{get_push_here}
 use Rattle.mu_model.proofs.Scans.{each_all}
 use Rattle.mu_agree.proofs.Landings.{has_implied, has_more}

@@ -1,5 +1,5 @@
 -- If nothing is due, all commands are known, and every region is a member.
-use Rattle.std.proofs.Common.{Bool, List, arith, false, length, refl, subst, sym, true, true≢false, ℕ, ◌+◌, ◌<◌, ◌≡◌, ◌≤◌}
+use Rattle.std.proofs.Common.{Bool, List, arith, false, length, subst, sym, true, ℕ, ◌+◌, ◌<◌, ◌≡◌, ◌≤◌}
 use Rattle.std.specs.Prelude.{not}
 use Rattle.mu_model.specs.declared.config.Config.{Config}
 use Rattle.mu_model.specs.declared.event.Event.{Event}

@@ -1,5 +1,5 @@
 -- The counts of a leader while each member is brought up at one position that a look taught.
-use Rattle.std.proofs.Common.{◌≡◌, ℕ, zero, suc, ◌+◌, ◌<◌, inl, inr, Bool, true, false, ◌&&◌, List, ◌∷◌, length, refl, sym, ◌∙◌, subst, arith, true≢false}
+use Rattle.std.proofs.Common.{◌≡◌, ℕ, ◌+◌, ◌<◌, inl, inr, Bool, true, false, ◌&&◌, List, ◌∷◌, length, refl, sym, ◌∙◌, subst, arith, true≢false}
 use Rattle.std.specs.Prelude.{nat_le, nat_lt}
 use Rattle.std.proofs.lemmas.Bool.{leb-true}
 use Rattle.mu_model.specs.declared.config.Config.{Config}
@@ -8,7 +8,6 @@ use Rattle.mu_model.specs.declared.event.Event.{Event}
 use Rattle.mu_model.specs.declared.event.Verb.{Verb}
 use Rattle.mu_model.specs.Bounds.{is_copying, members}
 use Rattle.mu_model.specs.Contents.{IsConfig}
-use Rattle.mu_model.specs.Histories.{count_below}
 use Rattle.mu_model.specs.Knowledge.{commits, known}
 use Rattle.mu_model.specs.Leaderships.{has_quorum, is_member}
 use Rattle.mu_model.specs.Picks.{is_past}

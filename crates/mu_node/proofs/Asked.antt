@@ -16,7 +16,7 @@ use Rattle.mu_model.specs.Allowed.{Needs}
 use Rattle.mu_model.specs.Diligence.{is_confirmed}
 use Rattle.mu_model.specs.Histories.{has, or_zero}
 use Rattle.mu_model.specs.Knowledge.{known}
-use Rattle.mu_model.specs.Leaderships.{begins_leadership, has_begun, is_first_ask, is_over, leadership, noted_grant, number_put, proposal_number}
+use Rattle.mu_model.specs.Leaderships.{begins_leadership, has_begun, is_first_ask, is_over, noted_grant, number_put, proposal_number}
 use Rattle.mu_model.specs.Parts.{IsPossible}
 use Rattle.mu_model.specs.Scores.{leader}
 use Rattle.mu_model.specs.Steps.{has_min, is_asking, is_asking_verb, is_min, is_min_verb, is_named, named_throughout, replicates}

@@ -22,7 +22,7 @@ use Rattle.mu_follow.specs.Due.{first_word_of, next_due, row_under_way, rows_had
 use Rattle.mu_pace.specs.Away.{IsAway}
 use Rattle.mu_pace.specs.Blocking.{is_blocking, is_progress_by}
 use Rattle.mu_pace.specs.Counters.{HasRoom, Watch, allowed_after, steps_left}
-use Rattle.mu_pace.specs.Watches.{advancing, bringing_up, confirming, explaining, falls_behind, is_answer_to_welcome, is_brought_up, is_confirming, is_full_raise, is_welcoming, joining, leaves, limit_now, progressing, raising, turns_away}
+use Rattle.mu_pace.specs.Watches.{advancing, bringing_up, confirming, explaining, falls_behind, is_answer_to_welcome, is_brought_up, is_confirming, is_full_raise, is_welcoming, joining, leaves, limit_now, progressing, raising}
 use Rattle.mu_pace.proofs.Beside.{not_more, unallowed}
 use Rattle.mu_pace.proofs.Placed.{asks_anew, shut, unnamed_leaves}
 use Rattle.mu_pace.proofs.Rooms.{kinds_of_step}

@@ -13,7 +13,7 @@ use Rattle.mu_model.specs.Knowledge.{has_row, has_word, is_read, is_written, kno
 use Rattle.mu_model.specs.Legal.{IsLegalHistory}
 use Rattle.mu_model.specs.Parts.{IsPossible}
 use Rattle.mu_model.proofs.Basics.{true_or}
-use Rattle.mu_model.proofs.Owned.{IsOwnTest, has-part}
+use Rattle.mu_model.proofs.Owned.{has-part}
 use Rattle.mu_model.proofs.Scans.{all_at, each_all}
 use Rattle.mu_agree.proofs.Phases.{known_chosen}
 use Rattle.mu_agree.proofs.Sessions.{batch_within, mark_no_batch, row_within}

@@ -46,11 +46,6 @@ deed_made false step e (Some resumed) p i halt = refl
 deed_made true step e None p i halt = refl
 deed_made true step e (Some resumed) p i halt = refl
 
-none_older : {A : Type 0} (x y : Option A) → earlier_or x y ≡ None → y ≡ None
-none_older None y is = is
-none_older (Some x) None is = refl
-none_older (Some x) (Some y) is = absurd (none_some y (sym is))
-
 none_behind : {A : Type 0} (x : Option A) → earlier_or x None ≡ x
 none_behind None = refl
 none_behind (Some x) = refl

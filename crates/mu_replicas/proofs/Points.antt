@@ -1,7 +1,7 @@
 -- Tests that tell whether a point is met.
 use Rattle.std.proofs.lemmas.List.{append-nil}
 use Rattle.std.proofs.Common.{suc, ◌+◌, ℕ, ◌<◌, ◌≤◌, ◌≡◌, Bool, true, false, None, Some, List, [], ◌∷◌, ◌++◌, refl, sym, ◌∙◌, ap, subst, arith, append_assoc}
-use Rattle.std.specs.Prelude.{IsTrue, is_some, max, nat_le, nat_lt, not, ◌==◌, ◌↔◌, ◌≢◌}
+use Rattle.std.specs.Prelude.{IsTrue, max, nat_le, nat_lt, not, ◌==◌, ◌↔◌, ◌≢◌}
 use Rattle.std.specs.declared.option.Option.{Option}
 use Rattle.std.proofs.lemmas.Bool.{and_parts, eq-eqb, eqb-true, eqb-false, le-leb, leb-true, lt-ltb, ltb-true, ne_eqb, not-true, not_from_false}
 use Rattle.mu_model.specs.declared.config.Config.{Config}
@@ -35,9 +35,6 @@ tells t u same = (λ h. sym same ∙ h, λ h. same ∙ h)
 
 pub denies : (t u : Bool) → t ≡ u → (IsTrue (not t) ↔ (u ≡ false))
 denies t u same = (λ h. sym same ∙ not-true t h, λ h. not_from_false t (same ∙ h))
-
-pub there : {A : Type 0} (o p : Option A) → o ≡ p → (IsTrue (is_some o) ↔ (is_some p ≡ true))
-there o p same = tells (is_some o) (is_some p) (ap is_some same)
 
 -- a list of points that goes on
 pub apart : (c : Config) (r : ℕ) (past : List Event) (xs ys zs : List Reason) (found : Option Reason) → Finds c r past ((xs ++ ys) ++ zs) found → Finds c r past (xs ++ (ys ++ zs)) found

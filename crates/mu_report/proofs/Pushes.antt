@@ -6,9 +6,6 @@ use Rattle.mu_reasons.specs.declared.fault.Broken.{Broken}
 use Rattle.mu_mistakes.specs.Misreads.{flaw_lines}
 use Rattle.mu_report.specs.Reasons.{explained_lines, fault_words, first_words}
 
-pub more : (old before after v w : List ℕ) → after ≡ before ++ w → before ≡ old ++ v → after ≡ old ++ (v ++ w)
-more old before after v w last first = last ∙ ap (λ l. l ++ w) first ∙ append_assoc old v w
-
 -- the line of the list, the event and what is wrong with it
 pub both_parts : (events line : ℕ) (o : Option Broken) (broken : Broken) (first told wrong : List ℕ) → o ≡ Some broken → first ≡ first_words events line o
     → told ≡ event_line broken.event → wrong ≡ fault_words broken.fault → first ∷ told ∷ wrong ∷ [] ≡ explained_lines events line o

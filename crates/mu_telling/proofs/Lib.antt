@@ -1,4 +1,2 @@
-mod Agreeing
 mod FactLists
-mod LogCommands
 mod Reaching

@@ -16,7 +16,8 @@ use Rattle.mu_model.proofs.Lists.{get_push_here, get_push_other}
 use Rattle.mu_outcome.specs.declared.outcome.Outcome.{Outcome}
 use Rattle.mu_outcome.specs.Entries.{commands_in, longest}
 use Rattle.mu_outcome.specs.Outcomes.{log_of, or_empty}
-use Rattle.mu_telling.specs.Accounts.{IsReached, each_below}
+use Rattle.mu_outcome.specs.Reached.{IsReached}
+use Rattle.mu_telling.specs.Accounts.{each_below}
 
 pub length_each : {A : Type 0} (n : ℕ) (f : ℕ → A) → length (each_below n f) ≡ n
 length_each zero f = refl

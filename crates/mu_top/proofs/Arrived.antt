@@ -10,16 +10,11 @@ use Rattle.front_desk.proofs.Clients.{commands_by-own}
 use Rattle.kv_store.specs.Commands.{Request}
 use Rattle.mu_rows.specs.Rows.{spelled}
 use Rattle.mu_input.specs.Batches.{followers, rows_of}
-use Rattle.mu_input.specs.Bodies.{body_at}
-use Rattle.mu_input.specs.Grammar.{all_lines, job, job_at}
 use Rattle.mu_input.specs.Heads.{HasHead, HaveHeads}
-use Rattle.mu_input.specs.Readings.{Fits, Reading, Reads}
-use Rattle.mu_input.specs.Scripts.{script_at}
+use Rattle.mu_input.specs.Readings.{Reading, Reads}
 use Rattle.mu_input.specs.Senders.{IsForDesk}
-use Rattle.mu_input.specs.Settings.{settings_at}
 use Rattle.mu_input.specs.declared.job.InputEnd.{InputEnd}
 use Rattle.mu_input.specs.declared.job.Job.{Job}
-use Rattle.mu_input.proofs.Fronts.{fits_whole, gives_always, gives_followed}
 use Rattle.mu_model.specs.Contents.{IsConfig}
 use Rattle.mu_model.specs.declared.config.Row.{Row}
 use Rattle.mu_top.specs.Desks.{at_desk}
@@ -28,18 +23,6 @@ use Rattle.mu_top.specs.Desks.{at_desk}
 pub left_at_desk : (found : Option ℕ) (reading : Reading Job) (end : InputEnd) → Reads (Err end) reading → Reads (Err end) (at_desk found reading)
 left_at_desk found reading InputEnd.NoMemory is = tt
 left_at_desk found reading (InputEnd.Refused line cause) is = ap (at_desk found) is
-
-abbrev HasRows : Job → Type 0
-HasRows j = j.config.rows ≡ rows_of j.config.width j.commands
-
--- the rows of a job that bytes spell are those of its commands
-pub rows_made : (bytes : List ℕ) (given : Job) → job bytes ≡ Fits given → given.config.rows ≡ rows_of given.config.width given.commands
-rows_made bytes given is =
-    fits_whole HasRows (job_at (all_lines bytes)) given
-    (gives_followed HasRows (λ _. ⊤) (settings_at (all_lines bytes)) _ (gives_always (settings_at (all_lines bytes)))
-    (λ settings left _. gives_followed HasRows (λ _. ⊤) (body_at left) _ (gives_always (body_at left))
-    (λ body left _. gives_followed HasRows (λ _. ⊤) (script_at body.has_script settings.replicas left) _ (gives_always (script_at body.has_script settings.replicas left))
-    (λ script left _. refl)))) is
 
 -- the row of a command alone in its batch
 abbrev row_alone : Request → ℕ → Row

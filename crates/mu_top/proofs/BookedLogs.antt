@@ -7,7 +7,7 @@ use Rattle.match_book.specs.Stands.{Held, StandsFor}
 use Rattle.match_book.proofs.Fronts.{different_front, stands_same}
 use Rattle.mu_input.specs.declared.job.Job.{Job}
 use Rattle.mu_outcome.specs.Entries.{commands_in, commands_of}
-use Rattle.mu_cluster.proofs.LogCommands.{commands_in-append, commands_in-drop}
+use Rattle.mu_outcome.proofs.LogCommands.{commands_in-append, commands_in-drop}
 
 -- the commands of one entry more
 commands_in-next : (job : Job) (log : List ℕ) (i : ℕ) → i < length log → commands_in job (take (i + 1) log) ≡ commands_in job (take i log) ++ commands_of job (get_or log i 0)

@@ -53,10 +53,6 @@ pub are_joined : (xs ys : List Request) → AreCommands xs → AreCommands ys �
 are_joined [] ys are also = also
 are_joined (x ∷ xs) ys are also = (are.0, are_joined xs ys are.1 also)
 
-pub are_right : (xs ys : List Request) → AreCommands (xs ++ ys) → AreCommands ys
-are_right [] ys are = are
-are_right (x ∷ xs) ys are = are_right xs ys are.1
-
 pub rows_joined : (xs ys : List Request) → rows_of (xs ++ ys) ≡ rows_of xs ++ rows_of ys
 rows_joined [] ys = refl
 rows_joined (x ∷ xs) ys = ap (λ words. spelled x 0 ++ words) (rows_joined xs ys) ∙ sym (append_assoc (spelled x 0) (rows_of xs) (rows_of ys))

@@ -8,7 +8,7 @@ use Rattle.mu_model.specs.declared.event.Event.{Event}
 use Rattle.mu_model.specs.Histories.{history}
 use Rattle.mu_outcome.specs.declared.outcome.Outcome.{Outcome}
 use Rattle.mu_outcome.specs.Entries.{commands_in, longest}
-use Rattle.mu_telling.proofs.Agreeing.{agrees_on, within_on}
+use Rattle.mu_outcome.proofs.Agreeing.{agrees_on, within_on}
 use Rattle.mu_telling.proofs.Reaching.{reached_of}
 use Rattle.mu_telling.proofs.account.account_of.Goals as goal
 

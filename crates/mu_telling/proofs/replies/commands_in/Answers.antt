@@ -1,7 +1,7 @@
 use Rattle.std.proofs.Common.{◌+◌, ◌++◌, ◌∙◌, ap, append-nil, append_assoc, arith, drop, sym}
 use Rattle.std.proofs.lemmas.List.{drop_all}
 use Rattle.mu_outcome.specs.Entries.{commands_in}
-use Rattle.mu_telling.proofs.LogCommands.{commands_in-drop}
+use Rattle.mu_outcome.proofs.LogCommands.{commands_in-drop}
 use Rattle.mu_telling.proofs.replies.commands_in.Goals as goal
 
 pub loop-value-preserved : goal.loop-value-preserved

@@ -2,8 +2,8 @@ use Rattle.std.proofs.Common.{◌∙◌, ap, arith, subst}
 use Rattle.match_book.specs.Stands.{StandsFor}
 use Rattle.mu_outcome.specs.Entries.{commands_in, longest}
 use Rattle.mu_top.proofs.Completed.{different_of, few_of, replay_of}
-use Rattle.mu_top.proofs.Arrived.{rows_made}
 use Rattle.mu_top.proofs.booking.booked.Goals as goal
+use Rattle.mu_cluster.proofs.RowsMade.{rows_made}
 
 pub apply_log-requires-clause-room : goal.apply_log-requires-clause-room
 apply_log-requires-clause-room c =

@@ -1,8 +1,8 @@
 use Rattle.mu_cluster.proofs.FewCommands.{few_replayed}
 use Rattle.mu_top.proofs.Completed.{replay_of}
 use Rattle.mu_top.proofs.Sighted.{short_sights}
-use Rattle.mu_top.proofs.Arrived.{rows_made}
 use Rattle.mu_top.proofs.living.lived.Goals as goal
+use Rattle.mu_cluster.proofs.RowsMade.{rows_made}
 
 pub live-requires-clause-few : goal.live-requires-clause-few
 live-requires-clause-few g c κs within =

@@ -1,6 +1,6 @@
 use Rattle.mu_top.proofs.Completed.{countable_of, replay_of}
-use Rattle.mu_top.proofs.Arrived.{rows_made}
 use Rattle.mu_top.proofs.replaying.replayed.Goals as goal
+use Rattle.mu_cluster.proofs.RowsMade.{rows_made}
 
 pub returns-clause-replay : goal.returns-clause-replay
 returns-clause-replay c =

@@ -1,6 +1,6 @@
 use Rattle.mu_top.proofs.Completed.{threaded_of}
-use Rattle.mu_top.proofs.Arrived.{rows_made}
 use Rattle.mu_top.proofs.running.ran.Goals as goal
+use Rattle.mu_cluster.proofs.RowsMade.{rows_made}
 
 pub returns-clause-run : goal.returns-clause-run
 returns-clause-run g c =

@@ -2,8 +2,9 @@ use Rattle.std.proofs.Common.{None, Some, ap, sym, ◌∙◌}
 use Rattle.mu_input.specs.Grammar.{job}
 use Rattle.mu_input.specs.Senders.{desk_line}
 use Rattle.mu_top.specs.Desks.{at_desk}
-use Rattle.mu_top.proofs.Arrived.{left_at_desk, rows_made}
+use Rattle.mu_top.proofs.Arrived.{left_at_desk}
 use Rattle.mu_top.proofs.serving.job_for_desk.Goals as goal
+use Rattle.mu_cluster.proofs.RowsMade.{rows_made}
 
 pub returns-in-Err-clause-reading : goal.returns-in-Err-clause-reading
 returns-in-Err-clause-reading c = left_at_desk (desk_line c.args.bytes.now) (job c.args.bytes.now) c.in-Err.end c.in-Err.ensures.reading
