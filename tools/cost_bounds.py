@@ -26,7 +26,7 @@ RUNS = [
     (["replay"], "3x1500", 40_000),
     (["bulk", "1500"], None, 39_000),
     (["trace"], "7x400", 81_000),
-    (["check"], "check", 120_000),
+    (["check"], "check", 77_500),
 ]
 # Two rows of which the first takes less time than the other, and how many times that it may take. If
 # leaders search all rows for a client's next batch, it takes about three times as many instructions.

@@ -44,7 +44,7 @@ JOBS = (
     ("batches", "version 2, batches of four, 3 and 1,500, from 16 clients", REPLAYS),
     ("trace", "`trace`, 7 and 400", ("trace", "trace")),
     ("check", "`check` of the trace of `tools/long_trace.py`, 14.5 MB", ("check", "check")),
-    ("refused", "the same read and not judged, since a last line is no event", ("check", "read")),
+    ("broken", "the same read and not judged, since its first event isn't allowed", ("check", "read")),
 )
 
 
@@ -114,7 +114,7 @@ def one_thread(paths, program, count):
         runs = runs_of(commands, given, count)
         events = events_of(name, program, given)
         cells = [measured(command, given, own, events) for command, own in zip(commands, runs)]
-        is_same = name == "refused" or len({own[0].output for own in runs}) == 1
+        is_same = name == "broken" or len({own[0].output for own in runs}) == 1
         end = ("" if len(cells) == len(REPLAYS) else " | | |") + ("" if is_same else " NOT THE SAME BYTES")
         print(f"| {title} | {events:,} | {' | '.join(cells)} |{end}", flush=True)
 

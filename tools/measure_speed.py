@@ -57,7 +57,7 @@ ROWS = {
     "batches": ("replay", job(3, even(1500, 16), 2, 4)),
     "trace": ("trace", job(7, even(400))),
     "check": ("check", None),
-    "refused": ("check", None),
+    "broken": ("check", None),
 }
 
 
@@ -71,14 +71,14 @@ def long_trace():
 def input_of(name):
     """What the program reads for a row.
 
-    The trace that is refused has one line more, which is no event: all lines are read, and no event
-    is judged. So it tells what reading takes alone.
+    The trace that is broken has one event more, the first one, which isn't allowed: all lines are
+    read, and no further event is judged. So it tells what reading takes alone.
     """
     command, given = ROWS[name]
     if command != "check":
         return given
     trace = long_trace()
-    return trace if name == "check" else trace[:-len(b"end\n")] + b"no event\nend\n"
+    return trace if name == "check" else trace.replace(b"\nend\n", b"\nend\n0 drain = done\n", 1)
 
 
 def events_of(name, program, given):
