@@ -1,9 +1,8 @@
-use Rattle.std.proofs.Common.{◌≡◌, ◌+◌, ◌∷◌, ◌++◌, [], Ok, arith, length, subst, sym}
+use Rattle.std.proofs.Common.{Ok, arith, subst}
 use Rattle.std.proofs.lemmas.List.{length_push}
 use Rattle.std.proofs.lemmas.Result.{err_from_is_err_and}
-use Rattle.mu_check.specs.Judges.{StandsForJudge}
 use Rattle.mu_input.proofs.Taking.{refused_ends}
-use Rattle.mu_input.specs.Traces.{HasRead, ReadsOn}
+use Rattle.mu_input.specs.Traces.{ReadsOn}
 use Rattle.mu_judging.proofs.JudgedEvents.{judges_all, judges_break, judges_more}
 use Rattle.mu_judging.proofs.judging.judged.Goals as goal
 

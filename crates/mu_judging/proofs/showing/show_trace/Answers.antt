@@ -1,4 +1,4 @@
-use Rattle.std.proofs.Common.{◌≡◌, ◌∙◌, ap, false, length, min, refl, subst, sym, take}
+use Rattle.std.proofs.Common.{◌≡◌, ◌∙◌, ap, length, min, refl, subst, sym, take}
 use Rattle.std.proofs.lemmas.List.{take_min}
 use Rattle.mu_input.specs.Readings.{Fits}
 use Rattle.mu_input.specs.Traces.{Trace, trace}
