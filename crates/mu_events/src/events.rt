@@ -15,6 +15,7 @@ use mu_text::{MANY_WORDS, is_word, of_8, of_16, of_32, of_64, split_word, split_
 
 /// The event that a line spells, if it spells an event of one of `replicas` replicas. Takes no
 /// memory.
+#[inline(always)]
 pub fn event(replicas: u8, line: &[u8]) -> Option<Event>
     ensures { result ≡ event_of replicas (words line.now) }
 {
@@ -25,6 +26,7 @@ pub fn event(replicas: u8, line: &[u8]) -> Option<Event>
 }
 
 /// The replica that a word names, if it is one of `replicas`.
+#[inline(always)]
 fn replica_of(replicas: u8, word: &[u8]) -> Option<u8>
     ensures { result ≡ below replicas (wide_number_of word.now) }
 {
@@ -44,6 +46,7 @@ fn is_beat(text: &[u8]) -> bool
 
 /// The step that follows the replica: its verb and what it found. More than half of all lines are
 /// beats, so the text is first compared with theirs.
+#[inline(always)]
 fn step_of(text: &[u8]) -> Option<(Verb, Answer)>
     ensures { result ≡ step_after [] (sides (words text.now)) }
 {

@@ -200,6 +200,7 @@ impl Leadership {
 
     /// Takes the next event of the replica, which it was allowed. Takes no memory.
     #[inline(always)]
+    #[inline(always)]
     pub fn take(&mut self, r: u8, event: &Event)
         ensures { (c : Config) → (mine : List Event) → c.replicas ≤ 7
             → IsPossible c r (event.now ∷ mine)

@@ -244,6 +244,7 @@ impl FilledLogs {
     /// Takes the next event of `r`, which it was allowed, with the values that `r` knew before and
     /// knows after it, and with what it has put. Takes no memory. A pointer only moves on in a
     /// leadership, so over its events the time of one is constant on average.
+    #[inline(always)]
     pub fn take(
         &mut self,
         r: u8,

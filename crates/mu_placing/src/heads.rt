@@ -140,6 +140,7 @@ impl Heads {
     }
 
     /// Takes the next event of `r`. Takes no memory.
+    #[inline(always)]
     pub fn take(&mut self, r: u8, event: &Event)
         ensures { (c : Config) → (mine : List Event) → StandsForHeads c r mine self.old
             → StandsForHeads c r (event.now ∷ mine) self.new }

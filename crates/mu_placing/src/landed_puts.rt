@@ -37,6 +37,7 @@ pub struct LandedPuts {
 
 /// How many leaderships there were, after the event.
 #[tactic(auto, using(crate::proofs::Alike::few_leaderships))]
+#[inline(always)]
 fn leadership_after(held: u32, r: u8, event: &Event) -> u32
     ensures { (mine : List Event) → length mine < 2 ^ 20 → held ≡ leaderships r mine
         → result ≡ leaderships r (event.now ∷ mine) }
@@ -96,6 +97,7 @@ fn is_number(number: Option<u32>, b: u32) -> bool
 }
 
 /// Notes the entry that the event puts.
+#[inline(always)]
 fn note_landing(notes: &mut [Option<Landing>], leadership: u32, r: u8, event: &Event)
     ensures { (mine : List Event) → leadership ≡ leaderships r (event.now ∷ mine)
         → NotesEach r mine notes.old → NotesEach r (event.now ∷ mine) notes.new }
@@ -125,6 +127,7 @@ impl LandedPuts {
     }
 
     /// Takes the next event of `r`, which it was allowed. Takes no memory.
+    #[inline(always)]
     pub fn take(&mut self, r: u8, event: &Event)
         ensures { (c : Config) → (mine : List Event) → IsConfig c
             → IsPossible c r (event.now ∷ mine)

@@ -208,6 +208,7 @@ impl Looks {
 
     /// Takes the next event of the replica, which it was allowed; `before` stands for the events
     /// before it. Takes no memory.
+    #[inline(always)]
     pub fn take(&mut self, before: &Leadership, event: &Event)
         ensures { (c : Config) → (r : ℕ) → (mine : List Event) → IsConfig c
             → IsPossible c r (event.now ∷ mine) → StandsForLeadership r mine before.now

@@ -36,6 +36,7 @@ pub struct Region {
 }
 
 /// Whether the verb only reads: no region changes.
+#[inline(always)]
 fn is_read(verb: &Verb) -> bool
     ensures { result ≡ is_read_alone verb.now }
 {
@@ -53,6 +54,7 @@ fn is_read(verb: &Verb) -> bool
 }
 
 /// Whether the verb is a beat.
+#[inline(always)]
 fn is_beat(verb: &Verb) -> bool
     ensures { result ≡ is_beat_verb verb.now }
 {
@@ -99,6 +101,7 @@ impl Region {
     }
 
     /// Takes the next event of the history.
+    #[inline(always)]
     pub fn take(&mut self, event: &Event)
         ensures { (c : Config) → (p : ℕ) → (past : List Event) → length past < 2 ^ 20
             → IsNear c event.now.verb → Holds c p past self.old
@@ -111,6 +114,7 @@ impl Region {
     }
 
     /// Takes an event that is no read: a beat changes only the count of beats.
+    #[inline(always)]
     fn take_change(&mut self, event: &Event)
         ensures { (c : Config) → (p : ℕ) → (past : List Event) → length past < 2 ^ 20
             → IsNear c event.now.verb → Holds c p past self.old
@@ -143,6 +147,7 @@ impl Region {
     }
 
     /// What `by` is answered to a step that reads this region.
+    #[inline(always)]
     pub fn answer(&self, ring: u16, by: u8, verb: &Verb) -> Answer
         ensures { (c : Config) → (past : List Event) → ring ≡ c.ring → c.replicas ≤ 7
             → InRange c by verb.now → Holds c (read_at by verb.now) past self.now

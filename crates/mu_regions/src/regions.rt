@@ -20,6 +20,7 @@ pub struct Regions {
 }
 
 /// The region that a step of `by` reads.
+#[inline(always)]
 fn region_read(by: u8, verb: &Verb) -> u16
     ensures { result ≡ read_at by verb.now }
 {
@@ -48,6 +49,7 @@ fn region_read(by: u8, verb: &Verb) -> u16
 }
 
 /// Whether the verb begins a leadership: then all regions change what its replica has noted.
+#[inline(always)]
 fn is_first(verb: &Verb) -> bool
     ensures { result ≡ is_first verb.now }
 {
@@ -87,6 +89,7 @@ impl Regions {
 
     /// What `by` is answered to `verb` after the history that the state stands for, if `by` and all
     /// that the verb names exist. Takes no memory.
+    #[inline(always)]
     pub fn answer(&self, by: u8, verb: &Verb) -> Answer
         ensures { (c : Config) → (past : List Event) → InRange c by verb.now
             → Stands c past self.now
@@ -100,6 +103,7 @@ impl Regions {
 
     /// Takes the next event of the history that the state stands for, whatever it answers, if its
     /// position, row and word exist. Takes no memory.
+    #[inline(always)]
     pub fn take(&mut self, event: &Event)
         ensures { (c : Config) → (past : List Event) → length past < 2 ^ 20
             → IsNear c event.now.verb

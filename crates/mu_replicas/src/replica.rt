@@ -60,6 +60,7 @@ fn steps_after(steps: u32) -> u32
 }
 
 /// Whether every member of the leadership has taken what the event puts, if it is a put.
+#[inline(always)]
 fn is_accepted(landed_puts: &LandedPuts, leadership: &Leadership, n: u8, event: &Event) -> bool
     requires { n ≤ 7 }
     ensures { (c : Config) → (mine : List Event) → n ≡ c.replicas → IsConfig c
@@ -97,6 +98,7 @@ impl Replica {
     }
 
     /// Takes the next event of the replica, which it was allowed. Takes no memory.
+    #[inline(always)]
     pub fn take(&mut self, config: &Config, event: &Event)
         requires config { IsConfig config.now }
         ensures { (mine : List Event) → IsPossible config.now event.now.by (event.now ∷ mine)
@@ -125,6 +127,7 @@ impl Replica {
     }
 
     /// Whether the verb's own needs are met.
+    #[inline(always)]
     fn meets_needs(&self, config: &Config, verb: &Verb) -> bool
         requires config { IsConfig config.now }
         ensures { (r : ℕ) → (mine : List Event) → r < 7 → IsPossible config.now r mine
@@ -167,6 +170,7 @@ impl Replica {
     }
 
     /// Whether the replica may make the verb next. Takes no memory.
+    #[inline(always)]
     pub fn allows(&self, config: &Config, verb: &Verb) -> bool
         requires config { IsConfig config.now }
         ensures { (r : ℕ) → (mine : List Event) → IsPossible config.now r mine

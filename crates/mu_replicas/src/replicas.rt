@@ -37,6 +37,7 @@ impl Replicas {
 
     /// Whether `by` may make the verb after the legal history that the states stand for. Takes no
     /// memory.
+    #[inline(always)]
     pub fn allows(&self, config: &Config, by: u8, verb: &Verb) -> bool
         requires { IsConfig config.now }
         ensures { (past : List Event) → IsLegalHistory config.now past
@@ -65,6 +66,7 @@ impl Replicas {
     }
 
     /// Takes the next event of the legal history that the states stand for. Takes no memory.
+    #[inline(always)]
     pub fn take(&mut self, config: &Config, event: &Event)
         requires { IsConfig config.now }
         ensures { (past : List Event) → IsLegalHistory config.now (event.now ∷ past)
