@@ -56,7 +56,14 @@ impl Judge {
         match verb {
             // More than half of all events are beats. Where the verb is named the compiler leaves
             // out what other verbs want.
-            Verb::Beat => self.take_named(config, &Event { by, verb: Verb::Beat, answer }),
+            Verb::Beat => self.take_named(
+                config,
+                &Event {
+                    by,
+                    verb: Verb::Beat,
+                    answer,
+                },
+            ),
             _ => self.take_other(config, event),
         }
     }

@@ -2,7 +2,7 @@ use Rattle.std.proofs.Common.{arith}
 use Rattle.mu_model.specs.Legal.{IsLegalHistory, MayFollow}
 use Rattle.mu_model.proofs.Budgets.{short_history}
 use Rattle.mu_regions.proofs.Range.{in_range}
-use Rattle.mu_check.proofs.judge.Judge.take.Goals as goal
+use Rattle.mu_check.proofs.judge.Judge.take_named.Goals as goal
 
 pub returns : goal.returns
 returns c = λ past held.
