@@ -54,8 +54,8 @@ impl Judge {
     {
         let Event { by, verb, answer } = *event;
         match verb {
-            // More than half of all events are beats. Where the verb is named the compiler leaves
-            // out what other verbs want.
+            // More than half of all events are beats. If the verb is named, the compiler leaves out
+            // what other verbs want.
             Verb::Beat => self.take_named(
                 config,
                 &Event {
