@@ -19,6 +19,7 @@ mod Raised
 mod Rounding
 pub mod RowsMade
 mod Seats
+mod Silent
 mod Taken
 mod Trusting
 mod Turned

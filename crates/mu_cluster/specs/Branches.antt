@@ -30,6 +30,11 @@ pub record Drives (script : Script) (b : Branch) : Type 0 where
   pub config : IsConfig b.port.config
   pub goes : Goes b.port.config script b.port.id b.port.part b.node
 
+-- the same, before any step
+pub record Starts (script : Script) (b : Branch) : Type 0 where
+  pub drives : Drives script b
+  pub empty : b.port.part ≡ []
+
 -- the branch at its end: the same port, and a part that has an end
 pub record IsDriven (script : Script) (b d : Branch) : Type 0 where
   pub same : IsSamePort b.port d.port

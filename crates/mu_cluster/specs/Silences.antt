@@ -1,6 +1,9 @@
 -- silence: how many reads of another's beats in a row, up to the last step, found no new one.
-use Rattle.std.specs.Prelude.{List, None, Some, [], if◌then◌else◌, min, suc, ℕ, ◌==◌, ◌∷◌}
+use Rattle.std.specs.Prelude.{List, None, Some, [], if◌then◌else◌, min, suc, ℕ, ◌<◌, ◌==◌, ◌∷◌, ◌≡◌}
+use Rattle.std.specs.List.{slice_get}
 use Rattle.std.specs.declared.option.Option.{Option}
+use Rattle.mu_cluster.specs.declared.silences.Reads.{Reads}
+use Rattle.mu_cluster.specs.declared.silences.Silences.{Silences}
 use Rattle.mu_model.specs.declared.event.Answer.{Answer}
 use Rattle.mu_model.specs.declared.event.Event.{Event}
 use Rattle.mu_model.specs.declared.event.Verb.{Verb}
@@ -30,3 +33,23 @@ silence_after _ _ past = 0
 abbrev pub silence : List Event → ℕ
 silence [] = 0
 silence (e ∷ past) = silence_after e.verb e.answer past
+
+-- the reads stand for those of the beats of q: how many of the last, in a row, found a count
+abbrev pub HoldsReads : ℕ → List Event → Reads → Type 0
+HoldsReads q mine reads =
+    (beats : ℕ) → min 15 (reads_of q beats mine) ≡ (if reads.beats == beats then reads.times else 0)
+
+-- the same of every replica
+abbrev pub HoldReads : List Event → List Reads → Type 0
+HoldReads mine all =
+    (q : ℕ) (reads : Reads) → slice_get all q ≡ Some reads → HoldsReads q mine reads
+
+-- the state stands for the own events of a replica
+pub record StandsForSilences (mine : List Event) (state : Silences) : Type 0 where
+  pub reads : HoldReads mine state.reads
+  pub shown : state.shown ≡ silence mine
+
+-- the beats that the verb reads are those of one of the first n replicas
+abbrev pub ReadsBeatsWithin : ℕ → Verb → Type 0
+ReadsBeatsWithin n (Verb.ReadBeat q) = q < n
+ReadsBeatsWithin n _ = Unit {0}

@@ -2,17 +2,19 @@
 ghost use Rattle.std.specs.Prelude.{All, IfOk, None, Some, [], length, map, slice_index_or, vec_capacity, vec_len, ℕ, ◌<◌, ◌≡◌, ◌≤◌};
 ghost use Rattle.std.specs.List.{slice_get};
 ghost use Rattle.mu_model.specs.Contents.{IsConfig};
+ghost use Rattle.mu_model.specs.Parts.{IsPossible};
 ghost use Rattle.mu_model.specs.declared.script.Script.{Script as SomeScript};
 ghost use Rattle.mu_node.specs.Node.{StandsForNode};
 ghost use Rattle.mu_node.specs.Turns.{IsTurn};
 ghost use Rattle.mu_outcome.specs.Turns.{rounds_paused as rounds_paused_of};
 ghost use Rattle.shared_fabric.specs.Gathering.{IsSamePort, PortValue};
 ghost use Rattle.mu_cluster.specs.declared.branch.Branch.{Branch as SomeBranch};
-ghost use Rattle.mu_cluster.specs.Branches.{Drives, IsDriven, IsFreshPort};
+ghost use Rattle.mu_cluster.specs.Branches.{IsDriven, IsFreshPort, Starts};
 ghost use Rattle.mu_cluster.specs.Silences.{silence as silence_of};
 
-use crate::resting::{Rested, rest, silence};
+use crate::resting::{Rested, rest};
 use crate::rounds::rounds_paused;
+use crate::silences::Silences;
 use mu_gate::Gate;
 use mu_input::Job;
 use mu_model::{NoMemory, Script};
@@ -42,6 +44,7 @@ fn turn_rested(node: &mut Node, port: &mut SharedPort, script: &Script, rested: 
     ensures stands { StandsForNode port.new.config port.new.id port.new.part node.new }
     ensures same { IsSamePort port.old port.new }
     ensures stops { node.new.stops ≡ node.old.stops }
+    ensures possible { IsPossible port.new.config port.new.id port.new.part }
     ensures turn { (script : SomeScript) → script.stops ≡ node.old.stops.items
         → IsTurn port.old.config script port.old.id port.old.part port.new.part None None result }
 {
@@ -51,17 +54,18 @@ fn turn_rested(node: &mut Node, port: &mut SharedPort, script: &Script, rested: 
 /// Turns of one replica until its journal has an end. It lets the others on at a pause and after a
 /// read of beats that finds no new one; nothing here waits for another replica.
 fn drive<R: Wait + Clock, G: Gate>(rt: &R, branch: &mut Branch, script: &Script, gate: &G)
-    requires { Drives script.now branch.old }
+    requires { Starts script.now branch.old }
     ensures { IsDriven script.now branch.old branch.new }
 {
     let Branch { node, port } = branch;
+    let mut silences = Silences::new();
     for _ in rt.forever() {
         let steps = node.steps();
         let paused = rounds_paused(script.pauses.as_slice(), node.id(), steps);
-        let rested = rest(rt, paused, silence(port.part()));
+        let rested = rest(rt, paused, silences.shown());
         gate.pass(node.id(), steps);
         match turn_rested(node, port, script, &rested) {
-            Turn::Took(_) => {}
+            Turn::Took(_) => silences.take_newest(port.part()),
             Turn::Ended(_) => break,
         }
     }
@@ -74,7 +78,7 @@ fn drive_all<R: Threads + Wait + Clock + Sync, G: Gate + Sync>(
     script: &Script,
     gate: &G,
 )
-    requires { All (Drives script.now) branches.old }
+    requires { All (Starts script.now) branches.old }
     ensures { (i : ℕ) (d : SomeBranch) → i < length branches.old
         → IsDriven script.now (slice_index_or branches.old i d) (slice_index_or branches.new i d) }
 {
@@ -97,7 +101,7 @@ pub(crate) fn driven<R: Threads + Wait + Clock + Sync, G: Gate + Sync>(
     script: &Script,
     gate: &G,
 ) -> Vec<Branch>
-    requires { All (Drives script.now) branches.items }
+    requires { All (Starts script.now) branches.items }
     ensures count { length result.items ≡ length branches.items }
     ensures each { (i : ℕ) (d : SomeBranch) → i < length branches.items
         → IsDriven script.now (slice_index_or branches.items i d)
@@ -117,7 +121,7 @@ pub(crate) fn branches(
     requires count { vec_len ports ≡ job.now.config.replicas }
     requires fresh { (r : ℕ) (p : PortValue) → slice_get ports.items r ≡ Some p
         → IsFreshPort job.now.config r p }
-    ensures ready { IfOk result (λ branches. All (Drives job.now.script) branches.items) }
+    ensures ready { IfOk result (λ branches. All (Starts job.now.script) branches.items) }
     ensures ports { IfOk result (λ branches. map (λ b. b.port) branches.items ≡ ports.items) }
     ensures room { IfOk result (λ branches. vec_capacity branches ≡ vec_len ports) }
 {

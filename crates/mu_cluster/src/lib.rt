@@ -8,6 +8,7 @@ mod playing;
 mod resting;
 mod rounds;
 mod running;
+mod silences;
 mod spelling;
 
 pub use mu_gate::{Gate, OpenGate};

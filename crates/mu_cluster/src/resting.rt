@@ -1,14 +1,8 @@
 //! How the thread of a replica lets other threads on before a turn.
-ghost use Rattle.std.specs.Prelude.{MatchOption, [], min, ◌<◌, ◌∷◌, ◌≡◌, ◌≤◌};
-ghost use Rattle.mu_model.specs.Histories.{history};
-ghost use Rattle.mu_cluster.specs.Silences.{beats_found as beats_found_of, reads_of as reads_of_all, silence as silence_of, silence_after as silence_after_of};
+ghost use Rattle.std.specs.Prelude.{◌<◌, ◌≡◌, ◌≤◌};
 
-use mu_model::{Answer, Event, Verb};
 use std::thread;
 use std::time::{Clock, Duration};
-
-/// After this many reads without a new beat a replica is held to be failed.
-const MOST_READS: u8 = 15;
 
 /// How a thread let the others on before a turn of its replica.
 #[derive(Drop)]
@@ -17,67 +11,6 @@ pub(crate) struct Rested {
     paused: u32,
     /// For which silence of another.
     silence: u8,
-}
-
-/// The newest event, and those before it.
-fn split_newest(events: &[Event]) -> Option<(&Event, &[Event])>
-    ensures { MatchOption result (history events.now ≡ [])
-        (λ r. history events.now ≡ r.0.now ∷ history r.1.now) }
-{
-    events.split_last()
-}
-
-/// The count that the event found, if it is a read of the beats of the replica.
-fn beats_found(event: &Event, replica: u8) -> Option<u64>
-    ensures { result ≡ beats_found_of replica event.now.verb event.now.answer }
-{
-    match (event.verb, event.answer) {
-        (Verb::ReadBeat(read), Answer::Number(found)) => {
-            if read == replica { Some(found) } else { None }
-        }
-        _ => None,
-    }
-}
-
-/// How many of the last reads of the beats of the replica, in a row, found this count: up to 15.
-fn reads_of(past: &[Event], replica: u8, beats: u64) -> u8
-    ensures { result ≡ min 15 (reads_of_all replica beats (history past.now)) }
-{
-    let mut times = 0;
-    let mut left = past;
-    while let Some((event, before)) = split_newest(left) {
-        if let Some(found) = beats_found(event, replica) {
-            if found != beats {
-                return times;
-            }
-            if times == MOST_READS {
-                return MOST_READS;
-            }
-            times += 1;
-        }
-        left = before;
-    }
-    times
-}
-
-/// The silence that an event shows after these.
-fn silence_after(event: &Event, past: &[Event]) -> u8
-    ensures { result ≡ silence_after_of event.now.verb event.now.answer (history past.now) }
-{
-    match (event.verb, event.answer) {
-        (Verb::ReadBeat(replica), Answer::Number(beats)) => reads_of(past, replica, beats),
-        _ => 0,
-    }
-}
-
-/// The silence of another that the last of a replica's own events shows.
-pub(crate) fn silence(events: &[Event]) -> u8
-    ensures { result ≡ silence_of (history events.now) }
-{
-    match split_newest(events) {
-        Some((event, past)) => silence_after(event, past),
-        None => 0,
-    }
 }
 
 /// For how many microseconds a thread sleeps for a silence. After the fourteenth read without a new

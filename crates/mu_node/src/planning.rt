@@ -294,7 +294,8 @@ impl Node {
     }
 
     /// Takes the event that the step is, in all parts but the leader. The entry that a put made
-    /// known is told next.
+    /// known is told next. Most of all events are words of rows and beats: with their verbs written
+    /// out the compiler sees that nothing else takes them, and keeps them in registers.
     #[inline(always)]
     fn note(&mut self, by: u8, verb: Verb, answer: Answer)
         requires config { IsConfig self.old.follow.config }
@@ -323,10 +324,50 @@ impl Node {
         ensures config { self.new.follow.config ≡ self.old.follow.config }
         ensures handed { self.new.follow.progress.handed ≡ self.old.follow.progress.handed }
     {
-        let event = Event { by, verb, answer };
-        self.grants.note(&event);
-        self.watch.note(self.replicas, &event);
-        self.follow.note(&event);
+        match (verb, answer) {
+            (Verb::WriteRow(row, word, value), Answer::Done) => self.note_event(&Event {
+                by,
+                verb: Verb::WriteRow(row, word, value),
+                answer: Answer::Done,
+            }),
+            (Verb::ReadRow(payload, word), Answer::Number(value)) => self.note_event(&Event {
+                by,
+                verb: Verb::ReadRow(payload, word),
+                answer: Answer::Number(value),
+            }),
+            (Verb::Beat, Answer::Done) => self.note_event(&Event {
+                by,
+                verb: Verb::Beat,
+                answer: Answer::Done,
+            }),
+            _ => self.note_event(&Event { by, verb, answer }),
+        }
+    }
+
+    /// The same of an event as a whole.
+    #[inline(always)]
+    fn note_event(&mut self, event: &Event)
+        requires config { IsConfig self.old.follow.config }
+        ensures stands { (mine : List SomeEvent)
+            → IsPossible self.old.follow.config event.now.by (event.now ∷ mine)
+            → HoldsBeside self.old.follow.config event.now.by mine self.old
+            → commit_of self.old.follow.config event.now.by mine event.now ≡ None
+            → HoldsBeside self.old.follow.config event.now.by (event.now ∷ mine) self.new }
+        ensures awaits { (mine : List SomeEvent) → (entry : ℕ × ℕ)
+            → IsPossible self.old.follow.config event.now.by (event.now ∷ mine)
+            → HoldsBeside self.old.follow.config event.now.by mine self.old
+            → commit_of self.old.follow.config event.now.by mine event.now ≡ Some entry
+            → AwaitsBeside self.old.follow.config event.now.by mine event.now self.new }
+        ensures lead { self.new.lead ≡ self.old.lead }
+        ensures zeal { self.new.zeal ≡ self.old.zeal }
+        ensures stops { self.new.stops ≡ self.old.stops }
+        ensures answers { self.new.answers ≡ self.old.answers }
+        ensures config { self.new.follow.config ≡ self.old.follow.config }
+        ensures handed { self.new.follow.progress.handed ≡ self.old.follow.progress.handed }
+    {
+        self.grants.note(event);
+        self.watch.note(self.replicas, event);
+        self.follow.note(event);
     }
 
     /// Tells the replayer the entry that a put of the leader made known, if its note says so.

@@ -4,7 +4,7 @@ use Rattle.std.specs.Vec.Iter.{into_iter_items}
 use Rattle.mu_node.specs.Node.{StandsForNode}
 use Rattle.shared_fabric.proofs.Gathers.{get_middle, map_snoc}
 use Rattle.mu_cluster.specs.declared.branch.Branch.{Branch}
-use Rattle.mu_cluster.specs.Branches.{Drives}
+use Rattle.mu_cluster.specs.Branches.{Starts}
 use Rattle.mu_cluster.proofs.Branching.{first_drives}
 use Rattle.std.proofs.lemmas.List.Elements.{All-push}
 use Rattle.mu_cluster.proofs.branch.branches.Goals as goal
@@ -22,12 +22,13 @@ loop-port-preserved c =
     let its : slice_get c.args.ports.items (length at.yielded) ≡ Some x = ap (λ l. slice_get l (length at.yielded)) whole ∙ get_middle at.yielded (into_iter_items c.next.new.self) x in
     let fresh = c.requires.fresh (length at.yielded) x its in
     let b : Branch = record { node = c.in_ok-node.node; port = x } in
-    let ready : Drives job.script b = first_drives job.config job.script (length at.yielded) x c.in_ok-node.node c.requires.good fresh (subst (λ i. StandsForNode job.config i [] c.in_ok-node.node) c.id.ensures.number c.in_ok-node.ensures.stands) c.in_ok-node.ensures.stops in (
+    let drives = first_drives job.config job.script (length at.yielded) x c.in_ok-node.node c.requires.good fresh (subst (λ i. StandsForNode job.config i [] c.in_ok-node.node) c.id.ensures.number c.in_ok-node.ensures.stands) c.in_ok-node.ensures.stops in
+    let ready : Starts job.script b = record { drives = drives; empty = fresh.empty } in (
       tt,
       tt,
       whole ∙ sym (append_assoc at.yielded (x ∷ []) (into_iter_items c.next.new.self)),
       omega (arith, inv.3, gone, short),
-      rw c.push_reserved.ensures.items (All-push (Drives job.script) at.branches.items b inv.4 ready),
+      rw c.push_reserved.ensures.items (All-push (Starts job.script) at.branches.items b inv.4 ready),
       ap (map (λ (y : Branch). y.port)) c.push_reserved.ensures.items ∙ (map_snoc (λ (y : Branch). y.port) at.branches.items b ∙ ap (λ l. l ++ x ∷ []) inv.5),
       ap length c.push_reserved.ensures.items ∙ omega (arith, length-append at.branches.items (b ∷ []), length-append at.yielded (x ∷ []), inv.6),
       omega (arith, c.push_reserved.ensures.capacity, inv.7),

@@ -1,21 +1,36 @@
-use Rattle.std.proofs.Common.{subst, sym}
+use Rattle.std.proofs.Common.{◌∙◌, refl, subst, sym}
 use Rattle.std.proofs.lemmas.Bool.{true≢false}
+use Rattle.mu_model.specs.declared.event.Event.{Event}
+use Rattle.mu_model.specs.Contents.{IsConfig}
+use Rattle.mu_model.specs.Parts.{IsPossible}
 use Rattle.mu_node.specs.Turns.{IsTurn}
 use Rattle.std.specs.Prelude.{None}
 use Rattle.mu_cluster.specs.Branches.{IsDriven}
+use Rattle.mu_cluster.specs.Silences.{StandsForSilences}
 use Rattle.mu_cluster.proofs.Branching.{ended_on, same_same, turned_on}
+use Rattle.mu_cluster.proofs.Silent.{reads_beats_within}
 use Rattle.mu_cluster.proofs.branch.drive.Goals.{in-None, in-Some+in-Ended}
 use Rattle.mu_cluster.proofs.branch.drive.Goals as goal
+
+pub loop-init : goal.loop-init
+loop-init g c = (tt, tt, c.requires.drives, record { table = refl; config = refl; id = refl }, subst (λ l. StandsForSilences l c.new-silences.result) (sym c.requires.empty) c.new-silences.ensures)
 
 pub loop-preserved : goal.loop-preserved
 loop-preserved g c =
     let script = c.args.script.now in
     let was = c.loop.invariant.2 in
-    let told = c.turn_rested.ensures.turn script (sym was.goes.stops) in (
+    let told = c.turn_rested.ensures.turn script (sym was.goes.stops) in
+    let p = c.loop.port in
+    let q = c.turn_rested.new.port in
+    let took = subst (λ u. IsTurn p.config script p.id p.part q.part None None u) c.in-Took.is told in
+    let e : Event = record { by = p.id; verb = took.1.verb; answer = took.1.answer } in
+    let possible = subst (λ l. IsPossible q.config q.id l) took.1.part c.turn_rested.ensures.possible in
+    let few = subst (λ k. IsConfig k) (sym c.turn_rested.ensures.same.config) was.config in (
       tt,
       tt,
       turned_on script c.loop.port c.turn_rested.new.port c.loop.node c.turn_rested.new.node c.turn_rested.result was c.turn_rested.ensures.same c.turn_rested.ensures.stands c.turn_rested.ensures.stops told,
       same_same c.args.branch.now.port c.loop.port c.turn_rested.new.port c.loop.invariant.3 c.turn_rested.ensures.same,
+      subst (λ l. StandsForSilences l c.take_newest.new.self) (sym took.1.part) (c.take_newest.ensures e p.part (c.part.ensures ∙ took.1.part) (reads_beats_within q.config q.id p.part e few.replicas.1 possible) c.loop.invariant.4),
     )
 
 pub returns : goal.returns

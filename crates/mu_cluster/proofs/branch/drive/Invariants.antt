@@ -1,5 +1,6 @@
 use Rattle.shared_fabric.specs.Gathering.{IsSamePort}
 use Rattle.mu_cluster.specs.Branches.{Drives}
+use Rattle.mu_cluster.specs.Silences.{StandsForSilences}
 use Rattle.mu_cluster.proofs.branch.drive.Given as goal
 
 abbrev pub invariant-loop : goal.invariant-loop
@@ -7,3 +8,4 @@ invariant-loop g l =
     (goal.iterator-loop g).can_next l.iterator' × (goal.iterator-loop g).is_finite l.iterator'
     × Drives l.script (record { node = l.node; port = l.port })
     × IsSamePort l.initial.port l.port
+    × StandsForSilences l.port.part l.silences

@@ -1,12 +1,12 @@
 use Rattle.std.proofs.Common.{subst}
 use Rattle.mu_model.specs.Allowed.{Needs}
 use Rattle.mu_agree.proofs.Possible.{parts_shorten_law}
-use Rattle.mu_node.proofs.node.Node.note.Goals as goal
+use Rattle.mu_node.proofs.node.Node.note_event.Goals as goal
 
 pub returns-clause-stands : goal.returns-clause-stands
 returns-clause-stands c mine possible held none =
     let k = c.args.self.now.follow.config in
-    let r = c.args.by in
+    let r = c.args.event.now.by in
     record {
       id = held.id;
       replicas = held.replicas;
@@ -23,7 +23,7 @@ returns-clause-stands c mine possible held none =
 pub returns-clause-awaits : goal.returns-clause-awaits
 returns-clause-awaits c mine entry possible held some =
     let k = c.args.self.now.follow.config in
-    let r = c.args.by in
+    let r = c.args.event.now.by in
     record {
       id = held.id;
       replicas = held.replicas;
