@@ -1,4 +1,5 @@
 mod Elsewhere
+mod Entries
 mod Grants
 mod Kept
 mod Within

@@ -35,3 +35,10 @@ region_named (Verb.Enter p t) = Some p
 region_named (Verb.PutMin p b) = Some p
 region_named (Verb.PutSlot p i b v) = Some p
 region_named _ = None
+
+-- the region of an entry or of a put into a slot: such a step changes only the target that it is
+-- entered with, and ends the leadership if it lost or missed
+abbrev pub region_entered : Verb → Option ℕ
+region_entered (Verb.Enter p t) = Some p
+region_entered (Verb.PutSlot p i b v) = Some p
+region_entered _ = None

@@ -10,7 +10,11 @@ ghost use Rattle.mu_model.specs.Leaderships.{ends_leadership, grant_at_joining, 
 ghost use Rattle.mu_model.specs.Parts.{IsPossible};
 ghost use Rattle.mu_leadership.specs.Leadership.{StandsForRegionNotes, StandForRegionNotes, StandsForLeadership, ReadsWithin};
 
+use crate::after::{
+    asked_after, begun_after, greatest_minimum_after, greatest_number_after, number_after,
+};
 use crate::bearing::changes_leadership;
+use crate::entering::{enter_at, is_lost, is_missed, target_named};
 use crate::region_notes::{RegionNotes, begins, no_notes, take_at_regions};
 use mu_model::{Answer, Config, Event, Fence, Target, Verb, majority, next_number};
 
@@ -25,68 +29,6 @@ pub struct Leadership {
     greatest_minimum: u64,
     greatest_number: u32,
     notes: [RegionNotes; 7],
-}
-
-/// Whether a leadership has begun, after the event.
-fn begun_after(held: bool, r: u8, event: &Event) -> bool
-    ensures { (mine : List Event) → held ≡ has_begun r mine
-        → result ≡ has_begun r (event.now ∷ mine) }
-{
-    begins(r, event) || held
-}
-
-/// The region that was asked last, after the event.
-fn asked_after(held: Option<u8>, r: u8, event: &Event) -> Option<u8>
-    ensures { (mine : List Event) → held ≡ newest (λ e. last_ask r e.by e.verb) mine
-        → result ≡ newest (λ e. last_ask r e.by e.verb) (event.now ∷ mine) }
-{
-    match event.verb {
-        Verb::Ask(p) => { if event.by == r { Some(p) } else { held } }
-        _ => held,
-    }
-}
-
-/// The number of the leadership, after the event.
-fn number_after(held: Option<u32>, r: u8, event: &Event) -> Option<u32>
-    ensures { (mine : List Event) → held ≡ proposal_number r mine
-        → result ≡ proposal_number r (event.now ∷ mine) }
-{
-    match event.verb {
-        Verb::Ask(p) => { if event.by == r && p == 0 { None } else { held } }
-        Verb::PutMin(_, b) => {
-            if event.by == r {
-                held.or(Some(b))
-            } else {
-                held
-            }
-        }
-        _ => held,
-    }
-}
-
-/// The greatest minimum read in the leadership, after the event.
-fn greatest_minimum_after(held: u64, r: u8, event: &Event) -> u64
-    ensures { (mine : List Event)
-        → held ≡ greatest (λ e. any_min_read r e.by e.verb e.answer) (leadership r mine)
-        → result
-        ≡ greatest (λ e. any_min_read r e.by e.verb e.answer) (leadership r (event.now ∷ mine)) }
-{
-    match (event.verb, event.answer) {
-        (Verb::Ask(p), _) => { if event.by == r && p == 0 { 0 } else { held } }
-        (Verb::Min(_), Answer::Number(x)) => { if event.by == r { x.max(held) } else { held } }
-        _ => held,
-    }
-}
-
-/// The greatest number put, after the event.
-fn greatest_number_after(held: u32, r: u8, event: &Event) -> u32
-    ensures { (mine : List Event) → held ≡ greatest (λ e. number_put r e.by e.verb) mine
-        → result ≡ greatest (λ e. number_put r e.by e.verb) (event.now ∷ mine) }
-{
-    match event.verb {
-        Verb::PutMin(_, b) => { if event.by == r { b.max(held) } else { held } }
-        _ => held,
-    }
 }
 
 /// Whether a fence isn't the one under which the region joined.
@@ -200,7 +142,6 @@ impl Leadership {
 
     /// Takes the next event of the replica, which it was allowed. Takes no memory.
     #[inline(always)]
-    #[inline(always)]
     pub fn take(&mut self, r: u8, event: &Event)
         ensures { (c : Config) → (mine : List Event) → c.replicas ≤ 7
             → IsPossible c r (event.now ∷ mine)
@@ -216,6 +157,45 @@ impl Leadership {
     /// Takes an event that may change it.
     #[inline(never)]
     fn take_change(&mut self, r: u8, event: &Event)
+        ensures { (c : Config) → (mine : List Event) → c.replicas ≤ 7
+            → IsPossible c r (event.now ∷ mine)
+            → StandsForLeadership r mine self.old
+            → StandsForLeadership r (event.now ∷ mine) self.new }
+    {
+        match event.verb {
+            Verb::Enter(p, target) => self.take_entry(p, target, event),
+            Verb::PutSlot(p, _, _, _) => self.take_put(p, event),
+            _ => self.take_other(r, event),
+        }
+    }
+
+    /// Takes an entry into `p` with the target.
+    #[inline(always)]
+    fn take_entry(&mut self, p: u8, target: Target, event: &Event)
+        ensures { (c : Config) → (r : ℕ) → (mine : List Event)
+            → event.now.verb ≡ Verb.Enter p target → IsPossible c r (event.now ∷ mine)
+            → StandsForLeadership r mine self.old
+            → StandsForLeadership r (event.now ∷ mine) self.new }
+    {
+        self.over |= is_lost(&event.answer);
+        enter_at(&mut self.notes, p, target_named(target, &event.answer));
+    }
+
+    /// Takes a put into a slot of `p`.
+    #[inline(always)]
+    fn take_put(&mut self, p: u8, event: &Event)
+        ensures { (c : Config) → (r i b v : ℕ) → (mine : List Event)
+            → event.now.verb ≡ Verb.PutSlot p i b v → IsPossible c r (event.now ∷ mine)
+            → StandsForLeadership r mine self.old
+            → StandsForLeadership r (event.now ∷ mine) self.new }
+    {
+        self.over |= is_missed(&event.answer);
+        enter_at(&mut self.notes, p, Target::None);
+    }
+
+    /// Takes an event with any other verb.
+    #[inline(never)]
+    fn take_other(&mut self, r: u8, event: &Event)
         ensures { (c : Config) → (mine : List Event) → c.replicas ≤ 7
             → IsPossible c r (event.now ∷ mine)
             → StandsForLeadership r mine self.old

@@ -3,7 +3,9 @@
 //! The state stands for the replica's own events, and is kept up to date event by event.
 #![tactic(auto)]
 
+mod after;
 mod bearing;
+mod entering;
 mod leadership;
 mod region_notes;
 
