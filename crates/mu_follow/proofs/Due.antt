@@ -40,6 +40,17 @@ least_is test n k none fits passes = elim (cases_lt k n) [
   | inr high ↦ (let same : n ≡ k = omega (arith, fits, high) in subst (λ m. least_below m test ≡ k) (sym same) (least_all test k none))
 ]
 
+-- as many pass before the first that doesn't
+pub firsts_pass : (test : ℕ → Bool) (n k : ℕ) → ((j : ℕ) → j < k → test j ≡ true) → k ≤ n → (k < n → test k ≡ false) → k ≡ least_below n (λ j. not (test j))
+firsts_pass test n k all fits fails = sym (least_is (λ j. not (test j)) n k (λ j low. ap not (all j low)) fits (λ low. ap not (fails low)))
+
+-- one more passes
+pub one_more : (test : ℕ → Bool) (k next : ℕ) → ((j : ℕ) → j < k → test j ≡ true) → test k ≡ true → next ≡ k + 1 → (j : ℕ) → j < next → test j ≡ true
+one_more test k next all here is j low = elim (cases_lt j k) [
+  | inl before ↦ all j before
+  | inr last ↦ let same : k ≡ j = omega (arith, low, is, last) in subst (λ i. test i ≡ true) same here
+]
+
 -- none below the least passes
 pub least_below_fails : (n : ℕ) (test : ℕ → Bool) (j : ℕ) → j < least_below n test → j < n → test j ≡ false
 least_below_fails zero test j low small = absurd (omega (arith, small))
@@ -52,10 +63,6 @@ least_below_fails (suc n) test j low small = go (least_below_fails n test j) (le
       | inr more ↦ (let last : n ≡ j = omega (arith, more, small) in ap test (sym last) ∙ here)
     ])
     go ih false all t here low = (let fits = least_below_fits n test in ih low (omega (arith, low, fits)))
-
--- the least number of one more
-pub least_more : (test : ℕ → Bool) (n : ℕ) → least_below (n + 1) test ≡ (if least_below n test == n then (if test n then n else n + 1) else least_below n test)
-least_more test n = let more : n + 1 ≡ suc n = omega arith in ap (λ m. least_below m test) more
 
 not_false : (t : Bool) → not t ≡ false → t ≡ true
 not_false true e = refl

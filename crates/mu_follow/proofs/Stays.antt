@@ -17,10 +17,12 @@ use Rattle.mu_knowledge.specs.KnownLog.{StandsForKnownLog, TellsAccepted}
 use Rattle.mu_knowledge.specs.RowWords.{StandsForRowWords}
 use Rattle.mu_knowledge.specs.declared.row_words.RowWords.{RowWords}
 use Rattle.mu_knowledge.specs.declared.known_log.KnownLog.{KnownLog}
+use Rattle.mu_follow.specs.declared.completion.Completion.{Completion}
 use Rattle.mu_follow.specs.declared.follow.Follow.{Follow}
 use Rattle.mu_follow.specs.declared.kind.Kind.{Kind}
+use Rattle.mu_follow.specs.declared.progress.Progress.{Progress}
 use Rattle.mu_follow.specs.declared.published.Published.{Published}
-use Rattle.mu_follow.specs.Due.{own_fuo, row_under_way}
+use Rattle.mu_follow.specs.Due.{HoldsProgress, own_fuo, row_under_way}
 use Rattle.mu_follow.specs.Completion.{HoldsCompletion}
 use Rattle.mu_follow.specs.Follow.{HoldsFollow}
 use Rattle.mu_follow.specs.Kinds.{applies, is_fuo, is_head, is_look, is_put, is_row, kind_of, shows, teaches}
@@ -157,3 +159,37 @@ other_keeps c r n e mine state kind held =
         handed = (let long = ap length same in omega (arith, held.progress.handed, long));
       };
     }
+
+-- a word of a row leaves all but the rows, the words, what is counted and what is being read
+pub word_noted : (c : Config) (r n : ℕ) (e : Event) (mine : List Event) (state : Follow) (rows : HeldRows) (words : RowWords) (completion : Completion) (progress : Progress) → kind_of e.verb ≡ Kind.Row → HoldsFollow c r mine n state
+    → StandsForHeldRows c r (e ∷ mine) rows → StandsForRowWords c r (e ∷ mine) words → HoldsCompletion c (applied c r (e ∷ mine)) completion → HoldsProgress c r (e ∷ mine) progress
+    → HoldsFollow c r (e ∷ mine) n
+    (record {
+      config = state.config;
+      replica = state.replica;
+      steps = state.steps;
+      knowing = state.knowing;
+      rows = rows;
+      words = words;
+      own_log = state.own_log;
+      heads = state.heads;
+      completion = completion;
+      commits = state.commits;
+      outrun = state.outrun;
+      progress = progress;
+    })
+word_noted c r n e mine state rows words completion progress kind held there told counted reached = record {
+  config = held.config;
+  replica = held.replica;
+  inside = held.inside;
+  steps = held.steps;
+  knowing = knowing_stays c r e.by e.verb e.answer mine state.knowing (ap shows kind) held.knowing;
+  rows = there;
+  words = told;
+  own_log = log_stays c r e.by e.verb e.answer mine state.own_log (ap shows kind) held.own_log;
+  heads = heads_stay r e.by e.verb e.answer mine state.heads (ap is_head kind) held.heads;
+  completion = counted;
+  commits = record { are = held.commits.are ∙ sym (commits_stay c r e.by e.verb e.answer mine (ap is_put kind)); room = held.commits.room };
+  outrun = held.outrun ∙ outrun_stays c r e.by e.verb e.answer mine (ap is_look kind);
+  progress = reached;
+}

@@ -19,27 +19,14 @@ use mu_model::Verb;
 /// How many words a row has.
 const WORDS: u8 = 12;
 
-/// How many words are had before the first that is not, with one more that is had or not.
-fn had_after(had: u8, k: u8, one: bool) -> u8
-    requires { k < 12 }
-    ensures { result ≡ (if had == k then (if not one then k else k + 1) else had) }
-{
-    if had == k && one {
-        k.saturating_add(1)
-    } else {
-        had
-    }
-}
-
 /// How many words of the row the replica has before the first that it has not.
 fn words_had(rows: &HeldRows, v: u16) -> u8
     ensures { (c : Config) → (r : ℕ) → (mine : List Event) → v / 4096 < 7 → v % 4096 < row_count c
         → StandsForHeldRows c r mine rows.now → result ≡ words_had_of r mine v }
 {
     let mut had = 0;
-    for k in 0..WORDS {
-        let one = rows.has_word(usize::from(v), k);
-        had = had_after(had, k, one);
+    while had < WORDS && rows.has_word(usize::from(v), had) {
+        had = had.saturating_add(1);
     }
     had
 }

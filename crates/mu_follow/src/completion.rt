@@ -98,6 +98,7 @@ impl Completion {
     }
 
     /// Counts the next entry.
+    #[inline(never)]
     fn count(&mut self, config: &Config, v: u16)
         requires { self.old.counted < 65536 }
         ensures holds { (values : List ℕ) → IsConfig config.now
@@ -113,6 +114,7 @@ impl Completion {
     }
 
     /// Counts the first `applied` entries of the values.
+    #[inline(always)]
     pub fn take(&mut self, config: &Config, values: &[u16], applied: usize)
         ensures { IsConfig config.now → length values.now ≤ 65536 → applied ≤ length values.now
             → self.old.counted ≤ applied

@@ -94,18 +94,6 @@ fn turn_of_head(n: u8, steps: u32) -> u8
     }
 }
 
-/// How many rows are had before the first that is not, with one more that is had or not.
-fn had_after(had: u16, t: u16, one: bool) -> u16
-    requires { t < 65535 }
-    ensures { result ≡ (if had == t then (if not one then t else t + 1) else had) }
-{
-    if had == t && one {
-        t.saturating_add(1)
-    } else {
-        had
-    }
-}
-
 /// How many rows of the batch the replica has before the first that it has not.
 fn rows_had(fetching: &HeldRows, v: u16, n: u16) -> u16
     ensures { (c : Config) → (r : ℕ) → (mine : List Event) → v / 4096 < 7
@@ -114,9 +102,8 @@ fn rows_had(fetching: &HeldRows, v: u16, n: u16) -> u16
         → result ≡ least_below n (λ t. not (has_row r (v + t) mine)) }
 {
     let mut had = 0;
-    for t in 0..n {
-        let one = fetching.has_row(usize::from(v) + usize::from(t));
-        had = had_after(had, t, one);
+    while had < n && fetching.has_row(usize::from(v) + usize::from(had)) {
+        had = had.saturating_add(1);
     }
     had
 }

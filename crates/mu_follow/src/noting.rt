@@ -2,7 +2,9 @@
 ghost use Rattle.std.specs.Prelude.{List, None, Some, if◌then◌else◌, length, ℕ, ◌&&◌, ◌+◌, ◌<◌, ◌==◌, ◌∷◌, ◌≡◌};
 ghost use Rattle.std.specs.List.{slice_get};
 ghost use Rattle.mu_model.specs.declared.config.Config.{Config};
+ghost use Rattle.mu_model.specs.declared.event.Answer.{Answer};
 ghost use Rattle.mu_model.specs.declared.event.Event.{Event};
+ghost use Rattle.mu_model.specs.declared.event.Verb.{Verb};
 ghost use Rattle.mu_model.specs.Contents.{IsConfig};
 ghost use Rattle.mu_model.specs.Knowledge.{applied, is_value, known};
 ghost use Rattle.mu_model.specs.Parts.{IsPossible};
@@ -79,7 +81,19 @@ fn spot_of_put(r: u8, known: &[u16], event: &Event) -> Option<u16>
     }
 }
 
+/// The number that was answered, if one was.
+#[inline(always)]
+fn number_in(answer: &Answer) -> u64
+    ensures { (x : ℕ) → answer.now ≡ Answer.Number x → result ≡ x }
+{
+    match *answer {
+        Answer::Number(x) => x,
+        _ => 0,
+    }
+}
+
 /// Counts the entries that the replica has in full now.
+#[inline(always)]
 pub fn count_applied(
     completion: &mut Completion,
     config: &Config,
@@ -209,7 +223,7 @@ impl Follow {
     }
 
     /// Takes a word of a row, written or read.
-    #[inline(never)]
+    #[inline(always)]
     fn note_row(&mut self, event: &Event)
         requires config { IsConfig self.old.config }
         ensures stands { (mine : List Event) → (n : ℕ) → kind_of_verb event.now.verb ≡ Kind.Row
@@ -219,16 +233,58 @@ impl Follow {
         ensures config { self.new.config ≡ self.old.config }
         ensures handed { self.new.progress.handed ≡ self.old.progress.handed }
     {
-        let r = event.by;
-        self.rows.take(&self.config, r, self.knowing.known(), event);
-        self.words.take(r, event);
+        match event.verb {
+            Verb::WriteRow(row, word, x) => self.note_written(event.by, row, word, x),
+            Verb::ReadRow(v, word) => self.note_read(v, word, number_in(&event.answer)),
+            _ => {}
+        }
+    }
+
+    /// Takes a word that `r` writes into a row of its own.
+    #[inline(never)]
+    fn note_written(&mut self, r: u8, row: u16, word: u8, x: u64)
+        requires config { IsConfig self.old.config }
+        ensures stands { (mine : List Event) → (n : ℕ) → (e : Event)
+            → e.verb ≡ Verb.WriteRow row word x
+            → IsPossible self.old.config r (e ∷ mine)
+            → HoldsFollow self.old.config r mine n self.old
+            → HoldsFollow self.old.config r (e ∷ mine) n self.new }
+        ensures config { self.new.config ≡ self.old.config }
+        ensures handed { self.new.progress.handed ≡ self.old.progress.handed }
+    {
+        self.words.note_written(row, word, x);
+        self.rows
+            .note_written(&self.config, r, self.knowing.known(), row, word);
         count_applied(
             &mut self.completion,
             &self.config,
             &self.knowing,
             &self.rows,
         );
-        self.progress.note(r, event);
+    }
+
+    /// Takes a word of the row of `v` that is read as `x`.
+    #[inline(never)]
+    fn note_read(&mut self, v: u16, word: u8, x: u64)
+        requires config { IsConfig self.old.config }
+        ensures stands { (r : ℕ) → (mine : List Event) → (n : ℕ) → (e : Event)
+            → e.verb ≡ Verb.ReadRow v word → e.answer ≡ Answer.Number x
+            → IsPossible self.old.config r (e ∷ mine)
+            → HoldsFollow self.old.config r mine n self.old
+            → HoldsFollow self.old.config r (e ∷ mine) n self.new }
+        ensures config { self.new.config ≡ self.old.config }
+        ensures handed { self.new.progress.handed ≡ self.old.progress.handed }
+    {
+        self.words.note_read(v, word, x);
+        self.rows
+            .note_read(&self.config, self.knowing.known(), v, word);
+        self.progress.note_read(v, word);
+        count_applied(
+            &mut self.completion,
+            &self.config,
+            &self.knowing,
+            &self.rows,
+        );
     }
 
     /// Takes a read or a raise of a head.

@@ -1,6 +1,7 @@
 //! What a replayer remembers of its own plan.
 ghost use Rattle.std.specs.Prelude.{List, Some, [], if◌then◌else◌, ℕ, ◌==◌, ◌∷◌, ◌≡◌};
 ghost use Rattle.mu_model.specs.declared.event.Event.{Event as SomeEvent};
+ghost use Rattle.mu_model.specs.declared.event.Verb.{Verb as SomeVerb};
 ghost use Rattle.mu_model.specs.Histories.{max_with};
 ghost use Rattle.mu_follow.specs.Due.{own_fuo, row_under_way};
 
@@ -37,17 +38,6 @@ fn fuo_after(held: u64, r: u8, event: &Event) -> u64
     }
 }
 
-/// The row that is being read, after the event.
-fn row_after(held: Option<u16>, event: &Event) -> Option<u16>
-    ensures { (mine : List SomeEvent) → held ≡ row_under_way mine
-        → result ≡ row_under_way (event.now ∷ mine) }
-{
-    match event.verb {
-        Verb::ReadRow(v, word) => { if word < LAST_WORD { Some(v) } else { None } }
-        _ => held,
-    }
-}
-
 impl Progress {
     /// A replayer that has done nothing yet.
     pub fn new() -> Progress
@@ -62,15 +52,23 @@ impl Progress {
         }
     }
 
-    /// Takes the next event of `r`.
+    /// Takes the next event of `r`, a read or a raise of a FUO.
     pub fn note(&mut self, r: u8, event: &Event)
         ensures fuo { (mine : List SomeEvent) → event.now.by ≡ r → self.old.fuo ≡ own_fuo r mine
             → self.new.fuo ≡ own_fuo r (event.now ∷ mine) }
-        ensures row { (mine : List SomeEvent) → self.old.row ≡ row_under_way mine
-            → self.new.row ≡ row_under_way (event.now ∷ mine) }
+        ensures row { self.new.row ≡ self.old.row }
         ensures handed { self.new.handed ≡ self.old.handed }
     {
         self.fuo = fuo_after(self.fuo, r, event);
-        self.row = row_after(self.row, event);
+    }
+
+    /// Takes the next event, if that reads this word of the row of `v`.
+    pub fn note_read(&mut self, v: u16, word: u8)
+        ensures row { (mine : List SomeEvent) → (e : SomeEvent) → e.verb ≡ SomeVerb.ReadRow v word
+            → self.new.row ≡ row_under_way (e ∷ mine) }
+        ensures fuo { self.new.fuo ≡ self.old.fuo }
+        ensures handed { self.new.handed ≡ self.old.handed }
+    {
+        self.row = if word < LAST_WORD { Some(v) } else { None };
     }
 }

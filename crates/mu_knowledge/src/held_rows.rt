@@ -2,6 +2,7 @@
 ghost use Rattle.std.specs.Prelude.{IfOk, IsTrue, List, Some, [], length, replicate, ℕ, Bool, ◌%◌, ◌&&◌, ◌*◌, ◌+◌, ◌/◌, ◌<◌, ◌==◌, ◌||◌, ◌∷◌, ◌≡◌, ◌≤◌, false};
 ghost use Rattle.mu_model.specs.declared.config.Config.{Config};
 ghost use Rattle.mu_model.specs.declared.event.Event.{Event};
+ghost use Rattle.mu_model.specs.declared.event.Verb.{Verb};
 ghost use Rattle.mu_model.specs.Contents.{IsConfig, row_count};
 ghost use Rattle.mu_model.specs.Histories.{all_below};
 ghost use Rattle.mu_model.specs.Knowledge.{applied, fetched_prefix, has_entry, has_row, has_word, known, wrote, wrote_batch};
@@ -47,58 +48,15 @@ fn mark(got: &mut [bool], v: usize, k: u8)
     }
 }
 
-/// Notes the word that the event of `r` writes into one of its rows.
-fn note_written(written: &mut [bool], r: u8, event: &Event)
-    ensures { (c : Config) → (mine : List Event) → IsOfRows c event.now.verb
-        → WroteWords c r mine written.old → WroteWords c r (event.now ∷ mine) written.new }
+/// Notes that word `k` of the own row `j` is written.
+fn mark_written(written: &mut [bool], j: u16, k: u8)
+    ensures { (c : Config) → (r : ℕ) → (mine : List Event) → (e : Event) → (x : ℕ) → e.by ≡ r
+        → e.verb ≡ Verb.WriteRow j k x → j < row_count c → k < 12
+        → WroteWords c r mine written.old → WroteWords c r (e ∷ mine) written.new }
 {
-    if let Verb::WriteRow(row, word, _) = event.verb {
-        let at = usize::from(row) * 12 + usize::from(word);
-        if event.by == r && at < written.len() {
-            written[at] = true;
-        }
-    }
-}
-
-/// Notes the word that the event of `r` writes or reads.
-fn note_got(got: &mut [bool], r: u8, event: &Event)
-    ensures { (c : Config) → (mine : List Event) → IsConfig c → r < 7 → IsOfRows c event.now.verb
-        → HasWords c r mine got.old → HasWords c r (event.now ∷ mine) got.new }
-{
-    match event.verb {
-        Verb::WriteRow(row, word, _) => {
-            if event.by == r {
-                mark(got, usize::from(r) * 4096 + usize::from(row), word);
-            }
-        }
-        Verb::ReadRow(v, word) => {
-            if event.by == r {
-                mark(got, usize::from(v), word);
-            }
-        }
-        _ => {}
-    }
-}
-
-/// The payload number of the row that a verb of `r` writes or reads.
-fn row_of(r: u8, verb: &Verb) -> Option<usize>
-    ensures { result ≡ row_named r verb.now }
-{
-    match *verb {
-        Verb::WriteRow(row, _, _) => Some(usize::from(r) * 4096 + usize::from(row)),
-        Verb::ReadRow(v, _) => Some(usize::from(v)),
-        _ => None,
-    }
-}
-
-/// Whether the verb may change which rows are there, or what is known.
-fn may_change(verb: &Verb) -> bool
-    ensures { result ≡ (is_of_row verb.now || is_telling verb.now) }
-{
-    match *verb {
-        Verb::WriteRow(_, _, _) | Verb::ReadRow(_, _) => true,
-        Verb::Look(_, _) | Verb::PutSlot(_, _, _, _) | Verb::Fuo(_) => true,
-        _ => false,
+    let at = usize::from(j) * 12 + usize::from(k);
+    if at < written.len() {
+        written[at] = true;
     }
 }
 
@@ -208,16 +166,20 @@ impl HeldRows {
         count
     }
 
-    /// Whether the row that a verb of `r` writes or reads lacks its last word: then no row is whole
-    /// that wasn't before.
-    fn lacks_last_word(&self, r: u8, verb: &Verb) -> bool
-        ensures { (c : Config) → (mine : List Event) → IsConfig c → r < 7 → IsOfRows c verb.now
-            → HasWords c r mine self.now.got.items → IsTrue result
-            → (v : ℕ) × ((row_named r verb.now ≡ Some v) × (has_word r v 11 mine ≡ false)) }
+    /// Finds what is applied after a word of the row of `v`: if the row lacks its last word, no row
+    /// is whole that wasn't before, and nothing is looked for.
+    fn advance(&mut self, config: &Config, known_after: &[u16], v: usize)
+        ensures { (r : ℕ) → (mine : List Event) → (e : Event) → IsConfig config.now
+            → v / 4096 < 7 → v % 4096 < row_count config.now
+            → IsOfRows config.now e.verb → row_named r e.verb ≡ Some v
+            → known_after.now ≡ known config.now r (e ∷ mine)
+            → WroteWords config.now r (e ∷ mine) self.old.written.items
+            → HasWords config.now r (e ∷ mine) self.old.got.items
+            → self.old.applied ≡ length (applied config.now r mine)
+            → StandsForHeldRows config.now r (e ∷ mine) self.new }
     {
-        match row_of(r, verb) {
-            Some(v) => !self.has_word(v, LAST_WORD),
-            None => false,
+        if self.has_word(v, LAST_WORD) {
+            self.applied = self.front_from(config, known_after, self.applied);
         }
     }
 
@@ -232,26 +194,40 @@ impl HeldRows {
             → StandsForHeldRows config.now r mine self.old
             → StandsForHeldRows config.now r (event.now ∷ mine) self.new }
     {
-        if !may_change(&event.verb) {
-            return;
+        match event.verb {
+            Verb::WriteRow(row, word, _) => self.note_written(config, r, known_after, row, word),
+            Verb::ReadRow(v, word) => self.note_read(config, known_after, v, word),
+            Verb::Look(_, _) | Verb::PutSlot(_, _, _, _) | Verb::Fuo(_) => {
+                self.pass(config, known_after)
+            }
+            _ => {}
         }
-        self.take_change(config, r, known_after, event);
     }
 
-    /// Takes an event that may change which rows are there, or what is known.
-    #[inline(never)]
-    fn take_change(&mut self, config: &Config, r: u8, known_after: &[u16], event: &Event)
-        ensures { (mine : List Event) → IsConfig config.now
-            → IsPossible config.now r (event.now ∷ mine)
-            → known_after.now ≡ known config.now r (event.now ∷ mine)
+    /// The same, if the event writes this word of this row of its own.
+    pub fn note_written(&mut self, config: &Config, r: u8, known_after: &[u16], row: u16, word: u8)
+        ensures { (mine : List Event) → (e : Event) → (x : ℕ) → IsConfig config.now
+            → e.verb ≡ Verb.WriteRow row word x → IsPossible config.now r (e ∷ mine)
+            → known_after.now ≡ known config.now r (e ∷ mine)
             → StandsForHeldRows config.now r mine self.old
-            → StandsForHeldRows config.now r (event.now ∷ mine) self.new }
+            → StandsForHeldRows config.now r (e ∷ mine) self.new }
     {
-        note_written(&mut self.written, r, event);
-        note_got(&mut self.got, r, event);
-        if !self.lacks_last_word(r, &event.verb) {
-            self.applied = self.front_from(config, known_after, self.applied);
-        }
+        let v = usize::from(r) * 4096 + usize::from(row);
+        mark_written(&mut self.written, row, word);
+        mark(&mut self.got, v, word);
+        self.advance(config, known_after, v);
+    }
+
+    /// The same, if the event reads this word of the row of `v`.
+    pub fn note_read(&mut self, config: &Config, known_after: &[u16], v: u16, word: u8)
+        ensures { (r : ℕ) → (mine : List Event) → (e : Event) → IsConfig config.now
+            → e.verb ≡ Verb.ReadRow v word → IsPossible config.now r (e ∷ mine)
+            → known_after.now ≡ known config.now r (e ∷ mine)
+            → StandsForHeldRows config.now r mine self.old
+            → StandsForHeldRows config.now r (e ∷ mine) self.new }
+    {
+        mark(&mut self.got, usize::from(v), word);
+        self.advance(config, known_after, usize::from(v));
     }
 
     /// Takes the next event of `r`, if that neither writes nor reads a row, after which it knows

@@ -1,12 +1,14 @@
 //! The words that a replica has of the rows of a job.
 ghost use Rattle.std.specs.Prelude.{IfOk, if◌then◌else◌, List, [], replicate, ℕ, ◌&&◌, ◌*◌, ◌<◌, ◌==◌, ◌∷◌, ◌≡◌};
 ghost use Rattle.mu_model.specs.declared.config.Config.{Config};
+ghost use Rattle.mu_model.specs.declared.event.Answer.{Answer};
 ghost use Rattle.mu_model.specs.declared.event.Event.{Event};
+ghost use Rattle.mu_model.specs.declared.event.Verb.{Verb};
 ghost use Rattle.mu_model.specs.Contents.{IsConfig, row_count};
 ghost use Rattle.mu_knowledge.specs.HeldRows.{IsOfRows};
 ghost use Rattle.mu_knowledge.specs.RowWords.{HoldWords, StandsForRowWords, word_held, words_held};
 
-use mu_model::{Answer, Config, Event, NoMemory, PAYLOADS, Row, Verb};
+use mu_model::{Config, NoMemory, PAYLOADS, Row};
 use std::alloc::Global;
 
 /// What a replica last wrote or read of each word of each row of a job. All replicas write the same
@@ -29,27 +31,6 @@ fn put(words: &mut [u64], j: u16, k: u8, x: u64)
     }
 }
 
-/// Keeps the word that the event of `r` writes or reads.
-fn note_word(words: &mut [u64], r: u8, event: &Event)
-    ensures { (c : Config) → (mine : List Event) → IsOfRows c event.now.verb
-        → HoldWords (row_count c) (λ j k. word_held r j k mine) words.old
-        → HoldWords (row_count c) (λ j k. word_held r j k (event.now ∷ mine)) words.new }
-{
-    match (event.verb, event.answer) {
-        (Verb::WriteRow(row, word, x), _) => {
-            if event.by == r {
-                put(words, row, word, x);
-            }
-        }
-        (Verb::ReadRow(v, word), Answer::Number(x)) => {
-            if event.by == r {
-                put(words, v % PAYLOADS, word, x);
-            }
-        }
-        _ => {}
-    }
-}
-
 /// No word of any row: room for twelve of each, and no more.
 fn no_words(alloc: Global, config: &Config) -> Result<Vec<u64>, NoMemory>
     requires { IsConfig config.now }
@@ -69,14 +50,26 @@ impl RowWords {
         })
     }
 
-    /// Takes the next event of `r`, which names a row and a word that are there, if any. Takes no
+    /// Takes the next event of a replica, if that writes this word of this row of its own. Takes no
     /// memory.
-    pub fn take(&mut self, r: u8, event: &Event)
-        ensures { (c : Config) → (mine : List Event) → IsOfRows c event.now.verb
+    pub fn note_written(&mut self, row: u16, word: u8, x: u64)
+        ensures { (c : Config) → (r : ℕ) → (mine : List Event) → (e : Event) → e.by ≡ r
+            → e.verb ≡ Verb.WriteRow row word x → IsOfRows c e.verb
             → StandsForRowWords c r mine self.old
-            → StandsForRowWords c r (event.now ∷ mine) self.new }
+            → StandsForRowWords c r (e ∷ mine) self.new }
     {
-        note_word(&mut self.words, r, event);
+        put(&mut self.words, row, word, x);
+    }
+
+    /// Takes the next event of a replica, if that reads this word of the row of `v`. Takes no
+    /// memory.
+    pub fn note_read(&mut self, v: u16, word: u8, x: u64)
+        ensures { (c : Config) → (r : ℕ) → (mine : List Event) → (e : Event) → e.by ≡ r
+            → e.verb ≡ Verb.ReadRow v word → e.answer ≡ Answer.Number x → IsOfRows c e.verb
+            → StandsForRowWords c r mine self.old
+            → StandsForRowWords c r (e ∷ mine) self.new }
+    {
+        put(&mut self.words, v % PAYLOADS, word, x);
     }
 
     /// Word `k` of row `j`.

@@ -2,7 +2,7 @@ use Rattle.std.proofs.Common.{◌∙◌, ◌∷◌, ap, arith, false, length, re
 use Rattle.mu_model.specs.Knowledge.{known}
 use Rattle.mu_follow.specs.Completion.{HoldsCompletion}
 use Rattle.mu_follow.specs.Kinds.{applies, is_head, is_look, is_put, teaches, is_row}
-use Rattle.mu_follow.proofs.Stays.{applied_stays, commits_stay, heads_stay, outrun_stays, rows_stay, spots_none, tells_none, words_stay}
+use Rattle.mu_follow.proofs.Stays.{applied_stays, commits_stay, heads_stay, outrun_stays, row_stays, rows_stay, spots_none, tells_none, words_stay}
 use Rattle.mu_follow.proofs.follow.Follow.note_fuo.Goals as goal
 
 pub returns-clause-stands : goal.returns-clause-stands
@@ -27,5 +27,5 @@ returns-clause-stands c mine n kind possible held =
       completion = subst (λ l. HoldsCompletion k l state.completion) (sym same) held.completion;
       commits = record { are = held.commits.are ∙ sym (commits_stay k r e.by e.verb e.answer mine (ap is_put kind)); room = held.commits.room };
       outrun = held.outrun ∙ outrun_stays k r e.by e.verb e.answer mine (ap is_look kind);
-      progress = record { fuo = c.note.ensures.fuo mine refl held.progress.fuo; row = c.note.ensures.row mine held.progress.row; handed = omega (arith, c.note.ensures.handed, held.progress.handed, long) };
+      progress = record { fuo = c.note.ensures.fuo mine refl held.progress.fuo; row = c.note.ensures.row ∙ (held.progress.row ∙ row_stays e.by e.verb e.answer mine (ap is_row kind)); handed = omega (arith, c.note.ensures.handed, held.progress.handed, long) };
     }
