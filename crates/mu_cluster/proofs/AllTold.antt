@@ -1,7 +1,6 @@
 -- A replica that finished with every row tells the commands of the longest log, and replied to them.
-use Rattle.std.proofs.Common.{◌≡◌, ◌∙◌, ◌⊎◌, ℕ, suc, ◌+◌, ◌%◌, ◌<◌, ◌≤◌, ◌==◌, inl, inr, Bool, true, false, cond, Some, List, [], ◌∷◌, ◌++◌, ap, append-nil, arith, eqb-true, get_or, length, refl, sym, take, drop, true≢false}
-use Rattle.std.specs.List.{list_any, slice_get}
-use Rattle.std.proofs.Math.Dec.{eqb}
+use Rattle.std.proofs.Common.{◌≡◌, ◌∙◌, ◌⊎◌, ℕ, ◌+◌, ◌%◌, ◌<◌, ◌≤◌, inl, inr, Bool, true, false, cond, Some, List, [], ◌∷◌, ◌++◌, ap, append-nil, arith, get_or, length, refl, sym, take, drop}
+use Rattle.std.specs.List.{slice_get}
 use Rattle.std.proofs.lemmas.List.{length-append, length-drop, length-take}
 use Rattle.std.proofs.lemmas.Option.{slice_get-get_or, slice_get_within}
 use Rattle.kv_store.specs.Commands.{Request}
@@ -18,7 +17,7 @@ use Rattle.mu_outcome.specs.Entries.{commands_in, commands_of, longest}
 use Rattle.mu_outcome.specs.Outcomes.{Agrees, IsRun, log_of, or_empty}
 use Rattle.mu_outcome.proofs.Completing.{few_told, included_among}
 use Rattle.mu_outcome.proofs.LongestLogs.{longest_is, longest_most}
-use Rattle.mu_rows.proofs.RowsOnce.{at_least, length-from, place_of, stands_at}
+use Rattle.mu_rows.proofs.RowsOnce.{at_least, length-from}
 use Rattle.mu_cluster.specs.Finishing.{HasApplied, HasFinished}
 use Rattle.mu_cluster.proofs.Agreeing.{agrees_of, over_order}
 use Rattle.mu_outcome.proofs.LogCommands.{commands_in-append}

@@ -13,7 +13,7 @@ use Rattle.mu_model.specs.Leaderships.{begins_leadership, has_begun}
 use Rattle.mu_model.specs.Legal.{IsLegalHistory}
 use Rattle.mu_model.specs.Regions.{asks, is_ask_by}
 use Rattle.mu_model.specs.Serving.{ask_read, seen_asks}
-use Rattle.mu_model.specs.Steps.{is_ask_read_verb, is_asking, is_asking_verb}
+use Rattle.mu_model.specs.Steps.{is_asking, is_asking_verb}
 use Rattle.mu_model.proofs.Basics.{same_number}
 use Rattle.mu_model.proofs.Parts.{filter-append}
 use Rattle.mu_alive.proofs.Cutting.{met}

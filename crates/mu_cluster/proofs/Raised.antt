@@ -19,10 +19,10 @@ use Rattle.mu_model.specs.Knowledge.{applied, has_entry, known}
 use Rattle.mu_model.specs.Legal.{IsLegalHistory}
 use Rattle.mu_model.specs.Regions.{head_raised, region_head}
 use Rattle.mu_model.specs.Room.{head_read}
-use Rattle.mu_model.specs.Scores.{is_failed, least_below}
+use Rattle.mu_model.specs.Scores.{is_failed}
 use Rattle.mu_model.proofs.Owned.{greatest-part}
 use Rattle.mu_model.proofs.Parts.{filter-append}
-use Rattle.mu_model.proofs.Scans.{all_at, least_below_fits}
+use Rattle.mu_model.proofs.Scans.{all_at}
 use Rattle.mu_pace.specs.Collecting.{LeaderKeeps}
 use Rattle.mu_pace.specs.Counters.{AtEachStep}
 use Rattle.mu_pace.proofs.Counting.{steps_before}
