@@ -98,7 +98,6 @@ impl Completion {
     }
 
     /// Counts the next entry.
-    #[inline(never)]
     fn count(&mut self, config: &Config, v: u16)
         requires { self.old.counted < 65536 }
         ensures holds { (values : List ℕ) → IsConfig config.now
@@ -116,6 +115,19 @@ impl Completion {
     /// Counts the first `applied` entries of the values.
     #[inline(always)]
     pub fn take(&mut self, config: &Config, values: &[u16], applied: usize)
+        ensures { IsConfig config.now → length values.now ≤ 65536 → applied ≤ length values.now
+            → self.old.counted ≤ applied
+            → HoldsCompletion config.now (take self.old.counted values.now) self.old
+            → HoldsCompletion config.now (take applied values.now) self.new }
+    {
+        if self.counted < applied {
+            self.count_to(config, values, applied);
+        }
+    }
+
+    /// The same, entry by entry: called only if there are some that weren't counted.
+    #[inline(never)]
+    fn count_to(&mut self, config: &Config, values: &[u16], applied: usize)
         ensures { IsConfig config.now → length values.now ≤ 65536 → applied ≤ length values.now
             → self.old.counted ≤ applied
             → HoldsCompletion config.now (take self.old.counted values.now) self.old

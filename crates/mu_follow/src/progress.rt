@@ -63,6 +63,7 @@ impl Progress {
     }
 
     /// Takes the next event, if that reads this word of the row of `v`.
+    #[inline(always)]
     pub fn note_read(&mut self, v: u16, word: u8)
         ensures row { (mine : List SomeEvent) → (e : SomeEvent) → e.verb ≡ SomeVerb.ReadRow v word
             → self.new.row ≡ row_under_way (e ∷ mine) }

@@ -1,7 +1,7 @@
 use Rattle.std.proofs.Common.{◌-◌, ◌≤◌, take}
 use Rattle.mu_model.specs.Contents.{IsConfig}
 use Rattle.mu_follow.specs.Completion.{HoldsCompletion}
-use Rattle.mu_follow.proofs.completion.Completion.take.Given as goal
+use Rattle.mu_follow.proofs.completion.Completion.count_to.Given as goal
 
 abbrev pub invariant-loop-self : goal.invariant-loop-self
 invariant-loop-self l = record {
