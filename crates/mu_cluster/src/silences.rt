@@ -51,6 +51,39 @@ impl Reads {
     }
 }
 
+/// Takes a read of the beats of a replica: the silence that it shows.
+fn take_read(reads: &mut [Reads; 7], replica: u8, beats: u64) -> u8
+    ensures shown { (mine : List SomeEvent) → replica < 7
+        → HoldReads mine reads.old → result ≡ min 15 (reads_of replica beats mine) }
+    ensures reads { (mine : List SomeEvent) → (event : SomeEvent) → replica < 7
+        → event.verb ≡ SomeVerb.ReadBeat replica → event.answer ≡ SomeAnswer.Number beats
+        → HoldReads mine reads.old → HoldReads (event ∷ mine) reads.new }
+{
+    if replica < 7 {
+        let at = usize::from(replica);
+        let held = reads[at];
+        reads[at] = held.after(beats);
+        held.of(beats)
+    } else {
+        0
+    }
+}
+
+/// Takes an event of the replica: the silence that it shows.
+#[inline(always)]
+fn silence_with(reads: &mut [Reads; 7], event: &Event) -> u8
+    ensures shown { (mine : List SomeEvent) → ReadsBeatsWithin 7 event.now.verb
+        → HoldReads mine reads.old
+        → result ≡ silence_after event.now.verb event.now.answer mine }
+    ensures reads { (mine : List SomeEvent) → ReadsBeatsWithin 7 event.now.verb
+        → HoldReads mine reads.old → HoldReads (event.now ∷ mine) reads.new }
+{
+    match (event.verb, event.answer) {
+        (Verb::ReadBeat(replica), Answer::Number(beats)) => take_read(reads, replica, beats),
+        _ => 0,
+    }
+}
+
 impl Silences {
     /// A replica that has made no step.
     pub(crate) fn new() -> Silences
@@ -70,39 +103,6 @@ impl Silences {
         self.shown
     }
 
-    /// Takes a read of the beats of a replica: the silence that it shows.
-    fn take_read(&mut self, replica: u8, beats: u64) -> u8
-        ensures shown { (mine : List SomeEvent) → replica < 7
-            → HoldReads mine self.old.reads → result ≡ min 15 (reads_of replica beats mine) }
-        ensures reads { (mine : List SomeEvent) → (event : SomeEvent) → replica < 7
-            → event.verb ≡ SomeVerb.ReadBeat replica → event.answer ≡ SomeAnswer.Number beats
-            → HoldReads mine self.old.reads → HoldReads (event ∷ mine) self.new.reads }
-    {
-        if replica < 7 {
-            let at = usize::from(replica);
-            let held = self.reads[at];
-            self.reads[at] = held.after(beats);
-            held.of(beats)
-        } else {
-            0
-        }
-    }
-
-    /// Takes an event of the replica: the silence that it shows.
-    #[inline(always)]
-    fn silence_after(&mut self, event: &Event) -> u8
-        ensures shown { (mine : List SomeEvent) → ReadsBeatsWithin 7 event.now.verb
-            → HoldReads mine self.old.reads
-            → result ≡ silence_after event.now.verb event.now.answer mine }
-        ensures reads { (mine : List SomeEvent) → ReadsBeatsWithin 7 event.now.verb
-            → HoldReads mine self.old.reads → HoldReads (event.now ∷ mine) self.new.reads }
-    {
-        match (event.verb, event.answer) {
-            (Verb::ReadBeat(replica), Answer::Number(beats)) => self.take_read(replica, beats),
-            _ => 0,
-        }
-    }
-
     /// Takes the newest of the replica's own events.
     #[inline(always)]
     pub(crate) fn take_newest(&mut self, events: &[Event])
@@ -111,7 +111,7 @@ impl Silences {
             → StandsForSilences (event ∷ past) self.new }
     {
         if let Some(event) = events.last() {
-            self.shown = self.silence_after(event);
+            self.shown = silence_with(&mut self.reads, event);
         }
     }
 }
