@@ -12,7 +12,8 @@ and waits for a majority.
 Instructions are those of the whole process for each event, as `valgrind --tool=callgrind` counts them,
 which doesn't vary with the load. Times are the least and the middle of the runs, of whole processes, which
 take turns, so that what else the machine does meets all alike; with first rank (as by `chrt -f 1`) if that is
-permitted. Of the anchors without Mu's protocol it is the time that they tell themselves, from the first
+permitted. On threads the time of the threads alone stands beside it, from when the first is made until the last has
+ended, if there is a C compiler. Of the anchors without Mu's protocol it is the time that they tell themselves, from the first
 command to the last one applied; how long the others take without a command stands below their table. Above
 the tables stand the processors and the load. `one` is the table of the commands that take no threads.
 """
@@ -26,7 +27,7 @@ import sys
 import tempfile
 import time
 
-from measure_runs import COMMANDS, REPLICAS, load
+from measure_runs import COMMANDS, REPLICAS, alone, load, spans
 from measure_speed import TOP, counted, even, events_of, input_of, job
 from second_program import build
 
@@ -73,23 +74,26 @@ def megabytes(words, given):
 class Run:
     """One run of a program: its time, its processors, and what it wrote."""
 
-    def __init__(self, words, given):
-        with tempfile.TemporaryFile() as read, tempfile.TemporaryFile() as written:
+    def __init__(self, words, given, loaded=None):
+        kept = dict(os.environ, LD_PRELOAD=loaded) if loaded else None
+        with tempfile.TemporaryFile() as read, tempfile.TemporaryFile() as written, tempfile.TemporaryFile() as told:
             read.write(given)
             read.seek(0)
             start = time.monotonic()
-            child = subprocess.Popen(words, stdin=read, stdout=written, stderr=subprocess.DEVNULL)
+            child = subprocess.Popen(words, stdin=read, stdout=written, stderr=told, env=kept)
             usage = os.wait4(child.pid, 0)[2]
             self.seconds = time.monotonic() - start
             child.returncode = 0
             written.seek(0)
             self.output = written.read()
+            told.seek(0)
+            self.alone = alone(told.read()) if loaded else None
         self.cores = (usage.ru_utime + usage.ru_stime) / self.seconds
 
 
-def runs_of(commands, given, count):
+def runs_of(commands, given, count, loaded=None):
     """The runs of each command, which take turns."""
-    turns = [[Run(words, given) for words in commands] for _ in range(count)]
+    turns = [[Run(words, given, loaded) for words in commands] for _ in range(count)]
     return [list(own) for own in zip(*turns)]
 
 
@@ -119,20 +123,31 @@ def one_thread(paths, program, count):
         print(f"| {title} | {events:,} | {' | '.join(cells)} |{end}", flush=True)
 
 
+def time_of_threads(runs, commands):
+    """The time of a command, of the whole process and of its threads alone, which one replica has none of."""
+    whole = least_and_middle([1e9 * run.seconds / commands for run in runs], ",.0f")
+    if None in [run.alone for run in runs]:
+        return f"{whole} | "
+    return f"{whole} | {least_and_middle([1e9 * run.alone / commands for run in runs], ',.0f')}"
+
+
 def threads(paths, program, count):
     """The table of runs on threads."""
-    told = ["replicas", "commands", os.path.basename(program), "finished", "cores", "plain_mu", "finished", "cores",
-            "a log under one lock", "rings"]
+    told = ["replicas", "commands"]
+    for name in (os.path.basename(program), "plain_mu"):
+        told += [name, "its threads", "finished", "cores"]
+    told += ["a log under one lock", "rings"]
     print(f"\n| {' | '.join(told)} |\n{'|---' * len(told)}|", flush=True)
     protocols = [[program, "run"], [paths["plain_mu"], "run"]]
     anchors = [[paths["locked_log"]], [paths["rings"]]]
+    loaded = spans(os.path.dirname(paths["plain_mu"]))
     for replicas, commands in itertools.product(REPLICAS, COMMANDS):
-        own = runs_of(protocols + anchors, job(replicas, even(commands)), count)
+        own = runs_of(protocols + anchors, job(replicas, even(commands)), count, loaded)
         cells = []
         for runs in own[:2]:
             finished = sum(run.output.endswith(b"status 0\n") for run in runs)
-            times = least_and_middle([1e9 * run.seconds / commands for run in runs], ",.0f")
-            cells.append(f"{times} | {finished} | {statistics.median(run.cores for run in runs):.1f}")
+            cores = statistics.median(run.cores for run in runs)
+            cells.append(f"{time_of_threads(runs, commands)} | {finished} | {cores:.1f}")
         for runs in own[2:]:
             inside = [int(re.search(rb"\d+", run.output)[0]) / commands for run in runs]
             cells.append(least_and_middle(inside, ",.0f"))

@@ -1,26 +1,30 @@
 #!/usr/bin/env python3
 """Compares programs by how `mu run` goes, side by side: how long, and whether all commands are done.
 
-    tools/measure_runs.py [--runs 9] [PROGRAM ..]
+    tools/measure_runs.py [--runs 9] [--rows 3x400 ..] [PROGRAM ..]
 
 PROGRAM is out/bin/mu if none is named; name several that rest otherwise. For 1, 3, 5 and 7
-replicas and 100, 400 and 1,500 commands each program runs as often, one after the other in turn, so
+replicas and 100, 400 and 1,500 commands, or the rows named, each program runs as often, one after the other in turn, so
 that what else the machine does meets all alike. A row tells of each program the least and the middle
-time of a command in nanoseconds (of the whole process, its start included), how many runs had all
-commands in the longest log, the fewest entries that a longest log had, and how many processors the
+time of a command in nanoseconds, of the whole process, its start included, and of its threads alone: from when the
+first is made until the last has ended (if there is a C compiler; of one replica there is none). It tells how many runs
+had all commands in the longest log, the fewest entries that a longest log had, and how many processors the
 run used in the middle. Above the table stand the processors, and the load of the machine before and
 after.
 """
 import argparse
+import itertools
 import os
 import re
 import resource
 import statistics
 import subprocess
 import sys
+import tempfile
 import time
 
 from measure_speed import TOP, even, job
+from own_traces import c_compiler
 
 REPLICAS = (1, 3, 5, 7)
 COMMANDS = (100, 400, 1500)
@@ -33,25 +37,50 @@ def used():
     return usage.ru_utime + usage.ru_stime
 
 
+def spans(room):
+    """What tells how long the threads of a program took, to be loaded before the C library: its path in the folder."""
+    compiler, path = c_compiler(), os.path.join(room, "spans.so")
+    if compiler is None:
+        return None
+    source = os.path.join(TOP, "tools", "spans.c")
+    subprocess.run([compiler, "-std=c11", "-O2", "-shared", "-fPIC", "-o", path, source, "-ldl"], check=True)
+    return path
+
+
+def alone(told):
+    """How many seconds all threads took, by what tools/spans.c told; None if there were none."""
+    lines = told.split()
+    return int(lines[-1]) / 1e9 if lines else None
+
+
 class Run:
     """How a run went."""
 
-    def __init__(self, program, given):
+    def __init__(self, program, given, loaded):
         start, before = time.monotonic(), used()
-        done = subprocess.run([program, "run"], input=given, stdout=subprocess.PIPE, check=False,
-                              timeout=LIMIT_SECONDS)
+        done = subprocess.run([program, "run"], input=given, stdout=subprocess.PIPE, stderr=subprocess.PIPE, check=False,
+                              timeout=LIMIT_SECONDS, env=dict(os.environ, LD_PRELOAD=loaded) if loaded else None)
         self.seconds = time.monotonic() - start
         self.cores = (used() - before) / self.seconds
+        self.alone = alone(done.stderr) if loaded else None
         logs = re.findall(rb"^log \d+ entries (\d+)", done.stdout, re.MULTILINE)
         self.entries = max((int(count) for count in logs), default=0)
 
 
 def cell(runs, commands):
     """What a row tells of one program."""
-    times = [1e9 * run.seconds / commands for run in runs]
     finished = sum(run.entries == commands for run in runs)
-    return (f"{min(times):,.0f} | {statistics.median(times):,.0f} | {finished} of {len(runs)} | "
+    return (f"{least_and_middle([run.seconds for run in runs], commands)} | "
+            f"{least_and_middle([run.alone for run in runs], commands)} | {finished} of {len(runs)} | "
             f"{min(run.entries for run in runs)} | {statistics.median(run.cores for run in runs):.1f}")
+
+
+def least_and_middle(seconds, commands):
+    """The least and the middle time of a command in nanoseconds, if it was taken."""
+    if None in seconds:
+        return " | "
+    times = [1e9 * it / commands for it in seconds]
+    return f"{min(times):,.0f} | {statistics.median(times):,.0f}"
 
 
 def load():
@@ -59,18 +88,26 @@ def load():
     return f"{os.getloadavg()[0]:.1f}"
 
 
+def row(text):
+    """Replicas and commands, as 3x400."""
+    replicas, commands = map(int, text.split("x"))
+    return replicas, commands
+
+
 def main():
     parser = argparse.ArgumentParser(description=__doc__.split("\n", maxsplit=1)[0])
     parser.add_argument("--runs", type=int, default=9)
+    parser.add_argument("--rows", type=row, nargs="+", default=list(itertools.product(REPLICAS, COMMANDS)))
     parser.add_argument("programs", nargs="*", default=[os.path.join(TOP, "out", "bin", "mu")])
     given = parser.parse_args()
     print(f"{os.cpu_count()} processors, load {load()} before")
-    told = " | ".join(["least", "middle", "finished", "entries", "cores"] * len(given.programs))
+    told = " | ".join(["least", "middle", "threads: least", "middle", "finished", "entries", "cores"] * len(given.programs))
     print(f"| replicas | commands | {told} |", flush=True)
-    for replicas in REPLICAS:
-        for commands in COMMANDS:
+    with tempfile.TemporaryDirectory() as room:
+        loaded = spans(room)
+        for replicas, commands in given.rows:
             text = job(replicas, even(commands))
-            runs = [[Run(program, text) for program in given.programs] for _ in range(given.runs)]
+            runs = [[Run(program, text, loaded) for program in given.programs] for _ in range(given.runs)]
             cells = " | ".join(cell(own, commands) for own in zip(*runs))
             print(f"| {replicas} | {commands} | {cells} |", flush=True)
     print(f"load {load()} after")
