@@ -57,6 +57,9 @@ LEAST_NAMED, LEAST_JUDGED, LEAST_BOUND, LEAST_VERDICTS = 1000, 200, 300, 150
 LEAST_FIGURES, LEAST_SHOWN, LEAST_CLAUSES = 200, 100, 100
 # Two lemmas, of which nothing cites the first.
 LEMMAS = "pub idle : A\nidle zero = x\nidle (suc n) = idle n\n\npub used : A\nused = x\n\nlast : A\nlast = used\n"
+# A source that uses four of the ghost names that it imports.
+GHOST_USES = ("ghost use A.B.{first, is_last, last as final, rest as others};\nghost use A.C.{◌<◌, ◌≤◌, if◌then◌else◌};\n"
+              "/// Is ≤ is_last.\nfn f()\n    ensures { if first < 1 then others else 0 }\n{}\n")
 # A page, what stands in it, and what would be stale.
 WRONG_FIGURES = [
     ("docs/ALIVE.md", "| 3 | 580 | 166 | 912 |", "| 3 | 580 | 166 | 913 |"),
@@ -203,6 +206,11 @@ def tells_uncited_lemmas():
     yield sum(len(list(surface.shown(crate))) for crate in os.listdir(surface.CRATES)) >= LEAST_SHOWN
 
 
+def tells_idle_imports():
+    """A ghost name that is imported and stands nowhere else is told, and one that is used isn't, nor an operator."""
+    yield list(surface.idle_names(GHOST_USES)) == ["is_last", "last as final", "◌≤◌"]
+
+
 def tells_pages():
     """What a page names is found, and each page names something."""
     line, wanted = PAGE_LINE
@@ -288,8 +296,9 @@ def tells_refused_memory():
 
 JUDGES = [
     tells_failures, tells_answers, tells_sums, tells_missing_answers, tells_statuses, tells_reports, tells_bounds,
-    tells_own_traces, tells_pages, tells_clauses, tells_figures, tells_uncited_lemmas, tells_stored_inputs, tells_rules,
-    tells_breaks, tells_refused_memory, tells_finishers, tells_costs, tells_stale_definitions]
+    tells_own_traces, tells_pages, tells_clauses, tells_figures, tells_uncited_lemmas, tells_idle_imports,
+    tells_stored_inputs, tells_rules, tells_breaks, tells_refused_memory, tells_finishers, tells_costs,
+    tells_stale_definitions]
 
 
 def tried():

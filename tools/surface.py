@@ -1,14 +1,15 @@
 #!/usr/bin/env python3
-"""Prints what a crate shows to other crates and no other crate uses, and lemmas that nothing cites.
+"""Prints what a crate shows to other crates and no other crate uses, and what is cited or imported for nothing.
 
-    tools/surface.py        a line for each; the last line is `surface: N shown, N unused, N hidden, N uncited`
+    tools/surface.py        a line for each; the last line is `surface: N shown, N unused, N hidden, N uncited, N idle`
 
 Looked at are lemma files (`pub mod` in proofs/Lib.antt, used by an import of the file), and what
 src/lib.rt shows of other crates (`pub use other::..`, used by an import of the name from this crate). A
 lemma file that is `mod` but that another crate imports is hidden, and that crate won't be proved. A lemma
 or a definition in a lemma file is cited if its name stands in that file beside its own lines, or if another
-source imports it from that file; proofs of goals are cited by the prover, and examples by nobody. The status
-is 1 if something is unused, hidden or uncited.
+source imports it from that file; proofs of goals are cited by the prover, and examples by nobody. A ghost
+name is idle if a source imports it and doesn't have each of its words or signs beside its imports. The status
+is 1 if something is unused, hidden, uncited or idle.
 """
 import os
 import re
@@ -22,6 +23,7 @@ OTHER_PROOFS = ("Answers.antt", "Invariants.antt", "Measures.antt", "Proof.antt"
 LEMMA = re.compile(r"^(?:pub )?(?:abbrev )?(?:pub )?(?:record )?([A-Za-z_][\w'-]*) [:({]", re.MULTILINE)
 IMPORTED = re.compile(r"Rattle\.(\w+)\.proofs\.(\w+)\.\{([^}]*)\}")
 NAMED = re.compile(r"(\w+)::proofs::(\w+)::([\w-]+)")
+GHOST_USE = re.compile(r"^ghost use [^{;]+\{([^}]*)\};\n", re.MULTILINE)
 WORD = re.compile(r"[A-Za-z_][\w'-]*")
 NAMES = re.compile(r"\b(\w+)::(\{[^}]*\}|\w+)")
 
@@ -106,8 +108,26 @@ def uncited(crates):
                         yield f"{os.path.relpath(path, TOP)}: {name} is cited nowhere"
 
 
+def idle_names(text):
+    """Ghost names that a source imports and doesn't use."""
+    rest = re.sub(r"//.*", "", GHOST_USE.sub("", text))
+    words = set(WORD.findall(rest))
+    for name in ",".join(GHOST_USE.findall(text)).split(","):
+        parts = name.split(" as ")[-1].strip().split("◌")
+        if not all(it in (words if WORD.fullmatch(it) else rest) for it in parts):
+            yield name.strip()
+
+
+def idle_imports(crates):
+    """Where a ghost name is imported for nothing."""
+    for crate in crates:
+        for path, text in sources(crate):
+            for name in idle_names(text):
+                yield f"{os.path.relpath(path, TOP)}: {name} is imported for nothing"
+
+
 def judged():
-    """How much is shown, what of it is unused, what is hidden but imported, and which lemmas nothing cites."""
+    """How much is shown, and what is unused, hidden but imported, cited nowhere, or imported for nothing."""
     crates = sorted(os.listdir(CRATES))
     used = used_by(crates)
 
@@ -117,15 +137,16 @@ def judged():
     all_shown = [(crate, name, where) for crate in crates for name, where in shown(crate)]
     unused = [where for crate, name, where in all_shown if not others(crate, name)]
     missing = [where for crate in crates for name, where in hidden(crate) if others(crate, name)]
-    return len(all_shown), unused, missing, list(uncited(crates))
+    return len(all_shown), (unused, missing, list(uncited(crates)), list(idle_imports(crates)))
 
 
 def main():
-    count, unused, missing, idle = judged()
-    for where in unused + missing + idle:
+    count, found = judged()
+    for where in sum(found, []):
         print(where)
-    print(f"surface: {count} shown, {len(unused)} unused, {len(missing)} hidden, {len(idle)} uncited")
-    return 1 if unused or missing or idle else 0
+    told = ", ".join(f"{len(it)} {kind}" for it, kind in zip(found, ("unused", "hidden", "uncited", "idle")))
+    print(f"surface: {count} shown, {told}")
+    return 1 if any(found) else 0
 
 
 if __name__ == "__main__":

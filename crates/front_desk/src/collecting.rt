@@ -2,7 +2,6 @@
 ghost use Rattle.std.specs.Prelude.{◌≡◌, ◌≤◌, [], length, max, vec_capacity, IfOk};
 ghost use Rattle.crossbeam_queue.specs.Passes.{view, IsPassOf, ruled_capacity};
 ghost use Rattle.kv_store.specs.Sessions.{IsInSession};
-ghost use Rattle.mu_input.specs.Batches.{rows_of};
 ghost use Rattle.mu_input.specs.Senders.{HaveSenders, IsForDesk};
 ghost use Rattle.mu_model.specs.Contents.{IsConfig};
 ghost use Rattle.front_desk.specs.Arrivals.{commands_by, IsArrival};

@@ -1,8 +1,7 @@
 //! The sending of commands, a branch for each client.
-ghost use Rattle.std.specs.Prelude.{◌≡◌, ◌+◌, ◌<◌, ◌≤◌, [], ◌∷◌, ◌++◌, length};
-ghost use Rattle.crossbeam_queue.specs.Passes.{view, IsPassOf};
+ghost use Rattle.std.specs.Prelude.{◌+◌, ◌<◌, ◌≤◌, [], ◌∷◌, ◌++◌, length};
+ghost use Rattle.crossbeam_queue.specs.Passes.{view};
 ghost use Rattle.front_desk.specs.Arrivals.{commands_by};
-ghost use Rattle.front_desk.specs.Line.{sending_hand};
 ghost use Rattle.front_desk.specs.Sendings.{sent_by, Sends, BothSend};
 
 use crate::line::{Line, LinePass, Sent};

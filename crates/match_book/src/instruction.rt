@@ -1,5 +1,5 @@
 //! What a text asks of the book.
-ghost use Rattle.std.specs.Prelude.{◌≡◌, ◌==◌, ◌≤◌, IfSome, position};
+ghost use Rattle.std.specs.Prelude.{◌≡◌, ◌==◌, position};
 ghost use Rattle.match_book.specs.Orders.{amount_of, cancel_of, instruction_of, order_for, order_of};
 
 use crate::order::Side;

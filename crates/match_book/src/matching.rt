@@ -1,9 +1,9 @@
 //! Orders and cancels on a list of resting orders in the stated arrangement. Places are found by
 //! halves.
-ghost use Rattle.std.specs.Prelude.{◌≡◌, ◌+◌, ◌<◌, ◌≤◌, ◌==◌, ◌++◌, ◌∷◌, ◌-◌, not, drop, filter, if◌then◌else◌, length, position, take, vec_capacity, vec_len, IfSome};
+ghost use Rattle.std.specs.Prelude.{◌≡◌, ◌+◌, ◌<◌, ◌≤◌, ◌++◌, ◌∷◌, ◌-◌, not, drop, filter, length, position, take, vec_capacity, vec_len, IfSome};
 ghost use Rattle.std.specs.List.{position_or_len, remove};
 ghost use Rattle.match_book.specs.Filling.{before_others, filled, from_others, is_ahead, rested};
-ghost use Rattle.match_book.specs.Ledgers.{buyer, is_named, leaving, trade_with};
+ghost use Rattle.match_book.specs.Ledgers.{is_named, trade_with};
 ghost use Rattle.match_book.specs.Places.{IsInOrder, goes_first};
 
 use crate::order::{Id, Resting, Side, Trade, crosses, is_ahead, is_named, placing};

@@ -1,5 +1,5 @@
 //! Replicas in threads of their own: each takes its turns over a port of its own.
-ghost use Rattle.std.specs.Prelude.{All, IfOk, None, Some, [], length, map, slice_index_or, vec_capacity, vec_len, ℕ, ◌<◌, ◌≡◌, ◌≤◌};
+ghost use Rattle.std.specs.Prelude.{All, IfOk, None, Some, [], length, map, slice_index_or, vec_capacity, vec_len, ℕ, ◌<◌, ◌≡◌};
 ghost use Rattle.std.specs.List.{slice_get};
 ghost use Rattle.mu_model.specs.Contents.{IsConfig};
 ghost use Rattle.mu_model.specs.Parts.{IsPossible};

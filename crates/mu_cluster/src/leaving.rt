@@ -1,5 +1,5 @@
 //! What replicas that ran in threads leave.
-ghost use Rattle.std.specs.Prelude.{List, map, ℕ, ◌≡◌};
+ghost use Rattle.std.specs.Prelude.{List, map, ◌≡◌};
 ghost use Rattle.mu_model.specs.declared.event.Event.{Event};
 ghost use Rattle.mu_model.specs.Contents.{IsConfig};
 ghost use Rattle.mu_model.specs.Legal.{IsLegal};

@@ -1,5 +1,5 @@
 //! When a replica has finished.
-ghost use Rattle.std.specs.Prelude.{List, ℕ, ◌&&◌, ◌<◌, ◌==◌, ◌||◌, ◌≡◌};
+ghost use Rattle.std.specs.Prelude.{List, ◌&&◌, ◌<◌, ◌==◌, ◌||◌, ◌≡◌};
 ghost use Rattle.mu_model.specs.declared.config.Config.{Config};
 ghost use Rattle.mu_model.specs.declared.event.Event.{Event};
 ghost use Rattle.mu_model.specs.Ends.{is_at_least, is_finished as is_finished_of};

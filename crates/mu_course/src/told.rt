@@ -1,5 +1,5 @@
 //! What a step comes to for the replica that makes it.
-ghost use Rattle.std.specs.Prelude.{◌≡◌, ◌∷◌, List, length, true, false, not, ◌&&◌, Bool};
+ghost use Rattle.std.specs.Prelude.{◌≡◌, ◌∷◌, List, not, ◌&&◌};
 ghost use Rattle.std.specs.List.{slice_get};
 ghost use Rattle.mu_model.specs.declared.event.Event.{Event as Made};
 ghost use Rattle.mu_model.specs.Contents.{IsConfig};

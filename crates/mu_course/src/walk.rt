@@ -4,7 +4,7 @@ ghost use Rattle.mu_model.specs.declared.event.Event.{Event as Made};
 ghost use Rattle.mu_model.specs.Answers.{answer_of};
 ghost use Rattle.mu_model.specs.Contents.{IsConfig};
 ghost use Rattle.mu_model.specs.Histories.{history, part};
-ghost use Rattle.mu_model.specs.Knowledge.{applied as applied_of, commits as commits_of, known as known_of};
+ghost use Rattle.mu_model.specs.Knowledge.{applied as applied_of, commits as commits_of};
 ghost use Rattle.mu_model.specs.Legal.{IsLegal, IsLegalHistory};
 ghost use Rattle.mu_model.specs.Regions.{fence as fence_of, fence_grant};
 ghost use Rattle.mu_model.specs.Scores.{is_failed, leader};

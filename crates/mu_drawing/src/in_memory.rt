@@ -1,5 +1,5 @@
 //! The picture of a trace in memory.
-ghost use Rattle.std.specs.Prelude.{◌≡◌, ◌≤◌, Some, length};
+ghost use Rattle.std.specs.Prelude.{◌≡◌, Some};
 ghost use Rattle.mu_drawing.specs.Answers.{IsSayable, TellsOfCall, TellsOfSource};
 ghost use Rattle.mu_drawing.specs.Words.{asked_steps};
 

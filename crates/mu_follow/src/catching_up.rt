@@ -1,5 +1,5 @@
 //! What a replica reads next to catch up, whatever the place of its cycle.
-ghost use Rattle.std.specs.Prelude.{IfSome, List, Some, false, if◌then◌else◌, length, not, ℕ, ◌%◌, ◌+◌, ◌/◌, ◌<◌, ◌==◌, ◌≡◌};
+ghost use Rattle.std.specs.Prelude.{IfSome, List, Some, false, length, ℕ, ◌%◌, ◌/◌, ◌<◌, ◌≡◌};
 ghost use Rattle.std.specs.List.{slice_get};
 ghost use Rattle.mu_model.specs.declared.config.Config.{Config};
 ghost use Rattle.mu_model.specs.declared.event.Event.{Event};
@@ -9,7 +9,7 @@ ghost use Rattle.mu_model.specs.Knowledge.{applied, has_word, known};
 ghost use Rattle.mu_model.specs.Parts.{IsPossible};
 ghost use Rattle.mu_knowledge.specs.HeldRows.{StandsForHeldRows};
 ghost use Rattle.mu_follow.specs.CatchingUp.{catch_up_due, entry_due, lacked_word_of, lacked_word_due, words_had as words_had_of};
-ghost use Rattle.mu_follow.specs.Due.{IsReplay, first_word_of, next_due};
+ghost use Rattle.mu_follow.specs.Due.{IsReplay, first_word_of};
 ghost use Rattle.mu_follow.specs.Follow.{StandsForFollow};
 
 use crate::follow::{Follow, missing_row};

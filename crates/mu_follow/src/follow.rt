@@ -1,5 +1,5 @@
 //! What one replica knows and does as a replayer.
-ghost use Rattle.std.specs.Prelude.{IfOk, IfSome, List, None, Some, [], if◌then◌else◌, length, map, nat_le, not, vec_capacity, ℕ, ◌%◌, ◌*◌, ◌+◌, ◌-◌, ◌/◌, ◌<◌, ◌==◌, ◌≡◌, ◌≤◌};
+ghost use Rattle.std.specs.Prelude.{IfOk, IfSome, List, None, Some, [], if◌then◌else◌, length, map, not, vec_capacity, ℕ, ◌%◌, ◌*◌, ◌+◌, ◌-◌, ◌/◌, ◌<◌, ◌==◌, ◌≡◌, ◌≤◌};
 ghost use Rattle.std.specs.List.{slice_get};
 ghost use Rattle.mu_model.specs.declared.config.Config.{Config};
 ghost use Rattle.mu_model.specs.declared.event.Event.{Event};

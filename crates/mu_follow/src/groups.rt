@@ -1,5 +1,5 @@
 //! The entry that is to be applied next, and the commands that it stands for.
-ghost use Rattle.std.specs.Prelude.{IfSome, List, None, Some, length, MatchOption, ℕ, ◌+◌, ◌<◌, ◌≡◌, ◌≤◌};
+ghost use Rattle.std.specs.Prelude.{IfSome, List, None, Some, MatchOption, ℕ, ◌+◌, ◌<◌, ◌≡◌};
 ghost use Rattle.std.specs.List.{slice_get};
 ghost use Rattle.kv_store.specs.Commands.{Request};
 ghost use Rattle.mu_model.specs.declared.config.Config.{Config};

@@ -1,5 +1,5 @@
 //! Whether a replica found a place used again that it still had to read.
-ghost use Rattle.std.specs.Prelude.{List, length, ℕ, ◌∷◌, ◌≡◌};
+ghost use Rattle.std.specs.Prelude.{List, length, ◌∷◌, ◌≡◌};
 ghost use Rattle.mu_model.specs.declared.config.Config.{Config};
 ghost use Rattle.mu_model.specs.declared.event.Event.{Event};
 ghost use Rattle.mu_model.specs.Ends.{outrun, outrun_by};

@@ -2,7 +2,7 @@
 ghost use Rattle.std.specs.Prelude.{◌≡◌, ◌+◌, ◌<◌, ◌≤◌, ◌^◌, ◌++◌, [], IfOk, length, map};
 ghost use Rattle.mu_text.specs.Numbers.{below, number_of};
 ghost use Rattle.mu_input.specs.Readings.{ReadsFront, Tells};
-ghost use Rattle.mu_input.specs.Scripts.{is_stopped, another_stop, stop_line, pauses_before, another_pause, pause_line, stop_or_pause, with_room, script_line, stops_of, stops_in_order, pauses_of, pauses_in_order, script_of, script_from, script_at};
+ghost use Rattle.mu_input.specs.Scripts.{is_stopped, another_stop, stop_line, pauses_before, another_pause, pause_line, stop_or_pause, script_line, stops_of, stops_in_order, pauses_of, pauses_in_order, script_of, script_from, script_at};
 
 use crate::cause::{NO_END, SCRIPT, TOO_MANY};
 use crate::job::InputEnd;

@@ -1,5 +1,5 @@
 //! Which jobs a desk of few senders can serve.
-ghost use Rattle.std.specs.Prelude.{◌≡◌, ◌+◌, ◌<◌, ◌≤◌, ◌^◌, IfNone};
+ghost use Rattle.std.specs.Prelude.{◌≡◌, ◌+◌, ◌<◌, ◌^◌, IfNone};
 ghost use Rattle.mu_input.specs.Grammar.{job};
 ghost use Rattle.mu_input.specs.Readings.{Fits};
 ghost use Rattle.mu_input.specs.Senders.{IsForDesk, beyond_from, desk_line};

@@ -4,8 +4,8 @@ ghost use Rattle.std.specs.Prelude.{IfOk, List, None, Some, [], false, length, n
 ghost use Rattle.mu_model.specs.declared.config.Config.{Config};
 ghost use Rattle.mu_model.specs.declared.event.Event.{Event};
 ghost use Rattle.mu_model.specs.Contents.{row_count};
-ghost use Rattle.mu_model.specs.Histories.{all_below, max_with, has};
-ghost use Rattle.mu_model.specs.Knowledge.{fuo_read, is_filled, known};
+ghost use Rattle.mu_model.specs.Histories.{all_below, max_with};
+ghost use Rattle.mu_model.specs.Knowledge.{fuo_read, is_filled};
 ghost use Rattle.mu_model.specs.Parts.{IsPossible};
 ghost use Rattle.mu_knowledge.specs.FilledLog.{IsFilledTo, StandsForFilledLog, filled_spot, is_at};
 ghost use Rattle.mu_knowledge.specs.KnownLog.{is_set};

@@ -1,5 +1,5 @@
 //! Which rows a replica has written or read, and what it has applied.
-ghost use Rattle.std.specs.Prelude.{IfOk, IsTrue, List, Some, [], length, replicate, ℕ, Bool, ◌%◌, ◌&&◌, ◌*◌, ◌+◌, ◌/◌, ◌<◌, ◌==◌, ◌||◌, ◌∷◌, ◌≡◌, ◌≤◌, false};
+ghost use Rattle.std.specs.Prelude.{IfOk, List, Some, [], length, replicate, ℕ, Bool, ◌%◌, ◌&&◌, ◌*◌, ◌+◌, ◌/◌, ◌<◌, ◌==◌, ◌||◌, ◌∷◌, ◌≡◌, ◌≤◌, false};
 ghost use Rattle.mu_model.specs.declared.config.Config.{Config};
 ghost use Rattle.mu_model.specs.declared.event.Event.{Event};
 ghost use Rattle.mu_model.specs.declared.event.Verb.{Verb};
@@ -8,7 +8,6 @@ ghost use Rattle.mu_model.specs.Histories.{all_below};
 ghost use Rattle.mu_model.specs.Knowledge.{applied, fetched_prefix, has_entry, has_row, has_word, known, wrote, wrote_batch};
 ghost use Rattle.mu_model.specs.Parts.{IsPossible};
 ghost use Rattle.mu_knowledge.specs.HeldRows.{AreThere, HasWords, StandsForHeldRows, IsOfRows, WroteWords, is_of_row, row_named, word_place};
-ghost use Rattle.mu_knowledge.specs.KnownLog.{is_telling};
 
 use mu_model::{Config, Event, NoMemory, PAYLOADS, Verb, row_rest, stands_for_batch};
 use std::alloc::Global;

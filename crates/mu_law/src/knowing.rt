@@ -1,6 +1,6 @@
 //! What replicas know.
 ghost use Rattle.std.specs.List.{slice_get};
-ghost use Rattle.std.specs.Prelude.{IfOk, Some, length, ℕ, ◌↔◌, ◌≡◌, ◌≤◌};
+ghost use Rattle.std.specs.Prelude.{IfOk, Some, ℕ, ◌↔◌, ◌≡◌};
 ghost use Rattle.mu_law.specs.Laws.{AreChosen, AreMarkedOnce, BothKnow, KnownListsAgree, RowsAreFirst, RowsAreRight, StandForEntries};
 ghost use Rattle.mu_model.specs.Contents.{IsConfig, IsInSession};
 ghost use Rattle.mu_model.specs.Histories.{history, part};

@@ -9,7 +9,7 @@ ghost use Rattle.mu_model.specs.Leaderships.{is_over};
 ghost use Rattle.mu_lead.specs.Standing.{Stands};
 ghost use Rattle.mu_lead.specs.Stepping.{HasTaken};
 ghost use Rattle.mu_model.specs.Picks.{is_past as is_past_answer};
-ghost use Rattle.std.specs.Prelude.{ℕ, if◌then◌else◌};
+ghost use Rattle.std.specs.Prelude.{if◌then◌else◌};
 
 use crate::entries::{larger, sight_in};
 use crate::lead::Lead;

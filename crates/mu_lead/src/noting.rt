@@ -1,5 +1,5 @@
 //! The note of each place of the listing.
-ghost use Rattle.std.specs.Prelude.{Bool, List, get_or, if◌then◌else◌, length, min, nat_lt, not, ℕ, ◌&&◌, ◌+◌, ◌<◌, ◌==◌, ◌^◌, ◌≡◌};
+ghost use Rattle.std.specs.Prelude.{List, get_or, if◌then◌else◌, length, min, nat_lt, not, ℕ, ◌&&◌, ◌+◌, ◌<◌, ◌==◌, ◌^◌, ◌≡◌};
 ghost use Rattle.mu_model.specs.declared.event.Event.{Event as SomeEvent};
 ghost use Rattle.mu_model.specs.Leaderships.{is_over};
 ghost use Rattle.mu_model.specs.Room.{reserve};

@@ -1,5 +1,5 @@
 //! Regions by what a leader has done there.
-ghost use Rattle.std.specs.Prelude.{List, false, get_or, is_some, length, not, true, ℕ, ◌<◌, ◌≡◌, ◌≤◌};
+ghost use Rattle.std.specs.Prelude.{List, is_some, not, ℕ, ◌<◌, ◌≡◌, ◌≤◌};
 ghost use Rattle.mu_model.specs.declared.event.Event.{Event};
 ghost use Rattle.mu_model.specs.Histories.{count_below};
 ghost use Rattle.mu_model.specs.Leaderships.{is_member, noted_grant};

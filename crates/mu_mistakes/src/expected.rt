@@ -1,5 +1,5 @@
 //! What is expected in place of a line that leaves the grammar.
-ghost use Rattle.std.specs.Prelude.{◌≡◌, ◌≤◌, ◌<◌, ◌^◌, ◌+◌, ◌++◌, length, map, option_map, IfSome};
+ghost use Rattle.std.specs.Prelude.{◌≡◌, ◌≤◌, ◌<◌, ◌+◌, ◌++◌, length, map, option_map, IfSome};
 ghost use Rattle.mu_input.specs.declared.TheConstants.{TRACE_LIMIT};
 ghost use Rattle.mu_mistakes.specs.Expected.{below_words, cause_words, client_words, command_words, ending_words, event_words, expected_words, form_words, is_line, is_replica, lacks_batch, line_of_form, line_words, missing_words, operations_words, replica_words, script_words, verb_words};
 

@@ -1,9 +1,9 @@
 //! What of an input says what is expected in a line: the line itself, the clients before it, the
 //! replicas of the job.
-ghost use Rattle.std.specs.Prelude.{◌≡◌, ◌≤◌, ◌-◌, ◌<◌, ◌^◌, codes, length, map, None, Some, MatchOption};
+ghost use Rattle.std.specs.Prelude.{◌≡◌, ◌≤◌, ◌-◌, ◌<◌, ◌^◌, length, None, Some, MatchOption};
 ghost use Rattle.std.specs.List.{slice_get};
 ghost use Rattle.mu_input.specs.declared.TheConstants.{TRACE_LIMIT};
-ghost use Rattle.mu_text.specs.Lines.{is_first, lines, words};
+ghost use Rattle.mu_text.specs.Lines.{is_first, lines};
 ghost use Rattle.mu_mistakes.specs.Expected.{begins_with, clients_before, one_client, replicas_in};
 
 use mu_input::MOST_REPLICAS;

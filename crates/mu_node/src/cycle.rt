@@ -1,5 +1,5 @@
 //! The background turns of a replica: what is due at each place of the cycle.
-ghost use Rattle.std.specs.Prelude.{IfSome, List, if◌then◌else◌, false, length, nat_lt, ◌%◌, ◌-◌, ◌<◌, ◌≡◌, ℕ};
+ghost use Rattle.std.specs.Prelude.{IfSome, List, false, length, ◌%◌, ◌-◌, ◌<◌, ◌≡◌, ℕ};
 ghost use Rattle.mu_model.specs.declared.config.Config.{Config};
 ghost use Rattle.mu_model.specs.declared.event.Event.{Event as SomeEvent};
 ghost use Rattle.mu_model.specs.Contents.{IsConfig};

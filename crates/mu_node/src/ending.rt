@@ -1,5 +1,5 @@
 //! How the journal of a replica ends.
-ghost use Rattle.std.specs.Prelude.{List, None, Some, false, slice_index, true, ℕ, ◌<◌, ◌==◌, ◌||◌, ◌≡◌, ◌≤◌};
+ghost use Rattle.std.specs.Prelude.{List, None, Some, false, slice_index, true, ℕ, ◌<◌, ◌==◌, ◌||◌, ◌≡◌};
 ghost use Rattle.mu_model.specs.declared.config.Config.{Config};
 ghost use Rattle.mu_model.specs.declared.event.Event.{Event};
 ghost use Rattle.mu_model.specs.declared.script.End.{End as SomeEnd};

@@ -1,5 +1,5 @@
 //! What a replica plans for a turn, and how its parts take the event that the step is.
-ghost use Rattle.std.specs.Prelude.{IfSome, List, None, Some, false, if◌then◌else◌, is_some, length, nat_lt, true, ℕ, ◌&&◌, ◌<◌, ◌==◌, ◌∷◌, ◌≡◌};
+ghost use Rattle.std.specs.Prelude.{IfSome, List, None, Some, false, is_some, length, true, ℕ, ◌&&◌, ◌<◌, ◌==◌, ◌∷◌, ◌≡◌};
 ghost use Rattle.mu_model.specs.declared.config.Config.{Config};
 ghost use Rattle.mu_model.specs.declared.event.Event.{Event as SomeEvent};
 ghost use Rattle.mu_model.specs.Allowed.{Allowed};
@@ -15,7 +15,7 @@ ghost use Rattle.mu_lead.specs.declared.note.Note.{Note as SomeNote};
 ghost use Rattle.mu_lead.specs.Beside.{is_beside, leads_at};
 ghost use Rattle.mu_lead.specs.Journal.{place_after};
 ghost use Rattle.mu_lead.specs.Notes.{value_committed};
-ghost use Rattle.mu_lead.specs.Standing.{HasHeeded, TellsNext};
+ghost use Rattle.mu_lead.specs.Standing.{HasHeeded};
 ghost use Rattle.mu_node.specs.Cycle.{IsCycleDue};
 ghost use Rattle.mu_node.specs.Plans.{due_of};
 ghost use Rattle.mu_node.specs.Due.{FitsLead, IsIdle, WritesAhead, write_due, idle_due, lead_due, verb_or_beat, written_row};

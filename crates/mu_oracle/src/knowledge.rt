@@ -1,7 +1,7 @@
 //! What a replica has learnt, and where it knows that logs are filled.
 ghost use Rattle.std.specs.List.{slice_get};
 ghost use Rattle.std.specs.Prelude.{List, [], length, not, ℕ, ◌++◌, ◌+◌, ◌<◌, ◌^◌, ◌||◌, ◌∷◌, ◌≡◌, ◌≤◌};
-ghost use Rattle.mu_model.specs.Contents.{command_count, marked, numbers_in, rows_from, rows_of};
+ghost use Rattle.mu_model.specs.Contents.{command_count, marked};
 ghost use Rattle.mu_model.specs.Histories.{all_below, has, history};
 ghost use Rattle.mu_model.specs.Knowledge.{entry_seen, fills, greatest_fuo_read, is_accepted_by_all, is_filled, is_known_decided, known, lands_entry, learnt_by};
 ghost use Rattle.mu_model.specs.Leaderships.{is_member, leadership};

@@ -1,7 +1,7 @@
 //! The scores by which a replica holds others to be failed.
 ghost use Rattle.std.specs.Prelude.{◌≡◌};
 ghost use Rattle.mu_model.specs.Histories.{history};
-ghost use Rattle.mu_model.specs.Scores.{beat_read, is_failed, next_score, score};
+ghost use Rattle.mu_model.specs.Scores.{beat_read, is_failed, score};
 
 use mu_model::{Answer, Event, Verb, score_after};
 

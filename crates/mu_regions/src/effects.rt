@@ -1,5 +1,5 @@
 //! How one event changes what a region holds.
-ghost use Rattle.std.specs.Prelude.{List, [], if◌then◌else◌, length, set, ◌++◌, ◌==◌, ◌+◌, ◌<◌, ◌≡◌, ◌≤◌, ◌^◌, ◌∷◌, vec_capacity};
+ghost use Rattle.std.specs.Prelude.{List, [], if◌then◌else◌, length, set, ◌++◌, ◌==◌, ◌+◌, ◌<◌, ◌≡◌, ◌^◌, ◌∷◌, vec_capacity};
 ghost use Rattle.mu_model.specs.declared.config.Config.{Config};
 ghost use Rattle.mu_model.specs.declared.event.Event.{Event};
 ghost use Rattle.mu_model.specs.Contents.{row_count};

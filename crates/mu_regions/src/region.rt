@@ -1,6 +1,6 @@
 //! What one region holds.
 ghost use Rattle.std.specs.List.{slice_get};
-ghost use Rattle.std.specs.Prelude.{IfOk, if◌then◌else◌, nat_lt, ◌/◌, ◌%◌, List, [], length, vec_capacity, vec_len, ◌+◌, ◌<◌, ◌≡◌, ◌≤◌, ◌^◌, ◌∷◌, ℕ, Some};
+ghost use Rattle.std.specs.Prelude.{IfOk, if◌then◌else◌, nat_lt, ◌/◌, ◌%◌, List, [], length, vec_capacity, ◌+◌, ◌<◌, ◌≡◌, ◌≤◌, ◌^◌, ◌∷◌, ℕ, Some};
 ghost use Rattle.mu_model.specs.declared.config.Config.{Config};
 ghost use Rattle.mu_model.specs.declared.event.Event.{Event};
 ghost use Rattle.mu_model.specs.Answers.{answer_of, drained, entered_or_lost, put_answer, shown};

@@ -1,5 +1,5 @@
 //! Why a replica may not make a verb: the first point of what is allowed that it doesn't meet.
-ghost use Rattle.std.specs.Prelude.{IsTrue, List, None, Some, is_some, not, ◌||◌, true, ◌+◌, ◌/◌, ◌<◌, ◌≡◌, ◌↔◌, ℕ};
+ghost use Rattle.std.specs.Prelude.{IsTrue, List, None, Some, is_some, ◌||◌, true, ◌+◌, ◌/◌, ◌<◌, ◌≡◌, ◌↔◌, ℕ};
 ghost use Rattle.mu_model.specs.declared.config.Config.{Config};
 ghost use Rattle.mu_model.specs.declared.event.Event.{Event};
 ghost use Rattle.mu_model.specs.declared.event.Target.{Target as SomeTarget};

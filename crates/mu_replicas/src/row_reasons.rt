@@ -1,5 +1,5 @@
 //! Why a replica may not write or read a row, or raise its head for want of one.
-ghost use Rattle.std.specs.Prelude.{IsTrue, List, None, Some, length, not, ◌%◌, ◌++◌, ◌+◌, ◌/◌, ◌<◌, ◌↔◌, ℕ};
+ghost use Rattle.std.specs.Prelude.{IsTrue, List, None, Some, length, ◌%◌, ◌++◌, ◌+◌, ◌/◌, ◌<◌, ◌↔◌, ℕ};
 ghost use Rattle.mu_model.specs.declared.config.Config.{Config};
 ghost use Rattle.mu_model.specs.declared.event.Event.{Event};
 ghost use Rattle.mu_model.specs.declared.event.Verb.{Verb as SomeVerb};

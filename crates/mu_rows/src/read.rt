@@ -2,7 +2,7 @@
 ghost use Rattle.std.specs.Prelude.{◌≡◌, ◌≢◌, ◌↔◌, ℕ, ◌+◌, ◌*◌, ◌<◌, ◌≤◌, ◌/◌, ◌%◌, ◌^◌, List, length, map, take, drop, slice_index, None, Some, IfSome, IsTrue};
 ghost use Rattle.std.specs.Int.{w64, to_le_bytes};
 ghost use Rattle.std.specs.List.{range_with_len};
-ghost use Rattle.kv_store.specs.Commands.{Request, key_of};
+ghost use Rattle.kv_store.specs.Commands.{Request};
 ghost use Rattle.kv_store.specs.Words.{IsKey, IsText};
 ghost use Rattle.mu_rows.specs.Rows.{word_of, spelled, IsCommand};
 ghost use Rattle.mu_rows.specs.Saying.{AreClear, SaysOp};

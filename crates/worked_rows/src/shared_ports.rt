@@ -2,7 +2,6 @@
 ghost use Rattle.std.specs.Prelude.{All, IfOk, IfSome, IsTrue, [], vec_capacity, ◌<◌, ◌∷◌, ◌≡◌, ◌≤◌};
 ghost use Rattle.std.specs.Thread.{IsSync};
 ghost use Rattle.mu_model.specs.Allowed.{Allowed};
-ghost use Rattle.mu_model.specs.Contents.{IsConfig};
 ghost use Rattle.shared_fabric.specs.Gathering.{AreAllPorts, IsSamePort, StayPorts};
 ghost use Rattle.worked_rows.specs.SharedPorts.{AreOf, AreSame};
 
