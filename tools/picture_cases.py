@@ -366,9 +366,9 @@ def draw_deed(out, r, y, deed):
 
 
 def end(out, r, y, way=None):
-    """The end of a lane below y, with a cross at it or another sign."""
+    """The end of a lane below y, with a cross there or another sign."""
     out.bar("w", lane(r) - 8, y + 6, 24)
-    out.path("x", way or f"M{lane(r) + 4} {y - 4}l8 8m0-8l-8 8")
+    out.path("x", way or f"M{lane(r) + 4} {y + 2}l8 8m0-8l-8 8")
 
 
 def draw_halt(out, r, y, halt):

@@ -78,7 +78,7 @@ ask_shapes r y p =
 -- the end of the lane of r below y, with a cross
 abbrev pub ended_shapes : ℕ → ℕ → List Shape
 ended_shapes r y =
-    bare_shape r (y + 6) ∷ Shape.Line Look.Sign (Way.Cross (lane_of r + 4) (y - 4)) ∷ []
+    bare_shape r (y + 6) ∷ Shape.Line Look.Sign (Way.Cross (lane_of r + 4) (y + 2)) ∷ []
 
 -- the end of the lane of r below y, if it has finished
 abbrev pub finished_shapes : ℕ → ℕ → List Shape

@@ -189,15 +189,14 @@ fn push_ask(sheet: &mut Sheet, r: u8, y: u64, p: u8) -> Result<(), NoMemory>
 
 /// Adds the end of the lane of `r` below `y`, with a cross.
 fn push_ended(sheet: &mut Sheet, r: u8, y: u64) -> Result<(), NoMemory>
-    requires low { y < 2 ^ 60 }
-    requires within { 4 ≤ y }
+    requires { y < 2 ^ 60 }
     ensures { OnOk result (sheet.new ≡ sheet.old ++ shape_pieces (ended_shapes r y)) }
 {
     let cross = Shape::Line {
         look: Look::Sign,
         way: Way::Cross {
             x: lane_of(r) + 4,
-            y: y - 4,
+            y: y + 2,
         },
     };
     push_two(sheet, bare(r, y + 6), cross)
@@ -231,8 +230,7 @@ fn dot(look: Look, r: u8, y: u64) -> Shape
 
 /// Adds what a deed of `r` is drawn as, in the row at `y`.
 pub fn push_deed(sheet: &mut Sheet, r: u8, y: u64, deed: Option<Deed>) -> Result<(), NoMemory>
-    requires low { y < 2 ^ 60 }
-    requires within { 4 ≤ y }
+    requires { y < 2 ^ 60 }
     ensures { OnOk result (sheet.new ≡ sheet.old ++ shape_pieces (deed_shapes r y deed)) }
 {
     match deed {
@@ -258,8 +256,7 @@ pub fn push_deed(sheet: &mut Sheet, r: u8, y: u64, deed: Option<Deed>) -> Result
 
 /// Adds what befalls `r` as it is drawn, in the row at `y`.
 pub fn push_halt(sheet: &mut Sheet, r: u8, y: u64, halt: Option<Halt>) -> Result<(), NoMemory>
-    requires low { y < 2 ^ 60 }
-    requires within { 4 ≤ y }
+    requires { y < 2 ^ 60 }
     ensures { OnOk result (sheet.new ≡ sheet.old ++ shape_pieces (halt_shapes r y halt)) }
 {
     match halt {

@@ -1,5 +1,5 @@
 //! The rows of a picture.
-ghost use Rattle.std.specs.Prelude.{◌≡◌, ◌++◌, ◌+◌, ◌-◌, ◌<◌, ◌≤◌, ◌^◌, [], length, IfOk, OnOk};
+ghost use Rattle.std.specs.Prelude.{◌≡◌, ◌++◌, ◌+◌, ◌-◌, ◌<◌, ◌^◌, [], length, IfOk, OnOk};
 ghost use Rattle.std.specs.Fmt.{decimal};
 ghost use Rattle.mu_picture.specs.Drawing.{axis_piece, figure_pieces, fold_pieces, mark_pieces, note_piece, row_pieces, rows_from, strip_shape, title_pieces, titles_again, titles_pieces};
 ghost use Rattle.mu_picture.specs.Layout.{after_marks, lane_of, top};
@@ -72,8 +72,7 @@ fn push_label(sheet: &mut Sheet, r: u8, y: u64, words: &[u8]) -> Result<(), NoMe
 
 /// Adds what a mark is drawn as in the row at `y`, in its lane.
 fn push_figure(sheet: &mut Sheet, y: u64, mark: &Mark) -> Result<(), NoMemory>
-    requires low { y < 2 ^ 60 }
-    requires within { 4 ≤ y }
+    requires { y < 2 ^ 60 }
     ensures { OnOk result (sheet.new ≡ sheet.old ++ figure_pieces y mark.now) }
 {
     let r = mark.event.by;
@@ -121,7 +120,6 @@ fn push_mark(
 ) -> Result<(), NoMemory>
     requires lanes { n < 2 ^ 16 }
     requires low { y < 2 ^ 60 }
-    requires within { 4 ≤ y }
     ensures { OnOk result (sheet.new ≡ sheet.old ++ mark_pieces job.now line n y mark.now) }
 {
     let note = note(alloc, job, mark)?;
