@@ -7,6 +7,7 @@
 A line has the crate, the edit, and the function with the clause or the goal that isn't proved. The
 edits at the end are refused only at a name, at the shape of a proof file or by a limit of the
 prover: they don't show that a contract refuses the bug, so change their values and keep the names.
+An answer in a proof file that no longer proves its goal counts as that goal.
 """
 import os
 import re
@@ -17,6 +18,8 @@ TOP = os.path.dirname(os.path.dirname(os.path.abspath(__file__)))
 TRIED = re.compile(r"must-fail (\w+)/([\w.-]+)\.edit: (.*)")
 PLACE = re.compile(r"(?:note: )?(?:\./)?(src|proofs|specs)/(\S+?):(\d+):\d+: (.*)")
 GOAL = re.compile(r"`([\w.-]+)`: ")
+# What rt says if an answer doesn't prove the goal that it is for.
+NOT_PROVED = re.compile(r"the two types|expected type|`omega`: the goal|`search`: no proof")
 # What rt says of a refusal that tells nothing of a contract.
 ONLY = {"only because a proof file names": "name", "only by a limit": "limit"}
 
@@ -42,6 +45,8 @@ def read_place(crate, told):
     if part == "src":
         return f"{function_at(crate, name, int(line))}: {what} ({part}/{name}:{line})", "goal"
     folder = os.path.dirname(name).replace("/", "::") or name
+    if goal and NOT_PROVED.search(said):
+        return f"{folder}: {goal[1]} ({part}/{name}:{line})", "goal"
     return f"{folder}: {said} ({part}/{name}:{line})", "shape"
 
 
